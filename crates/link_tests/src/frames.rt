@@ -1,109 +1,116 @@
 //! Frames of the link layer, by their octets.
+use FrameKind::{Disc, Dm, Frmr, I, Rej, Rnr, Rr, Sabm, Ua};
 use frame_codec::{Frame, FrameBuf, FrameFault, FrameKind, Rejection, read_frame, write_frame};
 use link_timers::Role;
 
-fn command(kind: FrameKind<'static>, pf: bool) -> Frame<'static> {
-    Frame {
-        kind,
-        response: false,
-        pf,
-    }
-}
+// Octets, where they are read, and the frame that they are: its kind, and its P/F bit.
+type Row = (&'static [u8], Role, FrameKind<'static>, bool);
 
-fn response(kind: FrameKind<'static>, pf: bool) -> Frame<'static> {
-    Frame {
-        kind,
-        response: true,
-        pf,
-    }
-}
+const COMMANDS: &[Row] = &[
+    (&[0x01, 0x3F], Role::Dce, Sabm, true),
+    (&[0x03, 0x2F], Role::Dte, Sabm, false),
+    (&[0x01, 0x43], Role::Dce, Disc, false),
+    (&[0x03, 0x53], Role::Dte, Disc, true),
+    (&[0x01, 0x11], Role::Dce, Rr { nr: 0 }, true),
+    (&[0x03, 0x61], Role::Dte, Rr { nr: 3 }, false),
+    (
+        &[0x01, 0x0E, 0x10, 0x01],
+        Role::Dce,
+        I {
+            ns: 7,
+            nr: 0,
+            information: &[0x10, 0x01],
+        },
+        false,
+    ),
+    (
+        &[0x01, 0x74],
+        Role::Dce,
+        I {
+            ns: 2,
+            nr: 3,
+            information: &[],
+        },
+        true,
+    ),
+    (
+        &[0x01, 0x02],
+        Role::Dce,
+        I {
+            ns: 1,
+            nr: 0,
+            information: &[],
+        },
+        false,
+    ),
+    (
+        &[0x03, 0x44],
+        Role::Dte,
+        I {
+            ns: 2,
+            nr: 2,
+            information: &[],
+        },
+        false,
+    ),
+];
 
-// What a report tells of a frame with this control octet, V(S) and V(R), with all or only the first of W, X, Y and Z.
-fn report(control: u8, vs: u8, vr: u8, all: bool) -> FrameKind<'static> {
-    FrameKind::Frmr(Rejection {
-        control,
-        vs,
-        vr,
-        response: all,
-        w: true,
-        x: all,
-        y: all,
-        z: all,
-    })
-}
+const RESPONSES: &[Row] = &[
+    (&[0x01, 0x0F], Role::Dte, Dm, false),
+    (&[0x03, 0x1F], Role::Dce, Dm, true),
+    (&[0x01, 0x73], Role::Dte, Ua, true),
+    (&[0x03, 0x63], Role::Dce, Ua, false),
+    (&[0x01, 0x11], Role::Dte, Rr { nr: 0 }, true),
+    (&[0x01, 0xF1], Role::Dte, Rr { nr: 7 }, true),
+    (&[0x03, 0x25], Role::Dce, Rnr { nr: 1 }, false),
+    (&[0x01, 0x09], Role::Dte, Rej { nr: 0 }, false),
+    (&[0x01, 0x97, 0xFF, 0x00, 0x01], Role::Dte, Frmr(OF_W), true),
+    (
+        &[0x03, 0x87, 0x21, 0x7A, 0x0F],
+        Role::Dce,
+        Frmr(OF_ALL),
+        false,
+    ),
+];
 
-fn information(ns: u8, nr: u8, information: &'static [u8]) -> FrameKind<'static> {
-    FrameKind::I {
-        ns,
-        nr,
-        information,
-    }
-}
+// What reports tell: of an unknown control octet, and of a response, with every reason.
+const OF_W: Rejection = Rejection {
+    control: 0xFF,
+    vs: 0,
+    vr: 0,
+    response: false,
+    w: true,
+    x: false,
+    y: false,
+    z: false,
+};
+
+const OF_ALL: Rejection = Rejection {
+    control: 0x21,
+    vs: 5,
+    vr: 3,
+    response: true,
+    w: true,
+    x: true,
+    y: true,
+    z: true,
+};
 
 #[test]
-fn reads_and_writes_unnumbered_frames(rt: HostRuntime) {
-    use FrameKind::*;
-    let table: [(&[u8], Role, Frame<'static>); 10] = [
-        (&[0x01, 0x3F], Role::Dce, command(Sabm, true)),
-        (&[0x03, 0x2F], Role::Dte, command(Sabm, false)),
-        (&[0x01, 0x43], Role::Dce, command(Disc, false)),
-        (&[0x03, 0x53], Role::Dte, command(Disc, true)),
-        (&[0x01, 0x0F], Role::Dte, response(Dm, false)),
-        (&[0x03, 0x1F], Role::Dce, response(Dm, true)),
-        (&[0x01, 0x73], Role::Dte, response(Ua, true)),
-        (&[0x03, 0x63], Role::Dce, response(Ua, false)),
-        (
-            &[0x01, 0x97, 0xFF, 0x00, 0x01],
-            Role::Dte,
-            response(report(0xFF, 0, 0, false), true),
-        ),
-        (
-            &[0x03, 0x87, 0x21, 0x7A, 0x0F],
-            Role::Dce,
-            response(report(0x21, 5, 3, true), false),
-        ),
-    ];
-    for (octets, at, frame) in table {
-        assert!(rt; read_frame(octets, at) == Ok(frame));
-        assert!(rt; is_written_back(octets, at));
+fn reads_and_writes_frames(rt: HostRuntime) {
+    for row in COMMANDS {
+        assert!(rt; fits(row, false));
+    }
+    for row in RESPONSES {
+        assert!(rt; fits(row, true));
     }
 }
 
-#[test]
-fn reads_and_writes_numbered_frames(rt: HostRuntime) {
-    use FrameKind::*;
-    let table: [(&[u8], Role, Frame<'static>); 10] = [
-        (&[0x01, 0x11], Role::Dce, command(Rr { nr: 0 }, true)),
-        (&[0x01, 0x11], Role::Dte, response(Rr { nr: 0 }, true)),
-        (&[0x01, 0xF1], Role::Dte, response(Rr { nr: 7 }, true)),
-        (&[0x03, 0x61], Role::Dte, command(Rr { nr: 3 }, false)),
-        (&[0x03, 0x25], Role::Dce, response(Rnr { nr: 1 }, false)),
-        (&[0x01, 0x09], Role::Dte, response(Rej { nr: 0 }, false)),
-        (
-            &[0x01, 0x0E, 0x10, 0x01],
-            Role::Dce,
-            command(information(7, 0, &[0x10, 0x01]), false),
-        ),
-        (
-            &[0x01, 0x74],
-            Role::Dce,
-            command(information(2, 3, &[]), true),
-        ),
-        (
-            &[0x01, 0x02],
-            Role::Dce,
-            command(information(1, 0, &[]), false),
-        ),
-        (
-            &[0x03, 0x44],
-            Role::Dte,
-            command(information(2, 2, &[]), false),
-        ),
-    ];
-    for (octets, at, frame) in table {
-        assert!(rt; read_frame(octets, at) == Ok(frame));
-        assert!(rt; is_written_back(octets, at));
-    }
+// Whether a row's octets are read as its frame, a response or a command, and are written back.
+fn fits(row: &Row, response: bool) -> bool {
+    let (octets, at, kind, pf) = *row;
+    let frame = Frame { kind, response, pf };
+    read_frame(octets, at) == Ok(frame) && is_written_back(octets, at)
 }
 
 // Whether the frame that the octets spell is written with the same octets.
@@ -119,34 +126,39 @@ fn is_written_back(octets: &[u8], at: Role) -> bool {
     }
 }
 
+const FAULTS: &[(&[u8], Role, FrameFault)] = &[
+    (&[], Role::Dce, FrameFault::TooShort),
+    (&[0x01], Role::Dce, FrameFault::TooShort),
+    (&[0x05], Role::Dce, FrameFault::TooShort),
+    (&[0x05, 0x00], Role::Dce, FrameFault::WrongAddress),
+    (&[0x01, 0xFF], Role::Dce, FrameFault::UnknownControl),
+    (&[0x03, 0x00], Role::Dce, FrameFault::UnknownControl),
+    (&[0x01, 0x63], Role::Dce, FrameFault::UnknownControl),
+    (&[0x01, 0x3F], Role::Dte, FrameFault::UnknownControl),
+    (&[0x01, 0x0D], Role::Dce, FrameFault::UnknownControl),
+    (&[0x01, 0x21, 0x00], Role::Dce, FrameFault::InfoNotAllowed),
+    (
+        &[0x03, 0x97, 0xFF, 0x00],
+        Role::Dce,
+        FrameFault::InfoNotAllowed,
+    ),
+    (
+        &[0x03, 0x97, 0xFF, 0x00, 0x01, 0x00],
+        Role::Dce,
+        FrameFault::InfoNotAllowed,
+    ),
+    (&[0x01, 0x2F, 0x00], Role::Dce, FrameFault::InfoNotAllowed),
+];
+
 #[test]
 fn refuses(rt: HostRuntime) {
-    let table: [(&[u8], Role, FrameFault); 13] = [
-        (&[], Role::Dce, FrameFault::TooShort),
-        (&[0x01], Role::Dce, FrameFault::TooShort),
-        (&[0x05], Role::Dce, FrameFault::TooShort),
-        (&[0x05, 0x00], Role::Dce, FrameFault::WrongAddress),
-        (&[0x01, 0xFF], Role::Dce, FrameFault::UnknownControl),
-        (&[0x03, 0x00], Role::Dce, FrameFault::UnknownControl),
-        (&[0x01, 0x63], Role::Dce, FrameFault::UnknownControl),
-        (&[0x01, 0x3F], Role::Dte, FrameFault::UnknownControl),
-        (&[0x01, 0x0D], Role::Dce, FrameFault::UnknownControl),
-        (&[0x01, 0x21, 0x00], Role::Dce, FrameFault::InfoNotAllowed),
-        (
-            &[0x03, 0x97, 0xFF, 0x00],
-            Role::Dce,
-            FrameFault::InfoNotAllowed,
-        ),
-        (
-            &[0x03, 0x97, 0xFF, 0x00, 0x01, 0x00],
-            Role::Dce,
-            FrameFault::InfoNotAllowed,
-        ),
-        (&[0x01, 0x2F, 0x00], Role::Dce, FrameFault::InfoNotAllowed),
-    ];
-    for (octets, at, fault) in table {
-        assert!(rt; read_frame(octets, at) == Err(fault));
+    for (octets, at, fault) in FAULTS {
+        assert!(rt; read_frame(octets, *at) == Err(*fault));
     }
+}
+
+#[test]
+fn refuses_information_that_is_too_long(rt: HostRuntime) {
     let mut octets = [0u8; 148];
     octets[0] = 0x01;
     assert!(rt; read_frame(&octets, Role::Dce) == Err(FrameFault::InfoTooLong));

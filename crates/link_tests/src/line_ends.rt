@@ -3,6 +3,7 @@ use crate::fault::MakeFault;
 use crate::terminus::Terminus;
 use frame_codec::FrameBuf;
 use lapb::{LinkParams, Note, OfferFault};
+use line_end::LineEnd;
 use link_timers::{Role, TimerId};
 use std::alloc::Global;
 use std::process::Abort;
@@ -29,6 +30,9 @@ enum Act<'a> {
     Restart,
     Up(bool),
     AtRest(bool),
+    Plays(Role),
+    // how many frames wait
+    Waiting(usize),
 }
 
 // An act at one of the two ends.
@@ -39,7 +43,8 @@ enum Turn<'a> {
 }
 
 use Act::{
-    Accept, AtRest, DropFrames, Due, Elapse, Expire, Offer, Relink, Restart, Send, Settle, Take, Up,
+    Accept, AtRest, DropFrames, Due, Elapse, Expire, Offer, Plays, Relink, Restart, Send, Settle,
+    Take, Up, Waiting,
 };
 use Turn::{Dce, Dte};
 
@@ -49,25 +54,48 @@ const PARAMS: LinkParams = LinkParams {
     standing: false,
 };
 
-fn end(rt: &impl Abort, alloc: Global, role: Role, params: LinkParams) -> Terminus {
+fn end(rt: &impl Abort, alloc: Global, role: Role, standing: bool) -> Terminus {
+    let params = LinkParams { standing, ..PARAMS };
     match Terminus::new(alloc, role, params) {
         Ok(end) => end,
         Err(_) => panic!(rt; "the parameters are in range"),
     }
 }
 
-// Plays lists of turns at two ends.
-fn play(rt: &impl Abort, alloc: Global, lists: &[&[Turn<'_>]]) {
-    let mut dte = end(rt, alloc, Role::Dte, PARAMS);
-    let mut dce = end(rt, alloc, Role::Dce, PARAMS);
+// A rule, and lists of turns by which it is seen at two ends, which stand or do not.
+type Example<'a> = (&'a str, bool, &'a [&'a [Turn<'a>]]);
+
+fn play_all(rt: &impl Abort, alloc: Global, examples: &[Example<'_>]) {
+    for example in examples {
+        play(rt, alloc, example);
+    }
+}
+
+fn play(rt: &impl Abort, alloc: Global, example: &Example<'_>) {
+    let (rule, standing, lists) = *example;
+    let mut dte = end(rt, alloc, Role::Dte, standing);
+    let mut dce = end(rt, alloc, Role::Dce, standing);
     for turns in lists {
-        for (place, turn) in turns.iter().enumerate() {
-            let fits = match turn {
-                Dte(act) => fits(&mut dte, *act),
-                Dce(act) => fits(&mut dce, *act),
-            };
-            assert!(rt; fits, "turn {place}");
-        }
+        play_at(rt, &mut dte, &mut dce, rule, turns);
+    }
+}
+
+fn play_at(
+    rt: &impl Abort,
+    dte: &mut Terminus,
+    dce: &mut Terminus,
+    rule: &str,
+    turns: &[Turn<'_>],
+) {
+    for (place, turn) in turns.iter().enumerate() {
+        assert!(rt; turn_fits(dte, dce, turn), "{rule}: turn {place}");
+    }
+}
+
+fn turn_fits(dte: &mut Terminus, dce: &mut Terminus, turn: &Turn<'_>) -> bool {
+    match turn {
+        Dte(act) => fits(dte, *act),
+        Dce(act) => fits(dce, *act),
     }
 }
 
@@ -78,14 +106,24 @@ fn fits(end: &mut Terminus, act: Act<'_>) -> bool {
         Accept(octets, packet) => end.on_frame(octets).packet == Some(packet),
         Offer(packet, answer) => end.offer(&packet) == answer,
         Expire(timer, note) => end.on_timer(timer) == note,
-        Due(timer) => end.end().due() == timer,
         Relink(note) => end.relink() == note,
-        Up(up) => end.end().is_up() == up,
-        AtRest(at_rest) => end.end().at_rest() == at_rest,
+        Due(_) | Up(_) | AtRest(_) | Plays(_) | Waiting(_) => is_seen(end.end(), act),
         _ => {
             happens(end, act);
             true
         }
+    }
+}
+
+// Whether an end is as an act tells.
+fn is_seen(end: &LineEnd, act: Act<'_>) -> bool {
+    match act {
+        Due(timer) => end.due() == timer,
+        Up(up) => end.is_up() == up,
+        AtRest(at_rest) => end.at_rest() == at_rest,
+        Plays(role) => end.role() == role,
+        Waiting(frames) => end.waiting() == frames,
+        _ => false,
     }
 }
 
@@ -130,87 +168,87 @@ const SET_UP: &[Turn] = &[
     Dte(Take(&[0x01, 0x11], Note::Nothing, &[])),
 ];
 
-#[test]
-fn a_packet_crosses(rt: HostRuntime) {
-    const TURNS: &[Turn] = &[
-        Dte(Up(true)),
-        Dte(AtRest(true)),
-        Dce(AtRest(true)),
-        Dte(DropFrames),
-        Dte(Offer(*b"HI", Ok(()))),
-        Dte(Offer(*b"HO", Err(OfferFault::Full))),
-        Dte(Settle),
-        Dte(Send(&[&[0x01, 0x00, b'H', b'I']])),
-        Dte(AtRest(false)),
-        Dce(DropFrames),
-        Dce(Accept(&[0x01, 0x00, b'H', b'I'], b"HI")),
-        Dce(Settle),
-        Dce(Send(&[&[0x01, 0x21]])),
-        Dte(Take(&[0x01, 0x21], Note::Nothing, &[])),
-        Dte(AtRest(true)),
-    ];
-    play(&rt, rt.alloc(), &[SET_UP, TURNS]);
+const A_PACKET: &[Turn] = &[
+    Dte(Up(true)),
+    Dte(AtRest(true)),
+    Dce(AtRest(true)),
+    Dte(DropFrames),
+    Dte(Offer(*b"HI", Ok(()))),
+    Dte(Offer(*b"HO", Err(OfferFault::Full))),
+    Dte(Settle),
+    Dte(Send(&[&[0x01, 0x00, b'H', b'I']])),
+    Dte(AtRest(false)),
+    Dce(DropFrames),
+    Dce(Accept(&[0x01, 0x00, b'H', b'I'], b"HI")),
+    Dce(Settle),
+    Dce(Send(&[&[0x01, 0x21]])),
+    Dte(Take(&[0x01, 0x21], Note::Nothing, &[])),
+    Dte(AtRest(true)),
+];
+
+const THREE_SECONDS: &[Turn] = &[
+    Dte(Plays(Role::Dte)),
+    Dte(Waiting(1)),
+    Dte(Due(None)),
+    Dte(Elapse(59)),
+    Dte(Due(None)),
+    Dte(Elapse(1)),
+    Dte(Due(Some(TimerId::T1))),
+    Dte(DropFrames),
+    Dte(Expire(TimerId::T1, Some(Note::Nothing))),
+    Dte(Send(&[&[0x01, 0x3F]])),
+    Dte(Due(None)),
+    Dte(Expire(TimerId::T20, None)),
+];
+
+// T1 does not expire at an end that stands, which has nothing to send.
+const STANDING: &[Turn] = &[
+    Dte(Expire(TimerId::T1, None)),
+    Dte(Up(true)),
+    Dte(Send(&[])),
+];
+
+const SETTING_UP_ANEW: &[Turn] = &[
+    Dte(DropFrames),
+    Dte(Relink(Note::Down)),
+    Dte(Offer(*b"HI", Err(OfferFault::Down))),
+    Dte(Settle),
+    Dte(Send(&[&[0x01, 0x2F]])),
+    Dce(Take(&[0x01, 0x2F], Note::Up, &[&[0x01, 0x63]])),
+    Dte(Restart),
+    Dte(Up(false)),
+    Dte(Send(&[&[0x01, 0x3F]])),
+    Dce(Restart),
+    Dce(Up(false)),
+    Dce(Send(&[&[0x01, 0x0F]])),
+];
+
+const EXAMPLES: &[Example] = &[
+    ("a packet crosses", false, &[SET_UP, A_PACKET]),
+    ("timer 1 runs for three seconds", false, &[THREE_SECONDS]),
+    ("an end that stands is up", true, &[STANDING]),
+    ("an end sets up anew", false, &[SET_UP, SETTING_UP_ANEW]),
+];
+
+fn examples() -> &'static [Example<'static>] {
+    EXAMPLES
 }
 
 #[test]
-fn timer_1_runs_for_three_seconds(rt: HostRuntime) {
-    const TURNS: &[Turn] = &[
-        Dte(Due(None)),
-        Dte(Elapse(59)),
-        Dte(Due(None)),
-        Dte(Elapse(1)),
-        Dte(Due(Some(TimerId::T1))),
-        Dte(DropFrames),
-        Dte(Expire(TimerId::T1, Some(Note::Nothing))),
-        Dte(Send(&[&[0x01, 0x3F]])),
-        Dte(Due(None)),
-        Dte(Expire(TimerId::T20, None)),
-    ];
-    play(&rt, rt.alloc(), &[TURNS]);
-    let begun = end(&rt, rt.alloc(), Role::Dte, PARAMS);
-    assert!(rt; begun.end().role() == Role::Dte && begun.end().waiting() == 1);
-    let params = LinkParams {
-        standing: true,
-        ..PARAMS
-    };
-    let mut standing = end(&rt, rt.alloc(), Role::Dte, params);
-    assert!(rt; standing.on_timer(TimerId::T1).is_none());
-    assert!(rt; standing.end().is_up() && sends(&mut standing, &[]));
+fn line_ends_do_what_the_rules_say(rt: HostRuntime) {
+    play_all(&rt, rt.alloc(), examples());
 }
 
-#[test]
-fn sets_up_anew(rt: HostRuntime) {
-    const TURNS: &[Turn] = &[
-        Dte(DropFrames),
-        Dte(Relink(Note::Down)),
-        Dte(Offer(*b"HI", Err(OfferFault::Down))),
-        Dte(Settle),
-        Dte(Send(&[&[0x01, 0x2F]])),
-        Dce(Take(&[0x01, 0x2F], Note::Up, &[&[0x01, 0x63]])),
-        Dte(Restart),
-        Dte(Up(false)),
-        Dte(Send(&[&[0x01, 0x3F]])),
-        Dce(Restart),
-        Dce(Up(false)),
-        Dce(Send(&[&[0x01, 0x0F]])),
-    ];
-    play(&rt, rt.alloc(), &[SET_UP, TURNS]);
-}
-
-// Why an end of these parameters is not made.
-fn fault_of(alloc: Global, params: LinkParams) -> Option<MakeFault> {
+// Whether an end of these parameters is not made, since they are bad.
+fn are_bad(alloc: Global, params: LinkParams) -> bool {
     match Terminus::new(alloc, Role::Dce, params) {
-        Ok(_) => None,
-        Err(fault) => Some(fault),
+        Ok(_) => false,
+        Err(fault) => fault == MakeFault::BadParams,
     }
 }
 
 #[test]
 fn refuses_parameters(rt: HostRuntime) {
-    for params in [
-        LinkParams { k: 8, ..PARAMS },
-        LinkParams { n2: 0, ..PARAMS },
-    ] {
-        assert!(rt; fault_of(rt.alloc(), params) == Some(MakeFault::BadParams));
-    }
+    assert!(rt; are_bad(rt.alloc(), LinkParams { k: 8, ..PARAMS }));
+    assert!(rt; are_bad(rt.alloc(), LinkParams { n2: 0, ..PARAMS }));
 }

@@ -104,15 +104,38 @@ fn goes_back_to_a_number(rt: HostRuntime) {
     play(&rt, &mut SendWindow::<Mod128>::new(3), ACTS);
 }
 
+// What a window that receives says to numbers in turn: the expected ones, one that is not, and the expected one.
+const EXPECTED: &[(u8, Offer)] = &[
+    (0, Offer::InOrder),
+    (1, Offer::InOrder),
+    (2, Offer::InOrder),
+    (3, Offer::InOrder),
+    (4, Offer::InOrder),
+    (5, Offer::InOrder),
+    (6, Offer::InOrder),
+    (7, Offer::InOrder),
+];
+
+const UNEXPECTED: &[(u8, Offer)] = &[(1, Offer::OutOfOrder), (0, Offer::InOrder)];
+
+fn answers(window: &mut RecvWindow<Mod8>, offers: &[(u8, Offer)]) -> bool {
+    let mut same = true;
+    for (number, answer) in offers {
+        same = same && window.offer(*number) == *answer;
+    }
+    same
+}
+
+fn expects_0_anew(window: &mut RecvWindow<Mod8>) -> bool {
+    window.clear();
+    window.expected() == 0
+}
+
 #[test]
 fn accepts_the_expected_number_alone(rt: HostRuntime) {
     let mut window = RecvWindow::<Mod8>::new();
-    for number in 0..8u8 {
-        assert!(rt; window.offer(number) == Offer::InOrder);
-    }
+    assert!(rt; answers(&mut window, EXPECTED));
     assert!(rt; window.expected() == 0);
-    assert!(rt; window.offer(1) == Offer::OutOfOrder);
-    assert!(rt; window.offer(0) == Offer::InOrder);
-    window.clear();
-    assert!(rt; window.expected() == 0);
+    assert!(rt; answers(&mut window, UNEXPECTED));
+    assert!(rt; expects_0_anew(&mut window));
 }
