@@ -4,172 +4,336 @@ use net_config::{
     Config, LineConfig, MakeFault, NodeConfig, NodeKind, PadConfig, RouteConfig, is_served,
 };
 use net_plans::{NetPlan, PlannedKind, plan_of};
-use std::alloc::Global;
+use std::alloc::{AllocError, Global};
+use std::process::Abort;
 use x3_params::Profile;
 
-fn empty(alloc: Global) -> Config {
-    Config {
-        nodes: Vec::new(alloc),
-        lines: Vec::new(alloc),
-        routes: Vec::new(alloc),
+/// The kind of a node.
+#[derive(Clone, Copy)]
+enum Kind {
+    Pad,
+    Host,
+    Switch,
+}
+
+/// A node's name and its kind.
+type Node<'a> = (&'a str, Kind);
+
+/// The names of the nodes at a line's ends, the DTE's first, the DTE's address and how many channels there are.
+type Line<'a> = (&'a str, &'a str, &'a str, u16);
+
+/// The switch of a route, its prefix and its line.
+type Route<'a> = (&'a str, &'a str, u16);
+
+/// What is said of a network.
+#[derive(Clone, Copy)]
+enum Judged {
+    /// So many nodes and lines are planned of it.
+    Planned(usize, usize),
+    /// Three nodes are planned of it, the second one as a switch with two lines and two routes.
+    PlannedSwitch,
+    NotPlanned,
+    Served(bool),
+}
+
+/// A network: its nodes, its lines and its routes; and what is said of it.
+type Case<'a> = (&'a [Node<'a>], &'a [Line<'a>], &'a [Route<'a>], Judged);
+
+/// A PAD and a host on one line, and two hosts on the other.
+const NODES: &[Node] = &[
+    ("pad", Kind::Pad),
+    ("h1", Kind::Host),
+    ("h2", Kind::Host),
+    ("h3", Kind::Host),
+];
+
+const SAME_NAMES: &[Node] = &[
+    ("pad", Kind::Pad),
+    ("h1", Kind::Host),
+    ("h2", Kind::Host),
+    ("h2", Kind::Host),
+];
+
+const FIRST: Line = ("pad", "h1", "", 32);
+
+/// Networks of two lines without a switch.
+const TWO_LINES: &[Case] = &[
+    (
+        NODES,
+        &[FIRST, ("h2", "h3", "", 1)],
+        &[],
+        Judged::Planned(4, 2),
+    ),
+    (
+        SAME_NAMES,
+        &[FIRST, ("h2", "h2", "", 1)],
+        &[],
+        Judged::NotPlanned,
+    ),
+    (
+        NODES,
+        &[FIRST, ("h2", "pad", "", 1)],
+        &[],
+        Judged::NotPlanned,
+    ),
+    (
+        NODES,
+        &[FIRST, ("h2", "h1", "", 1)],
+        &[],
+        Judged::NotPlanned,
+    ),
+    (
+        NODES,
+        &[FIRST, ("h2", "h4", "", 1)],
+        &[],
+        Judged::NotPlanned,
+    ),
+    (
+        NODES,
+        &[("pad", "h1", "", 33), ("h2", "h3", "", 1)],
+        &[],
+        Judged::NotPlanned,
+    ),
+];
+
+/// A PAD and a host at a switch.
+const SWITCHED: &[Node] = &[
+    ("pad", Kind::Pad),
+    ("sw", Kind::Switch),
+    ("host", Kind::Host),
+];
+
+const OF_PAD: Line = ("pad", "sw", "1001", 4);
+
+const LINES: &[Line] = &[OF_PAD, ("host", "sw", "2001", 4)];
+
+const TO_PAD: Route = ("sw", "1001", 0);
+
+const ROUTES: &[Route] = &[TO_PAD, ("sw", "2001", 1)];
+
+/// Networks with a switch.
+const WITH_SWITCH: &[Case] = &[
+    (SWITCHED, LINES, ROUTES, Judged::PlannedSwitch),
+    (SWITCHED, LINES, ROUTES, Judged::Served(true)),
+    (
+        SWITCHED,
+        &[OF_PAD, ("host", "sw", "1001", 4)],
+        ROUTES,
+        Judged::Served(true),
+    ),
+    (
+        SWITCHED,
+        LINES,
+        &[TO_PAD, ("sw", "2", 0)],
+        Judged::Served(true),
+    ),
+    (
+        SWITCHED,
+        &[OF_PAD, ("host", "sw", "", 4)],
+        ROUTES,
+        Judged::Served(false),
+    ),
+    (
+        SWITCHED,
+        &[OF_PAD, ("host", "sw", "2O01", 4)],
+        ROUTES,
+        Judged::Served(false),
+    ),
+    (
+        SWITCHED,
+        &[OF_PAD, ("host", "pad", "2001", 4)],
+        ROUTES,
+        Judged::Served(false),
+    ),
+    (
+        SWITCHED,
+        LINES,
+        &[TO_PAD, ("host", "2001", 1)],
+        Judged::Served(false),
+    ),
+    (
+        SWITCHED,
+        LINES,
+        &[TO_PAD, ("sx", "2001", 1)],
+        Judged::Served(false),
+    ),
+    (
+        SWITCHED,
+        LINES,
+        &[TO_PAD, ("sw", "1001", 1)],
+        Judged::Served(false),
+    ),
+    (
+        SWITCHED,
+        LINES,
+        &[TO_PAD, ("sw", "", 1)],
+        Judged::Served(false),
+    ),
+    (
+        SWITCHED,
+        LINES,
+        &[TO_PAD, ("sw", "1234567890123456", 1)],
+        Judged::Served(false),
+    ),
+    (
+        SWITCHED,
+        LINES,
+        &[TO_PAD, ("sw", "2001", 2)],
+        Judged::Served(false),
+    ),
+];
+
+fn two_lines() -> &'static [Case<'static>] {
+    TWO_LINES
+}
+
+fn with_switch() -> &'static [Case<'static>] {
+    WITH_SWITCH
+}
+
+#[test]
+fn networks_are_judged(rt: HostRuntime) {
+    judge(&rt, rt.alloc(), two_lines());
+    judge(&rt, rt.alloc(), with_switch());
+}
+
+fn judge(rt: &impl Abort, alloc: Global, cases: &[Case<'_>]) {
+    for (place, case) in cases.iter().enumerate() {
+        assert!(rt; is_judged(alloc, case), "network {place}");
     }
 }
 
-fn add_node(
-    alloc: Global,
-    config: &mut Config,
-    name: &str,
-    kind: NodeKind,
-) -> Result<(), MakeFault> {
-    let name = name.to_string(alloc)?;
-    config.nodes.push(NodeConfig { name, kind })?;
-    Ok(())
+/// Whether the network of a case is made, and what is said of it holds.
+fn is_judged(alloc: Global, case: &Case<'_>) -> bool {
+    let mut config = Config {
+        nodes: Vec::new(alloc),
+        lines: Vec::new(alloc),
+        routes: Vec::new(alloc),
+    };
+    is_made(alloc, &mut config, case) && holds(alloc, &config, case.3)
 }
 
-fn add_pad(alloc: Global, config: &mut Config) -> Result<(), MakeFault> {
-    let pad = PadConfig {
+fn is_made(alloc: Global, config: &mut Config, case: &Case<'_>) -> bool {
+    let (nodes, lines, routes, _) = *case;
+    adds_nodes(alloc, config, nodes)
+        && adds_lines(alloc, config, lines)
+        && adds_routes(alloc, config, routes)
+}
+
+fn adds_nodes(alloc: Global, config: &mut Config, nodes: &[Node<'_>]) -> bool {
+    let mut added = true;
+    for node in nodes {
+        added = added && adds_node(alloc, config, node);
+    }
+    added
+}
+
+fn adds_node(alloc: Global, config: &mut Config, node: &Node<'_>) -> bool {
+    match node_of(alloc, node) {
+        Ok(node) => config.nodes.push(node).is_ok(),
+        Err(_) => false,
+    }
+}
+
+fn node_of(alloc: Global, node: &Node<'_>) -> Result<NodeConfig, AllocError> {
+    let (name, kind) = *node;
+    Ok(NodeConfig {
+        name: name.to_string(alloc)?,
+        kind: kind_of(alloc, kind),
+    })
+}
+
+fn kind_of(alloc: Global, kind: Kind) -> NodeKind {
+    match kind {
+        Kind::Pad => NodeKind::Pad(pad(alloc)),
+        Kind::Host => NodeKind::Host,
+        Kind::Switch => NodeKind::Switch,
+    }
+}
+
+fn pad(alloc: Global) -> PadConfig {
+    PadConfig {
         terminals: 2,
         profile: Profile::Simple,
         speed: 14,
         settings: Vec::new(alloc),
-    };
-    add_node(alloc, config, "pad", NodeKind::Pad(pad))
+    }
 }
 
-/// A line between nodes of these names, from a DTE of this address.
-fn add_line(
-    alloc: Global,
-    config: &mut Config,
-    (dte, dce): (&str, &str),
-    address: &str,
-    channels: u16,
-) -> Result<(), MakeFault> {
-    config.lines.push(LineConfig {
-        dte: dte.to_string(alloc)?,
-        dce: dce.to_string(alloc)?,
-        address: address.to_string(alloc)?,
+fn adds_lines(alloc: Global, config: &mut Config, lines: &[Line<'_>]) -> bool {
+    let mut added = true;
+    for line in lines {
+        added = added && adds_line(alloc, config, line);
+    }
+    added
+}
+
+fn adds_line(alloc: Global, config: &mut Config, line: &Line<'_>) -> bool {
+    let (_, _, _, channels) = *line;
+    let mut made = LineConfig {
+        dte: String::new(alloc),
+        dce: String::new(alloc),
+        address: String::new(alloc),
         channels,
         window: 2,
         k: 7,
         n2: 3,
         standing: false,
-    })?;
-    Ok(())
+    };
+    names_ends(&mut made, line) && config.lines.push(made).is_ok()
 }
 
-fn add_route(
-    alloc: Global,
-    config: &mut Config,
-    switch: &str,
-    prefix: &str,
-    line: u16,
-) -> Result<(), MakeFault> {
-    config.routes.push(RouteConfig {
-        switch: switch.to_string(alloc)?,
-        prefix: prefix.to_string(alloc)?,
-        line,
-    })?;
-    Ok(())
+fn names_ends(made: &mut LineConfig, line: &Line<'_>) -> bool {
+    let (dte, dce, address, _) = *line;
+    made.dte.push_str(dte).is_ok()
+        && made.dce.push_str(dce).is_ok()
+        && made.address.push_str(address).is_ok()
 }
 
-/// A PAD and a host on one line, a host and the node of the last name on the other.
-fn add_two_lines(
-    alloc: Global,
-    config: &mut Config,
-    last: &str,
-    dce: &str,
-    channels: u16,
-) -> Result<(), MakeFault> {
-    add_pad(alloc, config)?;
-    add_node(alloc, config, "h1", NodeKind::Host)?;
-    add_node(alloc, config, "h2", NodeKind::Host)?;
-    add_node(alloc, config, last, NodeKind::Host)?;
-    add_line(alloc, config, ("pad", "h1"), "", channels)?;
-    add_line(alloc, config, ("h2", dce), "", 1)
+fn adds_routes(alloc: Global, config: &mut Config, routes: &[Route<'_>]) -> bool {
+    let mut added = true;
+    for route in routes {
+        added = added && adds_route(alloc, config, route);
+    }
+    added
 }
 
-/// How many nodes and lines are planned of it.
-fn planned(
-    alloc: Global,
-    last: &str,
-    dce: &str,
-    channels: u16,
-) -> Result<(usize, usize), MakeFault> {
-    let mut config = empty(alloc);
-    add_two_lines(alloc, &mut config, last, dce, channels)?;
-    let plan = plan_of(alloc, &config)?;
-    Ok((plan.nodes.len(), plan.lines.len()))
-}
-
-#[test]
-fn two_lines_are_planned(rt: HostRuntime) {
-    assert!(rt; matches!(planned(rt.alloc(), "h3", "h3", 32), Ok((4, 2))));
-}
-
-#[test]
-fn others_are_refused(rt: HostRuntime) {
-    const CASES: [(&str, &str, u16); 5] = [
-        ("h2", "h2", 32),
-        ("h3", "pad", 32),
-        ("h3", "h1", 32),
-        ("h3", "h4", 32),
-        ("h3", "h3", 33),
-    ];
-    for (last, dce, channels) in &CASES {
-        assert!(rt;
-            matches!(
-                planned(rt.alloc(), last, dce, *channels),
-                Err(MakeFault::BadConfig)
-            ),
-            "{last} {dce} {channels}"
-        );
+fn adds_route(alloc: Global, config: &mut Config, route: &Route<'_>) -> bool {
+    match route_of(alloc, route) {
+        Ok(route) => config.routes.push(route).is_ok(),
+        Err(_) => false,
     }
 }
 
-/// What is said of a network with a PAD and a host at a switch: the host's address and the node at the other end of its
-/// line; and of the second route the node that has it, the prefix and the line.
-type AtSwitch = (&'static str, &'static str, &'static str, &'static str, u16);
-
-/// One that is right.
-const SMALL: AtSwitch = ("2001", "sw", "sw", "2001", 1);
-
-fn add_switch(alloc: Global, config: &mut Config, case: AtSwitch) -> Result<(), MakeFault> {
-    let (address, dce, switch, prefix, number) = case;
-    add_pad(alloc, config)?;
-    add_node(alloc, config, "sw", NodeKind::Switch)?;
-    add_node(alloc, config, "host", NodeKind::Host)?;
-    add_line(alloc, config, ("pad", "sw"), "1001", 4)?;
-    add_line(alloc, config, ("host", dce), address, 4)?;
-    add_route(alloc, config, "sw", "1001", 0)?;
-    add_route(alloc, config, switch, prefix, number)
+fn route_of(alloc: Global, route: &Route<'_>) -> Result<RouteConfig, AllocError> {
+    let (switch, prefix, line) = *route;
+    Ok(RouteConfig {
+        switch: switch.to_string(alloc)?,
+        prefix: prefix.to_string(alloc)?,
+        line,
+    })
 }
 
-/// Networks with a switch, and which are right.
-const AT_SWITCH: [(AtSwitch, bool); 12] = [
-    (SMALL, true),
-    (("1001", "sw", "sw", "2001", 1), true),
-    (("2001", "sw", "sw", "2", 0), true),
-    (("", "sw", "sw", "2001", 1), false),
-    (("2O01", "sw", "sw", "2001", 1), false),
-    (("2001", "pad", "sw", "2001", 1), false),
-    (("2001", "sw", "host", "2001", 1), false),
-    (("2001", "sw", "sx", "2001", 1), false),
-    (("2001", "sw", "sw", "1001", 1), false),
-    (("2001", "sw", "sw", "", 1), false),
-    (("2001", "sw", "sw", "1234567890123456", 1), false),
-    (("2001", "sw", "sw", "2001", 2), false),
-];
-
-/// Whether the network of a case is made, and is right or not.
-fn is_judged(alloc: Global, case: AtSwitch, right: bool) -> bool {
-    let mut config = empty(alloc);
-    add_switch(alloc, &mut config, case).is_ok() && is_served(&config) == right
+fn holds(alloc: Global, config: &Config, judged: Judged) -> bool {
+    match judged {
+        Judged::Served(right) => is_served(config) == right,
+        _ => is_planned(alloc, config, judged),
+    }
 }
 
-#[test]
-fn networks_with_a_switch_are_judged(rt: HostRuntime) {
-    for (place, (case, right)) in AT_SWITCH.iter().enumerate() {
-        assert!(rt; is_judged(rt.alloc(), *case, *right), "network {place}");
+fn is_planned(alloc: Global, config: &Config, judged: Judged) -> bool {
+    match plan_of(alloc, config) {
+        Ok(plan) => is_plan(&plan, judged),
+        Err(MakeFault::BadConfig) => matches!(judged, Judged::NotPlanned),
+        Err(_) => false,
+    }
+}
+
+fn is_plan(plan: &NetPlan, judged: Judged) -> bool {
+    match judged {
+        Judged::Planned(nodes, lines) => plan.nodes.len() == nodes && plan.lines.len() == lines,
+        Judged::PlannedSwitch => has_a_switch(plan),
+        _ => false,
     }
 }
 
@@ -182,13 +346,4 @@ fn has_a_switch(plan: &NetPlan) -> bool {
         },
         _ => false,
     }
-}
-
-#[test]
-fn a_network_with_a_switch_is_planned(rt: HostRuntime) -> Result<(), MakeFault> {
-    let mut config = empty(rt.alloc());
-    add_switch(rt.alloc(), &mut config, SMALL)?;
-    let plan = plan_of(rt.alloc(), &config)?;
-    assert!(rt; has_a_switch(&plan));
-    Ok(())
 }

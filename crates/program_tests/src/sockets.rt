@@ -44,21 +44,25 @@ fn takes(alloc: Global, octets: Option<usize>, taken: Option<usize>) -> bool {
     match UdpLine::over(alloc, dte, dce) {
         Ok(mut line) => {
             line.put(Direction::FromDte, &frame_of(b"AB"));
-            let mut frame = FrameBuf::new();
-            let length = if line.take(Direction::FromDte, &mut frame) {
-                Some(frame.len())
-            } else {
-                None
-            };
-            length == taken && !line.take(Direction::FromDte, &mut frame)
+            next_length(&mut line) == taken && next_length(&mut line).is_none()
         }
         Err(_) => false,
     }
 }
 
+/// The length of the next frame of the DTE, if one comes.
+fn next_length(line: &mut UdpLine<Partner>) -> Option<usize> {
+    let mut frame = FrameBuf::new();
+    if line.take(Direction::FromDte, &mut frame) {
+        Some(frame.len())
+    } else {
+        None
+    }
+}
+
 #[test]
 fn takes_datagrams_that_are_frames(rt: HostRuntime) {
-    const DATAGRAMS: [(Option<usize>, Option<usize>); 6] = [
+    const DATAGRAMS: &[(Option<usize>, Option<usize>)] = &[
         (None, None),
         (Some(0), None),
         (Some(1), Some(1)),
@@ -66,7 +70,7 @@ fn takes_datagrams_that_are_frames(rt: HostRuntime) {
         (Some(148), None),
         (Some(1_000), None),
     ];
-    for (octets, taken) in &DATAGRAMS {
+    for (octets, taken) in DATAGRAMS {
         assert!(rt; takes(rt.alloc(), *octets, *taken), "at {octets:?}");
     }
 }
