@@ -1,97 +1,150 @@
 use arrayvec::ArrayVec;
 use std::process::Abort;
 use x28_commands::{
-    Command, CommandFault, ParameterValue, Signal, hides_echo, read_command, read_pairs,
+    Command, CommandFault, ParameterValue, Selection, Signal, hides_echo, read_command, read_pairs,
     write_signal,
 };
 
-/// The fault of a line, or none.
-fn fault_of(line: &[u8]) -> Option<CommandFault> {
-    match read_command(line) {
-        Ok(_) => None,
-        Err(fault) => Some(fault),
-    }
+/// What a line is read as.
+#[derive(Clone, Copy)]
+enum Wanted<'a> {
+    Fault(CommandFault),
+    Empty,
+    Profile(u8),
+    /// It asks for these parameters.
+    Read(&'a [u8]),
+    /// It sets these parameters, each by its number and its value.
+    Set(&'a [(u8, u8)]),
+    /// It calls this address, with these user data.
+    Select(&'a [u8], &'a [u8]),
 }
 
-/// Lines, each with its fault, or none.
-const LINES: [(&[u8], Option<CommandFault>); 12] = [
-    (b"SETT", Some(CommandFault::Unknown)),
-    (b"STAT 1", Some(CommandFault::Unknown)),
-    (b"SET 300:1", Some(CommandFault::BadNumber)),
-    (b"SET 2", Some(CommandFault::BadNumber)),
-    (b"SET", Some(CommandFault::BadNumber)),
-    (b"20X1", Some(CommandFault::BadAddress)),
-    (b"2001 D", Some(CommandFault::BadAddress)),
-    (b"2001D1234567890123", Some(CommandFault::TooLong)),
-    (&[b' '; 65], Some(CommandFault::TooLong)),
-    (&[b' '; 64], None),
-    (b"par?1,2,3,4,5,6,7,8,9,1,2,3,4,5,6,7,8,9", None),
+const LINES: &[(&[u8], Wanted)] = &[
+    (b"SETT", Wanted::Fault(CommandFault::Unknown)),
+    (b"STAT 1", Wanted::Fault(CommandFault::Unknown)),
+    (b"SET 300:1", Wanted::Fault(CommandFault::BadNumber)),
+    (b"SET 2", Wanted::Fault(CommandFault::BadNumber)),
+    (b"SET", Wanted::Fault(CommandFault::BadNumber)),
+    (b"20X1", Wanted::Fault(CommandFault::BadAddress)),
+    (b"2001 D", Wanted::Fault(CommandFault::BadAddress)),
+    (b"2001D1234567890123", Wanted::Fault(CommandFault::TooLong)),
+    (&[b' '; 65], Wanted::Fault(CommandFault::TooLong)),
+    (&[b' '; 64], Wanted::Empty),
+    (
+        b"par?1,2,3,4,5,6,7,8,9,1,2,3,4,5,6,7,8,9",
+        Wanted::Read(&[1, 2, 3, 4, 5, 6, 7, 8, 9, 1, 2, 3, 4, 5, 6, 7, 8, 9]),
+    ),
     (
         b"par?1,2,3,4,5,6,7,8,9,1,2,3,4,5,6,7,8,9,1",
-        Some(CommandFault::TooLong),
+        Wanted::Fault(CommandFault::TooLong),
     ),
+    (b"set 2:0,3:2", Wanted::Set(&[(2, 0), (3, 2)])),
+    (b"  Par? 2,25 ", Wanted::Read(&[2, 25])),
+    (b"2001Phi ", Wanted::Select(&[2, 0, 0, 1], b"hi ")),
+    (b"", Wanted::Empty),
+    (b"PROF91", Wanted::Profile(91)),
 ];
 
 #[test]
-fn refuses_lines_by_their_first_fault(rt: HostRuntime) {
-    for (line, fault) in &LINES {
-        assert!(rt; fault_of(line) == *fault, "{line:?}");
+fn reads_lines(rt: HostRuntime) {
+    read_all(&rt, lines());
+}
+
+fn lines() -> &'static [(&'static [u8], Wanted<'static>)] {
+    LINES
+}
+
+fn read_all(rt: &impl Abort, lines: &[(&[u8], Wanted<'_>)]) {
+    for (line, wanted) in lines {
+        assert!(rt; is_read(line, *wanted), "{line:?}");
     }
 }
 
-/// Whether a line sets these parameters, each by its number and its value.
-fn sets(line: &[u8], wanted: &[(u8, u8)]) -> bool {
+/// Whether a line is read as this.
+fn is_read(line: &[u8], wanted: Wanted<'_>) -> bool {
     match read_command(line) {
-        Ok(Command::Set(pairs)) => pairs.as_slice() == wanted,
+        Ok(command) => is_command(&command, wanted),
+        Err(fault) => is_fault(fault, wanted),
+    }
+}
+
+fn is_fault(fault: CommandFault, wanted: Wanted<'_>) -> bool {
+    match wanted {
+        Wanted::Fault(wanted) => fault == wanted,
         _ => false,
     }
 }
 
-/// Whether a line asks for these parameters.
-fn asks_for(line: &[u8], wanted: &[u8]) -> bool {
-    match read_command(line) {
-        Ok(Command::Read(numbers)) => numbers.as_slice() == wanted,
-        _ => false,
-    }
-}
-
-/// Whether a line calls this address, with these user data.
-fn selects(line: &[u8], address: &[u8], user_data: &[u8]) -> bool {
-    match read_command(line) {
-        Ok(Command::Select(selection)) => {
-            selection.address.digits() == address && selection.user_data.as_slice() == user_data
+fn is_command(command: &Command, wanted: Wanted<'_>) -> bool {
+    match (command, wanted) {
+        (Command::Empty, Wanted::Empty) => true,
+        (Command::Profile(number), Wanted::Profile(wanted)) => *number == wanted,
+        (Command::Read(numbers), Wanted::Read(wanted)) => numbers.as_slice() == wanted,
+        (Command::Set(pairs), Wanted::Set(wanted)) => pairs.as_slice() == wanted,
+        (Command::Select(selection), Wanted::Select(address, user_data)) => {
+            is_selection(selection, address, user_data)
         }
         _ => false,
     }
 }
 
-#[test]
-fn reads_commands(rt: HostRuntime) {
-    assert!(rt; sets(b"set 2:0,3:2", &[(2, 0), (3, 2)]));
-    assert!(rt; asks_for(b"  Par? 2,25 ", &[2, 25]));
-    assert!(rt; selects(b"2001Phi ", &[2, 0, 0, 1], b"hi "));
-    assert!(rt; matches!(read_command(b""), Ok(Command::Empty)));
-    assert!(rt; matches!(read_command(b"PROF91"), Ok(Command::Profile(91))));
-    assert!(rt; read_pairs(b"3:2,15:1").is_ok());
-    assert!(rt; read_pairs(b"3:2, 15:1").is_err());
-    assert!(rt; hides_echo(b" 2001P") && !hides_echo(b"2001D") && !hides_echo(b"P"));
+fn is_selection(selection: &Selection, address: &[u8], user_data: &[u8]) -> bool {
+    selection.address.digits() == address && selection.user_data.as_slice() == user_data
 }
 
-/// Writes a signal, and looks at its text.
-fn writes(rt: &impl Abort, signal: &Signal, text: &[u8]) {
-    let mut out = ArrayVec::<u8, 160>::new();
-    write_signal(signal, &mut out);
-    assert_eq!(rt; out.as_slice(), text);
+/// Whether a text is read as pairs.
+fn are_pairs(text: &[u8]) -> bool {
+    text.len() <= 143 && read_pairs(text).is_ok()
 }
+
+#[test]
+fn reads_pairs_and_hides_user_data(rt: HostRuntime) {
+    assert!(rt; are_pairs(b"3:2,15:1"));
+    assert!(rt; !are_pairs(b"3:2, 15:1"));
+    assert!(rt; hides_echo(b" 2001P"));
+    assert!(rt; !hides_echo(b"2001D"));
+    assert!(rt; !hides_echo(b"P"));
+}
+
+/// What a PAD tells.
+#[derive(Clone, Copy)]
+enum Told {
+    Clear(u8),
+    Reset(u8),
+    Prompt,
+    Acknowledgement,
+    /// Parameter 2 has the value 1, and 25 was refused.
+    Parameters,
+}
+
+const SIGNALS: &[(Told, &[u8])] = &[
+    (Told::Clear(13), b"\r\nCLR NP\r\n"),
+    (Told::Clear(2), b"\r\nCLR ERR\r\n"),
+    (Told::Clear(128), b"\r\nCLR DTE\r\n"),
+    (Told::Reset(5), b"\r\nRESET ERR\r\n"),
+    (Told::Prompt, b"\r\n*"),
+    (Told::Acknowledgement, b"\r\n"),
+    (Told::Parameters, b"\r\nPAR 2:1,25:INV\r\n"),
+];
 
 #[test]
 fn writes_signals(rt: HostRuntime) {
-    writes(&rt, &Signal::ClearIndication(13), b"\r\nCLR NP\r\n");
-    writes(&rt, &Signal::ClearIndication(2), b"\r\nCLR ERR\r\n");
-    writes(&rt, &Signal::ClearIndication(128), b"\r\nCLR DTE\r\n");
-    writes(&rt, &Signal::ResetIndication(5), b"\r\nRESET ERR\r\n");
-    writes(&rt, &Signal::Prompt, b"\r\n*");
-    writes(&rt, &Signal::Acknowledgement, b"\r\n");
+    for (told, text) in SIGNALS {
+        assert!(rt; is_written(*told, text), "{text:?}");
+    }
+}
+
+fn signal_of(told: Told) -> Signal {
+    match told {
+        Told::Clear(cause) => Signal::ClearIndication(cause),
+        Told::Reset(cause) => Signal::ResetIndication(cause),
+        Told::Prompt => Signal::Prompt,
+        Told::Acknowledgement => Signal::Acknowledgement,
+        Told::Parameters => parameters(),
+    }
+}
+
+fn parameters() -> Signal {
     let mut values = ArrayVec::new();
     values.push(ParameterValue {
         number: 2,
@@ -101,5 +154,12 @@ fn writes_signals(rt: HostRuntime) {
         number: 25,
         value: None,
     });
-    writes(&rt, &Signal::Parameters(values), b"\r\nPAR 2:1,25:INV\r\n");
+    Signal::Parameters(values)
+}
+
+/// Whether this is the text of a signal.
+fn is_written(told: Told, text: &[u8]) -> bool {
+    let mut out = ArrayVec::<u8, 160>::new();
+    write_signal(&signal_of(told), &mut out);
+    out.as_slice() == text
 }
