@@ -43,6 +43,7 @@ const CLEARED: Row = (
         error: None,
     },
 );
+
 // Procedure errors: a Call in data transfer at a DCE, and Data without a call.
 const CALL_IN_A_CALL: Row = (
     Role::Dce,
@@ -68,21 +69,33 @@ const DATA_WITHOUT_A_CALL: Row = (
     },
 );
 
-const ROWS: [Row; 5] = [CALL, ACCEPTED, CLEARED, CALL_IN_A_CALL, DATA_WITHOUT_A_CALL];
+const ROWS: &[Row] = &[CALL, ACCEPTED, CLEARED, CALL_IN_A_CALL, DATA_WITHOUT_A_CALL];
 
 #[test]
 fn steps_are_those_of_the_table(rt: HostRuntime) {
-    for (role, state, event, step) in &ROWS {
+    for (role, state, event, step) in ROWS {
         assert!(rt; CallState::step(*role, *state, *event) == *step);
     }
 }
 
+// In which states an end may accept a call, and in which not.
+const ACCEPTING: &[(CallState, Role, bool)] = &[
+    (CallState::DceWaiting, Role::Dte, true),
+    (CallState::CallCollision, Role::Dte, false),
+    (CallState::CallCollision, Role::Dce, true),
+];
+
+// The states of a clear of one's own, of a call of one's own and of one of the far end, by their numbers.
+fn are_numbered() -> bool {
+    CallState::own_clear(Role::Dte).number() == 6
+        && CallState::own_waiting(Role::Dce).number() == 3
+        && CallState::far_waiting(Role::Dce).number() == 2
+}
+
 #[test]
 fn acts_of_the_user(rt: HostRuntime) {
-    assert!(rt; CallState::DceWaiting.allows(Role::Dte, UserAct::Accept));
-    assert!(rt; !CallState::CallCollision.allows(Role::Dte, UserAct::Accept));
-    assert!(rt; CallState::CallCollision.allows(Role::Dce, UserAct::Accept));
-    assert!(rt; CallState::own_clear(Role::Dte).number() == 6);
-    assert!(rt; CallState::own_waiting(Role::Dce).number() == 3);
-    assert!(rt; CallState::far_waiting(Role::Dce).number() == 2);
+    for (state, role, allowed) in ACCEPTING {
+        assert!(rt; state.allows(*role, UserAct::Accept) == *allowed);
+    }
+    assert!(rt; are_numbered());
 }

@@ -1,7 +1,7 @@
 //! Worked examples: two packet layers on one line, by the octets of their packets.
 
 use crate::station::Station;
-use crate::steps::{Step, Told, Turn, first_misfit};
+use crate::steps::{Step, Told, Turn, fit};
 use Step::{
     Accept, Call, Clear, ConfirmInterrupt, Confirmed, Expire, Go, Hear, Interrupt, LinkDown,
     LinkUp, MustRelink, NoNote, Note, Relay, Release, Reset, Room, Runs, Say, SayNothing, Send,
@@ -30,7 +30,7 @@ fn params(channels: u8, window: u8, standing: bool) -> LayerParams {
 }
 
 // How two layers begin.
-#[derive(Clone, Copy, PartialEq)]
+#[derive(Clone, Copy)]
 enum Beginning {
     // with a call that stands on channel 1
     Standing,
@@ -52,7 +52,7 @@ struct Example<'a> {
 }
 
 fn play(rt: &impl Abort, alloc: Global, example: &Example<'_>) {
-    let standing = example.begins == Beginning::Standing;
+    let standing = matches!(example.begins, Beginning::Standing);
     let params = params(example.channels, 2, standing);
     let mut dte = Station::new(alloc, Role::Dte, params).expect(rt, "a DTE");
     let mut dce = Station::new(alloc, Role::Dce, params).expect(rt, "a DCE");
@@ -62,15 +62,15 @@ fn play(rt: &impl Abort, alloc: Global, example: &Example<'_>) {
 
 // Whether the turns of an example fit.
 fn holds(dte: &mut Station, dce: &mut Station, example: &Example<'_>) -> bool {
-    begin(dte, dce, example.begins) && first_misfit(dte, dce, example.turns).is_none()
+    begin(dte, dce, example.begins) && fit(dte, dce, example.turns)
 }
 
 // Whether the turns by which two layers begin fit.
 fn begin(dte: &mut Station, dce: &mut Station, begins: Beginning) -> bool {
     match begins {
         Beginning::Standing | Beginning::Fresh => true,
-        Beginning::SetUp => first_misfit(dte, dce, SET_UP).is_none(),
-        Beginning::InACall => first_misfit(dte, dce, ANSWERED).is_none(),
+        Beginning::SetUp => fit(dte, dce, SET_UP),
+        Beginning::InACall => fit(dte, dce, ANSWERED),
     }
 }
 
@@ -101,21 +101,20 @@ const ANSWERED: &[Turn] = &[
     Dce(Say(&[0x10, 0x04, 0x0f])),
 ];
 
-// Why a DTE of these parameters is not made.
-fn fault_of(alloc: Global, params: LayerParams) -> Option<MakeFault> {
+// Whether a DTE of these parameters is not made, since they are bad.
+fn are_bad(alloc: Global, params: LayerParams) -> bool {
     match Station::new(alloc, Role::Dte, params) {
-        Ok(_) => None,
-        Err(fault) => Some(fault),
+        Ok(_) => false,
+        Err(fault) => fault == MakeFault::BadParams,
     }
 }
 
 #[test]
 fn parameters_have_ranges(rt: HostRuntime) {
-    const BAD: [(u8, u8); 4] = [(4, 0), (4, 8), (0, 2), (33, 2)];
-    for (channels, window) in &BAD {
-        let fault = fault_of(rt.alloc(), params(*channels, *window, false));
+    const BAD: &[(u8, u8)] = &[(4, 0), (4, 8), (0, 2), (33, 2)];
+    for (channels, window) in BAD {
         assert!(rt;
-            fault == Some(MakeFault::BadParams),
+            are_bad(rt.alloc(), params(*channels, *window, false)),
             "{channels} channels, window {window}"
         );
     }

@@ -9,7 +9,6 @@ mod layers;
 mod packets;
 #[cfg(test)]
 mod resets;
-#[cfg(test)]
 mod station;
 #[cfg(test)]
 mod steps;

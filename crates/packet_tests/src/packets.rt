@@ -7,32 +7,35 @@ use packet_codec::{
 
 /// Whether octets are a packet that is written as these.
 fn is_written_as(octets: &[u8], written: &[u8]) -> bool {
-    let mut buf = PacketBuf::new();
-    if let Ok(packet) = read_packet(octets, Numbering::Modulo8) {
-        write_packet(&packet, &mut buf);
+    match read_packet(octets, Numbering::Modulo8) {
+        Ok(packet) => {
+            let mut buf = PacketBuf::new();
+            write_packet(&packet, &mut buf);
+            buf.as_slice() == written
+        }
+        Err(_) => false,
     }
-    buf.as_slice() == written
 }
 
 #[test]
 fn reads_and_writes(rt: HostRuntime) {
     const CLEAR: &[u8] = &[0x10, 0x04, 0x13, 0x03, 0x00];
     const ACCEPTED: &[u8] = &[0x10, 0x04, 0x0f];
-    const PAIRS: [(&[u8], &[u8]); 5] = [
+    const PAIRS: &[(&[u8], &[u8])] = &[
         (&[0x10, 0x04, 0x13, 0x03], CLEAR),
         (CLEAR, CLEAR),
         (ACCEPTED, ACCEPTED),
         (&[0x10, 0x04, 0x0f, 0x00], ACCEPTED),
         (&[0x10, 0x04, 0x0f, 0x00, 0x00], ACCEPTED),
     ];
-    for (octets, written) in &PAIRS {
+    for (octets, written) in PAIRS {
         assert!(rt; is_written_as(octets, written), "{octets:?}");
     }
 }
 
 #[test]
 fn writes_what_it_read(rt: HostRuntime) {
-    const PACKETS: [&[u8]; 13] = [
+    const PACKETS: &[&[u8]] = &[
         &[0x10, 0x04, 0x00, 0x48, 0x45, 0x4c, 0x4c, 0x4f, 0x0d],
         &[0x50, 0x04, 0x00, 0x48, 0x49],
         &[0x90, 0x04, 0x20, 0x00, 0x8b, 0x03],
@@ -47,22 +50,22 @@ fn writes_what_it_read(rt: HostRuntime) {
         &[0x10, 0x00, 0xfb, 0x07, 0x00],
         &[0x10, 0x00, 0xff],
     ];
-    for octets in &PACKETS {
+    for octets in PACKETS {
         assert!(rt; is_written_as(octets, octets), "{octets:?}");
     }
 }
 
-/// The fault of octets, or none.
-fn fault_of(octets: &[u8]) -> Option<PacketFault> {
+/// Whether octets have this fault, or none.
+fn has_fault(octets: &[u8], wanted: Option<PacketFault>) -> bool {
     match read_packet(octets, Numbering::Modulo8) {
-        Ok(_) => None,
-        Err(fault) => Some(fault),
+        Ok(_) => wanted.is_none(),
+        Err(fault) => wanted == Some(fault),
     }
 }
 
 #[test]
 fn faults(rt: HostRuntime) {
-    const FAULTS: [(&[u8], PacketFault); 9] = [
+    const FAULTS: &[(&[u8], PacketFault)] = &[
         (
             &[0x10, 0x04, 0x0f, 0x00, 0x00, 0x41],
             PacketFault::BadLength,
@@ -79,16 +82,19 @@ fn faults(rt: HostRuntime) {
         (&[0x10, 0x01], PacketFault::TooShort),
         (&[], PacketFault::TooShort),
     ];
-    for (octets, fault) in &FAULTS {
-        assert!(rt; fault_of(octets) == Some(*fault), "{octets:?}");
+    for (octets, fault) in FAULTS {
+        assert!(rt; has_fault(octets, Some(*fault)), "{octets:?}");
     }
-    // Data of 129 octets, and of 128.
+}
+
+#[test]
+fn data_have_128_octets_at_most(rt: HostRuntime) {
     let mut long = [0x41; 132];
     long[0] = 0x10;
     long[1] = 0x01;
     long[2] = 0x00;
-    assert!(rt; fault_of(&long) == Some(PacketFault::DataTooLong));
-    assert!(rt; fault_of(&long[..131]).is_none());
+    assert!(rt; has_fault(&long, Some(PacketFault::DataTooLong)));
+    assert!(rt; has_fault(&long[..131], None));
 }
 
 /// A Call by its octets: the addresses, that of the caller empty for none, the facilities and the user data.
@@ -102,8 +108,8 @@ struct Call<'a> {
 
 impl Call<'_> {
     fn is_told(&self, call: &CallData<'_>) -> bool {
-        Address::read(self.called) == Ok(call.called)
-            && Address::read(self.calling).ok() == call.calling
+        is_address(self.called, &call.called)
+            && is_caller(self.calling, &call.calling)
             && call.facilities == self.facilities
             && call.user_data == self.user_data
     }
@@ -120,9 +126,30 @@ impl Call<'_> {
     }
 }
 
+fn is_address(text: &[u8], address: &Address) -> bool {
+    match Address::read(text) {
+        Ok(read) => read == *address,
+        Err(_) => false,
+    }
+}
+
+fn is_caller(text: &[u8], caller: &Option<Address>) -> bool {
+    match caller {
+        Some(address) => is_address(text, address),
+        None => is_refused(text, AddressFault::Empty),
+    }
+}
+
+fn is_refused(text: &[u8], wanted: AddressFault) -> bool {
+    match Address::read(text) {
+        Ok(_) => false,
+        Err(fault) => fault == wanted,
+    }
+}
+
 #[test]
 fn call_blocks(rt: HostRuntime) {
-    const CALLS: [Call; 3] = [
+    const CALLS: &[Call] = &[
         Call {
             octets: &[
                 0x10, 0x04, 0x0b, 0x04, 0x20, 0x01, 0x00, 0x01, 0x00, 0x00, 0x00,
@@ -149,38 +176,43 @@ fn call_blocks(rt: HostRuntime) {
             user_data: &[],
         },
     ];
-    for call in &CALLS {
-        assert!(rt; is_written_as(call.octets, call.octets));
-        assert!(rt; call.is_read());
+    for call in CALLS {
+        assert!(rt; is_written_as(call.octets, call.octets) && call.is_read());
     }
 }
 
 #[test]
 fn addresses(rt: HostRuntime) {
-    const FAULTS: [(&[u8], AddressFault); 3] = [
+    const FAULTS: &[(&[u8], AddressFault)] = &[
         (b"", AddressFault::Empty),
         (b"1234567890123456", AddressFault::TooLong),
         (b"12A", AddressFault::NotADigit),
     ];
-    for (text, fault) in &FAULTS {
-        assert!(rt; Address::read(text) == Err(*fault), "{text:?}");
+    for (text, fault) in FAULTS {
+        assert!(rt; is_refused(text, *fault), "{text:?}");
     }
-    let address = Address::new(&[2, 0, 0, 1]);
-    assert!(rt; Address::read(b"2001") == Ok(address));
-    assert!(rt; address.digits() == [2, 0, 0, 1].as_slice());
+    assert!(rt; is_2001(&Address::new(&[2, 0, 0, 1])));
 }
 
-/// The type and the channel of a packet.
-fn head_of(octets: &[u8]) -> Option<(PacketType, u16)> {
+fn is_2001(address: &Address) -> bool {
+    is_address(b"2001", address) && address.digits() == [2, 0, 0, 1].as_slice()
+}
+
+/// Whether octets are a packet of this type, on this channel.
+fn is_headed(octets: &[u8], wanted: PacketType, channel: u16) -> bool {
     match read_packet(octets, Numbering::Modulo8) {
-        Ok(packet) => Some((packet.content.packet_type(), packet.channel)),
-        Err(_) => None,
+        Ok(packet) => packet.content.packet_type() == wanted && packet.channel == channel,
+        Err(_) => false,
     }
+}
+
+fn has_channel(octets: &[u8], channel: Option<u16>) -> bool {
+    logical_channel(octets) == channel
 }
 
 #[test]
 fn names_of_octets(rt: HostRuntime) {
-    assert!(rt; logical_channel(&[0x11, 0x04, 0xf1]) == Some(0x104));
-    assert!(rt; logical_channel(&[0x10]).is_none());
-    assert!(rt; head_of(&[0x10, 0x01, 0x41]) == Some((PacketType::ReceiveReady, 1)));
+    assert!(rt; has_channel(&[0x11, 0x04, 0xf1], Some(0x104)));
+    assert!(rt; has_channel(&[0x10], None));
+    assert!(rt; is_headed(&[0x10, 0x01, 0x41], PacketType::ReceiveReady, 1));
 }

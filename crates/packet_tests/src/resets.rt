@@ -6,44 +6,72 @@ use reset_restart::{
     ResetEvent, ResetNote, ResetState, ResetStep, RestartNote, RestartState, RestartStep,
 };
 
+// A role, an event when flow control is ready, and what comes of it.
+type ResetRow = (Role, ResetEvent, ResetStep);
+
+const RESETS: &[ResetRow] = &[
+    (
+        Role::Dte,
+        ResetEvent::UserReset,
+        ResetStep {
+            state: ResetState::DteReset,
+            owed: Some(PacketType::ResetRequest),
+            note: ResetNote::Nothing,
+            error: None,
+        },
+    ),
+    // A Reset Confirmation of no reset, at a DCE.
+    (
+        Role::Dce,
+        ResetEvent::Received(PacketType::ResetConfirmation),
+        ResetStep {
+            state: ResetState::DceReset,
+            owed: Some(PacketType::ResetRequest),
+            note: ResetNote::Reset,
+            error: Some(0x1b),
+        },
+    ),
+];
+
 #[test]
 fn resets(rt: HostRuntime) {
-    const BEGUN: ResetStep = ResetStep {
-        state: ResetState::DteReset,
-        owed: Some(PacketType::ResetRequest),
-        note: ResetNote::Nothing,
-        error: None,
-    };
-    let ready = ResetState::FlowControlReady;
-    assert!(rt; ResetState::step(Role::Dte, ready, ResetEvent::UserReset) == BEGUN);
-    // A Reset Confirmation of no reset, at a DCE.
-    let confirmation = ResetEvent::Received(PacketType::ResetConfirmation);
-    let error = ResetStep {
-        state: ResetState::own(Role::Dce),
-        owed: Some(PacketType::ResetRequest),
-        note: ResetNote::Reset,
-        error: Some(0x1b),
-    };
-    assert!(rt; ResetState::step(Role::Dce, ready, confirmation) == error);
+    for (role, event, step) in RESETS {
+        assert!(rt; ResetState::step(*role, ResetState::FlowControlReady, *event) == *step);
+    }
+    assert!(rt; ResetState::own(Role::Dce) == ResetState::DceReset);
 }
+
+// A role, a packet when the packet layer is ready, and what comes of it.
+type RestartRow = (Role, PacketType, RestartStep);
+
+const RESTARTS: &[RestartRow] = &[
+    (
+        Role::Dte,
+        PacketType::RestartRequest,
+        RestartStep {
+            state: RestartState::PacketLayerReady,
+            owed: Some(PacketType::RestartConfirmation),
+            note: RestartNote::CallsClosed,
+            error: None,
+        },
+    ),
+    // A Restart Confirmation of no restart, at a DCE.
+    (
+        Role::Dce,
+        PacketType::RestartConfirmation,
+        RestartStep {
+            state: RestartState::DceRestart,
+            owed: Some(PacketType::RestartRequest),
+            note: RestartNote::CallsClosed,
+            error: Some(0x11),
+        },
+    ),
+];
 
 #[test]
 fn restarts(rt: HostRuntime) {
-    const CLOSED: RestartStep = RestartStep {
-        state: RestartState::PacketLayerReady,
-        owed: Some(PacketType::RestartConfirmation),
-        note: RestartNote::CallsClosed,
-        error: None,
-    };
-    let ready = RestartState::PacketLayerReady;
-    assert!(rt; RestartState::step(Role::Dte, ready, PacketType::RestartRequest) == CLOSED);
-    // A Restart Confirmation of no restart, at a DCE.
-    let error = RestartStep {
-        state: RestartState::own(Role::Dce),
-        owed: Some(PacketType::RestartRequest),
-        note: RestartNote::CallsClosed,
-        error: Some(0x11),
-    };
-    let confirmation = PacketType::RestartConfirmation;
-    assert!(rt; RestartState::step(Role::Dce, ready, confirmation) == error);
+    for (role, packet, step) in RESTARTS {
+        assert!(rt; RestartState::step(*role, RestartState::PacketLayerReady, *packet) == *step);
+    }
+    assert!(rt; RestartState::own(Role::Dce) == RestartState::DceRestart);
 }

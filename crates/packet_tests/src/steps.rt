@@ -3,7 +3,7 @@
 use crate::station::Station;
 use link_timers::TimerId;
 use packet_codec::{Address, CallData, PacketBuf};
-use packet_layer::{CallFault, ChannelFault, Front, LayerNote, Reason, Taken};
+use packet_layer::{CallFault, ChannelFault, Front, Layer, LayerNote, Reason, Taken};
 
 /// What is done or looked at at a packet layer. A call goes to address 2001, with no user data.
 #[derive(Clone, Copy)]
@@ -62,18 +62,13 @@ pub(crate) enum Turn<'a> {
     ToDte(&'a [u8]),
 }
 
-/// The number of the first turn that does not fit, if any.
-pub(crate) fn first_misfit(
-    dte: &mut Station,
-    dce: &mut Station,
-    turns: &[Turn<'_>],
-) -> Option<usize> {
-    for (number, turn) in turns.iter().enumerate() {
-        if !fits(dte, dce, turn) {
-            return Some(number);
-        }
+/// Whether all turns fit.
+pub(crate) fn fit(dte: &mut Station, dce: &mut Station, turns: &[Turn<'_>]) -> bool {
+    let mut all = true;
+    for turn in turns {
+        all = all && fits(dte, dce, turn);
     }
-    None
+    all
 }
 
 fn fits(dte: &mut Station, dce: &mut Station, turn: &Turn<'_>) -> bool {
@@ -127,24 +122,26 @@ fn says(station: &mut Station, octets: &[u8]) -> bool {
 }
 
 fn takes(station: &mut Station, channel: u8, octets: Option<&[u8]>) -> bool {
-    match (station.take(channel), octets) {
-        (Some(Taken::Data(data)), Some(octets)) => data.octets() == octets,
-        (Some(Taken::Interrupt(data)), Some(octets)) => data.octets() == octets,
-        (None, None) => true,
-        _ => false,
+    match station.take(channel) {
+        Some(taken) => octets == Some(octets_of(&taken)),
+        None => octets.is_none(),
     }
 }
 
-// What a user asks, and what he may look at.
+fn octets_of(taken: &Taken) -> &[u8] {
+    match taken {
+        Taken::Data(data) => data.octets(),
+        Taken::Interrupt(data) => data.octets(),
+    }
+}
+
+// What a user asks of a call.
 fn answer_fits(station: &mut Station, step: &Step<'_>) -> bool {
     match step {
         Step::Call(answer) => call_2001(station) == *answer,
         Step::Accept(channel, answer) => station.accept(*channel) == *answer,
         Step::Clear(channel) => station.clear(*channel).is_ok(),
         Step::Reset(channel, answer) => station.reset(*channel) == *answer,
-        Step::Send(channel, octets, answer) => { station.send(*channel, octets, false) == *answer }
-        Step::SendToConfirm(channel, octets) => { station.send(*channel, octets, true).is_ok() }
-        Step::Interrupt(channel, octets, answer) => station.interrupt(*channel, octets) == *answer,
         Step::Stop(channel) => station.stop(*channel).is_ok(),
         Step::Go(channel, answer) => station.go(*channel) == *answer,
         Step::Release(channel) => {
@@ -156,11 +153,28 @@ fn answer_fits(station: &mut Station, step: &Step<'_>) -> bool {
             true
         }
         Step::Relay(from, to, answer) => station.relay(*from, *to) == *answer,
-        Step::Runs(timer, answer) => station.layer().runs(*timer) == *answer,
-        Step::MustRelink(answer) => station.layer().must_relink() == *answer,
-        Step::Room(channel, answer) => station.layer().room(*channel) == *answer,
-        Step::Confirmed(channel, answer) => station.layer().confirmed(*channel) == *answer,
         Step::Front(channel, answer) => station.front(*channel) == Some(*answer),
+        _ => sent_fits(station, step),
+    }
+}
+
+// What a user sends.
+fn sent_fits(station: &mut Station, step: &Step<'_>) -> bool {
+    match step {
+        Step::Send(channel, octets, answer) => { station.send(*channel, octets, false) == *answer }
+        Step::SendToConfirm(channel, octets) => { station.send(*channel, octets, true).is_ok() }
+        Step::Interrupt(channel, octets, answer) => station.interrupt(*channel, octets) == *answer,
+        _ => is_seen(station.layer(), step),
+    }
+}
+
+// What a user may look at.
+fn is_seen(layer: &Layer, step: &Step<'_>) -> bool {
+    match step {
+        Step::Runs(timer, answer) => layer.runs(*timer) == *answer,
+        Step::MustRelink(answer) => layer.must_relink() == *answer,
+        Step::Room(channel, answer) => layer.room(*channel) == *answer,
+        Step::Confirmed(channel, answer) => layer.confirmed(*channel) == *answer,
         _ => false,
     }
 }
@@ -175,18 +189,37 @@ fn call_2001(station: &mut Station) -> Result<u8, CallFault> {
 }
 
 fn is_told(note: Option<LayerNote>, told: Told) -> bool {
-    let Some(note) = note else {
-        return false;
-    };
+    match note {
+        Some(note) => is_note(&note, told),
+        None => false,
+    }
+}
+
+fn is_note(note: &LayerNote, told: Told) -> bool {
     match (note, told) {
         (LayerNote::Incoming(channel, call), Told::Incoming(wanted)) => {
-            let call = call.data();
-            channel == wanted
-                && call.called.digits() == [2, 0, 0, 1].as_slice()
-                && call.calling.is_none()
-                && call.user_data.is_empty()
+            *channel == wanted && is_call_to_2001(&call.data())
         }
-        (LayerNote::Connected(channel), Told::Connected(wanted)) => channel == wanted,
+        (LayerNote::Connected(channel), Told::Connected(wanted)) => *channel == wanted,
+        (LayerNote::InterruptConfirmed(channel), Told::InterruptConfirmed(wanted)) => {
+            *channel == wanted
+        }
+        (LayerNote::Covered { channel, count }, Told::Covered(on, wanted)) => {
+            *channel == on && *count == wanted
+        }
+        _ => is_end(note, told),
+    }
+}
+
+fn is_call_to_2001(call: &CallData<'_>) -> bool {
+    call.called.digits() == [2, 0, 0, 1].as_slice()
+        && call.calling.is_none()
+        && call.user_data.is_empty()
+}
+
+// Whether a note is this one of a call that was closed or reset.
+fn is_end(note: &LayerNote, told: Told) -> bool {
+    match (note, told) {
         (
             LayerNote::Closed {
                 channel,
@@ -195,7 +228,7 @@ fn is_told(note: Option<LayerNote>, told: Told) -> bool {
                 reason,
             },
             Told::Closed(on, by, more, why),
-        ) => (channel, cause, diagnostic) == (on, by, more) && reason == why,
+        ) => *channel == on && *cause == by && *diagnostic == more && *reason == why,
         (
             LayerNote::Reset {
                 channel,
@@ -204,13 +237,7 @@ fn is_told(note: Option<LayerNote>, told: Told) -> bool {
                 reason,
             },
             Told::Reset(on, by, more, why),
-        ) => (channel, cause, diagnostic) == (on, by, more) && reason == why,
-        (LayerNote::InterruptConfirmed(channel), Told::InterruptConfirmed(wanted)) => {
-            channel == wanted
-        }
-        (LayerNote::Covered { channel, count }, Told::Covered(on, wanted)) => {
-            (channel, count) == (on, wanted)
-        }
+        ) => *channel == on && *cause == by && *diagnostic == more && *reason == why,
         _ => false,
     }
 }
