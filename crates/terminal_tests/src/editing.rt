@@ -36,30 +36,34 @@ struct Example<'a> {
     steps: &'a [Step<'a>],
 }
 
+fn play_all(rt: &impl Abort, examples: &[Example<'_>]) {
+    for example in examples {
+        play(rt, example);
+    }
+}
+
 // Plays the steps of an example at an editor.
 fn play(rt: &impl Abort, example: &Example<'_>) {
     let mut params = Params::profile(Profile::Transparent, 14);
     let mut editor = Editor::new();
+    play_at(rt, &mut editor, &mut params, example);
+}
+
+fn play_at(rt: &impl Abort, editor: &mut Editor, params: &mut Params, example: &Example<'_>) {
     let rule = example.rule;
     for (place, step) in example.steps.iter().enumerate() {
-        assert!(rt;
-            fits(&mut editor, &mut params, *step),
-            "{rule}: step {place}"
-        );
+        assert!(rt; fits(editor, params, *step), "{rule}: step {place}");
     }
 }
 
 fn fits(editor: &mut Editor, params: &mut Params, step: Step<'_>) -> bool {
     match step {
-        With(changes) => {
-            *params = Params::profile(Profile::Transparent, 14);
-            sets(params, changes)
-        }
+        With(changes) => begins_with(params, changes),
         Type(octet, echo, block) => types(editor, params, octet, echo, block),
         TypeLetters(count) => types_letters(editor, params, count),
         Add(octets) => adds(editor, params, octets, true),
         NotAdd(octets) => adds(editor, params, octets, false),
-        Idle(block) => octets_of(&editor.idle(params)) == block,
+        Idle(block) => is_block(&editor.idle(params), block),
         Held(text) => editor.held() == text,
         HeldLength(length) => editor.held().len() == length,
         Discard => {
@@ -67,6 +71,11 @@ fn fits(editor: &mut Editor, params: &mut Params, step: Step<'_>) -> bool {
             true
         }
     }
+}
+
+fn begins_with(params: &mut Params, changes: Changes<'_>) -> bool {
+    *params = Params::profile(Profile::Transparent, 14);
+    sets(params, changes)
 }
 
 // Whether each of these parameters takes its value.
@@ -78,11 +87,11 @@ fn sets(params: &mut Params, changes: Changes<'_>) -> bool {
     taken
 }
 
-// A block's octets, or none.
-fn octets_of(block: &Option<Block>) -> &[u8] {
+// Whether a block has these octets, or there is none.
+fn is_block(block: &Option<Block>, octets: &[u8]) -> bool {
     match block {
-        Some(block) => block.as_slice(),
-        None => &[],
+        Some(block) => block.as_slice() == octets,
+        None => octets.is_empty(),
     }
 }
 
@@ -90,7 +99,7 @@ fn octets_of(block: &Option<Block>) -> &[u8] {
 fn types(editor: &mut Editor, params: &Params, octet: u8, echo: &[u8], block: &[u8]) -> bool {
     let forwards = editor.forwards(octet, params);
     let out = editor.key(octet, params);
-    out.echo.as_slice() == echo && octets_of(&out.block) == block && forwards == !block.is_empty()
+    out.echo.as_slice() == echo && is_block(&out.block, block) && forwards == !block.is_empty()
 }
 
 fn types_letters(editor: &mut Editor, params: &Params, count: usize) -> bool {
@@ -199,28 +208,31 @@ const EXAMPLES: &[Example] = &[
 
 #[test]
 fn editors_do_what_the_rules_say(rt: HostRuntime) {
-    for example in EXAMPLES {
-        play(&rt, example);
-    }
+    play_all(&rt, examples());
+}
+
+fn examples() -> &'static [Example<'static>] {
+    EXAMPLES
 }
 
 #[test]
 fn shows_a_graphic_character_as_it_stands(rt: HostRuntime) {
-    const OCTETS: [(u8, u16, bool); 5] = [
+    const OCTETS: &[(u8, u16, bool)] = &[
         (b' ', 3, true),
         (b'~', 5, true),
         (b'A', 4, false),
         (0x1F, 0, false),
         (0x7F, 0, false),
     ];
-    let mut params = Params::profile(Profile::Transparent, 14);
-    assert!(rt; sets(&mut params, &[(10, 4)]));
-    for (octet, column, plain) in &OCTETS {
-        assert!(rt;
-            Display::is_plain(*octet, &params, *column) == *plain,
-            "octet {octet}"
-        );
+    for (octet, column, plain) in OCTETS {
+        assert!(rt; is_plain(*octet, *column) == *plain, "octet {octet}");
     }
+}
+
+// Whether an octet is shown as it stands from a column, where a line has four.
+fn is_plain(octet: u8, column: u16) -> bool {
+    let mut params = Params::profile(Profile::Transparent, 14);
+    sets(&mut params, &[(10, 4)]) && Display::is_plain(octet, &params, column)
 }
 
 // Octets as output or as an echo, laid out from a column: the text and the column behind it.
@@ -245,7 +257,7 @@ fn is_laid_out(layout: &Layout<'_>) -> bool {
 // A carriage return has two NULs behind it, and a line feed one.
 const PADDED: Changes<'static> = &[(9, 2), (13, 1), (14, 1)];
 
-const LAYOUTS: [Layout; 4] = [
+const LAYOUTS: &[Layout] = &[
     Layout {
         with: &[(10, 4)],
         octets: b"ABCDE",
@@ -280,9 +292,13 @@ const LAYOUTS: [Layout; 4] = [
     },
 ];
 
+fn layouts() -> &'static [Layout<'static>] {
+    LAYOUTS
+}
+
 #[test]
 fn lays_octets_out(rt: HostRuntime) {
-    for (place, layout) in LAYOUTS.iter().enumerate() {
+    for (place, layout) in layouts().iter().enumerate() {
         assert!(rt; is_laid_out(layout), "layout {place}");
     }
 }

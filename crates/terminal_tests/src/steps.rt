@@ -63,7 +63,6 @@ pub(crate) enum Step<'a> {
 }
 
 // A rule, and steps by which it is seen at a terminal, on a call that stands or without one.
-#[derive(Drop)]
 pub(crate) struct Example<'a> {
     pub(crate) rule: &'a str,
     pub(crate) standing: bool,
@@ -79,29 +78,48 @@ struct Tested {
     request: Option<Request>,
 }
 
-// Plays the steps of an example at a terminal of the profile SIMPLE.
-pub(crate) fn play(rt: &impl Abort, alloc: Global, example: &Example<'_>) {
+pub(crate) fn play_all(rt: &impl Abort, alloc: Global, examples: &[Example<'_>]) {
+    for example in examples {
+        play(rt, alloc, example.rule, example.standing, example.steps);
+    }
+}
+
+// Plays steps at a terminal of the profile SIMPLE.
+pub(crate) fn play(rt: &impl Abort, alloc: Global, rule: &str, standing: bool, steps: &[Step<'_>]) {
     let params = Params::profile(Profile::Simple, 14);
-    let terminal = Terminal::new(alloc, params, example.standing).expect(rt, "a terminal");
+    match Terminal::new(alloc, params, standing) {
+        Ok(terminal) => play_from(rt, terminal, rule, steps),
+        Err(_) => panic!(rt; "a terminal"),
+    }
+}
+
+const AT_FIRST: CallCondition = CallCondition {
+    queue_full: false,
+    reset_pending: false,
+    interrupt_pending: false,
+};
+
+fn play_from(rt: &impl Abort, terminal: Terminal, rule: &str, steps: &[Step<'_>]) {
     let mut tested = Tested {
         terminal,
-        call: CallCondition {
-            queue_full: false,
-            reset_pending: false,
-            interrupt_pending: false,
-        },
+        call: AT_FIRST,
         block: None,
         request: None,
     };
-    play_at(rt, &mut tested, example);
+    play_at(rt, &mut tested, rule, steps);
 }
 
-fn play_at(rt: &impl Abort, tested: &mut Tested, example: &Example<'_>) {
-    let rule = example.rule;
-    for (place, step) in example.steps.iter().enumerate() {
-        assert!(rt; fits(tested, *step), "{rule}: step {place}");
-        tested.terminal.resume_device(tested.call.queue_full);
+fn play_at(rt: &impl Abort, tested: &mut Tested, rule: &str, steps: &[Step<'_>]) {
+    for (place, step) in steps.iter().enumerate() {
+        assert!(rt; goes_on(tested, *step), "{rule}: step {place}");
     }
+}
+
+// Whether a step gives its answer. The device goes on then.
+fn goes_on(tested: &mut Tested, step: Step<'_>) -> bool {
+    let fits = fits(tested, step);
+    tested.terminal.resume_device(tested.call.queue_full);
+    fits
 }
 
 // Whether a step gives its answer.
@@ -113,33 +131,51 @@ fn fits(tested: &mut Tested, step: Step<'_>) -> bool {
         Step::IdleDropped => !pause(tested),
         Step::Breaks(octets) => breaks(tested, octets),
         Step::BreakDropped => drops_a_break(tested),
-        Step::Message(octets, answer) => replies(&tested.terminal.on_message(octets), answer),
-        Step::Invited => clears(&tested.terminal.on_message(b"\x01")),
         Step::Sends(octets) => sends(tested, octets),
         Step::SendsNothing => tested.block.is_none(),
         Step::Asks(asked) => asks(tested, asked),
-        Step::Prints(text) => prints(&mut tested.terminal, text),
-        Step::Shows(octets, text) => shows(&mut tested.terminal, octets, text),
-        Step::MayShow(may) => tested.terminal.may_show() == may,
-        Step::IdleTime(time) => tested.terminal.idle_time() == time,
-        Step::In(mode) => tested.terminal.mode() == mode,
+        Step::QueueFull(_) | Step::ResetPending(_) | Step::InterruptPending(_) => {
+            change(&mut tested.call, step);
+            true
+        }
+        _ => is_answered(&mut tested.terminal, step),
+    }
+}
+
+// What becomes of the call.
+fn change(call: &mut CallCondition, step: Step<'_>) {
+    match step {
+        Step::QueueFull(full) => call.queue_full = full,
+        Step::ResetPending(pending) => call.reset_pending = pending,
+        Step::InterruptPending(pending) => call.interrupt_pending = pending,
+        _ => {}
+    }
+}
+
+// Whether the terminal alone gives the answer of a step.
+fn is_answered(terminal: &mut Terminal, step: Step<'_>) -> bool {
+    match step {
+        Step::Message(octets, answer) => replies(terminal, octets, answer),
+        Step::Invited => clears(terminal),
+        Step::Prints(text) => prints(terminal, text),
+        Step::Shows(octets, text) => shows(terminal, octets, text),
+        Step::MayShow(may) => terminal.may_show() == may,
+        Step::IdleTime(time) => terminal.idle_time() == time,
+        Step::In(mode) => terminal.mode() == mode,
         _ => {
-            happens(tested, step);
+            happens(terminal, step);
             true
         }
     }
 }
 
-// What happens on the call, and what becomes of it.
-fn happens(tested: &mut Tested, step: Step<'_>) {
+// What happens on the call.
+fn happens(terminal: &mut Terminal, step: Step<'_>) {
     match step {
-        Step::Connected => tested.terminal.on_connected(),
-        Step::Cleared(cause) => tested.terminal.on_cleared(cause),
-        Step::Reset(cause) => tested.terminal.on_reset(cause),
-        Step::Restart => tested.terminal.restart(),
-        Step::QueueFull(full) => tested.call.queue_full = full,
-        Step::ResetPending(pending) => tested.call.reset_pending = pending,
-        Step::InterruptPending(pending) => tested.call.interrupt_pending = pending,
+        Step::Connected => terminal.on_connected(),
+        Step::Cleared(cause) => terminal.on_cleared(cause),
+        Step::Reset(cause) => terminal.on_reset(cause),
+        Step::Restart => terminal.restart(),
         _ => {}
     }
 }
@@ -185,18 +221,19 @@ fn note(tested: &mut Tested, answer: InputAnswer) -> bool {
 fn breaks(tested: &mut Tested, octets: &[u8]) -> bool {
     match tested.terminal.on_break(tested.call) {
         BreakAnswer::Dropped => false,
-        BreakAnswer::Taken(
-            BreakRequests {
-                request,
-                indication,
-            },
-        ) => {
-            tested.request = request;
-            match indication {
-                Some(message) => is_message(&message, octets),
-                None => octets.is_empty(),
-            }
-        }
+        BreakAnswer::Taken(requests) => is_indicated(tested, requests, octets),
+    }
+}
+
+fn is_indicated(tested: &mut Tested, requests: BreakRequests, octets: &[u8]) -> bool {
+    let BreakRequests {
+        request,
+        indication,
+    } = requests;
+    tested.request = request;
+    match &indication {
+        Some(message) => is_message(message, octets),
+        None => octets.is_empty(),
     }
 }
 
@@ -232,15 +269,15 @@ fn shows(terminal: &mut Terminal, octets: &[u8], text: &[u8]) -> bool {
     out.as_slice() == text
 }
 
-fn clears(reply: &Reply) -> bool {
-    matches!(reply, Reply::Clear)
+fn clears(terminal: &mut Terminal) -> bool {
+    matches!(terminal.on_message(b"\x01"), Reply::Clear)
 }
 
-// Whether a reply is the message of these octets, or nothing where there are none.
-fn replies(reply: &Reply, octets: &[u8]) -> bool {
-    match reply {
-        Reply::Nothing => octets.is_empty(),
-        Reply::Message(message) => is_message(message, octets),
+// Whether a message is answered by the one of these octets, or by nothing where there are none.
+fn replies(terminal: &mut Terminal, octets: &[u8], answer: &[u8]) -> bool {
+    match terminal.on_message(octets) {
+        Reply::Nothing => answer.is_empty(),
+        Reply::Message(message) => is_message(&message, answer),
         Reply::Clear => false,
     }
 }
@@ -259,14 +296,25 @@ fn is_block(block: &Option<Block>, octets: &[u8]) -> bool {
 }
 
 fn is_asked(request: &Option<Request>, asked: Asked<'_>) -> bool {
-    match (request, asked) {
-        (None, Asked::Nothing) => true,
-        (Some(Request::Call(selection)), Asked::Call(address, user_data)) => {
-            is_selection(selection, address, user_data)
-        }
-        (Some(Request::Clear), Asked::Clear) => true,
-        (Some(Request::Interrupt), Asked::Interrupt) => true,
-        (Some(Request::Reset), Asked::Reset) => true,
+    match request {
+        Some(request) => is_request(request, asked),
+        None => matches!(asked, Asked::Nothing),
+    }
+}
+
+fn is_request(request: &Request, asked: Asked<'_>) -> bool {
+    match asked {
+        Asked::Nothing => false,
+        Asked::Call(address, user_data) => is_call(request, address, user_data),
+        Asked::Clear => matches!(request, Request::Clear),
+        Asked::Interrupt => matches!(request, Request::Interrupt),
+        Asked::Reset => matches!(request, Request::Reset),
+    }
+}
+
+fn is_call(request: &Request, address: &[u8], user_data: &[u8]) -> bool {
+    match request {
+        Request::Call(selection) => is_selection(selection, address, user_data),
         _ => false,
     }
 }

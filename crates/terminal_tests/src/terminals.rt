@@ -1,12 +1,14 @@
 //! Commands, keys, breaks and messages at a terminal, and what it shows.
 
-use crate::steps::{Asked, Example, Step, play};
+use crate::steps::{Asked, Example, Step, play, play_all};
 use Step::{
     Asks, BreakDropped, Breaks, Cleared, Connected, Drops, IdleDropped, IdleTime, Idles, In,
     InterruptPending, Invited, MayShow, Message, Prints, QueueFull, Reset, ResetPending, Restart,
     Sends, SendsNothing, Shows, Type,
 };
 use pad_terminal::Mode;
+use std::alloc::Global;
+use std::process::Abort;
 
 // The values of the profile SIMPLE, as `PAR?` shows them and as a message tells them.
 const ALL_VALUES: &[u8] = b"\r\nPAR?\r\r\nPAR 1:1,2:1,3:126,4:0,5:1,6:1,7:2,8:0,9:0,\
@@ -106,11 +108,8 @@ const CALLS: &[Example] = &[
     },
 ];
 
-#[test]
-fn terminals_call(rt: HostRuntime) {
-    for example in CALLS {
-        play(&rt, rt.alloc(), example);
-    }
+fn calls() -> &'static [Example<'static>] {
+    CALLS
 }
 
 // Commands that are typed, and the command state.
@@ -214,11 +213,8 @@ const COMMANDS: &[Example] = &[
     },
 ];
 
-#[test]
-fn terminals_are_given_commands(rt: HostRuntime) {
-    for example in COMMANDS {
-        play(&rt, rt.alloc(), example);
-    }
+fn commands() -> &'static [Example<'static>] {
+    COMMANDS
 }
 
 // Text that is held, and flow that stops.
@@ -284,11 +280,8 @@ const FLOW: &[Example] = &[
     },
 ];
 
-#[test]
-fn terminals_hold_text(rt: HostRuntime) {
-    for example in FLOW {
-        play(&rt, rt.alloc(), example);
-    }
+fn flow() -> &'static [Example<'static>] {
+    FLOW
 }
 
 // Messages and breaks.
@@ -360,11 +353,8 @@ const MESSAGES: &[Example] = &[
     },
 ];
 
-#[test]
-fn terminals_answer_messages_and_break(rt: HostRuntime) {
-    for example in MESSAGES {
-        play(&rt, rt.alloc(), example);
-    }
+fn messages() -> &'static [Example<'static>] {
+    MESSAGES
 }
 
 // Text and commands that wait.
@@ -400,29 +390,34 @@ const IDLE: &[Example] = &[
     },
 ];
 
+fn idle() -> &'static [Example<'static>] {
+    IDLE
+}
+
 #[test]
-fn terminals_wait(rt: HostRuntime) {
-    for example in IDLE {
-        play(&rt, rt.alloc(), example);
-    }
+fn terminals_do_what_the_rules_say(rt: HostRuntime) {
+    play_all(&rt, rt.alloc(), calls());
+    play_all(&rt, rt.alloc(), commands());
+    play_all(&rt, rt.alloc(), flow());
+    play_all(&rt, rt.alloc(), messages());
+    play_all(&rt, rt.alloc(), idle());
 }
 
 #[test]
 fn keeps_the_newest_text(rt: HostRuntime) {
     let mut newest = [b'a'; 1024];
     newest[1023] = b'z';
+    play_newest(&rt, rt.alloc(), &newest);
+}
+
+fn play_newest(rt: &impl Abort, alloc: Global, newest: &[u8]) {
     let steps = [
         Type(b"first"),
-        Type(&newest),
-        Prints(&newest),
+        Type(newest),
+        Prints(newest),
         Type(b"last"),
         Restart,
         Prints(b""),
     ];
-    let example = Example {
-        rule: "keeps the newest text",
-        standing: true,
-        steps: &steps,
-    };
-    play(&rt, rt.alloc(), &example);
+    play(rt, alloc, "keeps the newest text", true, &steps);
 }
