@@ -549,47 +549,50 @@ fn writes_taken(book: &mut Book, taken: &Taken) -> bool {
     }
 }
 
+// What is written of what was sent, and what is seen once the DCE has taken it.
+const SENT: &[Step] = &[
+    Send(Dte, b"AB"),
+    Send(Dte, b"C"),
+    SendInterrupt(Dte, INTERRUPT),
+];
+
+const COVERED: &[Step] = &[
+    Release(Dce, 1),
+    Covered(Dte, 1),
+    Records(2),
+    Shows(
+        0,
+        Sent(
+            None,
+            Passage {
+                packets: &[b"AB", b"C"],
+                interrupt: Some(INTERRUPT),
+                counted: 1,
+            },
+        ),
+    ),
+    Shows(0, Took(None, NOTHING)),
+    Shows(
+        1,
+        Took(
+            None,
+            Passage {
+                packets: &[b"AB"],
+                interrupt: Some(INTERRUPT),
+                counted: 1,
+            },
+        ),
+    ),
+    Shows(1, Sent(None, NOTHING)),
+    Release(Dce, 5),
+    Cover(Dte, 5),
+    Records(2),
+    Shows(1, TakenCount(1)),
+    Shows(0, SentCount(1)),
+];
+
 // Whether all is written of what was sent, and of the interrupt and the packet that the DCE takes.
 fn writes_all(book: &mut Book, dce: &mut PacketEnd) -> bool {
-    const SENT: &[Step] = &[
-        Send(Dte, b"AB"),
-        Send(Dte, b"C"),
-        SendInterrupt(Dte, INTERRUPT),
-    ];
-    const COVERED: &[Step] = &[
-        Release(Dce, 1),
-        Covered(Dte, 1),
-        Records(2),
-        Shows(
-            0,
-            Sent(
-                None,
-                Passage {
-                    packets: &[b"AB", b"C"],
-                    interrupt: Some(INTERRUPT),
-                    counted: 1,
-                },
-            ),
-        ),
-        Shows(0, Took(None, NOTHING)),
-        Shows(
-            1,
-            Took(
-                None,
-                Passage {
-                    packets: &[b"AB"],
-                    interrupt: Some(INTERRUPT),
-                    counted: 1,
-                },
-            ),
-        ),
-        Shows(1, Sent(None, NOTHING)),
-        Release(Dce, 5),
-        Cover(Dte, 5),
-        Records(2),
-        Shows(1, TakenCount(1)),
-        Shows(0, SentCount(1)),
-    ];
     fit(book, SENT) && takes(book, dce) && takes(book, dce) && fit(book, COVERED)
 }
 
