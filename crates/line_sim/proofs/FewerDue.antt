@@ -15,7 +15,7 @@ use Rattle.switch_lines.specs.Switch.{due_on}
 use Rattle.net_events.specs.Network.{PlacedNode, PlacedSwitch, NetNode, User, Switching, Network, StandsAtLines}
 use Rattle.net_events.proofs.Users.{same_user, not_both}
 use Rattle.net_events.specs.NextDue.{DueTimer, first_on, due_on_lines, due_at, due_of, due_from, next_due}
-use Rattle.network_laws.specs.DueCount.{all_due}
+use Rattle.switch_network_laws.specs.DueCount.{all_due}
 use Rattle.net_events.specs.declared.answer.Answer.{Answer}
 use Rattle.net_events.specs.declared.event.Event.{Event}
 use Rattle.net_events.specs.declared.event.Event.TheVariants.{Expire}

@@ -8,8 +8,8 @@ use Rattle.memory_line.specs.Lines.{LineService}
 use Rattle.net_nodes.specs.Quiet.{IsQuiet}
 use Rattle.line_nodes.specs.Node.{NodeState}
 use Rattle.net_events.specs.Network.{NetNode, User, Switching, NetLine, Network, Stands}
-use Rattle.network_laws.specs.IsNetwork.{LineHolds, IsUserAt, IsNetwork}
-use Rattle.network_laws.proofs.Networks.{book_there}
+use Rattle.switch_network_laws.specs.IsNetwork.{LineHolds, IsUserAt, IsNetwork}
+use Rattle.switch_network_laws.proofs.Networks.{book_there}
 use Rattle.switch_network_laws.specs.IsSwitched.{IsEndOf, LineStands, IsSwitched, IsAny, of_users, with_switch}
 use Rattle.net_nodes.specs.Places.{EndStands, SwitchStands, IsStanding}
 use Rattle.line_sim.specs.Between.{IsBetweenEvents}

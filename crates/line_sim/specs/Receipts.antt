@@ -6,7 +6,7 @@ use Rattle.epochs.specs.Confirmed.{Confirmed, Has, confirmed_from}
 use Rattle.call_records.specs.Records.{RecordValue, PairValue}
 use Rattle.book_laws.specs.Headline.{all_taken_by}
 use Rattle.net_events.specs.Network.{NetLine, Network, place_at}
-use Rattle.network_laws.specs.Promise.{its_slot}
+use Rattle.switch_network_laws.specs.Promise.{its_slot}
 
 -- what was sent since the last reset, up to the end of the last packet with D = 1
 abbrev pub to_be_confirmed : SentEpoch → Confirmed

@@ -4,7 +4,7 @@ ghost use Rattle.std.specs.Bool.{OnTrue};
 ghost use Rattle.call_records.specs.RecordView.{shown, pair_of};
 ghost use Rattle.net_events.specs.Network.{all_elapsed};
 ghost use Rattle.switch_network_laws.specs.Promise.{NetworkPromise};
-ghost use Rattle.network_laws.specs.Rest.{MissesNothing, IsDelivered};
+ghost use Rattle.switch_network_laws.specs.Rest.{MissesNothing, IsDelivered};
 ghost use Rattle.net_config.specs.declared.fault.MakeFault.TheVariants as make_fault_is;
 ghost use Rattle.net_config.specs.Served.{is_served};
 ghost use Rattle.net_events.specs.declared.event.StepFault.TheVariants as step_fault_is;

@@ -6,7 +6,6 @@ use Rattle.lapb.specs.Line.{chosen}
 use Rattle.packet_end.specs.PacketEnd as end
 use Rattle.packet_end.specs.Params.{AreParams}
 use Rattle.packet_end.specs.declared.params.EndParams.{EndParams}
-use Rattle.x25_pad.specs.Making as pad
 use Rattle.x25_pad.specs.declared.config.PadConfig.{PadConfig}
 use Rattle.call_records.specs.Records.{RecordValue}
 use Rattle.call_records.specs.Book.{Book, made_book}

@@ -1,3 +1,12 @@
+pub use Rattle.line_nodes.specs.Node
+pub use Rattle.line_nodes.specs.Turn
+pub use Rattle.net_events.specs.NodeEvents
+pub use Rattle.net_events.specs.Network
+pub use Rattle.net_events.specs.AtSwitch
+pub use Rattle.net_events.specs.OneLine
+pub use Rattle.net_events.specs.Opening
+pub use Rattle.node_laws.specs.Quiet
+pub use Rattle.x25_pad_laws.specs.Sending
 pub mod IsLine
 pub mod LineLaw
 pub mod PadRun

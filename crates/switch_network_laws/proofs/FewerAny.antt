@@ -5,16 +5,16 @@ use Rattle.link_timers.specs.declared.role.Role.{Role}
 use Rattle.link_timers.specs.declared.role.Role.TheVariants.{Dte, Dce}
 use Rattle.link_timers.specs.declared.timers.TimerId.{TimerId}
 use Rattle.call_records.specs.Register.{book_at}
-use Rattle.line_nodes.specs.Node.{drained, node_due}
-use Rattle.node_laws.specs.Quiet.{IsQuiet}
-use Rattle.node_laws.proofs.Expiring as expiry_law
+use Rattle.network_laws.specs.Node.{drained, node_due}
+use Rattle.network_laws.specs.Quiet.{IsQuiet}
+use Rattle.network_laws.proofs.Expiring as expiry_law
 use Rattle.memory_line.specs.Lines.{LineService}
 use Rattle.switch_lines.specs.Switch.{on_timer}
 use Rattle.switch_quiet_laws.specs.Quiet.{IsQuietSwitch}
 use Rattle.switch_quiet_laws.proofs.Fewer as switch_law
-use Rattle.net_events.specs.NodeEvents.NodeEvent.{Expires}
-use Rattle.net_events.specs.AtSwitch.{switch_drained}
-use Rattle.net_events.specs.Network.{PlacedNode, NetNode, User, Switching, NetLine, Network, place_at, net_turn, HappenedAt}
+use Rattle.network_laws.specs.NodeEvents.NodeEvent.{Expires}
+use Rattle.network_laws.specs.AtSwitch.{switch_drained}
+use Rattle.network_laws.specs.Network.{PlacedNode, NetNode, User, Switching, NetLine, Network, place_at, net_turn, HappenedAt}
 use Rattle.network_laws.specs.DueCount.{all_due}
 use Rattle.network_laws.proofs.Due.{fewer_of, fewer_due}
 use Rattle.switch_network_laws.specs.IsSwitched.{LineStands, IsSwitched, of_users, with_switch}

@@ -1,3 +1,4 @@
+pub use Rattle.network_laws.proofs.Networks
 pub mod PromiseLines
 pub mod PromiseHeld
 pub mod PromiseUsers

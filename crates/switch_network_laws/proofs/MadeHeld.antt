@@ -14,26 +14,26 @@ use Rattle.call_records.specs.Book.{Book, side_of, new_book}
 use Rattle.call_records.specs.Register.{LinePlan, planned_book, empty_register, book_at}
 use Rattle.book_laws.proofs.Basics.{get_there}
 use Rattle.line_record_laws.specs.Kept.{Kept}
-use Rattle.line_nodes.specs.Node.{NodeState, end_of, drained}
+use Rattle.network_laws.specs.Node.{NodeState, end_of, drained}
 use Rattle.memory_line.specs.Lines.{Flights, LineService}
 use Rattle.switch_lines.specs.declared.config.LineConfig.{LineConfig}
 use Rattle.switch_lines.specs.Lines.{SwitchLine}
 use Rattle.switch_lines.specs.Making.{made_line, made}
 use Rattle.switch_lines.specs.Switch.{Switch}
 use Rattle.switch_laws.specs.Events.{new_legs}
-use Rattle.switch_record_laws.specs.Records.{AreRecords}
-use Rattle.switch_record_laws.specs.Written.{Books}
-use Rattle.switch_record_laws.specs.Kept.{Partner, Partners, line_with, sent_on}
-use Rattle.switch_record_laws.specs.Tied.{Histories, IsTied}
-use Rattle.switch_record_laws.proofs.Making.{made_records}
-use Rattle.switch_record_laws.proofs.Tying.{tied_holds}
+use Rattle.switch_path_laws.specs.Records.{AreRecords}
+use Rattle.switch_path_laws.specs.Written.{Books}
+use Rattle.switch_path_laws.specs.Kept.{Partner, Partners, line_with, sent_on}
+use Rattle.switch_path_laws.specs.Tied.{Histories, IsTied}
+use Rattle.switch_path_laws.proofs.Making.{made_records}
+use Rattle.switch_path_laws.proofs.Tying.{tied_holds}
 use Rattle.call_path_laws.specs.World.{made_world}
 use Rattle.call_path_laws.specs.Lines.{free_book}
 use Rattle.switch_path_laws.specs.Network.{network_line, IsOther, AreAmong, IsPlanned}
 use Rattle.switch_path_laws.proofs.Events.{network_holds}
-use Rattle.net_events.specs.Network.{PlacedNode, PlacedSwitch, NetNode, NetLine, Network, place_at}
-use Rattle.net_events.proofs.Users.{same_user, same_planned}
-use Rattle.net_events.specs.Opening.{NewNode, NewSwitch, Planned, PlannedUser, PlannedSwitch, NewLine, NetPlan, IsDcePlan, IsLinePlan, IsSwitchPlan, IsPlan, IsMade, line_config, own_configs, line_plan, placed_switch, new_dte}
+use Rattle.network_laws.specs.Network.{PlacedNode, PlacedSwitch, NetNode, NetLine, Network, place_at}
+use Rattle.network_laws.proofs.Users.{same_user, same_planned}
+use Rattle.network_laws.specs.Opening.{NewNode, NewSwitch, Planned, PlannedUser, PlannedSwitch, NewLine, NetPlan, IsDcePlan, IsLinePlan, IsSwitchPlan, IsPlan, IsMade, line_config, own_configs, line_plan, placed_switch, new_dte}
 use Rattle.network_laws.specs.IsLine.{IsLine}
 use Rattle.network_laws.proofs.Channels.{channels_made}
 use Rattle.network_laws.proofs.Made.{made_lines}

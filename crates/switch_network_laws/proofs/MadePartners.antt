@@ -12,13 +12,13 @@ use Rattle.line_laws.specs.Line.{Sends, made}
 use Rattle.line_record_laws.specs.Kept.{Setting, Kept}
 use Rattle.line_record_laws.specs.Happens.{sent}
 use Rattle.line_record_laws.proofs.Keeping.{made_kept, silent_kept}
-use Rattle.line_nodes.specs.Node.{end_of, drained, frames_of}
+use Rattle.network_laws.specs.Node.{end_of, drained, frames_of}
 use Rattle.memory_line.specs.declared.line.Direction.TheVariants.{FromDte, FromDce}
 use Rattle.memory_line.specs.Lines.{Flights, no_flights, LineService}
-use Rattle.switch_record_laws.specs.Kept.{Partner, Partners, line_with}
+use Rattle.switch_path_laws.specs.Kept.{Partner, Partners, line_with}
 use Rattle.call_path_laws.specs.Lines.{free_book}
-use Rattle.net_events.specs.Network.{Network}
-use Rattle.net_events.specs.Opening.{NewSwitch, NewLine, NetPlan, IsPlan, PlannedSwitch, new_dte, new_dce, line_plan, AreSent, IsMade}
+use Rattle.network_laws.specs.Network.{Network}
+use Rattle.network_laws.specs.Opening.{NewSwitch, NewLine, NetPlan, IsPlan, PlannedSwitch, new_dte, new_dce, line_plan, AreSent, IsMade}
 use Rattle.network_laws.proofs.Flying.{landed}
 use Rattle.network_laws.proofs.Fitting.{end-drained}
 use Rattle.network_laws.proofs.Made.{made-end, setting-of}

@@ -11,8 +11,8 @@ use Rattle.book_laws.proofs.Basics.{get_there}
 use Rattle.switch_lines.specs.declared.config.LineConfig.{LineConfig}
 use Rattle.switch_lines.specs.Making.{IsConfig, IsLineConfig}
 use Rattle.call_path_laws.specs.World.{Plan, AreBetween}
-use Rattle.net_events.specs.Opening.{NewNode, NewSwitch, Planned, PlannedUser, PlannedSwitch, NewLine, NetPlan, IsDcePlan, IsLinePlan, HasDceAt, IsSwitchPlan, IsPlan, AreUsers}
-use Rattle.net_events.specs.Opening.{line_config, found_config, own_configs, line_plan}
+use Rattle.network_laws.specs.Opening.{NewNode, NewSwitch, Planned, PlannedUser, PlannedSwitch, NewLine, NetPlan, IsDcePlan, IsLinePlan, HasDceAt, IsSwitchPlan, IsPlan, AreUsers}
+use Rattle.network_laws.specs.Opening.{line_config, found_config, own_configs, line_plan}
 
 -- ---- is there a switch
 

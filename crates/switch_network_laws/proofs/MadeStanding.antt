@@ -13,9 +13,9 @@ use Rattle.call_records.specs.Writes.Write.{Placed, Told, Asked}
 use Rattle.call_records.specs.Register.{Register, LineEnds, LinePlan, found_ends, all_written_at, planned_book, free_ends, no_parts, with_standing_call, with_free_line, with_line, with_lines}
 use Rattle.book_laws.proofs.Basics.{length_set, length_pushed}
 use Rattle.switch_lines.specs.Switch.{Switch}
-use Rattle.switch_record_laws.specs.Kept.{Partners}
-use Rattle.switch_record_laws.specs.Tied.{Histories}
-use Rattle.joined_call_laws.specs.Calls.{JoinedCall}
+use Rattle.switch_path_laws.specs.Kept.{Partners}
+use Rattle.switch_path_laws.specs.Tied.{Histories}
+use Rattle.switch_path_laws.specs.Calls.{JoinedCall}
 use Rattle.call_path_laws.specs.World.{Origin, World, Plan}
 use Rattle.call_path_laws.specs.Lines.{free_book}
 use Rattle.switch_path_laws.specs.Network.{IsOther}

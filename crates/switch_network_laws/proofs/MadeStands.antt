@@ -6,15 +6,15 @@ use Rattle.std.proofs.lemmas.List.{length-map}
 use Rattle.link_timers.specs.declared.role.Role.{Role}
 use Rattle.link_timers.specs.declared.role.Role.TheVariants.{Dte, Dce}
 use Rattle.book_laws.proofs.Basics.{get_there}
-use Rattle.node_laws.proofs.QuietTurns as quiet_law
-use Rattle.line_nodes.specs.Node.{drained}
+use Rattle.network_laws.proofs.QuietTurns as quiet_law
+use Rattle.network_laws.specs.Node.{drained}
 use Rattle.memory_line.specs.Lines.{Flights, LineService}
 use Rattle.switch_lines.specs.Making.{made_line}
-use Rattle.net_events.specs.AtSwitch.{line_drained}
-use Rattle.net_events.specs.Network.{PlacedNode, PlacedSwitch, NetNode, User, Switching, NetLine, Network, Stands}
-use Rattle.net_events.specs.Opening.{NewNode, NewSwitch, Planned, PlannedUser, PlannedSwitch, NewLine, NetPlan, IsDcePlan, IsLinePlan, IsUserPlan, IsSwitchPlan, IsPlan}
-use Rattle.net_events.specs.Opening.{new_dte, new_dce, new_end, line_config, own_configs, placed_new, placed_switch, IsMade}
-use Rattle.net_events.proofs.Users.{not_both}
+use Rattle.network_laws.specs.AtSwitch.{line_drained}
+use Rattle.network_laws.specs.Network.{PlacedNode, PlacedSwitch, NetNode, User, Switching, NetLine, Network, Stands}
+use Rattle.network_laws.specs.Opening.{NewNode, NewSwitch, Planned, PlannedUser, PlannedSwitch, NewLine, NetPlan, IsDcePlan, IsLinePlan, IsUserPlan, IsSwitchPlan, IsPlan}
+use Rattle.network_laws.specs.Opening.{new_dte, new_dce, new_end, line_config, own_configs, placed_new, placed_switch, IsMade}
+use Rattle.network_laws.proofs.Users.{not_both}
 use Rattle.network_laws.proofs.Made.{made-quiet}
 use Rattle.network_laws.proofs.Opened.{mapped, as_role}
 use Rattle.switch_network_laws.specs.IsSwitched.{EndStands, LineStands}

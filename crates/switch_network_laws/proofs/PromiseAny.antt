@@ -2,10 +2,10 @@
 use Rattle.std.proofs.Common.{◌≡◌, ℕ, sym, ap, ◌∙◌}
 use Rattle.std.specs.Prelude.{slice_get}
 use Rattle.packet_layer.specs.Layer.{confirmed}
-use Rattle.line_nodes.specs.Node.{end_of}
+use Rattle.network_laws.specs.Node.{end_of}
 use Rattle.memory_line.specs.Lines.{LineService}
-use Rattle.net_events.specs.Network.{PlacedNode}
-use Rattle.net_events.proofs.Users.{same_user}
+use Rattle.network_laws.specs.Network.{PlacedNode}
+use Rattle.network_laws.proofs.Users.{same_user}
 use Rattle.network_laws.specs.Promise.{EndHolds}
 use Rattle.switch_network_laws.specs.IsSwitched.{of_users, with_switch}
 use Rattle.switch_network_laws.specs.Promise.{NetworkPromise}

@@ -9,7 +9,7 @@ use Rattle.call_records.specs.Records.{RecordValue}
 use Rattle.call_records.specs.Book.{Book, side_of}
 use Rattle.call_records.specs.Register.{Register, book_at}
 use Rattle.book_laws.specs.Headline.{HaveRecords, HasCallee, has_call}
-use Rattle.x25_pad_laws.specs.Sending.{HasSent}
+use Rattle.network_laws.specs.Sending.{HasSent}
 use Rattle.register_laws.specs.Promise.{HasRecords}
 use Rattle.line_record_laws.specs.Kept.{end_at}
 use Rattle.line_record_laws.specs.Confirmed.{SaysConfirmed}
@@ -22,10 +22,10 @@ use Rattle.call_path_laws.specs.Promise.{PathsHold}
 use Rattle.call_path_laws.proofs.Ending.{ends_seen, users_own, open_seen}
 use Rattle.switch_path_laws.specs.Law as paths
 use Rattle.switch_path_laws.proofs.Events.{network_holds}
-use Rattle.line_nodes.specs.Node.{NodeState, end_of, is_pad}
+use Rattle.network_laws.specs.Node.{NodeState, end_of, is_pad}
 use Rattle.memory_line.specs.Lines.{LineService}
-use Rattle.net_events.specs.OneLine.{LineState}
-use Rattle.net_events.specs.Network.{PlacedNode, NetNode, User, Switching, NetLine, Network, place_at}
+use Rattle.network_laws.specs.OneLine.{LineState}
+use Rattle.network_laws.specs.Network.{PlacedNode, NetNode, User, Switching, NetLine, Network, place_at}
 use Rattle.network_laws.specs.IsLine.{line_of, IsLine, IsKept}
 use Rattle.network_laws.specs.Promise.{EndHolds, PlacedHolds}
 use Rattle.network_laws.proofs.Answering.{came_kept, paired_kept, placed_kept, records_kept}

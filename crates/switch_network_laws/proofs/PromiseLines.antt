@@ -3,10 +3,10 @@ use Rattle.std.proofs.Common.{◌≡◌, ℕ, arith, List, length, Some}
 use Rattle.std.specs.Prelude.{slice_get}
 use Rattle.std.proofs.lemmas.Option.{slice_get_within}
 use Rattle.book_laws.proofs.Basics.{get_there}
-use Rattle.line_nodes.specs.Node.{Host}
+use Rattle.network_laws.specs.Node.{Host}
 use Rattle.memory_line.specs.Lines.{LineService}
 use Rattle.switch_lines.specs.Lines.{SwitchLine}
-use Rattle.net_events.specs.Network.{PlacedSwitch, Switching, NetLine, Network, IsDceOf, StandsAtLines}
+use Rattle.network_laws.specs.Network.{PlacedSwitch, Switching, NetLine, Network, IsDceOf, StandsAtLines}
 use Rattle.switch_network_laws.specs.IsSwitched.{LineStands, IsSwitched}
 use Rattle.switch_network_laws.proofs.SwitchStanding.{switch_end}
 

@@ -22,8 +22,8 @@ use Rattle.call_path_laws.specs.Lines.{writes_of}
 use Rattle.call_path_laws.specs.Promise.{PathIsRight, PathHolds, PathsHold, by_caller}
 use Rattle.call_path_laws.proofs.Moves.{written_so}
 use Rattle.memory_line.specs.Lines.{LineService}
-use Rattle.net_events.specs.OneLine.{LineState}
-use Rattle.net_events.specs.Network.{PlacedNode, NetNode, User, Switching, NetLine, Network, place_at}
+use Rattle.network_laws.specs.OneLine.{LineState}
+use Rattle.network_laws.specs.Network.{PlacedNode, NetNode, User, Switching, NetLine, Network, place_at}
 use Rattle.network_laws.specs.IsLine.{line_of, IsKept}
 use Rattle.network_laws.specs.IsNetwork.{line_state, LineHolds, IsNetwork}
 use Rattle.network_laws.specs.Promise.{NetworkHolds}

@@ -9,14 +9,14 @@ use Rattle.call_records.specs.Book.{Book}
 use Rattle.call_records.specs.Register.{Register}
 use Rattle.book_laws.specs.Rest.{NothingMissing}
 use Rattle.line_record_laws.proofs.Missing.{rest_kept}
-use Rattle.node_laws.specs.Quiet.{IsQuiet}
-use Rattle.line_nodes.specs.Node.{NodeState, node_rests}
+use Rattle.network_laws.specs.Quiet.{IsQuiet}
+use Rattle.network_laws.specs.Node.{NodeState, node_rests}
 use Rattle.memory_line.specs.Lines.{LineService}
 use Rattle.switch_lines.specs.Switch.{line_rests}
 use Rattle.switch_path_laws.specs.Law.{SwitchRests}
 use Rattle.switch_path_laws.proofs.Events.{network_holds}
-use Rattle.net_events.specs.OneLine.{LineState}
-use Rattle.net_events.specs.Network.{NetNode, User, Switching, Network}
+use Rattle.network_laws.specs.OneLine.{LineState}
+use Rattle.network_laws.specs.Network.{NetNode, User, Switching, Network}
 use Rattle.network_laws.specs.IsLine.{line_of}
 use Rattle.network_laws.specs.Rest.{MissesNothing}
 use Rattle.network_laws.proofs.Resting.{rest_network}

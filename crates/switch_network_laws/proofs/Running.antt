@@ -5,13 +5,13 @@ use Rattle.std.proofs.lemmas.Option.{none-some, same_Some}
 use Rattle.std.proofs.lemmas.Bool.{and_parts, ltb-true, leb-true}
 use Rattle.std.proofs.lemmas.List.{append_assoc, append-nil}
 use Rattle.link_timers.specs.declared.role.Role.TheVariants.{Dte}
-use Rattle.line_nodes.specs.Node.{NodeState, is_pad, end_of, frames_of, node_rests}
+use Rattle.network_laws.specs.Node.{NodeState, is_pad, end_of, frames_of, node_rests}
 use Rattle.memory_line.specs.declared.line.Direction.TheVariants.{FromDte, FromDce}
 use Rattle.memory_line.specs.Lines.{Flights, memory_service, no_flights, without_first, ArePut}
-use Rattle.net_events.specs.NodeEvents.{NodeEvent, Hears, Calls, Asks, Says, Takes, Expires, Relinks, Restarts, Refuses, AtTerminal, IsFor, LeftBy}
-use Rattle.net_events.specs.Network.{PlacedNode, PlacedSwitch, NetLine, NetNode, Network, User, Switching, HappenedAt}
-use Rattle.net_events.specs.AtSwitch.{SwitchEvent, SwitchHappened, OwnLineServed, LinesServed, switched, waiting_on}
-use Rattle.net_events.specs.AtSwitch as at_switch
+use Rattle.network_laws.specs.NodeEvents.{NodeEvent, Hears, Calls, Asks, Says, Takes, Expires, Relinks, Restarts, Refuses, AtTerminal, IsFor, LeftBy}
+use Rattle.network_laws.specs.Network.{PlacedNode, PlacedSwitch, NetLine, NetNode, Network, User, Switching, HappenedAt}
+use Rattle.network_laws.specs.AtSwitch.{SwitchEvent, SwitchHappened, OwnLineServed, switched, waiting_on}
+use Rattle.network_laws.specs.AtSwitch as at_switch
 use Rattle.packet_end.specs.PacketEnd as offers
 use Rattle.packet_end.specs.Params.{AreParams}
 use Rattle.switch_lines.specs.Switch.{Switch, switch_rests}
@@ -37,9 +37,9 @@ use Rattle.packet_codec.specs.Address.{are_decimal}
 use Rattle.address_routes.specs.Routes.{RouteMap, line_for, or_else}
 use Rattle.std.specs.FinMap.{empty, insert, get-insert}
 use Rattle.std.proofs.lemmas.Cmp.{nat_list_cmp_total}
-use Rattle.net_events.specs.Opening.{NewLine, NewSwitch, Planned, IsPlan, IsLinePlan, IsNodePlan, HasDceAt, IsMade, NodeIsMade, LineIsMade, AreSent, placed_new, new_dte, new_dce}
-use Rattle.net_events.specs.Opening.NewDte.{NewHost}
-use Rattle.net_events.specs.Opening.Planned.{PlannedUser, PlannedSwitch}
+use Rattle.network_laws.specs.Opening.{NewLine, NewSwitch, Planned, IsPlan, IsLinePlan, IsNodePlan, HasDceAt, IsMade, NodeIsMade, LineIsMade, AreSent, placed_new, new_dte, new_dce}
+use Rattle.network_laws.specs.Opening.NewDte.{NewHost}
+use Rattle.network_laws.specs.Opening.Planned.{PlannedUser, PlannedSwitch}
 use Rattle.switch_network_laws.specs.Run.{TwoHosts, Act, First, Second, FromFirst, ToFirst, FromSecond, ToSecond, network, put_all, at_first, at_second, heard_by_switch, from_first, from_second, to_first, to_second, after_act, after_acts, is_for, are_octets, may_arrive, may_act, may_all, parameters, plan, new_host, new_line, new_switch, first_frames, host, routes, with_switch, flies_nothing, is_at_rest, is_one, are_two, has_come_to_rest, start, calling, talking, placed, rested, Goes, stays, by_user, by_switch, RunLaw}
 
 -- ---- frames are put

@@ -5,10 +5,10 @@ use Rattle.std.specs.Prelude.{◌⊎◌, slice_get}
 use Rattle.std.proofs.lemmas.Option.{same_Some}
 use Rattle.std.proofs.lemmas.Bool.{cases_eq}
 use Rattle.book_laws.proofs.Basics.{get_set, set_here, set_elsewhere, length_set}
-use Rattle.line_nodes.specs.Node.{NodeState, Host}
+use Rattle.network_laws.specs.Node.{NodeState, Host}
 use Rattle.switch_lines.specs.Lines.{SwitchLine}
-use Rattle.net_events.specs.Network.{PlacedNode, PlacedSwitch, NetNode, User, Switching, NetLine, StandsAtLine, StandsAtLines, IsDceOf, Stands}
-use Rattle.net_events.proofs.Users.{user_is, same_user, not_switch, not_both}
+use Rattle.network_laws.specs.Network.{PlacedNode, PlacedSwitch, NetNode, User, Switching, NetLine, StandsAtLine, StandsAtLines, IsDceOf, Stands}
+use Rattle.network_laws.proofs.Users.{user_is, same_user, not_switch, not_both}
 use Rattle.switch_network_laws.specs.IsSwitched.{IsEndOf, EndStands, LineStands}
 
 -- ---- a node that is a switch

@@ -5,8 +5,8 @@ use Rattle.book_laws.proofs.Basics.{get_set, set_here}
 use Rattle.memory_line.specs.Lines.{LineService}
 use Rattle.switch_path_laws.proofs.Events.{network_holds}
 use Rattle.switch_quiet_laws.specs.Quiet.{IsQuietSwitch}
-use Rattle.net_events.specs.AtSwitch.{SwitchEvent, switched, switch_drained, SwitchHappened}
-use Rattle.net_events.specs.Network.{PlacedSwitch, NetNode, Switching, Network, StandsAtLines, Stands}
+use Rattle.network_laws.specs.AtSwitch.{SwitchEvent, switched, switch_drained, SwitchHappened}
+use Rattle.network_laws.specs.Network.{PlacedSwitch, NetNode, Switching, Network, StandsAtLines, Stands}
 use Rattle.switch_network_laws.specs.IsSwitched.{IsHeld, IsSwitched, of_users, with_switch}
 use Rattle.switch_network_laws.specs.Laws.{SwitchEventLaw}
 use Rattle.switch_network_laws.proofs.Standing.{same_switch}

@@ -12,17 +12,17 @@ use Rattle.call_records.specs.Writes.{Write, all_written}
 use Rattle.call_records.specs.Register.{Register, book_at}
 use Rattle.line_laws.specs.Line.{Line}
 use Rattle.line_record_laws.specs.Kept.{Kept}
-use Rattle.line_nodes.specs.Node.{NodeState, Pad, Host, end_of}
+use Rattle.network_laws.specs.Node.{NodeState, Pad, Host, end_of}
 use Rattle.memory_line.specs.Lines.{LineService}
-use Rattle.x25_pad_laws.proofs.Holding as pad_law
-use Rattle.switch_record_laws.specs.Kept.{Partner, line_with, sent_on}
+use Rattle.network_laws.proofs.Holding as pad_law
+use Rattle.switch_path_laws.specs.Kept.{Partner, line_with, sent_on}
 use Rattle.call_path_laws.specs.World.{Plan}
 use Rattle.switch_path_laws.specs.Network.{found_line, IsOther}
 use Rattle.switch_path_laws.specs.Network as paths
 use Rattle.switch_path_laws.specs.Law.{SwitchPathLaw}
-use Rattle.net_events.specs.AtSwitch.{SwitchEvent, switched, switch_drained, joins_of, HasOwnLine, LinesServed, all_handed}
-use Rattle.net_events.specs.Network.{PlacedNode, PlacedSwitch, NetNode, Switching, NetLine, Network, StandsAtLines, place_at}
-use Rattle.net_events.proofs.Users.{same_user}
+use Rattle.network_laws.specs.AtSwitch.{SwitchEvent, switched, switch_drained, joins_of, HasOwnLine, LinesServed, all_handed}
+use Rattle.network_laws.specs.Network.{PlacedNode, PlacedSwitch, NetNode, Switching, NetLine, Network, StandsAtLines, place_at}
+use Rattle.network_laws.proofs.Users.{same_user}
 use Rattle.network_laws.specs.IsLine.{NodeHolds, line_of, IsLine}
 use Rattle.network_laws.proofs.Shapes.{writes_stay}
 use Rattle.switch_network_laws.specs.Plans.{has_users, goes_on_at, IsPlanOf}

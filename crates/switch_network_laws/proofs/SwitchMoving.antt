@@ -10,16 +10,15 @@ use Rattle.switch_laws.specs.Steps.Step.{Happens}
 use Rattle.switch_laws.specs.World.{layers_of}
 use Rattle.switch_laws.specs.EventSteps.{event_acts}
 use Rattle.switch_laws.specs.Turn.{AreOctets}
-use Rattle.switch_record_laws.specs.Kept.{Partners, partners_after, restarted_partner, BeginWith}
-use Rattle.switch_record_laws.specs.Tied.{Histories, happened, restarted}
-use Rattle.joined_call_laws.specs.Calls.{JoinedCall}
-use Rattle.joined_call_laws.specs.Law.{calls_in, join_of_call}
-use Rattle.joined_call_laws.proofs.Eventing.{calls_hold}
+use Rattle.switch_path_laws.specs.Kept.{Partners, partners_after, restarted_partner, BeginWith}
+use Rattle.switch_path_laws.specs.Tied.{Histories, happened, restarted}
+use Rattle.switch_path_laws.specs.Calls.{JoinedCall}
+use Rattle.switch_path_laws.proofs.Eventing.{calls_hold}
 use Rattle.call_path_laws.specs.World.{Origin, World, Plan}
 use Rattle.switch_path_laws.specs.Network.{IsNetwork, found_line}
 use Rattle.switch_path_laws.specs.Network as paths
-use Rattle.switch_path_laws.specs.Law.{SwitchPathLaw, OthersStay, AfterEvent, AfterRestart}
-use Rattle.net_events.specs.AtSwitch.{SwitchEvent, Hears, Expires, Restarts, switched, joins_of, network_line, all_handed}
+use Rattle.switch_path_laws.specs.Law.{calls_in, join_of_call, SwitchPathLaw, OthersStay, AfterEvent, AfterRestart}
+use Rattle.network_laws.specs.AtSwitch.{SwitchEvent, Hears, Expires, Restarts, switched, joins_of, network_line, all_handed}
 use Rattle.switch_network_laws.proofs.SwitchWriting.{IsWritten, acts_written, restart_written}
 
 -- ---- calls that are handed on

@@ -9,16 +9,16 @@ use Rattle.lapb.specs.Line.{chosen}
 use Rattle.packet_end.specs.PacketEnd.{PacketEnd}
 use Rattle.line_laws.specs.Line.{other_after}
 use Rattle.line_laws.specs.Line as line_law
-use Rattle.line_nodes.specs.Node.{NodeState, end_of}
+use Rattle.network_laws.specs.Node.{NodeState, end_of}
 use Rattle.memory_line.specs.declared.line.Direction.TheVariants.{FromDce}
 use Rattle.memory_line.specs.Lines.{Flights, LineService, ArePut}
 use Rattle.switch_lines.specs.Lines.{SwitchLine}
 use Rattle.switch_lines.specs.Switch.{frames_on}
-use Rattle.switch_record_laws.specs.Kept.{Partner, Partners, without_first, sent_on}
-use Rattle.switch_record_laws.specs.Tied.{Histories}
-use Rattle.net_events.specs.AtSwitch.{SwitchEvent, Hears, Expires, Restarts, switched, HasOwnLine, LeftOn, waiting_on, LinesServed}
-use Rattle.net_events.specs.Network.{PlacedNode, PlacedSwitch, NetNode, Switching, NetLine}
-use Rattle.net_events.proofs.Users.{same_user}
+use Rattle.switch_path_laws.specs.Kept.{Partner, Partners, without_first, sent_on}
+use Rattle.switch_path_laws.specs.Tied.{Histories}
+use Rattle.network_laws.specs.AtSwitch.{SwitchEvent, Hears, Expires, Restarts, switched, HasOwnLine, LeftOn, waiting_on, LinesServed}
+use Rattle.network_laws.specs.Network.{PlacedNode, PlacedSwitch, NetNode, Switching, NetLine}
+use Rattle.network_laws.proofs.Users.{same_user}
 use Rattle.network_laws.proofs.Flying.{landed}
 use Rattle.switch_network_laws.specs.IsSwitched.{LineStands, IsPartner}
 use Rattle.switch_network_laws.proofs.SwitchMoving.{partners_then, MayCome}

@@ -7,9 +7,9 @@ use Rattle.std.proofs.lemmas.Bool.{ne_eqb}
 use Rattle.call_records.specs.Book.{Book}
 use Rattle.switch_lines.specs.Lines.{SwitchLine, changed}
 use Rattle.switch_lines.specs.Switch.{Switch}
-use Rattle.switch_record_laws.specs.Kept.{Partner, all_frames_out, sent_on}
-use Rattle.switch_record_laws.specs.Tied.{Histories, gone_out, sent_out}
-use Rattle.joined_call_laws.specs.Calls.{JoinedCall}
+use Rattle.switch_path_laws.specs.Kept.{Partner, all_frames_out, sent_on}
+use Rattle.switch_path_laws.specs.Tied.{Histories, gone_out, sent_out}
+use Rattle.switch_path_laws.specs.Calls.{JoinedCall}
 use Rattle.call_path_laws.specs.World.{Origin, World, Plan}
 use Rattle.switch_path_laws.specs.Network.{IsNetwork}
 use Rattle.switch_path_laws.specs.Law.{OutLaw}

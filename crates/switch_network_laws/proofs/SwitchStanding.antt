@@ -4,8 +4,8 @@ use Rattle.std.specs.Prelude.{◌⊎◌, slice_get}
 use Rattle.std.proofs.lemmas.Option.{none-some, same_Some, slice_get_within}
 use Rattle.std.proofs.lemmas.List.{length-map}
 use Rattle.book_laws.proofs.Basics.{get_there, number_is, get_set, set_here, set_elsewhere}
-use Rattle.node_laws.specs.Quiet.{IsQuiet}
-use Rattle.line_nodes.specs.Node.{NodeState, Host}
+use Rattle.network_laws.specs.Quiet.{IsQuiet}
+use Rattle.network_laws.specs.Node.{NodeState, Host}
 use Rattle.memory_line.specs.Lines.{LineService}
 use Rattle.switch_lines.specs.Lines.{SwitchLine}
 use Rattle.switch_lines.specs.Switch.{Switch, without_joins}
@@ -14,9 +14,9 @@ use Rattle.switch_quiet_laws.specs.Quiet.{IsQuietSwitch}
 use Rattle.switch_quiet_laws.proofs.Lines.{LinesStay}
 use Rattle.switch_quiet_laws.proofs.Events.{event-stays}
 use Rattle.switch_quiet_laws.proofs.Quieting.{frame-quiet, timer-quiet, restart-quiet}
-use Rattle.net_events.specs.AtSwitch.{SwitchEvent, Hears, Expires, Restarts, switched, line_drained, switch_drained, LinesServed}
-use Rattle.net_events.specs.Network.{PlacedNode, PlacedSwitch, NetNode, User, Switching, NetLine, StandsAtLines, IsDceOf, Stands}
-use Rattle.net_events.proofs.Users.{not_switch, not_both}
+use Rattle.network_laws.specs.AtSwitch.{SwitchEvent, Hears, Expires, Restarts, switched, line_drained, switch_drained, LinesServed}
+use Rattle.network_laws.specs.Network.{PlacedNode, PlacedSwitch, NetNode, User, Switching, NetLine, StandsAtLines, IsDceOf, Stands}
+use Rattle.network_laws.proofs.Users.{not_switch, not_both}
 use Rattle.switch_network_laws.specs.IsSwitched.{IsEndOf, EndStands, LineStands}
 
 -- ---- the lines of a switch

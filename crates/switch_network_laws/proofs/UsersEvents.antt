@@ -9,16 +9,16 @@ use Rattle.call_records.specs.Writes.{Write, all_written}
 use Rattle.call_records.specs.Register.{Register, LineEnds, found_ends, book_at, with_book, all_written_at}
 use Rattle.book_laws.proofs.Basics.{get_there}
 use Rattle.line_record_laws.specs.Kept.{Setting, Kept}
-use Rattle.node_laws.specs.Quiet.{IsQuiet}
-use Rattle.line_nodes.specs.Node.{NodeState, Host, end_of, drained}
+use Rattle.network_laws.specs.Quiet.{IsQuiet}
+use Rattle.network_laws.specs.Node.{NodeState, Host, end_of, drained}
 use Rattle.memory_line.specs.declared.line.Direction.{Direction}
 use Rattle.memory_line.specs.Lines.{Flights, LineService}
 use Rattle.switch_lines.specs.Lines.{SwitchLine}
-use Rattle.switch_record_laws.specs.Kept.{Partner, line_with}
+use Rattle.switch_path_laws.specs.Kept.{Partner, line_with}
 use Rattle.switch_path_laws.specs.Network.{IsOther}
-use Rattle.net_events.specs.NodeEvents.{NodeEvent, turn_of}
-use Rattle.net_events.specs.Network.{PlacedNode, PlacedSwitch, NetNode, User, Switching, NetLine, Network, place_at, net_turn, HappenedAt, LostAt, StandsAtLines, IsDceOf}
-use Rattle.net_events.proofs.Users.{not_both}
+use Rattle.network_laws.specs.NodeEvents.{NodeEvent, turn_of}
+use Rattle.network_laws.specs.Network.{PlacedNode, PlacedSwitch, NetNode, User, Switching, NetLine, Network, place_at, net_turn, HappenedAt, LostAt, StandsAtLines, IsDceOf}
+use Rattle.network_laws.proofs.Users.{not_both}
 use Rattle.network_laws.specs.IsLine.{IsKept, IsLine}
 use Rattle.network_laws.proofs.Lines.{lost_line}
 use Rattle.network_laws.proofs.Leaving.{quiet-after}
@@ -137,7 +137,7 @@ line_then L event line role s t n d held b there =
     let P : Book → Type 0 = λ c. IsLine L (ends_state (record l { flights = d.flights }) (dte_then role made h.dte.node) (dce_then role made h.dce) c) in
     subst P book
     (line_turned L event l h.dte.node h.dce b role d.between d.flights made (held.lines line l b d.line_there there h)
-    (subst (Rattle.net_events.specs.NodeEvents.IsFor event) (sym u.node_is) d.is_for) d.left node d.put)
+    (subst (Rattle.network_laws.specs.NodeEvents.IsFor event) (sym u.node_is) d.is_for) d.left node d.put)
 
 held_then : (L : LineService) (event : NodeEvent) (line : ℕ) (role : Role) (s t : Network) (n : IsSwitched L s) (d : HappenedAt L event line role s t) → L.faithful → IsHeld L s n.switch
     → IsHeld L (net_after (nodes_then event line role d.node d.line_is s) line d.line_is d.flights

@@ -9,16 +9,16 @@ use Rattle.call_records.specs.Book.{Book, side_of}
 use Rattle.call_records.specs.Writes.{Write, all_written}
 use Rattle.call_records.specs.Register.{Register, book_at, all_written_at}
 use Rattle.book_laws.proofs.Basics.{get_set, length_set}
-use Rattle.line_nodes.specs.Node.{NodeState}
+use Rattle.network_laws.specs.Node.{NodeState}
 use Rattle.memory_line.specs.Lines.{Flights, LineService}
 use Rattle.switch_lines.specs.Switch.{Switch}
-use Rattle.switch_record_laws.specs.Kept.{Partner}
-use Rattle.switch_record_laws.specs.Tied.{Histories}
-use Rattle.joined_call_laws.specs.Calls.{JoinedCall}
+use Rattle.switch_path_laws.specs.Kept.{Partner}
+use Rattle.switch_path_laws.specs.Tied.{Histories}
+use Rattle.switch_path_laws.specs.Calls.{JoinedCall}
 use Rattle.call_path_laws.specs.World.{Origin, World, Plan}
 use Rattle.switch_path_laws.specs.Network as paths
-use Rattle.net_events.specs.Network.{PlacedNode, NetNode, User, Switching, NetLine, Network, place_at}
-use Rattle.net_events.proofs.Users.{same_user}
+use Rattle.network_laws.specs.Network.{PlacedNode, NetNode, User, Switching, NetLine, Network, place_at}
+use Rattle.network_laws.proofs.Users.{same_user}
 use Rattle.network_laws.specs.IsLine.{IsLine}
 use Rattle.switch_network_laws.specs.Plans.{IsPlanOf, has_users}
 use Rattle.switch_network_laws.specs.IsSwitched.{ends_state, EndStands, LineStands, IsPartner, IsHeld, IsSwitched}

@@ -6,16 +6,16 @@ use Rattle.link_timers.specs.declared.role.Role.{Role}
 use Rattle.link_timers.specs.declared.role.Role.TheVariants.{Dte, Dce}
 use Rattle.call_records.specs.Book.{Book}
 use Rattle.book_laws.proofs.Basics.{set_here, set_elsewhere}
-use Rattle.node_laws.specs.Quiet.{IsQuiet}
-use Rattle.line_nodes.specs.Node.{NodeState, drained, frames_of, is_pad}
-use Rattle.line_nodes.specs.Turn.{Turn}
+use Rattle.network_laws.specs.Quiet.{IsQuiet}
+use Rattle.network_laws.specs.Node.{NodeState, drained, frames_of, is_pad}
+use Rattle.network_laws.specs.Turn.{Turn}
 use Rattle.memory_line.specs.declared.line.Direction.TheVariants.{FromDte, FromDce}
 use Rattle.memory_line.specs.Lines.{Flights, LineService, ArePut}
-use Rattle.net_events.specs.OneLine.{LineState, direction_of}
-use Rattle.net_events.specs.OneLine as one
-use Rattle.net_events.specs.NodeEvents.{NodeEvent, IsFor, turn_of, LeftBy}
-use Rattle.net_events.specs.Network.{PlacedNode, NetNode, User, NetLine, place_at}
-use Rattle.net_events.proofs.Users.{same_user}
+use Rattle.network_laws.specs.OneLine.{LineState, direction_of}
+use Rattle.network_laws.specs.OneLine as one
+use Rattle.network_laws.specs.NodeEvents.{NodeEvent, IsFor, turn_of, LeftBy}
+use Rattle.network_laws.specs.Network.{PlacedNode, NetNode, User, NetLine, place_at}
+use Rattle.network_laws.proofs.Users.{same_user}
 use Rattle.network_laws.specs.IsLine.{IsLine}
 use Rattle.network_laws.proofs.Lines.{happened_line}
 use Rattle.network_laws.proofs.Fitting.{pad-drained}

@@ -12,20 +12,20 @@ use Rattle.call_records.specs.Book.{Book}
 use Rattle.call_records.specs.Register.{Register}
 use Rattle.book_laws.proofs.Basics.{get_there}
 use Rattle.line_record_laws.specs.Kept.{Kept}
-use Rattle.node_laws.proofs.Making as making_law
-use Rattle.node_laws.proofs.QuietTurns as quiet_law
-use Rattle.line_nodes.specs.Node.{NodeState, Pad, Host, end_of, is_pad, node_elapsed}
+use Rattle.network_laws.proofs.Making as making_law
+use Rattle.network_laws.proofs.QuietTurns as quiet_law
+use Rattle.network_laws.specs.Node.{NodeState, Pad, Host, end_of, is_pad, node_elapsed}
 use Rattle.memory_line.specs.Lines.{LineService}
 use Rattle.switch_lines.specs.Lines.{SwitchLine}
 use Rattle.switch_lines.specs.Switch.{Switch, elapse, with_end}
-use Rattle.switch_record_laws.specs.Kept.{Partner, Partners, line_with}
-use Rattle.switch_record_laws.specs.Tied.{Histories}
-use Rattle.joined_call_laws.specs.Calls.{JoinedCall}
+use Rattle.switch_path_laws.specs.Kept.{Partner, Partners, line_with}
+use Rattle.switch_path_laws.specs.Tied.{Histories}
+use Rattle.switch_path_laws.specs.Calls.{JoinedCall}
 use Rattle.call_path_laws.specs.World.{Origin, World, Plan}
 use Rattle.switch_path_laws.specs.Network as paths
 use Rattle.switch_path_laws.proofs.Events.{network_holds}
-use Rattle.net_events.specs.Network.{PlacedNode, PlacedSwitch, NetNode, User, Switching, NetLine, Network, Stands, elapsed_node, all_elapsed}
-use Rattle.net_events.proofs.Users.{not_switch}
+use Rattle.network_laws.specs.Network.{PlacedNode, PlacedSwitch, NetNode, User, Switching, NetLine, Network, Stands, elapsed_node, all_elapsed}
+use Rattle.network_laws.proofs.Users.{not_switch}
 use Rattle.network_laws.specs.IsLine.{IsLine}
 use Rattle.network_laws.proofs.Lines.{elapsed_lines}
 use Rattle.network_laws.proofs.Opened.{mapped, unmapped}

@@ -13,9 +13,9 @@ use Rattle.book_laws.proofs.Basics.{set_here, set_elsewhere, length_set, get_the
 use Rattle.line_record_laws.specs.Kept.{Kept}
 use Rattle.switch_lines.specs.Lines.{SwitchLine}
 use Rattle.switch_lines.specs.Switch.{Switch}
-use Rattle.switch_record_laws.specs.Kept.{Partner, Partners, line_with}
-use Rattle.switch_record_laws.specs.Tied.{Histories}
-use Rattle.joined_call_laws.specs.Calls.{JoinedCall}
+use Rattle.switch_path_laws.specs.Kept.{Partner, Partners, line_with}
+use Rattle.switch_path_laws.specs.Tied.{Histories}
+use Rattle.switch_path_laws.specs.Calls.{JoinedCall}
 use Rattle.call_path_laws.specs.World.{Origin, World, Plan, all_traced, after_event}
 use Rattle.call_path_laws.specs.World.Event.{Writes}
 use Rattle.switch_path_laws.specs.Network.{network_line, found_line, IsOther}

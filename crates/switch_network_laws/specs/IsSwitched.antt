@@ -2,17 +2,17 @@
 use Rattle.std.specs.Prelude.{◌≡◌, ◌≢◌, ℕ, false, List, length, slice_get, Some}
 use Rattle.link_timers.specs.declared.role.Role.{Role}
 use Rattle.call_records.specs.Book.{Book, side_of}
-use Rattle.node_laws.specs.Quiet.{IsQuiet}
-use Rattle.line_nodes.specs.Node.{NodeState, Host, end_of, is_pad}
+use Rattle.network_laws.specs.Quiet.{IsQuiet}
+use Rattle.network_laws.specs.Node.{NodeState, Host, end_of, is_pad}
 use Rattle.memory_line.specs.Lines.{LineService}
 use Rattle.switch_lines.specs.Lines.{SwitchLine}
-use Rattle.switch_record_laws.specs.Kept.{Partner}
-use Rattle.switch_record_laws.specs.Tied.{Histories}
-use Rattle.joined_call_laws.specs.Calls.{JoinedCall}
+use Rattle.switch_path_laws.specs.Kept.{Partner}
+use Rattle.switch_path_laws.specs.Tied.{Histories}
+use Rattle.switch_path_laws.specs.Calls.{JoinedCall}
 use Rattle.call_path_laws.specs.World.{Origin, World, Plan}
 use Rattle.switch_path_laws.specs.Network as paths
-use Rattle.net_events.specs.OneLine.{LineState}
-use Rattle.net_events.specs.Network.{PlacedNode, PlacedSwitch, NetNode, User, Switching, NetLine, Network, Stands}
+use Rattle.network_laws.specs.OneLine.{LineState}
+use Rattle.network_laws.specs.Network.{PlacedNode, PlacedSwitch, NetNode, User, Switching, NetLine, Network, Stands}
 use Rattle.network_laws.specs.IsLine.{IsLine}
 use Rattle.network_laws.specs.IsNetwork.{IsNetwork}
 use Rattle.switch_network_laws.specs.Plans.{IsPlanOf}

@@ -3,16 +3,16 @@ use Rattle.std.specs.Prelude.{◌≡◌, ℕ, ◌<◌, true, slice_get, Some}
 use Rattle.link_timers.specs.declared.role.Role.{Role}
 use Rattle.link_timers.specs.declared.timers.TimerId.{TimerId}
 use Rattle.packet_layer.specs.Layer.{confirmed}
-use Rattle.line_nodes.specs.Node.{end_of, node_due}
+use Rattle.network_laws.specs.Node.{end_of, node_due}
 use Rattle.memory_line.specs.declared.line.Direction.{Direction}
 use Rattle.memory_line.specs.Lines.{LineService}
 use Rattle.switch_lines.specs.Switch.{due_on}
-use Rattle.net_events.specs.NodeEvents.{NodeEvent}
-use Rattle.net_events.specs.NodeEvents.NodeEvent.{Expires}
-use Rattle.net_events.specs.AtSwitch.{SwitchEvent, SwitchHappened}
-use Rattle.net_events.specs.AtSwitch as at_switch
-use Rattle.net_events.specs.Network.{PlacedNode, User, Network, HappenedAt, LostAt, all_elapsed}
-use Rattle.net_events.specs.Opening.{NetPlan, IsPlan, IsMade}
+use Rattle.network_laws.specs.NodeEvents.{NodeEvent}
+use Rattle.network_laws.specs.NodeEvents.NodeEvent.{Expires}
+use Rattle.network_laws.specs.AtSwitch.{SwitchEvent, SwitchHappened}
+use Rattle.network_laws.specs.AtSwitch as at_switch
+use Rattle.network_laws.specs.Network.{PlacedNode, User, Network, HappenedAt, LostAt, all_elapsed}
+use Rattle.network_laws.specs.Opening.{NetPlan, IsPlan, IsMade}
 use Rattle.network_laws.specs.DueCount.{all_due}
 use Rattle.network_laws.specs.Rest.{MissesNothing, IsDelivered}
 use Rattle.switch_network_laws.specs.Rest.{AreAllAtRest}

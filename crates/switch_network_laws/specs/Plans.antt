@@ -6,7 +6,7 @@ use Rattle.address_routes.specs.Routes.{line_for}
 use Rattle.call_records.specs.Book.{address_of}
 use Rattle.call_records.specs.Register.{book_at}
 use Rattle.call_path_laws.specs.World.{Plan}
-use Rattle.net_events.specs.Network.{PlacedSwitch, NetNode, User, Switching, NetLine, Network, place_at}
+use Rattle.network_laws.specs.Network.{PlacedSwitch, NetNode, User, Switching, NetLine, Network, place_at}
 
 abbrev pub has_users : NetNode → Bool
 has_users (User n) = true

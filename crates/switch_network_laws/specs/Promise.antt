@@ -2,14 +2,14 @@
 use Rattle.std.specs.Prelude.{◌≡◌, ℕ, true, slice_get, Some}
 use Rattle.link_timers.specs.declared.role.Role.{Role}
 use Rattle.call_records.specs.Records.{RecordValue}
-use Rattle.x25_pad_laws.specs.Sending.{HasSent}
+use Rattle.network_laws.specs.Sending.{HasSent}
 use Rattle.register_laws.specs.Promise.{HasRecords}
 use Rattle.call_path_laws.specs.World.{Plan}
 use Rattle.call_path_laws.specs.Promise.{PathsHold}
 use Rattle.line_record_laws.specs.Counted.{HasItsEpochs}
-use Rattle.line_nodes.specs.Node.{end_of, is_pad}
-use Rattle.net_events.specs.Network.{PlacedNode, User, NetLine, Network, place_at}
-use Rattle.network_laws.specs.Promise.{EndHolds, PlacedHolds, NetworkHolds}
+use Rattle.network_laws.specs.Node.{end_of, is_pad}
+use Rattle.network_laws.specs.Network.{PlacedNode, User, NetLine, Network, place_at}
+pub use Rattle.network_laws.specs.Promise.{its_slot, EndHolds, PlacedHolds, NetworkHolds}
 use Rattle.switch_network_laws.specs.Plans.{HasNoSwitch, IsPlanOf}
 
 -- a node with users stands at the end of a role of a line

@@ -1,8 +1,8 @@
 -- Where a network is at rest, with a switch or without one.
 use Rattle.std.specs.Prelude.{◌≡◌, ℕ, true, List, slice_get, Some}
 use Rattle.switch_lines.specs.Switch.{switch_rests}
-use Rattle.net_events.specs.Network.{PlacedSwitch, NetNode, Switching}
-use Rattle.network_laws.specs.Rest.{AreAtRest}
+use Rattle.network_laws.specs.Network.{PlacedSwitch, NetNode, Switching}
+pub use Rattle.network_laws.specs.Rest.{AreAtRest, MissesNothing, IsDelivered}
 
 -- each node with users is at rest, and a switch is so on all its lines
 pub record AreAllAtRest (nodes : List NetNode) : Type 0 where

@@ -15,8 +15,8 @@ use Rattle.packet_layer.specs.Channel.Request.{Accept}
 use Rattle.packet_layer.specs.Layer.{confirmed}
 use Rattle.call_records.specs.Records.{RecordValue, PairValue}
 use Rattle.call_records.specs.Register.{Register, book_at, with_book, made_register}
-use Rattle.line_nodes.specs.Node.{NodeState, Host, is_pad, end_of, drained, frames_of, node_rests}
-use Rattle.line_nodes.specs.Turn.{Turn}
+use Rattle.network_laws.specs.Node.{NodeState, Host, is_pad, end_of, drained, frames_of, node_rests}
+use Rattle.network_laws.specs.Turn.{Turn}
 use Rattle.memory_line.specs.declared.line.Direction.{Direction}
 use Rattle.memory_line.specs.declared.line.Direction.TheVariants.{FromDte, FromDce}
 use Rattle.memory_line.specs.Lines.{Flights, memory_service, no_flights, flying, with_flying, without_first}
@@ -24,14 +24,14 @@ use Rattle.address_routes.specs.Routes.{RouteMap}
 use Rattle.switch_lines.specs.Making.{made as made_switch}
 use Rattle.switch_lines.specs.Switch.{Switch, switch_rests}
 use Rattle.switch_lines.specs.declared.place.NewJoin.{NewJoin}
-use Rattle.net_events.specs.NodeEvents.{NodeEvent, Hears, Calls, Asks, Says, Takes, turn_of}
-use Rattle.net_events.specs.AtSwitch.{SwitchEvent, SwitchHappened, switched, switch_drained, waiting_on}
-use Rattle.net_events.specs.AtSwitch.{joins_of, all_handed}
-use Rattle.net_events.specs.AtSwitch as at_switch
-use Rattle.net_events.specs.Network.{Network, User, Switching, HappenedAt}
-use Rattle.net_events.specs.Opening.{NetPlan, Planned, NewLine, IsPlan, IsMade, own_configs, line_plan}
-use Rattle.net_events.specs.Opening.NewDte.{NewHost}
-use Rattle.net_events.specs.Opening.Planned.{PlannedUser, PlannedSwitch}
+use Rattle.network_laws.specs.NodeEvents.{NodeEvent, Hears, Calls, Asks, Says, Takes, turn_of}
+use Rattle.network_laws.specs.AtSwitch.{SwitchEvent, SwitchHappened, switched, switch_drained, waiting_on}
+use Rattle.network_laws.specs.AtSwitch.{joins_of, all_handed}
+use Rattle.network_laws.specs.AtSwitch as at_switch
+use Rattle.network_laws.specs.Network.{Network, User, Switching, HappenedAt}
+use Rattle.network_laws.specs.Opening.{NetPlan, Planned, NewLine, IsPlan, IsMade, own_configs, line_plan}
+use Rattle.network_laws.specs.Opening.NewDte.{NewHost}
+use Rattle.network_laws.specs.Opening.Planned.{PlannedUser, PlannedSwitch}
 use Rattle.network_laws.specs.Rest.{MissesNothing}
 use Rattle.switch_network_laws.specs.IsSwitched.{IsAny}
 use Rattle.switch_network_laws.specs.Rest.{AreAllAtRest}

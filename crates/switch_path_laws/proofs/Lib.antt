@@ -1,3 +1,6 @@
+pub use Rattle.switch_record_laws.proofs.Making
+pub use Rattle.switch_record_laws.proofs.Tying
+pub use Rattle.joined_call_laws.proofs.Eventing
 pub mod Listing
 pub mod Silence
 pub mod Accepting

@@ -26,7 +26,7 @@ use Rattle.switch_record_laws.specs.Written.{Books}
 use Rattle.switch_record_laws.specs.Kept.{Partner, Partners, BeginWith, line_with}
 use Rattle.switch_record_laws.specs.Tied.{Histories, IsTied, happened, restarted, gone_out, sent_out}
 use Rattle.joined_call_laws.specs.Calls.{JoinedCall}
-use Rattle.joined_call_laws.specs.Law.{calls_in, written_there}
+pub use Rattle.joined_call_laws.specs.Law.{calls_in, join_of_call, written_there}
 use Rattle.call_path_laws.specs.World.{Origin, World, Plan, AreBetween, all_traced, after_event, made_world}
 use Rattle.call_path_laws.specs.World.Event.{Writes}
 use Rattle.call_path_laws.specs.Lines.{free_book}

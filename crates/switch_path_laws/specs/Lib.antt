@@ -1,3 +1,8 @@
+pub use Rattle.switch_record_laws.specs.Records
+pub use Rattle.switch_record_laws.specs.Written
+pub use Rattle.switch_record_laws.specs.Kept
+pub use Rattle.switch_record_laws.specs.Tied
+pub use Rattle.joined_call_laws.specs.Calls
 pub mod Network
 pub mod Law
 pub mod Run
