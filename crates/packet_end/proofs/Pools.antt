@@ -8,11 +8,10 @@ use Rattle.flow_window.proofs.Weights.{weight_append, weight_ones, holds_after}
 use Rattle.line_end.specs.End.{End}
 use Rattle.line_end.specs.End as line
 use Rattle.line_end.specs.Held.{LineEnd}
-use Rattle.packet_channel.specs.Held.{Loses, Takes}
 use Rattle.packet_layer.specs.Channel.{closed_channel}
 use Rattle.packet_layer.specs.Layer as machine
 use Rattle.packet_layer.specs.Layer.{standing_channels}
-use Rattle.packet_layer.specs.Held.{Layer, most_held, HasRoom}
+use Rattle.packet_layer.specs.Held.{Loses, Takes, Layer, most_held, HasRoom}
 use Rattle.packet_end.specs.Pooled.{Serves, share_of}
 use Rattle.packet_end.specs.Stack.{Stack}
 use Rattle.packet_end.specs.StackView.{stack_of, IsStack}

@@ -1,3 +1,4 @@
+pub use Rattle.line_end.specs.End
 pub mod PacketEnd
 pub mod Timing
 pub mod Touched

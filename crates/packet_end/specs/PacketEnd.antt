@@ -9,7 +9,8 @@ use Rattle.link_timers.specs.Timers.{Places, left_of, none_running, stopped, aft
 use Rattle.lapb.specs.declared.note.Note as link_note
 use Rattle.lapb.specs.declared.note.Note.TheVariants.{Nothing, Up, Down}
 use Rattle.lapb.specs.Machine as link
-use Rattle.lapb.specs.Machine.{Octets, can_offer}
+pub use Rattle.lapb.specs.Machine.{Octets}
+use Rattle.lapb.specs.Machine.{can_offer}
 use Rattle.lapb.specs.Octets as link_octets
 use Rattle.lapb.specs.Unsent.{HasSentAll}
 use Rattle.line_end.specs.End.{End}

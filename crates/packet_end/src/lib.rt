@@ -14,6 +14,8 @@ mod touched;
 
 pub use end::PacketEnd;
 pub use fault::EndFault;
+pub use frame_codec::FrameBuf;
+pub use line_end::MOST_FRAMES;
 pub use notes::MOST_NOTES;
 pub use params::EndParams;
 pub use pooled::PooledEnd;

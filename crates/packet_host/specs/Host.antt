@@ -2,12 +2,11 @@
 -- event.
 use Rattle.std.specs.Prelude.{ℕ, Bool, cond, not, List, [], Option, Some, None}
 use Rattle.link_timers.specs.declared.timers.TimerId.{TimerId}
-use Rattle.lapb.specs.Machine.{Octets}
 use Rattle.packet_layer.specs.Packets.{CallParts}
 use Rattle.packet_layer.specs.Traffic.{Taken}
 use Rattle.packet_layer.specs.Channel.{Refusal, Request, refused_if}
 use Rattle.packet_layer.specs.Layer.{can_accept, request_refusal, call_refusal, front_on}
-use Rattle.packet_end.specs.PacketEnd.{PacketEnd, begun, finished, asked, called, received, runs_at, after_timer}
+use Rattle.packet_end.specs.PacketEnd.{Octets, PacketEnd, begun, finished, asked, called, received, runs_at, after_timer}
 use Rattle.packet_end.specs.PacketEnd as end
 use Rattle.packet_host.specs.Saying.{cut, queued, say_refusal}
 

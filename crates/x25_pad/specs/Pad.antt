@@ -4,9 +4,8 @@ use Rattle.std.specs.Prelude.{position, drop, is_some, is_none, Option, Some, No
 use Rattle.std.specs.Option.{option_map_or}
 use Rattle.link_timers.specs.declared.timers.TimerId.{TimerId}
 use Rattle.link_timers.specs.declared.timers.TimerId.TheVariants.{Idle}
-use Rattle.lapb.specs.Machine.{Octets}
 use Rattle.packet_layer.specs.Traffic.{Taken as TakenValue}
-use Rattle.packet_end.specs.PacketEnd.{PacketEnd}
+use Rattle.packet_end.specs.PacketEnd.{Octets, PacketEnd}
 use Rattle.packet_end.specs.PacketEnd as end
 use Rattle.x25_pad.specs.Line as line
 use Rattle.x25_pad.specs.Line.{gathered, last_incoming, all_learnt}

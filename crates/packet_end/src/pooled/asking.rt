@@ -3,8 +3,8 @@ ghost use Rattle.std.specs.Prelude.{◌≡◌, ◌<◌, length, Some, None, Matc
 ghost use Rattle.flow_window.specs.Pool.{IsIn, Holds, Balances};
 ghost use Rattle.packet_codec.specs.Packet.{IsCallValue};
 ghost use Rattle.packet_codec.specs.View.{call_view};
-ghost use Rattle.packet_channel.specs.Answers.{handed_back};
-ghost use Rattle.packet_channel.specs.Held.{Loses, Takes};
+ghost use Rattle.packet_layer.specs.Answers.{handed_back};
+ghost use Rattle.packet_layer.specs.Held.{Loses, Takes};
 ghost use Rattle.packet_layer.specs.Channel.{Request as ask};
 ghost use Rattle.packet_layer.specs.Interrupting.{may_interrupt};
 ghost use Rattle.packet_layer.specs.Layer as machine;

@@ -6,10 +6,8 @@ ghost use Rattle.packet_end.specs.Timing.{TimersAgree};
 ghost use Rattle.packet_host.specs.Host.{after_frame, after_expiry, after_relink};
 
 use crate::host::Host;
-use frame_codec::FrameBuf;
-use line_end::MOST_FRAMES;
 use link_timers::TimerId;
-use packet_end::MOST_NOTES;
+use packet_end::{FrameBuf, MOST_FRAMES, MOST_NOTES};
 
 impl Host {
     /// Takes the octets of a received frame (X.25 2.4, 3 to 5).

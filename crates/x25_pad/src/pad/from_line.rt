@@ -6,9 +6,8 @@ ghost use Rattle.packet_end.specs.Timing.{TimersAgree};
 ghost use Rattle.x25_pad.specs.Pad as spec;
 
 use crate::pad::Pad;
-use frame_codec::FrameBuf;
-use line_end::MOST_FRAMES;
 use link_timers::TimerId;
+use packet_end::{FrameBuf, MOST_FRAMES};
 
 impl Pad {
     /// Takes the octets of a received frame (X.25 2.4, 3 to 5). The terminals learn what becomes of their calls. A call

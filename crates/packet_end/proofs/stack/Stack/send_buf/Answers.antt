@@ -1,4 +1,4 @@
-use Rattle.packet_channel.specs.Answers.{handed_back}
+use Rattle.packet_layer.specs.Answers.{handed_back}
 use Rattle.packet_layer.specs.Channel.Request.{Sending}
 use Rattle.packet_layer.specs.Layer as machine
 use Rattle.packet_layer.specs.Layer.{Layer}
