@@ -7,11 +7,10 @@ ghost use Rattle.line_nodes.specs.Node.{node_elapsed, node_confirmed};
 ghost use Rattle.line_nodes.specs.NodeView.{node_of};
 ghost use Rattle.line_nodes.specs.NodeEvents.{heard, node_runs, expired, relinked, restarted};
 
-use frame_codec::FrameBuf;
-use line_end::MOST_FRAMES;
 use link_timers::TimerId;
+use packet_end::{FrameBuf, MOST_FRAMES};
 use packet_host::Host;
-use x25_pad::Pad;
+use pad_records::Pad;
 
 /// A node at an end of a line. Frames that were not taken by `out`, and notes that were not read, are gone when the
 /// next event begins.

@@ -12,7 +12,8 @@ ghost use Rattle.pad_records.specs.Room.{HasRoom, HaveRoom, written};
 use call_records::{Book, EditStep};
 use link_timers::Role;
 use packet_layer::Taken;
-use x25_pad::{Pad, PadNote};
+pub use x25_pad::Pad;
+use x25_pad::PadNote;
 
 /// Reads the notes of an event at a PAD, and writes them in order into the book, at the PAD's end of the line. The book
 /// has room for them.
