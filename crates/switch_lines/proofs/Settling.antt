@@ -13,8 +13,8 @@ use Rattle.lapb.specs.declared.note.Timing.{Timing as Change}
 use Rattle.lapb.specs.Machine.{Octets, Link, Step, can_offer, runs, response, sendable, send_all, settle, settle_in}
 use Rattle.lapb.specs.Machine.{timing}
 use Rattle.lapb.specs.Out.{with_frames}
-use Rattle.line_end.specs.End.{End, timed}
-use Rattle.line_end.specs.End as line
+use Rattle.packet_end.specs.End.{End, timed}
+use Rattle.packet_end.specs.End as line
 use Rattle.packet_layer.specs.Layer.{Layer, next_packet}
 use Rattle.packet_layer.specs.Events.{timer_named, runs_named}
 use Rattle.packet_end.specs.Timing.{packet_ticks, brought_as, brought_one, brought_channel, brought_channels, brought}

@@ -9,6 +9,6 @@ mod lines;
 mod place;
 
 pub use config::{LineConfig, MOST_LINES, SwitchConfig, check_lines};
-pub use line_end::MOST_FRAMES;
 pub use lines::Lines;
+pub use packet_end::MOST_FRAMES;
 pub use place::{NewJoin, Place};
