@@ -1,5 +1,5 @@
 -- What is written into a book: which slots and records it changes.
-use Rattle.std.specs.Prelude.{◌≡◌, ◌≢◌, ℕ, zero, suc, ◌+◌, ◌≤◌, ◌⊎◌, Bool, true, false, cond, List, [], ◌∷◌, length, slice_get, Option, Some, None}
+use Rattle.std.specs.Prelude.{◌≡◌, ◌≢◌, ℕ, zero, suc, ◌+◌, ◌≤◌, ◌⊎◌, Bool, true, false, cond, List, [], ◌∷◌, ◌++◌, length, slice_get, Option, Some, None}
 use Rattle.std.proofs.Common.{inl, inr, refl, sym, ap, subst, ◌∙◌, arith}
 use Rattle.std.proofs.lemmas.Option.{none-some, same_Some}
 use Rattle.link_timers.specs.declared.role.Role.{Role}
@@ -10,6 +10,7 @@ use Rattle.packet_layer.specs.Packets.Note.{Closed}
 use Rattle.packet_layer.specs.Channel.{Channel}
 use Rattle.packet_layer.specs.Layer.{closing_notes, had_call}
 use Rattle.call_records.specs.Records.{RecordValue, PairValue, with_closed}
+use Rattle.call_records.specs.Writes.{Write, written_by, all_written}
 use Rattle.call_records.specs.Book.{Book, Slot, side_of, nth_slot, with_nth, found_slot, slot_at, with_slot, with_change, changed, with_record, closes, all_told}
 use Rattle.book_laws.proofs.Basics.{all_same, get_changed, length_changed, length_set, set_elsewhere, set_here, get_there, number_is, role_is}
 use Rattle.book_laws.proofs.Invariant.{AreOpen, book_parts}
@@ -332,3 +333,9 @@ closed_all x k reason (c ∷ chs) b (suc i) ch e h =
     let number : suc k + i ≡ k + suc i = omega arith in
     told_by x k reason (had_call c.state) (closing_notes (suc k) reason chs) (k + suc i) b
     (λ u. subst (λ (n : ℕ). (slot_at x n (all_told x (closing_notes (suc k) reason chs) u)).present ≡ None) number (closed_all x (suc k) reason chs u i ch e h))
+
+-- ---- writes, one after the other
+
+pub written_append : (role : Role) (xs ys : List Write) (b : Book) → all_written role (xs ++ ys) b ≡ all_written role ys (all_written role xs b)
+written_append role [] ys b = refl
+written_append role (x ∷ xs) ys b = written_append role xs ys (written_by role x b)

@@ -33,8 +33,8 @@ use Rattle.packet_laws.proofs.Line.Offering.{next_same}
 use Rattle.packet_laws.proofs.Line.Arriving.{packet_same}
 use Rattle.book_laws.specs.Told.Move.{Happens, Edits}
 use Rattle.book_laws.proofs.Writing.{slot_here}
-use Rattle.line_laws.specs.Line.{Line}
-use Rattle.line_record_laws.specs.Kept.{Setting, Kept, beginning}
+use Rattle.switch_record_laws.specs.Line.{Line}
+use Rattle.switch_record_laws.specs.Kept.{Setting, Kept, beginning}
 use Rattle.switch_lines.specs.declared.place.Place.{Place}
 use Rattle.switch_lines.specs.declared.place.Joined.{Joined}
 use Rattle.switch_lines.specs.Lines.{SwitchLine, changed, same_place, joined_at}

@@ -1,3 +1,12 @@
+pub use Rattle.switch_record_laws.proofs.Cells
+pub use Rattle.switch_record_laws.proofs.Notes
+pub use Rattle.switch_record_laws.proofs.Partner
+pub use Rattle.switch_record_laws.proofs.Confirming
+pub use Rattle.switch_record_laws.proofs.Resting
+pub use Rattle.switch_record_laws.proofs.Making
+pub use Rattle.switch_record_laws.proofs.Calming
+pub use Rattle.switch_record_laws.proofs.Tying
+pub use Rattle.switch_record_laws.proofs.Running
 pub mod Steady
 pub mod Walking
 pub mod Following

@@ -19,7 +19,7 @@ use Rattle.packet_layer.specs.Events.{on_named, timer_named}
 use Rattle.packet_codec.specs.Diagnostic.{no_information}
 use Rattle.packet_laws.specs.Readable.{Every}
 use Rattle.packet_end.specs.PacketEnd.{PacketEnd, heeded, expired, runs_at}
-use Rattle.line_end.specs.End.{End}
+use Rattle.packet_end.specs.End.{End}
 use Rattle.address_routes.specs.Routes.{RouteMap, line_for}
 use Rattle.switch_lines.specs.Causes.{clear_cause, far_diagnostic}
 use Rattle.switch_lines.specs.declared.place.Place.{Place}

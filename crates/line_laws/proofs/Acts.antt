@@ -14,8 +14,8 @@ use Rattle.lapb.specs.World.{World}
 use Rattle.lapb.specs.Octets as link_octets
 use Rattle.lapb.specs.Line.{chosen}
 use Rattle.lapb.proofs.Rising.{tells_on_t1, plain_on_t1}
-use Rattle.line_end.specs.End.{End, did, without_frames, untouched}
-use Rattle.line_end.specs.End as line
+use Rattle.packet_end.specs.End.{End, did, without_frames, untouched}
+use Rattle.packet_end.specs.End as line
 use Rattle.packet_layer.specs.Packets.{CallParts, Note}
 use Rattle.packet_layer.specs.Channel.{Request}
 use Rattle.packet_layer.specs.Layer.{Layer}

@@ -2,7 +2,7 @@
 use Rattle.std.specs.Prelude.{◌≡◌, List, []}
 use Rattle.std.proofs.Common.{refl, sym}
 use Rattle.lapb.specs.Machine.{Octets}
-use Rattle.line_end.specs.End.{without_frames}
+use Rattle.packet_end.specs.End.{without_frames}
 use Rattle.packet_end.specs.PacketEnd.{PacketEnd, finished}
 use Rattle.line_laws.specs.Line.{RelinksIfDue, Offers, Settles, does}
 

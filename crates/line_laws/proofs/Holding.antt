@@ -9,8 +9,8 @@ use Rattle.lapb.specs.Machine as link
 use Rattle.lapb.specs.Machine.{Octets, Link}
 use Rattle.lapb.specs.World.{World, opening}
 use Rattle.lapb.proofs.Lines.{stands_opening}
-use Rattle.line_end.specs.End.{untouched}
-use Rattle.line_end.specs.End as line
+use Rattle.packet_end.specs.End.{untouched}
+use Rattle.packet_end.specs.End as line
 use Rattle.packet_layer.specs.Layer as machine
 use Rattle.packet_laws.specs.Line as layers
 use Rattle.packet_laws.specs.Line.{Happening, start_line, turned}

@@ -12,8 +12,8 @@ use Rattle.lapb.specs.declared.note.Timing.{Timing}
 use Rattle.lapb.specs.Machine.{Octets, Step, on_t1, can_offer, timing}
 use Rattle.lapb.specs.Machine as machine
 use Rattle.lapb.specs.Octets as link_octets
-use Rattle.line_end.specs.End.{End, t1_ticks, timed, did}
-use Rattle.line_end.specs.End as line
+use Rattle.packet_end.specs.End.{End, t1_ticks, timed, did}
+use Rattle.packet_end.specs.End as line
 use Rattle.packet_layer.specs.Packets.{CallParts, Datum}
 use Rattle.packet_layer.specs.Traffic.{Taken}
 use Rattle.packet_layer.specs.Traffic.Taken.{TakenInterrupt, TakenPacket}

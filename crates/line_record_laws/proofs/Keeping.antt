@@ -7,7 +7,7 @@ use Rattle.link_timers.specs.Role.{other_of}
 use Rattle.lapb.specs.Machine.{Octets, Link}
 use Rattle.lapb.specs.World as links
 use Rattle.link_timers.specs.Timers.{none_running}
-use Rattle.line_end.specs.End as line
+use Rattle.packet_end.specs.End as line
 use Rattle.packet_layer.specs.Packets.{Note}
 use Rattle.packet_layer.specs.Packets.Note.{Closed}
 use Rattle.packet_layer.specs.Packets.Reason.{LinkLost}

@@ -1,3 +1,6 @@
+pub use Rattle.book_laws.proofs.Basics
+pub use Rattle.book_laws.proofs.Layers
+pub use Rattle.book_laws.proofs.Writing
 mod Moving
 mod Telling
 mod WaitsInTransfer

@@ -9,7 +9,7 @@ use Rattle.lapb.specs.declared.note.Note as link_note
 use Rattle.lapb.specs.declared.note.Note.TheVariants.{Nothing, Up, Down}
 use Rattle.lapb.specs.Machine.{Octets, on_t1}
 use Rattle.lapb.specs.Octets as link_octets
-use Rattle.line_end.specs.End as line
+use Rattle.packet_end.specs.End as line
 use Rattle.packet_layer.specs.Packets.{CallParts, Body, Packet, Received, Note, Reason}
 use Rattle.packet_layer.specs.Packets.Body.{Call, Accepted, Clear, ClearConfirmation, Data, Interrupt, InterruptConfirmation, ReceiveReady, ReceiveNotReady, Reset, ResetConfirmation, Restart, RestartConfirmation}
 use Rattle.packet_layer.specs.Packets.Received.{Whole, Unknown, Faulty}

@@ -1,3 +1,5 @@
+pub use Rattle.book_laws.specs.Headline
+pub use Rattle.line_laws.specs.Line
 pub mod Kept
 pub mod Clauses
 pub mod Happens

@@ -9,7 +9,7 @@ use Rattle.switch_lines.specs.Lines.{SwitchLine}
 use Rattle.switch_lines.specs.NewJoins.{new_joins}
 use Rattle.switch_lines.specs.declared.place.NewJoin.{NewJoin}
 use Rattle.switch_lines.specs.Switch.{Switch, on_frame, on_timer, restart, frames_on, with_end}
-use Rattle.switch_laws.specs.Turn.{AreOctets}
+use Rattle.packet_laws.specs.Readable.{AreOctets}
 use Rattle.net_events.specs.Network.{PlacedSwitch, Switching, NetLine, Network}
 
 -- a frame arrives on an own line, a timer of an own line expires, or the switch begins anew

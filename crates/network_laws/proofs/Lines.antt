@@ -20,7 +20,7 @@ use Rattle.network_laws.proofs.Keeping.{keeps}
 use Rattle.line_record_laws.proofs.Keeping as keeping_law
 use Rattle.node_laws.proofs.Making as making_law
 use Rattle.node_laws.proofs.QuietTurns as quiet_law
-use Rattle.x25_pad_laws.proofs.Holding as pad_law
+use Rattle.node_laws.proofs.Holding as pad_law
 
 pub happened_line : (L : LineService) (event : NodeEvent) (role : Role) (s t : LineState) → IsLine L s
     → Happened L event role s t → IsLine L t

@@ -13,7 +13,7 @@ use Rattle.book_laws.specs.Headline.{BookHolds}
 use Rattle.line_record_laws.specs.Kept.{Setting, Kept}
 use Rattle.node_laws.specs.Quiet.{IsQuiet}
 use Rattle.node_laws.specs.Clauses.{first_line}
-use Rattle.x25_pad_laws.specs.Sending.{HasSent}
+use Rattle.node_laws.specs.Sending.{HasSent}
 use Rattle.line_nodes.specs.Node.{NodeState, Pad, Host, end_of, is_pad, drained, frames_of}
 use Rattle.memory_line.specs.declared.line.Direction.TheVariants.{FromDte, FromDce}
 use Rattle.memory_line.specs.Lines.{Flights, no_flights, LineService}
@@ -26,7 +26,7 @@ use Rattle.network_laws.proofs.Fitting.{end-drained}
 use Rattle.line_record_laws.proofs.Keeping as keeping_law
 use Rattle.node_laws.proofs.Making as making_law
 use Rattle.node_laws.proofs.QuietTurns as quiet_law
-use Rattle.x25_pad_laws.proofs.Begins as pad_making_law
+use Rattle.node_laws.proofs.Begins as pad_making_law
 
 -- ---- the promise
 

@@ -9,7 +9,7 @@ use Rattle.call_records.specs.Records.{RecordValue}
 use Rattle.call_records.specs.Book.{Book, side_of}
 use Rattle.book_laws.specs.Headline.{BookHolds, HaveRecords, has_call}
 use Rattle.node_laws.specs.Quiet.{IsQuiet}
-use Rattle.x25_pad_laws.specs.Sending.{HasSent}
+use Rattle.node_laws.specs.Sending.{HasSent}
 use Rattle.register_laws.specs.Law.{IsOfBook, IsAtNoOther}
 use Rattle.register_laws.proofs.Seeing.{present_seen, came_seen}
 use Rattle.register_laws.proofs.Having.{records_seen, callee_seen}

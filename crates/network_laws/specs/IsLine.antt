@@ -5,7 +5,7 @@ use Rattle.link_timers.specs.declared.role.Role.TheVariants.{Dte}
 use Rattle.line_laws.specs.Line.{Line}
 use Rattle.line_record_laws.specs.Kept.{Setting, Kept}
 use Rattle.node_laws.specs.Quiet.{IsQuiet}
-use Rattle.x25_pad_laws.specs.Holds.{PadHolds}
+use Rattle.node_laws.specs.Holds.{PadHolds}
 use Rattle.call_records.specs.Book.{Book}
 use Rattle.line_nodes.specs.Node.{NodeState, Pad, Host, end_of, is_pad}
 use Rattle.memory_line.specs.Lines.{LineService}

@@ -6,7 +6,7 @@ pub use Rattle.net_events.specs.AtSwitch
 pub use Rattle.net_events.specs.OneLine
 pub use Rattle.net_events.specs.Opening
 pub use Rattle.node_laws.specs.Quiet
-pub use Rattle.x25_pad_laws.specs.Sending
+pub use Rattle.node_laws.specs.Sending
 pub mod IsLine
 pub mod LineLaw
 pub mod PadRun

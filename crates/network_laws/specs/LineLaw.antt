@@ -6,7 +6,7 @@ use Rattle.packet_end.specs.declared.params.EndParams.{EndParams}
 use Rattle.call_records.specs.Records.{RecordValue}
 use Rattle.call_records.specs.Book.{made_book}
 use Rattle.book_laws.specs.Headline.{BookHolds}
-use Rattle.x25_pad_laws.specs.Sending.{HasSent}
+use Rattle.node_laws.specs.Sending.{HasSent}
 use Rattle.line_nodes.specs.Node.{is_pad, drained, node_elapsed}
 use Rattle.memory_line.specs.declared.line.Direction.{Direction}
 use Rattle.memory_line.specs.Lines.{Flights, without_first, LineService}

@@ -8,7 +8,7 @@ use Rattle.call_records.specs.Book.{Slot, side_of, slot_at}
 use Rattle.call_records.specs.Register.{Register, book_at}
 use Rattle.book_laws.specs.Headline.{has_call, IsPaired, HasCallee}
 use Rattle.node_laws.specs.Quiet.{IsQuiet}
-use Rattle.x25_pad_laws.specs.Sending.{HasSent}
+use Rattle.node_laws.specs.Sending.{HasSent}
 use Rattle.line_record_laws.specs.Confirmed.{SaysConfirmed}
 use Rattle.line_record_laws.specs.Counted.{ShowsCounts, HasItsEpochs}
 use Rattle.register_laws.specs.Promise.{RegisterHolds, HasRecords}

@@ -7,7 +7,7 @@ use Rattle.lapb.specs.declared.note.Note as link_note
 use Rattle.lapb.specs.declared.note.Note.TheVariants.{Nothing, Up, Down}
 use Rattle.lapb.specs.Machine.{Octets, on_t1, can_offer}
 use Rattle.lapb.specs.Octets as link_octets
-use Rattle.line_end.specs.End as line
+use Rattle.packet_end.specs.End as line
 use Rattle.packet_layer.specs.Packets.{CallParts, Datum}
 use Rattle.packet_layer.specs.Traffic.{Taken}
 use Rattle.packet_layer.specs.Traffic.Taken.{TakenInterrupt, TakenPacket}

@@ -16,7 +16,7 @@ use Rattle.line_laws.specs.Line.{Line}
 use Rattle.packet_host.specs.Host.{call_parts}
 use Rattle.call_records.specs.Records.{RecordValue}
 use Rattle.call_records.specs.Book.{Book, packet_of, made_book}
-use Rattle.book_laws.specs.Headline.{BookHolds}
+use Rattle.line_record_laws.specs.Headline.{BookHolds}
 use Rattle.line_record_laws.specs.Kept.{Setting, IsSetting, Kept, end_at, coming_to}
 use Rattle.line_record_laws.specs.Happens.{with_event}
 use Rattle.line_record_laws.proofs.Keeping.{holds_kept}

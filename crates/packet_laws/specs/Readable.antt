@@ -17,6 +17,10 @@ abbrev pub IfAny : {A : Type 0} → (A → Type 0) → Option A → Type 0
 IfAny P None = Unit {0}
 IfAny P (Some x) = P x
 
+-- octets, as any that come on a line
+abbrev pub AreOctets : List ℕ → Type 0
+AreOctets xs = Every (λ x. x < 256) xs
+
 -- a packet with a spelling, from which it is read again
 abbrev pub value_of : Packet → PacketValue
 value_of p = record { channel = p.channel; content = content_of p.body }

@@ -10,8 +10,8 @@ use Rattle.lapb.specs.declared.phase.Phase.{Phase}
 use Rattle.lapb.specs.declared.phase.Phase.TheVariants as phase
 use Rattle.lapb.specs.Machine as link
 use Rattle.lapb.specs.Machine.{Octets, Link, can_offer, sendable, send_all, settle_in}
-use Rattle.line_end.specs.End as line
-use Rattle.line_end.specs.End.{End}
+use Rattle.packet_end.specs.End as line
+use Rattle.packet_end.specs.End.{End}
 use Rattle.packet_layer.specs.Packets.{Packet}
 use Rattle.packet_layer.specs.Channel.{Refusal, Channel, closed_channel, had_call}
 use Rattle.packet_layer.specs.Layer.{Layer, channel_of, nth_channel, standing_channels, start_phase, next_in}

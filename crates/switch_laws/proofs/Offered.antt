@@ -12,8 +12,8 @@ use Rattle.lapb.specs.declared.phase.Phase.TheVariants as phase
 use Rattle.lapb.specs.Machine.{Octets, Link, can_offer, is_up, sendable, send_all, settle_in}
 use Rattle.lapb.specs.Unsent.{HasSentAll}
 use Rattle.lapb.specs.Octets as link_octets
-use Rattle.line_end.specs.End as line
-use Rattle.line_end.specs.End.{End}
+use Rattle.packet_end.specs.End as line
+use Rattle.packet_end.specs.End.{End}
 use Rattle.packet_layer.specs.Packets.{CallParts, Note}
 use Rattle.packet_layer.specs.Packets.Note.{Incoming, Connected, Closed, WasReset, InterruptConfirmed, Covered}
 use Rattle.packet_layer.specs.Channel.Request.{Accept, Clearing, Resetting, Releasing, Confirming}

@@ -3,7 +3,7 @@ use Rattle.std.proofs.Common.{◌≡◌, ℕ, zero, suc, ◌+◌, ◌-◌, ◌�
 use Rattle.std.specs.List.{list_any}
 use Rattle.std.proofs.lemmas.Bool.{leb-true, leb-false}
 use Rattle.lapb.specs.Machine.{Octets, Link, can_offer}
-use Rattle.line_end.specs.End.{End}
+use Rattle.packet_end.specs.End.{End}
 use Rattle.packet_layer.specs.Traffic.{Taken}
 use Rattle.packet_layer.specs.Channel.{Request, Refusal}
 use Rattle.packet_layer.specs.Channel.Request.{Taking, Releasing}

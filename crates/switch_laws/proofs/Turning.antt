@@ -9,7 +9,7 @@ use Rattle.lapb.specs.declared.note.Note.TheVariants.{Nothing, Up, Down}
 use Rattle.lapb.specs.Machine as link
 use Rattle.lapb.specs.Machine.{Octets}
 use Rattle.lapb.specs.Octets as link_octets
-use Rattle.line_end.specs.End.{End}
+use Rattle.packet_end.specs.End.{End}
 use Rattle.packet_layer.specs.Packets.{Body, Note, Received}
 use Rattle.packet_layer.specs.Packets.Body.{Restart, RestartConfirmation}
 use Rattle.packet_layer.specs.Channel.{unreadable, received as received_packet}

@@ -9,7 +9,7 @@ use Rattle.call_records.specs.Writes.Write.{Told}
 use Rattle.switch_laws.specs.World.{Act, line_of, after_act}
 use Rattle.switch_path_laws.specs.Written.{Books, act_writes, writes_at, books_after, books_after_all, restart_writes, restarted_books}
 use Rattle.switch_path_laws.proofs.Seeing.{act_writes_are}
-use Rattle.x25_pad_laws.proofs.Asking.{written_append}
+use Rattle.book_laws.proofs.Writing.{written_append}
 
 -- writes at the DCE lead from one book to another
 pub record IsWritten (before after : Book) : Type 0 where

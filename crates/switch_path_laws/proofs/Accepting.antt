@@ -11,9 +11,9 @@ use Rattle.call_records.specs.Carried.{unless_refused}
 use Rattle.call_records.specs.Writes.{Write, all_written}
 use Rattle.call_records.specs.Register.{Register, book_at, all_written_at}
 use Rattle.book_laws.proofs.Basics.{get_before, get_there}
-use Rattle.switch_record_laws.proofs.Cells.{here_or_not, got_below, last_pair}
-use Rattle.switch_record_laws.proofs.Notes.{TouchesOne}
-use Rattle.switch_record_laws.proofs.Partner.{writes_keep}
+use Rattle.joined_call_laws.proofs.Cells.{here_or_not, got_below, last_pair}
+use Rattle.joined_call_laws.proofs.Notes.{TouchesOne}
+use Rattle.joined_call_laws.proofs.Partner.{writes_keep}
 use Rattle.call_path_laws.specs.World.{Origin, Join, World, Plan}
 use Rattle.call_path_laws.specs.Seen.{IsJoined, Seen}
 use Rattle.switch_path_laws.specs.Network.{GoesOnAccepted, AcceptsAccepted}

@@ -28,14 +28,14 @@ use Rattle.switch_laws.specs.EventSteps.{event_steps}
 use Rattle.switch_laws.proofs.Leading.{event_leads}
 use Rattle.switch_laws.proofs.Lists.{get_map, map_unchanged, decided}
 use Rattle.switch_laws.proofs.Turning.{timer_effect, EndEffect}
-use Rattle.switch_record_laws.specs.Records.{AreRecords}
-use Rattle.switch_record_laws.specs.Written.{Books, restart_writes}
-use Rattle.switch_record_laws.specs.Kept.{Partner, IsFit, ReadsOctets, line_with, all_frames_out}
-use Rattle.switch_record_laws.specs.Tied.{Histories, IsTied, happened, restarted, gone_out}
-use Rattle.switch_record_laws.proofs.Calming.{addresses}
-use Rattle.switch_record_laws.proofs.Confirming.{relayed_confirm}
-use Rattle.switch_record_laws.proofs.Partner.{partner_leaves}
-use Rattle.switch_record_laws.proofs.Tying.{tied_holds}
+use Rattle.joined_call_laws.specs.Records.{AreRecords}
+use Rattle.joined_call_laws.specs.Written.{Books, restart_writes}
+use Rattle.joined_call_laws.specs.Kept.{Partner, IsFit, ReadsOctets, line_with, all_frames_out}
+use Rattle.joined_call_laws.specs.Tied.{Histories, IsTied, happened, restarted, gone_out}
+use Rattle.joined_call_laws.proofs.Calming.{addresses}
+use Rattle.joined_call_laws.proofs.Confirming.{relayed_confirm}
+use Rattle.joined_call_laws.proofs.Partner.{partner_leaves}
+use Rattle.joined_call_laws.proofs.Tying.{tied_holds}
 use Rattle.joined_call_laws.specs.Calls.{JoinedCall}
 use Rattle.joined_call_laws.specs.Law.{calls_in, written_there, HasRelayed}
 use Rattle.joined_call_laws.proofs.Following.{addresses_led}

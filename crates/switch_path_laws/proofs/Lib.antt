@@ -1,5 +1,5 @@
-pub use Rattle.switch_record_laws.proofs.Making
-pub use Rattle.switch_record_laws.proofs.Tying
+pub use Rattle.joined_call_laws.proofs.Making
+pub use Rattle.joined_call_laws.proofs.Tying
 pub use Rattle.joined_call_laws.proofs.Eventing
 pub mod Listing
 pub mod Silence

@@ -12,7 +12,7 @@ use Rattle.call_records.specs.Writes.Write.{Told, Placed, Asked, Said, Took, Cle
 use Rattle.book_laws.proofs.Basics.{get_before, get_there, number_is, set_here, set_elsewhere, length_set}
 use Rattle.register_laws.specs.Seen.{positions}
 use Rattle.register_laws.proofs.Positions.{one_here, one_elsewhere}
-use Rattle.switch_record_laws.specs.Written.{Books}
+use Rattle.joined_call_laws.specs.Written.{Books}
 use Rattle.joined_call_laws.specs.Calls.{JoinedCall}
 use Rattle.call_path_laws.specs.World.{Origin, Join, noted, all_noted, with_placed, traced, all_traced}
 use Rattle.switch_path_laws.specs.Network.{network_line, IsOther, AreAmong, lines_of, JoinIs, AreJoins}

@@ -14,7 +14,7 @@ use Rattle.register_laws.proofs.Having.{callee_seen}
 use Rattle.register_laws.proofs.Seeing.{line_within}
 use Rattle.switch_lines.specs.Switch.{Switch}
 use Rattle.switch_laws.proofs.Lists.{get_map, decided}
-use Rattle.switch_record_laws.specs.Tied.{Histories}
+use Rattle.joined_call_laws.specs.Tied.{Histories}
 use Rattle.joined_call_laws.specs.Calls.{JoinedCall}
 use Rattle.call_path_laws.specs.World.{Origin, placing, World, Plan}
 use Rattle.call_path_laws.proofs.Ending.{ends_seen, callee_origin, placed_onward}

@@ -33,9 +33,9 @@ use Rattle.switch_laws.specs.Joined.{WaitsFor, IsPair, IsJoinedAt}
 use Rattle.switch_laws.specs.Joined.IsPair.{connected, waiting}
 use Rattle.switch_laws.specs.World.{Shown, shown_at, shown_on, shown_as, Agrees, layers_of}
 use Rattle.switch_laws.proofs.Lists.{get_map}
-use Rattle.switch_record_laws.specs.Records.{HasRecord, Has, call_on, leg_if}
-use Rattle.switch_record_laws.specs.Kept.{line_with}
-use Rattle.switch_record_laws.specs.Tied.{Histories}
+use Rattle.joined_call_laws.specs.Records.{HasRecord, Has, call_on, leg_if}
+use Rattle.joined_call_laws.specs.Kept.{line_with}
+use Rattle.joined_call_laws.specs.Tied.{Histories}
 use Rattle.joined_call_laws.specs.Calls.{JoinedCall, StandsOrEnded, Stands}
 use Rattle.call_path_laws.specs.World.{Origin, World, Plan}
 use Rattle.call_path_laws.specs.Seen.{CameFrom}

@@ -10,11 +10,11 @@ use Rattle.switch_lines.specs.Lines.{SwitchLine}
 use Rattle.switch_laws.specs.Run.{configs, two_lines, sabm}
 use Rattle.switch_laws.specs.Turn.{AreOctets}
 use Rattle.switch_laws.proofs.Running.{configs_right}
-use Rattle.switch_record_laws.specs.Run.{partners, histories}
-use Rattle.switch_record_laws.specs.Run as switch_run
-use Rattle.switch_record_laws.specs.Tied.{IsTied}
-use Rattle.switch_record_laws.proofs.Running.{run_holds as records_run}
-use Rattle.switch_record_laws.proofs.Tying.{tied_holds}
+use Rattle.joined_call_laws.specs.Run.{partners, histories}
+use Rattle.joined_call_laws.specs.Run as switch_run
+use Rattle.joined_call_laws.specs.Tied.{IsTied}
+use Rattle.joined_call_laws.proofs.Running.{run_holds as records_run}
+use Rattle.joined_call_laws.proofs.Tying.{tied_holds}
 use Rattle.call_path_laws.specs.World.{AreAddressed, AreBetween, made_world}
 use Rattle.switch_path_laws.specs.Network.{network_line, IsOther, AreAmong, IsPlanned, IsNetwork}
 use Rattle.switch_path_laws.specs.Law.{no_switch}

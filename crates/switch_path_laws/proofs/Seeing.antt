@@ -30,9 +30,9 @@ use Rattle.switch_laws.specs.World.{Act, line_of, layers_of, after_act}
 use Rattle.switch_laws.specs.Steps.Step.{Asks, Places}
 use Rattle.switch_laws.proofs.Lists.{get_map}
 use Rattle.switch_laws.proofs.SettingUp.{layer_there}
-use Rattle.switch_record_laws.specs.Written.{Books, asked_writes, act_writes, may_release_on, writes_at, books_after}
-pub use Rattle.switch_record_laws.proofs.Resting.{act_writes_are}
-use Rattle.switch_record_laws.proofs.Calming.{addresses}
+use Rattle.joined_call_laws.specs.Written.{Books, asked_writes, act_writes, may_release_on, writes_at, books_after}
+pub use Rattle.joined_call_laws.proofs.Resting.{act_writes_are}
+use Rattle.joined_call_laws.proofs.Calming.{addresses}
 use Rattle.joined_call_laws.specs.Calls.{JoinedCall, present_at, books_by, Stands, StandsOrEnded, AreCalls}
 use Rattle.joined_call_laws.proofs.Following.{Joining, Sends, IsQuietRequest, IsQuietAct, Connecting, KeptQuietly, KeptSending, KeptAccepting, KeptJoining}
 use Rattle.joined_call_laws.proofs.Steady.{Paired, Mutual}

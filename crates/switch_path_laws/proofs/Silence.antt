@@ -18,7 +18,7 @@ use Rattle.call_records.specs.Carried.{carried, unless_refused}
 use Rattle.call_records.specs.Writes.{Write, written_by, all_written}
 use Rattle.call_records.specs.Writes.Write.{Told, Placed, Asked, Said, Took, Cleared, Edited, AllClosed}
 use Rattle.book_laws.specs.Headline.{sent_by}
-use Rattle.switch_record_laws.proofs.Cells.{slot_records, slot_pairs}
+use Rattle.joined_call_laws.proofs.Cells.{slot_records, slot_pairs}
 use Rattle.joined_call_laws.proofs.Following.{IsQuietRequest}
 
 -- ---- a record

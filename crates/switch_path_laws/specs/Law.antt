@@ -22,9 +22,9 @@ use Rattle.switch_lines.specs.Switch.{Switch, on_frame, on_timer, elapse, restar
 use Rattle.switch_laws.specs.Turn.{AreOctets}
 use Rattle.switch_laws.specs.Steps.{Happening}
 use Rattle.switch_laws.specs.Steps.Happening.{Brings, RunsOut}
-use Rattle.switch_record_laws.specs.Written.{Books}
-use Rattle.switch_record_laws.specs.Kept.{Partner, Partners, BeginWith, line_with}
-use Rattle.switch_record_laws.specs.Tied.{Histories, IsTied, happened, restarted, gone_out, sent_out}
+use Rattle.joined_call_laws.specs.Written.{Books}
+use Rattle.joined_call_laws.specs.Kept.{Partner, Partners, BeginWith, line_with}
+use Rattle.joined_call_laws.specs.Tied.{Histories, IsTied, happened, restarted, gone_out, sent_out}
 use Rattle.joined_call_laws.specs.Calls.{JoinedCall}
 pub use Rattle.joined_call_laws.specs.Law.{calls_in, join_of_call, written_there}
 use Rattle.call_path_laws.specs.World.{Origin, World, Plan, AreBetween, all_traced, after_event, made_world}

@@ -14,8 +14,8 @@ use Rattle.book_laws.specs.Headline.{sent_by}
 use Rattle.register_laws.specs.Seen.{positions}
 use Rattle.switch_lines.specs.Lines.{SwitchLine}
 use Rattle.switch_lines.specs.Switch.{Switch}
-use Rattle.switch_record_laws.specs.Written.{Books}
-use Rattle.switch_record_laws.specs.Tied.{Histories, IsTied}
+use Rattle.joined_call_laws.specs.Written.{Books}
+use Rattle.joined_call_laws.specs.Tied.{Histories, IsTied}
 use Rattle.joined_call_laws.specs.Calls.{JoinedCall, AreCalls}
 use Rattle.call_path_laws.specs.World.{Origin, Join, World, Plan, AreAddressed}
 use Rattle.call_path_laws.specs.Seen.{Seen, IsJoined}

@@ -15,7 +15,7 @@ use Rattle.switch_lines.specs.Switch.{Switch}
 use Rattle.switch_laws.specs.Run.{configs, sabm}
 use Rattle.switch_laws.specs.Steps.Happening.{Brings}
 use Rattle.switch_lines.specs.Switch.{on_frame}
-use Rattle.switch_record_laws.specs.Run.{histories}
+use Rattle.joined_call_laws.specs.Run.{histories}
 use Rattle.call_path_laws.specs.World.{Origin, Plan, made_world, AreBetween, after_event, all_traced}
 use Rattle.call_path_laws.specs.World.Event.{Writes}
 use Rattle.call_path_laws.specs.Lines.{free_book}

@@ -6,14 +6,14 @@ use Rattle.link_timers.specs.declared.timers.TimerId.TheVariants as timer
 use Rattle.link_timers.specs.Timers.{Places}
 use Rattle.lapb.specs.declared.note.Timing.{Timing}
 use Rattle.lapb.specs.Machine.{can_offer, timing, settle}
-use Rattle.line_end.specs.End.{t1_ticks, timed, without_frames}
+use Rattle.packet_end.specs.End.{t1_ticks, timed, without_frames}
 use Rattle.packet_layer.specs.Packets.{CallParts}
 use Rattle.packet_layer.specs.Channel.{Request}
 use Rattle.packet_layer.specs.Layer.{next_packet}
 use Rattle.packet_end.specs.PacketEnd.{PacketEnd, begun, asked, called, relinked, with_next, offered, all_offered, settled}
-use Rattle.line_record_laws.proofs.DueCounts.{NoMore, no-more-same, stopped-more, started-more, brought-more}
-use Rattle.line_record_laws.proofs.DueEnds.{NoMoreDue, same-due, then-due, begun-due, either-due, received-due, timer-due, relinked-due, asked-due}
-use Rattle.line_record_laws.proofs.Happening.{all_offered_notes}
+use Rattle.switch_record_laws.proofs.DueCounts.{NoMore, no-more-same, stopped-more, started-more, brought-more}
+use Rattle.switch_record_laws.proofs.DueEnds.{NoMoreDue, same-due, then-due, begun-due, either-due, received-due, timer-due, relinked-due, asked-due}
+use Rattle.switch_record_laws.proofs.Happening.{all_offered_notes}
 use Rattle.node_laws.proofs.QuietEnds.{received_unread, timer_unread, asked_unread, called_unread}
 use Rattle.switch_lines.specs.Switch.{quieted, without_notes}
 use Rattle.switch_lines.proofs.Unread.{all_offered_read}

@@ -4,9 +4,9 @@ use Rattle.std.proofs.Common.{refl, arith}
 use Rattle.std.proofs.lemmas.Option.{none-some}
 use Rattle.link_timers.specs.declared.timers.TimerId.{TimerId}
 use Rattle.packet_end.specs.PacketEnd.{begun, due}
-use Rattle.line_record_laws.specs.Due.{TimersApart}
-use Rattle.line_record_laws.proofs.DueEnds.{IsFewer, due-expires}
-use Rattle.line_nodes.specs.Node.{Host}
+use Rattle.switch_record_laws.specs.Due.{TimersApart}
+use Rattle.switch_record_laws.proofs.DueEnds.{IsFewer, due-expires}
+use Rattle.node_laws.specs.Node.{Host}
 use Rattle.node_laws.specs.Quiet.{IsQuiet}
 use Rattle.node_laws.proofs.QuietTurns.{timers-apart}
 use Rattle.switch_lines.specs.Lines.{SwitchLine}

@@ -2,8 +2,8 @@
 use Rattle.std.specs.Prelude.{◌≡◌, ℕ, zero, suc, ◌<◌, ◌≤◌, List, [], ◌∷◌, map, slice_get, Some}
 use Rattle.std.proofs.Common.{sym, subst, arith}
 use Rattle.std.proofs.lemmas.Option.{none-some, same_Some}
-use Rattle.line_record_laws.specs.Due.{due_count}
-use Rattle.line_record_laws.proofs.DueEnds.{no-more-due}
+use Rattle.switch_record_laws.specs.Due.{due_count}
+use Rattle.switch_record_laws.proofs.DueEnds.{no-more-due}
 use Rattle.switch_lines.specs.Lines.{SwitchLine, changed}
 use Rattle.switch_record_laws.specs.DueTimers.{lines_due}
 use Rattle.switch_quiet_laws.proofs.Ends.{EndStays, end-same, end-then}

@@ -6,9 +6,9 @@ use Rattle.link_timers.specs.declared.role.Role.TheVariants.{Dce}
 use Rattle.lapb.specs.Machine.{Octets}
 use Rattle.packet_end.specs.PacketEnd.{PacketEnd, elapsed, without_first_frame}
 use Rattle.address_routes.specs.Routes.{RouteMap}
-use Rattle.line_record_laws.specs.Due.{TimersApart}
-use Rattle.line_record_laws.proofs.DueEnds.{stays-apart, made-apart, restarted-apart}
-use Rattle.line_nodes.specs.Node.{Host}
+use Rattle.switch_record_laws.specs.Due.{TimersApart}
+use Rattle.switch_record_laws.proofs.DueEnds.{stays-apart, made-apart, restarted-apart}
+use Rattle.node_laws.specs.Node.{Host}
 use Rattle.node_laws.specs.Due.{AreApart}
 use Rattle.node_laws.specs.Quiet.{IsQuiet}
 use Rattle.node_laws.proofs.QuietTurns.{timers-apart, quiet-elapses}

@@ -6,8 +6,8 @@ use Rattle.link_timers.specs.declared.role.Role.{Role}
 use Rattle.link_timers.specs.declared.role.Role.TheVariants.{Dte, Dce}
 use Rattle.call_records.specs.Records.{RecordValue, PairValue, with_closed, changed_at}
 use Rattle.call_records.specs.Book.{Book, Slot, side_of, nth_slot, with_nth, slot_at, with_slot, with_change, changed, with_record, closes, with_pair, answers}
-use Rattle.book_laws.proofs.Basics.{get_before, get_last, length_changed, length_pushed, number_is, is_role, role_is}
-use Rattle.book_laws.proofs.Writing.{slot_here, slot_else, slot_there, slot_changed, size_slot, size_changed, size_record}
+use Rattle.line_record_laws.proofs.Basics.{get_before, get_last, length_changed, length_pushed, number_is, is_role, role_is}
+use Rattle.line_record_laws.proofs.Writing.{slot_here, slot_else, slot_there, slot_changed, size_slot, size_changed, size_record}
 use Rattle.switch_laws.specs.Leg.{Leg}
 use Rattle.switch_record_laws.specs.Records.{IsRecordOf, HasRecord, AreApart, Has}
 

@@ -16,7 +16,7 @@ use Rattle.packet_layer.specs.Layer.{Layer, Timer, next_packet}
 use Rattle.packet_layer.specs.Events.{timer_named}
 use Rattle.packet_laws.specs.Readable.{Every, IfAny}
 use Rattle.packet_end.specs.PacketEnd.{PacketEnd, restarted, runs_at, with_next}
-use Rattle.line_laws.specs.Line as acts
+use Rattle.line_record_laws.specs.Line as acts
 use Rattle.line_record_laws.specs.Kept.{Kept}
 use Rattle.line_record_laws.proofs.Keeping.{silent_kept, restart_kept}
 use Rattle.switch_lines.specs.Lines.{SwitchLine, changed}

@@ -9,7 +9,7 @@ use Rattle.lapb.specs.declared.note.Note as link_note
 use Rattle.lapb.specs.declared.note.Note.TheVariants.{Nothing, Up, Down}
 use Rattle.lapb.specs.Machine.{Octets, on_t1}
 use Rattle.lapb.specs.Octets.{on_octets}
-use Rattle.line_end.specs.End.{End}
+use Rattle.packet_end.specs.End.{End}
 use Rattle.packet_codec.specs.Diagnostic.{no_information}
 use Rattle.packet_codec.specs.declared.fault.PacketFault.{PacketFault}
 use Rattle.packet_codec.specs.declared.fault.PacketFault.TheVariants as packet_fault

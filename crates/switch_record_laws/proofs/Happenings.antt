@@ -8,7 +8,7 @@ use Rattle.lapb.specs.declared.note.Note as link_note
 use Rattle.lapb.specs.declared.note.Note.TheVariants.{Nothing, Up, Down}
 use Rattle.lapb.specs.Machine.{Octets, on_t1, can_offer}
 use Rattle.lapb.specs.Octets.{on_octets}
-use Rattle.line_end.specs.End.{End}
+use Rattle.packet_end.specs.End.{End}
 use Rattle.packet_layer.specs.Packets.{Received, Note}
 use Rattle.packet_layer.specs.Octets.{heard}
 use Rattle.packet_layer.specs.Layer.{Layer, Timer, unread, link_up, link_down, on_received, next_packet}

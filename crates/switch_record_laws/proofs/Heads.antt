@@ -15,8 +15,8 @@ use Rattle.call_records.specs.Writes.{Write, all_sent, let_go, written_by}
 use Rattle.call_records.specs.Records.{RecordValue, new_record, changed_at, with_sent, with_interrupt_sent, with_taken, with_interrupt_taken, with_released, with_covered, with_epoch, with_closed, with_step}
 use Rattle.call_records.specs.Book.{Book, Slot, side_of, slot_at, with_slot, with_record, with_change, changed, closes, with_pair, takes, sends, told, all_told}
 use Rattle.call_records.specs.Carried.{carried, unless_refused, placed_on}
-use Rattle.book_laws.proofs.Basics.{get_before, get_last, number_is}
-use Rattle.book_laws.proofs.Writing.{slot_here, size_record}
+use Rattle.line_record_laws.proofs.Basics.{get_before, get_last, number_is}
+use Rattle.line_record_laws.proofs.Writing.{slot_here, size_record}
 use Rattle.switch_laws.specs.World.{Act, line_of, after_act}
 use Rattle.switch_laws.specs.Joined.{notes_made}
 use Rattle.switch_record_laws.specs.Written.{may_release_on, request_writes, writes, writes_at, books_after}

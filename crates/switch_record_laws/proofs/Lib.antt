@@ -1,3 +1,6 @@
+pub use Rattle.line_record_laws.proofs.DueCounts
+pub use Rattle.line_record_laws.proofs.DueEnds
+pub use Rattle.line_record_laws.proofs.Happening
 pub mod Cells
 pub mod Steps
 pub mod Notes

@@ -18,8 +18,8 @@ use Rattle.packet_laws.proofs.Line.Lines.{nth_same, nth_other}
 use Rattle.packet_laws.proofs.Line.Outcomes.{free_is, given_ready}
 use Rattle.call_records.specs.Book.{Book, slot_at, all_told}
 use Rattle.call_records.specs.Carried.{unless_refused, placed_on}
-use Rattle.book_laws.proofs.Basics.{number_is}
-use Rattle.book_laws.proofs.Writing.{Closes, closes_all, closed_all}
+use Rattle.line_record_laws.proofs.Basics.{number_is}
+use Rattle.line_record_laws.proofs.Writing.{Closes, closes_all, closed_all}
 use Rattle.switch_laws.specs.Leg.{Leg, asked, asked_unless, stepped, heard, misheard, gave}
 use Rattle.switch_laws.specs.World.{Shown, shown_of, shown_as, Agrees, Act, MayHappen, MayAsk, IsReadAs, layer_after, leg_after, closed, restarted, came_in, cleared_if, ran_out, is_channel, placed_if, gave_if}
 use Rattle.switch_laws.specs.World.Act.{Asks, Comes, Expires, GoesUp, GoesDown, Calls, Gives, Reads}

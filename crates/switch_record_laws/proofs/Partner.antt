@@ -12,7 +12,7 @@ use Rattle.packet_layer.specs.Layer.{Layer, channel_of}
 use Rattle.call_records.specs.Records.{with_sent, with_interrupt_sent, with_taken, with_interrupt_taken, with_released, with_epoch, with_step}
 use Rattle.call_records.specs.Book.{Book, side_of, slot_at, told, all_told, takes, sends, releases, closes, edits}
 use Rattle.call_records.specs.Carried.{carried, unless_refused, placed_on}
-use Rattle.book_laws.proofs.Basics.{other_differs}
+use Rattle.line_record_laws.proofs.Basics.{other_differs}
 use Rattle.call_records.specs.Closing.{closes_if, closes_present, closed_from}
 use Rattle.call_records.specs.Writes.{Write, all_sent, let_go, written_by, all_written}
 use Rattle.switch_laws.specs.Leg.{Leg}

@@ -16,7 +16,7 @@ use Rattle.switch_record_laws.specs.Run.{books, partners, histories, RunLaw}
 use Rattle.switch_record_laws.specs.Kept.{line_with}
 use Rattle.packet_codec.specs.Address.{MayBeDigits}
 use Rattle.packet_end.specs.Params.{AreParams}
-use Rattle.line_laws.specs.Line.{At, Sends, happens, made as made_ends}
+use Rattle.line_record_laws.specs.Line.{At, Sends, happens, made as made_ends}
 use Rattle.line_record_laws.specs.Kept.{Setting, Kept}
 use Rattle.line_record_laws.proofs.Keeping.{made_kept, silent_kept}
 use Rattle.switch_record_laws.proofs.Making.{made_records}

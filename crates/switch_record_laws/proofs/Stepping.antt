@@ -11,8 +11,8 @@ use Rattle.packet_layer.specs.Channel.{Channel, Request, Refusal, refusal, reque
 use Rattle.packet_layer.specs.Channel.Request.{Accept, Clearing, Resetting, Sending, Interrupting, Stopping, Taking, Releasing, Confirming}
 use Rattle.packet_layer.specs.Layer.{Layer, channel_of, nth_channel, with_nth, request, on_found, request_refusal, front_at, after_step}
 use Rattle.packet_end.specs.PacketEnd.{PacketEnd, begun, settled, elapsed, all_offered, asked, called, received, after_timer, relinked}
-use Rattle.line_laws.specs.Line as acts
-use Rattle.line_laws.specs.Line.{Line}
+use Rattle.line_record_laws.specs.Line as acts
+use Rattle.line_record_laws.specs.Line.{Line}
 use Rattle.call_records.specs.Book.{Book, all_told}
 use Rattle.call_records.specs.Carried.{carried, unless_refused}
 use Rattle.line_record_laws.specs.Kept.{Setting, Kept}

@@ -20,7 +20,7 @@ use Rattle.packet_laws.proofs.Naming.{counts_hold}
 use Rattle.call_records.specs.Records.{RecordValue, counted, with_sent, with_interrupt_sent, with_taken, with_interrupt_taken, with_released, with_covered, with_epoch, new_record}
 use Rattle.call_records.specs.Book.{Book, Slot, side_of, with_slot, with_record, changed, closes, renews, comes, places_from, answers, takes, releases, all_told}
 use Rattle.call_records.specs.Carried.{unless_refused}
-use Rattle.book_laws.proofs.Writing.{closed_here}
+use Rattle.line_record_laws.proofs.Writing.{closed_here}
 use Rattle.switch_laws.specs.Leg.{Leg, IsLeg, asked_unless, asked, stepped, heard_epoch}
 use Rattle.switch_laws.specs.World.{IsCallLeg, MayAsk}
 use Rattle.switch_laws.proofs.Standing.{leg_in}

@@ -3,7 +3,7 @@ use Rattle.std.specs.Prelude.{◌≡◌, ℕ, List, [], ◌∷◌, map, slice_ge
 use Rattle.std.proofs.Common.{refl, sym, ap, subst, ◌∙◌, option_map}
 use Rattle.packet_layer.specs.Layer.{Layer}
 use Rattle.packet_end.specs.PacketEnd.{PacketEnd}
-use Rattle.line_end.specs.End.{without_frames}
+use Rattle.packet_end.specs.End.{without_frames}
 use Rattle.packet_codec.specs.Address.{MayBeDigits}
 use Rattle.switch_lines.specs.Lines.{SwitchLine, changed}
 use Rattle.switch_lines.specs.Switch.{Switch, with_end, on_frame, on_timer, elapse, restart, without_joins, finished, acted, all_begun}

@@ -2,13 +2,13 @@
 use Rattle.std.specs.Prelude.{◌≡◌, ℕ, ◌==◌, if◌then◌else◌, Bool, List, [], ◌∷◌, ◌++◌, drop, slice_get, Some}
 use Rattle.link_timers.specs.declared.timers.TimerId.{TimerId}
 use Rattle.lapb.specs.Line.{chosen}
-use Rattle.line_end.specs.End.{without_frames}
+use Rattle.packet_end.specs.End.{without_frames}
 use Rattle.packet_codec.specs.Address.{MayBeDigits}
 use Rattle.lapb.specs.Machine.{Octets}
 use Rattle.packet_laws.specs.Readable.{CanBePlaced, Every}
 use Rattle.packet_end.specs.PacketEnd.{PacketEnd}
-use Rattle.line_laws.specs.Line.{Line, Restarts, other_after}
-use Rattle.line_record_laws.specs.Kept.{Setting, Kept}
+use Rattle.line_record_laws.specs.Line.{Line, Restarts, other_after}
+pub use Rattle.line_record_laws.specs.Kept.{Setting, Kept, beginning, end_at}
 use Rattle.switch_lines.specs.Lines.{SwitchLine, changed}
 use Rattle.switch_lines.specs.Switch.{Switch, on_frame, on_timer, elapse, restart, finished, acted, all_begun}
 use Rattle.switch_laws.specs.Turn.{AreOctets}

@@ -1,3 +1,5 @@
+pub use Rattle.line_record_laws.specs.Line
+pub use Rattle.line_record_laws.specs.Due
 pub mod Records
 pub mod Written
 pub mod Relayed

@@ -7,7 +7,7 @@ use Rattle.packet_layer.specs.Packets.Received.{Whole}
 use Rattle.packet_layer.specs.Channel.Request.{Accept, Taking, Sending, Releasing, Resetting}
 use Rattle.packet_laws.specs.Readable.{Every}
 use Rattle.packet_end.specs.PacketEnd.{made}
-use Rattle.line_end.specs.End.{without_frames}
+use Rattle.packet_end.specs.End.{without_frames}
 use Rattle.lapb.specs.Machine.{Octets}
 use Rattle.link_timers.specs.declared.role.Role.TheVariants.{Dte}
 use Rattle.call_records.specs.Records.{RecordValue}

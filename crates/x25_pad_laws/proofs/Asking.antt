@@ -19,7 +19,8 @@ use Rattle.call_records.specs.Book.{Book, takes, all_told}
 use Rattle.call_records.specs.Carried as book
 use Rattle.call_records.specs.Carried.{carried}
 use Rattle.call_records.specs.Writes.{Write, written_by, all_written, let_go}
-use Rattle.book_laws.proofs.Layers.{put_here}
+use Rattle.line_record_laws.proofs.Layers.{put_here}
+use Rattle.line_record_laws.proofs.Writing.{written_append}
 use Rattle.line_record_laws.specs.Kept.{Setting}
 use Rattle.line_record_laws.proofs.Views.{KeptAt, line_of, unseen}
 use Rattle.line_record_laws.proofs.Keeping.{front_kept}
@@ -34,10 +35,6 @@ use Rattle.pad_records.specs.Writing.{write_of, writes_of}
 use Rattle.x25_pad_laws.proofs.Selecting.{IsSelection, may_be_placed}
 
 -- ---- notes that are written, one after the other
-
-pub written_append : (role : Role) (xs ys : List Write) (b : Book) → all_written role (xs ++ ys) b ≡ all_written role ys (all_written role xs b)
-written_append role [] ys b = refl
-written_append role (x ∷ xs) ys b = written_append role xs ys (written_by role x b)
 
 abbrev pub noted : Role → List PadNote → Book → Book
 noted role ns b = all_written role (writes_of ns) b

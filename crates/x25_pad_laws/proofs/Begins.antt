@@ -8,7 +8,7 @@ use Rattle.link_timers.specs.Role.{other_of}
 use Rattle.pad_editing.specs.Edited.{edit_of}
 use Rattle.packet_layer.specs.Channel.{closed_channel}
 use Rattle.packet_layer.specs.Layer.{nth_channel, standing_channels}
-use Rattle.book_laws.specs.Headline.{has_call}
+use Rattle.line_record_laws.specs.Headline.{has_call}
 use Rattle.call_records.specs.Records.{RecordValue, new_record}
 use Rattle.call_records.specs.Book.{Book, Slot, free_slot, nth_slot, with_nth, new_book, standing_book, made_book}
 use Rattle.x25_pad.specs.Ports.{PortState, has_channel, new_port, call_on}

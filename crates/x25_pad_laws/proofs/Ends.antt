@@ -7,7 +7,7 @@ use Rattle.lapb.specs.declared.note.Note.TheVariants.{Nothing, Up, Down}
 use Rattle.lapb.specs.Machine as link
 use Rattle.lapb.specs.Machine.{Octets, can_offer}
 use Rattle.lapb.specs.Octets as link_octets
-use Rattle.line_end.specs.End as line
+use Rattle.packet_end.specs.End as line
 use Rattle.packet_layer.specs.Packets.{Note}
 use Rattle.packet_layer.specs.Layer.{Layer, link_up, link_down, next_packet}
 use Rattle.packet_layer.specs.Events.{timer_named, on_octets, on_named}

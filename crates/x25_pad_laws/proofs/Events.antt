@@ -11,7 +11,7 @@ use Rattle.packet_layer.specs.Packets.{Note}
 use Rattle.packet_end.specs.PacketEnd as end
 use Rattle.packet_end.specs.declared.params.EndParams.{EndParams}
 use Rattle.packet_end.specs.PacketEnd.{PacketEnd, begun, received, after_timer, relinked, finished, runs_at}
-use Rattle.line_laws.specs.Line.{Line, At, Elapses, Sends, happens, made as ends_made}
+use Rattle.line_record_laws.specs.Line.{Line, At, Elapses, Sends, happens, made as ends_made}
 use Rattle.call_records.specs.Book.{Book, all_told}
 use Rattle.line_record_laws.specs.Kept.{Setting, Kept, end_at, coming_to}
 use Rattle.line_record_laws.specs.Happens.{sent, with_event, with_restart}

@@ -11,7 +11,7 @@ use Rattle.packet_layer.specs.Channel.{Refusal}
 use Rattle.packet_layer.specs.Channel.Request.{Accept, Clearing}
 use Rattle.packet_layer.specs.Layer.{request, request_refusal, link_down, unread}
 use Rattle.packet_end.specs.PacketEnd.{PacketEnd, begun, received, after_timer, relinked, relinked_if_due, finished, runs_at}
-use Rattle.book_laws.proofs.Basics.{get_set}
+use Rattle.line_record_laws.proofs.Basics.{get_set}
 use Rattle.call_records.specs.Book.{Book}
 use Rattle.line_record_laws.proofs.Happening.{all_offered_notes}
 use Rattle.x25_pad.specs.Notes as notes

@@ -18,7 +18,7 @@ use Rattle.packet_layer.specs.Layer.Phase.{NoSession, OwnRestart, PacketReady}
 use Rattle.packet_layer.specs.Layer.Timer.{RestartTimer, CallTimer, ResetTimer, ClearTimer}
 use Rattle.packet_layer.specs.Events.{after_hearing, on_octets, on_named}
 use Rattle.packet_layer.specs.Octets.{heard}
-use Rattle.book_laws.specs.Headline.{has_call}
+use Rattle.line_record_laws.specs.Headline.{has_call}
 use Rattle.x25_pad_laws.proofs.Channels.{Tells, IncomingLast, NoneComes, StepTells, none_last, received_tells, unreadable_tells, expired_tells}
 
 -- ---- lists of channels

@@ -10,7 +10,7 @@ use Rattle.link_timers.specs.declared.role.Role.{Role}
 use Rattle.packet_layer.specs.Packets.{Note, Reason}
 use Rattle.packet_layer.specs.Packets.Note.{Incoming, Connected, Closed, WasReset, InterruptConfirmed, Covered}
 use Rattle.packet_layer.specs.Layer.{Layer}
-use Rattle.book_laws.proofs.Basics.{get_set}
+use Rattle.line_record_laws.proofs.Basics.{get_set}
 use Rattle.call_records.specs.Records.{with_epoch, with_covered}
 use Rattle.call_records.specs.Book.{Book, all_told, told, closes, renews, covers}
 use Rattle.pad_terminal.specs.Calls as calls

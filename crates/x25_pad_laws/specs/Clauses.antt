@@ -5,7 +5,7 @@ use Rattle.link_timers.specs.declared.role.Role.TheVariants.{Dte}
 use Rattle.link_timers.specs.declared.timers.TimerId.{TimerId}
 use Rattle.link_timers.specs.Role.{other_of}
 use Rattle.lapb.specs.Machine.{Octets}
-use Rattle.line_laws.specs.Line.{Line, At, Elapses, Sends, happens, made as ends_made}
+use Rattle.line_record_laws.specs.Line.{Line, At, Elapses, Sends, happens, made as ends_made}
 use Rattle.call_records.specs.Book.{Book, made_book}
 use Rattle.call_records.specs.Writes.Write.{AllClosed}
 use Rattle.line_record_laws.specs.Kept.{Setting, IsSetting, Kept, end_at, coming_to}

@@ -4,7 +4,7 @@ use Rattle.link_timers.specs.declared.role.Role.{Role}
 use Rattle.link_timers.specs.Role.{other_of}
 use Rattle.pad_editing.specs.Edited.{edit_of, limit}
 use Rattle.packet_layer.specs.Layer.{channel_of}
-use Rattle.book_laws.specs.Headline as calls
+use Rattle.line_record_laws.specs.Headline as calls
 use Rattle.call_records.specs.Records.{RecordValue}
 use Rattle.call_records.specs.Book.{Book, side_of, slot_at}
 use Rattle.pad_terminal.specs.Terminal.{has_call}

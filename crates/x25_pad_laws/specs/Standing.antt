@@ -4,7 +4,7 @@ use Rattle.link_timers.specs.declared.role.Role.{Role}
 use Rattle.link_timers.specs.Role.{other_of}
 use Rattle.lapb.specs.Machine.{Octets}
 use Rattle.packet_end.specs.PacketEnd.{PacketEnd}
-use Rattle.line_laws.specs.Line.{Line}
+use Rattle.line_record_laws.specs.Line.{Line}
 use Rattle.call_records.specs.Book.{Book}
 use Rattle.call_records.specs.Writes.{Write, all_written}
 use Rattle.line_record_laws.specs.Kept.{Setting, Kept, end_at, coming_to}
