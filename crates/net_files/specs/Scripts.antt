@@ -12,16 +12,12 @@ use Rattle.net_files.specs.declared.script.Script.{Script}
 use Rattle.net_files.specs.Values.{CommandValue, command_value}
 use Rattle.net_files.specs.CommandForm.{CommandForm}
 
--- the names of a network's nodes
-abbrev pub Names : Type 0
-Names = List (String Global)
-
 -- the name of a node
 abbrev pub node_name : NodeConfig → List ℕ
 node_name node = string_bytes node.name
 
 -- the names are those of the nodes, in order
-abbrev pub AreNamesOf : List NodeConfig → Names → Type 0
+abbrev pub AreNamesOf : List NodeConfig → List (String Global) → Type 0
 AreNamesOf nodes names = map string_bytes names ≡ map node_name nodes
 
 -- the lines of a text, each but the last ended by a line feed

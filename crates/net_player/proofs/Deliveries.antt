@@ -7,9 +7,8 @@ use Rattle.net_events.specs.declared.event.Event.{Event}
 use Rattle.net_events.specs.declared.event.Event.TheVariants.{Deliver}
 use Rattle.line_sim.specs.Network.{Network}
 use Rattle.line_sim.specs.Stepping.{FindsNoFrame}
-use Rattle.net_files.specs.Scripts.{Names}
 use Rattle.net_player.specs.InTurn.{InTurn, Writes}
-use Rattle.net_player.specs.Answers.{frames_text}
+use Rattle.answer_texts.specs.Answers.{Names, frames_text}
 use Rattle.net_player.specs.Playing.{Tells, Flowing, Delivers, has_arrived, deliveries_from, Passes, Flows}
 use Rattle.net_player.specs.Playing.Delivers.{at_limit, arrives, finds_none}
 use Rattle.net_player.specs.Playing.Flows.{again}

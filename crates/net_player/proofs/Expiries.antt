@@ -5,7 +5,7 @@ use Rattle.memory_line.specs.Lines.{LineService}
 use Rattle.net_events.specs.declared.event.Event.{Event}
 use Rattle.line_sim.specs.Network.{Network, all_elapsed}
 use Rattle.line_sim.specs.Due.{net_due}
-use Rattle.net_files.specs.Scripts.{Names}
+use Rattle.answer_texts.specs.Answers.{Names}
 use Rattle.net_player.specs.Playing.{TellsEvent, Expires, Ticks}
 use Rattle.net_player.specs.Playing.Expires.{none, next}
 use Rattle.net_player.specs.Stopping.{ExpiryStops}

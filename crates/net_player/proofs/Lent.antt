@@ -10,8 +10,7 @@ use Rattle.line_sim.specs.Network.{Network}
 use Rattle.line_sim.specs.DueCount.{all_due}
 use Rattle.line_sim.specs.Due.{net_due}
 use Rattle.line_sim.specs.Stepping.{lent, HasStepped}
-use Rattle.net_files.specs.Scripts.{Names}
-use Rattle.net_player.specs.Answers.{answer_text}
+use Rattle.answer_texts.specs.Answers.{Names, answer_text}
 use Rattle.net_player.specs.Playing.{Tells, has_arrived}
 
 module _ (L : LineService) (e : Event) (s t : Network) (r : Result (Bor Answer) StepFault) (w : HasStepped L e s (lent r) t) where

@@ -1,4 +1,3 @@
-pub mod Answers
 pub mod InTurn
 pub mod Playing
 pub mod Stopping

@@ -18,8 +18,7 @@ use Rattle.line_sim.specs.Happening.{Happens}
 use Rattle.net_files.specs.Commands.{CommandView}
 use Rattle.net_files.specs.Commands.{CommandView as command}
 use Rattle.net_files.specs.declared.script.Script.{Script}
-use Rattle.net_files.specs.Scripts.{Names}
-use Rattle.net_player.specs.Answers.{answer_text}
+use Rattle.answer_texts.specs.Answers.{Names, answer_text}
 use Rattle.net_player.specs.InTurn.{InTurn}
 
 -- whether a frame arrived

@@ -14,8 +14,7 @@ use Rattle.net_files.specs.declared.fault.ProgFault.TheVariants.{OutOfMemory, Wr
 use Rattle.net_files.specs.Commands.{CommandView}
 use Rattle.net_files.specs.Commands.{CommandView as command}
 use Rattle.net_files.specs.declared.script.Script.{Script}
-use Rattle.net_files.specs.Scripts.{Names}
-use Rattle.net_player.specs.Answers.{answer_text}
+use Rattle.answer_texts.specs.Answers.{Names, answer_text}
 use Rattle.net_player.specs.InTurn.{InTurn, StopsInTurn}
 use Rattle.net_player.specs.Playing.{key_events, TellsEvent, Flowing, Delivers, deliveries_from, Passes, Played}
 use Rattle.net_player.specs.Playing.{DoesCommand, end_line}

@@ -1,7 +1,6 @@
 //! Scripts played on networks, with what is printed, and the program that does so.
 #![tactic(auto)]
 
-mod answer;
 mod output;
 mod player;
 mod program;

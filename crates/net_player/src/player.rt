@@ -3,7 +3,7 @@ ghost use Rattle.std.specs.Prelude.{◌≡◌, ◌≤◌, ◌<◌, [], Some, Ok,
 ghost use Rattle.std.specs.Bool.{OnTrue};
 ghost use Rattle.std.specs.Io.KnownBytes.{Appends};
 ghost use Rattle.std.specs.List.{flat_map};
-ghost use Rattle.net_player.specs.Answers.{frame_text, note_text, frames_text, answer_text, outcome_text};
+ghost use Rattle.answer_texts.specs.Answers.{frame_text, note_text, frames_text, answer_text, outcome_text};
 ghost use Rattle.net_events.specs.declared.event.Event.{Event};
 ghost use Rattle.net_events.specs.declared.event.Event.TheVariants.{Deliver};
 ghost use Rattle.line_sim.specs.Network.{Network, all_elapsed};
@@ -19,8 +19,8 @@ ghost use Rattle.net_files.specs.Commands.{view_of};
 ghost use Rattle.net_player.specs.Stopping.{IsPlayFault, IsPartOf, StopsAt, DeliveryStops, PassStops, FlowStops};
 ghost use Rattle.net_player.specs.Stopping.{ExpiryStops, CommandStops, PlayStops};
 
-use crate::answer::{frame_text, note_text, outcome_line, prints_nothing, refusal_text};
 use crate::output::{write, write_octets};
+use answer_texts::{frame_text, note_text, outcome_line, prints_nothing, refusal_text};
 use line_nodes::{HostNote, TerminalEvent};
 use line_sim::{Answer, Direction, Event, Line, Net, Outcome, Put, StepFault};
 use net_files::{Command, Keys, ProgFault, Script};

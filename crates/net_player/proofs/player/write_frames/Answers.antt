@@ -2,7 +2,7 @@ use Rattle.std.proofs.Common.{ℕ, ◌<◌, List, take, length, arith}
 use Rattle.std.specs.List.{flat_map}
 use Rattle.std.proofs.lemmas.Result.{err_from_is_err_and}
 use Rattle.net_events.specs.declared.answer.Put.{Put}
-use Rattle.net_player.specs.Answers.{frame_text}
+use Rattle.answer_texts.specs.Answers.{frame_text}
 use Rattle.net_player.proofs.Parts.{told_next, told_some, writes_known, writes_behind}
 use Rattle.net_player.proofs.player.write_frames.Goals as goal
 

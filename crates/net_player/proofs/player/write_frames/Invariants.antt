@@ -1,7 +1,7 @@
 use Rattle.std.proofs.Common.{take}
 use Rattle.std.specs.List.{flat_map}
 use Rattle.std.specs.Io.KnownBytes.{Appends}
-use Rattle.net_player.specs.Answers.{frame_text}
+use Rattle.answer_texts.specs.Answers.{frame_text}
 use Rattle.net_player.proofs.player.write_frames.Given as goal
 
 -- the lines so far are written

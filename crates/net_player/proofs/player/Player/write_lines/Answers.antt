@@ -1,7 +1,7 @@
 use Rattle.std.proofs.Common.{ℕ, List}
 use Rattle.std.specs.List.{flat_map}
 use Rattle.std.proofs.lemmas.Result.{err_from_is_err_and}
-use Rattle.net_player.specs.Answers.{frames_text, note_text}
+use Rattle.answer_texts.specs.Answers.{frames_text, note_text}
 use Rattle.net_player.proofs.Turns.{writes_as}
 use Rattle.net_player.proofs.Parts.{told_before, told_behind, writes_behind, if_err_as}
 use Rattle.net_player.proofs.player.Player.write_lines.Goals as goal

@@ -2,7 +2,7 @@ use Rattle.std.proofs.Common.{ℕ, ◌<◌, List, take, length, arith}
 use Rattle.std.specs.List.{flat_map}
 use Rattle.std.proofs.lemmas.Result.{err_from_is_err_and}
 use Rattle.line_nodes.specs.declared.note.HostNote.{HostNote}
-use Rattle.net_player.specs.Answers.{note_text}
+use Rattle.answer_texts.specs.Answers.{note_text}
 use Rattle.net_player.proofs.Parts.{told_next, told_some, writes_known, writes_behind}
 use Rattle.net_player.proofs.player.Player.write_notes.Goals as goal
 

@@ -1,8 +1,8 @@
 use Rattle.std.proofs.Common.{take}
 use Rattle.std.specs.List.{flat_map}
 use Rattle.std.specs.Fmt.{HasWritten, IsPlainFormatter}
-use Rattle.net_player.specs.Answers.{spaced}
-use Rattle.net_player.proofs.answer.write_spaced.Given as goal
+use Rattle.answer_texts.specs.Answers.{spaced}
+use Rattle.answer_texts.proofs.answer.write_spaced.Given as goal
 
 -- the octets so far are written
 abbrev pub invariant-loop-octet : goal.invariant-loop-octet

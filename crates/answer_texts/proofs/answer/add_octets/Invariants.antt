@@ -1,7 +1,7 @@
 use Rattle.std.proofs.Common.{◌≡◌, ◌++◌, take}
 use Rattle.std.specs.List.{flat_map}
-use Rattle.net_player.specs.Answers.{shown}
-use Rattle.net_player.proofs.answer.add_octets.Given as goal
+use Rattle.answer_texts.specs.Answers.{shown}
+use Rattle.answer_texts.proofs.answer.add_octets.Given as goal
 
 -- the octets so far are added
 abbrev pub invariant-loop-octet : goal.invariant-loop-octet

@@ -3,23 +3,25 @@ ghost use Rattle.std.specs.Prelude.{◌≡◌, ◌<◌, ◌++◌, ◌∷◌, ℕ
 ghost use Rattle.std.specs.Bool.{OnTrue};
 ghost use Rattle.std.specs.List.{flat_map};
 ghost use Rattle.std.specs.Fmt.{WritesOnOk};
-ghost use Rattle.net_files.specs.Scripts.{Names};
-ghost use Rattle.net_player.specs.Answers.{quoted, shown, hex_digit, flags_of, taken_text};
-ghost use Rattle.net_player.specs.Answers.{name_of, outcome_text, refusal_text, node_refusal_text, way_of, spaced};
-ghost use Rattle.net_player.specs.Answers.{frame_text, note_text, happening};
+ghost use Rattle.answer_texts.specs.Answers.{Names, quoted, shown, hex_digit, flags_of, taken_text};
+ghost use Rattle.answer_texts.specs.Answers.{name_of, outcome_text, refusal_text, node_refusal_text, way_of, spaced};
+ghost use Rattle.answer_texts.specs.Answers.{frame_text, note_text, happening};
 
 use itoa::Buffer;
 use line_nodes::{HostNote, NodeFault, NoteKind};
-use line_sim::{Answer, Direction, Event, Outcome, PadAnswer, Put, StepFault};
+use memory_line::Direction;
+use net_events::{Answer, Event, Outcome, Put, StepFault};
 use packet_layer::{CallFault, ChannelFault, Front};
 use std::alloc::{AllocError, Global};
 use std::fmt;
+use x25_pad::PadAnswer;
 
 /// For how many octets the line of an outcome has room at first.
 const LINE_ROOM: usize = 64;
 
-/// Whether nothing is printed of an outcome: that of a delivery, and that of a key that was taken.
-pub(crate) fn prints_nothing(event: &Event, outcome: &Outcome) -> bool
+/// Whether it is certain that nothing is printed of an outcome, so that no line need be made: of that of a delivery, and
+/// of that of a key that was taken.
+pub fn prints_nothing(event: &Event, outcome: &Outcome) -> bool
     ensures { (names : Names) → (text : List ℕ) → OnTrue result (outcome_text names event.now outcome.now text ≡ []) }
 {
     match (event, outcome) {
@@ -30,7 +32,7 @@ pub(crate) fn prints_nothing(event: &Event, outcome: &Outcome) -> bool
 }
 
 /// The line of an outcome, by the names of the network's nodes: none for a key that was taken, nor for a delivery.
-pub(crate) fn outcome_line(
+pub fn outcome_line(
     alloc: Global,
     names: &[String],
     event: &Event,
@@ -141,8 +143,8 @@ fn add_octet(line: &mut Vec<u8>, octet: u8) -> Result<(), AllocError>
     }
 }
 
-/// The line of a frame that was put: its line, its direction and its octets.
-pub(crate) fn frame_text(alloc: Global, put: &Put) -> Result<String, AllocError>
+/// The line that traces a frame that was put: its line, its direction and its octets.
+pub fn frame_text(alloc: Global, put: &Put) -> Result<String, AllocError>
     ensures { IfOk result (λ text. string_bytes text ≡ frame_text put.now) }
 {
     let line = put.line;
@@ -161,12 +163,8 @@ fn way_of(direction: Direction) -> &'static str
     }
 }
 
-/// The line of what a host noted.
-pub(crate) fn note_text(
-    alloc: Global,
-    names: &[String],
-    note: &HostNote,
-) -> Result<String, AllocError>
+/// The line of what a host noted of a call, by the names of the network's nodes.
+pub fn note_text(alloc: Global, names: &[String], note: &HostNote) -> Result<String, AllocError>
     ensures { IfOk result (λ text. string_bytes text ≡ note_text names.now note.now) }
 {
     let name = node_name(names, note.node);
@@ -240,7 +238,7 @@ fn write_hex<W: fmt::Write>(f: &mut fmt::Formatter<W>, octet: u8) -> fmt::Result
 }
 
 /// The line of a refusal: its number and name.
-pub(crate) fn refusal_text(fault: StepFault) -> &'static str
+pub fn refusal_text(fault: StepFault) -> &'static str
     ensures { result.now ≡ refusal_text fault }
 {
     match fault {

@@ -1,7 +1,7 @@
 use Rattle.std.proofs.Common.{take, decimal}
 use Rattle.std.specs.List.{flat_map}
 use Rattle.std.specs.Fmt.{HasWritten, IsPlainFormatter}
-use Rattle.net_player.proofs.answer.write_digits.Given as goal
+use Rattle.answer_texts.proofs.answer.write_digits.Given as goal
 
 -- the digits so far are written
 abbrev pub invariant-loop-digit : goal.invariant-loop-digit

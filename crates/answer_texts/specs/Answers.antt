@@ -1,7 +1,8 @@
 -- The text of an answer.
 use Rattle.std.specs.Prelude.{ℕ, ◌+◌, ◌/◌, ◌%◌, ◌==◌, ◌&&◌, Bool, true, false, List, [], ◌∷◌, ◌++◌, Option, Some, None}
-use Rattle.std.specs.Prelude.{Result, Ok, Err, string_bytes, codes, decimal, slice_get, unwrap_or, nat_lt}
+use Rattle.std.specs.Prelude.{Result, Ok, Err, String, string_bytes, codes, decimal, slice_get, unwrap_or, nat_lt}
 use Rattle.std.specs.Prelude.{nat_le, if◌then◌else◌}
+use Rattle.std.specs.declared.alloc.Global.{Global}
 use Rattle.std.specs.Option.{option_map}
 use Rattle.std.specs.List.{flat_map}
 use Rattle.packet_layer.specs.declared.fault.CallFault.TheVariants.{NotReady, NoChannel}
@@ -25,7 +26,10 @@ use Rattle.net_events.specs.declared.answer.Outcome.TheVariants.{Typed, Printed,
 use Rattle.net_events.specs.declared.answer.Answer.{Answer}
 use Rattle.net_events.specs.declared.event.StepFault.{StepFault}
 use Rattle.net_events.specs.declared.event.StepFault.TheVariants as fault
-use Rattle.net_files.specs.Scripts.{Names}
+
+-- the names of a network's nodes
+abbrev pub Names : Type 0
+Names = List (String Global)
 
 -- the hexadecimal digit of a number below 16: 48 is `0`, 65 is `A`
 abbrev pub hex_digit : ℕ → ℕ
