@@ -19,8 +19,8 @@ use x25_pad::PadAnswer;
 /// For how many octets the line of an outcome has room at first.
 const LINE_ROOM: usize = 64;
 
-/// Whether it is certain that nothing is printed of an outcome, so that no line need be made: of that of a delivery, and
-/// of that of a key that was taken.
+/// Whether it is certain that nothing is printed of an outcome, so that no line need be made: of that of a delivery,
+/// and of that of a key that was taken.
 pub fn prints_nothing(event: &Event, outcome: &Outcome) -> bool
     ensures { (names : Names) → (text : List ℕ) → OnTrue result (outcome_text names event.now outcome.now text ≡ []) }
 {
