@@ -25,13 +25,15 @@ use Rattle.net_events.specs.declared.event.Event.TheVariants.{Deliver, Relink, R
 use Rattle.net_events.specs.declared.event.StepFault.{StepFault}
 use Rattle.net_events.specs.declared.event.StepFault.TheVariants.{OutOfMemory, NoSuchNode, NoSuchTerminal, NoSuchCall}
 use Rattle.net_nodes.specs.declared.nodes.LineEnd.{LineEnd}
-use Rattle.net_nodes.specs.Places.{EndStands, IsStanding, IsPlaceOf, is_host, is_host_at, terminals_of, terminals_there, pad_terminals, user_at}
+use Rattle.net_nodes.specs.Places.{EndStands, IsStanding, IsPlaceOf, is_host_at, pad_terminals, user_at}
+use Rattle.placed_nodes.specs.Node.{is_host, terminals_of, terminals_there}
 use Rattle.net_nodes.specs.Faults.{refused, step_fault, takes_memory, IsLeftToNode, MayWant, at_node, at_host, at_terminal, where_there_is, on_channel, is_channel_at}
 use Rattle.net_nodes.specs.Turns.{CanAct, AtEnd, IsRefusal, ActsSo, Acts}
 use Rattle.net_nodes.specs.Steps.{AtNode, StepOf, hearer}
 use Rattle.net_nodes.specs.Happening.{Happens}
 use Rattle.net_events.proofs.Users.{same_user, not_both}
-use Rattle.net_nodes.proofs.Places.{within, user_there}
+use Rattle.net_nodes.proofs.Places.{user_there}
+use Rattle.placed_nodes.proofs.Lists.{within}
 
 -- ---- the node of a place
 

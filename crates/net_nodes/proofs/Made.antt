@@ -19,11 +19,12 @@ use Rattle.net_events.specs.AtSwitch.{waiting_on}
 use Rattle.net_events.specs.Network.{NetNode, User, Switching, NetLine, Network}
 use Rattle.net_events.specs.Opening.{NewNode, NewSwitch, Planned, PlannedUser, PlannedSwitch, NewLine, NetPlan, IsUserPlan, IsSwitchPlan, IsPlan, NodeIsMade, LineIsMade, new_dce, placed_new, placed_switch, own_configs, line_plan}
 use Rattle.net_events.proofs.Users.{UserLine}
-use Rattle.net_nodes.specs.Places.{user_of}
-use Rattle.net_nodes.specs.Making.{waiting_switch, AreNew, HaveBegun, CanBegin, SwitchBegins, IsMadeOf}
-use Rattle.net_nodes.proofs.Places.{within, at_index}
-use Rattle.net_nodes.proofs.Plans.{SwitchLine, never_both, same_new_switch, which, own_line_of, own_there, config_at, configs_count}
-use Rattle.net_nodes.proofs.Making.{has_begun}
+use Rattle.placed_nodes.specs.Node.{user_of}
+use Rattle.net_nodes.specs.Making.{HaveBegun, CanBegin, SwitchBegins, IsMadeOf}
+use Rattle.placed_nodes.specs.Making.{waiting_switch, AreNew}
+use Rattle.placed_nodes.proofs.Lists.{within, at_index}
+use Rattle.placed_nodes.proofs.Plans.{SwitchLine, never_both, same_new_switch, which, own_line_of, own_there, config_at, configs_count}
+use Rattle.placed_nodes.proofs.NewNodes.{has_begun}
 
 -- the network of these nodes and lines
 abbrev of_plan : NetPlan → List NetNode → List NetLine → Network

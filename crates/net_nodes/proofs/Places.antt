@@ -1,23 +1,14 @@
 -- Where nodes stand, and what is at a place of a list.
-use Rattle.std.proofs.Common.{◌≡◌, ◌≢◌, ℕ, ◌<◌, zero, suc, List, [], ◌∷◌, length, Some, None, refl, sym, ap, ◌∙◌, subst, arith, get_or}
+use Rattle.std.proofs.Common.{◌≡◌, ◌≢◌, ℕ, ◌<◌, zero, suc, List, [], ◌∷◌, length, Some, None, refl, sym, ap, ◌∙◌, subst, arith}
 use Rattle.std.specs.Prelude.{slice_get, map, option_map, ◌⊎◌, Result, Ok, Err, OnErr}
 use Rattle.std.proofs.Common.{inl, inr}
-use Rattle.std.proofs.lemmas.Option.{same_Some, slice_get-get_or, none-some, slice_get-map}
+use Rattle.std.proofs.lemmas.Option.{same_Some, none-some, slice_get-map}
 use Rattle.link_timers.specs.declared.role.Role.{Role}
 use Rattle.link_timers.specs.declared.role.Role.TheVariants.{Dte, Dce}
 use Rattle.net_events.specs.Network.{PlacedNode, NetNode, User, Switching, NetLine, Network, StandsAtLine}
-use Rattle.net_nodes.specs.Places.{IsStanding, IsPlaceOf, EndStands, HearsAt, user_of, user_in, user_at}
-
-pub found : {X : Type 0} (xs : List X) (i : ℕ) (d x y : X) → i < length xs → x ≡ get_or xs i d → slice_get xs i ≡ Some y → x ≡ y
-found xs i d x y h is there = is ∙ same_Some (get_or xs i d) y (sym (slice_get-get_or xs i d h) ∙ there)
-
-pub there : {X : Type 0} (xs : List X) (i : ℕ) (d x : X) → i < length xs → x ≡ get_or xs i d → slice_get xs i ≡ Some x
-there xs i d x h is = slice_get-get_or xs i d h ∙ ap Some (sym is)
-
-pub within : {X : Type 0} (xs : List X) (i : ℕ) (x : X) → slice_get xs i ≡ Some x → i < length xs
-within [] i x e = absurd (none-some x e)
-within (y ∷ xs) zero x e = omega arith
-within (y ∷ xs) (suc i) x e = let h = within xs i x e in omega (arith, h)
+use Rattle.net_nodes.specs.Places.{IsStanding, IsPlaceOf, EndStands, HearsAt, user_in, user_at}
+use Rattle.placed_nodes.specs.Node.{user_of}
+use Rattle.placed_nodes.proofs.Lists.{within}
 
 pub none_from : {X : Type 0} (xs : List X) (i : ℕ) → (i < length xs → ⊥) → slice_get xs i ≡ None
 none_from [] i h = refl
@@ -54,11 +45,6 @@ mapped_err (Err e) f x = f x
 pub at_line : (place line : ℕ) (role : Role) (s : Network) {k : ℕ} → k ≡ line → IsPlaceOf place (record { line = k; role = role }) s
     → IsPlaceOf place (record { line = line; role = role }) s
 at_line place line role s e h = subst (λ i. IsPlaceOf place (record { line = i; role = role }) s) e h
-
-pub at_index : {X : Type 0} (xs : List X) (i : ℕ) → i < length xs → (x : X) × (slice_get xs i ≡ Some x)
-at_index [] i h = absurd (omega (arith, h))
-at_index (x ∷ xs) zero h = (x, refl)
-at_index (x ∷ xs) (suc i) h = at_index xs i (omega (arith, h))
 
 pub mapped : {X Y : Type 0} (f : X → Y) (xs : List X) (i : ℕ) (x : X) → slice_get xs i ≡ Some x → slice_get (map f xs) i ≡ Some (f x)
 mapped f xs i x e = slice_get-map f xs i ∙ ap (option_map f) e

@@ -20,13 +20,14 @@ use Rattle.net_events.specs.declared.answer.Put.{Put}
 use Rattle.net_turns.specs.Sends.{all_puts}
 use Rattle.net_turns.proofs.SwitchSending.{switched_lines}
 use Rattle.switch_laws.specs.Turn.{AreOctets}
-use Rattle.net_nodes.specs.Places.{EndStands, IsStanding, is_line, own_line_in, own_line_at, is_switch, is_switch_at}
+use Rattle.net_nodes.specs.Places.{EndStands, IsStanding, own_line_in, own_line_at, is_switch, is_switch_at}
+use Rattle.placed_nodes.specs.Node.{is_line}
 use Rattle.net_nodes.specs.Faults.{step_fault, where_there_is, stands_at}
 use Rattle.net_nodes.specs.Happening.{Happens}
 use Rattle.net_events.specs.declared.event.Event.TheVariants.{Deliver, Expire, Restart}
 use Rattle.net_nodes.specs.Steps.{AtSwitch}
 use Rattle.net_nodes.specs.Switching.{HasRoom, CanPut, LinesPut, is_anew, SwitchServed, CanSwitch, SwitchActed}
-use Rattle.net_nodes.proofs.Places.{within}
+use Rattle.placed_nodes.proofs.Lists.{within}
 use Rattle.net_nodes.proofs.Switching.{heard_lines, expired_lines, restarted_lines}
 
 abbrev switch_or : PlacedSwitch → NetNode → PlacedSwitch

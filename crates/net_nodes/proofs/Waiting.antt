@@ -14,7 +14,7 @@ use Rattle.net_events.specs.AtSwitch.{waiting_on, line_drained}
 use Rattle.net_events.specs.Network.{NetLine}
 use Rattle.net_events.specs.declared.answer.Put.{Put}
 use Rattle.net_turns.specs.Sends.{puts_on}
-use Rattle.net_nodes.proofs.Places.{at_index}
+use Rattle.placed_nodes.proofs.Lists.{at_index}
 use Rattle.net_nodes.proofs.Serving.{set_there}
 use Rattle.net_nodes.proofs.Switching.{AreApart, PutTo, put_none, put_one, drained_to, puts_to, puts_more}
 

@@ -12,7 +12,8 @@ use Rattle.net_events.specs.declared.event.Event.TheVariants.{Relink}
 use Rattle.net_events.specs.declared.event.Event.TheVariants.{Restart}
 use Rattle.net_events.specs.declared.event.StepFault.{StepFault}
 use Rattle.net_events.specs.declared.event.StepFault.TheVariants.{NoSuchNode, NoSuchTerminal, NoSuchCall, Refused}
-use Rattle.net_nodes.specs.Places.{is_host_at, pad_terminals, user_at, own_line}
+use Rattle.net_nodes.specs.Places.{is_host_at, pad_terminals, user_at}
+use Rattle.placed_nodes.specs.Node.{own_line}
 
 -- ---- where an event is
 

@@ -1,61 +1,17 @@
--- The stages of making a network: the nodes, whose first frames wait; then line by line these frames are put.
-use Rattle.std.specs.Prelude.{◌≡◌, ◌≢◌, ℕ, ◌<◌, ◌≤◌, Bool, false, List, [], ◌∷◌, length, map, set, slice_get, Some}
-use Rattle.std.specs.Prelude.{if◌then◌else◌, nat_lt}
+-- The stages of making a network of nodes that are made: line by line their first frames are put.
+use Rattle.std.specs.Prelude.{◌≡◌, ◌≢◌, ℕ, ◌<◌, false, List, length, map, set, slice_get, Some}
 use Rattle.packet_end.specs.declared.params.EndParams.{EndParams}
 use Rattle.call_records.specs.Register.{made_register}
 use Rattle.line_nodes.specs.Node.{NodeState, drained, frames_of}
 use Rattle.memory_line.specs.declared.line.Direction.{Direction}
 use Rattle.memory_line.specs.declared.line.Direction.TheVariants.{FromDte}
 use Rattle.memory_line.specs.Lines.{Flights, no_flights, LineService, ArePut}
-use Rattle.switch_lines.specs.Making.{made, IsConfig}
 use Rattle.net_events.specs.AtSwitch.{switch_drained}
 use Rattle.net_events.specs.Network.{PlacedNode, PlacedSwitch, NetNode, User, Switching, NetLine}
-use Rattle.net_events.specs.Opening.{NewNode, NewSwitch, Planned, PlannedUser, PlannedSwitch, NewLine, NetPlan, AreSent}
+use Rattle.net_events.specs.Opening.{NewNode, Planned, PlannedUser, PlannedSwitch, NewLine, NetPlan, AreSent}
 use Rattle.net_events.specs.Opening.{IsMade}
-use Rattle.net_events.specs.Opening.{new_node, new_dte, new_dce, placed_new, own_configs, line_plan}
+use Rattle.net_events.specs.Opening.{new_dte, new_dce, line_plan}
 use Rattle.net_nodes.specs.Switching.{LinesPut}
-
--- a node that was made, whose first frames wait
-abbrev pub waiting : NewNode → EndParams → PlacedNode
-waiting n params = record { line = n.line; node = new_node n params }
-
--- a switch that was made, whose first frames wait
-abbrev pub waiting_switch : NewSwitch → List NewLine → PlacedSwitch
-waiting_switch n lines = record { lines = n.lines; switch = made n.routes (own_configs n.lines lines) }
-
--- a node of the plan as it is made, its first frames waiting
-abbrev pub IsNewNode : NetPlan → Planned → NetNode → Type 0
-IsNewNode plan (PlannedUser n) node =
-    (l : NewLine) → slice_get plan.lines n.line ≡ Some l → node ≡ User (waiting n l.params)
-IsNewNode plan (PlannedSwitch n) node = node ≡ Switching (waiting_switch n plan.lines)
-
--- the node is one of the plan's
-pub record IsOfPlan (plan : NetPlan) (n : Planned) : Type 0 where
-  pub place : ℕ
-  pub there : slice_get plan.nodes place ≡ Some n
-
--- a line that is there, with an address
-pub record HasAddress (lines : List NewLine) (line : ℕ) : Type 0 where
-  pub line_is : NewLine
-  pub there : slice_get lines line ≡ Some line_is
-  pub some : 1 ≤ length line_is.address
-
--- the own lines of a switch can be made
-pub record CanMakeLines (own : List ℕ) (lines : List NewLine) : Type 0 where
-  pub config : IsConfig (own_configs own lines)
-  pub each : (at line : ℕ) → slice_get own at ≡ Some line → HasAddress lines line
-
--- its frames went where its line is one of the first so many
-abbrev pub begun_to : (lines : ℕ) → NewNode → EndParams → PlacedNode
-begun_to lines n params = if nat_lt n.line lines then placed_new n params else waiting n params
-
--- the nodes where so many lines have begun; a switch waits till all have
-pub record AreNew (begun : ℕ) (plan : NetPlan) (nodes : List NetNode) : Type 0 where
-  pub count : length nodes ≡ length plan.nodes
-  pub there : (place : ℕ) (n : NewNode) (l : NewLine) → slice_get plan.nodes place ≡ Some (PlannedUser n)
-      → slice_get plan.lines n.line ≡ Some l → slice_get nodes place ≡ Some (User (begun_to begun n l.params))
-  pub switches : (place : ℕ) (n : NewSwitch) → slice_get plan.nodes place ≡ Some (PlannedSwitch n)
-      → slice_get nodes place ≡ Some (Switching (waiting_switch n plan.lines))
 
 -- the first frames of the DTE were put on an empty line, and then those of a DCE with users
 abbrev pub AreFirst : LineService → (dte : NodeState) → EndParams → (dce : Planned) → Flights → Type 0
@@ -122,13 +78,3 @@ pub record SwitchBegins (L : LineService) (n : PlacedSwitch) (before : List NetL
 abbrev pub IsMadeOf : LineService → NetPlan → List NetNode → List NetLine → Type 0
 IsMadeOf L plan nodes lines =
     IsMade L plan (record { nodes = nodes; lines = lines; register = made_register (map line_plan plan.lines) })
-
--- ---- calls that stand
-
-abbrev pub stands : List NewLine → Bool
-stands [] = false
-stands (l ∷ lines) = l.params.standing
-
--- no call stands on any of these lines
-abbrev pub AreFree : List NewLine → Type 0
-AreFree lines = (line : ℕ) (l : NewLine) → slice_get lines line ≡ Some l → l.params.standing ≡ false

@@ -1,13 +1,12 @@
 -- Where the nodes of a network stand.
-use Rattle.std.specs.Prelude.{◌≡◌, ℕ, ◌==◌, ◌<◌, ◌⊎◌, Bool, false, not, length, slice_get, Option, Some, None, is_none}
-use Rattle.std.specs.List.{position}
+use Rattle.std.specs.Prelude.{◌≡◌, ℕ, ◌<◌, ◌⊎◌, Bool, false, length, slice_get, Option, Some, None, is_none}
 use Rattle.link_timers.specs.declared.role.Role.{Role}
 use Rattle.link_timers.specs.declared.role.Role.TheVariants.{Dte, Dce}
 use Rattle.net_turns.specs.Quiet.{IsQuiet}
-use Rattle.line_nodes.specs.Node.{NodeState, Pad, Host, is_pad}
 use Rattle.net_events.specs.Network.{PlacedNode, PlacedSwitch, NetNode, User, Switching, NetLine, Network, place_at}
 use Rattle.net_events.specs.Network.{Stands}
 use Rattle.net_nodes.specs.declared.nodes.LineEnd.{LineEnd}
+use Rattle.placed_nodes.specs.Node.{user_of, own_line, is_host, terminals_there}
 
 -- a node with users stands at the end of a role of a line, and neither a frame nor a note waits at it
 pub record EndStands (s : Network) (line : ℕ) (l : NetLine) (role : Role) : Type 0 where
@@ -41,11 +40,6 @@ pub record IsPlaceOf (place : ℕ) (end : LineEnd) (s : Network) : Type 0 where
   pub line_there : slice_get s.lines end.line ≡ Some line
   pub at_end : place_at end.role line ≡ place
 
--- the node with users at a place, if there is one
-abbrev pub user_of : NetNode → Option PlacedNode
-user_of (User n) = Some n
-user_of (Switching n) = None
-
 abbrev pub user_in : Option NetNode → Option PlacedNode
 user_in (Some n) = user_of n
 user_in None = None
@@ -59,14 +53,6 @@ is_switch None = false
 
 abbrev pub is_switch_at : ℕ → Network → Bool
 is_switch_at place s = is_switch (slice_get s.nodes place)
-
-abbrev pub is_line : (line own : ℕ) → Bool
-is_line line own = own == line
-
--- which of the own lines of a switch a line of the network is, if it is one
-abbrev pub own_line : (line : ℕ) → NetNode → Option ℕ
-own_line line (User n) = None
-own_line line (Switching n) = position (is_line line) n.lines
 
 abbrev pub own_line_in : (line : ℕ) → Option NetNode → Option ℕ
 own_line_in line (Some n) = own_line line n
@@ -90,22 +76,8 @@ pub record IsOwnLine (line place own : ℕ) (s : Network) : Type 0 where
   pub node_there : slice_get s.nodes place ≡ Some (Switching node)
   pub own_line : slice_get node.lines own ≡ Some line
 
--- a host is at this place
-abbrev pub is_host : Option PlacedNode → Bool
-is_host (Some n) = not (is_pad n.node)
-is_host None = false
-
 abbrev pub is_host_at : ℕ → Network → Bool
 is_host_at place s = is_host (user_at place s)
-
--- how many terminals the PAD at this place has, if there is one
-abbrev pub terminals_of : NodeState → Option ℕ
-terminals_of (Pad p) = Some (length p.ports)
-terminals_of (Host e) = None
-
-abbrev pub terminals_there : Option PlacedNode → Option ℕ
-terminals_there (Some n) = terminals_of n.node
-terminals_there None = None
 
 abbrev pub pad_terminals : ℕ → Network → Option ℕ
 pad_terminals place s = terminals_there (user_at place s)

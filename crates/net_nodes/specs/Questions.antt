@@ -1,20 +1,16 @@
 -- What may be asked of a network without changing it.
 use Rattle.std.specs.Prelude.{ℕ, ◌==◌, ◌&&◌, Bool, false, length, Option, Some, None}
 use Rattle.std.specs.List.{list_all}
-use Rattle.line_nodes.specs.Node.{node_rests, node_confirmed}
-use Rattle.switch_lines.specs.Switch.{switch_rests}
-use Rattle.net_events.specs.Network.{PlacedNode, NetNode, User, Switching, NetLine, Network}
+use Rattle.line_nodes.specs.Node.{node_confirmed}
+use Rattle.net_events.specs.Network.{PlacedNode, NetLine, Network}
 use Rattle.net_nodes.specs.Places.{user_at}
 use Rattle.net_nodes.specs.Faults.{is_channel_at}
+use Rattle.placed_nodes.specs.Node.{rests}
 
 -- the host of this place says that each packet with D = 1 was covered; of another node, and of no call, it is not so
 abbrev pub confirmed_at : (channel : ℕ) → Network → Option PlacedNode → Bool
 confirmed_at channel s None = false
 confirmed_at channel s (Some n) = is_channel_at n.line channel s && node_confirmed n.node channel
-
-abbrev pub confirmed_by : (channel : ℕ) → Option PlacedNode → Bool
-confirmed_by channel None = false
-confirmed_by channel (Some n) = node_confirmed n.node channel
 
 abbrev pub net_confirmed : (node channel : ℕ) → Network → Bool
 net_confirmed node channel s = confirmed_at channel s (user_at node s)
@@ -22,10 +18,6 @@ net_confirmed node channel s = confirmed_at channel s (user_at node s)
 -- no frame is in flight on the line
 abbrev pub is_empty : NetLine → Bool
 is_empty l = (length l.flights.from_dte == 0) && (length l.flights.from_dce == 0)
-
-abbrev pub rests : NetNode → Bool
-rests (User n) = node_rests n.node
-rests (Switching n) = switch_rests n.switch
 
 -- no frame is in flight on any line, and the nodes are at rest
 abbrev pub net_rests : Network → Bool

@@ -8,17 +8,16 @@ ghost use Rattle.net_nodes.specs.Happening.{Happens};
 
 mod asking;
 mod making;
-mod node;
 mod questions;
 mod serving;
 mod switching;
 mod turn;
 
-use crate::nodes::node::NetNode;
 use call_records::Register;
 use link_timers::Role;
 use memory_line::Line;
 use net_events::{Answer, Event, StepFault};
+use placed_nodes::NetNode;
 use std::marker::Model;
 
 /// A line between two nodes, which go by their places.

@@ -5,6 +5,8 @@ use Rattle.packet_layer.specs.Traffic.{Taken}
 use Rattle.packet_layer.specs.Traffic.Taken.{TakenInterrupt, TakenPacket}
 use Rattle.packet_layer.specs.Channel.{Request}
 use Rattle.packet_layer.specs.Channel.Request.{Sending, Interrupting}
+use Rattle.switch_lines.specs.declared.direction.Change.{Change}
+use Rattle.switch_lines.specs.declared.direction.Change.TheVariants.{Carried, Covered, Renewed}
 
 -- of each packet taken on the near leg and not released, in order, how many more packets of the far leg P(R) has to
 -- cover until this one is covered there, 0 for one with D = 0; and how many packets sent on the far leg are not covered
@@ -33,6 +35,12 @@ carried delivery v = record {
 -- P(R) covers n more packets of the far leg
 abbrev pub covered_by : ℕ → Direction → Direction
 covered_by n v = record { held = map (λ h. h - n) v.held; outstanding = v.outstanding - n }
+
+-- what a change makes of it
+abbrev pub after : Change → Direction → Direction
+after (Carried delivery) = carried delivery
+after (Covered n) = covered_by n
+after Renewed = λ _. new_direction
 
 -- how many packets may be released, in order: those before the first one that has to be covered
 abbrev pub releasable : List ℕ → ℕ

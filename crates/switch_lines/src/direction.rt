@@ -1,9 +1,20 @@
 //! What a switch keeps of one direction of a join, from one reset to the next (X.25 4.3.3).
 ghost use Rattle.std.specs.Prelude.{◌≡◌};
-ghost use Rattle.switch_lines.specs.Direction.{new_direction, carried, covered_by, releasable, released};
+ghost use Rattle.switch_lines.specs.Direction.{new_direction, carried, covered_by, after, releasable, released};
 
 use arrayvec::ArrayVec;
 use std::marker::Model;
+
+/// What changes what is kept of a direction.
+#[derive(Clone, Copy)]
+pub enum Change {
+    /// A packet that was taken is sent on: with D = 1 it waits until it is covered.
+    Carried { delivery: bool },
+    /// So many packets of the far leg are covered.
+    Covered(u8),
+    /// The direction begins anew, as after a reset.
+    Renewed,
+}
 
 /// The most packets of a call that are taken and not released: no window is larger.
 const MOST_HELD: usize = 7;
@@ -38,8 +49,19 @@ impl Direction {
         }
     }
 
-    /// A packet that was taken is sent on: with D = 1 it waits until it is covered.
-    pub(crate) fn carry(&mut self, delivery: bool)
+    /// Makes a change.
+    pub(crate) fn change(&mut self, change: Change)
+        ensures { self.new ≡ after change self.old }
+    {
+        match change {
+            Change::Carried { delivery } => self.carry(delivery),
+            Change::Covered(count) => self.cover(count),
+            Change::Renewed => *self = Direction::new(),
+        }
+    }
+
+    // A packet that was taken is sent on.
+    fn carry(&mut self, delivery: bool)
         ensures { self.new ≡ carried delivery self.old }
     {
         self.outstanding = self.outstanding.saturating_add(1);
@@ -49,8 +71,8 @@ impl Direction {
         }
     }
 
-    /// So many packets of the far leg are covered.
-    pub(crate) fn cover(&mut self, count: u8)
+    // So many packets of the far leg are covered.
+    fn cover(&mut self, count: u8)
         ensures { self.new ≡ covered_by count self.old }
     {
         self.outstanding = self.outstanding.saturating_sub(count);

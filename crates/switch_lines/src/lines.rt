@@ -7,7 +7,7 @@ ghost use Rattle.packet_layer.specs.RequestView.{request_of};
 ghost use Rattle.packet_layer.specs.TakenView.{maybe_front};
 ghost use Rattle.packet_end.specs.PacketEnd.{without_first_frame};
 ghost use Rattle.packet_end.specs.declared.fault.EndFault.TheVariants as fault_is;
-ghost use Rattle.switch_lines.specs.Direction.{new_direction, carried, covered_by};
+ghost use Rattle.switch_lines.specs.Direction.{after};
 ghost use Rattle.switch_lines.specs.Making.{IsConfig, made_line, shares_with};
 ghost use Rattle.switch_lines.specs.Lines.{joined_at, with_joined, ask, front_at, changed};
 ghost use Rattle.switch_lines.specs.Switch.{timer_runs, due_on, frames_on, with_end, line_rests};
@@ -22,6 +22,7 @@ mod telling;
 mod touched;
 
 use crate::config::LineConfig;
+use crate::direction::Change;
 use crate::line::SwitchLine;
 use crate::place::{Joined, Place};
 use arrayvec::ArrayVec;
@@ -216,30 +217,12 @@ impl Lines {
         }
     }
 
-    // A packet that was taken on a joined channel is sent on.
-    fn carry(&mut self, place: Place, delivery: bool)
-        ensures { self.new ≡ kept_at place (carried delivery) self.old }
+    // Changes what is kept of the direction from a joined channel.
+    fn change(&mut self, place: Place, change: Change)
+        ensures { self.new ≡ kept_at place (after change) self.old }
     {
         if place.line < self.lines.len() {
-            self.lines[place.line].carry(place.channel, delivery);
-        }
-    }
-
-    // So many packets are covered of those that were sent on from a joined channel.
-    fn cover(&mut self, place: Place, count: u8)
-        ensures { self.new ≡ kept_at place (covered_by count) self.old }
-    {
-        if place.line < self.lines.len() {
-            self.lines[place.line].cover(place.channel, count);
-        }
-    }
-
-    // A join begins anew in the direction from a channel, as after a reset.
-    fn renew(&mut self, place: Place)
-        ensures { self.new ≡ kept_at place (λ _. new_direction) self.old }
-    {
-        if place.line < self.lines.len() {
-            self.lines[place.line].renew(place.channel);
+            self.lines[place.line].change(place.channel, change);
         }
     }
 

@@ -1,10 +1,10 @@
 //! Channels by place, and joins.
 ghost use Rattle.std.specs.Prelude.{◌≡◌, None};
 ghost use Rattle.std.specs.Option.{option_map};
-ghost use Rattle.switch_lines.specs.Direction.{new_direction, carried, covered_by, releasable, released};
+ghost use Rattle.switch_lines.specs.Direction.{after, releasable, released};
 ghost use Rattle.switch_lines.specs.OfLine.{joined_with};
 
-use crate::direction::Direction;
+use crate::direction::{Change, Direction};
 use std::marker::Model;
 
 /// A logical channel of a line of a switch. Lines are numbered from 0, channels from 1.
@@ -70,30 +70,12 @@ impl JoinPlace {
         self.joined = joined;
     }
 
-    /// A packet that was taken is sent on.
-    pub(crate) fn carry(&mut self, delivery: bool)
-        ensures { self.new ≡ joined_with (carried delivery) self.old }
+    /// Changes what is kept of the direction from here, if the channel is joined.
+    pub(crate) fn change(&mut self, change: Change)
+        ensures { self.new ≡ joined_with (after change) self.old }
     {
         if let Some(joined) = &mut self.joined {
-            joined.kept.carry(delivery);
-        }
-    }
-
-    /// So many packets are covered of those that were sent on.
-    pub(crate) fn cover(&mut self, count: u8)
-        ensures { self.new ≡ joined_with (covered_by count) self.old }
-    {
-        if let Some(joined) = &mut self.joined {
-            joined.kept.cover(count);
-        }
-    }
-
-    /// The direction from here begins anew, as after a reset.
-    pub(crate) fn renew(&mut self)
-        ensures { self.new ≡ joined_with (λ _. new_direction) self.old }
-    {
-        if let Some(joined) = &mut self.joined {
-            joined.kept = Direction::new();
+            joined.kept.change(change);
         }
     }
 

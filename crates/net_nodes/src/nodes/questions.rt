@@ -6,7 +6,8 @@ ghost use Rattle.call_records.specs.RecordView.{shown, pair_of};
 ghost use Rattle.net_events.specs.Network.{all_elapsed};
 ghost use Rattle.net_nodes.specs.Due.{net_due};
 ghost use Rattle.net_nodes.specs.Happening.{FindsNone};
-ghost use Rattle.net_nodes.specs.Questions.{net_confirmed, net_rests, is_empty, rests};
+ghost use Rattle.net_nodes.specs.Questions.{net_confirmed, net_rests, is_empty};
+ghost use Rattle.placed_nodes.specs.Node.{rests};
 
 use crate::nodes::{NetLine, Nodes};
 use call_records::{Pair, Record};

@@ -11,13 +11,13 @@ ghost use Rattle.net_nodes.specs.Steps.{switch_outcome};
 ghost use Rattle.net_nodes.specs.Switching.{HasRoom, CanPut, LinesPut, is_anew, CanServeSwitch, SwitchServed};
 ghost use Rattle.net_nodes.specs.Switching.{CanSwitch, SwitchActed};
 
-use crate::nodes::node::{NetNode, NodeKind, network_line};
 use crate::nodes::{NetLine, Nodes};
 use call_records::Register;
 use line_end::MOST_FRAMES;
 use memory_line::Line;
 use net_events::{Answer, Outcome, Put, SwitchEvent};
 use net_turns::{call_switch, make_frame_room, put_switch_frames};
+use placed_nodes::{NetNode, NodeKind, network_line};
 use std::alloc::AllocError;
 use x25_switch::{NewJoin, Switch};
 

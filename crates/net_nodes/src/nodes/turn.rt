@@ -9,7 +9,6 @@ ghost use Rattle.net_turns.specs.Outcomes.{IsAnswered, text_of};
 ghost use Rattle.net_turns.specs.Served.{IsEmpty, HasPlaces, EventHasPlaces};
 ghost use Rattle.net_nodes.specs.Turns.{IsServable, UserServed, CanServe, HadTurn, HadNone, CanAct, LeavesLine, Acts};
 
-use crate::nodes::node::{NetNode, NodeKind};
 use crate::nodes::{LineEnd, NetLine, Nodes};
 use call_records::{Book, Register};
 use line_nodes::{NodeFault, Place, TerminalEvent};
@@ -17,6 +16,7 @@ use link_timers::Role;
 use memory_line::Line;
 use net_events::{Answer, NodeEvent, StepFault};
 use net_turns::{MOST_TAKEN, MOST_TEXT, MOST_WRITES, NetPlace, make_room, serve};
+use placed_nodes::{NetNode, NodeKind};
 
 /// Serves an event at a node with users.
 #[inline(always)]

@@ -1,13 +1,14 @@
 //! The joins of the channels of a line.
 ghost use Rattle.std.specs.Prelude.{◌≡◌, ◌+◌, ◌<◌, None, Option, MatchOption, length};
 ghost use Rattle.std.specs.Option.{option_map};
-ghost use Rattle.switch_lines.specs.Direction.{new_direction, carried, covered_by, releasable, released};
+ghost use Rattle.switch_lines.specs.Direction.{after, releasable, released};
 ghost use Rattle.flow_window.specs.Pool.{Balances};
 ghost use Rattle.packet_end.specs.Pooled.{Serves};
 ghost use Rattle.switch_lines.specs.Pooled.{on_line};
 ghost use Rattle.switch_lines.specs.Lines.{Joined as JoinedValue, nth_joined, with_nth_joined};
 ghost use Rattle.switch_lines.specs.OfLine.{kept_on, freed_on};
 
+use crate::direction::Change;
 use crate::line::SwitchLine;
 use crate::place::{Joined, Place};
 use flow_window::pool::Pool;
@@ -32,30 +33,12 @@ impl SwitchLine {
         }
     }
 
-    /// A packet that was taken on a joined channel is sent on.
-    pub(crate) fn carry(&mut self, channel: u8, delivery: bool)
-        ensures { self.new ≡ on_line (kept_on channel (carried delivery)) self.old }
+    /// Changes what is kept of the direction from a joined channel.
+    pub(crate) fn change(&mut self, channel: u8, change: Change)
+        ensures { self.new ≡ on_line (kept_on channel (after change)) self.old }
     {
         if let Some(place) = self.place(channel) {
-            self.joined[place].carry(delivery);
-        }
-    }
-
-    /// So many packets are covered of those that were sent on from a joined channel.
-    pub(crate) fn cover(&mut self, channel: u8, count: u8)
-        ensures { self.new ≡ on_line (kept_on channel (covered_by count)) self.old }
-    {
-        if let Some(place) = self.place(channel) {
-            self.joined[place].cover(count);
-        }
-    }
-
-    /// The direction from a channel begins anew, as after a reset.
-    pub(crate) fn renew(&mut self, channel: u8)
-        ensures { self.new ≡ on_line (kept_on channel (λ _. new_direction)) self.old }
-    {
-        if let Some(place) = self.place(channel) {
-            self.joined[place].renew();
+            self.joined[place].change(change);
         }
     }
 

@@ -5,6 +5,7 @@ ghost use Rattle.switch_lines.specs.Alone.{relayed_alone};
 ghost use Rattle.switch_lines.specs.Lines.{joined_at, front_at};
 ghost use Rattle.switch_lines.specs.Relay.{moved, relayed, relayed_from, both_legs, legs_at, places_of};
 
+use crate::direction::Change;
 use crate::lines::Lines;
 use crate::place::Place;
 use packet_layer::{Request, TakenBuf};
@@ -45,7 +46,7 @@ impl Lines {
                 let delivery = packet.delivery();
                 self.touched.insert(other.line);
                 self.lines[other.line].send_packet(other.channel, packet, &mut self.pool);
-                self.carry(place, delivery);
+                self.change(place, Change::Carried { delivery });
             }
             None => {}
         }

@@ -5,6 +5,7 @@ ghost use Rattle.packet_layer.specs.Packets.{Note as note};
 ghost use Rattle.switch_lines.specs.Relay.{told};
 
 use crate::causes::{far_clear_cause, far_diagnostic, far_reset_cause};
+use crate::direction::Change;
 use crate::lines::Lines;
 use crate::place::Place;
 use packet_layer::{Reason, Request};
@@ -52,8 +53,8 @@ impl Lines {
             diagnostic: far_diagnostic(reason, diagnostic),
         };
         self.ask(other, &request);
-        self.renew(place);
-        self.renew(other);
+        self.change(place, Change::Renewed);
+        self.change(other, Change::Renewed);
     }
 
     // The interrupt that was sent on a channel is confirmed there: so is the one that was taken on the other leg.
@@ -73,7 +74,7 @@ impl Lines {
         ensures { self.new ≡ told (note.Covered place.channel count) place self.old }
     {
         if let Some(other) = self.other(place) {
-            self.cover(other, count);
+            self.change(other, Change::Covered(count));
             self.release(other);
         }
     }

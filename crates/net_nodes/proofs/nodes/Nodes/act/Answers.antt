@@ -4,7 +4,7 @@ use Rattle.call_records.specs.RegisterView.{register_of}
 use Rattle.net_events.specs.EventView.{event_of}
 use Rattle.net_events.specs.Network.{NetLine, place_at}
 use Rattle.net_nodes.specs.Turns.{CanAct}
-use Rattle.net_nodes.proofs.Places.{found, within}
+use Rattle.placed_nodes.proofs.Lists.{found, within}
 use Rattle.net_nodes.proofs.Acting.{places_more, can_serve, acts, can_is_for, turned_from}
 use Rattle.net_nodes.proofs.nodes.Nodes.act.Goals as goal
 

@@ -4,7 +4,7 @@ use Rattle.memory_line.specs.Lines.{flying}
 use Rattle.net_events.specs.Network.{Network, NetLine}
 use Rattle.net_nodes.specs.Places.{HearsAt}
 use Rattle.net_nodes.specs.Steps.{hearer}
-use Rattle.net_nodes.proofs.Places.{there}
+use Rattle.placed_nodes.proofs.Lists.{there}
 use Rattle.net_nodes.proofs.Happening.{registered_at, nothing_arrives}
 use Rattle.net_nodes.proofs.SwitchTurns.{own_line_found, no_own_line}
 use Rattle.net_nodes.proofs.nodes.Nodes.deliver.Goals as goal

@@ -6,7 +6,7 @@ use Rattle.net_events.specs.AtSwitch.{Hears, HasOwnLine}
 use Rattle.net_events.specs.Network.{Network}
 use Rattle.net_nodes.specs.Faults.{where_there_is}
 use Rattle.net_nodes.specs.Places.{IsStanding}
-use Rattle.net_nodes.proofs.Places.{there, within}
+use Rattle.placed_nodes.proofs.Lists.{there, within}
 use Rattle.net_nodes.proofs.SwitchTurns.{can_switch, can_hear, heard}
 use Rattle.net_nodes.proofs.nodes.Nodes.deliver_to_switch.Goals as goal
 

@@ -2,7 +2,7 @@ use Rattle.std.proofs.Common.{◌<◌, length, slice_get, sym, ap, ◌∙◌, ar
 use Rattle.std.proofs.lemmas.Bool.{OnTrue_from}
 use Rattle.memory_line.specs.Lines.{flying}
 use Rattle.net_events.specs.Network.{Network, NetLine}
-use Rattle.net_nodes.proofs.Places.{there}
+use Rattle.placed_nodes.proofs.Lists.{there}
 use Rattle.net_nodes.proofs.Happening.{nothing_arrives}
 use Rattle.net_nodes.proofs.nodes.Nodes.finds_none.Goals as goal
 

@@ -1,7 +1,7 @@
 use Rattle.std.proofs.Common.{Ok, ◌<◌, length, ap, arith}
 use Rattle.std.specs.Result.{result_and}
 use Rattle.net_events.specs.Network.{Network}
-use Rattle.net_nodes.proofs.Places.{at_index}
+use Rattle.placed_nodes.proofs.Lists.{at_index}
 use Rattle.net_nodes.proofs.Happening.{can_relink, relinked}
 use Rattle.net_nodes.proofs.nodes.Nodes.relink.Goals as goal
 

@@ -4,7 +4,7 @@ use Rattle.call_records.specs.RegisterView.{register_of}
 use Rattle.net_events.specs.NodeEvents.{Restarts}
 use Rattle.net_events.specs.Network.{NetLine, place_at}
 use Rattle.net_nodes.specs.Places.{IsStanding, IsPlaceOf}
-use Rattle.net_nodes.proofs.Places.{found, within}
+use Rattle.placed_nodes.proofs.Lists.{found, within}
 use Rattle.net_nodes.proofs.Acting.{can_serve, acts_anew, turned_from, same_place}
 use Rattle.net_nodes.proofs.Happening.{registered_at, quiet_at, at_end_of, began_anew}
 use Rattle.net_nodes.proofs.nodes.Nodes.restart_user.Goals as goal

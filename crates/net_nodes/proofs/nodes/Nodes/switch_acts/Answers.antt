@@ -3,7 +3,7 @@ use Rattle.std.specs.Prelude.{vec_capacity}
 use Rattle.net_events.specs.EventView.{switch_event_of}
 use Rattle.net_events.specs.Network.{NetNode, Switching}
 use Rattle.net_nodes.specs.Switching.{CanSwitch}
-use Rattle.net_nodes.proofs.Places.{found, within}
+use Rattle.placed_nodes.proofs.Lists.{found, within}
 use Rattle.net_nodes.proofs.nodes.Nodes.switch_acts.Goals as goal
 
 pub serve_switch-requires : goal.serve_switch-requires

@@ -5,7 +5,7 @@ use Rattle.line_nodes.specs.Node.{frames_of}
 use Rattle.net_events.specs.Network.{User, Switching}
 use Rattle.net_events.specs.Opening.{NewLine}
 use Rattle.book_laws.proofs.Basics.{set_elsewhere}
-use Rattle.net_nodes.proofs.Places.{found, within}
+use Rattle.placed_nodes.proofs.Lists.{found, within}
 use Rattle.net_nodes.proofs.nodes.making.begin.Goals as goal
 
 pub returns-clause-users : goal.returns-clause-users

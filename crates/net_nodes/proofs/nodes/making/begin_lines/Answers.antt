@@ -1,10 +1,11 @@
 use Rattle.std.proofs.Common.{◌≡◌, ℕ, ◌<◌, suc, ◌++◌, [], ◌∷◌, List, length, vec_len, slice_get, Some, inl, inr, sym, ap, ◌∙◌, subst, arith}
 use Rattle.net_events.specs.Network.{NetLine}
 use Rattle.net_events.specs.Opening.{NewNode, PlannedUser, PlannedSwitch, NewLine, NetPlan}
-use Rattle.net_nodes.specs.Making.{waiting, waiting_switch, AreNew, HaveBegun}
-use Rattle.net_nodes.proofs.Places.{there}
+use Rattle.net_nodes.specs.Making.{HaveBegun}
+use Rattle.placed_nodes.specs.Making.{waiting, waiting_switch, AreNew}
+use Rattle.placed_nodes.proofs.Lists.{there}
 use Rattle.net_nodes.proofs.Making.{none_begun, ends_of, waits_at, one_more, one_more_at_switch, first_of_users, first_at_switch, line_more}
-use Rattle.net_nodes.proofs.Plans.{which}
+use Rattle.placed_nodes.proofs.Plans.{which}
 use Rattle.net_nodes.proofs.nodes.making.begin_lines.Goals as goal
 
 pub loop-line-init : goal.loop-line-init

@@ -1,6 +1,7 @@
 -- The lines so far have begun, with the nodes at their ends.
 use Rattle.std.proofs.Common.{◌≡◌, ◌+◌, length, vec_len}
-use Rattle.net_nodes.specs.Making.{AreNew, HaveBegun}
+use Rattle.net_nodes.specs.Making.{HaveBegun}
+use Rattle.placed_nodes.specs.Making.{AreNew}
 use Rattle.net_nodes.proofs.nodes.making.begin_lines.Given as goal
 
 abbrev pub invariant-loop-line : goal.invariant-loop-line

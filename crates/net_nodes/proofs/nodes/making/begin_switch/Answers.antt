@@ -1,7 +1,7 @@
 use Rattle.std.proofs.Common.{◌≡◌, ℕ, List, length, sym, ap, ◌∙◌, subst, arith}
 use Rattle.std.specs.Prelude.{vec_capacity}
 use Rattle.net_events.specs.Network.{PlacedSwitch}
-use Rattle.net_nodes.specs.NodeView.{kind_of}
+use Rattle.placed_nodes.specs.NodeView.{kind_of}
 use Rattle.net_nodes.specs.Switching.{CanPut}
 use Rattle.net_nodes.proofs.nodes.making.begin_switch.Goals as goal
 

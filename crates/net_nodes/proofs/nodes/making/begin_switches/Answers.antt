@@ -2,8 +2,9 @@ use Rattle.std.proofs.Common.{◌≡◌, Some, sym, ap, ◌∙◌, subst}
 use Rattle.std.specs.Prelude.{is_none}
 use Rattle.std.specs.List.{position}
 use Rattle.net_events.specs.Network.{PlacedSwitch, NetNode, Switching}
-use Rattle.net_nodes.specs.Places.{user_of}
-use Rattle.net_nodes.specs.Making.{waiting_switch, CanBegin}
+use Rattle.placed_nodes.specs.Node.{user_of}
+use Rattle.net_nodes.specs.Making.{CanBegin}
+use Rattle.placed_nodes.specs.Making.{waiting_switch}
 use Rattle.net_nodes.proofs.SwitchTurns.{same_switch}
 use Rattle.net_nodes.proofs.Made.{made_without, made_with, can_begin, switch_planned, found_there, none_found, mapped_ok}
 use Rattle.net_nodes.proofs.nodes.making.begin_switches.Goals as goal

@@ -6,7 +6,7 @@ use Rattle.switch_lines.specs.Lines.{changed}
 use Rattle.switch_lines.specs.Switch.{Switch, frames_on}
 use Rattle.net_events.specs.AtSwitch.{waiting_on, line_drained}
 use Rattle.net_turns.specs.Sends.{puts_on}
-use Rattle.net_nodes.proofs.Places.{there, at_index}
+use Rattle.placed_nodes.proofs.Lists.{there, at_index}
 use Rattle.net_nodes.proofs.Switching.{drained_to, drained_more, waits_still, drained_all, length_drained, puts_to, puts_more, puts_all, put_none, put_next, put_all}
 use Rattle.net_nodes.proofs.nodes.switching.put_anew.Goals as goal
 

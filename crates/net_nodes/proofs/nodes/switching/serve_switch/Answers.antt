@@ -4,7 +4,7 @@ use Rattle.std.specs.Option.{option_to_list}
 use Rattle.net_events.specs.AtSwitch.{HasOwnLine}
 use Rattle.net_events.specs.EventView.{switch_event_of}
 use Rattle.net_events.specs.Network.{PlacedSwitch}
-use Rattle.net_nodes.specs.NodeView.{kind_of}
+use Rattle.placed_nodes.specs.NodeView.{kind_of}
 use Rattle.net_nodes.specs.Switching.{CanPut}
 use Rattle.net_nodes.proofs.SwitchTurns.{switch_is, served_so, can_put_then}
 use Rattle.net_nodes.proofs.nodes.switching.serve_switch.Goals as goal

@@ -2,7 +2,8 @@ use Rattle.std.proofs.Common.{◌≡◌, ap, ◌∙◌, sym, slice_get, refl}
 use Rattle.call_records.specs.Room.{BookState}
 use Rattle.net_events.specs.EventView.{event_of}
 use Rattle.net_events.specs.Network.{User, NetLine, place_at}
-use Rattle.net_nodes.proofs.Places.{found, within, mapped_err}
+use Rattle.net_nodes.proofs.Places.{mapped_err}
+use Rattle.placed_nodes.proofs.Lists.{found, within}
 use Rattle.net_nodes.proofs.Serving.{user_answered, user_refused}
 use Rattle.net_nodes.proofs.nodes.turn.serve_at.Goals as goal
 use Rattle.net_nodes.proofs.nodes.turn.serve_at.Goals.{in-Dte, in-Dce, in-Ok, in-Err}

@@ -7,7 +7,7 @@ use Rattle.net_events.specs.EventView.{event_of}
 use Rattle.net_events.specs.NodeEvents.{IsFor}
 use Rattle.net_events.specs.Network.{PlacedNode}
 use Rattle.net_events.proofs.Users.{user_is}
-use Rattle.net_nodes.specs.NodeView.{kind_of}
+use Rattle.placed_nodes.specs.NodeView.{kind_of}
 use Rattle.net_turns.specs.Outcomes.{IsAnswered, text_of}
 use Rattle.net_nodes.proofs.Serving.{user_served}
 use Rattle.net_nodes.proofs.nodes.turn.serve_user.Goals as goal

@@ -152,8 +152,8 @@ returns-in-Some-Data c =
     let sent = one_changed (with_end (λ e. asked e q.channel (Sending d))) ys (plain ys) q.line
     c.index_mut-in-Some-Data.result.now c.send_packet.new.self refl inside c.index_mut-in-Some-Data.ensures.value
     c.send_packet.ensures.line in
-    let carried_on = c.carry.ensures
+    let carried_on = c.change.ensures
     ∙ ap₂ (λ (b : Bool) (ls : List SwitchLine). kept_at c.args.place (carried b) ls) c.delivery-delivery.ensures
     (sent ∙ ap (λ (ls : List SwitchLine). ask q (Sending d) ls) taken) in
-    subst (λ (o : Option TakenValue). MovesFront o c.args.place q c.args.self.now c.carry.new.self) front
+    subst (λ (o : Option TakenValue). MovesFront o c.args.place q c.args.self.now c.change.new.self) front
     (carried_on, c.send_packet.ensures.fits)

@@ -1,9 +1,0 @@
-use Rattle.std.proofs.Common.{Some, sym, ap, ◌∙◌}
-use Rattle.net_plans.specs.PlannedView.{planned_value}
-use Rattle.net_nodes.proofs.Plans.{can_make}
-use Rattle.net_nodes.proofs.nodes.making.new_kind.Goals as goal
-
-pub new_switch-requires : goal.new_switch-requires
-new_switch-requires c =
-    can_make c.args.plan.now c.requires.there.place c.in-Switch.switch c.requires.plan
-    (c.requires.there.there ∙ ap Some (sym c.node.view_is ∙ ap planned_value c.in-Switch.is))

@@ -1,0 +1,4 @@
+pub mod Lists
+pub mod Plans
+pub mod NewNodes
+mod Due

@@ -1,0 +1,225 @@
+//! How the nodes of a plan and the register of its calls are made.
+ghost use Rattle.std.specs.Prelude.{◌≡◌, ◌≤◌, Some, IfOk, IfErr, OnOk, map};
+ghost use Rattle.packet_end.specs.Params.{AreParams};
+ghost use Rattle.packet_host.specs.Making as host_made;
+ghost use Rattle.x25_pad.specs.Making as pad_made;
+ghost use Rattle.call_records.specs.Register.{made_register};
+ghost use Rattle.call_records.specs.RegisterView.{register_of};
+ghost use Rattle.line_nodes.specs.Node.{Host as host_node, Pad as pad_node};
+ghost use Rattle.line_nodes.specs.NodeView.{node_of};
+ghost use Rattle.net_events.specs.Network as network;
+ghost use Rattle.net_events.specs.Opening.{IsPlan, IsNewDte, PlannedUser, line_plan, new_node, own_configs};
+ghost use Rattle.link_timers.specs.declared.role.Role.TheVariants as role_is;
+ghost use Rattle.net_config.specs.declared.fault.MakeFault.TheVariants as make_fault_is;
+ghost use Rattle.net_plans.specs.Plan.{StandsAlone};
+ghost use Rattle.placed_nodes.specs.Making.{AreNew, waiting_switch, IsNewNode, IsOfPlan, CanMakeLines, AreFree, stands};
+ghost use Rattle.placed_nodes.specs.NodeView.{kind_of};
+ghost use Rattle.net_plans.specs.PlanView.{add_route, routes_value};
+
+use crate::node::{NetNode, NodeKind, network_line};
+use address_routes::{RouteFault, Routes};
+use call_records::Register;
+use line_nodes::Node;
+use link_timers::Role;
+use net_config::MakeFault;
+use net_plans::{NetPlan, NewKind, NewLine, NewNode, NewRoute, NewSwitch, Planned, PlannedKind};
+use packet_end::{EndFault, EndParams};
+use packet_host::{Host, HostConfig};
+use std::alloc::Global;
+use x3_params::Params;
+use x25_pad::{Pad, PadConfig};
+use x25_switch::{LineConfig, Switch, SwitchConfig};
+
+fn new_host(alloc: Global, role: Role, line: EndParams) -> Result<Node, MakeFault>
+    requires { AreParams line }
+    ensures ok { IfOk result (λ node. node_of node ≡ host_node (host_made.made (record { role = role; line = line }))) }
+    ensures err { IfErr result (λ fault. fault ≡ make_fault_is.OutOfMemory) }
+{
+    match Host::new(alloc, HostConfig { role, line }) {
+        Ok(host) => Ok(Node::Host(host)),
+        Err(EndFault::OutOfMemory) => Err(MakeFault::OutOfMemory),
+        Err(EndFault::BadConfig) => unreachable!(),
+    }
+}
+
+fn new_pad(alloc: Global, params: Params, terminals: u8, line: EndParams) -> Result<Node, MakeFault>
+    requires line { AreParams line }
+    requires least { 1 ≤ terminals }
+    requires most { terminals ≤ 16 }
+    ensures ok { IfOk result (λ node. node_of node ≡ pad_node (pad_made.made
+        (record { line = line; params = params; terminals = terminals }))) }
+    ensures err { IfErr result (λ fault. fault ≡ make_fault_is.OutOfMemory) }
+{
+    let config = PadConfig {
+        line,
+        params,
+        terminals,
+    };
+    match Pad::new(alloc, config) {
+        Ok(pad) => Ok(Node::Pad(pad)),
+        Err(EndFault::OutOfMemory) => Err(MakeFault::OutOfMemory),
+        Err(EndFault::BadConfig) => unreachable!(),
+    }
+}
+
+/// A node in the state in which it is made.
+fn new_node(alloc: Global, node: &NewNode, line: EndParams) -> Result<Node, MakeFault>
+    requires line { AreParams line }
+    requires dte { node.now.role ≡ role_is.Dte → IsNewDte node.now.as_dte }
+    ensures ok { IfOk result (λ made. node_of made ≡ new_node node.now line) }
+    ensures err { IfErr result (λ fault. fault ≡ make_fault_is.OutOfMemory) }
+{
+    match node.role {
+        Role::Dce => new_host(alloc, Role::Dce, line),
+        Role::Dte => match &node.kind {
+            NewKind::Pad { params, terminals } => new_pad(alloc, *params, *terminals, line),
+            NewKind::Host => new_host(alloc, Role::Dte, line),
+        },
+    }
+}
+
+/// A node with users, at its line.
+fn new_user(alloc: Global, plan: &NetPlan, node: &NewNode) -> Result<NodeKind, MakeFault>
+    requires plan { IsPlan plan.now }
+    requires there { IsOfPlan plan.now (PlannedUser node.now) }
+    ensures ok { IfOk result (λ kind. IsNewNode plan.now (PlannedUser node.now) (kind_of kind)) }
+    ensures err { IfErr result (λ fault. fault ≡ make_fault_is.OutOfMemory) }
+{
+    let line = &plan.lines[node.line];
+    Ok(NodeKind::User {
+        line: node.line,
+        node: new_node(alloc, node, line.params)?,
+    })
+}
+
+/// How the own lines of a switch are made.
+fn own_configs(alloc: Global, own: &[usize], plan: &NetPlan) -> Result<Vec<LineConfig>, MakeFault>
+    requires { CanMakeLines own.now plan.now.lines }
+    ensures ok { IfOk result (λ configs. configs.items ≡ own_configs own.now plan.now.lines) }
+    ensures err { IfErr result (λ fault. fault ≡ make_fault_is.OutOfMemory) }
+{
+    let mut configs = Vec::new(alloc);
+    for at in 0..own.len() {
+        let number = network_line(own, at);
+        let line = &plan.lines[number];
+        let Some(address) = line.address else {
+            unreachable!()
+        };
+        let params = line.params;
+        configs.push(LineConfig { params, address })?;
+    }
+    Ok(configs)
+}
+
+/// A route that is refused adds nothing.
+fn add_route(routes: &mut Routes, route: &NewRoute) -> Result<(), MakeFault>
+    ensures ok { OnOk result (routes.new ≡ add_route routes.old route.now) }
+    ensures err { IfErr result (λ fault. fault ≡ make_fault_is.OutOfMemory) }
+{
+    match routes.add(&route.prefix, route.line) {
+        Err(RouteFault::OutOfMemory) => Err(MakeFault::OutOfMemory),
+        Err(RouteFault::Duplicate) => Ok(()),
+        Err(RouteFault::Full) => Ok(()),
+        Ok(()) => Ok(()),
+    }
+}
+
+/// The routes of a switch.
+fn new_routes(alloc: Global, routes: &[NewRoute]) -> Result<Routes, MakeFault>
+    ensures ok { IfOk result (λ made. made ≡ routes_value routes.now) }
+    ensures err { IfErr result (λ fault. fault ≡ make_fault_is.OutOfMemory) }
+{
+    let mut made = Routes::new(alloc)?;
+    for route in routes {
+        add_route(&mut made, route)?;
+    }
+    Ok(made)
+}
+
+/// A switch at its lines.
+fn new_switch(alloc: Global, plan: &NetPlan, switch: &NewSwitch) -> Result<NodeKind, MakeFault>
+    requires { CanMakeLines switch.now.lines plan.now.lines }
+    ensures ok { IfOk result (λ kind. kind_of kind ≡ network.Switching (waiting_switch switch.now plan.now.lines)) }
+    ensures err { IfErr result (λ fault. fault ≡ make_fault_is.OutOfMemory) }
+{
+    let own = switch.lines.clone()?;
+    let configs = own_configs(alloc, &switch.lines, plan)?;
+    let routes = new_routes(alloc, &switch.routes)?;
+    let config = SwitchConfig {
+        lines: &configs,
+        routes,
+    };
+    match Switch::new(alloc, config) {
+        Ok(switch) => Ok(NodeKind::Switching { lines: own, switch }),
+        Err(EndFault::OutOfMemory) => Err(MakeFault::OutOfMemory),
+        Err(EndFault::BadConfig) => unreachable!(),
+    }
+}
+
+/// A node of the plan.
+fn new_kind(alloc: Global, plan: &NetPlan, node: &Planned) -> Result<NodeKind, MakeFault>
+    requires plan { IsPlan plan.now }
+    requires there { IsOfPlan plan.now node.now }
+    ensures ok { IfOk result (λ kind. IsNewNode plan.now node.now (kind_of kind)) }
+    ensures err { IfErr result (λ fault. fault ≡ make_fault_is.OutOfMemory) }
+{
+    match &node.kind {
+        PlannedKind::User(user) => new_user(alloc, plan, user),
+        PlannedKind::Switch(switch) => new_switch(alloc, plan, switch),
+    }
+}
+
+/// The nodes of a plan, in their order, each with its first frames waiting. It is refused for want of memory.
+pub fn new_nodes(alloc: Global, plan: &NetPlan) -> Result<Vec<NetNode>, MakeFault>
+    requires { IsPlan plan.now }
+    ensures ok { IfOk result (λ nodes. AreNew 0 plan.now nodes.items) }
+    ensures err { IfErr result (λ fault. fault ≡ make_fault_is.OutOfMemory) }
+{
+    let mut nodes = Vec::new(alloc);
+    for node in &plan.nodes {
+        let kind = new_kind(alloc, plan, node)?;
+        nodes.push(NetNode { kind })?;
+    }
+    Ok(nodes)
+}
+
+/// Whether a call stands on the first line.
+fn stands(lines: &[NewLine]) -> bool
+    ensures { result ≡ stands lines.now }
+{
+    if lines.is_empty() {
+        return false;
+    }
+    let line = &lines[0];
+    line.params.standing
+}
+
+/// The register of lines on which no call stands.
+fn free_register(alloc: Global, lines: &[NewLine]) -> Result<Register, MakeFault>
+    requires { AreFree lines.now }
+    ensures ok { IfOk result (λ register. register_of register ≡ made_register (map line_plan lines.now)) }
+    ensures err { IfErr result (λ fault. fault ≡ make_fault_is.OutOfMemory) }
+{
+    let mut register = Register::new(alloc)?;
+    for line in lines {
+        let channels = line.params.channels;
+        register.add_line(alloc, line.dte, line.dce, line.address, channels)?;
+    }
+    Ok(register)
+}
+
+/// The register of a network as it begins. Where a call stands, the network has that line alone. It is refused for want
+/// of memory.
+pub fn new_register(alloc: Global, plan: &NetPlan) -> Result<Register, MakeFault>
+    requires plan { IsPlan plan.now }
+    requires alone { StandsAlone plan.now }
+    ensures ok { IfOk result (λ register. register_of register ≡ made_register (map line_plan plan.now.lines)) }
+    ensures err { IfErr result (λ fault. fault ≡ make_fault_is.OutOfMemory) }
+{
+    if !stands(&plan.lines) {
+        return free_register(alloc, &plan.lines);
+    }
+    let line = &plan.lines[0];
+    let channels = line.params.channels;
+    Ok(Register::standing(alloc, line.dte, line.dce, channels)?)
+}

@@ -1,0 +1,183 @@
+//! One node of a network.
+ghost use Rattle.std.specs.Prelude.{◌≡◌, ◌≤◌, is_none, length};
+ghost use Rattle.std.specs.Option.{option_map};
+ghost use Rattle.std.specs.List.{position};
+ghost use Rattle.net_events.specs.AtSwitch.{network_line};
+ghost use Rattle.net_events.specs.NextDue.{due_at, due_on_lines};
+ghost use Rattle.net_events.specs.Network.{elapsed_node};
+ghost use Rattle.net_events.specs.Network as network;
+ghost use Rattle.placed_nodes.specs.Node.{is_host, user_of, is_line, own_line, terminals_there, rests, confirmed_by};
+
+use line_nodes::Node;
+use link_timers::TimerId;
+use std::marker::Model;
+use x25_switch::Switch;
+
+/// What a node is: one with users, at a line, or a switch, each of whose own lines is this line of the network.
+#[derive(Drop)]
+pub enum NodeKind {
+    User { line: usize, node: Node },
+    Switching { lines: Vec<usize>, switch: Switch },
+}
+
+/// A node of a network.
+#[derive(Drop)]
+pub struct NetNode {
+    pub kind: NodeKind,
+}
+
+impl Model for NetNode {
+    ghost use Rattle.std.specs.FinMap as map;
+    ghost use Rattle.address_routes.specs.Routes.{by_digits};
+    ghost use Rattle.std.specs.Coded.{codes, coded_list, coded_ℕ};
+    ghost use Rattle.net_events.specs.Network as network;
+    ghost use Rattle.placed_nodes.specs.NodeView.{kind_of};
+
+    ghost Value = { network.NetNode };
+
+    ghost coded = { Prim.hlevel (codes, map.code {R = by_digits} (coded_list coded_ℕ) coded_ℕ) };
+
+    ghost view = { λ n. kind_of n.kind };
+}
+
+impl NetNode {
+    /// Lets ticks pass.
+    pub fn elapse(&mut self, ticks: u16)
+        ensures { self.new ≡ elapsed_node ticks self.old }
+    {
+        match &mut self.kind {
+            NodeKind::User { node, .. } => node.elapse(ticks),
+            NodeKind::Switching { switch, .. } => switch.elapse(ticks),
+        }
+    }
+
+    pub fn is_at_rest(&self) -> bool
+        ensures { result ≡ rests self.now }
+    {
+        match &self.kind {
+            NodeKind::User { node, .. } => node.is_at_rest(),
+            NodeKind::Switching { switch, .. } => switch.is_at_rest(),
+        }
+    }
+
+    /// The first timer without a tick left, and the line on which it runs.
+    pub fn due(&self) -> Option<(usize, TimerId)>
+        ensures { result ≡ due_at self.now }
+    {
+        match &self.kind {
+            NodeKind::User { line, node } => match node.due() {
+                Some(timer) => Some((*line, timer)),
+                None => None,
+            },
+            NodeKind::Switching { lines, switch } => first_due(lines, switch),
+        }
+    }
+
+    /// The line of a node with users.
+    pub fn line(&self) -> Option<usize>
+        ensures { result ≡ option_map (λ n. n.line) (user_of self.now) }
+    {
+        match &self.kind {
+            NodeKind::User { line, .. } => Some(*line),
+            NodeKind::Switching { .. } => None,
+        }
+    }
+
+    /// Which of the own lines of a switch a line of the network is.
+    pub fn own_line(&self, line: usize) -> Option<usize>
+        ensures { result ≡ own_line line self.now }
+    {
+        match &self.kind {
+            NodeKind::User { .. } => None,
+            NodeKind::Switching { lines, .. } => find_line(lines, line),
+        }
+    }
+
+    pub fn is_switch(&self) -> bool
+        ensures { result ≡ is_none (user_of self.now) }
+    {
+        match &self.kind {
+            NodeKind::User { .. } => false,
+            NodeKind::Switching { .. } => true,
+        }
+    }
+
+    /// How many lines a switch has, at most 64.
+    pub fn own_lines(&self) -> usize
+        ensures count { (n : network.PlacedSwitch) → self.now ≡ network.Switching n → result ≡ length n.switch.lines }
+        ensures most { result ≤ 64 }
+    {
+        match &self.kind {
+            NodeKind::User { .. } => 0,
+            NodeKind::Switching { switch, .. } => switch.lines(),
+        }
+    }
+
+    pub fn is_host(&self) -> bool
+        ensures { result ≡ is_host (user_of self.now) }
+    {
+        match &self.kind {
+            NodeKind::User { node, .. } => !node.is_pad(),
+            NodeKind::Switching { .. } => false,
+        }
+    }
+
+    /// How many terminals a PAD has.
+    pub fn terminals(&self) -> Option<u8>
+        ensures { result ≡ terminals_there (user_of self.now) }
+    {
+        match &self.kind {
+            NodeKind::User { node, .. } => match node {
+                Node::Pad(pad) => Some(pad.terminals()),
+                Node::Host(_) => None,
+            },
+            NodeKind::Switching { .. } => None,
+        }
+    }
+
+    /// Whether a host says that each packet with D = 1 was covered.
+    pub fn confirmed(&self, channel: u8) -> bool
+        ensures { result ≡ confirmed_by channel (user_of self.now) }
+    {
+        match &self.kind {
+            NodeKind::User { node, .. } => node.confirmed(channel),
+            NodeKind::Switching { .. } => false,
+        }
+    }
+}
+
+/// The line of the network that is an own line of a switch.
+pub fn network_line(lines: &[usize], own: usize) -> usize
+    ensures { result ≡ network_line lines.now own }
+{
+    lines.get(own).copied().unwrap_or(0)
+}
+
+/// The own line that is this line of the network.
+fn find_line(lines: &[usize], line: usize) -> Option<usize>
+    ensures { result ≡ position (is_line line) lines.now }
+{
+    lines.iter().position(|own| is_line(line, own))
+}
+
+fn is_line(line: usize, own: &usize) -> bool
+    ensures { result ≡ is_line line own.now }
+{
+    *own == line
+}
+
+/// The first timer without a tick left of the first own line of a switch that has one, and its line of the network.
+fn first_due(lines: &[usize], switch: &Switch) -> Option<(usize, TimerId)>
+    ensures { result ≡ due_on_lines lines.now switch.now.lines }
+{
+    for own in 0..lines.len() {
+        if own >= switch.lines() {
+            return None;
+        }
+        match switch.due(own) {
+            Some(timer) => return Some((network_line(lines, own), timer)),
+            None => {}
+        }
+    }
+    None
+}
