@@ -1,6 +1,8 @@
-//! Worked examples of the terminals of a PAD, by what is typed and shown.
+//! Worked examples of the terminals of a PAD: what is typed and shown, command lines, signals and messages.
 #![tactic(auto)]
 
+#[cfg(test)]
+mod commands;
 #[cfg(test)]
 mod editing;
 #[cfg(test)]

@@ -319,6 +319,7 @@ fn is_call(request: &Request, address: &[u8], user_data: &[u8]) -> bool {
     }
 }
 
-fn is_selection(selection: &Selection, address: &[u8], user_data: &[u8]) -> bool {
+// Whether a selection has this address and these user data.
+pub(crate) fn is_selection(selection: &Selection, address: &[u8], user_data: &[u8]) -> bool {
     selection.address.digits() == address && selection.user_data.as_slice() == user_data
 }

@@ -1,7 +1,9 @@
+//! Command lines as they are read, and service signals by their texts.
+use crate::steps::is_selection;
 use arrayvec::ArrayVec;
 use std::process::Abort;
 use x28_commands::{
-    Command, CommandFault, ParameterValue, Selection, Signal, hides_echo, read_command, read_pairs,
+    Command, CommandFault, ParameterValue, Signal, hides_echo, read_command, read_pairs,
     write_signal,
 };
 
@@ -86,10 +88,6 @@ fn is_command(command: &Command, wanted: Wanted<'_>) -> bool {
         }
         _ => false,
     }
-}
-
-fn is_selection(selection: &Selection, address: &[u8], user_data: &[u8]) -> bool {
-    selection.address.digits() == address && selection.user_data.as_slice() == user_data
 }
 
 /// Whether a text is read as pairs.
