@@ -1,11 +1,12 @@
 //! Little books, write by write.
 ghost use Rattle.std.specs.Prelude.{◌≤◌};
 
+use crate::lines::{STANDING, incoming};
 use crate::nodes::is_packet;
 use call_records::{Book, EditStep, Epoch, Interrupt, PacketsIter, Pair, Passed, Record};
 use frame_codec::FrameBuf;
 use link_timers::Role;
-use packet_codec::{Address, CallBuf, CallData};
+use packet_codec::Address;
 use packet_end::{EndFault, EndParams, PacketEnd};
 use packet_layer::{LayerNote, Reason, Request, Taken};
 use std::alloc::{AllocError, Global};
@@ -183,25 +184,13 @@ fn tell(book: &mut Book, step: Step<'_>)
     requires { 1 ≤ book.old.room }
 {
     match step {
-        Incoming(role, channel) => book.tell(role, &incoming(channel)),
+        Incoming(role, channel) => book.tell(role, &incoming(channel, Address::new(&CALLED))),
         Connected(role, channel) => book.tell(role, &LayerNote::Connected(channel)),
         Closed(role, channel, reason) => book.tell(role, &closed(channel, reason)),
         Covered(role, count) => book.tell(role, &LayerNote::Covered { channel: 1, count }),
         Reset(role) => book.tell(role, &was_reset()),
         _ => {}
     }
-}
-
-fn incoming(channel: u8) -> LayerNote {
-    LayerNote::Incoming(
-        channel,
-        CallBuf::new(&CallData {
-            called: Address::new(&CALLED),
-            calling: None,
-            facilities: &[],
-            user_data: &[],
-        }),
-    )
 }
 
 fn closed(channel: u8, reason: Reason) -> LayerNote {
@@ -484,11 +473,8 @@ fn books_have_epochs(rt: HostRuntime) {
 // An end of a line of one channel, on which a call stands.
 fn new_end(alloc: Global, role: Role) -> Result<PacketEnd, EndFault> {
     let params = EndParams {
-        k: 7,
-        n2: 3,
         channels: 1,
-        window: 2,
-        standing: true,
+        ..STANDING
     };
     PacketEnd::new(alloc, role, params)
 }

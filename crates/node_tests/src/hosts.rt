@@ -1,17 +1,14 @@
 //! Worked examples: two hosts on one line, by the octets of their frames.
 
+use crate::lines::{Frames, LINE, address_of, is_interrupt, keep};
 use arrayvec::ArrayVec;
 use frame_codec::FrameBuf;
 use link_timers::{Role, TimerId};
-use packet_codec::Address;
 use packet_end::{EndFault, EndParams};
 use packet_host::{Host, HostConfig, HostRequest};
 use packet_layer::{CallFault, ChannelFault, LayerNote, Taken};
 use std::alloc::Global;
 use std::process::Abort;
-
-// The frames that one direction of a line carries, in order.
-type Frames = ArrayVec<FrameBuf, 16>;
 
 // What a host is told of a call: of a clear the cause and the diagnostic.
 #[derive(Clone, Copy, Default, PartialEq)]
@@ -35,7 +32,7 @@ struct Station {
 
 // What a user asks of the call on a channel, as a constant has it.
 #[derive(Clone, Copy)]
-enum Asked {
+pub(crate) enum Asked {
     Answer,
     Refuse,
     Clear,
@@ -112,8 +109,8 @@ fn told_of(note: &LayerNote) -> Told {
 fn collect(station: &mut Station) {
     for _ in 0..station.host.waiting_frames() {
         let mut frame = FrameBuf::new();
-        if station.host.out(&mut frame) && !station.sent.is_full() {
-            station.sent.push(frame);
+        if station.host.out(&mut frame) {
+            keep(&mut station.sent, frame);
         }
     }
     for _ in 0..station.host.waiting_notes() {
@@ -135,23 +132,15 @@ fn deliver(from: &mut Station, to: &mut Station) {
     collect(to);
 }
 
-fn number(text: &[u8]) -> Address {
-    match Address::read(text) {
-        Ok(address) => address,
-        Err(_) => Address::new(&[0]),
-    }
-}
-
-fn ask(host: &mut Host, asked: Asked, channel: u8) -> Result<(), ChannelFault> {
-    let request = match asked {
+pub(crate) fn request_of(asked: Asked) -> HostRequest {
+    match asked {
         Asked::Answer => HostRequest::Answer,
         Asked::Refuse => HostRequest::Refuse,
         Asked::Clear => HostRequest::Clear,
         Asked::Reset => HostRequest::Reset,
         Asked::Stop => HostRequest::Stop,
         Asked::Go => HostRequest::Go,
-    };
-    host.ask(channel, &request)
+    }
 }
 
 fn takes(host: &mut Host, octets: &[u8], more: bool, qualified: bool, delivery: bool) -> bool {
@@ -162,13 +151,6 @@ fn takes(host: &mut Host, octets: &[u8], more: bool, qualified: bool, delivery: 
                 && data.qualified() == qualified
                 && data.delivery() == delivery
         }
-        _ => false,
-    }
-}
-
-fn takes_interrupt(host: &mut Host, octets: &[u8]) -> bool {
-    match host.take(CHANNEL) {
-        Some(Taken::Interrupt(interrupt)) => interrupt.octets() == octets,
         _ => false,
     }
 }
@@ -195,8 +177,8 @@ fn perform(station: &mut Station, act: Act<'_>) -> bool {
 // What is asked of a host, with its answer.
 fn is_answered(host: &mut Host, act: Act<'_>) -> bool {
     match act {
-        Call(address, answer) => host.call(number(address), &[]) == answer,
-        Ask(asked, channel, answer) => ask(host, asked, channel) == answer,
+        Call(address, answer) => host.call(address_of(address), &[]) == answer,
+        Ask(asked, channel, answer) => host.ask(channel, &request_of(asked)) == answer,
         Say(octets, delivery, answer) => host.say(CHANNEL, octets, false, delivery) == answer,
         SayQualified(octets, answer) => host.say(CHANNEL, octets, true, false) == answer,
         SayOn(channel, answer) => host.say(channel, b"X", false, false) == answer,
@@ -209,7 +191,7 @@ fn is_answered(host: &mut Host, act: Act<'_>) -> bool {
 fn is_there(host: &mut Host, act: Act<'_>) -> bool {
     match act {
         Take(octets, more, qualified, delivery) => takes(host, octets, more, qualified, delivery),
-        TakeInterrupt(octets) => takes_interrupt(host, octets),
+        TakeInterrupt(octets) => is_interrupt(&host.take(CHANNEL), octets),
         TakeNothing => host.take(CHANNEL).is_none(),
         Confirmed(answer) => host.confirmed(CHANNEL) == answer,
         Due(timer) => host.due() == timer,
@@ -273,16 +255,7 @@ fn fit(dte: &mut Station, dce: &mut Station, steps: &[Step<'_>]) -> bool {
     same
 }
 
-// A line of four channels.
-const LINE: EndParams = EndParams {
-    k: 7,
-    n2: 3,
-    channels: 4,
-    window: 2,
-    standing: false,
-};
-
-fn new_host(alloc: Global, role: Role, line: EndParams) -> Result<Host, EndFault> {
+pub(crate) fn new_host(alloc: Global, role: Role, line: EndParams) -> Result<Host, EndFault> {
     Host::new(alloc, HostConfig { role, line })
 }
 

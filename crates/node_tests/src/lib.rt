@@ -1,4 +1,4 @@
-//! Worked examples of hosts, the book of their line, and what their events write into it.
+//! Worked examples of hosts, PADs and switches, and of the books of their lines.
 #![tactic(auto)]
 
 #[cfg(test)]
@@ -6,4 +6,18 @@ mod books;
 #[cfg(test)]
 mod hosts;
 #[cfg(test)]
+mod lines;
+#[cfg(test)]
 mod nodes;
+#[cfg(test)]
+mod pad_books;
+#[cfg(test)]
+mod pad_steps;
+#[cfg(test)]
+mod pads;
+#[cfg(test)]
+mod routes;
+#[cfg(test)]
+mod switch_steps;
+#[cfg(test)]
+mod switches;

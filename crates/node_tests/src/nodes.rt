@@ -1,48 +1,29 @@
 //! Worked examples: the nodes of a line on which a call stands, with its book.
+use crate::hosts::{Asked, new_host, request_of};
+use crate::lines::STANDING;
+use crate::pad_steps::new_pad;
 use call_records::{Book, Packet};
 use frame_codec::FrameBuf;
 use line_nodes::{Node, NodeFault, write_request, write_taken};
 use link_timers::Role;
-use packet_end::{EndFault, EndParams};
-use packet_host::{Host, HostConfig, HostRequest};
+use packet_end::EndFault;
+use packet_host::{Host, HostRequest};
 use packet_layer::{CallFault, ChannelFault, Taken, UserData};
 use std::alloc::{AllocError, Global};
-use x3_params::{Params, Profile};
-use x25_pad::{Pad, PadConfig};
 
 // The nodes at the DTE and at the DCE.
 const DTE_NODE: usize = 3;
 
 const DCE_NODE: usize = 5;
 
-// A call stands on channel 1 of two.
-const LINE: EndParams = EndParams {
-    k: 7,
-    n2: 3,
-    channels: 2,
-    window: 2,
-    standing: true,
-};
-
 fn new_book(alloc: Global) -> Result<Book, AllocError> {
-    Book::new(alloc, DTE_NODE, DCE_NODE, LINE.channels, LINE.standing)
-}
-
-fn new_host(alloc: Global) -> Result<Host, EndFault> {
-    let config = HostConfig {
-        role: Role::Dce,
-        line: LINE,
-    };
-    Host::new(alloc, config)
-}
-
-fn new_pad(alloc: Global) -> Result<Pad, EndFault> {
-    let config = PadConfig {
-        line: LINE,
-        params: Params::profile(Profile::Simple, 14),
-        terminals: 1,
-    };
-    Pad::new(alloc, config)
+    Book::new(
+        alloc,
+        DTE_NODE,
+        DCE_NODE,
+        STANDING.channels,
+        STANDING.standing,
+    )
 }
 
 // A host is asked something on channel 1, which is written where it is not refused.
@@ -123,48 +104,36 @@ fn has_one_epoch(book: &Book, closed: bool) -> bool {
     }
 }
 
-// What a host is asked, as a constant has it: an interrupt has the octets 7 and 8.
+// Something that is asked, with the answer.
 #[derive(Clone, Copy)]
-enum Asked {
-    Answer,
-    Refuse,
-    Clear,
-    Reset,
-    Interrupt,
-    Stop,
-    Go,
+enum Question {
+    Ask(Asked, Result<(), ChannelFault>),
+    // an interrupt of the octets 7 and 8
+    Interrupt(Result<(), ChannelFault>),
 }
 
-fn request_of(alloc: Global, asked: Asked) -> Option<HostRequest> {
-    match asked {
-        Asked::Answer => Some(HostRequest::Answer),
-        Asked::Refuse => Some(HostRequest::Refuse),
-        Asked::Clear => Some(HostRequest::Clear),
-        Asked::Reset => Some(HostRequest::Reset),
-        Asked::Stop => Some(HostRequest::Stop),
-        Asked::Go => Some(HostRequest::Go),
-        Asked::Interrupt => match Vec::from_array(alloc, [7, 8]) {
-            Ok(octets) => Some(HostRequest::Interrupt { octets }),
-            Err(_) => None,
-        },
+use Question::{Ask, Interrupt};
+
+fn is_answered(alloc: Global, host: &mut Host, book: &mut Book, question: Question) -> bool {
+    match question {
+        Ask(asked, answer) => asks(host, &request_of(asked), book) == Ok(answer),
+        Interrupt(answer) => interrupts(alloc, host, book) == Ok(answer),
     }
 }
 
-// Something that is asked, and the answer.
-type Question = (Asked, Result<(), ChannelFault>);
-
-fn is_answered(alloc: Global, host: &mut Host, book: &mut Book, question: &Question) -> bool {
-    let (asked, answer) = question;
-    match request_of(alloc, *asked) {
-        Some(request) => asks(host, &request, book) == Ok(*answer),
-        None => false,
-    }
+fn interrupts(
+    alloc: Global,
+    host: &mut Host,
+    book: &mut Book,
+) -> Result<Result<(), ChannelFault>, AllocError> {
+    let octets = Vec::from_array(alloc, [7, 8])?;
+    asks(host, &HostRequest::Interrupt { octets }, book)
 }
 
 fn are_answered(alloc: Global, host: &mut Host, book: &mut Book, questions: &[Question]) -> bool {
     let mut same = true;
     for question in questions {
-        same = same && is_answered(alloc, host, book, question);
+        same = same && is_answered(alloc, host, book, *question);
     }
     same
 }
@@ -172,16 +141,16 @@ fn are_answered(alloc: Global, host: &mut Host, book: &mut Book, questions: &[Qu
 // Whether what is asked is written: a reset ends an epoch, and a clear the call.
 fn writes_what_is_asked(alloc: Global, host: &mut Host, book: &mut Book) -> bool {
     const BEFORE: &[Question] = &[
-        (Asked::Stop, Ok(())),
-        (Asked::Go, Ok(())),
-        (Asked::Interrupt, Ok(())),
-        (Asked::Reset, Ok(())),
-        (Asked::Interrupt, Err(ChannelFault::Resetting)),
+        Ask(Asked::Stop, Ok(())),
+        Ask(Asked::Go, Ok(())),
+        Interrupt(Ok(())),
+        Ask(Asked::Reset, Ok(())),
+        Interrupt(Err(ChannelFault::Resetting)),
     ];
     const BEHIND: &[Question] = &[
-        (Asked::Answer, Err(ChannelFault::NoCall)),
-        (Asked::Refuse, Err(ChannelFault::NoCall)),
-        (Asked::Clear, Ok(())),
+        Ask(Asked::Answer, Err(ChannelFault::NoCall)),
+        Ask(Asked::Refuse, Err(ChannelFault::NoCall)),
+        Ask(Asked::Clear, Ok(())),
     ];
     are_answered(alloc, host, book, BEFORE)
         && has_one_epoch(book, false)
@@ -237,7 +206,7 @@ fn writes_anew(alloc: Global, host: &mut Host, deed: Deed) -> bool {
 
 // Whether what a new host does is written.
 fn is_written(alloc: Global, deed: Deed) -> bool {
-    match new_host(alloc) {
+    match new_host(alloc, Role::Dce, STANDING) {
         Ok(mut host) => writes_anew(alloc, &mut host, deed),
         Err(_) => false,
     }
@@ -275,14 +244,14 @@ fn sets_up(node: &mut Node) -> bool {
 }
 
 fn host_node(alloc: Global) -> Result<Node, EndFault> {
-    match new_host(alloc) {
+    match new_host(alloc, Role::Dce, STANDING) {
         Ok(host) => Ok(Node::Host(host)),
         Err(fault) => Err(fault),
     }
 }
 
 fn pad_node(alloc: Global) -> Result<Node, EndFault> {
-    match new_pad(alloc) {
+    match new_pad(alloc, STANDING, 1) {
         Ok(pad) => Ok(Node::Pad(pad)),
         Err(fault) => Err(fault),
     }

@@ -1,18 +1,16 @@
 //! A PAD and the far end of its line, and what is done at them step by step.
 
+use crate::lines::{Frames, STANDING, address_of, is_interrupt, keep};
 use arrayvec::ArrayVec;
 use frame_codec::FrameBuf;
 use link_timers::{Role, TimerId};
-use packet_codec::{Address, CallData};
+use packet_codec::CallData;
 use packet_end::{EndFault, EndParams, PacketEnd};
 use packet_layer::{LayerNote, Request, Taken};
 use std::alloc::Global;
 use std::process::Abort;
 use x3_params::{Params, Profile};
 use x25_pad::{Pad, PadAnswer, PadConfig};
-
-// The frames that one direction of a line carries, in order.
-type Frames = ArrayVec<FrameBuf, 32>;
 
 // What is done at a terminal of the PAD or at the far end, or looked at, with the answer that it must give.
 #[derive(Clone, Copy)]
@@ -81,11 +79,8 @@ pub(crate) fn play(rt: &impl Abort, alloc: Global, examples: &[Example<'_>]) {
 
 fn line(standing: bool) -> EndParams {
     EndParams {
-        k: 7,
-        n2: 3,
-        channels: 2,
-        window: 2,
         standing,
+        ..STANDING
     }
 }
 
@@ -275,8 +270,8 @@ fn collect(near: &mut Near, far: &mut Far) {
 fn collect_near(near: &mut Near) {
     for _ in 0..near.pad.waiting_frames() {
         let mut frame = FrameBuf::new();
-        if near.pad.out(&mut frame) && !near.sent.is_full() {
-            near.sent.push(frame);
+        if near.pad.out(&mut frame) {
+            keep(&mut near.sent, frame);
         }
     }
 }
@@ -284,8 +279,8 @@ fn collect_near(near: &mut Near) {
 fn collect_far(far: &mut Far) {
     for _ in 0..far.end.waiting_frames() {
         let mut frame = FrameBuf::new();
-        if far.end.out(&mut frame) && !far.sent.is_full() {
-            far.sent.push(frame);
+        if far.end.out(&mut frame) {
+            keep(&mut far.sent, frame);
         }
     }
 }
@@ -367,14 +362,12 @@ fn far_sends(far: &mut Far, channel: u8, octets: &[u8], qualified: bool) {
 
 fn far_calls(far: &mut Far) {
     far.end.begin();
-    if let Ok(called) = Address::read(b"1001") {
-        let _ = far.end.call(&CallData {
-            called,
-            calling: None,
-            facilities: &[],
-            user_data: &[],
-        });
-    }
+    let _ = far.end.call(&CallData {
+        called: address_of(b"1001"),
+        calling: None,
+        facilities: &[],
+        user_data: &[],
+    });
     end_far_event(far);
 }
 
@@ -395,14 +388,7 @@ fn takes_data(end: &mut PacketEnd, channel: u8, octets: &[u8], qualified: bool) 
 
 fn far_interrupted(far: &mut Far, channel: u8, octets: &[u8]) -> bool {
     far.end.begin();
-    let same = takes_interrupt(&mut far.end, channel, octets);
+    let same = is_interrupt(&far.end.take(channel), octets);
     far_answers(far, channel, &Request::ConfirmInterrupt);
     same
-}
-
-fn takes_interrupt(end: &mut PacketEnd, channel: u8, octets: &[u8]) -> bool {
-    match end.take(channel) {
-        Some(Taken::Interrupt(data)) => data.octets() == octets,
-        _ => false,
-    }
 }

@@ -1,6 +1,6 @@
 //! Calls of terminals through a PAD.
 
-use crate::steps::{Example, Step, play};
+use crate::pad_steps::{Example, Step, play};
 use Step::{
     BreakDropped, Breaks, Drops, Due, Elapse, Expires, FarAccepts, FarCalls, FarClears, FarHears,
     FarInterrupted, FarIsTold, FarResets, FarSends, FarTakes, FarTakesNothing, FarTells, Flow,

@@ -1,12 +1,12 @@
 //! What a PAD notes, written into the book of its line.
 ghost use Rattle.std.specs.Prelude.{◌≤◌, length};
 
-use crate::steps::new_pad;
+use crate::lines::{STANDING, incoming};
+use crate::pad_steps::new_pad;
 use call_records::{Book, EditStep, Pair, Record};
 use link_timers::Role;
-use packet_codec::{Address, CallBuf, CallData};
-use packet_end::EndParams;
-use packet_layer::{LayerNote, UserData};
+use packet_codec::Address;
+use packet_layer::UserData;
 use pad_records::{write_note, write_notes};
 use std::alloc::{AllocError, Global};
 use x3_params::{Params, Profile};
@@ -19,16 +19,6 @@ const PAD_NODE: usize = 3;
 const FAR_NODE: usize = 4;
 
 const CALLED: [u8; 3] = [7, 1, 2];
-
-fn incoming() -> LayerNote {
-    let call = CallBuf::new(&CallData {
-        called: Address::new(&CALLED),
-        calling: None,
-        facilities: &[],
-        user_data: &[],
-    });
-    LayerNote::Incoming(1, call)
-}
 
 // With room for one write a call is written.
 fn is_placed(book: &mut Book) -> bool {
@@ -45,7 +35,7 @@ fn is_placed(book: &mut Book) -> bool {
 fn accepts_at_once(book: &mut Book) -> bool {
     match book.reserve(1) {
         Ok(()) => {
-            book.tell(Role::Dte, &incoming());
+            book.tell(Role::Dte, &incoming(1, Address::new(&CALLED)));
             write_note(book, Role::Dte, &PadNote::Accepted(1));
             true
         }
@@ -176,14 +166,7 @@ fn writes_keys(pad: &mut Pad, book: &mut Book) -> bool {
 
 // Whether what is typed at a new PAD is written.
 fn is_typed(alloc: Global, book: &mut Book) -> bool {
-    let line = EndParams {
-        k: 7,
-        n2: 3,
-        channels: 2,
-        window: 2,
-        standing: true,
-    };
-    match new_pad(alloc, line, 1) {
+    match new_pad(alloc, STANDING, 1) {
         Ok(mut pad) => writes_keys(&mut pad, book),
         Err(_) => false,
     }

@@ -1,6 +1,6 @@
 //! Calls through a switch.
 
-use crate::steps::{Bench, Step};
+use crate::switch_steps::{Bench, Step};
 use Step::{
     Due, Elapse, Expires, Flow, Frame, Hears, HearsNothing, Joined, Joins, JoinsNothing, Restart,
     Rests, Send, Sent,

@@ -1,12 +1,13 @@
 //! A switch of three lines with partners that send any packet, and steps of an example.
 
+use crate::lines::{Frames, LINE, address_of, keep};
 use address_routes::{LineNo, Routes};
 use arrayvec::ArrayVec;
 use frame_codec::FrameBuf;
 use lapb::LinkParams;
 use link_tests::Terminus;
 use link_timers::{Role, TimerId};
-use packet_codec::{Address, PacketBuf};
+use packet_codec::PacketBuf;
 use packet_end::EndParams;
 use std::alloc::Global;
 use x25_switch::{LineConfig, NewJoin, Place, Switch, SwitchConfig};
@@ -44,9 +45,6 @@ pub(crate) enum Step<'a> {
     Restart,
 }
 
-// The frames that come to an end of a line, in order.
-type Frames = ArrayVec<FrameBuf, 16>;
-
 // The DTE's link of a line, the frames that come to it, and the packets that came.
 #[derive(Drop)]
 struct Partner {
@@ -62,9 +60,7 @@ fn collect_at(switch: &mut Switch, line: usize, coming: &mut Frames) {
         if line >= switch.lines() || !switch.out(line, &mut frame) {
             break;
         }
-        if !coming.is_full() {
-            coming.push(frame);
-        }
+        keep(coming, frame);
     }
 }
 
@@ -77,23 +73,10 @@ pub(crate) struct Bench {
     joined: Option<NewJoin>,
 }
 
-fn number(text: &[u8]) -> Address {
-    match Address::read(text) {
-        Ok(address) => address,
-        Err(_) => Address::new(&[0]),
-    }
-}
-
 fn line_config(address: &[u8], k: u8) -> LineConfig {
     LineConfig {
-        params: EndParams {
-            k,
-            n2: 3,
-            channels: 4,
-            window: 2,
-            standing: false,
-        },
-        address: number(address),
+        params: EndParams { k, ..LINE },
+        address: address_of(address),
     }
 }
 
@@ -103,9 +86,9 @@ fn place((line, channel): (usize, u8)) -> Place {
 
 // Adds the routes to the lines. Whether all are added.
 fn add_routes(routes: &mut Routes) -> bool {
-    routes.add(&number(b"1"), LineNo(0)).is_ok()
-        && routes.add(&number(b"2"), LineNo(1)).is_ok()
-        && routes.add(&number(b"4"), LineNo(2)).is_ok()
+    routes.add(&address_of(b"1"), LineNo(0)).is_ok()
+        && routes.add(&address_of(b"2"), LineNo(1)).is_ok()
+        && routes.add(&address_of(b"4"), LineNo(2)).is_ok()
 }
 
 fn new_routes(alloc: Global) -> Option<Routes> {

@@ -1,0 +1,60 @@
+//! What the examples of hosts, PADs and switches have in common: their lines, and what these carry.
+
+use arrayvec::ArrayVec;
+use frame_codec::FrameBuf;
+use packet_codec::{Address, CallBuf, CallData};
+use packet_end::EndParams;
+use packet_layer::{LayerNote, Taken};
+
+/// A line of four channels, on which no call stands.
+pub(crate) const LINE: EndParams = EndParams {
+    k: 7,
+    n2: 3,
+    channels: 4,
+    window: 2,
+    standing: false,
+};
+
+/// A line of two channels, on the first of which a call stands.
+pub(crate) const STANDING: EndParams = EndParams {
+    channels: 2,
+    standing: true,
+    ..LINE
+};
+
+/// The frames that one direction of a line carries, in order.
+pub(crate) type Frames = ArrayVec<FrameBuf, 32>;
+
+/// Keeps a frame that a node sends, where there is room for it.
+pub(crate) fn keep(frames: &mut Frames, frame: FrameBuf) {
+    if !frames.is_full() {
+        frames.push(frame);
+    }
+}
+
+/// The address of these digits.
+pub(crate) fn address_of(digits: &[u8]) -> Address {
+    match Address::read(digits) {
+        Ok(address) => address,
+        Err(_) => Address::new(&[0]),
+    }
+}
+
+/// A call that comes in on a channel, with no address but the one that it calls.
+pub(crate) fn incoming(channel: u8, called: Address) -> LayerNote {
+    let call = CallBuf::new(&CallData {
+        called,
+        calling: None,
+        facilities: &[],
+        user_data: &[],
+    });
+    LayerNote::Incoming(channel, call)
+}
+
+/// Whether an interrupt of these octets was taken.
+pub(crate) fn is_interrupt(taken: &Option<Taken>, octets: &[u8]) -> bool {
+    match taken {
+        Some(Taken::Interrupt(interrupt)) => interrupt.octets() == octets,
+        _ => false,
+    }
+}
