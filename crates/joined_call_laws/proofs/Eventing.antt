@@ -4,7 +4,7 @@ use Rattle.std.proofs.Common.{inl, inr, refl, sym, ap, subst, ◌∙◌}
 use Rattle.std.proofs.lemmas.Option.{none-some, same_Some}
 use Rattle.link_timers.specs.declared.role.Role.TheVariants.{Dte, Dce}
 use Rattle.packet_layer.specs.Layer.{Layer, link_down, closing_notes}
-use Rattle.packet_laws.specs.Readable.{Every}
+use Rattle.packet_laws.specs.Readable.{Every, AreOctets}
 use Rattle.packet_end.specs.PacketEnd.{begun}
 use Rattle.address_routes.specs.Routes.{RouteMap}
 use Rattle.switch_lines.specs.declared.place.Place.{Place}
@@ -66,7 +66,6 @@ use Rattle.joined_call_laws.proofs.Closing.{SameEpochs, epochs_itself, relayed_s
 use Rattle.joined_call_laws.proofs.Telling.{IsClosing}
 use Rattle.joined_call_laws.proofs.Answering.{record_call}
 use Rattle.joined_call_laws.proofs.Following.{addresses_led, KeptQuietly, KeptSending, KeptAccepting, KeptJoining, And, step_quiet, steady_keep}
-use Rattle.switch_laws.specs.Turn.{AreOctets}
 use Rattle.lapb.specs.Machine.{Octets}
 use Rattle.std.proofs.Common.{append-nil}
 use Rattle.switch_record_laws.specs.Kept.{Partners, AreKept, partners_after, partners_after_all, IsFit, AreFit, ReadsOctets}

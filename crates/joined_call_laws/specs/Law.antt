@@ -3,7 +3,7 @@ use Rattle.std.specs.Prelude.{◌≡◌, ℕ, ◌==◌, if◌then◌else◌, Lis
 use Rattle.link_timers.specs.declared.role.Role.TheVariants.{Dte}
 use Rattle.link_timers.specs.declared.timers.TimerId.{TimerId}
 use Rattle.lapb.specs.Machine.{Octets}
-use Rattle.packet_laws.specs.Readable.{Every}
+use Rattle.packet_laws.specs.Readable.{Every, AreOctets}
 use Rattle.call_records.specs.Records.{RecordValue}
 use Rattle.call_records.specs.Writes.{Write, all_written}
 use Rattle.address_routes.specs.Routes.{RouteMap}
@@ -12,7 +12,6 @@ use Rattle.switch_lines.specs.Making.{IsConfig, made}
 use Rattle.switch_lines.specs.declared.place.NewJoin.{NewJoin}
 use Rattle.switch_lines.specs.NewJoins.{new_joins}
 use Rattle.switch_lines.specs.Switch.{Switch, on_frame, on_timer, elapse, restart}
-use Rattle.switch_laws.specs.Turn.{AreOctets}
 use Rattle.switch_laws.specs.Steps.{Happening}
 use Rattle.switch_laws.specs.Steps.Happening.{Brings, RunsOut}
 use Rattle.switch_laws.specs.EventSteps.{event_steps}

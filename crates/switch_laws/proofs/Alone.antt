@@ -13,7 +13,7 @@ use Rattle.switch_lines.specs.Relay.{relayed_from, places_of, both_legs, legs_at
 use Rattle.switch_lines.specs.Switch.{Switch, with_end, acted, all_begun, may_offer, offering_from, offered_from, lines_first, rounds, on_frame, on_timer}
 use Rattle.switch_lines.specs.Alone.{relayed_alone, rounds_alone, on_frame_alone, on_timer_alone}
 use Rattle.switch_lines.proofs.Rounds.{from_both}
-use Rattle.switch_laws.specs.Turn.{AreOctets}
+use Rattle.packet_laws.specs.Readable.{AreOctets}
 use Rattle.switch_laws.specs.World.{World}
 use Rattle.switch_laws.specs.Joined.{IsSwitch, HasRelayedAll, has_place_on}
 use Rattle.switch_laws.specs.Concern.{is_one_of, joined_to, is_concerned, HasRelayedBut, before_relay, ConcernLaw}

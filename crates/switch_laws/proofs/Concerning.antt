@@ -17,7 +17,7 @@ use Rattle.switch_lines.specs.declared.place.Joined.{Joined}
 use Rattle.switch_lines.specs.Lines.{SwitchLine, same_place, joined_on, joined_at, front_at, front_of_line, refusal_at, refusal_of_line, places}
 use Rattle.switch_lines.specs.Relay.{moved_joined, moved_front, moved_unless, relayed, relayed_from, all_relayed}
 use Rattle.switch_lines.specs.Switch.{Switch, acted, all_begun, may_offer, offering_from, offered_from, to_relink, relinked_at, all_relinked, relinks_of}
-use Rattle.switch_laws.specs.Turn.{AreOctets}
+use Rattle.packet_laws.specs.Readable.{AreOctets}
 use Rattle.switch_laws.specs.Steps.{acts_of_all}
 use Rattle.switch_laws.specs.Steps.Happening.{Relinks}
 use Rattle.switch_laws.specs.EventSteps.{relayed_steps, all_relinked_steps}

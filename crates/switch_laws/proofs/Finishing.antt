@@ -28,8 +28,7 @@ use Rattle.switch_laws.specs.Steps.Step.{Settles}
 use Rattle.switch_laws.specs.EventSteps.{relayed_first_steps, acted_steps, relinked_steps, all_relinked_steps, offered_steps, rounds_steps, finished_steps, event_acts}
 use Rattle.switch_laws.specs.Joined.{WaitsFor, IsPair, IsSwitch, Reached, Becomes, HasRelayedAll, has_nth, has_place_on}
 use Rattle.switch_laws.specs.Joined.IsPair.{connected, waiting}
-use Rattle.packet_laws.specs.Readable.{IfAny}
-use Rattle.switch_laws.specs.Turn.{AreOctets}
+use Rattle.packet_laws.specs.Readable.{IfAny, AreOctets}
 use Rattle.switch_laws.specs.Law.{TurnLaw}
 use Rattle.switch_laws.proofs.Octets.{accepts_octets, reads_numbers}
 use Rattle.switch_laws.proofs.Layers.{all_close}

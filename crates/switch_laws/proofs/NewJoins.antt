@@ -19,7 +19,7 @@ use Rattle.switch_lines.specs.Switch.Answer.{Clears, Joins}
 use Rattle.switch_lines.specs.declared.place.NewJoin.{NewJoin}
 use Rattle.switch_lines.specs.NewJoins.{join_of, joins_of_notes, new_joins}
 use Rattle.switch_laws.specs.Leg.{Leg}
-use Rattle.switch_laws.specs.Turn.{AreOctets}
+use Rattle.packet_laws.specs.Readable.{AreOctets}
 use Rattle.switch_laws.specs.Steps.{does}
 use Rattle.switch_laws.specs.Steps.Happening.{Brings}
 use Rattle.switch_laws.proofs.Coming.{at}

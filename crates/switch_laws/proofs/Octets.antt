@@ -24,8 +24,7 @@ use Rattle.packet_layer.specs.Packets.{Received}
 use Rattle.packet_layer.specs.Packets.Received.{Whole, Unknown, Faulty}
 use Rattle.packet_layer.specs.Octets.{body_of, heard, heard_by, unreadable_as}
 use Rattle.packet_laws.specs.Counts.{IsNumbered}
-use Rattle.packet_laws.specs.Readable.{IfAny}
-use Rattle.switch_laws.specs.Turn.{AreOctets}
+use Rattle.packet_laws.specs.Readable.{IfAny, AreOctets}
 use Rattle.switch_laws.specs.World.{IsReadAs}
 
 by_if : {X : Type 0} (P : X → Type 0) (b : Bool) (x y : X) → P x → P y → P (if b then x else y)

@@ -4,7 +4,7 @@ use Rattle.std.proofs.lemmas.Option.{none-some, same_Some}
 use Rattle.link_timers.specs.declared.role.Role.TheVariants.{Dce}
 use Rattle.packet_layer.specs.Packets.Body.{Data, Interrupt, InterruptConfirmation, ReceiveReady, Reset}
 use Rattle.packet_layer.specs.Channel.{had_call}
-use Rattle.packet_laws.specs.Readable.{Every}
+use Rattle.packet_laws.specs.Readable.{Every, AreOctets}
 use Rattle.packet_end.specs.Params.{AreParams}
 use Rattle.packet_end.specs.PacketEnd as offers
 use Rattle.std.specs.List.{list_all}
@@ -18,7 +18,6 @@ use Rattle.switch_lines.specs.Lines.{joined_at}
 use Rattle.switch_laws.specs.Join.{IsJoin, turned, hears, gives}
 use Rattle.switch_laws.specs.World.{Shown, Agrees, shown_at, shown_of, layers_of}
 use Rattle.switch_laws.specs.Joined.{IsSwitch, has_place}
-use Rattle.switch_laws.specs.Turn.{AreOctets}
 use Rattle.switch_laws.specs.Events.{MayCome, new_legs}
 use Rattle.switch_laws.specs.Run.{started, letter, carried, covered, interrupted, confirmed, reset, two_lines, no_calls, parameters, config, configs, new_switch, sabm, restart_request, call_request, events, RunLaw}
 use Rattle.switch_laws.proofs.Happening.{events_hold}

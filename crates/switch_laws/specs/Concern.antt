@@ -14,7 +14,7 @@ use Rattle.switch_lines.specs.Relay.{relayed_from, all_relayed}
 use Rattle.switch_lines.specs.Switch.{Switch, acted, all_begun, all_relinked, offered_from, offering_from, on_frame}
 use Rattle.switch_lines.specs.Switch.{on_timer}
 use Rattle.switch_lines.specs.Alone.{on_frame_alone, on_timer_alone}
-use Rattle.switch_laws.specs.Turn.{AreOctets}
+use Rattle.packet_laws.specs.Readable.{AreOctets}
 use Rattle.switch_laws.specs.World.{World}
 use Rattle.switch_laws.specs.Joined.{IsSwitch, HasRelayedAll}
 use Rattle.switch_laws.specs.Stays.{relinked_in}

@@ -5,13 +5,12 @@ use Rattle.link_timers.specs.declared.role.Role.TheVariants.{Dce}
 use Rattle.link_timers.specs.declared.timers.TimerId.{TimerId}
 use Rattle.packet_layer.specs.Channel.{closed_channel}
 use Rattle.packet_laws.specs.History.{empty_epoch}
-use Rattle.packet_laws.specs.Readable.{Every}
+use Rattle.packet_laws.specs.Readable.{Every, AreOctets}
 use Rattle.address_routes.specs.Routes.{RouteMap}
 use Rattle.switch_lines.specs.declared.config.LineConfig.{LineConfig}
 use Rattle.switch_lines.specs.Lines.{SwitchLine}
 use Rattle.switch_lines.specs.Making.{IsConfig, made}
 use Rattle.switch_lines.specs.Switch.{Switch, on_frame, on_timer, restart, elapse, without_frame, to_relink, may_offer}
-use Rattle.switch_laws.specs.Turn.{AreOctets}
 use Rattle.switch_laws.specs.Calls.{CallsAreJoined}
 use Rattle.switch_laws.specs.Offers.{HaveSmallLinks, EndsKeepNothingBack}
 use Rattle.switch_laws.specs.World.{World, Act, closed}

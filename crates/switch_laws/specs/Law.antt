@@ -17,7 +17,7 @@ use Rattle.switch_lines.specs.Switch.Answer.{Joins}
 use Rattle.switch_laws.specs.Leg.{connected}
 use Rattle.switch_laws.specs.Way.{Way, Holds, IsRight, IsStuck, freed, moved, relayed}
 use Rattle.switch_laws.specs.Join.{Join, IsJoin, IsAtRest, relayed_both, hears, mishears, gives}
-use Rattle.switch_laws.specs.Turn.{AreOctets}
+use Rattle.packet_laws.specs.Readable.{AreOctets}
 use Rattle.packet_end.specs.PacketEnd as end
 use Rattle.switch_laws.specs.Calls.{CallsAreJoined, HasCall}
 use Rattle.switch_laws.specs.Stays.{OthersStay, relinked_in}

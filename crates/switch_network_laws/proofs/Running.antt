@@ -15,7 +15,7 @@ use Rattle.network_laws.specs.AtSwitch as at_switch
 use Rattle.packet_end.specs.PacketEnd as offers
 use Rattle.packet_end.specs.Params.{AreParams}
 use Rattle.switch_lines.specs.Switch.{Switch, switch_rests}
-use Rattle.switch_laws.specs.Turn.{AreOctets}
+use Rattle.packet_laws.specs.Readable.{AreOctets}
 use Rattle.network_laws.specs.Rest.{AreAtRest}
 use Rattle.switch_network_laws.specs.Rest.{AreAllAtRest}
 use Rattle.switch_network_laws.specs.IsSwitched.{IsAny}

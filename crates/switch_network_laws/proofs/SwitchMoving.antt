@@ -9,7 +9,7 @@ use Rattle.switch_laws.specs.Steps.Happening.{Brings, RunsOut}
 use Rattle.switch_laws.specs.Steps.Step.{Happens}
 use Rattle.switch_laws.specs.World.{layers_of}
 use Rattle.switch_laws.specs.EventSteps.{event_acts}
-use Rattle.switch_laws.specs.Turn.{AreOctets}
+use Rattle.packet_laws.specs.Readable.{AreOctets}
 use Rattle.switch_path_laws.specs.Kept.{Partners, partners_after, restarted_partner, BeginWith}
 use Rattle.switch_path_laws.specs.Tied.{Histories, happened, restarted}
 use Rattle.switch_path_laws.specs.Calls.{JoinedCall}

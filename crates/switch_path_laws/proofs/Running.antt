@@ -8,7 +8,7 @@ use Rattle.address_routes.specs.Routes.{line_for}
 use Rattle.call_records.specs.Book.{address_of}
 use Rattle.switch_lines.specs.Lines.{SwitchLine}
 use Rattle.switch_laws.specs.Run.{configs, two_lines, sabm}
-use Rattle.switch_laws.specs.Turn.{AreOctets}
+use Rattle.packet_laws.specs.Readable.{AreOctets}
 use Rattle.switch_laws.proofs.Running.{configs_right}
 use Rattle.joined_call_laws.specs.Run.{partners, histories}
 use Rattle.joined_call_laws.specs.Run as switch_run

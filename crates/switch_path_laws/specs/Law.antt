@@ -19,7 +19,7 @@ use Rattle.switch_lines.specs.declared.config.LineConfig.{LineConfig}
 use Rattle.switch_lines.specs.Lines.{SwitchLine}
 use Rattle.switch_lines.specs.Making.{IsConfig, made}
 use Rattle.switch_lines.specs.Switch.{Switch, on_frame, on_timer, elapse, restart}
-use Rattle.switch_laws.specs.Turn.{AreOctets}
+use Rattle.packet_laws.specs.Readable.{AreOctets}
 use Rattle.switch_laws.specs.Steps.{Happening}
 use Rattle.switch_laws.specs.Steps.Happening.{Brings, RunsOut}
 use Rattle.joined_call_laws.specs.Written.{Books}

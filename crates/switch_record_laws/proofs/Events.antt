@@ -14,7 +14,7 @@ use Rattle.packet_layer.specs.Packets.{Received}
 use Rattle.packet_layer.specs.Octets.{heard}
 use Rattle.packet_layer.specs.Layer.{Layer, Timer, next_packet}
 use Rattle.packet_layer.specs.Events.{timer_named}
-use Rattle.packet_laws.specs.Readable.{Every, IfAny}
+use Rattle.packet_laws.specs.Readable.{Every, IfAny, AreOctets}
 use Rattle.packet_end.specs.PacketEnd.{PacketEnd, restarted, runs_at, with_next}
 use Rattle.line_record_laws.specs.Line as acts
 use Rattle.line_record_laws.specs.Kept.{Kept}
@@ -22,7 +22,6 @@ use Rattle.line_record_laws.proofs.Keeping.{silent_kept, restart_kept}
 use Rattle.switch_lines.specs.Lines.{SwitchLine, changed}
 use Rattle.switch_lines.specs.Switch.{Switch, with_end, quieted, notes_of, finished, acted, all_begun, without_joins}
 use Rattle.switch_laws.specs.World.{Act, MayHappen, IsReadAs, layers_of, after_acts}
-use Rattle.switch_laws.specs.Turn.{AreOctets}
 use Rattle.switch_laws.proofs.Lists.{get_map, decided}
 use Rattle.switch_laws.proofs.Octets.{accepts_octets, reads_numbers}
 use Rattle.switch_laws.proofs.Layers.{world_acts_all}

@@ -35,9 +35,8 @@ use Rattle.switch_record_laws.specs.Kept.{ReadsOctets}
 use Rattle.switch_laws.specs.Steps.{Happening, does}
 use Rattle.switch_laws.specs.Steps.Happening.{Brings, RunsOut, Relinks}
 use Rattle.packet_layer.specs.Octets.{heard, heard_by, body_of, unreadable_as}
-use Rattle.packet_laws.specs.Readable.{CanBePlaced, IfAny}
+use Rattle.packet_laws.specs.Readable.{CanBePlaced, IfAny, AreOctets}
 use Rattle.packet_laws.proofs.Call.Saying.{by_cond}
-use Rattle.switch_laws.specs.Turn.{AreOctets}
 
 -- ---- what is read
 

@@ -22,7 +22,7 @@ use Rattle.line_record_laws.proofs.Keeping.{made_kept, silent_kept}
 use Rattle.switch_record_laws.proofs.Making.{made_records}
 use Rattle.switch_record_laws.proofs.Tying.{tied_holds}
 use Rattle.switch_laws.proofs.Running.{configs_right}
-use Rattle.switch_laws.specs.Turn.{AreOctets}
+use Rattle.packet_laws.specs.Readable.{AreOctets}
 use Rattle.switch_laws.specs.Events.{new_legs}
 use Rattle.std.specs.FinMap.{empty}
 use Rattle.switch_record_laws.specs.Tied.{IsTied}

@@ -5,13 +5,12 @@ use Rattle.lapb.specs.Line.{chosen}
 use Rattle.packet_end.specs.End.{without_frames}
 use Rattle.packet_codec.specs.Address.{MayBeDigits}
 use Rattle.lapb.specs.Machine.{Octets}
-use Rattle.packet_laws.specs.Readable.{CanBePlaced, Every}
+use Rattle.packet_laws.specs.Readable.{CanBePlaced, Every, AreOctets}
 use Rattle.packet_end.specs.PacketEnd.{PacketEnd}
 use Rattle.line_record_laws.specs.Line.{Line, Restarts, other_after}
 pub use Rattle.line_record_laws.specs.Kept.{Setting, Kept, beginning, end_at}
 use Rattle.switch_lines.specs.Lines.{SwitchLine, changed}
 use Rattle.switch_lines.specs.Switch.{Switch, on_frame, on_timer, elapse, restart, finished, acted, all_begun}
-use Rattle.switch_laws.specs.Turn.{AreOctets}
 use Rattle.switch_laws.specs.World.{World, IsWorld, MayHappen, layers_of, after_acts, world_after_all}
 use Rattle.switch_record_laws.specs.Written.{Books, books_after_all, restarted_books, HaveRecords}
 use Rattle.switch_laws.specs.Steps.{Happening, does, Step, lines_after_all, acts_of_all}

@@ -7,7 +7,7 @@ use Rattle.epochs.specs.Epoch.{sent_epoch, taken_epoch, SentEpoch, TakenEpoch}
 use Rattle.epochs.specs.Match.{Match}
 use Rattle.epochs.specs.Confirmed.{Confirms, sent_confirmed, taken_confirmed}
 use Rattle.packet_layer.specs.Layer.{Layer, made}
-use Rattle.packet_laws.specs.Readable.{Every}
+use Rattle.packet_laws.specs.Readable.{Every, AreOctets}
 use Rattle.call_records.specs.Records.{RecordValue}
 use Rattle.call_records.specs.Book.{Book, made_book}
 use Rattle.call_records.specs.Writes.{Write, all_written}
@@ -15,7 +15,6 @@ use Rattle.switch_lines.specs.declared.place.Place.{Place}
 use Rattle.switch_lines.specs.declared.place.Joined.{Joined}
 use Rattle.switch_lines.specs.Lines.{SwitchLine, joined_at}
 use Rattle.switch_lines.specs.Switch.{Switch, on_frame, on_timer, restart, elapse}
-use Rattle.switch_laws.specs.Turn.{AreOctets}
 use Rattle.switch_laws.specs.Leg.{Leg}
 use Rattle.switch_laws.specs.World.{World, IsWorld, Act, MayHappen, layers_of, after_acts, world_after_all, closed}
 use Rattle.switch_laws.specs.Steps.Happening.{Brings, RunsOut}

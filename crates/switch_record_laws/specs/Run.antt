@@ -5,7 +5,7 @@ use Rattle.packet_layer.specs.Packets.{CallParts, Body}
 use Rattle.packet_layer.specs.Packets.Body.{Call, Accepted, Data, ReceiveReady, Restart, Reset}
 use Rattle.packet_layer.specs.Packets.Received.{Whole}
 use Rattle.packet_layer.specs.Channel.Request.{Accept, Taking, Sending, Releasing, Resetting}
-use Rattle.packet_laws.specs.Readable.{Every}
+use Rattle.packet_laws.specs.Readable.{Every, AreOctets}
 use Rattle.packet_end.specs.PacketEnd.{made}
 use Rattle.packet_end.specs.End.{without_frames}
 use Rattle.lapb.specs.Machine.{Octets}
@@ -15,7 +15,6 @@ use Rattle.call_records.specs.Book.{made_book}
 use Rattle.switch_lines.specs.declared.place.Place.{Place}
 use Rattle.switch_laws.specs.World.{Act, MayHappen, layers_of}
 use Rattle.switch_laws.specs.World.Act.{Asks, Comes, GoesUp, Calls, Gives}
-use Rattle.switch_laws.specs.Turn.{AreOctets}
 use Rattle.switch_laws.specs.Run.{letter, parameters, two_lines, no_calls, configs, new_switch, sabm}
 use Rattle.switch_laws.specs.Events.{new_legs}
 use Rattle.switch_laws.specs.Steps.Happening.{Brings}

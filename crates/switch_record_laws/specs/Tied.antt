@@ -10,7 +10,7 @@ use Rattle.switch_lines.specs.declared.place.Joined.{Joined}
 use Rattle.switch_lines.specs.Lines.{SwitchLine, joined_at, changed}
 use Rattle.switch_lines.specs.Making.{IsConfig, made}
 use Rattle.switch_lines.specs.Switch.{Switch, on_frame, on_timer, elapse, restart}
-use Rattle.switch_laws.specs.Turn.{AreOctets}
+use Rattle.packet_laws.specs.Readable.{AreOctets}
 use Rattle.switch_laws.specs.World.{World, layers_of, world_after_all, closed}
 use Rattle.switch_laws.specs.Events.{SwitchHolds, new_legs}
 use Rattle.switch_laws.specs.Steps.{Happening}
