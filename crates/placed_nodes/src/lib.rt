@@ -1,9 +1,9 @@
-//! The nodes of a network at their places, each with users at a line or a switch at its lines, and how those of a plan are
-//! made.
+//! The nodes of a network at their places, each with users at a line or a switch at its lines, and how those of a plan
+//! are made.
 #![tactic(auto)]
 
 mod making;
 mod node;
 
 pub use making::{new_nodes, new_register};
-pub use node::{NetNode, NodeKind, network_line};
+pub use node::{NetNode, NodeKind, first_node_due, network_line, switch_place};

@@ -3,7 +3,7 @@ ghost use Rattle.std.specs.Prelude.{◌≡◌, ◌≤◌, is_none, length};
 ghost use Rattle.std.specs.Option.{option_map};
 ghost use Rattle.std.specs.List.{position};
 ghost use Rattle.net_events.specs.AtSwitch.{network_line};
-ghost use Rattle.net_events.specs.NextDue.{due_at, due_on_lines};
+ghost use Rattle.net_events.specs.NextDue.{due_at, due_on_lines, due_from};
 ghost use Rattle.net_events.specs.Network.{elapsed_node};
 ghost use Rattle.net_events.specs.Network as network;
 ghost use Rattle.placed_nodes.specs.Node.{is_host, user_of, is_line, own_line, terminals_there, rests, confirmed_by};
@@ -144,6 +144,25 @@ impl NetNode {
             NodeKind::Switching { .. } => false,
         }
     }
+}
+
+/// The place of the switch among the nodes of a network, if there is one.
+pub fn switch_place(nodes: &[NetNode]) -> Option<usize>
+    ensures { result ≡ position (λ node. is_none (user_of node)) nodes.now }
+{
+    nodes.iter().position(|node| node.is_switch())
+}
+
+/// The first node with a timer without a tick left, that timer, and the line on which it runs.
+pub fn first_node_due(nodes: &[NetNode]) -> Option<(usize, (usize, TimerId))>
+    ensures { result ≡ option_map (λ d. (d.place, (d.line, d.timer))) (due_from 0 nodes.now) }
+{
+    for place in 0..nodes.len() {
+        if let Some(due) = nodes[place].due() {
+            return Some((place, due));
+        }
+    }
+    None
 }
 
 /// The line of the network that is an own line of a switch.

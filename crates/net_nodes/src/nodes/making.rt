@@ -1,5 +1,5 @@
 //! How the lines of a network begin, whose nodes are made.
-ghost use Rattle.std.specs.Prelude.{◌≡◌, ◌≤◌, [], Some, IfOk, IfErr, OnOk, length, slice_get, vec_len, is_none};
+ghost use Rattle.std.specs.Prelude.{◌≡◌, ◌≤◌, [], Some, IfOk, IfErr, OnOk, length, slice_get, vec_len};
 ghost use Rattle.std.specs.Prelude.{vec_capacity};
 ghost use Rattle.net_events.specs.Network as network;
 ghost use Rattle.net_events.specs.Opening.{IsPlan, IsMade};
@@ -9,8 +9,6 @@ ghost use Rattle.net_nodes.specs.Making.{HaveBegun, HasEnds, PutsFirst, Begins, 
 ghost use Rattle.placed_nodes.specs.Making.{AreNew};
 ghost use Rattle.net_nodes.specs.Making.{CanBegin, SwitchBegins};
 ghost use Rattle.net_nodes.specs.Making.{IsMadeOf};
-ghost use Rattle.placed_nodes.specs.Node.{user_of};
-ghost use Rattle.std.specs.List.{position};
 
 use crate::nodes::switching::put_lines;
 use crate::nodes::{NetLine, Nodes};
@@ -20,7 +18,7 @@ use net_config::MakeFault;
 use net_events::Put;
 use net_plans::{NetPlan, NewLine};
 use net_turns::put_frames;
-use placed_nodes::{NetNode, NodeKind, new_nodes, new_register};
+use placed_nodes::{NetNode, NodeKind, new_nodes, new_register, switch_place};
 use std::alloc::{AllocError, Global};
 
 /// Puts all frames that wait at a node with users on its line; those of a switch wait.
@@ -135,13 +133,6 @@ fn begin_switch<L: Line>(
         }
     }
     Ok(())
-}
-
-/// The place of the switch, if there is one.
-fn switch_place(nodes: &[NetNode]) -> Option<usize>
-    ensures { result ≡ position (λ node. is_none (user_of node)) nodes.now }
-{
-    nodes.iter().position(|node| node.is_switch())
 }
 
 /// Puts what the switch of a network has to send on its lines, if there is a switch.

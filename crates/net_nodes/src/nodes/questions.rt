@@ -13,6 +13,7 @@ use crate::nodes::{NetLine, Nodes};
 use call_records::{Pair, Record};
 use memory_line::{Direction, Line};
 use net_events::Event;
+use placed_nodes::first_node_due;
 
 impl<L: Line> NetLine<L> {
     /// Whether no frame is in flight.
@@ -40,12 +41,7 @@ impl<L: Line> Nodes<L> {
     fn are_lines_empty(&self) -> bool
         ensures { result ≡ list_all is_empty self.now.lines }
     {
-        for line in &self.lines {
-            if !line.is_empty() {
-                return false;
-            }
-        }
-        true
+        self.lines.iter().all(|line| line.is_empty())
     }
 
     /// Whether it is certain that a delivery on a line in this direction finds no frame, and so changes nothing. A line
@@ -99,11 +95,7 @@ impl<L: Line> Nodes<L> {
     pub fn next_due(&self) -> Option<Event>
         ensures { result ≡ net_due self.now }
     {
-        for node in 0..self.nodes.len() {
-            if let Some((line, timer)) = self.nodes[node].due() {
-                return Some(Event::Expire { node, line, timer });
-            }
-        }
-        None
+        let (node, (line, timer)) = first_node_due(&self.nodes)?;
+        Some(Event::Expire { node, line, timer })
     }
 }
