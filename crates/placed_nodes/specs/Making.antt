@@ -49,6 +49,7 @@ pub record AreNew (begun : ℕ) (plan : NetPlan) (nodes : List NetNode) : Type 0
   pub switches : (place : ℕ) (n : NewSwitch) → slice_get plan.nodes place ≡ Some (PlannedSwitch n)
       → slice_get nodes place ≡ Some (Switching (waiting_switch n plan.lines))
 
+-- a call stands on the first line
 abbrev pub stands : List NewLine → Bool
 stands [] = false
 stands (l ∷ lines) = l.params.standing

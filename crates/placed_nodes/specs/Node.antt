@@ -3,10 +3,8 @@ use Rattle.std.specs.Prelude.{ℕ, ◌==◌, Bool, false, not, length, Option, S
 use Rattle.std.specs.List.{position}
 use Rattle.line_nodes.specs.Node.{NodeState, Pad, Host, is_pad}
 use Rattle.net_events.specs.Network.{PlacedNode, NetNode, User, Switching}
-use Rattle.std.specs.Prelude.{ℕ, ◌==◌, Bool, false, length, Option, Some, None}
 use Rattle.line_nodes.specs.Node.{node_rests, node_confirmed}
 use Rattle.switch_lines.specs.Switch.{switch_rests}
-use Rattle.net_events.specs.Network.{PlacedNode, NetNode, User, Switching}
 
 -- the node with users at a place, if there is one
 abbrev pub user_of : NetNode → Option PlacedNode
