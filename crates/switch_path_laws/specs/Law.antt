@@ -1,4 +1,4 @@
--- What the register of a network with one switch, or with none, has, whatever happens.
+-- What holds of the register of a network with one switch, or with none, whatever happens.
 use Rattle.std.specs.Prelude.{◌≡◌, ℕ, Bool, ◌==◌, if◌then◌else◌, List, [], ◌++◌, length, map, set, slice_get}
 use Rattle.std.specs.Prelude.{Some, true}
 use Rattle.link_timers.specs.declared.role.Role.{Role}
