@@ -54,8 +54,8 @@ pub fn line_record_law()
     ensures counts { CountsLaw }
 {}
 
-/// The same of whole events of a node: what comes to it or is asked at it, its end, and its frames, which go onto the
-/// line.
+/// The law of a line with its book over whole events of a node: what comes to the node or is asked of it, the end of
+/// the event, and its frames, which go onto the line.
 pub fn event_law()
     ensures frames { FrameLaw }
     ensures expiries { ExpiryLaw }
@@ -65,8 +65,8 @@ pub fn event_law()
     ensures requests { RequestedLaw }
 {}
 
-/// The same of the events of a host that its user asks for, or that may be refused or find nothing to do. A frame that
-/// arrives, a relink and a restart are as at any node.
+/// The law of a line with its book over the events of a host that its user asks for, or that may be refused or find
+/// nothing to do. A frame that arrives, a relink and a restart are as at any node.
 pub fn host_law()
     ensures expiries { HostExpiryLaw }
     ensures calls { HostCallLaw }

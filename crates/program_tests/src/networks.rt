@@ -69,7 +69,7 @@ const NETWORKS: [&str; 8] = [
     "[[route]]\nswitch = \"a\"\nprefix = \"0\"\nline = 65535",
 ];
 
-/// Why a text is no network, or nothing where it is one.
+/// Why a text is no network, or nothing if it is one.
 fn fault_of(alloc: Global, text: &str) -> Option<ProgFault> {
     match read_net(alloc, text) {
         Ok(_) => None,
@@ -77,7 +77,7 @@ fn fault_of(alloc: Global, text: &str) -> Option<ProgFault> {
     }
 }
 
-/// The same of a text behind the list of nodes.
+/// Why a text after the list of nodes is no network, or nothing if it is one.
 fn fault_behind_nodes(alloc: Global, text: &str) -> Option<ProgFault> {
     match format!(in alloc; "{NODES}{text}\n") {
         Ok(text) => fault_of(alloc, text.as_str()),

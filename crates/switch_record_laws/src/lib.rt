@@ -32,9 +32,9 @@ pub fn leg_record_law()
     ensures heads { HeadsLaw }
 {}
 
-/// So the two records of a join have, epoch by epoch, what the switch handed on: what it sent on one leg is what it
-/// took on the other, and of the packets that it released each with D = 1 was covered there. What is sent matches
-/// what was taken (X.25 4.3.3, 4.4.3).
+/// The two records of a join have, epoch by epoch, what the switch handed on: what it sent on one leg is what it took
+/// on the other, and of the packets that it released each with D = 1 was covered there. What is sent matches what was
+/// taken (X.25 4.3.3, 4.4.3).
 pub fn join_record_law()
     ensures joins { JoinsLaw }
     ensures matches { MatchLaw }
@@ -43,8 +43,9 @@ pub fn join_record_law()
     ensures confirms { ConfirmsLaw }
 {}
 
-/// The same of whole events of a switch, whatever octets come on its lines: the acts that lead to the switch after the
-/// event, all of whose joins hold, write the books, whose present records are its legs.
+/// The law of the joins and the books over whole events of a switch, whatever octets come on its lines. Some acts lead
+/// to the switch after the event. All its joins hold then, these acts write the books, and the present records of the
+/// books are the legs.
 pub fn switch_record_law()
     ensures frames { FrameLaw }
     ensures timers { TimerLaw }

@@ -24,7 +24,7 @@ dte = "a"
 dce = "b"
 "#;
 
-/// The same with one channel.
+/// Two hosts on a line with one channel.
 const NARROW: &str = r#"
 [[node]]
 name = "a"
