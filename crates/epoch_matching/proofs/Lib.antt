@@ -1,0 +1,4 @@
+pub mod Deciding
+pub mod Lists
+pub mod EpochLists
+pub mod PairsThere

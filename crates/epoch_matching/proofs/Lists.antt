@@ -1,0 +1,95 @@
+-- One list begins another, element by element; and elements by their places.
+use Rattle.std.specs.Prelude.{◌≡◌, ◌↔◌, ◌<◌, ◌≤◌, ◌+◌, ℕ, zero, suc, List, [], ◌∷◌, drop, length, map, slice_get, Some, None}
+use Rattle.std.proofs.Common.{get_or, drop-cons, add-one, inl, inr, refl, sym, ap, subst, ◌∙◌, arith}
+use Rattle.std.proofs.lemmas.Bool.{cases_lt}
+use Rattle.std.proofs.lemmas.List.{length-map}
+use Rattle.std.specs.List.{All}
+use Rattle.std.proofs.lemmas.Option.{same_Some, none-some}
+use Rattle.epochs.specs.Prefix.{IsListPrefix}
+
+pub iff-then : {P Q R : Type 0} → (P ↔ Q) → (Q ↔ R) → P ↔ R
+iff-then a b = (λ p. b.0 (a.0 p), λ r. a.1 (b.1 r))
+
+pub prefix-none : {A : Type 0} (ys : List A) → IsListPrefix A [] ys
+prefix-none ys = record { rest = ys; whole = refl }
+
+pub prefix-more : {A : Type 0} (x : A) (xs ys : List A) → IsListPrefix A (x ∷ xs) (x ∷ ys) ↔ IsListPrefix A xs ys
+prefix-more x xs ys = (
+  λ p. record { rest = p.rest; whole = ap (λ (l : List _). drop 1 l) p.whole },
+  λ p. record { rest = p.rest; whole = ap (λ l. x ∷ l) p.whole },
+)
+
+prefix-first : {A : Type 0} (x y : A) (xs ys : List A) → IsListPrefix A (x ∷ xs) (y ∷ ys) → x ≡ y
+prefix-first x y xs ys p = let same = p.whole in cc
+
+pub prefix-along : {A : Type 0} {xs us ys vs : List A} → xs ≡ us → ys ≡ vs → IsListPrefix A xs ys → IsListPrefix A us vs
+prefix-along {A} {xs} {us} {ys} {vs} e f p =
+    subst (λ (l : List A). IsListPrefix A l vs) e (subst (λ (l : List A). IsListPrefix A xs l) f p)
+
+-- what is left from a place on, by the element there
+from_place : {A : Type 0} (xs : List A) (i : ℕ) (x : A) → i < length xs → x ≡ get_or xs i x → drop i xs ≡ x ∷ drop (suc i) xs
+from_place xs i x within there = drop-cons xs i x within ∙ ap (λ z. z ∷ drop (suc i) xs) (sym there)
+
+pub prefix-next : {A : Type 0} (xs : List A) (i : ℕ) (x y : A) (ys more : List A) → i < length xs → x ≡ get_or xs i x
+    → ys ≡ y ∷ more → x ≡ y → IsListPrefix A (drop i xs) ys ↔ IsListPrefix A (drop (i + 1) xs) more
+prefix-next {A} xs i x y ys more within there is same =
+    let left = from_place xs i x within there in
+    let others : ys ≡ x ∷ more = is ∙ ap (λ z. z ∷ more) (sym same) in
+    let next : drop (i + 1) xs ≡ drop (suc i) xs = ap (λ k. drop k xs) (add-one i) in (
+      λ p. prefix-along (sym next) refl ((prefix-more x (drop (suc i) xs) more).0 (prefix-along left others p)),
+      λ p. prefix-along (sym left) (sym others) ((prefix-more x (drop (suc i) xs) more).1 (prefix-along next refl p)),
+    )
+
+pub prefix-differs : {A : Type 0} (xs : List A) (i : ℕ) (x y : A) (ys more : List A) → i < length xs → x ≡ get_or xs i x
+    → ys ≡ y ∷ more → (x ≡ y → ⊥) → IsListPrefix A (drop i xs) ys → ⊥
+prefix-differs xs i x y ys more within there is differ p =
+    differ (prefix-first x y (drop (suc i) xs) more (prefix-along (from_place xs i x within there) is p))
+
+pub drop-ended : {A : Type 0} (i : ℕ) (xs : List A) → length xs ≤ i → drop i xs ≡ []
+drop-ended zero [] ended = refl
+drop-ended (suc i) [] ended = refl
+drop-ended zero (x ∷ xs) ended = absurd (omega arith)
+drop-ended (suc i) (x ∷ xs) ended = drop-ended i xs (omega arith)
+
+-- elements of a list that is mapped
+pub get-map : {A B : Type 0} (f : A → B) (xs : List A) (n : ℕ) (x : A) → slice_get xs n ≡ Some x → slice_get (map f xs) n ≡ Some (f x)
+get-map f [] n x at = absurd (none-some x at)
+get-map f (y ∷ xs) zero x at = ap (λ z. Some (f z)) (same_Some y x at)
+get-map f (y ∷ xs) (suc n) x at = get-map f xs n x at
+
+pub get-map-none : {A B : Type 0} (f : A → B) (xs : List A) (n : ℕ) → slice_get xs n ≡ None → slice_get (map f xs) n ≡ None
+get-map-none f [] n at = refl
+get-map-none f (y ∷ xs) zero at = cc
+get-map-none f (y ∷ xs) (suc n) at = get-map-none f xs n at
+
+-- an element at a place
+pub get-there : {A : Type 0} (xs : List A) (n : ℕ) (x : A) → n < length xs → x ≡ get_or xs n x → slice_get xs n ≡ Some x
+get-there [] n x within is = absurd (omega arith)
+get-there (y ∷ xs) zero x within is = ap Some (sym is)
+get-there (y ∷ xs) (suc n) x within is = get-there xs n x (omega arith) is
+
+pub get-past : {A : Type 0} (xs : List A) (n : ℕ) → length xs ≤ n → slice_get xs n ≡ None
+get-past [] n past = refl
+get-past (y ∷ xs) zero past = absurd (omega arith)
+get-past (y ∷ xs) (suc n) past = get-past xs n (omega arith)
+
+-- what holds of the elements before a place, and of the one there
+get_or-map : {A B : Type 0} (f : A → B) (xs : List A) (n : ℕ) (d : A) (e : B) → n < length xs → get_or (map f xs) n e ≡ f (get_or xs n d)
+get_or-map f [] n d e within = absurd (omega arith)
+get_or-map f (y ∷ xs) zero d e within = refl
+get_or-map f (y ∷ xs) (suc n) d e within = get_or-map f xs n d e (omega arith)
+
+pub holds-at : {A B : Type 0} (P : B → Type 0) (f : A → B) (xs : List A) (n : ℕ) (d : A) → n < length xs → All P (map f xs)
+    → P (f (get_or xs n d))
+holds-at P f xs n d within all =
+    let n_within : n < length (map f xs) = rw (length-map xs f) within in
+    subst P (get_or-map f xs n d (f d) within) (all n (f d) n_within)
+
+pub holds-next : {A B : Type 0} (P : B → Type 0) (f : A → B) (xs : List A) (n : ℕ) (d : A) → n < length xs → P (f (get_or xs n d))
+    → ((k : ℕ) (e : B) → k < n → P (get_or (map f xs) k e)) → (k : ℕ) (e : B) → k < n + 1 → P (get_or (map f xs) k e)
+holds-next P f xs n d within here before k e below =
+    elim (cases_lt k n) [
+      | inl less ↦ before k e less
+      | inr more ↦ (let same : n ≡ k = omega arith in
+          subst (λ i. P (get_or (map f xs) i e)) same (subst P (sym (get_or-map f xs n d e within)) here))
+    ]

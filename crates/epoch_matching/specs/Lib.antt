@@ -1,0 +1,5 @@
+pub mod Decision
+pub mod Epochs
+pub mod EpochsLeft
+pub mod Items
+pub mod Pairs
