@@ -123,13 +123,6 @@ impl LinkOut {
         self.accepted
     }
 
-    /// What becomes of T1 by all calls since the last clearing.
-    pub fn timer(&self) -> Timing
-        ensures { result ≡ self.now.timer }
-    {
-        self.timer
-    }
-
     /// What a call tells of the link. It accepts no packet, unless `accept` follows.
     pub(crate) fn tell(&mut self, note: Note)
         ensures { self.new ≡ record self.old { note = note; accepted = false } }

@@ -85,7 +85,6 @@ pub still_end : (a : Inside) (link : Holder) (timers : Places) (out : Out) → I
     is_some (left_of timers T1) ≡ runs link.link → out.timer ≡ Change.Keep →
     IsEnd (record a { link = link; timers = timers; out = out })
 still_end a link timers out is keeps tight t1 told = record {
-  role = keeps.role ∙ is.role;
   k = omega (arith, keeps.k, is.k);
   queue = omega (arith, keeps.queue, is.queue, keeps.k);
   tight = tight;

@@ -16,7 +16,6 @@ holding a = record { end = end_of a; held = a.link.held }
 
 -- each packet that is not acknowledged has its buffer, T1 runs where it is to, and nothing is left to be done with it
 pub record IsEnd (a : Inside) : Type 0 where
-  pub role : a.link.link.role ≡ a.role
   pub k : a.link.link.k ≤ 7
   pub queue : length a.link.link.queue ≤ a.link.link.k
   pub tight : length a.link.held ≡ length a.link.link.queue

@@ -68,7 +68,6 @@ pub struct Received<'a> {
 /// `settle` comes to.
 #[derive(Drop)]
 pub struct LineEnd {
-    role: Role,
     link: Link,
     timers: Timers,
     out: LinkOut,
@@ -99,7 +98,6 @@ impl LineEnd {
         ensures pool { Balances pool.old [] pool.new [] }
     {
         let mut end = LineEnd {
-            role,
             link: Link::new(role, params)?,
             timers: Timers::new(),
             out: LinkOut::new(),
@@ -270,13 +268,6 @@ impl LineEnd {
         self.timers.due()
     }
 
-    /// The role of this end of the line.
-    pub fn role(&self) -> Role
-        ensures { result ≡ self.now.end.link.role }
-    {
-        self.role
-    }
-
     /// How many frames wait to be taken.
     pub fn waiting(&self) -> usize
         ensures count { result ≡ length self.now.end.frames }
@@ -298,13 +289,6 @@ impl LineEnd {
         ensures { result ≡ is_some (left_of self.now.end.timers id) }
     {
         self.timers.is_running(id)
-    }
-
-    /// Whether the link is up.
-    pub fn is_up(&self) -> bool
-        ensures { result ≡ machine.is_up self.now.end.link.phase }
-    {
-        self.link.phase() == Phase::Up
     }
 
     /// Whether the link is up and has nothing to wait for or to tell.

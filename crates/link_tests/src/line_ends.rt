@@ -28,9 +28,8 @@ enum Act<'a> {
     Due(Option<TimerId>),
     Relink(Note),
     Restart,
-    Up(bool),
+    HasRoom(bool),
     AtRest(bool),
-    Plays(Role),
     // how many frames wait
     Waiting(usize),
 }
@@ -43,8 +42,8 @@ enum Turn<'a> {
 }
 
 use Act::{
-    Accept, AtRest, DropFrames, Due, Elapse, Expire, Offer, Plays, Relink, Restart, Send, Settle,
-    Take, Up, Waiting,
+    Accept, AtRest, DropFrames, Due, Elapse, Expire, HasRoom, Offer, Relink, Restart, Send, Settle,
+    Take, Waiting,
 };
 use Turn::{Dce, Dte};
 
@@ -107,7 +106,7 @@ fn fits(end: &mut Terminus, act: Act<'_>) -> bool {
         Offer(packet, answer) => end.offer(&packet) == answer,
         Expire(timer, note) => end.on_timer(timer) == note,
         Relink(note) => end.relink() == note,
-        Due(_) | Up(_) | AtRest(_) | Plays(_) | Waiting(_) => is_seen(end.end(), act),
+        Due(_) | HasRoom(_) | AtRest(_) | Waiting(_) => is_seen(end.end(), act),
         _ => {
             happens(end, act);
             true
@@ -119,9 +118,8 @@ fn fits(end: &mut Terminus, act: Act<'_>) -> bool {
 fn is_seen(end: &LineEnd, act: Act<'_>) -> bool {
     match act {
         Due(timer) => end.due() == timer,
-        Up(up) => end.is_up() == up,
+        HasRoom(has_room) => end.has_room() == has_room,
         AtRest(at_rest) => end.at_rest() == at_rest,
-        Plays(role) => end.role() == role,
         Waiting(frames) => end.waiting() == frames,
         _ => false,
     }
@@ -169,7 +167,7 @@ const SET_UP: &[Turn] = &[
 ];
 
 const A_PACKET: &[Turn] = &[
-    Dte(Up(true)),
+    Dte(HasRoom(true)),
     Dte(AtRest(true)),
     Dce(AtRest(true)),
     Dte(DropFrames),
@@ -187,7 +185,6 @@ const A_PACKET: &[Turn] = &[
 ];
 
 const THREE_SECONDS: &[Turn] = &[
-    Dte(Plays(Role::Dte)),
     Dte(Waiting(1)),
     Dte(Due(None)),
     Dte(Elapse(59)),
@@ -204,7 +201,7 @@ const THREE_SECONDS: &[Turn] = &[
 // T1 does not expire at an end that stands, which has nothing to send.
 const STANDING: &[Turn] = &[
     Dte(Expire(TimerId::T1, None)),
-    Dte(Up(true)),
+    Dte(HasRoom(true)),
     Dte(Send(&[])),
 ];
 
@@ -216,10 +213,10 @@ const SETTING_UP_ANEW: &[Turn] = &[
     Dte(Send(&[&[0x01, 0x2F]])),
     Dce(Take(&[0x01, 0x2F], Note::Up, &[&[0x01, 0x63]])),
     Dte(Restart),
-    Dte(Up(false)),
+    Dte(HasRoom(false)),
     Dte(Send(&[&[0x01, 0x3F]])),
     Dce(Restart),
-    Dce(Up(false)),
+    Dce(HasRoom(false)),
     Dce(Send(&[&[0x01, 0x0F]])),
 ];
 

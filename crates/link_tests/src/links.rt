@@ -131,7 +131,7 @@ fn accepts(link: &mut Station, out: &mut LinkOut, octets: &[u8]) -> bool {
 
 // Whether this note is given, T1 starts, and these frames and no others are to be sent.
 fn is_begun(out: &mut LinkOut, note: Note, frames: Frames<'_>) -> bool {
-    out.note() == note && out.timer() == Timing::Start && are_sent(out, frames)
+    out.note() == note && out.take_timer() == Timing::Start && are_sent(out, frames)
 }
 
 // Whether these frames and no others are to be sent. They are taken away.

@@ -1,4 +1,4 @@
 pub mod PlaceLaws
 pub mod DueLaws
-pub mod PlaceSets
 pub mod RunningLaws
+pub mod PlaceSets

@@ -128,58 +128,32 @@ pub place_within : (first lowest highest number : ℕ) → lowest ≤ number →
     highest number ≡ first + (number - lowest)
 place_within first lowest highest number least most = rw (le-leb lowest number least, le-leb number highest most) refl
 
+-- the timers of one kind have places for the channels 1 to 32, one after the other
+of_channel : (first channel : ℕ) (timer : ℕ → TimerId) → 1 ≤ first → first ≤ 163 → (1 ≤ channel) × (channel ≤ 32) →
+    place_of (timer channel) ≡ place_in first 1 32 channel →
+    ((place : ℕ) → first ≤ place → place < first + 32 → timer_at place ≡ timer (place - (first - 1))) →
+    HasPlace (timer channel)
+of_channel first channel timer least most is kind at =
+    let place : place_of (timer channel) ≡ first + (channel - 1) =
+    kind ∙ place_within first 1 32 channel is.0 is.1
+    in
+    let number : first + (channel - 1) - (first - 1) ≡ channel = omega (arith, is.0, least) in
+    record {
+      below = omega (arith, place, most, is.0, is.1);
+      back = ap timer_at place ∙ at (first + (channel - 1)) (omega arith) (omega (arith, is.0, is.1))
+          ∙ ap timer number;
+    }
+
 pub has_place : (id : TimerId) → IsTimer id → HasPlace id
 has_place T1 is = record { below = omega arith; back = refl }
 has_place T10 is = record { below = omega arith; back = refl }
 has_place T20 is = record { below = omega arith; back = refl }
-has_place (T11 channel) is =
-    let place : place_in 3 1 32 channel ≡ 3 + (channel - 1) = place_within 3 1 32 channel is.0 is.1 in
-    let number : 3 + (channel - 1) - 2 ≡ channel = omega (arith, is.0) in
-    record {
-      below = omega (arith, is.1);
-      back = ap timer_at place ∙ at_T11 (3 + (channel - 1)) (omega arith)
-          (omega (arith, is.1)) ∙ ap (λ n. T11 n) number;
-    }
-has_place (T12 channel) is =
-    let place : place_in 35 1 32 channel ≡ 35 + (channel - 1) = place_within 35 1 32 channel is.0 is.1 in
-    let number : 35 + (channel - 1) - 34 ≡ channel = omega (arith, is.0) in
-    record {
-      below = omega (arith, is.1);
-      back = ap timer_at place ∙ at_T12 (35 + (channel - 1)) (omega arith)
-          (omega (arith, is.1)) ∙ ap (λ n. T12 n) number;
-    }
-has_place (T13 channel) is =
-    let place : place_in 67 1 32 channel ≡ 67 + (channel - 1) = place_within 67 1 32 channel is.0 is.1 in
-    let number : 67 + (channel - 1) - 66 ≡ channel = omega (arith, is.0) in
-    record {
-      below = omega (arith, is.1);
-      back = ap timer_at place ∙ at_T13 (67 + (channel - 1)) (omega arith)
-          (omega (arith, is.1)) ∙ ap (λ n. T13 n) number;
-    }
-has_place (T21 channel) is =
-    let place : place_in 99 1 32 channel ≡ 99 + (channel - 1) = place_within 99 1 32 channel is.0 is.1 in
-    let number : 99 + (channel - 1) - 98 ≡ channel = omega (arith, is.0) in
-    record {
-      below = omega (arith, is.1);
-      back = ap timer_at place ∙ at_T21 (99 + (channel - 1)) (omega arith)
-          (omega (arith, is.1)) ∙ ap (λ n. T21 n) number;
-    }
-has_place (T22 channel) is =
-    let place : place_in 131 1 32 channel ≡ 131 + (channel - 1) = place_within 131 1 32 channel is.0 is.1 in
-    let number : 131 + (channel - 1) - 130 ≡ channel = omega (arith, is.0) in
-    record {
-      below = omega (arith, is.1);
-      back = ap timer_at place ∙ at_T22 (131 + (channel - 1)) (omega arith)
-          (omega (arith, is.1)) ∙ ap (λ n. T22 n) number;
-    }
-has_place (T23 channel) is =
-    let place : place_in 163 1 32 channel ≡ 163 + (channel - 1) = place_within 163 1 32 channel is.0 is.1 in
-    let number : 163 + (channel - 1) - 162 ≡ channel = omega (arith, is.0) in
-    record {
-      below = omega (arith, is.1);
-      back = ap timer_at place ∙ at_T23 (163 + (channel - 1)) (omega arith)
-          (omega (arith, is.1)) ∙ ap (λ n. T23 n) number;
-    }
+has_place (T11 channel) is = of_channel 3 channel (λ n. T11 n) (omega arith) (omega arith) is refl at_T11
+has_place (T12 channel) is = of_channel 35 channel (λ n. T12 n) (omega arith) (omega arith) is refl at_T12
+has_place (T13 channel) is = of_channel 67 channel (λ n. T13 n) (omega arith) (omega arith) is refl at_T13
+has_place (T21 channel) is = of_channel 99 channel (λ n. T21 n) (omega arith) (omega arith) is refl at_T21
+has_place (T22 channel) is = of_channel 131 channel (λ n. T22 n) (omega arith) (omega arith) is refl at_T22
+has_place (T23 channel) is = of_channel 163 channel (λ n. T23 n) (omega arith) (omega arith) is refl at_T23
 has_place (Idle terminal) is =
     let place : place_in 195 0 15 terminal ≡ 195 + (terminal - 0) = place_within 195 0 15 terminal (omega arith) is in
     let number : 195 + (terminal - 0) - 195 ≡ terminal = omega arith in

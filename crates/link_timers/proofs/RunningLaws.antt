@@ -1,19 +1,16 @@
 -- The set of the places at which a timer runs goes with the ticks that are left there.
 use Rattle.std.proofs.Common.{◌≡◌, ◌≢◌, ℕ, zero, suc, ◌+◌, ◌<◌, ◌≤◌, Bool, true, false, not, ◌&&◌, ◌==◌, ◌⊎◌, inl, inr}
-use Rattle.std.proofs.Common.{length, get_or, set, [], ◌∷◌, refl, sym, ap, ◌∙◌, subst, arith, get_or-set_other, get_or-set_same}
+use Rattle.std.proofs.Common.{length, get_or, set, [], ◌∷◌, refl, sym, ap, ◌∙◌, arith, get_or-set_other, get_or-set_same}
 use Rattle.std.specs.Prelude.{Option, Some, None, is_some, if◌then◌else◌}
 use Rattle.std.specs.Option.{option_eq}
 use Rattle.std.proofs.lemmas.Bool.{eq-eqb, ne_eqb, cases_eq, cases_lt}
 use Rattle.std.proofs.lemmas.List.{length-set, ext_get_or, set-get_or}
 use Rattle.link_timers.specs.declared.places.PlaceSet.{PlaceSet}
-use Rattle.link_timers.specs.declared.timers.RunningTimers.{RunningTimers}
 use Rattle.link_timers.specs.declared.timers.TimerId.{TimerId}
 use Rattle.link_timers.specs.PlaceSet.{has, IsFirstOf}
-use Rattle.link_timers.specs.RunningTimers.{IsFirstTimer}
-use Rattle.link_timers.specs.Timers.{Places, place_of, timer_at, IsTimer, left_of, none_running, stopped, lowered}
+use Rattle.link_timers.specs.Timers.{Places, place_of, timer_at, left_of, none_running, stopped, lowered}
 use Rattle.link_timers.specs.Timers.{after_ticks, is_due, due_from, due_timers, first_of, AreTimers}
-use Rattle.link_timers.proofs.PlaceLaws.{has_place, timer_or_none, past_end, none_at, others_left, lowered_at}
-use Rattle.link_timers.proofs.DueLaws.{place_back}
+use Rattle.link_timers.proofs.PlaceLaws.{past_end, none_at, others_left, lowered_at}
 
 -- no timer runs
 pub none_run : (running : PlaceSet) → ((n : ℕ) → has running n ≡ false) → AreTimers none_running running
@@ -224,36 +221,3 @@ first_none timers running rest is none = sym (no_first 0 timers (λ n. is.passed
 pub is_zero : (left : Option ℕ) → option_eq ◌==◌ left (Some 0) ≡ is_due left
 is_zero None = refl
 is_zero (Some n) = refl
-
--- ---- one of the timers that run is taken
-
-pub is_timer_at : (place : ℕ) → place < 211 → IsTimer (timer_at place)
-is_timer_at place within = go (timer_or_none (timer_at place))
-  where
-    go : (place_of (timer_at place) ≡ 211) ⊎ IsTimer (timer_at place) → IsTimer (timer_at place)
-    go (inl none) = absurd (omega (arith, place_back place within, none))
-    go (inr is) = is
-
--- another timer has another place
-other_place : (place : ℕ) (other : TimerId) → place < 211 → other ≢ timer_at place → place_of other ≢ place
-other_place place other within apart at = go (timer_or_none other)
-  where
-    go : (place_of other ≡ 211) ⊎ IsTimer other → ⊥
-    go (inl none) = omega (arith, none, at, within)
-    go (inr is) = apart (sym (has_place other is).back ∙ ap timer_at at)
-
-pub taken : (r rest : RunningTimers) (place : ℕ) (id : TimerId) → id ≡ timer_at place → place < 211 →
-    IsFirstOf r.places place rest.places → IsFirstTimer r id rest
-taken r rest place id is within found = record {
-  timer = subst IsTimer (sym is) (is_timer_at place within);
-  there = ap (λ (n : ℕ). has r.places n) at ∙ found.there;
-  taken = ap (λ (n : ℕ). has rest.places n) at ∙ found.others place
-      ∙ ap (λ (b : Bool). has r.places place && not b) (eq-eqb place place refl) ∙ and_false (has r.places place);
-  others = λ other apart. found.others (place_of other)
-      ∙ ap (λ (b : Bool). has r.places (place_of other) && not b)
-      (ne_eqb (place_of other) place (other_place place other within (λ e. apart (e ∙ sym is))))
-      ∙ and_true (has r.places (place_of other));
-}
-  where
-    at : place_of id ≡ place
-    at = ap place_of is ∙ place_back place within

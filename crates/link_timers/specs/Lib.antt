@@ -1,4 +1,3 @@
 pub mod Role
 pub mod PlaceSet
-pub mod RunningTimers
 pub mod Timers

@@ -6,4 +6,4 @@ mod role;
 mod timers;
 
 pub use role::Role;
-pub use timers::{MOST_TIMERS, RunningTimers, TimerId, Timers};
+pub use timers::{MOST_TIMERS, TimerId, Timers};

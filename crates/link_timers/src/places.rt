@@ -1,14 +1,18 @@
 //! Sets of places of timers.
-ghost use Rattle.std.specs.Prelude.{◌≡◌, ◌≢◌, ℕ, ◌<◌, true, false, ◌&&◌, ◌||◌, not, ◌==◌, MatchOption, sum};
-ghost use Rattle.std.specs.Prelude.{slice_index};
-ghost use Rattle.link_timers.specs.PlaceSet.{has, IsFirstOf, IsFirstWord};
+ghost use Rattle.std.specs.Prelude.{◌≡◌, ◌<◌, ℕ, true, false, ◌&&◌, ◌||◌, not, ◌==◌, MatchOption};
+ghost use Rattle.link_timers.specs.PlaceSet.{has, size, IsFirstOf};
 
-const WORDS: usize = 4;
+use number_set::NumberSet;
 
-/// Places of timers, each below 256.
+/// How many numbers each part has.
+const PART: usize = 64;
+
+const PARTS: usize = 4;
+
+/// Places of timers, each below 256, in parts of 64.
 #[derive(Clone, Copy)]
 pub(crate) struct PlaceSet {
-    words: [u64; WORDS],
+    parts: [NumberSet; PARTS],
 }
 
 impl PlaceSet {
@@ -16,7 +20,9 @@ impl PlaceSet {
     pub(crate) fn new() -> Self
         ensures { (n : ℕ) → has result n ≡ false }
     {
-        PlaceSet { words: [0; WORDS] }
+        PlaceSet {
+            parts: [NumberSet::new(); PARTS],
+        }
     }
 
     /// Adds a place.
@@ -24,16 +30,15 @@ impl PlaceSet {
         requires { place < 256 }
         ensures { (n : ℕ) → has self.new n ≡ (has self.old n || n == place) }
     {
-        self.words[place / 64] |= 1 << (place % 64);
+        self.parts[place / PART].insert(place % PART);
     }
 
-    /// Takes a place out.
+    /// Takes a place out, if it is there.
     pub(crate) fn remove(&mut self, place: usize)
-        requires within { place < 256 }
-        requires there { has self.old place ≡ true }
+        requires { place < 256 }
         ensures { (n : ℕ) → has self.new n ≡ (has self.old n && not (n == place)) }
     {
-        self.words[place / 64] ^= 1 << (place % 64);
+        self.parts[place / PART].remove(place % PART);
     }
 
     /// Takes the first place out, if there is one.
@@ -41,21 +46,11 @@ impl PlaceSet {
         ensures first { MatchOption result
             ((n : ℕ) → has self.old n ≡ false)
             (λ place. IsFirstOf self.old place self.new) }
-        ensures fewer { MatchOption result (self.new ≡ self.old) (λ _. sum self.new.words < sum self.old.words) }
+        ensures fewer { MatchOption result (self.new ≡ self.old) (λ _. size self.new < size self.old) }
     {
-        let number = self.first_word()?;
-        let bit = self.words[number].trailing_zeros();
-        self.words[number] ^= 1 << bit;
-        Some(64 * number + bit as usize)
-    }
-
-    // The first word that is not empty.
-    fn first_word(&self) -> Option<usize>
-        ensures { IsFirstWord self.now.words result }
-    {
-        for (number, word) in self.words.iter().enumerate() {
-            if *word != 0 {
-                return Some(number);
+        for (number, part) in self.parts.iter_mut().enumerate() {
+            if let Some(place) = part.take_first() {
+                return Some(PART * number + place);
             }
         }
         None

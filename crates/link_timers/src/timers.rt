@@ -17,7 +17,6 @@ ghost use Rattle.std.specs.Prelude.{
   Contains,
 };
 ghost use Rattle.link_timers.specs.declared.timers.TimerId.{TimerId};
-ghost use Rattle.link_timers.specs.PlaceSet.{has};
 ghost use Rattle.link_timers.specs.Timers.{
   places,
   place_of,
@@ -69,8 +68,24 @@ const CHANNELS: u8 = 32;
 
 const TERMINALS: u8 = 16;
 
+// The places of the timers: T1, T10 and T20 have the first three, then each kind of timer has one for each channel or
+// terminal.
+const FIRST_T11: usize = 3;
+
+const FIRST_T12: usize = FIRST_T11 + CHANNELS as usize;
+
+const FIRST_T13: usize = FIRST_T12 + CHANNELS as usize;
+
+const FIRST_T21: usize = FIRST_T13 + CHANNELS as usize;
+
+const FIRST_T22: usize = FIRST_T21 + CHANNELS as usize;
+
+const FIRST_T23: usize = FIRST_T22 + CHANNELS as usize;
+
+const FIRST_IDLE: usize = FIRST_T23 + CHANNELS as usize;
+
 /// How many timers an end of a line has: T1, T10 and T20, six of each channel, one of each terminal.
-pub const MOST_TIMERS: usize = 211;
+pub const MOST_TIMERS: usize = FIRST_IDLE + TERMINALS as usize;
 
 /// Which timers run, and how many ticks each has left. Twenty ticks are a second.
 #[derive(Drop)]
@@ -95,8 +110,6 @@ impl Model for Timers {
 }
 
 impl Timers {
-    ghost use Rattle.link_timers.specs.RunningTimers.{holds};
-
     /// No timer runs.
     pub fn new() -> Self
         ensures places { result ≡ none_running }
@@ -153,15 +166,6 @@ impl Timers {
         self.left[place] = None;
         self.running.remove(place);
         true
-    }
-
-    /// The timers that run now, to be taken one after the other.
-    pub fn running(&self) -> RunningTimers
-        ensures { (id : TimerId) → holds result id ≡ is_some (left_of self.now id) }
-    {
-        RunningTimers {
-            places: self.running,
-        }
     }
 
     /// Lets ticks pass: each timer that runs has so many less, not below 0. Those that have none left run until they
@@ -221,28 +225,6 @@ impl Timers {
     }
 }
 
-/// Timers that ran at one time, to be taken one after the other.
-#[derive(Drop)]
-pub struct RunningTimers {
-    places: PlaceSet,
-    ghost within: { (place : ℕ) → has places place ≡ true → place < 211 },
-}
-
-impl RunningTimers {
-    ghost use Rattle.link_timers.specs.RunningTimers.{holds, size, IsFirstTimer};
-
-    /// Takes the first of them, in the order of [`TimerId`] and then by number.
-    pub fn take_first(&mut self) -> Option<TimerId>
-        ensures first { MatchOption result
-            ((id : TimerId) → holds self.old id ≡ false)
-            (λ id. IsFirstTimer self.old id self.new) }
-        ensures fewer { MatchOption result (self.new ≡ self.old) (λ _. size self.new < size self.old) }
-    {
-        let place = self.places.take_first()?;
-        Some(timer(place))
-    }
-}
-
 fn lower_one(left: Option<u16>, ticks: u16) -> Option<u16>
     ensures { result ≡ lowered ticks left }
 {
@@ -270,18 +252,18 @@ fn place(id: TimerId) -> Option<usize>
         TimerId::T1 => Some(0),
         TimerId::T10 => Some(1),
         TimerId::T20 => Some(2),
-        TimerId::T11(channel) => channel_place(3, channel),
-        TimerId::T12(channel) => channel_place(35, channel),
-        TimerId::T13(channel) => channel_place(67, channel),
-        TimerId::T21(channel) => channel_place(99, channel),
-        TimerId::T22(channel) => channel_place(131, channel),
-        TimerId::T23(channel) => channel_place(163, channel),
+        TimerId::T11(channel) => channel_place(FIRST_T11, channel),
+        TimerId::T12(channel) => channel_place(FIRST_T12, channel),
+        TimerId::T13(channel) => channel_place(FIRST_T13, channel),
+        TimerId::T21(channel) => channel_place(FIRST_T21, channel),
+        TimerId::T22(channel) => channel_place(FIRST_T22, channel),
+        TimerId::T23(channel) => channel_place(FIRST_T23, channel),
         TimerId::Idle(terminal) => terminal_place(terminal),
     }
 }
 
 fn channel_place(first: usize, channel: u8) -> Option<usize>
-    requires { first ≤ 163 }
+    requires { first ≤ FIRST_T23 }
     ensures { MatchOption result (place_in first 1 32 channel ≡ places) (λ place. (place ≡ place_in first 1 32
         channel) × (place < places)) }
 {
@@ -292,13 +274,13 @@ fn channel_place(first: usize, channel: u8) -> Option<usize>
 }
 
 fn terminal_place(terminal: u8) -> Option<usize>
-    ensures { MatchOption result (place_in 195 0 15 terminal ≡ places) (λ place. (place ≡ place_in 195 0 15 terminal)
+    ensures { MatchOption result (place_in FIRST_IDLE 0 15 terminal ≡ places) (λ place. (place ≡ place_in FIRST_IDLE 0 15 terminal)
         × (place < places)) }
 {
     if terminal >= TERMINALS {
         return None;
     }
-    Some(195 + usize::from(terminal))
+    Some(FIRST_IDLE + usize::from(terminal))
 }
 
 // The timer at a place.
@@ -310,12 +292,12 @@ fn timer(place: usize) -> TimerId
         0 => TimerId::T1,
         1 => TimerId::T10,
         2 => TimerId::T20,
-        3..=34 => TimerId::T11((place - 2) as u8),
-        35..=66 => TimerId::T12((place - 34) as u8),
-        67..=98 => TimerId::T13((place - 66) as u8),
-        99..=130 => TimerId::T21((place - 98) as u8),
-        131..=162 => TimerId::T22((place - 130) as u8),
-        163..=194 => TimerId::T23((place - 162) as u8),
-        _ => TimerId::Idle((place - 195) as u8),
+        FIRST_T11..FIRST_T12 => TimerId::T11((place - FIRST_T11 + 1) as u8),
+        FIRST_T12..FIRST_T13 => TimerId::T12((place - FIRST_T12 + 1) as u8),
+        FIRST_T13..FIRST_T21 => TimerId::T13((place - FIRST_T13 + 1) as u8),
+        FIRST_T21..FIRST_T22 => TimerId::T21((place - FIRST_T21 + 1) as u8),
+        FIRST_T22..FIRST_T23 => TimerId::T22((place - FIRST_T22 + 1) as u8),
+        FIRST_T23..FIRST_IDLE => TimerId::T23((place - FIRST_T23 + 1) as u8),
+        _ => TimerId::Idle((place - FIRST_IDLE) as u8),
     }
 }

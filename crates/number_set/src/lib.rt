@@ -19,7 +19,7 @@ impl NumberSet {
         NumberSet { bits: 0 }
     }
 
-    /// So many numbers, from 0 on.
+    /// The first `count` numbers, from 0 on.
     pub fn first(count: usize) -> Self
         requires { count ≤ 64 }
         ensures { (n : ℕ) → has result n ≡ nat_lt n count }
@@ -57,7 +57,7 @@ impl NumberSet {
         }
     }
 
-    /// Those from one number up to another.
+    /// The numbers of the set from `first` to one below `end`.
     pub fn between(self, first: usize, end: usize) -> NumberSet
         requires order { first ≤ end }
         requires most { end < 64 }
@@ -82,6 +82,7 @@ impl NumberSet {
             ((n : ℕ) → has self.old n ≡ false)
             (λ number. IsFirstOf self.old number self.new) }
         ensures fewer { MatchOption result (self.new ≡ self.old) (λ number. self.new.bits < self.old.bits) }
+        ensures within { MatchOption result (Unit {0}) (λ number. number < 64) }
     {
         if self.bits == 0 {
             return None;

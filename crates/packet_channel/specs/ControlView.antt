@@ -1,5 +1,5 @@
 -- Control packets that are owed, as the code has them.
-use Rattle.std.specs.Prelude.{List, map, Option, Some, None}
+use Rattle.std.specs.Prelude.{List, map}
 use Rattle.packet_channel.specs.Packets.{Body}
 use Rattle.packet_channel.specs.Octets.{parts_of}
 use Rattle.packet_channel.specs.declared.control.Control.{Control}
@@ -15,7 +15,3 @@ control_body control.ResetConfirmation = Body.ResetConfirmation
 
 abbrev pub bodies_of : List Control → List Body
 bodies_of packets = map control_body packets
-
-abbrev pub maybe_body : Option Control → Option Body
-maybe_body None = None
-maybe_body (Some packet) = Some (control_body packet)

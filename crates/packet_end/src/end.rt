@@ -254,11 +254,4 @@ impl PacketEnd {
     {
         self.end.is_at_rest()
     }
-
-    /// The role of this end of the line.
-    pub fn role(&self) -> Role
-        ensures { result ≡ self.now.line.link.role }
-    {
-        self.end.role()
-    }
 }

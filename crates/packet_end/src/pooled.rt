@@ -248,13 +248,6 @@ impl PooledEnd {
         self.stack.line().at_rest() && self.stack.layer().is_at_rest()
     }
 
-    /// The role of this end of the line.
-    pub fn role(&self) -> Role
-        ensures { result ≡ self.now.end.line.link.role }
-    {
-        self.stack.line().role()
-    }
-
     // What a note of the link is for the packet layer.
     fn heed(&mut self, note: Note, pool: &mut Pool)
         requires notes { length self.old.end.notes ≤ 64 }

@@ -1,4 +1,4 @@
-use Rattle.std.specs.Prelude.{sum}
+use Rattle.link_timers.specs.PlaceSet.{size}
 use Rattle.link_timers.proofs.RunningLaws.{IsPassed}
 use Rattle.link_timers.proofs.timers.Timers.due.Given as goal
 
@@ -6,4 +6,4 @@ abbrev pub invariant-loop-place : goal.invariant-loop-place
 invariant-loop-place l = IsPassed l.self-inside.left l.self-inside.running l.running
 
 abbrev pub decreases-loop-place : goal.decreases-loop-place
-decreases-loop-place l = sum l.running.words
+decreases-loop-place l = size l.running

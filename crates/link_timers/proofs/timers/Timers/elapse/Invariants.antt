@@ -1,5 +1,5 @@
 use Rattle.std.proofs.Common.{◌≡◌}
-use Rattle.std.specs.Prelude.{sum}
+use Rattle.link_timers.specs.PlaceSet.{size}
 use Rattle.link_timers.proofs.RunningLaws.{IsLowered}
 use Rattle.link_timers.proofs.timers.Timers.elapse.Given as goal
 
@@ -10,4 +10,4 @@ invariant-loop-place l = record {
 }
 
 abbrev pub decreases-loop-place : goal.decreases-loop-place
-decreases-loop-place l = sum l.running.words
+decreases-loop-place l = size l.running
