@@ -1,3 +1,4 @@
+//! The moduli of sequence numbers.
 ghost use Rattle.std.specs.Prelude.{◌≡◌, ◌<◌, ◌≤◌, ℕ};
 ghost use Rattle.flow_window.specs.Counts.{NamesOne};
 ghost use Rattle.flow_window.specs.Naming.{names_one, has_zero};

@@ -1,3 +1,4 @@
+//! The numbers that a receiver expects.
 ghost use Rattle.std.specs.Prelude.{◌≡◌, ◌<◌, ◌+◌, ◌%◌, ℕ};
 ghost use Rattle.flow_window.specs.Window.{offered, expected_after};
 

@@ -1,3 +1,4 @@
+//! The numbers that a sender uses.
 ghost use Rattle.std.specs.Prelude.{◌≡◌, ◌<◌, ◌≤◌, ◌+◌, ◌-◌, ◌%◌, ◌↔◌, max, IsTrue, IsErr, MatchResult, Ok, ℕ};
 ghost use Rattle.flow_window.specs.Window.{ahead, empty_window, taken, sent_up_to, IsInWindow, acknowledged, gone_back};
 ghost use Rattle.flow_window.specs.Counts.{Names, Shows};

@@ -1,3 +1,4 @@
+//! Sequence numbers.
 ghost use Rattle.std.specs.Prelude.{◌≡◌, ◌<◌, ◌≤◌, ◌+◌, ◌%◌, MatchOption};
 ghost use Rattle.flow_window.specs.Window.{ahead};
 

@@ -1,3 +1,4 @@
+//! Room for the octets of one frame.
 ghost use Rattle.std.specs.Prelude.{◌≡◌, ◌≤◌, ◌<◌, ◌+◌, List, [], ◌∷◌, ◌++◌, length, take, drop, ℕ, IsTrue, ◌↔◌};
 ghost use Rattle.frame_codec.specs.Spelling.{most_octets};
 

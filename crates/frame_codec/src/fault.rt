@@ -1,3 +1,4 @@
+//! Why octets are no frame.
 use thiserror::Error;
 
 /// Why octets are no frame, in the order in which the faults are tested.

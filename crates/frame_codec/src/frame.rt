@@ -1,3 +1,4 @@
+//! Frames by their kinds (ISO 7776 3 and 4).
 /// What a Frame Reject tells of the frame that its sender rejected (ISO 7776 5.2).
 #[derive(Clone, Copy, PartialEq, Eq)]
 pub struct Rejection {

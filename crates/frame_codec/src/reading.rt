@@ -1,3 +1,4 @@
+//! Octets are read as a frame.
 ghost use Rattle.std.specs.Prelude.{◌≡◌, ◌==◌, ◌%◌, IfOk, IfErr};
 ghost use Rattle.frame_codec.specs.declared.fault.FrameFault.{FrameFault};
 ghost use Rattle.frame_codec.specs.Frame.{FrameValue};

@@ -1,3 +1,4 @@
+//! A frame is written as octets.
 ghost use Rattle.std.specs.Prelude.{◌≡◌, ◌<◌};
 ghost use Rattle.link_timers.specs.Role.{other_of};
 ghost use Rattle.frame_codec.specs.FrameForm.{FrameForm};

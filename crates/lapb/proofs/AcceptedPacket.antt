@@ -4,62 +4,19 @@ use Rattle.std.specs.Prelude.{Option, Some, None, Result, Ok, Err, not, ◌&&◌
 use Rattle.link_timers.specs.declared.role.Role.{Role}
 use Rattle.link_timers.specs.declared.role.Role.TheVariants.{Dte, Dce}
 use Rattle.frame_codec.specs.declared.fault.FrameFault.{FrameFault}
-use Rattle.frame_codec.specs.declared.fault.FrameFault.TheVariants.{
-  TooShort,
-  WrongAddress,
-  UnknownControl,
-  InfoNotAllowed,
-  InfoTooLong,
-}
-use Rattle.frame_codec.specs.Frame.{
-  FrameValue,
-  Content,
-  Report,
-  I,
-  Rr,
-  Rnr,
-  Rej,
-  Sabm,
-  Disc,
-  Dm,
-  Ua,
-  Frmr,
-}
+use Rattle.frame_codec.specs.declared.fault.FrameFault.TheVariants.{TooShort, WrongAddress, UnknownControl}
+use Rattle.frame_codec.specs.declared.fault.FrameFault.TheVariants.{InfoNotAllowed, InfoTooLong}
+use Rattle.frame_codec.specs.Frame.{FrameValue, Content, Report, I, Rr, Rnr, Rej, Sabm, Disc, Dm, Ua, Frmr}
 use Rattle.frame_codec.specs.FrameForm.{FrameForm, FieldForm}
 use Rattle.frame_codec.specs.Reading.{reading}
 use Rattle.frame_codec.proofs.Outcomes.{AreOctets}
 use Rattle.frame_codec.proofs.Grammar.{IsDecided, reading_decided}
 use Rattle.lapb.specs.declared.phase.Phase.{Phase}
-use Rattle.lapb.specs.Machine.{
-  Octets,
-  Link,
-  Step,
-  Defect,
-  UndefinedControl,
-  InformationNotAllowed,
-  InformationTooLong,
-  is_same,
-  is_valid,
-  ahead,
-  acknowledged,
-  accept,
-  discard,
-  on_information,
-  on_supervisory,
-  reject_as,
-  reject_number,
-  checked,
-  in_up,
-  in_setting_up,
-  in_down,
-  in_rejecting,
-  in_phase,
-  on_content,
-  on_defect_in,
-  come_up,
-  still,
-  sends,
-}
+use Rattle.lapb.specs.Machine.{Octets, Link, Step, Defect, UndefinedControl, InformationNotAllowed}
+use Rattle.lapb.specs.Machine.{InformationTooLong, is_same, is_valid, ahead, acknowledged, accept, discard}
+use Rattle.lapb.specs.Machine.{on_information, on_supervisory, reject_as, reject_number, checked, in_up}
+use Rattle.lapb.specs.Machine.{in_setting_up, in_down, in_rejecting, in_phase, on_content, on_defect_in, come_up}
+use Rattle.lapb.specs.Machine.{still, sends}
 use Rattle.lapb.specs.Octets.{on_fault, on_reading, on_octets}
 
 cond_by : (P : Bool → Type 0) (b : Bool) → (b ≡ true → P true) → (b ≡ false → P false) → P b

@@ -4,78 +4,22 @@ use Rattle.std.proofs.Common.{refl, sym, ap, ◌∙◌, subst, inl, inr, arith, 
 use Rattle.std.proofs.lemmas.Bool.{eqb-false}
 use Rattle.link_timers.specs.declared.role.Role.TheVariants.{Dte, Dce}
 use Rattle.frame_codec.specs.Frame.{FrameValue, Content}
-use Rattle.frame_codec.specs.Frame.Content.{
-  I,
-  Rr,
-  Rnr,
-  Rej,
-  Sabm,
-  Disc,
-  Dm,
-  Ua,
-  Frmr,
-}
+use Rattle.frame_codec.specs.Frame.Content.{I, Rr, Rnr, Rej, Sabm, Disc, Dm, Ua, Frmr}
 use Rattle.lapb.specs.declared.phase.Phase.{Phase}
 use Rattle.lapb.specs.Machine.{Octets, Link, Step, response, cleared, offer, is_full}
 use Rattle.lapb.specs.Named.{with_packet}
-use Rattle.lapb.specs.World.{
-  Sent,
-  World,
-  logged,
-  emptied,
-  stamped,
-  kept_of,
-  offered,
-  dce_does,
-  is_sabm,
-  is_ua,
-  IsPrefix,
-}
+use Rattle.lapb.specs.World.{Sent, World, logged, emptied, stamped, kept_of, offered, dce_does, is_sabm, is_ua}
+use Rattle.lapb.specs.World.{IsPrefix}
 use Rattle.lapb.proofs.Cases.{cond_by, Each, each-kept, each-weaken, prefix-refl}
-use Rattle.lapb.proofs.Halves.{
-  Half',
-  Carries,
-  Data,
-  Tells,
-  Acks,
-  acks-lower,
-  half-x_out,
-  half-y_out,
-  half-y_begins,
-  half-offered,
-}
+use Rattle.lapb.proofs.Halves.{Half', Carries, Data, Tells, Acks, acks-lower, half-x_out, half-y_out, half-y_begins}
+use Rattle.lapb.proofs.Halves.{half-offered}
 use Rattle.lapb.proofs.Steps.{is_numbered, GoesStep}
-use Rattle.lapb.proofs.Flights.{
-  flight-append,
-  flight-stamped,
-  flight-weaken,
-  NoSabmOf,
-  NoNumbered,
-  NoneOf,
-  Stamped,
-  OfUp,
-  Ups,
-  ups-enters,
-  no_numbered-late,
-  none_of-later,
-  OfDown,
-  Downs,
-  downs-raise,
-  downs-more,
-}
-use Rattle.lapb.proofs.Inv.{
-  Fresh,
-  IsFresh,
-  InSession,
-  Lists,
-  Inv,
-  dce_in,
-  lists-change,
-  logged-other,
-  logged-same,
-  lost_up,
-}
-use Rattle.lapb.proofs.DteSteps.{IsPlain, half-sent_plain, half-told_plain, full-false, IsDm, dm-plain}
+use Rattle.lapb.proofs.Flights.{flight-append, flight-stamped, flight-weaken, NoSabmOf, NoNumbered, NoneOf, Stamped}
+use Rattle.lapb.proofs.Flights.{OfUp, Ups, ups-enters, no_numbered-late, none_of-later, OfDown, Downs, downs-raise}
+use Rattle.lapb.proofs.Flights.{downs-more}
+use Rattle.lapb.proofs.Inv.{Fresh, IsFresh, InSession, Lists, Inv, dce_in, lists-change, logged-other, logged-same}
+use Rattle.lapb.proofs.Inv.{lost_up}
+use Rattle.lapb.proofs.PlainFrames.{IsPlain, half-sent_plain, half-told_plain, full-false, IsDm, dm-plain}
 
 -- ---- a DCE that is up goes on
 

@@ -1,143 +1,25 @@
 -- What a DTE does keeps what every state meets.
-use Rattle.std.specs.Prelude.{
-  ◌≡◌,
-  ℕ,
-  ◌+◌,
-  ◌%◌,
-  ◌≤◌,
-  Bool,
-  true,
-  false,
-  not,
-  ◌&&◌,
-  ◌⊎◌,
-  List,
-  [],
-  ◌∷◌,
-  ◌++◌,
-  length,
-  drop,
-  Option,
-  Some,
-  None,
-  if◌then◌else◌,
-  ◌==◌,
-  nat_le,
-}
+use Rattle.std.specs.Prelude.{◌≡◌, ℕ, ◌+◌, ◌%◌, ◌≤◌, Bool, true, false, not, ◌&&◌, ◌⊎◌, List, [], ◌∷◌, ◌++◌, length}
+use Rattle.std.specs.Prelude.{drop, Option, Some, None, if◌then◌else◌, ◌==◌, nat_le}
 use Rattle.std.proofs.Common.{refl, sym, ap, ◌∙◌, subst, inl, inr, arith, eqb-true, leb-false}
 use Rattle.std.proofs.lemmas.Bool.{eqb-false}
 use Rattle.frame_codec.specs.Frame.{FrameValue, Content}
-use Rattle.frame_codec.specs.Frame.Content.{
-  I,
-  Rr,
-  Rnr,
-  Rej,
-  Sabm,
-  Disc,
-  Dm,
-  Ua,
-  Frmr,
-}
+use Rattle.frame_codec.specs.Frame.Content.{I, Rr, Rnr, Rej, Sabm, Disc, Dm, Ua, Frmr}
 use Rattle.lapb.specs.declared.phase.Phase.{Phase}
 use Rattle.lapb.specs.declared.note.Note.{Note}
 use Rattle.lapb.specs.Machine.{Octets, Link, Step, command, response, set_up, come_up, offer, is_full}
 use Rattle.lapb.specs.Named.{with_packet}
-use Rattle.lapb.specs.World.{
-  Sent,
-  World,
-  logged,
-  stamped,
-  kept_of,
-  offered,
-  act_after,
-  dte_does,
-  is_setting_up,
-  is_up_note,
-  is_sabm,
-  IsPrefix,
-}
+use Rattle.lapb.specs.World.{Sent, World, logged, stamped, kept_of, offered, act_after, dte_does, is_setting_up}
+use Rattle.lapb.specs.World.{is_up_note, is_sabm, IsPrefix}
 use Rattle.lapb.proofs.Cases.{cond_by, Each, each-kept, each-weaken}
-use Rattle.lapb.proofs.Halves.{
-  Half',
-  Carries,
-  Tells,
-  half-sent,
-  half-told,
-  half-x_out,
-  half-y_out,
-  half-y_begins,
-  half-offered,
-}
+use Rattle.lapb.proofs.Halves.{Half', Carries, Tells, half-sent, half-told, half-x_out, half-y_out, half-y_begins}
+use Rattle.lapb.proofs.Halves.{half-offered}
 use Rattle.lapb.proofs.Steps.{is_numbered, GoesStep}
-use Rattle.lapb.proofs.Flights.{
-  OfDown,
-  flight-append,
-  flight-stamped,
-  NoSabmOf,
-  NoNumbered,
-  Stamped,
-  Ups,
-  ups-speaks,
-  ups-sets,
-  ups-act,
-  ups-quiet,
-  Speaks,
-  Sets,
-  no_sabm-spoken,
-  Downs,
-  downs-lower,
-  downs-act,
-  downs-quiet,
-  downs-stamped,
-}
+use Rattle.lapb.proofs.Flights.{OfDown, flight-append, flight-stamped, NoSabmOf, NoNumbered, Stamped, Ups, ups-speaks}
+use Rattle.lapb.proofs.Flights.{ups-sets, ups-act, ups-quiet, Speaks, Sets, no_sabm-spoken, Downs, downs-lower}
+use Rattle.lapb.proofs.Flights.{downs-act, downs-quiet, downs-stamped}
+use Rattle.lapb.proofs.PlainFrames.{IsPlain, half-sent_plain, half-told_plain, full-false, IsDm, dm-plain}
 use Rattle.lapb.proofs.Inv.{IsFresh, Inv, dte_in, lists-change, logged-other, logged-same, lost_down}
-
--- ---- frames that carry no number
-
-carries-plain : (o : List Octets) (m : ℕ) (content : Content) → is_numbered content ≡ false → Carries o m m content
-carries-plain o m (I ns nr packet) e = absurd (cc)
-carries-plain o m (Rr nr) e = tt
-carries-plain o m (Rnr nr) e = tt
-carries-plain o m (Rej nr) e = tt
-carries-plain o m Sabm e = tt
-carries-plain o m Disc e = tt
-carries-plain o m Dm e = tt
-carries-plain o m Ua e = tt
-carries-plain o m (Frmr report) e = tt
-
-tells-plain : (count : ℕ) (content : Content) → is_numbered content ≡ false → Tells count content
-tells-plain count (I ns nr packet) e = absurd (cc)
-tells-plain count (Rr nr) e = absurd (cc)
-tells-plain count (Rnr nr) e = absurd (cc)
-tells-plain count (Rej nr) e = absurd (cc)
-tells-plain count Sabm e = tt
-tells-plain count Disc e = tt
-tells-plain count Dm e = tt
-tells-plain count Ua e = tt
-tells-plain count (Frmr report) e = tt
-
-abbrev pub IsPlain : FrameValue → Type 0
-IsPlain f = is_numbered f.content ≡ false
-
--- x sends frames without numbers
-pub half-sent_plain : (c : ℕ) (xphase : Phase) (va next top : ℕ) (queue : List Octets) (yphase : Phase) (vr : ℕ) (o
-    acc : List Octets) (t : ℕ)
-    (frames : List FrameValue) (flow acks : List Sent) → Half' c xphase va next top queue yphase vr o acc flow acks →
-    Each IsPlain frames →
-    Half' c xphase va next top queue yphase vr o acc (flow ++ stamped t frames) acks
-half-sent_plain c xphase va next top queue yphase vr o acc t frames flow acks h all =
-    half-sent c xphase va next top queue yphase vr o acc t frames flow acks h
-    (each-weaken IsPlain (λ f. Carries o h.m h.m f.content) (λ f. carries-plain o h.m f.content) frames all)
-
--- y sends them
-pub half-told_plain : (c : ℕ) (xphase : Phase) (va next top : ℕ) (queue : List Octets) (yphase : Phase) (vr : ℕ) (o
-    acc : List Octets) (t : ℕ)
-    (frames : List FrameValue) (flow acks : List Sent) → Half' c xphase va next top queue yphase vr o acc flow acks →
-    Each IsPlain frames →
-    Half' c xphase va next top queue yphase vr o acc flow (acks ++ stamped t frames)
-half-told_plain c xphase va next top queue yphase vr o acc t frames flow acks h all =
-    half-told c xphase va next top queue yphase vr o acc t frames flow acks h
-    (each-weaken IsPlain (λ f. Tells (length acc) f.content) (λ f. tells-plain (length acc) f.content) frames all)
 
 -- ---- a DTE that is up goes on
 
@@ -251,10 +133,6 @@ dte_goes w kept step h i g which =
     })
 
 -- ---- an offer
-
--- a link that is not full holds fewer than seven packets
-pub full-false : (k : ℕ) (queue : List Octets) → k ≤ 7 → nat_le k (length queue) ≡ false → length queue ≤ 6
-full-false k queue le e = let less = leb-false k (length queue) e in omega arith
 
 pub dte_offers : (w : World) (packet : Octets) → Inv (dte_in w Phase.Up) →
     Inv (record (dte_in w Phase.Up) {
@@ -471,12 +349,6 @@ dte_sets_again w kept i =
         }
 
 -- DM, outside sessions
-abbrev pub IsDm : FrameValue → Type 0
-IsDm f = f.content ≡ Dm
-
-pub dm-plain : (frames : List FrameValue) → Each IsDm frames → Each IsPlain frames
-dm-plain frames all = each-weaken IsDm IsPlain (λ f e. ap is_numbered e) frames all
-
 pub dte_declines : (w : World) (kept : List Bool) (pf : Bool) → Inv (dte_in w Phase.Down) →
     Inv (record (dte_in w Phase.Down) {
       up = w.up ++ stamped w.act (kept_of kept (response Dm pf ∷

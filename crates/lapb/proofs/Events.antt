@@ -1,101 +1,22 @@
 -- Each event keeps what every state meets.
-use Rattle.std.specs.Prelude.{
-  ◌≡◌,
-  ℕ,
-  Bool,
-  true,
-  false,
-  not,
-  ◌&&◌,
-  ◌||◌,
-  List,
-  [],
-  ◌∷◌,
-  None,
-  if◌then◌else◌,
-  nat_le,
-  nat_lt,
-}
+use Rattle.std.specs.Prelude.{◌≡◌, ℕ, Bool, true, false, not, ◌&&◌, ◌||◌, List, [], ◌∷◌, None, if◌then◌else◌, nat_le}
+use Rattle.std.specs.Prelude.{nat_lt}
 use Rattle.std.proofs.Common.{refl, sym, subst, inl, inr}
 use Rattle.link_timers.specs.declared.role.Role.TheVariants.{Dte, Dce}
 use Rattle.frame_codec.specs.Frame.{Content}
-use Rattle.frame_codec.specs.Frame.Content.{
-  I,
-  Rr,
-  Rnr,
-  Rej,
-  Sabm,
-  Disc,
-  Dm,
-  Ua,
-  Frmr,
-}
+use Rattle.frame_codec.specs.Frame.Content.{I, Rr, Rnr, Rej, Sabm, Disc, Dm, Ua, Frmr}
 use Rattle.lapb.specs.declared.phase.Phase.{Phase}
-use Rattle.lapb.specs.Machine.{
-  Octets,
-  Link,
-  response,
-  still,
-  sends,
-  disconnect,
-  relink,
-  come_up,
-  poll,
-  send_all,
-  sendable,
-  settle,
-  is_same,
-  on_frame,
-  on_t1,
-  in_up,
-  runs,
-  expire_in,
-}
-use Rattle.lapb.specs.World.{
-  Sent,
-  World,
-  Event,
-  Offer,
-  Deliver,
-  Lose,
-  Expire,
-  Relink,
-  Settle,
-  Restart,
-  dte_does,
-  dce_does,
-  dce_enters,
-  to_dte,
-  to_dce,
-  without_first,
-  happens,
-  run,
-}
+use Rattle.lapb.specs.Machine.{Octets, Link, response, still, sends, disconnect, relink, come_up, poll, send_all}
+use Rattle.lapb.specs.Machine.{sendable, settle, is_same, on_frame, on_t1, in_up, runs, expire_in}
+use Rattle.lapb.specs.World.{Sent, World, Event, Offer, Deliver, Lose, Expire, Relink, Settle, Restart, dte_does}
+use Rattle.lapb.specs.World.{dce_does, dce_enters, to_dte, to_dce, without_first, happens, run}
 use Rattle.lapb.proofs.Cases.{cond_by}
 use Rattle.lapb.proofs.Steps.{is_numbered, goes_frame, goes_poll, goes_settle}
 use Rattle.lapb.proofs.Flights.{NoSabmOf, ups-numbered}
-use Rattle.lapb.proofs.Inv.{
-  Inv,
-  dte_in,
-  dce_in,
-  by_dte,
-  by_dce,
-  dte_silent,
-  dce_silent,
-  lost_down,
-  lost_up,
-  dte_restarts,
-  dce_restarts,
-}
-use Rattle.lapb.proofs.DteSteps.{
-  dte_goes,
-  dte_offers,
-  dte_sets_up_from_up,
-  dte_sets_up_from_down,
-  dte_sets_again,
-  dte_declines,
-  dte_comes_up,
-}
+use Rattle.lapb.proofs.Inv.{Inv, dte_in, dce_in, by_dte, by_dce, dte_silent, dce_silent, lost_down, lost_up}
+use Rattle.lapb.proofs.Inv.{dte_restarts, dce_restarts}
+use Rattle.lapb.proofs.DteSteps.{dte_goes, dte_offers, dte_sets_up_from_up, dte_sets_up_from_down, dte_sets_again}
+use Rattle.lapb.proofs.DteSteps.{dte_declines, dte_comes_up}
 use Rattle.lapb.proofs.DceSteps.{dce_goes, dce_offers, dce_declines, dce_enters_act}
 
 abbrev sent : Content → Bool → Bool → ℕ → Sent

@@ -1,125 +1,25 @@
 -- Every frame of two links has a spelling, so that the octets on the line are read as they were meant.
-use Rattle.std.specs.Prelude.{
-  map,
-  ◌≡◌,
-  ℕ,
-  zero,
-  suc,
-  ◌+◌,
-  ◌%◌,
-  ◌<◌,
-  ◌≤◌,
-  Bool,
-  true,
-  false,
-  not,
-  ◌&&◌,
-  List,
-  [],
-  ◌∷◌,
-  ◌++◌,
-  length,
-  drop,
-  if◌then◌else◌,
-  ◌==◌,
-  nat_le,
-}
+use Rattle.std.specs.Prelude.{map, ◌≡◌, ℕ, zero, suc, ◌+◌, ◌%◌, ◌<◌, ◌≤◌, Bool, true, false, not, ◌&&◌, List, [], ◌∷◌}
+use Rattle.std.specs.Prelude.{◌++◌, length, drop, if◌then◌else◌, ◌==◌, nat_le}
 use Rattle.std.proofs.Common.{refl, ap, ◌∙◌, arith}
 use Rattle.link_timers.specs.declared.role.Role.{Role}
 use Rattle.link_timers.specs.declared.role.Role.TheVariants.{Dte, Dce}
 use Rattle.link_timers.specs.Role.{other_of}
-use Rattle.frame_codec.specs.Frame.{
-  FrameValue,
-  Content,
-  Report,
-  I,
-  Rr,
-  Rnr,
-  Rej,
-  Sabm,
-  Disc,
-  Dm,
-  Ua,
-  Frmr,
-}
+use Rattle.frame_codec.specs.Frame.{FrameValue, Content, Report, I, Rr, Rnr, Rej, Sabm, Disc, Dm, Ua, Frmr}
 use Rattle.frame_codec.specs.Spelling.{spelling, HasSpelling, HasNumbers, control_of}
 use Rattle.frame_codec.specs.Reading.{reading}
 use Rattle.frame_codec.proofs.Grammar.{reading-spelling}
 use Rattle.lapb.specs.declared.phase.Phase.{Phase}
-use Rattle.lapb.specs.Machine.{
-  Octets,
-  Link,
-  Step,
-  Defect,
-  UndefinedControl,
-  InformationNotAllowed,
-  InformationTooLong,
-  ahead,
-  answers,
-  response,
-  command,
-  numbered,
-  still,
-  sends,
-  set_up,
-  disconnect,
-  relink,
-  relink_as,
-  come_up,
-  reject_as,
-  reject_number,
-  report_of,
-  defect_report,
-  is_valid,
-  acknowledged,
-  on_supervisory,
-  accept,
-  discard,
-  on_information,
-  in_up,
-  in_setting_up,
-  in_down,
-  in_rejecting,
-  in_phase,
-  on_content,
-  on_frame,
-  on_defect,
-  on_defect_in,
-  on_t1,
-  runs,
-  expire_in,
-  poll,
-  send_all,
-  settle,
-  settle_in,
-  offer,
-  can_offer,
-  is_same,
-  new,
-}
-use Rattle.lapb.specs.World.{
-  Sent,
-  World,
-  Params,
-  Event,
-  Offer,
-  Deliver,
-  Lose,
-  Expire,
-  Relink,
-  Settle,
-  Restart,
-  stamped,
-  kept_of,
-  dte_does,
-  dce_does,
-  dce_enters,
-  to_dte,
-  to_dce,
-  without_first,
-  happens,
-  opening,
-}
+use Rattle.lapb.specs.Machine.{Octets, Link, Step, Defect, UndefinedControl, InformationNotAllowed}
+use Rattle.lapb.specs.Machine.{InformationTooLong, ahead, answers, response, command, numbered, still, sends, set_up}
+use Rattle.lapb.specs.Machine.{disconnect, relink, relink_as, come_up, reject_as, reject_number, report_of}
+use Rattle.lapb.specs.Machine.{defect_report, is_valid, acknowledged, on_supervisory, accept, discard, on_information}
+use Rattle.lapb.specs.Machine.{in_up, in_setting_up, in_down, in_rejecting, in_phase, on_content, on_frame, on_defect}
+use Rattle.lapb.specs.Machine.{on_defect_in, on_t1, runs, expire_in, poll, send_all, settle, settle_in, offer}
+use Rattle.lapb.specs.Machine.{can_offer, is_same, new}
+use Rattle.lapb.specs.World.{Sent, World, Params, Event, Offer, Deliver, Lose, Expire, Relink, Settle, Restart}
+use Rattle.lapb.specs.World.{stamped, kept_of, dte_does, dce_does, dce_enters, to_dte, to_dce, without_first, happens}
+use Rattle.lapb.specs.World.{opening}
 use Rattle.lapb.specs.Octets.{on_octets, on_reading}
 use Rattle.lapb.specs.Fits.{AllShort, ReportFits, IsFit, AllSpelt, AreFit, IsShort, octets_of}
 use Rattle.lapb.proofs.Cases.{cond_by, Each, each-kept}

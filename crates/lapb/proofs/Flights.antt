@@ -2,17 +2,7 @@
 use Rattle.std.specs.Prelude.{◌≡◌, ℕ, ◌+◌, ◌<◌, ◌≤◌, Bool, true, false, not, ◌⊎◌, List, [], ◌∷◌, ◌++◌}
 use Rattle.std.proofs.Common.{refl, sym, ◌∙◌, subst, inl, inr, arith}
 use Rattle.frame_codec.specs.Frame.{FrameValue, Content}
-use Rattle.frame_codec.specs.Frame.Content.{
-  I,
-  Rr,
-  Rnr,
-  Rej,
-  Sabm,
-  Disc,
-  Dm,
-  Ua,
-  Frmr,
-}
+use Rattle.frame_codec.specs.Frame.Content.{I, Rr, Rnr, Rej, Sabm, Disc, Dm, Ua, Frmr}
 use Rattle.lapb.specs.World.{Sent, stamped, is_sabm, is_ua, is_frmr, NoFrmr}
 use Rattle.lapb.proofs.Cases.{Each}
 use Rattle.lapb.proofs.Steps.{is_numbered}

@@ -1,23 +1,6 @@
 -- What every state of two links and their line meets, and that a loss, a restart or silence keeps it.
-use Rattle.std.specs.Prelude.{
-  ◌≡◌,
-  ℕ,
-  ◌<◌,
-  ◌≤◌,
-  Bool,
-  true,
-  false,
-  ◌⊎◌,
-  List,
-  [],
-  ◌∷◌,
-  ◌++◌,
-  Option,
-  Some,
-  None,
-  if◌then◌else◌,
-  ◌==◌,
-}
+use Rattle.std.specs.Prelude.{◌≡◌, ℕ, ◌<◌, ◌≤◌, Bool, true, false, ◌⊎◌, List, [], ◌∷◌, ◌++◌, Option, Some, None}
+use Rattle.std.specs.Prelude.{if◌then◌else◌, ◌==◌}
 use Rattle.std.proofs.Common.{refl, sym, ap, ◌∙◌, subst, inl, inr, arith, append-nil, eqb-true}
 use Rattle.std.proofs.lemmas.Bool.{eqb-false}
 use Rattle.link_timers.specs.declared.role.Role.{Role}
@@ -29,18 +12,8 @@ use Rattle.lapb.specs.Named.{with_packet}
 use Rattle.lapb.specs.World.{Sent, World, logged, stamped, kept_of, remade, IsPrefix}
 use Rattle.lapb.proofs.Cases.{cond_by, phase_by}
 use Rattle.lapb.proofs.Halves.{Half, half-lost, half-lost_back, half-emptied, half-x_out, half-y_out}
-use Rattle.lapb.proofs.Flights.{
-  NoSabmOf,
-  NoSabm,
-  NoAnswer,
-  NoNumbered,
-  NoneOf,
-  Stamped,
-  Ups,
-  ups-lower,
-  Downs,
-  downs-lower,
-}
+use Rattle.lapb.proofs.Flights.{NoSabmOf, NoSabm, NoAnswer, NoNumbered, NoneOf, Stamped, Ups, ups-lower, Downs}
+use Rattle.lapb.proofs.Flights.{downs-lower}
 
 -- nothing of session c was accepted, nothing with N(R) is on the way to the DTE, and the DCE has not heard the DTE
 pub record Fresh (phase : Phase) (heard : Bool) (c : ℕ) (dte_accepted dce_accepted : List Octets) (down : List Sent) :

@@ -19,3 +19,4 @@ pub mod Fitting
 pub mod Lines
 pub mod Sessions
 pub mod Rising
+mod PlainFrames

@@ -7,31 +7,9 @@ use Rattle.link_timers.specs.declared.role.Role.TheVariants.{Dte, Dce}
 use Rattle.frame_codec.specs.Frame.{FrameValue}
 use Rattle.frame_codec.specs.Spelling.{spelling}
 use Rattle.lapb.specs.Machine.{Octets, Link, Step, on_frame, on_t1, relink, settle, offer, new}
-use Rattle.lapb.specs.World.{
-  Sent,
-  World,
-  Event,
-  Offer,
-  Deliver,
-  Lose,
-  Expire,
-  Relink,
-  Settle,
-  Restart,
-  stamped,
-  kept_of,
-  dte_does,
-  dce_does,
-  dce_enters,
-  to_dte,
-  to_dce,
-  without_first,
-  remade,
-  Params,
-  opening,
-  happens,
-  act_after,
-}
+use Rattle.lapb.specs.World.{Sent, World, Event, Offer, Deliver, Lose, Expire, Relink, Settle, Restart, stamped}
+use Rattle.lapb.specs.World.{kept_of, dte_does, dce_does, dce_enters, to_dte, to_dce, without_first, remade, Params}
+use Rattle.lapb.specs.World.{opening, happens, act_after}
 use Rattle.lapb.specs.Octets.{on_octets}
 use Rattle.lapb.specs.Fits.{AllSpelt, IsShort, octets_of}
 use Rattle.lapb.specs.Line.{chosen, StandsIn}

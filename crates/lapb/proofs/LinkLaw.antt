@@ -1,83 +1,18 @@
 -- The law of the link: it holds as the line is made, each event keeps it, and it says what is promised.
-use Rattle.std.specs.Prelude.{
-  ◌≡◌,
-  ℕ,
-  ◌+◌,
-  ◌<◌,
-  ◌≤◌,
-  Bool,
-  true,
-  false,
-  not,
-  ◌&&◌,
-  List,
-  [],
-  ◌∷◌,
-  ◌++◌,
-  if◌then◌else◌,
-  ◌==◌,
-}
+use Rattle.std.specs.Prelude.{◌≡◌, ℕ, ◌+◌, ◌<◌, ◌≤◌, Bool, true, false, not, ◌&&◌, List, [], ◌∷◌, ◌++◌, if◌then◌else◌}
+use Rattle.std.specs.Prelude.{◌==◌}
 use Rattle.std.proofs.Common.{refl, sym, ap, ◌∙◌, subst, inl, inr, arith, eqb-true}
 use Rattle.std.proofs.lemmas.Bool.{eqb-false}
 use Rattle.link_timers.specs.declared.role.Role.TheVariants.{Dte, Dce}
 use Rattle.frame_codec.specs.Frame.{Content}
-use Rattle.frame_codec.specs.Frame.Content.{
-  I,
-  Rr,
-  Rnr,
-  Rej,
-  Sabm,
-  Disc,
-  Dm,
-  Ua,
-  Frmr,
-}
+use Rattle.frame_codec.specs.Frame.Content.{I, Rr, Rnr, Rej, Sabm, Disc, Dm, Ua, Frmr}
 use Rattle.lapb.specs.declared.phase.Phase.{Phase}
 use Rattle.lapb.specs.declared.note.Note.{Note}
-use Rattle.lapb.specs.Machine.{
-  Octets,
-  Link,
-  send_all,
-  sendable,
-  settle,
-  settle_in,
-  on_frame,
-  still,
-  first_phase,
-  is_same,
-  come_up,
-}
-use Rattle.lapb.specs.World.{
-  Sent,
-  World,
-  Params,
-  Event,
-  Offer,
-  Deliver,
-  Lose,
-  Expire,
-  Relink,
-  Settle,
-  Restart,
-  dte_does,
-  to_dte,
-  to_dce,
-  act_after,
-  is_setting_up,
-  is_sabm,
-  is_ua,
-  happens,
-  run,
-  opening,
-  Always,
-  InOrder,
-  IsQuiet,
-  AllQuiet,
-  AreUp,
-  answer_to,
-  ComesUp,
-  BeginsFresh,
-}
+use Rattle.lapb.specs.Machine.{Octets, Link, send_all, sendable, settle, settle_in, on_frame, still, first_phase}
+use Rattle.lapb.specs.Machine.{is_same, come_up}
+use Rattle.lapb.specs.World.{Sent, World, Params, Event, Offer, Deliver, Lose, Expire, Relink, Settle, Restart}
+use Rattle.lapb.specs.World.{dte_does, to_dte, to_dce, act_after, is_setting_up, is_sabm, is_ua, happens, run}
+use Rattle.lapb.specs.World.{opening, Always, InOrder, IsQuiet, AllQuiet, AreUp, answer_to, ComesUp, BeginsFresh}
 use Rattle.lapb.proofs.Cases.{cond_by, prefix-refl}
 use Rattle.lapb.proofs.Flights.{OfDown, ups-no_reject, downs-no_reject}
 use Rattle.lapb.proofs.Inv.{IsFresh, Inv, dte_in, by_dte, by_dce}

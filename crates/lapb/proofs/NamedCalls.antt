@@ -1,26 +1,9 @@
 -- What N(S) and N(R) name after octets were taken: the laws of frames and of frames that cannot be taken, joined.
 use Rattle.std.specs.Prelude.{Result, Ok, Err}
 use Rattle.frame_codec.specs.declared.fault.FrameFault.{FrameFault}
-use Rattle.frame_codec.specs.declared.fault.FrameFault.TheVariants.{
-  TooShort,
-  WrongAddress,
-  UnknownControl,
-  InfoNotAllowed,
-  InfoTooLong,
-}
-use Rattle.frame_codec.specs.Frame.{
-  FrameValue,
-  Content,
-  I,
-  Rr,
-  Rnr,
-  Rej,
-  Sabm,
-  Disc,
-  Dm,
-  Ua,
-  Frmr,
-}
+use Rattle.frame_codec.specs.declared.fault.FrameFault.TheVariants.{TooShort, WrongAddress, UnknownControl}
+use Rattle.frame_codec.specs.declared.fault.FrameFault.TheVariants.{InfoNotAllowed, InfoTooLong}
+use Rattle.frame_codec.specs.Frame.{FrameValue, Content, I, Rr, Rnr, Rej, Sabm, Disc, Dm, Ua, Frmr}
 use Rattle.frame_codec.specs.Spelling.{HasNumbers}
 use Rattle.frame_codec.specs.Reading.{reading}
 use Rattle.frame_codec.proofs.Outcomes.{AreOctets}

@@ -1,133 +1,25 @@
 -- N(S) names the place of a packet among the offered ones and N(R) how many were accepted, in every frame that a link
 -- sends.
-use Rattle.std.specs.Prelude.{
-  ◌≡◌,
-  ℕ,
-  suc,
-  ◌+◌,
-  ◌-◌,
-  ◌%◌,
-  ◌<◌,
-  ◌≤◌,
-  Bool,
-  true,
-  false,
-  not,
-  ◌&&◌,
-  ◌||◌,
-  ◌⊎◌,
-  List,
-  [],
-  ◌∷◌,
-  ◌++◌,
-  length,
-  drop,
-  Option,
-  if◌then◌else◌,
-  ◌==◌,
-  nat_le,
-}
-use Rattle.std.proofs.Common.{
-  refl,
-  sym,
-  ap,
-  ◌∙◌,
-  subst,
-  inl,
-  inr,
-  arith,
-  length-append,
-  length-drop,
-  drop-drop,
-  le-leb,
-  leb-true,
-  leb-false,
-}
+use Rattle.std.specs.Prelude.{◌≡◌, ℕ, suc, ◌+◌, ◌-◌, ◌%◌, ◌<◌, ◌≤◌, Bool, true, false, not, ◌&&◌, ◌||◌, ◌⊎◌, List, []}
+use Rattle.std.specs.Prelude.{◌∷◌, ◌++◌, length, drop, Option, if◌then◌else◌, ◌==◌, nat_le}
+use Rattle.std.proofs.Common.{refl, sym, ap, ◌∙◌, subst, inl, inr, arith, length-append, length-drop, drop-drop}
+use Rattle.std.proofs.Common.{le-leb, leb-true, leb-false}
 use Rattle.std.proofs.lemmas.List.{drop-append-le}
 use Rattle.link_timers.specs.declared.role.Role.{Role}
 use Rattle.link_timers.specs.declared.role.Role.TheVariants.{Dte, Dce}
 use Rattle.frame_codec.specs.Spelling.{control_of}
 use Rattle.frame_codec.specs.Frame.{FrameValue, Content, Report}
-use Rattle.frame_codec.specs.Frame.Content.{
-  I,
-  Rr,
-  Rnr,
-  Rej,
-  Sabm,
-  Disc,
-  Dm,
-  Ua,
-  Frmr,
-}
+use Rattle.frame_codec.specs.Frame.Content.{I, Rr, Rnr, Rej, Sabm, Disc, Dm, Ua, Frmr}
 use Rattle.lapb.specs.declared.phase.Phase.{Phase}
 use Rattle.lapb.specs.declared.note.Note.{Note}
-use Rattle.lapb.specs.Machine.{
-  Octets,
-  Link,
-  Step,
-  Defect,
-  ahead,
-  answers,
-  response,
-  command,
-  numbered,
-  still,
-  sends,
-  set_up,
-  disconnect,
-  relink,
-  relink_as,
-  come_up,
-  take_sabm,
-  take_disc,
-  reject_as,
-  reject_number,
-  report_of,
-  defect_report,
-  is_valid,
-  acknowledged,
-  on_supervisory,
-  accept,
-  discard,
-  on_information,
-  checked,
-  in_up,
-  in_setting_up,
-  in_down,
-  in_rejecting,
-  in_phase,
-  on_content,
-  on_frame,
-  on_defect,
-  on_defect_in,
-  on_t1,
-  runs,
-  expire_in,
-  poll,
-  send_all,
-  sendable,
-  settle,
-  settle_in,
-  offer,
-  can_offer,
-  is_full,
-  is_same,
-}
-use Rattle.lapb.specs.Named.{
-  Session,
-  begun,
-  Counts,
-  Agrees,
-  IsNamed,
-  AreNamed,
-  with_packet,
-  newly,
-  session_after,
-  after_offer,
-  IsInRange,
-  Keeps,
-  NamesAfter,
-}
+use Rattle.lapb.specs.Machine.{Octets, Link, Step, Defect, ahead, answers, response, command, numbered, still, sends}
+use Rattle.lapb.specs.Machine.{set_up, disconnect, relink, relink_as, come_up, take_sabm, take_disc, reject_as}
+use Rattle.lapb.specs.Machine.{reject_number, report_of, defect_report, is_valid, acknowledged, on_supervisory}
+use Rattle.lapb.specs.Machine.{accept, discard, on_information, checked, in_up, in_setting_up, in_down, in_rejecting}
+use Rattle.lapb.specs.Machine.{in_phase, on_content, on_frame, on_defect, on_defect_in, on_t1, runs, expire_in, poll}
+use Rattle.lapb.specs.Machine.{send_all, sendable, settle, settle_in, offer, can_offer, is_full, is_same}
+use Rattle.lapb.specs.Named.{Session, begun, Counts, Agrees, IsNamed, AreNamed, with_packet, newly, session_after}
+use Rattle.lapb.specs.Named.{after_offer, IsInRange, Keeps, NamesAfter}
 use Rattle.lapb.proofs.Cases.{cond_by, Each}
 use Rattle.lapb.proofs.Halves.{drop-first}
 use Rattle.lapb.proofs.Steps.{is_numbered}

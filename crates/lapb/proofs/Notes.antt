@@ -5,60 +5,14 @@ use Rattle.std.proofs.Common.{refl, sym, ap, ◌∙◌, subst}
 use Rattle.link_timers.specs.declared.role.Role.{Role}
 use Rattle.link_timers.specs.declared.role.Role.TheVariants.{Dte, Dce}
 use Rattle.frame_codec.specs.Frame.{FrameValue, Content, Report}
-use Rattle.frame_codec.specs.Frame.Content.{
-  I,
-  Rr,
-  Rnr,
-  Rej,
-  Sabm,
-  Disc,
-  Dm,
-  Ua,
-  Frmr,
-}
+use Rattle.frame_codec.specs.Frame.Content.{I, Rr, Rnr, Rej, Sabm, Disc, Dm, Ua, Frmr}
 use Rattle.lapb.specs.declared.phase.Phase.{Phase}
 use Rattle.lapb.specs.declared.note.Note.{Note}
-use Rattle.lapb.specs.Machine.{
-  Octets,
-  Link,
-  Step,
-  Defect,
-  response,
-  still,
-  sends,
-  left,
-  relink,
-  relink_as,
-  come_up,
-  reject_as,
-  reject_number,
-  report_of,
-  defect_report,
-  is_valid,
-  acknowledged,
-  on_supervisory,
-  accept,
-  discard,
-  on_information,
-  in_up,
-  in_setting_up,
-  in_down,
-  in_rejecting,
-  in_phase,
-  on_content,
-  on_frame,
-  on_defect,
-  on_defect_in,
-  on_t1,
-  expire_in,
-  runs,
-  poll,
-  send_all,
-  sendable,
-  settle,
-  settle_in,
-  is_same,
-}
+use Rattle.lapb.specs.Machine.{Octets, Link, Step, Defect, response, still, sends, left, relink, relink_as, come_up}
+use Rattle.lapb.specs.Machine.{reject_as, reject_number, report_of, defect_report, is_valid, acknowledged}
+use Rattle.lapb.specs.Machine.{on_supervisory, accept, discard, on_information, in_up, in_setting_up, in_down}
+use Rattle.lapb.specs.Machine.{in_rejecting, in_phase, on_content, on_frame, on_defect, on_defect_in, on_t1}
+use Rattle.lapb.specs.Machine.{expire_in, runs, poll, send_all, sendable, settle, settle_in, is_same}
 use Rattle.lapb.proofs.Cases.{cond_by}
 
 -- ---- a frame in the information transfer phase begins no session

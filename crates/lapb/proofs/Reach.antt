@@ -4,20 +4,8 @@ use Rattle.std.proofs.Common.{refl, sym, ap, ◌∙◌, subst, arith, length-dro
 use Rattle.frame_codec.specs.Frame.{FrameValue}
 use Rattle.lapb.specs.declared.phase.Phase.{Phase}
 use Rattle.lapb.specs.Machine.{Octets, Link}
-use Rattle.lapb.specs.World.{
-  Sent,
-  World,
-  Params,
-  Event,
-  happens,
-  run,
-  opening,
-  stamped,
-  kept_of,
-  InOrder,
-  ComesUp,
-  BeginsFresh,
-}
+use Rattle.lapb.specs.World.{Sent, World, Params, Event, happens, run, opening, stamped, kept_of, InOrder, ComesUp}
+use Rattle.lapb.specs.World.{BeginsFresh}
 use Rattle.lapb.specs.Reach.{Reached, frames_of}
 use Rattle.lapb.specs.Named.{Counts, Agrees}
 use Rattle.lapb.proofs.Halves.{Half}

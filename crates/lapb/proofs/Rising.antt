@@ -1,123 +1,27 @@
 -- Sessions come in rising order: the acts of SABMs, the sessions of both ends, and what each call tells.
-use Rattle.std.specs.Prelude.{
-  ◌≡◌,
-  ℕ,
-  ◌+◌,
-  ◌<◌,
-  ◌≤◌,
-  Bool,
-  true,
-  false,
-  not,
-  ◌&&◌,
-  ◌⊎◌,
-  List,
-  [],
-  ◌∷◌,
-  Option,
-  Some,
-  None,
-  if◌then◌else◌,
-  nat_le,
-  ◌==◌,
-  Result,
-  Ok,
-  Err,
-}
+use Rattle.std.specs.Prelude.{◌≡◌, ℕ, ◌+◌, ◌<◌, ◌≤◌, Bool, true, false, not, ◌&&◌, ◌⊎◌, List, [], ◌∷◌, Option, Some}
+use Rattle.std.specs.Prelude.{None, if◌then◌else◌, nat_le, ◌==◌, Result, Ok, Err}
 use Rattle.std.proofs.Common.{refl, sym, ap, ◌∙◌, subst, inl, inr, arith}
 use Rattle.link_timers.specs.declared.role.Role.{Role}
 use Rattle.link_timers.specs.declared.role.Role.TheVariants.{Dte, Dce}
 use Rattle.frame_codec.specs.declared.fault.FrameFault.{FrameFault}
-use Rattle.frame_codec.specs.declared.fault.FrameFault.TheVariants.{
-  TooShort,
-  WrongAddress,
-  UnknownControl,
-  InfoNotAllowed,
-  InfoTooLong,
-}
+use Rattle.frame_codec.specs.declared.fault.FrameFault.TheVariants.{TooShort, WrongAddress, UnknownControl}
+use Rattle.frame_codec.specs.declared.fault.FrameFault.TheVariants.{InfoNotAllowed, InfoTooLong}
 use Rattle.frame_codec.specs.Frame.{FrameValue, Content, Report}
-use Rattle.frame_codec.specs.Frame.Content.{
-  I,
-  Rr,
-  Rnr,
-  Rej,
-  Sabm,
-  Disc,
-  Dm,
-  Ua,
-  Frmr,
-}
+use Rattle.frame_codec.specs.Frame.Content.{I, Rr, Rnr, Rej, Sabm, Disc, Dm, Ua, Frmr}
 use Rattle.frame_codec.specs.Reading.{reading}
 use Rattle.frame_codec.specs.Spelling.{spelling}
 use Rattle.lapb.specs.declared.phase.Phase.{Phase}
 use Rattle.lapb.specs.declared.note.Note.{Note}
-use Rattle.lapb.specs.Machine.{
-  Octets,
-  Link,
-  Step,
-  left,
-  answers,
-  response,
-  still,
-  sends,
-  relink,
-  relink_as,
-  come_up,
-  reject_as,
-  reject_number,
-  is_valid,
-  acknowledged,
-  on_supervisory,
-  accept,
-  discard,
-  on_information,
-  in_up,
-  in_setting_up,
-  in_down,
-  in_rejecting,
-  in_phase,
-  on_content,
-  on_frame,
-  on_t1,
-  expire_in,
-  runs,
-  poll,
-  numbered,
-  send_all,
-  sendable,
-  settle,
-  settle_in,
-  is_same,
-  is_up,
-}
+use Rattle.lapb.specs.Machine.{Octets, Link, Step, left, answers, response, still, sends, relink, relink_as, come_up}
+use Rattle.lapb.specs.Machine.{reject_as, reject_number, is_valid, acknowledged, on_supervisory, accept, discard}
+use Rattle.lapb.specs.Machine.{on_information, in_up, in_setting_up, in_down, in_rejecting, in_phase, on_content}
+use Rattle.lapb.specs.Machine.{on_frame, on_t1, expire_in, runs, poll, numbered, send_all, sendable, settle}
+use Rattle.lapb.specs.Machine.{settle_in, is_same, is_up}
 use Rattle.lapb.specs.Octets.{on_octets, on_reading, on_fault}
-use Rattle.lapb.specs.World.{
-  Sent,
-  World,
-  Params,
-  Event,
-  Offer,
-  Deliver,
-  Lose,
-  Expire,
-  Relink,
-  Settle,
-  Restart,
-  stamped,
-  kept_of,
-  is_sabm,
-  is_setting_up,
-  is_up_note,
-  act_after,
-  dte_does,
-  to_dte,
-  to_dce,
-  without_first,
-  happens,
-  run,
-  opening,
-  Always,
-}
+use Rattle.lapb.specs.World.{Sent, World, Params, Event, Offer, Deliver, Lose, Expire, Relink, Settle, Restart}
+use Rattle.lapb.specs.World.{stamped, kept_of, is_sabm, is_setting_up, is_up_note, act_after, dte_does, to_dte}
+use Rattle.lapb.specs.World.{to_dce, without_first, happens, run, opening, Always}
 use Rattle.lapb.specs.Reach.{Reached}
 use Rattle.lapb.specs.Fits.{AllSpelt, octets_of}
 use Rattle.lapb.specs.Line.{StandsIn}
@@ -126,19 +30,8 @@ use Rattle.lapb.proofs.Cases.{cond_by, Each, each-kept, each-weaken}
 use Rattle.lapb.proofs.Flights.{Flight, flight-append, flight-stamped, Ups}
 use Rattle.lapb.proofs.Inv.{Inv}
 use Rattle.lapb.proofs.Events.{happens-keeps}
-use Rattle.lapb.proofs.Notes.{
-  Says,
-  begins,
-  continues,
-  ends,
-  stays_out,
-  says_on_frame,
-  says_on_t1,
-  says_relink,
-  says_settle,
-  says_on_defect,
-  dte_begins,
-}
+use Rattle.lapb.proofs.Notes.{Says, begins, continues, ends, stays_out, says_on_frame, says_on_t1, says_relink}
+use Rattle.lapb.proofs.Notes.{says_settle, says_on_defect, dte_begins}
 use Rattle.lapb.proofs.LinkLaw.{opening-meets, always-inv}
 use Rattle.lapb.proofs.Reach.{reached_inv}
 use Rattle.lapb.proofs.Fitting.{octets_taken}

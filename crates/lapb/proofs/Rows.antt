@@ -8,42 +8,11 @@ use Rattle.frame_codec.specs.Frame.Content.{Rr, Sabm, Ua, Frmr}
 use Rattle.lapb.specs.declared.phase.Phase.{Phase}
 use Rattle.lapb.specs.declared.note.Note.{Note}
 use Rattle.lapb.specs.declared.note.Timing.{Timing}
-use Rattle.lapb.specs.Machine.{
-  Octets,
-  Link,
-  Step,
-  UndefinedControl,
-  InformationNotAllowed,
-  InformationTooLong,
-  no_report,
-  command,
-  response,
-  on_frame,
-  on_defect,
-  on_t1,
-  timing,
-  can_offer,
-  is_full,
-  at_rest,
-}
-use Rattle.lapb.specs.World.{
-  Sent,
-  World,
-  Event,
-  Offer,
-  Deliver,
-  Lose,
-  Expire,
-  Relink,
-  Settle,
-  run,
-  opening,
-  is_sabm,
-  AllQuiet,
-  happens,
-  answer_to,
-  MayCarry,
-}
+use Rattle.lapb.specs.Machine.{Octets, Link, Step, UndefinedControl, InformationNotAllowed, InformationTooLong}
+use Rattle.lapb.specs.Machine.{no_report, command, response, on_frame, on_defect, on_t1, timing, can_offer, is_full}
+use Rattle.lapb.specs.Machine.{at_rest}
+use Rattle.lapb.specs.World.{Sent, World, Event, Offer, Deliver, Lose, Expire, Relink, Settle, run, opening, is_sabm}
+use Rattle.lapb.specs.World.{AllQuiet, happens, answer_to, MayCarry}
 
 abbrev controls : List Sent → List ℕ
 controls [] = []

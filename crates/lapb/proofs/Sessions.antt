@@ -7,21 +7,8 @@ use Rattle.frame_codec.specs.Frame.{FrameValue, Content, I, Rr, Rnr, Rej, Sabm, 
 use Rattle.frame_codec.specs.Spelling.{spelling}
 use Rattle.lapb.specs.declared.phase.Phase.{Phase}
 use Rattle.lapb.specs.declared.note.Note.{Note}
-use Rattle.lapb.specs.Machine.{
-  Octets,
-  Link,
-  Step,
-  response,
-  still,
-  sends,
-  left,
-  in_phase,
-  in_up,
-  in_down,
-  in_rejecting,
-  on_content,
-  on_frame,
-}
+use Rattle.lapb.specs.Machine.{Octets, Link, Step, response, still, sends, left, in_phase, in_up, in_down}
+use Rattle.lapb.specs.Machine.{in_rejecting, on_content, on_frame}
 use Rattle.lapb.specs.World.{Sent, World, Deliver, logged, emptied, is_sabm, is_up_note, to_dte, to_dce, happens}
 use Rattle.lapb.specs.Octets.{on_octets}
 use Rattle.lapb.specs.Fits.{AllSpelt, octets_of}

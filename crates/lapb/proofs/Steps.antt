@@ -1,83 +1,21 @@
 -- What a link that is up makes of both directions of its session: by a frame with N(R), by T1, at the end of an
 -- event.
-use Rattle.std.specs.Prelude.{
-  ◌≡◌,
-  ℕ,
-  ◌+◌,
-  ◌%◌,
-  Bool,
-  true,
-  false,
-  not,
-  ◌&&◌,
-  ◌||◌,
-  List,
-  [],
-  ◌∷◌,
-  ◌++◌,
-  length,
-  drop,
-  Option,
-  ◌⊎◌,
-  if◌then◌else◌,
-  nat_le,
-  nat_lt,
-  ◌==◌,
-}
+use Rattle.std.specs.Prelude.{◌≡◌, ℕ, ◌+◌, ◌%◌, Bool, true, false, not, ◌&&◌, ◌||◌, List, [], ◌∷◌, ◌++◌, length, drop}
+use Rattle.std.specs.Prelude.{Option, ◌⊎◌, if◌then◌else◌, nat_le, nat_lt, ◌==◌}
 use Rattle.std.proofs.Common.{refl, sym, subst, inl, inr, eqb-true}
 use Rattle.link_timers.specs.declared.role.Role.{Role}
 use Rattle.frame_codec.specs.Frame.{FrameValue, Content}
-use Rattle.frame_codec.specs.Frame.Content.{
-  I,
-  Rr,
-  Rnr,
-  Rej,
-  Sabm,
-  Disc,
-  Dm,
-  Ua,
-  Frmr,
-}
+use Rattle.frame_codec.specs.Frame.Content.{I, Rr, Rnr, Rej, Sabm, Disc, Dm, Ua, Frmr}
 use Rattle.lapb.specs.declared.phase.Phase.{Phase}
 use Rattle.lapb.specs.declared.note.Note.{Note}
-use Rattle.lapb.specs.Machine.{
-  Octets,
-  Link,
-  Step,
-  ahead,
-  answers,
-  response,
-  command,
-  numbered,
-  is_valid,
-  acknowledged,
-  on_supervisory,
-  accept,
-  discard,
-  on_information,
-  checked,
-  reject_number,
-  in_up,
-  poll,
-  send_all,
-  sendable,
-}
+use Rattle.lapb.specs.Machine.{Octets, Link, Step, ahead, answers, response, command, numbered, is_valid}
+use Rattle.lapb.specs.Machine.{acknowledged, on_supervisory, accept, discard, on_information, checked, reject_number}
+use Rattle.lapb.specs.Machine.{in_up, poll, send_all, sendable}
 use Rattle.lapb.specs.Named.{with_packet}
 use Rattle.lapb.specs.World.{Sent, stamped, kept_of}
 use Rattle.lapb.proofs.Cases.{cond_by, Each, each-kept}
-use Rattle.lapb.proofs.Halves.{
-  Half',
-  Carries,
-  Tells,
-  half-lost,
-  half-sent,
-  half-told,
-  half-acked,
-  half-accepted,
-  half-back,
-  half-sends_all,
-  numbered-tell,
-}
+use Rattle.lapb.proofs.Halves.{Half', Carries, Tells, half-lost, half-sent, half-told, half-acked, half-accepted}
+use Rattle.lapb.proofs.Halves.{half-back, half-sends_all, numbered-tell}
 
 abbrev pub is_numbered : Content → Bool
 is_numbered (I ns nr packet) = true

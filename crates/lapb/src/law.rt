@@ -1,3 +1,4 @@
+//! The law of a link with two ends.
 ghost use Rattle.lapb.specs.Machine.{Link};
 ghost use Rattle.lapb.specs.World.{Always, InOrder, ComesUp, BeginsFresh, MayCarry};
 ghost use Rattle.lapb.specs.Rising.{SessionsRise, CallsTell};

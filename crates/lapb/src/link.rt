@@ -1,3 +1,4 @@
+//! One end of a link (X.25 2.4; ISO 7776).
 ghost use Rattle.std.specs.Prelude.{◌≡◌, [], MatchResult};
 ghost use Rattle.lapb.specs.Machine as machine;
 ghost use Rattle.lapb.specs.Params.{AreParams};

@@ -1,3 +1,4 @@
+//! What a call of a link tells the packet layer, and what becomes of T1.
 /// What a call tells the packet layer of the link.
 #[derive(Clone, Copy, PartialEq, Eq)]
 pub enum Note {

@@ -1,3 +1,4 @@
+//! What the calls of a link give: frames, a note, and what becomes of T1.
 ghost use Rattle.std.specs.Prelude.{◌≡◌, ◌∷◌, [], length, take, drop, true, false, ◌≤◌};
 ghost use Rattle.frame_codec.specs.Spelling.{spelling, HasSpelling};
 ghost use Rattle.frame_codec.specs.Views.{value_of};

@@ -1,3 +1,4 @@
+//! The phases of a link.
 /// Where a link stands (X.25 2.4.4).
 #[derive(Clone, Copy, PartialEq, Eq)]
 pub enum Phase {

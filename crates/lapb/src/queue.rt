@@ -1,3 +1,4 @@
+//! The packets that a link holds until they are acknowledged.
 ghost use Rattle.std.specs.Prelude.{◌≡◌, ◌≤◌, ◌<◌, ◌+◌, [], ◌∷◌, ◌++◌, length, drop, slice_get, slice_set, Some, None};
 ghost use Rattle.flow_window.specs.Pool.{Holds, Balances};
 ghost use Rattle.lapb.specs.Machine.{is_empty};
@@ -118,7 +119,7 @@ impl Queue {
         }
     }
 
-    /// The same, for a call that seldom finds one.
+    /// Gives the buffers back as `give_back` does, for a call that seldom finds any.
     #[inline(always)]
     pub(crate) fn give_back_any(&mut self, pool: &mut Pool)
         requires { Holds pool.old self.old.held }

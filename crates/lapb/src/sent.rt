@@ -1,3 +1,4 @@
+//! The frames that a link sends, by their kinds.
 ghost use Rattle.std.specs.Prelude.{◌≡◌};
 ghost use Rattle.frame_codec.specs.Views.{content_of, value_of};
 ghost use Rattle.lapb.specs.Machine as machine;

@@ -1,3 +1,4 @@
+//! The end of a line: its link, its timers, and the frames that go out.
 ghost use Rattle.std.specs.Prelude.{
   ◌≡◌,
   ◌≤◌,

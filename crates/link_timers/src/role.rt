@@ -1,3 +1,4 @@
+//! The roles of the two ends of a line.
 ghost use Rattle.std.specs.Prelude.{◌≡◌};
 ghost use Rattle.link_timers.specs.Role.{other_of};
 

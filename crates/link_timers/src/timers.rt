@@ -1,3 +1,4 @@
+//! The timers of an end of a line.
 ghost use Rattle.std.specs.Prelude.{
   ◌≡◌,
   ◌≢◌,

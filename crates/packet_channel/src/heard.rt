@@ -1,3 +1,4 @@
+//! What a packet of data transfer was.
 /// What a packet of data transfer was (X.25 4.3, 4.4).
 #[derive(Clone, Copy)]
 pub(crate) enum Heard {

@@ -117,14 +117,14 @@ impl PacketEnd {
         self.end.relink(&mut self.pool);
     }
 
-    /// Whether the packet layer asks for it.
+    /// Whether the packet layer asks for a relink.
     pub fn must_relink(&self) -> bool
         ensures { result ≡ self.now.layer.relink }
     {
         self.end.must_relink()
     }
 
-    /// Does so where the packet layer asks for it.
+    /// Relinks the link if the packet layer asks for it.
     pub fn relink_if_due(&mut self)
         requires { length self.old.notes ≤ 64 }
         ensures end { self.new ≡ relinked_if_due self.old }
@@ -135,8 +135,8 @@ impl PacketEnd {
         }
     }
 
-    /// Begins anew after a restart of the node, as on a line that does not stand. What went before is forgotten, also
-    /// frames and notes.
+    /// Restarts the end of the line with its node, as on a line that does not stand. All that went before is forgotten,
+    /// frames and notes too.
     pub fn restart(&mut self)
         ensures { self.new ≡ restarted self.old }
     {

@@ -149,7 +149,7 @@ impl PooledEnd {
         self.gather();
     }
 
-    /// Whether the packet layer asks for it.
+    /// Whether the packet layer asks for a relink.
     pub fn must_relink(&self) -> bool
         ensures { result ≡ self.now.end.layer.relink }
     {

@@ -56,7 +56,8 @@ impl Model for Stack {
 }
 
 impl Stack {
-    /// It takes all the memory that it ever uses, but for the pool. `OutOfMemory` comes for want of memory.
+    /// The stack of this role. It takes all the memory that it ever uses, except the pool. `OutOfMemory` comes for want
+    /// of memory.
     pub(crate) fn new(
         alloc: Global,
         role: Role,

@@ -1,3 +1,4 @@
+//! How a packet layer is to be made.
 ghost use Rattle.std.specs.Prelude.{◌≡◌, MatchResult};
 ghost use Rattle.packet_layer.specs.Params.{AreParams};
 ghost use Rattle.packet_layer.specs.declared.fault.MakeFault.TheVariants as make_fault;

@@ -1,3 +1,4 @@
+//! What was put into a buffer, for proofs.
 // What was put into a buffer. It exists only in proofs.
 ghost use Rattle.std.specs.Prelude.{◌≡◌, List, ℕ};
 ghost use Rattle.std.specs.Borrow.{ftrue};

@@ -1,3 +1,4 @@
+//! The numbers of the buffers in use.
 ghost use Rattle.std.specs.Prelude.{◌≡◌};
 ghost use Rattle.flow_window.specs.Slot.{octets_in};
 

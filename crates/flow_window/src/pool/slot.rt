@@ -1,3 +1,4 @@
+//! The places of the buffers of a pool.
 ghost use Rattle.std.specs.Prelude.{◌≡◌, ◌≤◌, ◌++◌, length, drop, Some, None, is_some, true, IfOk};
 
 use std::alloc::{AllocError, Global};

@@ -13,7 +13,7 @@ use flow_window::pool::Pool;
 use packet_channel::{Channel, ChannelFault, Front};
 
 impl Layer {
-    /// Whether it is certain that no packet goes to the link next, so that none need be asked for.
+    /// Whether certainly no packet goes to the link next, so that none need be asked for.
     pub fn is_certainly_silent(&self) -> bool
         ensures { OnTrue result (is_some (machine.next_packet self.now.layer).packet ≡ false) }
     {
