@@ -10,7 +10,7 @@ use Rattle.address_routes.specs.Routes.{RouteMap}
 use Rattle.switch_lines.specs.declared.place.Place.{Place}
 use Rattle.switch_lines.specs.declared.place.Joined.{Joined}
 use Rattle.switch_lines.specs.Lines.{SwitchLine, changed}
-use Rattle.switch_lines.specs.Switch.{Switch, with_end, acted, to_relink, relinked_at, all_relinked, lines_first, rounds, finished, all_begun, quieted, notes_of, without_notes, heed_all, on_frame, on_timer}
+use Rattle.switch_lines.specs.Switch.{Switch, with_end, acted, to_relink, relinked_at, all_relinked, lines_first, rounds, finished, all_begun, quieted, notes_of, without_notes, heed_all, on_frame, on_expiry}
 use Rattle.switch_laws.specs.World.{World, Act, layers_of, after_acts}
 use Rattle.switch_laws.specs.Joined.{IsSwitch, Becomes}
 use Rattle.switch_laws.specs.Steps.{Step, Happening, does, lines_after, lines_after_all, on_line, happening_acts, acts_of, acts_of_all}
@@ -257,7 +257,7 @@ frame_calls n octets s h cs are first i a =
 timer_calls : TimerCalls
 unfolding nothing_beside
 timer_calls n id s h cs i a =
-    (calls_after nothing_beside (λ acts ys bs ds q r. tt) (λ p q j ls bs ds g m a e r. tt) (λ p j ls bs ds c r. tt) n (RunsOut id) s (on_timer n id s) h cs (λ p q parts ls bs ds j r. tt) refl (λ line e. timer_effect n id line.end) tt tt i a tt).0
+    (calls_after nothing_beside (λ acts ys bs ds q r. tt) (λ p q j ls bs ds g m a e r. tt) (λ p j ls bs ds c r. tt) n (RunsOut id) s (on_expiry n id s) h cs (λ p q parts ls bs ds j r. tt) refl (λ line e. timer_effect n id line.end) tt tt i a tt).0
 
 -- ---- the calls that an event joins
 

@@ -11,7 +11,7 @@ use Rattle.switch_lines.specs.declared.config.LineConfig.{LineConfig}
 use Rattle.switch_lines.specs.Making.{IsConfig, made}
 use Rattle.switch_lines.specs.declared.place.NewJoin.{NewJoin}
 use Rattle.switch_lines.specs.NewJoins.{new_joins}
-use Rattle.switch_lines.specs.Switch.{Switch, on_frame, on_timer, elapse, restart}
+use Rattle.switch_lines.specs.Switch.{Switch, on_frame, on_expiry, elapse, restart}
 use Rattle.switch_laws.specs.Steps.{Happening}
 use Rattle.switch_laws.specs.Steps.Happening.{Brings, RunsOut}
 use Rattle.switch_laws.specs.EventSteps.{event_steps}
@@ -48,7 +48,7 @@ FrameCalls = (n : ℕ) (octets : Octets) (s : Switch) (h : Histories) (cs : List
 abbrev pub TimerCalls : Type 0
 TimerCalls = (n : ℕ) (id : TimerId) (s : Switch) (h : Histories) (cs : List JoinedCall) → IsTied s h
     → AreCalls s.lines h.books cs
-    → AreCalls (on_timer n id s).lines (happened n (RunsOut id) s h).books (cs ++ calls_in n (RunsOut id) s h)
+    → AreCalls (on_expiry n id s).lines (happened n (RunsOut id) s h).books (cs ++ calls_in n (RunsOut id) s h)
 
 abbrev pub ElapseCalls : Type 0
 ElapseCalls = (ticks : ℕ) (s : Switch) (h : Histories) (cs : List JoinedCall) → IsTied s h

@@ -262,7 +262,18 @@ const UNKNOWN_CONTROL: &[Turn] = &[
         &[&[0x01, 0x97, 0xFF, 0x00, 0x01]],
     )),
     Dce(In(Phase::Rejecting)),
+    Dce(Take(
+        &[0x01, 0x11],
+        Note::Nothing,
+        &[&[0x01, 0x97, 0xFF, 0x00, 0x01]],
+    )),
 ];
+
+const A_SABM_WITH_INFORMATION: &[Turn] = &[Dce(Take(
+    &[0x01, 0x3F, 0x00],
+    Note::Down,
+    &[&[0x01, 0x97, 0x3F, 0x00, 0x03]],
+))];
 
 const A_BAD_NUMBER: &[Turn] = &[
     Dce(Take(
@@ -301,6 +312,10 @@ fn unknown_control() -> &'static [Turn<'static>] {
     UNKNOWN_CONTROL
 }
 
+fn a_sabm_with_information() -> &'static [Turn<'static>] {
+    A_SABM_WITH_INFORMATION
+}
+
 fn a_bad_number() -> &'static [Turn<'static>] {
     A_BAD_NUMBER
 }
@@ -335,6 +350,25 @@ fn links_do_what_the_rules_say(rt: HostRuntime) {
         unknown_control(),
     );
     play_up(&rt, alloc, "a bad number is reported", a_bad_number());
+    play_up(
+        &rt,
+        alloc,
+        "a SABM with information is reported",
+        a_sabm_with_information(),
+    );
+}
+
+// An I frame with 146 octets, one more than an information field may have.
+#[test]
+fn too_long_a_frame_is_reported(rt: HostRuntime) {
+    let alloc = rt.alloc();
+    let mut dte = link(&rt, alloc, Role::Dte);
+    let mut dce = link(&rt, alloc, Role::Dce);
+    play_at(&rt, &mut dte, &mut dce, "both come up", set_up());
+    let mut octets = [0u8; 148];
+    octets[0] = 0x01;
+    let act = Take(&octets, Note::Down, &[&[0x01, 0x87, 0x00, 0x00, 0x04]]);
+    assert!(&rt; fits(&mut dce, act));
 }
 
 // Takes all frames of one end at the other, and the end of the event there. The packet that is expected next there is

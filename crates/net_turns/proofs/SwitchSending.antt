@@ -1,13 +1,13 @@
 -- The loop by which the frames of an own line of a switch are put, and how many lines a switch has.
 use Rattle.std.proofs.Common.{◌≡◌, ℕ, ◌<◌, zero, suc, arith, length, List, [], ◌∷◌, ◌++◌, drop, map, Some, refl, sym, ap, ◌∙◌, subst, append_assoc}
-use Rattle.std.specs.Prelude.{slice_get}
+use Rattle.std.specs.Prelude.{Bool, true, false, if◌then◌else◌, slice_get}
 use Rattle.std.proofs.lemmas.List.{append-nil, length-map}
 use Rattle.lapb.specs.Machine.{Octets}
 use Rattle.packet_end.specs.PacketEnd.{PacketEnd, without_first_frame}
 use Rattle.memory_line.specs.declared.line.Direction.TheVariants.{FromDce}
 use Rattle.memory_line.specs.Lines.{Flights, IsPut, LineService, ArePut}
 use Rattle.switch_lines.specs.Lines.{SwitchLine, changed}
-use Rattle.switch_lines.specs.Switch.{Switch, frames_on, with_end, without_frame, without_joins}
+use Rattle.switch_lines.specs.Switch.{Switch, frames_on, timer_runs, on_expiry, with_end, without_frame, without_joins}
 use Rattle.switch_lines.proofs.Places.{fused}
 use Rattle.switch_laws.specs.Steps.{Happening, does, Step, lines_after, lines_after_all}
 use Rattle.switch_laws.specs.Steps.Happening.{Brings, RunsOut}
@@ -131,5 +131,9 @@ event_lines n what s = ap length (sym (event_leads s.routes n what s.lines)) ∙
 -- no event changes it
 pub switched_lines : (event : SwitchEvent) (s : Switch) → length (switched event s).lines ≡ length s.lines
 switched_lines (Hears own octets) s = event_lines own (Brings octets) s
-switched_lines (Expires own id) s = event_lines own (RunsOut id) s
+switched_lines (Expires own id) s = by_running (timer_runs (slice_get s.lines own) id)
+  where
+    by_running : (ran : Bool) → length (if ran then on_expiry own id s else s).lines ≡ length s.lines
+    by_running true = event_lines own (RunsOut id) s
+    by_running false = refl
 switched_lines Restarts s = length-map s.lines without_joins

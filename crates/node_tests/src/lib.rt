@@ -16,6 +16,8 @@ mod pad_steps;
 #[cfg(test)]
 mod pads;
 #[cfg(test)]
+mod partners;
+#[cfg(test)]
 mod routes;
 #[cfg(test)]
 mod switch_steps;

@@ -176,8 +176,8 @@ impl Bench {
         }
     }
 
-    // A frame arrives at the switch.
-    fn arrive(&mut self, line: usize, octets: &[u8]) {
+    /// A frame arrives at the switch.
+    pub(crate) fn arrive(&mut self, line: usize, octets: &[u8]) {
         if line < self.switch.lines() {
             if let Some(join) = self.switch.receive(line, octets) {
                 self.joined = Some(join);
@@ -200,7 +200,8 @@ impl Bench {
         sent || came
     }
 
-    fn flow(&mut self) {
+    /// All frames arrive, and those that they are answered by.
+    pub(crate) fn flow(&mut self) {
         for _ in 0..64 {
             let first = self.deliver(0);
             let second = self.deliver(1);
@@ -277,7 +278,8 @@ impl Bench {
         self.collect();
     }
 
-    fn is_joined(&self, line: usize, channel: u8, other: Option<(usize, u8)>) -> bool {
+    /// Whether a channel is joined to this one, or to none.
+    pub(crate) fn is_joined(&self, line: usize, channel: u8, other: Option<(usize, u8)>) -> bool {
         self.switch.joins(Place { line, channel }) == other.map(place)
     }
 
@@ -290,6 +292,35 @@ impl Bench {
             placed: place(placed),
         };
         join == joined
+    }
+
+    /// The partner on a line hands a packet to its link, if that takes it.
+    pub(crate) fn hand(&mut self, line: usize, packet: &[u8]) {
+        if let Some(partner) = self.partners.get_mut(line) {
+            let _ = partner.send(packet);
+        }
+    }
+
+    /// The partner on a line sets its link up anew.
+    pub(crate) fn relink(&mut self, line: usize) {
+        if let Some(partner) = self.partners.get_mut(line) {
+            let _ = partner.end.relink();
+            partner.end.settle();
+        }
+    }
+
+    /// A timer of a line expires at the switch, if it runs.
+    pub(crate) fn expire(&mut self, line: usize, id: TimerId) {
+        let _ = self.expires(line, id, true);
+    }
+
+    /// Takes the packets that the partner on a line heard, and answers those that ask for an answer. Whether one of
+    /// them was of this channel.
+    pub(crate) fn reply(&mut self, line: usize, channel: u8) -> bool {
+        match self.partners.get_mut(line) {
+            Some(partner) => partner.reply(channel),
+            None => false,
+        }
     }
 
     fn expires(&mut self, line: usize, id: TimerId, runs: bool) -> bool {
@@ -327,9 +358,39 @@ impl Partner {
         !self.heard.is_empty() && self.heard.remove(0).as_slice() == packet
     }
 
+    // Takes the packets that were heard, and answers them. Whether one of them was of this channel.
+    fn reply(&mut self, channel: u8) -> bool {
+        let mut of_channel = false;
+        for _ in 0..self.heard.len() {
+            if self.heard.is_empty() {
+                break;
+            }
+            let packet = self.heard.remove(0);
+            if let [first, number, code, ..] = packet.as_slice() {
+                of_channel = of_channel || *number == channel;
+                if let Some(code) = reply_to(*code) {
+                    let _ = self.send(&[*first, *number, code]);
+                }
+            }
+        }
+        of_channel
+    }
+
     // Whether one frame came, of these octets.
     fn takes_frame(&mut self, octets: &[u8]) -> bool {
         self.coming.len() == 1 && self.coming.remove(0).as_slice() == octets
+    }
+}
+
+// The type of the packet that answers one of this type, if one does.
+fn reply_to(code: u8) -> Option<u8> {
+    match code {
+        0x0b => Some(0x0f),
+        0x13 => Some(0x17),
+        0x1b => Some(0x1f),
+        0x23 => Some(0x27),
+        0xfb => Some(0xff),
+        _ => None,
     }
 }
 

@@ -9,12 +9,13 @@ use link_timers::TimerId;
 use std::alloc::Global;
 use std::process::Abort;
 
-const RESTART_BY_DTE: &[u8] = &[0x10, 0x00, 0xfb, 0x00, 0x00];
+/// A Restart of a DTE.
+pub(crate) const RESTART_BY_DTE: &[u8] = &[0x10, 0x00, 0xfb, 0x00, 0x00];
 
 const RESTART_BY_DCE: &[u8] = &[0x10, 0x00, 0xfb, 0x07, 0x00];
 
-// The links and the packet layers of lines 0 and 1 come up, and those of line 2.
-const BEGINNING: &[Step] = &[
+/// The links and the packet layers of lines 0 and 1 come up, and those of line 2.
+pub(crate) const BEGINNING: &[Step] = &[
     Flow,
     Hears(0, RESTART_BY_DCE),
     Hears(1, RESTART_BY_DCE),

@@ -10,8 +10,8 @@ use Rattle.switch_lines.specs.declared.place.Place.{Place}
 use Rattle.switch_lines.specs.declared.place.Joined.{Joined}
 use Rattle.switch_lines.specs.Lines.{SwitchLine, joined_at, places}
 use Rattle.switch_lines.specs.Relay.{relayed_from, places_of, both_legs, legs_at, legs_of, relayed_first}
-use Rattle.switch_lines.specs.Switch.{Switch, with_end, acted, all_begun, may_offer, offering_from, offered_from, lines_first, rounds, on_frame, on_timer}
-use Rattle.switch_lines.specs.Alone.{relayed_alone, rounds_alone, on_frame_alone, on_timer_alone}
+use Rattle.switch_lines.specs.Switch.{Switch, with_end, acted, all_begun, may_offer, offering_from, offered_from, lines_first, rounds, on_frame, on_expiry}
+use Rattle.switch_lines.specs.Alone.{relayed_alone, rounds_alone, on_frame_alone, on_expiry_alone}
 use Rattle.switch_lines.proofs.Rounds.{from_both}
 use Rattle.packet_laws.specs.Readable.{AreOctets}
 use Rattle.switch_laws.specs.World.{World}
@@ -122,7 +122,7 @@ frame_alone n octets s w are i all =
     let c = came n octets s.routes s.lines w (readable n octets s.lines are) i in
     ap (λ (ms : List SwitchLine). record s { lines = ms }) (event_alone n (λ e. received e octets) s b.world c.world b.right c.right all)
 
-timer_alone : (n : ℕ) (id : TimerId) (s : Switch) (w : World) → IsSwitch s.lines w → HasRelayedAll s.lines → on_timer_alone n id s ≡ on_timer n id s
+timer_alone : (n : ℕ) (id : TimerId) (s : Switch) (w : World) → IsSwitch s.lines w → HasRelayedAll s.lines → on_expiry_alone n id s ≡ on_expiry n id s
 timer_alone n id s w i all =
     let b = begun_right s.lines w i in
     let c = ran n id s.routes s.lines w i in

@@ -116,7 +116,7 @@ same_refusal ls ms p q e = line_refusal ms p.line p.channel q ∙ (ap (λ (o : O
 
 -- ---- links that are set up anew
 
-relinks_beside : (most : ℕ) (o : Option ℕ) (routes : RouteMap) (ls : List SwitchLine) (w : World) → to_relink ls ≡ o → IsSwitch ls w → (p : Place) (j : Joined) → joined_at ls p ≡ Some j
+pub relinks_beside : (most : ℕ) (o : Option ℕ) (routes : RouteMap) (ls : List SwitchLine) (w : World) → to_relink ls ≡ o → IsSwitch ls w → (p : Place) (j : Joined) → joined_at ls p ≡ Some j
     → IsNone p.line (relinks_of most o routes ls) → IsNone j.other.line (relinks_of most o routes ls) → SameShown ls (all_relinked most routes ls) p
 relinks_beside zero o routes ls w t i p j e a b = refl
 relinks_beside (suc most) None routes ls w t i p j e a b = ap (λ (ms : List SwitchLine). shown_at (layers_of ms) p) (none_relinks (suc most) routes ls t)
@@ -130,7 +130,7 @@ relinks_beside (suc most) (Some n) routes ls w t i p j e a b =
 
 -- ---- a channel on no line of an event
 
-none_of : (lines : List ℕ) (n : ℕ) → is_one_of lines n ≡ false → IsNone n lines
+pub none_of : (lines : List ℕ) (n : ℕ) → is_one_of lines n ≡ false → IsNone n lines
 none_of [] n e = tt
 none_of (m ∷ ms) n e = let both = neither (m == n) (is_one_of ms n) e in ((λ h. not_equal m n both.0 (sym h)), none_of ms n both.1)
   where
@@ -245,7 +245,7 @@ same_line ls ms p e =
     ap (λ (o : Option Layer). shown_on o p.channel)
     (get_map (λ l. l.end.layer) ms p.line ∙ (ap (λ (o : Option SwitchLine). option_map (λ l. l.end.layer) o) e ∙ sym (get_map (λ l. l.end.layer) ls p.line)))
 
-joined_offered : (ls : List SwitchLine) (n c : ℕ) → joined_on (slice_get (map offers_line ls) n) c ≡ joined_on (slice_get ls n) c
+pub joined_offered : (ls : List SwitchLine) (n c : ℕ) → joined_on (slice_get (map offers_line ls) n) c ≡ joined_on (slice_get ls n) c
 joined_offered [] n c = refl
 joined_offered (l ∷ ls) zero c = refl
 joined_offered (l ∷ ls) (suc n) c = joined_offered ls n c

@@ -16,7 +16,7 @@ use Rattle.switch_lines.specs.declared.place.Place.{Place}
 use Rattle.switch_lines.specs.declared.place.Joined.{Joined}
 use Rattle.switch_lines.specs.Lines.{SwitchLine, changed, flat, nth_joined, joined_on, front_of_line, refusal_of_line}
 use Rattle.switch_lines.specs.Relay.{relayed_first}
-use Rattle.switch_lines.specs.Switch.{Switch, with_end, acted, to_relink, relinked_at, all_relinked, relinks_of, all_offered_on, may_offer, offering_from, offered_from, lines_first, rounds, finished, all_begun, on_frame, on_timer, restart, without_joins}
+use Rattle.switch_lines.specs.Switch.{Switch, with_end, acted, to_relink, relinked_at, all_relinked, relinks_of, all_offered_on, may_offer, offering_from, offered_from, lines_first, rounds, finished, all_begun, on_frame, on_expiry, restart, without_joins}
 use Rattle.switch_laws.specs.Leg.{Leg, gave}
 use Rattle.switch_laws.specs.Join.{Join, gives}
 use Rattle.switch_laws.specs.World.{World, Shown, Agrees, IsCallLeg, closed, shown_as, shown_on, shown_at, layers_of, world_after, gave_if}
@@ -345,11 +345,11 @@ frame_right n octets s w read i =
 pub frame_stuck : (n : ℕ) (octets : Octets) (s : Switch) (w : World) → Readable n octets s.lines → IsSwitch s.lines w → HasRelayedAll (on_frame n octets s).lines
 frame_stuck n octets s w read i = let a = came n octets s.routes s.lines w read i in finished_stuck s.routes n _ a.world a.right
 
-pub timer_right : (n : ℕ) (id : TimerId) (s : Switch) (w : World) → IsSwitch s.lines w → Becomes (event_acts s.routes n (RunsOut id) s.lines) s.lines w (on_timer n id s).lines
+pub timer_right : (n : ℕ) (id : TimerId) (s : Switch) (w : World) → IsSwitch s.lines w → Becomes (event_acts s.routes n (RunsOut id) s.lines) s.lines w (on_expiry n id s).lines
 timer_right n id s w i =
     let a = ran n id s.routes s.lines w i in event_right n (RunsOut id) s w a.world a.reached (finished_right s.routes n _ a.world a.right)
 
-pub timer_stuck : (n : ℕ) (id : TimerId) (s : Switch) (w : World) → IsSwitch s.lines w → HasRelayedAll (on_timer n id s).lines
+pub timer_stuck : (n : ℕ) (id : TimerId) (s : Switch) (w : World) → IsSwitch s.lines w → HasRelayedAll (on_expiry n id s).lines
 timer_stuck n id s w i = let a = ran n id s.routes s.lines w i in finished_stuck s.routes n _ a.world a.right
 
 -- ---- frames of octets
@@ -426,7 +426,7 @@ none_relinks zero routes ls e = refl
 none_relinks (suc most) routes ls e =
     ap (λ (o : Option ℕ). all_relinked most routes (relinked_at o routes ls)) e ∙ none_relinks most routes ls e
 
-relinks_leave : (most : ℕ) (o : Option ℕ) (routes : RouteMap) (ls : List SwitchLine) (w : World) → to_relink ls ≡ o → IsSwitch ls w → (p : Place) (j : Joined) → joined_at ls p ≡ Some j
+pub relinks_leave : (most : ℕ) (o : Option ℕ) (routes : RouteMap) (ls : List SwitchLine) (w : World) → to_relink ls ≡ o → IsSwitch ls w → (p : Place) (j : Joined) → joined_at ls p ≡ Some j
     → IsNone p.line (relinks_of most o routes ls) → IsNone j.other.line (relinks_of most o routes ls) → joined_at (all_relinked most routes ls) p ≡ Some j
 relinks_leave zero o routes ls w t i p j e a b = e
 relinks_leave (suc most) None routes ls w t i p j e a b = ap (λ (ms : List SwitchLine). joined_at ms p) (none_relinks (suc most) routes ls t) ∙ e
@@ -455,7 +455,7 @@ frame_leaves n octets s w are i =
     let c = came n octets s.routes s.lines w (readable n octets s.lines are) i in
     event_leaves n (λ e. received e octets) s b.world c.world b.right c.right
 
-timer_leaves : (n : ℕ) (id : TimerId) (s : Switch) (w : World) → IsSwitch s.lines w → OthersStay (n ∷ relinked_in n (λ e. after_timer e id) s) s.lines (on_timer n id s).lines
+timer_leaves : (n : ℕ) (id : TimerId) (s : Switch) (w : World) → IsSwitch s.lines w → OthersStay (n ∷ relinked_in n (λ e. after_timer e id) s) s.lines (on_expiry n id s).lines
 timer_leaves n id s w i =
     let b = begun_right s.lines w i in
     let c = ran n id s.routes s.lines w i in
@@ -474,7 +474,7 @@ frame_calls n octets s w are i all =
     let old = begun_line n s.lines line e in
     received_effect n octets line.end (subst (λ (l : SwitchLine). ReadsNumbers (link_octets.on_octets l.end.line.link octets).accepted) old.1.1 (read old.0 old.1.0))) (ends_keep begun s.lines (λ e. refl) all))
 
-timer_calls : (n : ℕ) (id : TimerId) (s : Switch) (w : World) → IsSwitch s.lines w → CallsAreJoined s.lines → CallsAreJoined (on_timer n id s).lines
+timer_calls : (n : ℕ) (id : TimerId) (s : Switch) (w : World) → IsSwitch s.lines w → CallsAreJoined s.lines → CallsAreJoined (on_expiry n id s).lines
 timer_calls n id s w i all =
     let b = begun_right s.lines w i in
     let c = ran n id s.routes s.lines w i in

@@ -6,6 +6,7 @@ use Rattle.std.specs.Prelude.{slice_get}
 use Rattle.std.specs.List.{list_any}
 use Rattle.std.proofs.lemmas.Option.{none-some, same_Some}
 use Rattle.link_timers.specs.declared.role.Role.TheVariants.{Dce}
+use Rattle.link_timers.specs.declared.timers.TimerId.{TimerId}
 use Rattle.lapb.specs.declared.phase.Phase.{Phase}
 use Rattle.lapb.specs.declared.phase.Phase.TheVariants as phase
 use Rattle.lapb.specs.Machine as link
@@ -29,15 +30,17 @@ use Rattle.switch_lines.specs.Lines.{SwitchLine, changed, flat, nth_joined, join
 use Rattle.switch_lines.specs.Relay.{relayed_first}
 use Rattle.switch_lines.specs.Making.{IsConfig, IsLineConfig, made, made_line}
 use Rattle.switch_lines.specs.Switch.{Switch, with_end, acted, all_begun, all_relinked, all_offered_on, finished}
-use Rattle.switch_lines.specs.Switch.{may_offer, offering_from, offered_from, lines_first, rounds, on_frame, on_timer}
+use Rattle.switch_lines.specs.Switch.{may_offer, offering_from, offered_from, lines_first, rounds, on_frame, timer_runs, on_expiry, on_timer}
 use Rattle.switch_lines.specs.Switch.{restart, elapse, without_joins, to_relink, raised}
 use Rattle.switch_laws.specs.Offers.{HaveSmallLinks, EndsKeepNothingBack}
 use Rattle.switch_laws.specs.Leg.{Leg}
 use Rattle.switch_laws.specs.Calls.{CallsAreJoined}
 use Rattle.switch_laws.specs.World.{World, Shown, Agrees, shown_as, shown_on, shown_at, layers_of, closed}
 use Rattle.switch_laws.specs.Joined.{IsSwitch, Becomes, Reached, has_nth, has_place_on, HasRelayedAll}
-use Rattle.switch_laws.specs.Events.{Event, after_event, MayCome, SwitchHolds, AfterEvent, HoldsOn, window_of, new_legs}
-use Rattle.switch_laws.specs.Events.{EventLaw}
+use Rattle.switch_laws.specs.Events.{Event, after_event, MayCome, SwitchHolds, AfterEvent, AfterExpiry, HoldsOn, window_of}
+use Rattle.switch_laws.specs.Events.{new_legs, EventLaw}
+use Rattle.switch_laws.specs.Steps.Happening.{Brings, RunsOut}
+use Rattle.switch_laws.specs.EventSteps.{event_acts}
 use Rattle.switch_laws.specs.Events.Event.{Arrives, Expires, Restarts, Elapses, Departs}
 use Rattle.switch_laws.specs.Events.HoldsOn.{ended, goes_on}
 use Rattle.switch_laws.proofs.Standing.{start_good}
@@ -54,10 +57,11 @@ use Rattle.switch_laws.proofs.Relinking.{finished_end}
 use Rattle.switch_laws.proofs.Concerning.{same_front, same_refusal}
 use Rattle.switch_laws.proofs.Coming.{begins_right}
 use Rattle.switch_laws.proofs.Finishing.{turns, restarted_joined}
+use Rattle.switch_laws.proofs.Fitting.{fit_list, fit_each, all_fit, same_fit, event_fits, restarted_fit, made_fit}
 
 -- ---- sizes of links
 
-links_small : (ls : List SwitchLine) → AreSmall (ks (lines_of ls)) → HaveSmallLinks ls
+pub links_small : (ls : List SwitchLine) → AreSmall (ks (lines_of ls)) → HaveSmallLinks ls
 links_small [] s n x e = absurd (none-some x e)
 links_small (l ∷ ls) s zero x e = subst (λ (y : SwitchLine). y.end.line.link.k ≤ 7) (same_Some l x e) s.0
 links_small (l ∷ ls) s (suc n) x e = links_small ls s.1 n x e
@@ -94,7 +98,7 @@ either_ks : (b : Bool) (x y : List SwitchLine) (k : List ℕ) → ks (lines_of x
 either_ks true x y k f g = f
 either_ks false x y k f g = g
 
-rounds_ks : (most : ℕ) (first : List ℕ) (ls : List SwitchLine) → ks (lines_of (rounds most first ls)) ≡ ks (lines_of ls)
+pub rounds_ks : (most : ℕ) (first : List ℕ) (ls : List SwitchLine) → ks (lines_of (rounds most first ls)) ≡ ks (lines_of ls)
 rounds_ks zero first ls = ap (λ (es : List End). ks es) (first_lines first ls)
 rounds_ks (suc most) first ls =
     let ms = relayed_first first ls in
@@ -214,12 +218,61 @@ steady_holds n f s w same h =
       no_relink = same_asking s.lines ms (map_unchanged (λ l. l.end.layer.relink) (with_end f) n s.lines
           (λ l. ap (λ (y : Layer). y.relink) (same.layer l.end))) ∙ h.no_relink;
       links = same_links s.lines ms (acted_ks n f s.lines (λ e. ap (λ (k : Link). k.k) (same.link e))) h.links;
+      fitting = fit_each ms (same_fit s.lines ms (map_unchanged (λ l. l.end.line.link) (with_end f) n s.lines
+          (λ l. same.link l.end)) (fit_list s.lines h.fitting));
     }
 
 first_steady : IsSteady without_first_frame
 first_steady = record { layer = λ e. refl; link = λ e. refl }
 
 -- ---- events
+
+pub expiry_stays : (n : ℕ) (id : TimerId) (s : Switch) (w : World) → SwitchHolds s w → AfterExpiry n id s w
+expiry_stays n id s w h =
+    let b = turns.timer n id s w h.joins in
+    record {
+      world = b.world;
+      moved = b.reached;
+      holds = record {
+        joins = b.right;
+        calls = turns.timer_joins_calls n id s w h.joins h.calls;
+        relayed = turns.timer_keeps_nothing_back n id s w h.joins;
+        offered = none_offer (on_expiry n id s).lines (turns.timer_offers n id s h.links);
+        no_relink = finished_end s.routes n (acted s.routes n (λ e. after_timer e id) (all_begun s.lines));
+        links = same_links s.lines (on_expiry n id s).lines
+            (finished_ks s.routes n _ ∙ (act_ks s.routes n (λ e. after_timer e id) (all_begun s.lines)
+            (λ e. timer_k id e) ∙ begun_ks s.lines)) h.links;
+        fitting = event_fits s.routes n (RunsOut id) s.lines h.fitting;
+      };
+      nothing_kept_back = turns.timer_offers n id s h.links;
+    }
+
+nothing_moved : (s : Switch) (w : World) → Reached [] s.lines w s.lines w
+nothing_moved s w = record { may = tt; layers = refl; legs = refl }
+
+-- an expiry, whether the timer runs or not
+either_stays : (n : ℕ) (id : TimerId) (s : Switch) (w : World) → SwitchHolds s w →
+    (ran : Bool) → timer_runs (slice_get s.lines n) id ≡ ran → AfterEvent (Expires n id) s w
+either_stays n id s w h true ran =
+    let a = expiry_stays n id s w h in
+    let is : on_expiry n id s ≡ on_timer n id s =
+    ap (λ (b : Bool). if b then on_expiry n id s else s) (sym ran) in
+    record {
+      world = a.world;
+      moved = subst (λ (b : Bool). Reached (if b then event_acts s.routes n (RunsOut id) s.lines else []) s.lines w
+          (if b then on_expiry n id s else s).lines a.world) (sym ran) a.moved;
+      holds = subst (λ (t : Switch). SwitchHolds t a.world) is a.holds;
+      nothing_kept_back = λ e. subst (λ (t : Switch). EndsKeepNothingBack t.lines) is a.nothing_kept_back;
+    }
+either_stays n id s w h false ran =
+    let is : s ≡ on_timer n id s = ap (λ (b : Bool). if b then on_expiry n id s else s) (sym ran) in
+    record {
+      world = w;
+      moved = subst (λ (b : Bool). Reached (if b then event_acts s.routes n (RunsOut id) s.lines else []) s.lines w
+          (if b then on_expiry n id s else s).lines w) (sym ran) (nothing_moved s w);
+      holds = subst (λ (t : Switch). SwitchHolds t w) is h;
+      nothing_kept_back = λ e. absurd (true≢false (sym e ∙ ran));
+    }
 
 stays : (event : Event) (s : Switch) (w : World) → MayCome event → SwitchHolds s w → AfterEvent event s w
 stays (Arrives n octets) s w are h =
@@ -236,26 +289,11 @@ stays (Arrives n octets) s w are h =
         links = same_links s.lines (on_frame n octets s).lines
             (finished_ks s.routes n _ ∙ (act_ks s.routes n (λ e. received e octets) (all_begun s.lines)
             (λ e. received_k octets e) ∙ begun_ks s.lines)) h.links;
+        fitting = event_fits s.routes n (Brings octets) s.lines h.fitting;
       };
       nothing_kept_back = turns.frame_offers n octets s h.links;
     }
-stays (Expires n id) s w are h =
-    let b = turns.timer n id s w h.joins in
-    record {
-      world = b.world;
-      moved = b.reached;
-      holds = record {
-        joins = b.right;
-        calls = turns.timer_joins_calls n id s w h.joins h.calls;
-        relayed = turns.timer_keeps_nothing_back n id s w h.joins;
-        offered = none_offer (on_timer n id s).lines (turns.timer_offers n id s h.links);
-        no_relink = finished_end s.routes n (acted s.routes n (λ e. after_timer e id) (all_begun s.lines));
-        links = same_links s.lines (on_timer n id s).lines
-            (finished_ks s.routes n _ ∙ (act_ks s.routes n (λ e. after_timer e id) (all_begun s.lines)
-            (λ e. timer_k id e) ∙ begun_ks s.lines)) h.links;
-      };
-      nothing_kept_back = turns.timer_offers n id s h.links;
-    }
+stays (Expires n id) s w are h = either_stays n id s w h (timer_runs (slice_get s.lines n) id) refl
 stays Restarts s w are h = record {
   world = λ x. closed (w x);
   moved = refl;
@@ -266,6 +304,7 @@ stays Restarts s w are h = record {
     offered = restarted_offer s.lines;
     no_relink = restarted_end s.lines;
     links = same_links s.lines (restart s).lines (restarted_ks s.lines) h.links;
+    fitting = fit_each (restart s).lines (restarted_fit s.lines);
   };
   nothing_kept_back = tt;
 }
@@ -282,6 +321,8 @@ stays (Elapses ticks) s w are h =
         offered = elapsed_offer ticks s.lines ∙ h.offered;
         no_relink = ends_ask (λ e. elapsed e ticks) s.lines (λ e. refl) ∙ h.no_relink;
         links = same_links s.lines (elapse ticks s).lines (all_ks (λ e. elapsed e ticks) s.lines (λ e. refl)) h.links;
+        fitting = fit_each (elapse ticks s).lines (all_fit (λ e. elapsed e ticks) s.lines (λ e g. g)
+            (fit_list s.lines h.fitting));
       };
       nothing_kept_back = tt;
     }
@@ -422,6 +463,7 @@ begins routes lines is = record {
   offered = new_offer lines is.each;
   no_relink = new_end lines;
   links = new_links lines is.each;
+  fitting = fit_each (map made_line lines) (made_fit lines);
 }
 
 pub events_hold : EventLaw

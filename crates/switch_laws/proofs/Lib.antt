@@ -34,3 +34,8 @@ pub mod Arriving
 pub mod Joining
 pub mod Keeping
 pub mod Alone
+pub mod Owing
+pub mod Isolating
+pub mod Untouched
+pub mod Fitting
+pub mod Framing

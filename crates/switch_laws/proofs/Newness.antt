@@ -21,7 +21,7 @@ use Rattle.switch_lines.specs.declared.place.Place.{Place}
 use Rattle.switch_lines.specs.declared.place.Joined.{Joined}
 use Rattle.switch_lines.specs.Lines.{SwitchLine, changed, flat, nth_joined, joined_on, joined_at, with_nth_joined, with_joined, ask, front_at, refusal_at}
 use Rattle.switch_lines.specs.Relay.{with_kept, freed, moved, moved_unless, moved_front, moved_joined, relayed, relayed_from, places_first, relayed_first, kept_anew, covered_on, told_joined, told_of}
-use Rattle.switch_lines.specs.Switch.{Switch, Answer, answer, answered, forwarded, place_call, heed, heed_all, with_end, notes_of, without_notes, quieted, acted, to_relink, relinked_at, all_relinked, may_offer, offering_from, offered_from, rounds, lines_first, finished, all_begun, on_frame, on_timer}
+use Rattle.switch_lines.specs.Switch.{Switch, Answer, answer, answered, forwarded, place_call, heed, heed_all, with_end, notes_of, without_notes, quieted, acted, to_relink, relinked_at, all_relinked, may_offer, offering_from, offered_from, rounds, lines_first, finished, all_begun, on_frame, on_expiry}
 use Rattle.switch_lines.specs.Switch.Answer.{Clears, Joins}
 use Rattle.switch_laws.specs.Concern.{before_relay}
 use Rattle.switch_laws.specs.Pairs.{caller, callee, IsNoted, WasJoined, IsNewJoin, JoinsByRoute, noted_in}
@@ -362,5 +362,5 @@ event_joins n f s =
 pub frame_joins : (n : ℕ) (octets : List ℕ) (s : Switch) → JoinsByRoute s.routes n (noted_in n (λ e. received e octets) s) s.lines (on_frame n octets s).lines
 frame_joins n octets s = event_joins n (λ e. received e octets) s
 
-pub timer_joins : (n : ℕ) (id : TimerId) (s : Switch) → JoinsByRoute s.routes n (noted_in n (λ e. after_timer e id) s) s.lines (on_timer n id s).lines
+pub timer_joins : (n : ℕ) (id : TimerId) (s : Switch) → JoinsByRoute s.routes n (noted_in n (λ e. after_timer e id) s) s.lines (on_expiry n id s).lines
 timer_joins n id s = event_joins n (λ e. after_timer e id) s

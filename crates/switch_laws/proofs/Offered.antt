@@ -26,7 +26,7 @@ use Rattle.switch_lines.specs.declared.place.Place.{Place}
 use Rattle.switch_lines.specs.declared.place.Joined.{Joined}
 use Rattle.switch_lines.specs.Lines.{SwitchLine, changed, joined_at, with_joined}
 use Rattle.switch_lines.specs.Relay.{freed, kept_anew, covered_on, told_joined, told_of}
-use Rattle.switch_lines.specs.Switch.{Switch, Answer, answer, answered, forwarded, place_call, heed, heed_all, with_end, notes_of, without_notes, quieted, acted, to_relink, relinked_at, all_relinked, may_offer, all_offered_on, lines_first, finished, all_begun, on_frame, on_timer}
+use Rattle.switch_lines.specs.Switch.{Switch, Answer, answer, answered, forwarded, place_call, heed, heed_all, with_end, notes_of, without_notes, quieted, acted, to_relink, relinked_at, all_relinked, may_offer, all_offered_on, lines_first, finished, all_begun, on_frame, on_expiry}
 use Rattle.switch_lines.specs.Switch.Answer.{Clears, Joins}
 use Rattle.switch_laws.specs.Offers.{HaveSmallLinks, EndsKeepNothingBack}
 use Rattle.switch_laws.proofs.Lists.{map_unchanged}
@@ -71,7 +71,7 @@ heed_lines routes n (WasReset c cause diagnostic reason) ls = told_of_lines _ (W
 heed_lines routes n (InterruptConfirmed c) ls = told_of_lines _ (InterruptConfirmed c) _ ls
 heed_lines routes n (Covered c k) ls = told_of_lines _ (Covered c k) _ ls
 
-heed_all_lines : (routes : RouteMap) (n : ℕ) (notes : List Note) (ls : List SwitchLine) → lines_of (heed_all routes n notes ls) ≡ lines_of ls
+pub heed_all_lines : (routes : RouteMap) (n : ℕ) (notes : List Note) (ls : List SwitchLine) → lines_of (heed_all routes n notes ls) ≡ lines_of ls
 heed_all_lines routes n [] ls = refl
 heed_all_lines routes n (x ∷ xs) ls = heed_all_lines routes n xs (heed routes n x ls) ∙ heed_lines routes n x ls
 
@@ -172,7 +172,7 @@ settled_sent e = settles_in e.line.link.phase e.line.link refl
 
 -- ---- all is offered
 
-abbrev HaveOfferedAll : List SwitchLine → Type 0
+abbrev pub HaveOfferedAll : List SwitchLine → Type 0
 HaveOfferedAll ls = (n : ℕ) (l : SwitchLine) → slice_get ls n ≡ Some l → HasOfferedAll l.end
 
 not_both : (e : PacketEnd) (a b : Bool) → can_offer e.line.link ≡ a → is_some (next_packet e.layer).packet ≡ b → (a && b) ≡ false → HasOfferedAll e
@@ -184,7 +184,7 @@ or_parts : (a b : Bool) → (a || b) ≡ false → (a ≡ false) × (b ≡ false
 or_parts true b e = absurd (true≢false e)
 or_parts false b e = (refl, e)
 
-none_may : (ls : List SwitchLine) → any_may ls ≡ false → HaveOfferedAll ls
+pub none_may : (ls : List SwitchLine) → any_may ls ≡ false → HaveOfferedAll ls
 none_may [] e n l got = absurd (none-some l got)
 none_may (x ∷ xs) e zero l got =
     subst (λ (y : SwitchLine). HasOfferedAll y.end) (same_Some x l got)
@@ -208,7 +208,7 @@ frame_offered n octets s h =
     finished_offered s.routes n (acted s.routes n (λ e. received e octets) (all_begun s.lines))
     (subst (λ (xs : List ℕ). AreSmall xs) (sym (act_ks s.routes n (λ e. received e octets) (all_begun s.lines) (λ e. received_k octets e) ∙ begun_ks s.lines)) (small_links s.lines h))
 
-pub timer_offered : (n : ℕ) (id : TimerId) (s : Switch) → HaveSmallLinks s.lines → EndsKeepNothingBack (on_timer n id s).lines
+pub timer_offered : (n : ℕ) (id : TimerId) (s : Switch) → HaveSmallLinks s.lines → EndsKeepNothingBack (on_expiry n id s).lines
 timer_offered n id s h =
     finished_offered s.routes n (acted s.routes n (λ e. after_timer e id) (all_begun s.lines))
     (subst (λ (xs : List ℕ). AreSmall xs) (sym (act_ks s.routes n (λ e. after_timer e id) (all_begun s.lines) (λ e. timer_k id e) ∙ begun_ks s.lines)) (small_links s.lines h))

@@ -309,7 +309,7 @@ acted_stays routes n f ls w i p j o = (acted_beside routes n f ls w i).stays p j
 
 -- ---- relays and offers keep all joins
 
-abbrev AllStay : List SwitchLine → List SwitchLine → Type 0
+abbrev pub AllStay : List SwitchLine → List SwitchLine → Type 0
 AllStay ls ms = (p : Place) (j : Joined) → joined_at ls p ≡ Some j → Stay j p ms
 
 stay_same : (ls ms : List SwitchLine) → ((p : Place) → joined_at ms p ≡ joined_at ls p) → AllStay ls ms
@@ -349,7 +349,7 @@ stay_front : (o : Option Taken) (q : Place) (k : Joined) (ls : List SwitchLine) 
 stay_front None q k ls got = stay_same ls ls (λ p. refl)
 stay_front (Some t) q k ls got = stay_unless (refusal_at ls k.other (request_for t)) t q k ls got
 
-stay_moved : (o : Option Joined) (q : Place) (ls : List SwitchLine) → joined_at ls q ≡ o → AllStay ls (moved_joined o q ls)
+pub stay_moved : (o : Option Joined) (q : Place) (ls : List SwitchLine) → joined_at ls q ≡ o → AllStay ls (moved_joined o q ls)
 stay_moved None q ls got = stay_same ls ls (λ p. refl)
 stay_moved (Some k) q ls got = stay_front (front_at ls q) q k ls got
 

@@ -12,8 +12,8 @@ use Rattle.switch_lines.specs.declared.place.Joined.{Joined}
 use Rattle.switch_lines.specs.Lines.{SwitchLine, joined_at, front_at, refusal_at, places}
 use Rattle.switch_lines.specs.Relay.{relayed_from, all_relayed}
 use Rattle.switch_lines.specs.Switch.{Switch, acted, all_begun, all_relinked, offered_from, offering_from, on_frame}
-use Rattle.switch_lines.specs.Switch.{on_timer}
-use Rattle.switch_lines.specs.Alone.{on_frame_alone, on_timer_alone}
+use Rattle.switch_lines.specs.Switch.{on_expiry}
+use Rattle.switch_lines.specs.Alone.{on_frame_alone, on_expiry_alone}
 use Rattle.packet_laws.specs.Readable.{AreOctets}
 use Rattle.switch_laws.specs.World.{World}
 use Rattle.switch_laws.specs.Joined.{IsSwitch, HasRelayedAll}
@@ -71,4 +71,4 @@ pub record ConcernLaw : Type 0 where
   pub frame_alone : (n : ℕ) (octets : List ℕ) (s : Switch) (w : World) → AreOctets octets → IsSwitch s.lines w
       → HasRelayedAll s.lines → on_frame_alone n octets s ≡ on_frame n octets s
   pub timer_alone : (n : ℕ) (id : TimerId) (s : Switch) (w : World) → IsSwitch s.lines w → HasRelayedAll s.lines
-      → on_timer_alone n id s ≡ on_timer n id s
+      → on_expiry_alone n id s ≡ on_expiry n id s

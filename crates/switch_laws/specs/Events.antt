@@ -1,5 +1,5 @@
 -- A switch as it is made, and whatever happens to it then: it stays one of which the laws speak.
-use Rattle.std.specs.Prelude.{◌≡◌, ℕ, false, List, [], ◌∷◌, slice_get, Option, Some, None}
+use Rattle.std.specs.Prelude.{◌≡◌, ℕ, true, false, if◌then◌else◌, List, [], ◌∷◌, slice_get, Option, Some, None}
 use Rattle.std.specs.List.{list_any}
 use Rattle.link_timers.specs.declared.role.Role.TheVariants.{Dce}
 use Rattle.link_timers.specs.declared.timers.TimerId.{TimerId}
@@ -10,9 +10,10 @@ use Rattle.address_routes.specs.Routes.{RouteMap}
 use Rattle.switch_lines.specs.declared.config.LineConfig.{LineConfig}
 use Rattle.switch_lines.specs.Lines.{SwitchLine}
 use Rattle.switch_lines.specs.Making.{IsConfig, made}
-use Rattle.switch_lines.specs.Switch.{Switch, on_frame, on_timer, restart, elapse, without_frame, to_relink, may_offer}
+use Rattle.switch_lines.specs.Switch.{Switch, on_frame, timer_runs, on_expiry, on_timer, restart, elapse, without_frame}
+use Rattle.switch_lines.specs.Switch.{to_relink, may_offer}
 use Rattle.switch_laws.specs.Calls.{CallsAreJoined}
-use Rattle.switch_laws.specs.Offers.{HaveSmallLinks, EndsKeepNothingBack}
+use Rattle.switch_laws.specs.Offers.{HaveSmallLinks, HaveFittingLinks, EndsKeepNothingBack}
 use Rattle.switch_laws.specs.World.{World, Act, closed}
 use Rattle.switch_laws.specs.Steps.Happening.{Brings, RunsOut}
 use Rattle.switch_laws.specs.EventSteps.{event_acts}
@@ -45,7 +46,8 @@ MayCome event = Unit {0}
 -- ---- what always holds of a switch and the legs of its channels
 
 -- all joins hold, each channel that has a call is joined, nothing waits on a leg that the other one takes, no link
--- takes a packet that its layer has, none has to be set up anew, and all are of the sizes that a switch is made with
+-- takes a packet that its layer has, none has to be set up anew, all are of the sizes that a switch is made with, and
+-- none keeps more packets than its k
 pub record SwitchHolds (s : Switch) (w : World) : Type 0 where
   pub joins : IsSwitch s.lines w
   pub calls : CallsAreJoined s.lines
@@ -53,11 +55,13 @@ pub record SwitchHolds (s : Switch) (w : World) : Type 0 where
   pub offered : list_any may_offer s.lines ≡ false
   pub no_relink : to_relink s.lines ≡ None
   pub links : HaveSmallLinks s.lines
+  pub fitting : HaveFittingLinks s.lines
 
--- the acts of the packet layers that an event is
+-- the acts of the packet layers that an event is: an expiry of a timer that does not run is none
 abbrev pub acts_of_event : Event → Switch → List Act
 acts_of_event (Arrives n octets) s = event_acts s.routes n (Brings octets) s.lines
-acts_of_event (Expires n id) s = event_acts s.routes n (RunsOut id) s.lines
+acts_of_event (Expires n id) s =
+    if timer_runs (slice_get s.lines n) id then event_acts s.routes n (RunsOut id) s.lines else []
 acts_of_event event s = []
 
 -- the packet layers and the legs move together, by these acts; in a restart all legs close
@@ -65,17 +69,34 @@ abbrev pub LegsMove : Event → Switch → World → List SwitchLine → World �
 LegsMove Restarts s w ms v = v ≡ (λ x. closed (w x))
 LegsMove event s w ms v = Reached (acts_of_event event s) s.lines w ms v
 
--- after a frame and after an expiry nothing is kept back in the packet layers and at the links either
-abbrev pub NothingIsKeptBack : Event → List SwitchLine → Type 0
-NothingIsKeptBack (Arrives n octets) ls = EndsKeepNothingBack ls
-NothingIsKeptBack (Expires n id) ls = EndsKeepNothingBack ls
-NothingIsKeptBack event ls = Unit {0}
+-- after a frame, and after an expiry of a timer that ran, nothing is kept back in the packet layers and at the links
+-- either
+abbrev pub NothingIsKeptBack : Event → Switch → List SwitchLine → Type 0
+NothingIsKeptBack (Arrives n octets) s ms = EndsKeepNothingBack ms
+NothingIsKeptBack (Expires n id) s ms = timer_runs (slice_get s.lines n) id ≡ true → EndsKeepNothingBack ms
+NothingIsKeptBack event s ms = Unit {0}
 
 pub record AfterEvent (event : Event) (s : Switch) (w : World) : Type 0 where
   pub world : World
   pub moved : LegsMove event s w (after_event event s).lines world
   pub holds : SwitchHolds (after_event event s) world
-  pub nothing_kept_back : NothingIsKeptBack event (after_event event s).lines
+  pub nothing_kept_back : NothingIsKeptBack event s (after_event event s).lines
+
+-- whatever legs it was a switch with of which the laws speak, they moved so, and with them it is one after the event
+pub record GoesOn (event : Event) (s : Switch) (w : World) (t : Switch) : Type 0 where
+  pub world : World
+  pub moved : LegsMove event s w t.lines world
+  pub holds : SwitchHolds t world
+
+abbrev pub KeepsLegs : Event → (old new : Switch) → Type 0
+KeepsLegs event old new = (w : World) → SwitchHolds old w → GoesOn event old w new
+
+-- so it is after an expiry of a timer that runs
+pub record AfterExpiry (n : ℕ) (id : TimerId) (s : Switch) (w : World) : Type 0 where
+  pub world : World
+  pub moved : Reached (event_acts s.routes n (RunsOut id) s.lines) s.lines w (on_expiry n id s).lines world
+  pub holds : SwitchHolds (on_expiry n id s) world
+  pub nothing_kept_back : EndsKeepNothingBack (on_expiry n id s).lines
 
 -- so it is after each of these events, one after the other
 pub data HoldsOn : List Event → Switch → World → Type 0 where

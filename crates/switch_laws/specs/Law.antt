@@ -12,7 +12,7 @@ use Rattle.switch_lines.specs.Direction.{new_direction}
 use Rattle.switch_lines.specs.declared.place.Place.{Place}
 use Rattle.switch_lines.specs.Lines.{SwitchLine, joined_at}
 use Rattle.switch_lines.specs.Relay.{all_relayed}
-use Rattle.switch_lines.specs.Switch.{Switch, answer, heed_all, on_frame, on_timer, restart, elapse}
+use Rattle.switch_lines.specs.Switch.{Switch, answer, heed_all, on_frame, on_expiry, restart, elapse}
 use Rattle.switch_lines.specs.Switch.Answer.{Joins}
 use Rattle.switch_laws.specs.Leg.{connected}
 use Rattle.switch_laws.specs.Way.{Way, Holds, IsRight, IsStuck, freed, moved, relayed}
@@ -81,21 +81,21 @@ pub record TurnLaw : Type 0 where
   pub frame_keeps_nothing_back : (n : ℕ) (octets : List ℕ) (s : Switch) (w : World) → AreOctets octets
       → IsSwitch s.lines w → HasRelayedAll (on_frame n octets s).lines
   pub timer : (n : ℕ) (id : TimerId) (s : Switch) (w : World) → IsSwitch s.lines w
-      → Becomes (event_acts s.routes n (RunsOut id) s.lines) s.lines w (on_timer n id s).lines
+      → Becomes (event_acts s.routes n (RunsOut id) s.lines) s.lines w (on_expiry n id s).lines
   pub timer_keeps_nothing_back : (n : ℕ) (id : TimerId) (s : Switch) (w : World) → IsSwitch s.lines w
-      → HasRelayedAll (on_timer n id s).lines
+      → HasRelayedAll (on_expiry n id s).lines
   pub frame_offers : (n : ℕ) (octets : List ℕ) (s : Switch) → HaveSmallLinks s.lines
       → EndsKeepNothingBack (on_frame n octets s).lines
   pub timer_offers : (n : ℕ) (id : TimerId) (s : Switch) → HaveSmallLinks s.lines
-      → EndsKeepNothingBack (on_timer n id s).lines
+      → EndsKeepNothingBack (on_expiry n id s).lines
   pub frame_joins_calls : (n : ℕ) (octets : List ℕ) (s : Switch) (w : World) → AreOctets octets → IsSwitch s.lines w
       → CallsAreJoined s.lines → CallsAreJoined (on_frame n octets s).lines
   pub timer_joins_calls : (n : ℕ) (id : TimerId) (s : Switch) (w : World) → IsSwitch s.lines w
-      → CallsAreJoined s.lines → CallsAreJoined (on_timer n id s).lines
+      → CallsAreJoined s.lines → CallsAreJoined (on_expiry n id s).lines
   pub frame_leaves_others : (n : ℕ) (octets : List ℕ) (s : Switch) (w : World) → AreOctets octets → IsSwitch s.lines w
       → OthersStay (n ∷ relinked_in n (λ e. end.received e octets) s) s.lines (on_frame n octets s).lines
   pub timer_leaves_others : (n : ℕ) (id : TimerId) (s : Switch) (w : World) → IsSwitch s.lines w
-      → OthersStay (n ∷ relinked_in n (λ e. end.after_timer e id) s) s.lines (on_timer n id s).lines
+      → OthersStay (n ∷ relinked_in n (λ e. end.after_timer e id) s) s.lines (on_expiry n id s).lines
   pub restarts : (s : Switch) (w : World) → IsSwitch s.lines w → IsSwitch (restart s).lines (λ x. closed (w x))
   pub restart_ends_calls : (s : Switch) (w : World) → IsSwitch s.lines w → (p : Place) → HasCall (restart s).lines p → ⊥
   pub elapses : (ticks : ℕ) (s : Switch) (w : World) → IsSwitch s.lines w

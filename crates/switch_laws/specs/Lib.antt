@@ -15,3 +15,5 @@ pub mod Pairs
 pub mod Concern
 pub mod Law
 pub mod Run
+pub mod Isolated
+pub mod Sent

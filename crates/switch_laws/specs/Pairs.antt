@@ -12,7 +12,7 @@ use Rattle.address_routes.specs.Routes.{RouteMap, line_for}
 use Rattle.switch_lines.specs.declared.place.Place.{Place}
 use Rattle.switch_lines.specs.declared.place.Joined.{Joined}
 use Rattle.switch_lines.specs.Lines.{SwitchLine, changed, joined_at}
-use Rattle.switch_lines.specs.Switch.{Switch, answer, has_any, on_frame, on_timer, all_begun, with_end, quieted}
+use Rattle.switch_lines.specs.Switch.{Switch, answer, has_any, on_frame, on_expiry, all_begun, with_end, quieted}
 use Rattle.switch_lines.specs.Switch.{notes_of}
 use Rattle.switch_lines.specs.Switch.Answer.{Clears, Joins}
 use Rattle.switch_laws.specs.World.{World}
@@ -94,7 +94,7 @@ pub record PairLaw : Type 0 where
   pub frame_joins : (n : ℕ) (octets : List ℕ) (s : Switch)
       → JoinsByRoute s.routes n (noted_in n (λ e. end.received e octets) s) s.lines (on_frame n octets s).lines
   pub timer_joins : (n : ℕ) (id : TimerId) (s : Switch)
-      → JoinsByRoute s.routes n (noted_in n (λ e. end.after_timer e id) s) s.lines (on_timer n id s).lines
+      → JoinsByRoute s.routes n (noted_in n (λ e. end.after_timer e id) s) s.lines (on_expiry n id s).lines
   pub have_calls : (ls : List SwitchLine) (w : World) (p : Place) (j : Joined) → IsSwitch ls w
       → joined_at ls p ≡ Some j → HasCall ls p × HasCall ls j.other
   pub have_partners : (ls : List SwitchLine) (w : World) (p : Place) → IsSwitch ls w → CallsAreJoined ls

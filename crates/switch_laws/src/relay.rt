@@ -1,8 +1,10 @@
 ghost use Rattle.switch_laws.specs.Concern.{ConcernLaw};
 ghost use Rattle.switch_laws.specs.Events.{EventLaw};
+ghost use Rattle.switch_laws.specs.Isolated.{IsolationLaw};
 ghost use Rattle.switch_laws.specs.Law.{JoinLaw, RelayLaw, SwitchLaw, TurnLaw};
 ghost use Rattle.switch_laws.specs.Pairs.{PairLaw};
 ghost use Rattle.switch_laws.specs.Run.{RunLaw};
+ghost use Rattle.switch_laws.specs.Sent.{SentLaw};
 
 /// One direction of a join, over the definitions of the layer and of the switch alone: what the switch sends on the far
 /// leg is what it takes on the near leg, a packet with D = 1 is released only when the far leg's P(R) covers it, and
@@ -41,6 +43,20 @@ pub fn turn_law()
 /// nothing waited before that could go on, the relay on all joins is the relay on these.
 pub fn concern_law()
     ensures { ConcernLaw }
+{}
+
+/// What comes on one line of a switch leaves each join of two other lines untouched, with what the switch keeps for it
+/// and the channels of both its legs; or one of the two lines was set up anew in the event, and there a fifth packet
+/// came to be owed.
+pub fn isolation_law()
+    ensures { IsolationLaw }
+{}
+
+/// What waits to go out on each line after an event is the frames of the event's steps, all of them and in order: the
+/// answer to what happened there, what is sent if the link is set up anew, and what goes at the end. They are nine at
+/// most, for no link is set up anew twice in an event.
+pub fn sent_law()
+    ensures { SentLaw }
 {}
 
 /// A switch from its making on, whatever comes to it and in whatever order: it stays one of which the laws above speak,

@@ -36,7 +36,7 @@ on_frame_alone n octets s = record s {
   lines = finished_alone s.routes n (acted s.routes n (λ e. received e octets) (all_begun s.lines));
 }
 
-abbrev pub on_timer_alone : (line : ℕ) → TimerId → Switch → Switch
-on_timer_alone n id s = record s {
+abbrev pub on_expiry_alone : (line : ℕ) → TimerId → Switch → Switch
+on_expiry_alone n id s = record s {
   lines = finished_alone s.routes n (acted s.routes n (λ e. after_timer e id) (all_begun s.lines));
 }

@@ -198,10 +198,14 @@ abbrev pub timer_runs : Option SwitchLine → TimerId → Bool
 timer_runs None id = false
 timer_runs (Some l) id = runs_at l.end id
 
-abbrev pub on_timer : (line : ℕ) → TimerId → Switch → Switch
-on_timer n id s = record s {
+-- a timer that runs expires
+abbrev pub on_expiry : (line : ℕ) → TimerId → Switch → Switch
+on_expiry n id s = record s {
   lines = finished s.routes n (acted s.routes n (λ e. after_timer e id) (all_begun s.lines));
 }
+
+abbrev pub on_timer : (line : ℕ) → TimerId → Switch → Switch
+on_timer n id s = if timer_runs (slice_get s.lines n) id then on_expiry n id s else s
 
 -- all links are set up anew, and no call is left
 abbrev pub without_joins : SwitchLine → SwitchLine

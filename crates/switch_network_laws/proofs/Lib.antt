@@ -25,3 +25,4 @@ pub mod MadeStands
 pub mod MadePartners
 pub mod MadeHeld
 pub mod Running
+pub mod IdleExpiry

@@ -1,10 +1,11 @@
 -- What an event of a switch makes of what the laws of paths say of it, before its frames go out.
-use Rattle.std.proofs.Common.{◌≡◌, ℕ, zero, suc, set, List, [], ◌∷◌, ◌++◌, map, Option, Some, None, refl, ap, ◌∙◌}
+use Rattle.std.proofs.Common.{◌≡◌, ℕ, zero, suc, set, List, [], ◌∷◌, ◌++◌, map, Option, Some, None, Bool, true, false, if◌then◌else◌, refl, sym, ap, subst, ◌∙◌}
 use Rattle.std.specs.Prelude.{slice_get, unwrap_or}
+use Rattle.link_timers.specs.declared.timers.TimerId.{TimerId}
 use Rattle.call_records.specs.Book.{Book}
 use Rattle.call_records.specs.Register.{Register, LineEnds, found_ends, book_at, handed_on}
 use Rattle.switch_lines.specs.declared.place.NewJoin.{NewJoin}
-use Rattle.switch_lines.specs.Switch.{Switch, on_frame, on_timer}
+use Rattle.switch_lines.specs.Switch.{Switch, on_frame, timer_runs, on_expiry}
 use Rattle.switch_laws.specs.Steps.Happening.{Brings, RunsOut}
 use Rattle.switch_laws.specs.Steps.Step.{Happens}
 use Rattle.switch_laws.specs.World.{layers_of}
@@ -19,7 +20,7 @@ use Rattle.switch_path_laws.specs.Network.{IsNetwork, found_line}
 use Rattle.switch_path_laws.specs.Network as paths
 use Rattle.switch_path_laws.specs.Law.{calls_in, join_of_call, SwitchPathLaw, OthersStay, AfterEvent, AfterRestart}
 use Rattle.network_laws.specs.AtSwitch.{SwitchEvent, Hears, Expires, Restarts, switched, joins_of, network_line, all_handed}
-use Rattle.switch_network_laws.proofs.SwitchWriting.{IsWritten, acts_written, restart_written}
+use Rattle.switch_network_laws.proofs.SwitchWriting.{IsWritten, nothing_written, acts_written, restart_written}
 
 -- ---- calls that are handed on
 
@@ -78,6 +79,39 @@ MayCome (Hears own octets) h = AreOctets octets × BeginWith octets (h.partners 
 MayCome (Expires own id) h = Unit {0}
 MayCome Restarts h = Unit {0}
 
+-- an expiry of a timer that does not run moves nothing
+expired : SwitchPathLaw → (plan : Plan) (at : List ℕ) (own : ℕ) (id : TimerId) (s : Switch) (h : Histories) (cs : List JoinedCall) (books : List Book) (w : World) (traces : List (List Origin))
+    → IsNetwork plan at s h cs books w traces → (ran : Bool) → timer_runs (slice_get s.lines own) id ≡ ran → Moved plan at (Expires own id) s h books w traces
+expired law plan at own id s h cs books w traces i true ran =
+    let a : AfterEvent plan at own (RunsOut id) s (on_expiry own id s) h cs books w traces = law.timers plan at own id s h cs books w traces i in
+    let none = calls_hold.new.timers own id s h i.tied in
+    record {
+      histories = happened own (RunsOut id) s h;
+      calls = cs ++ calls_in own (RunsOut id) s h;
+      books = a.books;
+      world = a.world;
+      traces = a.traces;
+      network =
+          subst (λ (b : Bool). IsNetwork plan at (if b then on_expiry own id s else s) (happened own (RunsOut id) s h) (cs ++ calls_in own (RunsOut id) s h) a.books a.world a.traces)
+          (sym ran) a.network;
+      register = a.register ∙ ap (λ (js : List JoinedCall). paths.all_handed at js w.register) none;
+      others = a.others;
+      written = λ k. acts_written (event_acts s.routes own (RunsOut id) s.lines) (layers_of s.lines) h.books k;
+      partners = λ k. refl;
+    }
+expired law plan at own id s h cs books w traces i false ran = record {
+  histories = h;
+  calls = cs;
+  books = books;
+  world = w;
+  traces = traces;
+  network = subst (λ (b : Bool). IsNetwork plan at (if b then on_expiry own id s else s) h cs books w traces) (sym ran) i;
+  register = refl;
+  others = record { count = refl; same = λ line o. refl; same_trace = λ line o. refl };
+  written = λ k. nothing_written (h.books k);
+  partners = λ k. refl;
+}
+
 pub moved : SwitchPathLaw → (plan : Plan) (at : List ℕ) (event : SwitchEvent) (s : Switch) (h : Histories) (cs : List JoinedCall) (books : List Book) (w : World) (traces : List (List Origin))
     → MayCome event h → IsNetwork plan at s h cs books w traces → Moved plan at event s h books w traces
 moved law plan at (Hears own octets) s h cs books w traces may i =
@@ -95,21 +129,7 @@ moved law plan at (Hears own octets) s h cs books w traces may i =
       written = λ k. acts_written (event_acts s.routes own (Brings octets) s.lines) (layers_of s.lines) h.books k;
       partners = λ k. refl;
     }
-moved law plan at (Expires own id) s h cs books w traces may i =
-    let a : AfterEvent plan at own (RunsOut id) s (on_timer own id s) h cs books w traces = law.timers plan at own id s h cs books w traces i in
-    let none = calls_hold.new.timers own id s h i.tied in
-    record {
-      histories = happened own (RunsOut id) s h;
-      calls = cs ++ calls_in own (RunsOut id) s h;
-      books = a.books;
-      world = a.world;
-      traces = a.traces;
-      network = a.network;
-      register = a.register ∙ ap (λ (js : List JoinedCall). paths.all_handed at js w.register) none;
-      others = a.others;
-      written = λ k. acts_written (event_acts s.routes own (RunsOut id) s.lines) (layers_of s.lines) h.books k;
-      partners = λ k. refl;
-    }
+moved law plan at (Expires own id) s h cs books w traces may i = expired law plan at own id s h cs books w traces i (timer_runs (slice_get s.lines own) id) refl
 moved law plan at Restarts s h cs books w traces may i =
     let a : AfterRestart plan at s h cs books w traces = law.restarts plan at s h cs books w traces i in
     record {

@@ -1,6 +1,6 @@
 -- After an event of a switch each node stands at its lines as it stood, and nothing waits at any node.
 use Rattle.std.proofs.Common.{◌≡◌, ◌≢◌, ℕ, zero, suc, ◌<◌, List, [], ◌∷◌, length, set, Some, refl, sym, ap, subst, ◌∙◌, inl, inr, arith}
-use Rattle.std.specs.Prelude.{◌⊎◌, slice_get}
+use Rattle.std.specs.Prelude.{◌⊎◌, Bool, true, false, if◌then◌else◌, slice_get}
 use Rattle.std.proofs.lemmas.Option.{none-some, same_Some, slice_get_within}
 use Rattle.std.proofs.lemmas.List.{length-map}
 use Rattle.book_laws.proofs.Basics.{get_there, number_is, get_set, set_here, set_elsewhere}
@@ -8,7 +8,7 @@ use Rattle.network_laws.specs.Quiet.{IsQuiet}
 use Rattle.network_laws.specs.Node.{NodeState, Host}
 use Rattle.memory_line.specs.Lines.{LineService}
 use Rattle.switch_lines.specs.Lines.{SwitchLine}
-use Rattle.switch_lines.specs.Switch.{Switch, without_joins}
+use Rattle.switch_lines.specs.Switch.{Switch, timer_runs, on_expiry, without_joins}
 use Rattle.switch_laws.specs.Steps.Happening.{Brings, RunsOut}
 use Rattle.switch_quiet_laws.specs.Quiet.{IsQuietSwitch}
 use Rattle.switch_quiet_laws.proofs.Lines.{LinesStay}
@@ -43,7 +43,11 @@ switch_after event n = record n { switch = switch_drained (switched event n.swit
 
 pub routes_stay : (event : SwitchEvent) (s : Switch) → (switched event s).routes ≡ s.routes
 routes_stay (Hears own octets) s = refl
-routes_stay (Expires own id) s = refl
+routes_stay (Expires own id) s = by_running (timer_runs (slice_get s.lines own) id)
+  where
+    by_running : (ran : Bool) → (if ran then on_expiry own id s else s).routes ≡ s.routes
+    by_running true = refl
+    by_running false = refl
 routes_stay Restarts s = refl
 
 as_many : (ls ms : List SwitchLine) → LinesStay ls ms → length ms ≡ length ls
@@ -54,7 +58,11 @@ as_many (l ∷ ls) (m ∷ ms) h = ap suc (as_many ls ms h.1)
 
 pub switched_many : (event : SwitchEvent) (s : Switch) → length (switched event s).lines ≡ length s.lines
 switched_many (Hears own octets) s = as_many s.lines (switched (Hears own octets) s).lines (event-stays s.routes own (Brings octets) s.lines)
-switched_many (Expires own id) s = as_many s.lines (switched (Expires own id) s).lines (event-stays s.routes own (RunsOut id) s.lines)
+switched_many (Expires own id) s = by_running (timer_runs (slice_get s.lines own) id)
+  where
+    by_running : (ran : Bool) → length (if ran then on_expiry own id s else s).lines ≡ length s.lines
+    by_running true = as_many s.lines (on_expiry own id s).lines (event-stays s.routes own (RunsOut id) s.lines)
+    by_running false = refl
 switched_many Restarts s = length-map s.lines without_joins
 
 pub lines_count : (event : SwitchEvent) (s : Switch) → length (switch_drained (switched event s)).lines ≡ length s.lines

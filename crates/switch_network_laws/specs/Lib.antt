@@ -6,3 +6,4 @@ pub mod Promise
 pub mod Rest
 pub mod Laws
 pub mod Run
+pub mod Idle

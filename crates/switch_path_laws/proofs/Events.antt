@@ -19,7 +19,7 @@ use Rattle.register_laws.specs.Seen.{renumbered}
 use Rattle.line_record_laws.specs.Kept.{Kept}
 use Rattle.switch_lines.specs.Lines.{SwitchLine}
 use Rattle.switch_lines.specs.Making.{made}
-use Rattle.switch_lines.specs.Switch.{Switch, on_frame, on_timer, elapse, restart, without_joins, finished, acted, all_begun}
+use Rattle.switch_lines.specs.Switch.{Switch, on_frame, on_expiry, elapse, restart, without_joins, finished, acted, all_begun}
 use Rattle.switch_laws.specs.World.{layers_of}
 use Rattle.switch_laws.specs.Steps.{Happening, does}
 use Rattle.switch_laws.specs.Steps.Happening.{Brings, RunsOut}
@@ -138,7 +138,7 @@ frame_after plan at n octets s h cs books w traces are first i =
     event_after plan at n (Brings octets) s (on_frame n octets s) h cs books w traces refl refl (frame_effect n octets s.lines are) are first (tied_holds.frames n octets s h are first i.tied) i
 
 timer_after : TimerLaw
-timer_after plan at n id s h cs books w traces i = event_after plan at n (RunsOut id) s (on_timer n id s) h cs books w traces refl refl (λ line e. timer_effect n id line.end) tt tt (tied_holds.timers n id s h i.tied) i
+timer_after plan at n id s h cs books w traces i = event_after plan at n (RunsOut id) s (on_expiry n id s) h cs books w traces refl refl (λ line e. timer_effect n id line.end) tt tt (tied_holds.timers n id s h i.tied) i
 
 -- ---- the others
 
@@ -341,6 +341,7 @@ tied_alone routes h = record {
     offered = refl;
     no_relink = refl;
     links = λ n l e. absurd (none-some l e);
+    fitting = λ n l e. absurd (none-some l e);
   };
   kept = λ n l e. absurd (none-some l e);
   records = λ n l e. absurd (none-some l e);

@@ -18,7 +18,7 @@ use Rattle.line_record_laws.specs.Kept.{Setting, Kept}
 use Rattle.switch_lines.specs.declared.config.LineConfig.{LineConfig}
 use Rattle.switch_lines.specs.Lines.{SwitchLine}
 use Rattle.switch_lines.specs.Making.{IsConfig, made}
-use Rattle.switch_lines.specs.Switch.{Switch, on_frame, on_timer, elapse, restart}
+use Rattle.switch_lines.specs.Switch.{Switch, on_frame, on_expiry, elapse, restart}
 use Rattle.packet_laws.specs.Readable.{AreOctets}
 use Rattle.switch_laws.specs.Steps.{Happening}
 use Rattle.switch_laws.specs.Steps.Happening.{Brings, RunsOut}
@@ -79,7 +79,7 @@ FrameLaw = (plan : Plan) (at : List ℕ) (n : ℕ) (octets : Octets) (s : Switch
 abbrev pub TimerLaw : Type 0
 TimerLaw = (plan : Plan) (at : List ℕ) (n : ℕ) (id : TimerId) (s : Switch) (h : Histories) (cs : List JoinedCall)
     (books : List Book) (w : World) (traces : List (List Origin)) → IsNetwork plan at s h cs books w traces
-    → AfterEvent plan at n (RunsOut id) s (on_timer n id s) h cs books w traces
+    → AfterEvent plan at n (RunsOut id) s (on_expiry n id s) h cs books w traces
 
 abbrev pub ElapseLaw : Type 0
 ElapseLaw = (plan : Plan) (at : List ℕ) (ticks : ℕ) (s : Switch) (h : Histories) (cs : List JoinedCall)

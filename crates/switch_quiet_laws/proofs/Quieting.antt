@@ -1,8 +1,9 @@
 -- Each event leaves a quiet switch quiet.
-use Rattle.std.specs.Prelude.{◌≡◌, ℕ, zero, suc, Bool, true, false, if◌then◌else◌, List, [], ◌∷◌, length, map, drop, Option, Some, None}
+use Rattle.std.specs.Prelude.{◌≡◌, ℕ, zero, suc, Bool, true, false, if◌then◌else◌, List, [], ◌∷◌, length, map, drop, slice_get, Option, Some, None}
 use Rattle.std.proofs.Common.{refl, sym, ap, subst, ◌∙◌}
 use Rattle.std.proofs.lemmas.Option.{none-some, same_Some}
 use Rattle.link_timers.specs.declared.role.Role.TheVariants.{Dce}
+use Rattle.link_timers.specs.declared.timers.TimerId.{TimerId}
 use Rattle.lapb.specs.Machine.{Octets}
 use Rattle.packet_end.specs.PacketEnd.{PacketEnd, elapsed, without_first_frame}
 use Rattle.address_routes.specs.Routes.{RouteMap}
@@ -14,12 +15,12 @@ use Rattle.node_laws.specs.Quiet.{IsQuiet}
 use Rattle.node_laws.proofs.QuietTurns.{timers-apart, quiet-elapses}
 use Rattle.switch_lines.specs.Lines.{SwitchLine, changed}
 use Rattle.switch_lines.specs.Making.{made_line}
-use Rattle.switch_lines.specs.Switch.{Switch, with_end, raised, to_relink, acted, all_begun, finished, without_joins}
+use Rattle.switch_lines.specs.Switch.{Switch, with_end, raised, to_relink, acted, all_begun, finished, timer_runs, on_expiry, without_joins}
 use Rattle.switch_laws.specs.Steps.{Happening, does}
 use Rattle.switch_laws.specs.Steps.Happening.{Brings, RunsOut}
 use Rattle.switch_laws.proofs.Relinking.{finished_end}
 use Rattle.switch_record_laws.specs.Kept.{all_frames_out}
-use Rattle.switch_quiet_laws.specs.Quiet.{AreQuiet, all_gone_out, GoneOutLaw, FrameQuietLaw, TimerQuietLaw, RestartQuietLaw, TimeQuietLaw, OutQuietLaw, MakingQuietLaw}
+use Rattle.switch_quiet_laws.specs.Quiet.{AreQuiet, IsQuietSwitch, drained, all_gone_out, GoneOutLaw, FrameQuietLaw, TimerQuietLaw, RestartQuietLaw, TimeQuietLaw, OutQuietLaw, MakingQuietLaw}
 use Rattle.switch_quiet_laws.proofs.Ends.{IsRead, EndStays}
 use Rattle.switch_quiet_laws.proofs.Lines.{LinesStay}
 use Rattle.switch_quiet_laws.proofs.Events.{event-stays}
@@ -68,8 +69,23 @@ event-quiet routes n what ls q =
 pub frame-quiet : FrameQuietLaw
 frame-quiet n octets s q = event-quiet s.routes n (Brings octets) s.lines q
 
+abbrev KeepsQuiet : (SwitchLine → SwitchLine) → Type 0
+KeepsQuiet f = (l : SwitchLine) → IsQuiet (Host l.end) → IsQuiet (Host (f l).end)
+
+all-keep : (f : SwitchLine → SwitchLine) (ls : List SwitchLine) → KeepsQuiet f → AreQuiet ls → AreQuiet (map f ls)
+all-keep f [] h q n x e = absurd (none-some x e)
+all-keep f (l ∷ ls) h q zero x e = subst (λ (y : SwitchLine). IsQuiet (Host y.end)) (same_Some (f l) x e) (h l (q 0 l refl))
+all-keep f (l ∷ ls) h q (suc n) x e = all-keep f ls h (λ k y g. q (suc k) y g) n x e
+
+out-keep : KeepsQuiet all_frames_out
+out-keep l h = out-quiet l (record { notes = h.node.read; unread = h.unread }) h.settled (timers-apart (Host l.end) h.timers)
+
+either-quiet : (n : ℕ) (id : TimerId) (s : Switch) → IsQuietSwitch s → (ran : Bool) → IsQuietSwitch (drained (if ran then on_expiry n id s else s))
+either-quiet n id s q true = event-quiet s.routes n (RunsOut id) s.lines q
+either-quiet n id s q false = all-keep all_frames_out s.lines out-keep q
+
 pub timer-quiet : TimerQuietLaw
-timer-quiet n id s q = event-quiet s.routes n (RunsOut id) s.lines q
+timer-quiet n id s q = either-quiet n id s q (timer_runs (slice_get s.lines n) id)
 
 -- ---- lines that are new or begin anew
 
@@ -85,14 +101,6 @@ pub made-quiet : MakingQuietLaw
 made-quiet routes lines = all-quiet made_line lines (λ c. out-quiet (made_line c) (record { notes = refl; unread = refl }) refl (made-apart Dce c.params))
 
 -- ---- time, and a frame that is taken
-
-abbrev KeepsQuiet : (SwitchLine → SwitchLine) → Type 0
-KeepsQuiet f = (l : SwitchLine) → IsQuiet (Host l.end) → IsQuiet (Host (f l).end)
-
-all-keep : (f : SwitchLine → SwitchLine) (ls : List SwitchLine) → KeepsQuiet f → AreQuiet ls → AreQuiet (map f ls)
-all-keep f [] h q n x e = absurd (none-some x e)
-all-keep f (l ∷ ls) h q zero x e = subst (λ (y : SwitchLine). IsQuiet (Host y.end)) (same_Some (f l) x e) (h l (q 0 l refl))
-all-keep f (l ∷ ls) h q (suc n) x e = all-keep f ls h (λ k y g. q (suc k) y g) n x e
 
 one-keeps : (k : ℕ) (f : SwitchLine → SwitchLine) (ls : List SwitchLine) → KeepsQuiet f → AreQuiet ls → AreQuiet (changed k f ls)
 one-keeps k f [] h q n x e = absurd (none-some x e)

@@ -6,17 +6,17 @@ use Rattle.packet_end.specs.PacketEnd.{PacketEnd}
 use Rattle.packet_end.specs.End.{without_frames}
 use Rattle.packet_codec.specs.Address.{MayBeDigits}
 use Rattle.switch_lines.specs.Lines.{SwitchLine, changed}
-use Rattle.switch_lines.specs.Switch.{Switch, with_end, on_frame, on_timer, elapse, restart, without_joins, finished, acted, all_begun}
+use Rattle.switch_lines.specs.Switch.{Switch, with_end, on_frame, on_expiry, elapse, restart, without_joins, finished, acted, all_begun}
 use Rattle.switch_laws.specs.World.{World, layers_of, world_after_all}
 use Rattle.switch_laws.specs.Events.{SwitchHolds}
-use Rattle.switch_laws.specs.Events.Event.{Arrives, Expires, Elapses, Restarts}
+use Rattle.switch_laws.specs.Events.Event.{Arrives, Elapses, Restarts}
 use Rattle.switch_laws.specs.Joined.{Reached}
 use Rattle.switch_laws.specs.Steps.{Happening, does}
 use Rattle.switch_laws.specs.Steps.Happening.{Brings, RunsOut}
 use Rattle.switch_laws.specs.EventSteps.{event_steps, event_acts}
 use Rattle.switch_laws.proofs.Lists.{get_map, map_unchanged}
 use Rattle.switch_laws.proofs.Leading.{event_leads}
-use Rattle.switch_laws.proofs.Happening.{events_hold, steady_holds}
+use Rattle.switch_laws.proofs.Happening.{events_hold, expiry_stays, steady_holds}
 use Rattle.switch_record_laws.specs.Written.{books_after_all, HaveRecords}
 use Rattle.switch_record_laws.specs.Kept.{EventIsKept, HaveAddresses, ReadsOctets, all_frames_out}
 use Rattle.switch_record_laws.specs.Tied.{Histories, IsTied, happened, FrameTied, TimerTied, ElapseTied, RestartTied, OutTied, TiedLaw}
@@ -56,8 +56,8 @@ frame_tied n octets s h are first i =
 
 timer_tied : TimerTied
 timer_tied n id s h i =
-    let a = events_hold.stays (Expires n id) s h.legs tt i.holds in
-    event_tied n (RunsOut id) s (on_timer n id s) h a.world tt i refl a.moved a.holds (timer_event n id s h.partners h.books i.addresses i.kept)
+    let a = expiry_stays n id s h.legs i.holds in
+    event_tied n (RunsOut id) s (on_expiry n id s) h a.world tt i refl a.moved a.holds (timer_event n id s h.partners h.books i.addresses i.kept)
 
 -- ---- the others
 

@@ -10,7 +10,7 @@ use Rattle.packet_end.specs.PacketEnd.{PacketEnd}
 use Rattle.line_record_laws.specs.Line.{Line, Restarts, other_after}
 pub use Rattle.line_record_laws.specs.Kept.{Setting, Kept, beginning, end_at}
 use Rattle.switch_lines.specs.Lines.{SwitchLine, changed}
-use Rattle.switch_lines.specs.Switch.{Switch, on_frame, on_timer, elapse, restart, finished, acted, all_begun}
+use Rattle.switch_lines.specs.Switch.{Switch, on_frame, on_expiry, elapse, restart, finished, acted, all_begun}
 use Rattle.switch_laws.specs.World.{World, IsWorld, MayHappen, layers_of, after_acts, world_after_all}
 use Rattle.switch_record_laws.specs.Written.{Books, books_after_all, restarted_books, HaveRecords}
 use Rattle.switch_laws.specs.Steps.{Happening, does, Step, lines_after_all, acts_of_all}
@@ -90,7 +90,7 @@ FrameKeptLaw = (n : ℕ) (octets : Octets) (s : Switch) (ps : Partners) (bs : Bo
 
 abbrev pub TimerKeptLaw : Type 0
 TimerKeptLaw = (n : ℕ) (id : TimerId) (s : Switch) (ps : Partners) (bs : Books) → HaveAddresses s.lines
-    → AreKept ps bs s.lines → EventIsKept n (RunsOut id) s ps bs (on_timer n id s).lines
+    → AreKept ps bs s.lines → EventIsKept n (RunsOut id) s ps bs (on_expiry n id s).lines
 
 abbrev pub ElapseKeptLaw : Type 0
 ElapseKeptLaw = (ticks : ℕ) (s : Switch) (ps : Partners) (bs : Books) → AreKept ps bs s.lines

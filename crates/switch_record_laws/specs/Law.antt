@@ -14,7 +14,7 @@ use Rattle.call_records.specs.Writes.{Write, all_written}
 use Rattle.switch_lines.specs.declared.place.Place.{Place}
 use Rattle.switch_lines.specs.declared.place.Joined.{Joined}
 use Rattle.switch_lines.specs.Lines.{SwitchLine, joined_at}
-use Rattle.switch_lines.specs.Switch.{Switch, on_frame, on_timer, restart, elapse}
+use Rattle.switch_lines.specs.Switch.{Switch, on_frame, on_expiry, restart, elapse}
 use Rattle.switch_laws.specs.Leg.{Leg}
 use Rattle.switch_laws.specs.World.{World, IsWorld, Act, MayHappen, layers_of, after_acts, world_after_all, closed}
 use Rattle.switch_laws.specs.Steps.Happening.{Brings, RunsOut}
@@ -94,7 +94,7 @@ FrameLaw = (n : ℕ) (octets : List ℕ) (s : Switch) (w : World) (bs : Books) �
 abbrev pub TimerLaw : Type 0
 TimerLaw = (n : ℕ) (id : TimerId) (s : Switch) (w : World) (bs : Books) → IsSwitch s.lines w
     → HaveRecords (layers_of s.lines) w bs
-    → Goes (event_acts s.routes n (RunsOut id) s.lines) s.lines w bs (on_timer n id s).lines
+    → Goes (event_acts s.routes n (RunsOut id) s.lines) s.lines w bs (on_expiry n id s).lines
 
 abbrev pub ElapseLaw : Type 0
 ElapseLaw = (ticks : ℕ) (s : Switch) (w : World) (bs : Books) → IsSwitch s.lines w

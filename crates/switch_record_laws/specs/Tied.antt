@@ -9,7 +9,7 @@ use Rattle.switch_lines.specs.declared.place.Place.{Place}
 use Rattle.switch_lines.specs.declared.place.Joined.{Joined}
 use Rattle.switch_lines.specs.Lines.{SwitchLine, joined_at, changed}
 use Rattle.switch_lines.specs.Making.{IsConfig, made}
-use Rattle.switch_lines.specs.Switch.{Switch, on_frame, on_timer, elapse, restart}
+use Rattle.switch_lines.specs.Switch.{Switch, on_frame, on_expiry, elapse, restart}
 use Rattle.packet_laws.specs.Readable.{AreOctets}
 use Rattle.switch_laws.specs.World.{World, layers_of, world_after_all, closed}
 use Rattle.switch_laws.specs.Events.{SwitchHolds, new_legs}
@@ -72,7 +72,7 @@ FrameTied = (n : ℕ) (octets : Octets) (s : Switch) (h : Histories) → AreOcte
 
 abbrev pub TimerTied : Type 0
 TimerTied = (n : ℕ) (id : TimerId) (s : Switch) (h : Histories) → IsTied s h
-    → IsTied (on_timer n id s) (happened n (RunsOut id) s h)
+    → IsTied (on_expiry n id s) (happened n (RunsOut id) s h)
 
 abbrev pub ElapseTied : Type 0
 ElapseTied = (ticks : ℕ) (s : Switch) (h : Histories) → IsTied s h → IsTied (elapse ticks s) h

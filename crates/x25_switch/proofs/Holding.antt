@@ -1,17 +1,27 @@
 -- What always holds of a switch holds after each event, in which its own joins alone are relayed.
-use Rattle.std.proofs.Common.{◌≡◌, ℕ, suc, ◌<◌, List, [], ◌∷◌, ap, subst, sym, ◌∙◌}
-use Rattle.std.specs.Prelude.{slice_index}
+use Rattle.std.proofs.Common.{◌≡◌, ℕ, suc, ◌<◌, List, [], ◌∷◌, ap, subst, sym, refl, inl, ◌∙◌}
+use Rattle.std.specs.Prelude.{Bool, true, false, if◌then◌else◌, slice_get, slice_index}
 use Rattle.link_timers.specs.declared.timers.TimerId.{TimerId}
 use Rattle.packet_end.specs.PacketEnd.{PacketEnd, received, after_timer}
 use Rattle.address_routes.specs.Routes.{RouteMap}
 use Rattle.switch_lines.specs.Lines.{SwitchLine}
-use Rattle.switch_lines.specs.Switch.{Switch, acted, all_begun, on_frame, on_timer}
+use Rattle.switch_lines.specs.Switch.{Switch, acted, all_begun, on_frame, timer_runs, on_expiry, on_timer}
 use Rattle.switch_lines.specs.Alone.{finished_alone}
 use Rattle.switch_laws.specs.Turn.{AreOctets}
 use Rattle.switch_laws.specs.World.{World}
-use Rattle.switch_laws.specs.Events.{Event, MayCome, after_event, SwitchHolds}
+use Rattle.switch_laws.specs.Events.{Event, MayCome, after_event, SwitchHolds, GoesOn, KeepsLegs}
+use Rattle.switch_laws.specs.Events.Event.{Arrives, Expires}
+use Rattle.switch_laws.specs.Isolated.{LeavesOthers}
+use Rattle.switch_laws.specs.Joined.{HasRelayedAll}
+use Rattle.switch_laws.specs.Offers.{EndsKeepNothingBack}
+use Rattle.switch_laws.specs.Pairs.{JoinsByRoute, noted_in}
+use Rattle.switch_laws.specs.Sent.{AreAllSent}
+use Rattle.switch_laws.specs.Steps.Happening.{Brings, RunsOut}
 use Rattle.switch_laws.proofs.Happening.{events_hold}
 use Rattle.switch_laws.proofs.Alone.{concerns_hold}
+use Rattle.switch_laws.proofs.Pairing.{pairs_hold}
+use Rattle.switch_laws.proofs.Untouched.{others_are_left}
+use Rattle.switch_laws.proofs.Framing.{all_are_sent}
 
 pub octets : (xs : List ℕ) → ((i : ℕ) → slice_index xs i < 256) → AreOctets xs
 octets [] h = tt
@@ -26,6 +36,59 @@ pub holds_after : (event : Event) (s t : Switch) (w : World) → MayCome event �
 holds_after event s t w may h e =
     let a = events_hold.stays event s w may h in
     subst (λ (x : Switch). Holds x) (sym e) (record { legs = a.world; holds = a.holds })
+
+-- ---- what is promised of an event, whatever legs there are
+
+pub goes_on : (event : Event) (s t : Switch) → MayCome event → t ≡ after_event event s → KeepsLegs event s t
+goes_on event s t may e w h =
+    let a = events_hold.stays event s w may h in
+    subst (λ (x : Switch). GoesOn event s w x) (sym e) (record { world = a.world; moved = a.moved; holds = a.holds })
+
+pub record FrameKept (n : ℕ) (xs : List ℕ) (s t : Switch) : Type 0 where
+  pub others : LeavesOthers n (Brings xs) s t
+  pub relayed : HasRelayedAll t.lines
+  pub nothing_kept_back : EndsKeepNothingBack t.lines
+  pub routes : JoinsByRoute s.routes n (noted_in n (λ e. received e xs) s) s.lines t.lines
+  pub legs : KeepsLegs (Arrives n xs) s t
+  pub frames : AreAllSent n (Brings xs) s t
+
+pub frame_kept : (n : ℕ) (xs : List ℕ) (s t v : Switch) (w : World) → AreOctets xs → SwitchHolds s w → t ≡ on_frame n xs s → s ≡ v → FrameKept n xs v t
+frame_kept n xs s t v w are h e old =
+    let a = events_hold.stays (Arrives n xs) s w are h in
+    let k : FrameKept n xs s (on_frame n xs s) = record {
+      others = others_are_left.frame n xs s w are h;
+      relayed = a.holds.relayed;
+      nothing_kept_back = a.nothing_kept_back;
+      routes = pairs_hold.frame_joins n xs s;
+      legs = goes_on (Arrives n xs) s (on_frame n xs s) are refl;
+      frames = all_are_sent.frame n xs s w are h;
+    } in
+    subst (λ (x : Switch). FrameKept n xs x t) old (subst (λ (x : Switch). FrameKept n xs s x) (sym e) k)
+
+pub record TimerKept (n : ℕ) (id : TimerId) (s t : Switch) : Type 0 where
+  pub others : LeavesOthers n (RunsOut id) s t
+  pub relayed : HasRelayedAll t.lines
+  pub nothing_kept_back : timer_runs (slice_get s.lines n) id ≡ true → EndsKeepNothingBack t.lines
+  pub routes : JoinsByRoute s.routes n (noted_in n (λ e. after_timer e id) s) s.lines t.lines
+  pub legs : KeepsLegs (Expires n id) s t
+  pub frames : timer_runs (slice_get s.lines n) id ≡ true → AreAllSent n (RunsOut id) s t
+
+either_routes : (n : ℕ) (id : TimerId) (s : Switch) (ran : Bool) → JoinsByRoute s.routes n (noted_in n (λ e. after_timer e id) s) s.lines (if ran then on_expiry n id s else s).lines
+either_routes n id s true = pairs_hold.timer_joins n id s
+either_routes n id s false = λ p j e. inl (record { old = j; joined = e; other = refl; came_in = refl })
+
+pub timer_kept : (n : ℕ) (id : TimerId) (s t v : Switch) (w : World) → SwitchHolds s w → t ≡ on_timer n id s → s ≡ v → TimerKept n id v t
+timer_kept n id s t v w h e old =
+    let a = events_hold.stays (Expires n id) s w tt h in
+    let k : TimerKept n id s (on_timer n id s) = record {
+      others = others_are_left.timer n id s w h;
+      relayed = a.holds.relayed;
+      nothing_kept_back = a.nothing_kept_back;
+      routes = either_routes n id s (timer_runs (slice_get s.lines n) id);
+      legs = goes_on (Expires n id) s (on_timer n id s) tt refl;
+      frames = λ ran. all_are_sent.timer n id s w h ran;
+    } in
+    subst (λ (x : Switch). TimerKept n id x t) old (subst (λ (x : Switch). TimerKept n id s x) (sym e) k)
 
 -- ---- an event, call by call
 
@@ -46,7 +109,8 @@ pub frame_is : (n : ℕ) (xs : List ℕ) (routes : RouteMap) (ls bs rs fs : List
 frame_is n xs routes ls bs rs fs w are h begins acts ends =
     three_calls n (λ e. received e xs) routes ls bs rs fs begins acts ends ∙ concerns_hold.frame_alone n xs (of_lines routes ls) w are h.joins h.relayed
 
-pub timer_is : (n : ℕ) (id : TimerId) (routes : RouteMap) (ls bs rs fs : List SwitchLine) (w : World) → SwitchHolds (of_lines routes ls) w
+pub timer_is : (n : ℕ) (id : TimerId) (routes : RouteMap) (ls bs rs fs : List SwitchLine) (w : World) → timer_runs (slice_get ls n) id ≡ true → SwitchHolds (of_lines routes ls) w
     → bs ≡ all_begun ls → rs ≡ acted routes n (λ e. after_timer e id) bs → fs ≡ finished_alone routes n rs → of_lines routes fs ≡ on_timer n id (of_lines routes ls)
-timer_is n id routes ls bs rs fs w h begins acts ends =
-    three_calls n (λ e. after_timer e id) routes ls bs rs fs begins acts ends ∙ concerns_hold.timer_alone n id (of_lines routes ls) w h.joins h.relayed
+timer_is n id routes ls bs rs fs w ran h begins acts ends =
+    three_calls n (λ e. after_timer e id) routes ls bs rs fs begins acts ends ∙ (concerns_hold.timer_alone n id (of_lines routes ls) w h.joins h.relayed
+    ∙ ap (λ (b : Bool). if b then on_expiry n id (of_lines routes ls) else of_lines routes ls) (sym ran))

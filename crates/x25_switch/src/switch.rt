@@ -8,6 +8,15 @@ ghost use Rattle.switch_lines.specs.NewJoins.{new_joins};
 ghost use Rattle.switch_lines.specs.Switch.{on_frame, on_timer, timer_runs, restart, elapse};
 ghost use Rattle.switch_lines.specs.Switch.{without_frame, frames_on, due_on, switch_rests};
 ghost use Rattle.switch_lines.specs.Touched.{AreThere, HasAllFrames};
+ghost use Rattle.packet_end.specs.PacketEnd.{received, after_timer};
+ghost use Rattle.switch_laws.specs.Events.{KeepsLegs};
+ghost use Rattle.switch_laws.specs.Events.Event.{Arrives, Expires};
+ghost use Rattle.switch_laws.specs.Isolated.{LeavesOthers};
+ghost use Rattle.switch_laws.specs.Joined.{HasRelayedAll};
+ghost use Rattle.switch_laws.specs.Offers.{EndsKeepNothingBack};
+ghost use Rattle.switch_laws.specs.Pairs.{JoinsByRoute, noted_in};
+ghost use Rattle.switch_laws.specs.Sent.{AreAllSent};
+ghost use Rattle.switch_laws.specs.Steps.Happening.{Brings, RunsOut};
 
 use address_routes::Routes;
 use frame_codec::FrameBuf;
@@ -71,20 +80,38 @@ impl Switch {
         self.lines.len()
     }
 
-    /// Takes the octets of a frame that a line brings.
+    /// Takes the octets of a frame that a line brings, as [`Switch::receive`] does.
     pub fn on_frame(&mut self, line: usize, octets: &[u8])
         requires { line < length self.old.lines }
-        ensures { self.new ≡ on_frame line octets.now self.old }
+        ensures switch { self.new ≡ on_frame line octets.now self.old }
+        ensures others { LeavesOthers line (Brings octets.now) self.old self.new }
+        ensures relayed { HasRelayedAll self.new.lines }
+        ensures nothing_kept_back { EndsKeepNothingBack self.new.lines }
+        ensures routes { JoinsByRoute self.old.routes line (noted_in line (λ e. received e octets.now) self.old)
+            self.old.lines self.new.lines }
+        ensures legs { KeepsLegs (Arrives line octets.now) self.old self.new }
+        ensures frames { AreAllSent line (Brings octets.now) self.old self.new }
     {
         let _ = self.receive(line, octets);
     }
 
     /// Takes the octets of a frame that a line brings, and answers the call that it joined, if it did. A frame joins no
     /// more than one.
+    ///
+    /// Each join of two other lines is as it was, unless one of the two was set up anew, since a fifth packet came to be
+    /// owed there. After it nothing waits that the other leg or the link takes, each new join is by its route, and a
+    /// packet with D = 1 was released only if it was covered on the other leg. On each line all frames of the event wait.
     pub fn receive(&mut self, line: usize, octets: &[u8]) -> Option<NewJoin>
         requires { line < length self.old.lines }
         ensures join { option_to_list result ≡ new_joins line octets.now self.old }
         ensures switch { self.new ≡ on_frame line octets.now self.old }
+        ensures others { LeavesOthers line (Brings octets.now) self.old self.new }
+        ensures relayed { HasRelayedAll self.new.lines }
+        ensures nothing_kept_back { EndsKeepNothingBack self.new.lines }
+        ensures routes { JoinsByRoute self.old.routes line (noted_in line (λ e. received e octets.now) self.old)
+            self.old.lines self.new.lines }
+        ensures legs { KeepsLegs (Arrives line octets.now) self.old self.new }
+        ensures frames { AreAllSent line (Brings octets.now) self.old self.new }
     {
         self.lines.begin();
         let joined = self.lines.receive(&self.routes, line, octets);
@@ -92,17 +119,28 @@ impl Switch {
         joined
     }
 
-    /// Takes an expiry of a timer of a line, and answers whether the timer ran.
+    /// Takes an expiry of a timer of a line, and answers whether the timer ran. If it did not, the expiry changes
+    /// nothing.
     pub fn on_timer(&mut self, line: usize, id: TimerId) -> bool
         requires { line < length self.old.lines }
         ensures ran { result ≡ timer_runs (slice_get self.old.lines line) id }
         ensures switch { self.new ≡ on_timer line id self.old }
+        ensures same { OnFalse result (self.new ≡ self.old) }
+        ensures others { LeavesOthers line (RunsOut id) self.old self.new }
+        ensures relayed { HasRelayedAll self.new.lines }
+        ensures nothing_kept_back { OnTrue result (EndsKeepNothingBack self.new.lines) }
+        ensures routes { JoinsByRoute self.old.routes line (noted_in line (λ e. after_timer e id) self.old)
+            self.old.lines self.new.lines }
+        ensures legs { KeepsLegs (Expires line id) self.old self.new }
+        ensures frames { OnTrue result (AreAllSent line (RunsOut id) self.old self.new) }
     {
-        let ran = self.lines.is_running(line, id);
+        if !self.lines.is_running(line, id) {
+            return false;
+        }
         self.lines.begin();
         self.lines.expire(&self.routes, line, id);
         self.lines.finish(&self.routes, line);
-        ran
+        true
     }
 
     /// Begins anew after a restart of the switch: no link is up, and no call is left.

@@ -5,6 +5,7 @@ use Rattle.switch_network_laws.proofs.SwitchEvents.{switch_event_holds}
 use Rattle.switch_network_laws.proofs.PromiseAny.{promise_any, delivered_any}
 use Rattle.switch_network_laws.proofs.RestAny.{rest_any}
 use Rattle.switch_network_laws.proofs.FewerAny.{fewer_any, fewer_at_switch}
+use Rattle.switch_network_laws.proofs.IdleExpiry.{idle_expiry}
 
 pub returns : goal.returns
 returns g c = record {
@@ -16,6 +17,7 @@ returns g c = record {
   promise = promise_any g.L.Line.service;
   fewer_due = fewer_any g.L.Line.service;
   fewer_due_at_switch = fewer_at_switch g.L.Line.service;
+  idle_expiry = idle_expiry g.L.Line.service;
   rest = rest_any g.L.Line.service;
   delivered = delivered_any g.L.Line.service;
 }

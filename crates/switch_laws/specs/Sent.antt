@@ -1,0 +1,65 @@
+-- What an event of a switch sends on each of its lines: the frames of its steps, of which none is lost.
+use Rattle.std.specs.Prelude.{◌≡◌, ℕ, ◌≤◌, true, ◌==◌, if◌then◌else◌, List, [], ◌∷◌, ◌++◌, map, length, slice_get}
+use Rattle.std.specs.Prelude.{Option, Some, None}
+use Rattle.link_timers.specs.declared.timers.TimerId.{TimerId}
+use Rattle.link_timers.specs.declared.timers.TimerId.TheVariants.{T1}
+use Rattle.frame_codec.specs.Spelling.{spelling}
+use Rattle.lapb.specs.Machine as link
+use Rattle.lapb.specs.Machine.{Octets, Link, on_t1, settle}
+use Rattle.lapb.specs.Octets.{on_octets}
+use Rattle.packet_laws.specs.Readable.{AreOctets}
+use Rattle.packet_end.specs.PacketEnd.{PacketEnd, runs_at}
+use Rattle.switch_lines.specs.Lines.{SwitchLine}
+use Rattle.switch_lines.specs.Switch.{Switch, frames_on, timer_runs, on_frame, on_timer}
+use Rattle.switch_laws.specs.Steps.{Happening, Step, lines_after}
+use Rattle.switch_laws.specs.Steps.Happening.{Brings, RunsOut, Relinks}
+use Rattle.switch_laws.specs.Steps.Step.{Happens, Settles}
+use Rattle.switch_laws.specs.EventSteps.{event_steps}
+use Rattle.switch_laws.specs.World.{World}
+use Rattle.switch_laws.specs.Events.{SwitchHolds}
+
+-- the octets of the frames that a link sends in one step of it
+abbrev pub sent_by : Link → link.Step → List Octets
+sent_by l step = map (spelling l.role) step.frames
+
+-- what is sent where a frame comes, a timer that runs expires, or the link is set up anew
+abbrev pub expiry_frames : TimerId → PacketEnd → List Octets
+expiry_frames T1 e = sent_by e.line.link (on_t1 e.line.link)
+expiry_frames id e = []
+
+abbrev pub happening_frames : Happening → PacketEnd → List Octets
+happening_frames (Brings octets) e = sent_by e.line.link (on_octets e.line.link octets)
+happening_frames (RunsOut id) e = if runs_at e id then expiry_frames id e else []
+happening_frames Relinks e = sent_by e.line.link (link.relink e.line.link)
+
+-- what is sent at the end of the event: the I frames that may go, or the acknowledgement that is owed
+abbrev pub last_frames : PacketEnd → List Octets
+last_frames e = sent_by e.line.link (settle e.line.link)
+
+abbrev pub frames_at : (PacketEnd → List Octets) → Option SwitchLine → List Octets
+frames_at f None = []
+frames_at f (Some l) = f l.end
+
+-- what a step of an event sends on line m, and what all of its steps do
+abbrev pub step_frames : (m : ℕ) → Step → List SwitchLine → List Octets
+step_frames m (Happens n what) ls =
+    if n == m then frames_at (λ e. happening_frames what e) (slice_get ls m) else []
+step_frames m Settles ls = frames_at (λ e. last_frames e) (slice_get ls m)
+step_frames m step ls = []
+
+abbrev pub all_frames : (m : ℕ) → List Step → List SwitchLine → List Octets
+all_frames m [] ls = []
+all_frames m (step ∷ more) ls = step_frames m step ls ++ all_frames m more (lines_after step ls)
+
+-- they are what waits on the line after the event, and at most nine
+pub record AreAllSent (n : ℕ) (what : Happening) (old new : Switch) : Type 0 where
+  pub all : (m : ℕ) → frames_on (slice_get new.lines m)
+      ≡ all_frames m (event_steps old.routes n what old.lines) old.lines
+  pub most : (m : ℕ) → length (all_frames m (event_steps old.routes n what old.lines) old.lines) ≤ 9
+
+-- so it is, whatever frame comes, and whatever timer that runs expires
+pub record SentLaw : Type 0 where
+  pub frame : (n : ℕ) (octets : List ℕ) (s : Switch) (w : World) → AreOctets octets → SwitchHolds s w
+      → AreAllSent n (Brings octets) s (on_frame n octets s)
+  pub timer : (n : ℕ) (id : TimerId) (s : Switch) (w : World) → SwitchHolds s w
+      → timer_runs (slice_get s.lines n) id ≡ true → AreAllSent n (RunsOut id) s (on_timer n id s)
