@@ -9,7 +9,7 @@ use Rattle.std.specs.Option.{IsSome}
 use Rattle.call_records.specs.Records.{RecordValue, PairValue}
 use Rattle.call_records.specs.Book.{Slot}
 use Rattle.book_laws.proofs.Basics.{role_is, number_is, get_before, get_pushed, length_pushed}
-use Rattle.book_laws.proofs.Invariant.{EndView, CallStatus, ChannelUse, Kind, Tag, BookParts, IsLive, Stands, Means, Fits, HasEpochs, Present, SlotIs, PlacedIs, IsPair, IsRight, epoch_at, called_at, answered_at, now, sent_of, taken_of, sent_as, taken_as}
+use Rattle.book_laws.proofs.Invariant.{EndView, CallStatus, ChannelUse, Kind, Tag, BookParts, IsLive, Stands, Means, Fits, HasEpochs, Present, SlotIs, PlacedIs, IsPair, CameIn, IsRight, epoch_at, called_at, answered_at, now, sent_of, taken_of, sent_as, taken_as}
 use Rattle.book_laws.proofs.Invariant.CallStatus.{Idle, OwnCall, FarCall, Open}
 use Rattle.book_laws.proofs.Invariant.Kind.{Caller, Callee, Cancelled}
 use Rattle.book_laws.proofs.Presence.{more_open, present_in}
@@ -351,6 +351,19 @@ module _ (x : Role) (s c : ℕ) (views views' : Role → EndView) (b : BookParts
         answered = answered_of o.tag.role o.tag.channel_use ∙ o.answered;
       }
 
+  accepted_of : (y : Role) (k : ChannelUse) → answered_at (views' y) k ≡ true → CameIn (tags ++ t0 ∷ []) y k
+  accepted_of y k h =
+      let c = w.accepted y k (sym (answered_of y k) ∙ h) in
+      record {
+        number = c.number;
+        caller = c.caller;
+        tag = c.tag;
+        there = get_before tags (t0 ∷ []) c.number c.tag c.there;
+        role = c.role;
+        channel_use = c.channel_use;
+        kind = c.kind;
+      }
+
   slots_other : (y : Role) (d : ℕ) → ((y ≡ x) × (d ≡ c) → ⊥) → slots y d ≡ b.slots y d
   slots_other y d apart =
       elim (role_is x y) [
@@ -376,6 +389,7 @@ module _ (x : Role) (s c : ℕ) (views views' : Role → EndView) (b : BookParts
     tops = tops_of;
     alone = alone_of;
     pairs = pairs_of;
+    accepted = accepted_of;
     once = w.once;
     count = length_pushed tags t0 ∙ ap suc w.count ∙ sym (length_pushed b.records r0);
     opened = more_open x c b.slots slots b.records r0

@@ -8,7 +8,7 @@ use Rattle.std.specs.Option.{IsSome}
 use Rattle.call_records.specs.Records.{RecordValue, PairValue}
 use Rattle.book_laws.proofs.Basics.{role_is, number_is, twice, get_before, get_pushed, get_last}
 use Rattle.std.proofs.lemmas.Option.{none-some, same_Some}
-use Rattle.book_laws.proofs.Invariant.{EndView, CallStatus, ChannelUse, Tag, BookParts, IsLive, Stands, Means, Fits, HasEpochs, Present, SlotIs, IsPair, IsPaired, IsRight, caller_of, callee_of, epoch_at, called_at, answered_at, now, sent_of, taken_of, sent_as, taken_as}
+use Rattle.book_laws.proofs.Invariant.{EndView, CallStatus, ChannelUse, Tag, BookParts, IsLive, Stands, Means, Fits, HasEpochs, Present, SlotIs, IsPair, IsPaired, CameIn, IsRight, caller_of, callee_of, epoch_at, called_at, answered_at, now, sent_of, taken_of, sent_as, taken_as}
 use Rattle.book_laws.proofs.Invariant.CallStatus.{FarCall, Open}
 use Rattle.book_laws.proofs.Invariant.Kind.{Caller, Callee}
 use Rattle.book_laws.proofs.Carrying.{SameEnd, same_end, stands_same, slot_same, present_same, placed_same, now_same, is_present, same_tag}
@@ -216,6 +216,21 @@ module _ (x : Role) (c : ℕ) (views views' : Role → EndView) (b : BookParts) 
     answered = ap (λ (y : Role). answered_at (views' y) q.own.tag.channel_use) q.own.role ∙ ap (λ (k : ChannelUse). answered_at (views' x) k) q.own.channel_use ∙ q.here.since;
   }
 
+  accepted_of : (y : Role) (k : ChannelUse) → answered_at (views' y) k ≡ true → CameIn tags y k
+  accepted_of y k h =
+      elim (answered_of y k) [
+        | inl e ↦ w.accepted y k (sym e ∙ h)
+        | inr e ↦ record {
+          number = n0;
+          caller = a;
+          tag = q.own.tag;
+          there = own_there;
+          role = q.own.role ∙ sym e.0;
+          channel_use = q.own.channel_use ∙ sym e.1;
+          kind = q.kind;
+        }
+      ]
+
   -- it was in no pair
   not_paired : (i : ℕ) (p : PairValue) → slice_get b.pairs i ≡ Some p → p.callee ≡ n0 → ⊥
   not_paired i p e is =
@@ -249,6 +264,7 @@ module _ (x : Role) (c : ℕ) (views views' : Role → EndView) (b : BookParts) 
       | inl h ↦ old_pair p (w.pairs i p h)
       | inr h ↦ subst (λ (z : PairValue). IsPair views' tags z) (sym h.1) new_pair
     ];
+    accepted = accepted_of;
     once = once_of;
     count = w.count;
     opened = w.opened;

@@ -1,5 +1,5 @@
 -- In a collision the DCE's own call is cancelled, and the book stays right.
-use Rattle.std.specs.Prelude.{◌≡◌, ◌≢◌, ℕ, ◌≤◌, List, length, set, slice_get, Option, Some, None}
+use Rattle.std.specs.Prelude.{◌≡◌, ◌≢◌, ℕ, ◌≤◌, true, List, length, set, slice_get, Option, Some, None}
 use Rattle.std.proofs.Common.{inl, inr, refl, sym, ap, subst, ◌∙◌, arith, true≢false}
 use Rattle.std.proofs.lemmas.Option.{same_Some}
 use Rattle.link_timers.specs.declared.role.Role.{Role}
@@ -10,7 +10,7 @@ use Rattle.std.specs.Option.{IsSome}
 use Rattle.call_records.specs.Records.{RecordValue, PairValue}
 use Rattle.call_records.specs.Book.{Slot}
 use Rattle.book_laws.proofs.Basics.{is_role, number_is, twice, get_set, set_here, set_elsewhere, length_set}
-use Rattle.book_laws.proofs.Invariant.{EndView, CallStatus, ChannelUse, Kind, Tag, BookParts, AreOpen, IsLive, Stands, Means, Fits, Present, SlotIs, PlacedIs, UpTo, IsPair, IsRight, epoch_at, called_at, now, sent_of, taken_of, nothing_passed, sent_as, taken_as, came_from}
+use Rattle.book_laws.proofs.Invariant.{EndView, CallStatus, ChannelUse, Kind, Tag, BookParts, AreOpen, IsLive, Stands, Means, Fits, Present, SlotIs, PlacedIs, UpTo, IsPair, CameIn, IsRight, epoch_at, called_at, answered_at, now, sent_of, taken_of, nothing_passed, sent_as, taken_as, came_from}
 use Rattle.book_laws.proofs.Invariant.CallStatus.{Idle, OwnCall, FarCall, Open}
 use Rattle.book_laws.proofs.Invariant.Kind.{Caller, Callee, Cancelled}
 use Rattle.book_laws.proofs.Carrying.{is_present, same_tag}
@@ -317,6 +317,21 @@ module _ (x : Role) (c : ℕ) (views : Role → EndView) (status : Role → ℕ 
         answered = o.answered;
       }
 
+  accepted_of : (y : Role) (k : ChannelUse) → answered_at (with_statuses status views y) k ≡ true → CameIn tags' y k
+  accepted_of y k h =
+      let c = w.accepted y k h in
+      let other : c.number ≢ q.own.number = λ e.
+      caller_not_callee c.caller (sym q.kind ∙ ap (λ (u : Tag). u.kind) (same_tag tags q.own.number q.own.tag c.tag q.own.there (ap (λ (i : ℕ). slice_get tags i) (sym e) ∙ c.there)) ∙ c.kind) in
+      record {
+        number = c.number;
+        caller = c.caller;
+        tag = c.tag;
+        there = set_elsewhere tags q.own.number c.number (cancelled_tag q.own.tag) other ∙ c.there;
+        role = c.role;
+        channel_use = c.channel_use;
+        kind = c.kind;
+      }
+
   pub cancelled_right : IsRight (with_statuses status views) (record b { slots = slots; records = records }) (set tags q.own.number (cancelled_tag q.own.tag))
   cancelled_right = record {
     stands = stands_of;
@@ -327,6 +342,7 @@ module _ (x : Role) (c : ℕ) (views : Role → EndView) (status : Role → ℕ 
     tops = w.tops;
     alone = λ i j t u ei ej lt lu. w.alone i j t u (old_live i t ei lt) (old_live j u ej lu) lt lu;
     pairs = pairs_of;
+    accepted = accepted_of;
     once = w.once;
     count = length_set tags q.own.number (cancelled_tag q.own.tag) ∙ w.count ∙ sym q.count;
     opened = q.opened w.opened;

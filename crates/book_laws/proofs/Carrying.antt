@@ -256,6 +256,7 @@ module _ (x : Role) (c : ℕ) (views views' : Role → EndView) (b : BookParts) 
     tops = λ y s e. w.tops y s (sym ((q.same y).session) ∙ e) ∙ sym (q.same y).top;
     alone = w.alone;
     pairs = λ i p e. pair_same views views' tags p q.calls (w.pairs i p e);
+    accepted = λ y k h. w.accepted y k (sym ((q.calls y).answered k) ∙ h);
     once = w.once;
     count = w.count ∙ sym q.count;
     opened = kept_open b.slots b.records records (λ n r' e. let k = q.kept n r' e in (

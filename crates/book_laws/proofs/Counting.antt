@@ -96,17 +96,17 @@ module _ (n : ℕ) (v : World) (tags : List Tag) (right : IsRight (views_of Dte 
   same_histories Dte = refl
   same_histories Dce = refl
 
+  pub use_epochs : (i : ℕ) (t : Tag) (r : RecordValue) → slice_get tags i ≡ Some t → Tells (view_at t.role) t.channel_use r
+      → counts.HasEpochs (λ g. ((layers_at t.role v.line).histories t.channel_use.session t.channel_use.channel).epochs t.channel_use.restart t.channel_use.use_ g) r
+  use_epochs i t r at tells =
+      let k = t.channel_use in
+      subst (λ (h : ℕ → ℕ → History). counts.HasEpochs (λ g. (h k.session k.channel).epochs k.restart k.use_ g) r) (same_histories t.role)
+      (epochs_of (λ g. epoch_at (view_at t.role) k g) r (within t.role k (right.stands i t at).begun) tells.sent tells.taken)
+
   of_use : (i : ℕ) (t : Tag) (r : RecordValue) → slice_get tags i ≡ Some t → Tells (view_at t.role) t.channel_use r → counts.IsOfUse (layers_at t.role v.line) r
   of_use i t r at tells =
       let k = t.channel_use in
-      record {
-        session = k.session;
-        channel = k.channel;
-        restart = k.restart;
-        use_ = k.use_;
-        epochs = subst (λ (h : ℕ → ℕ → History). counts.HasEpochs (λ g. (h k.session k.channel).epochs k.restart k.use_ g) r) (same_histories t.role)
-            (epochs_of (λ g. epoch_at (view_at t.role) k g) r (within t.role k (right.stands i t at).begun) tells.sent tells.taken);
-      }
+      record { session = k.session; channel = k.channel; restart = k.restart; use_ = k.use_; epochs = use_epochs i t r at tells }
 
   pub counted : (i : ℕ) (r : RecordValue) → slice_get v.book.records i ≡ Some r → IsCountedAt v r
   counted i r e =

@@ -245,6 +245,7 @@ module _ (x : Role) (views views' : Role → EndView) (b : BookParts) (slots : R
     tops = tops_of;
     alone = w.alone;
     pairs = λ i p e. pair_same views views' tags p calls_of (w.pairs i p e);
+    accepted = λ y k h. w.accepted y k (sym ((calls_of y).answered k) ∙ h);
     once = w.once;
     count = w.count ∙ sym q.count;
     opened = q.opened w.opened;

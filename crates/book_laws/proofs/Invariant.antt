@@ -303,6 +303,16 @@ pub record IsPair (views : Role → EndView) (tags : List Tag) (p : PairValue) :
   pub kind : tag.kind ≡ Callee p.caller
   pub answered : answered_at (views tag.role) tag.channel_use ≡ true
 
+-- this end accepted a call in a use, and this is the record of the call that came in then
+pub record CameIn (tags : List Tag) (x : Role) (k : ChannelUse) : Type 0 where
+  pub number : ℕ
+  pub caller : ℕ
+  pub tag : Tag
+  pub there : slice_get tags number ≡ Some tag
+  pub role : tag.role ≡ x
+  pub channel_use : tag.channel_use ≡ k
+  pub kind : tag.kind ≡ Callee caller
+
 pub record IsRight (views : Role → EndView) (b : BookParts) (tags : List Tag) : Type 0 where
   pub stands : (n : ℕ) (t : Tag) → slice_get tags n ≡ Some t → Stands (views t.role) (b.slots t.role) n t
   pub means : (n : ℕ) (t : Tag) → slice_get tags n ≡ Some t → Means (views t.role) (views (other_of t.role)) b.pairs tags n t
@@ -312,6 +322,7 @@ pub record IsRight (views : Role → EndView) (b : BookParts) (tags : List Tag) 
   pub tops : (x : Role) (s : ℕ) → (views x).session ≡ Some s → s ≡ (views x).top
   pub alone : (i j : ℕ) (t u : Tag) → slice_get tags i ≡ Some t → slice_get tags j ≡ Some u → IsLive t.kind → IsLive u.kind → t.role ≡ u.role → t.channel_use ≡ u.channel_use → i ≡ j
   pub pairs : (i : ℕ) (p : PairValue) → slice_get b.pairs i ≡ Some p → IsPair views tags p
+  pub accepted : (x : Role) (k : ChannelUse) → answered_at (views x) k ≡ true → CameIn tags x k
   pub once : (i j : ℕ) (p q : PairValue) → slice_get b.pairs i ≡ Some p → slice_get b.pairs j ≡ Some q → p.callee ≡ q.callee → i ≡ j
   pub count : length tags ≡ length b.records
   pub opened : AreOpen b.slots b.records

@@ -31,5 +31,6 @@ pub mod Answered
 pub mod OpenPairs
 pub mod Counting
 pub mod Accepted
+pub mod AcceptedPairs
 pub mod Delivery
 pub mod Rows

@@ -15,7 +15,7 @@ use Rattle.call_records.specs.Records.{RecordValue, PairValue, new_record}
 use Rattle.call_records.specs.Book.{Book, Slot, free_slot, slot_at, side_of, nth_slot, new_book, standing_book}
 use Rattle.book_laws.specs.Told.{start, made_callers}
 use Rattle.book_laws.proofs.Basics.{dte_not_dce}
-use Rattle.book_laws.proofs.Invariant.{EndView, CallStatus, ChannelUse, Tag, AreOpen, book_parts, IsLive, IsCallee, Stands, Means, Fits, SlotIs, PlacedIs, UpTo, IsPair, IsRight, called_at, own_sent, own_taken, nothing_passed, nothing_sent_yet, nothing_taken_yet}
+use Rattle.book_laws.proofs.Invariant.{EndView, CallStatus, ChannelUse, Tag, AreOpen, book_parts, IsLive, IsCallee, Stands, Means, Fits, SlotIs, PlacedIs, UpTo, IsPair, CameIn, IsRight, called_at, answered_at, own_sent, own_taken, nothing_passed, nothing_sent_yet, nothing_taken_yet}
 use Rattle.book_laws.proofs.Invariant.CallStatus.{Idle}
 use Rattle.book_laws.proofs.Invariant.Kind.{Caller, Callee}
 use Rattle.book_laws.proofs.Cancelling.{caller_not_callee, caller_not_cancelled, callee_not_cancelled}
@@ -76,6 +76,10 @@ module _ (a b n window : ℕ) where
   down_free Dte c = ap (λ (z : Slot). z.present) (free_all n c)
   down_free Dce c = ap (λ (z : Slot). z.present) (free_all n c)
 
+  down_accepted : (x : Role) (k : ChannelUse) → answered_at (views_of Dte me you 0 0 x) k ≡ true → CameIn [] x k
+  down_accepted Dte k e = absurd (true≢false (sym e))
+  down_accepted Dce k e = absurd (true≢false (sym e))
+
   down_right : IsRight (views_of Dte me you 0 0) (book_parts (new_book a b n)) []
   down_right = record {
     stands = λ i t e. absurd (none-some t e);
@@ -86,6 +90,7 @@ module _ (a b n window : ℕ) where
     tops = down_tops;
     alone = λ i j t u e g. absurd (none-some t e);
     pairs = λ i p e. absurd (none-some p e);
+    accepted = down_accepted;
     once = λ i j p q e g. absurd (none-some p e);
     count = refl;
     opened = record {
@@ -162,6 +167,26 @@ dce_none zero zero r u = refl
 dce_none zero (suc zero) r u = in_use_keeps (λ z. z.called) (λ z. with_answer z) new_history (λ z. refl) r u 0
 dce_none zero (suc (suc c)) r u = refl
 dce_none (suc s) c r u = refl
+
+-- and what was accepted
+dte_accepted : (s c r u : ℕ) → ((start_history Dte true s c).epochs r u 0).answered ≡ false
+dte_accepted zero zero r u = refl
+dte_accepted zero (suc zero) r u = in_use_keeps (λ z. z.answered) (λ z. with_call no_parts z) new_history (λ z. refl) r u 0
+dte_accepted zero (suc (suc c)) r u = refl
+dte_accepted (suc s) c r u = refl
+
+dce_accepted : (s c r u : ℕ) → ((start_history Dce true s c).epochs r u 0).answered ≡ true → (s ≡ 0) × (c ≡ 1) × (r ≡ 0) × (u ≡ 0)
+dce_accepted zero (suc zero) r u e =
+    elim (in_use_cases (λ z. with_answer z) new_history r u) [
+      | inl h ↦ (refl, refl, h.0.0, h.0.1)
+      | inr h ↦ absurd (true≢false (sym e ∙ ap (λ (z : Epoch). z.answered) (h.1 0)))
+    ]
+dce_accepted zero zero r u e = absurd (true≢false (sym e))
+dce_accepted zero (suc (suc c)) r u e = absurd (true≢false (sym e))
+dce_accepted (suc s) c r u e = absurd (true≢false (sym e))
+
+use_is : (s c r u : ℕ) → (s ≡ 0) × (c ≡ 1) × (r ≡ 0) × (u ≡ 0) → first ≡ record { session = s; channel = c; restart = r; use_ = u }
+use_is s c r u e = let a = e.0 in let b = e.1 in let d = e.2 in let f = e.3 in cc
 
 module _ (a b m window : ℕ) where
   abbrev me_up : End
@@ -314,6 +339,18 @@ module _ (a b m window : ℕ) where
         ]
       ]
 
+  up_accepted : (x : Role) (k : ChannelUse) → answered_at (up_views x) k ≡ true → CameIn both x k
+  up_accepted Dte k e = absurd (true≢false (sym e ∙ dte_accepted k.session k.channel k.restart k.use_))
+  up_accepted Dce k e = record {
+    number = 1;
+    caller = 0;
+    tag = callee_tag;
+    there = refl;
+    role = refl;
+    channel_use = use_is k.session k.channel k.restart k.use_ (dce_accepted k.session k.channel k.restart k.use_ e);
+    kind = refl;
+  }
+
   abbrev the_pair : PairValue
   the_pair = record { caller = 0; callee = 1 }
 
@@ -361,6 +398,7 @@ module _ (a b m window : ℕ) where
     tops = up_tops;
     alone = up_alone;
     pairs = λ i p e. subst (λ (z : PairValue). IsPair up_views both z) (sym (one_case the_pair i p e).1) (record { tag = callee_tag; there = refl; kind = refl; answered = refl });
+    accepted = up_accepted;
     once = λ i j p q e g h. (one_case the_pair i p e).0 ∙ sym (one_case the_pair j q g).0;
     count = refl;
     opened = up_opened;

@@ -4,3 +4,4 @@ pub mod Open
 pub mod Counts
 pub mod Rest
 pub mod Delivery
+pub mod AcceptedCalls

@@ -1,4 +1,5 @@
 ghost use Rattle.book_laws.specs.Headline.{BookLaw, RecordsLaw, PresentLaw, AnsweredLaw, CallsLaw, CallersLaw};
+ghost use Rattle.book_laws.specs.AcceptedCalls.{AcceptedLaw, AcceptedRun};
 ghost use Rattle.book_laws.specs.Counts.{CountsLaw};
 ghost use Rattle.book_laws.specs.Delivery.{DeliveryLaw};
 ghost use Rattle.book_laws.specs.Open.{OpenLaw};
@@ -32,6 +33,15 @@ pub fn book_law()
     // The epochs of each record, open or closed, are those that the packet layer of its end counted: packets,
     // interrupts, and how many packets a P(R) covered and how many were released.
     ensures counts { CountsLaw }
+
+    // The pairs are the calls that were accepted, one for each, open or over, also if nothing was taken.
+    ensures accepted { AcceptedLaw }
+{}
+
+/// A call that is accepted and cleared before anything is sent meets what the law asks for, and is a pair: by
+/// computation.
+pub fn accepted_run()
+    ensures { AcceptedRun }
 {}
 
 /// Where each packet of an epoch that was sent with D = 1 is covered, what is confirmed of the epoch is all of it up to

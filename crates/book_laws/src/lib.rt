@@ -3,4 +3,4 @@
 
 mod law;
 
-pub use law::{book_law, delivery_law};
+pub use law::{accepted_run, book_law, delivery_law};

@@ -45,7 +45,7 @@ changed_headed (s ∷ rs) (suc m) (suc n) f r mild h =
     let k = changed_headed rs m n f r mild (record { it = h.it; there = h.there; node = h.node; own = h.own; far = h.far }) in
     record { it = k.it; there = k.there; node = k.node; own = k.own; far = k.far }
 
-change_headed : (o : Option ℕ) (f : RecordValue → RecordValue) (n : ℕ) (r : RecordValue) (b : Book) → IsMild f → IsHeaded r n b.records → IsHeaded r n (with_change o f b).records
+pub change_headed : (o : Option ℕ) (f : RecordValue → RecordValue) (n : ℕ) (r : RecordValue) (b : Book) → IsMild f → IsHeaded r n b.records → IsHeaded r n (with_change o f b).records
 change_headed None f n r b mild h = h
 change_headed (Some m) f n r b mild h = changed_headed b.records m n f r mild h
 
@@ -59,7 +59,7 @@ slot_records Dce c z b = refl
 pub same_headed : (n : ℕ) (r : RecordValue) (rs ss : List RecordValue) → ss ≡ rs → IsHeaded r n rs → IsHeaded r n ss
 same_headed n r rs ss e h = record { it = h.it; there = ap (λ (xs : List RecordValue). slice_get xs n) e ∙ h.there; node = h.node; own = h.own; far = h.far }
 
-closes_headed : (x : Role) (c n : ℕ) (r : RecordValue) (b : Book) → IsHeaded r n b.records → IsHeaded r n (closes x c b).records
+pub closes_headed : (x : Role) (c n : ℕ) (r : RecordValue) (b : Book) → IsHeaded r n b.records → IsHeaded r n (closes x c b).records
 closes_headed x c n r b h =
     same_headed n r (changed x c with_closed b).records (closes x c b).records (slot_records x c (record (slot_at x c b) { present = None; caller = None }) (changed x c with_closed b))
     (change_headed (slot_at x c b).present with_closed n r b closing_mild h)
@@ -68,16 +68,16 @@ close_headed : (x : Role) (o : Option ℕ) (c n : ℕ) (r : RecordValue) (b : Bo
 close_headed x None c n r b h = h
 close_headed x (Some k) c n r b h = closes_headed x c n r b h
 
-closed_headed : (x : Role) (count c n : ℕ) (r : RecordValue) (b : Book) → IsHeaded r n b.records → IsHeaded r n (closed_from count c x b).records
+pub closed_headed : (x : Role) (count c n : ℕ) (r : RecordValue) (b : Book) → IsHeaded r n b.records → IsHeaded r n (closed_from count c x b).records
 closed_headed x zero c n r b h = h
 closed_headed x (suc count) c n r b h = closed_headed x count (suc c) n r (closes_present x c b) (close_headed x (slot_at x c b).present c n r b h)
 
-pair_headed : (o p : Option ℕ) (n : ℕ) (r : RecordValue) (b : Book) → IsHeaded r n b.records → IsHeaded r n (with_pair o p b).records
+pub pair_headed : (o p : Option ℕ) (n : ℕ) (r : RecordValue) (b : Book) → IsHeaded r n b.records → IsHeaded r n (with_pair o p b).records
 pair_headed None p n r b h = h
 pair_headed (Some k) None n r b h = h
 pair_headed (Some k) (Some m) n r b h = h
 
-new_headed : (x : Role) (c : ℕ) (z : Slot) (new : RecordValue) (n : ℕ) (r : RecordValue) (b : Book) → IsHeaded r n b.records → IsHeaded r n (with_slot x c z (with_record new b)).records
+pub new_headed : (x : Role) (c : ℕ) (z : Slot) (new : RecordValue) (n : ℕ) (r : RecordValue) (b : Book) → IsHeaded r n b.records → IsHeaded r n (with_slot x c z (with_record new b)).records
 new_headed x c z new n r b h = same_headed n r (b.records ++ new ∷ []) _ (slot_records x c z (with_record new b)) (more_headed n r new b.records h)
 
 placed_headed : (x : Role) (o : Option ℕ) (parts : CallParts) (n : ℕ) (r : RecordValue) (b : Book) → IsHeaded r n b.records → IsHeaded r n (placed_on x o parts b).records

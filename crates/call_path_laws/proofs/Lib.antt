@@ -26,4 +26,5 @@ pub mod Ending
 pub mod Resting
 pub mod Moves
 pub mod Heading
+pub mod OwnAddresses
 pub mod Forwarding

@@ -6,4 +6,5 @@ pub mod Law
 pub mod Run
 pub mod Lines
 pub mod Ends
+pub mod OwnAddresses
 pub mod Rest

@@ -6,6 +6,7 @@ ghost use Rattle.call_path_laws.specs.Law.{MadeLaw, EventLaw, PromiseLaw, PathLa
 ghost use Rattle.call_path_laws.specs.Law.{OwnedLaw, RecordsLaw, PresentLaw, CameLaw, PairedLaw};
 ghost use Rattle.call_path_laws.specs.Ends.{EndLaw, UserLaw, OpenLaw};
 ghost use Rattle.call_path_laws.specs.Lines.{MadeLinesLaw, TraceLaw, LinesLaw, WrittenLaw, BookCallsLaw, RecordedLaw};
+ghost use Rattle.call_path_laws.specs.OwnAddresses.{MadeOwnLaw, WriteOwnLaw, HandedOwnLaw, OwnRun};
 ghost use Rattle.call_path_laws.specs.Rest.{RestLaw};
 ghost use Rattle.call_path_laws.specs.Run.{RunLaw, OpenRunLaw};
 
@@ -40,6 +41,16 @@ pub fn end_law()
     ensures ends { EndLaw }
     ensures users { UserLaw }
     ensures open_records { OpenLaw }
+{}
+
+/// If no call that is placed gives a calling address, the own address of each caller is that of its line, or none if the
+/// line has none. So it is from the making on, whatever is written at the lines, and when a switch hands a call on. Two
+/// calls meet what these clauses ask for, by computation.
+pub fn own_address_law()
+    ensures made { MadeOwnLaw }
+    ensures writes { WriteOwnLaw }
+    ensures handed_on { HandedOwnLaw }
+    ensures run { OwnRun }
 {}
 
 /// The addresses of the two records of each join: a switch that places a call onward with the called address that the

@@ -46,7 +46,7 @@ module _ (s : Setting) (b : Book) (l : Line) (k : Kept s b l) where
   abbrev world : World
   world = after_all k.moves (beginning s)
 
-  same_layer : (role : Role) → unread (layers_at role world.line).layer ≡ (end_at role l).layer
+  pub same_layer : (role : Role) → unread (layers_at role world.line).layer ≡ (end_at role l).layer
   same_layer Dte = k.joint.mine.layer
   same_layer Dce = k.joint.yours.layer
 
@@ -79,13 +79,13 @@ all_sent r = r.sent_before ++ r.sent ∷ []
 abbrev pub all_taken : RecordValue → List TakenEpoch
 all_taken r = r.taken_before ++ r.taken ∷ []
 
-epochs_alike : (epochs : ℕ → Epoch) (own r : RecordValue) → all_sent r ≡ all_sent own → all_taken r ≡ all_taken own → HasEpochs epochs own → HasEpochs epochs r
+pub epochs_alike : (epochs : ℕ → Epoch) (own r : RecordValue) → all_sent r ≡ all_sent own → all_taken r ≡ all_taken own → HasEpochs epochs own → HasEpochs epochs r
 epochs_alike epochs own r sent taken h = record {
   sent = λ g s at. h.sent g s (ap (λ (es : List SentEpoch). slice_get es g) (sym sent) ∙ at);
   taken = λ g t at. h.taken g t (ap (λ (es : List TakenEpoch). slice_get es g) (sym taken) ∙ at);
 }
 
-counted_alike : (e : End) (own r : RecordValue) → all_sent r ≡ all_sent own → all_taken r ≡ all_taken own → HasCounted e own → HasCounted e r
+pub counted_alike : (e : End) (own r : RecordValue) → all_sent r ≡ all_sent own → all_taken r ≡ all_taken own → HasCounted e own → HasCounted e r
 counted_alike e own r sent taken (inl h) = inl (record {
   session = h.session;
   channel = h.channel;

@@ -16,4 +16,5 @@ pub mod Hosting
 pub mod Missing
 pub mod Confirming
 pub mod Counting
+pub mod Histories
 pub mod Relinking

@@ -9,3 +9,4 @@ pub mod Due
 pub mod Rest
 pub mod Confirmed
 pub mod Counted
+pub mod Histories

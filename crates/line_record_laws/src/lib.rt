@@ -7,6 +7,7 @@ ghost use Rattle.line_record_laws.specs.Clauses.{AskedLaw, FrontLaw, ChannelsLaw
 ghost use Rattle.line_record_laws.specs.Rest.{RestLaw, SettledLaw};
 ghost use Rattle.line_record_laws.specs.Confirmed.{ConfirmedLaw};
 ghost use Rattle.line_record_laws.specs.Counted.{ShownLaw, CountsLaw};
+ghost use Rattle.line_record_laws.specs.Histories.{HistoryLaw};
 ghost use Rattle.line_record_laws.specs.Happens.{FrameLaw, ExpiryLaw, RelinkLaw, RestartedLaw, CalledLaw, RequestedLaw};
 ghost use Rattle.line_record_laws.specs.Hosts.{HostExpiryLaw, HostCallLaw, HostRequestLaw, HostSayLaw, HostRefuseLaw};
 ghost use Rattle.line_record_laws.specs.Hosts.{HostTakeLaw};
@@ -52,6 +53,10 @@ pub fn line_record_law()
     // epochs that the packet layer of its end counted.
     ensures shown { ShownLaw }
     ensures counts { CountsLaw }
+
+    // One list of moves leads to both layers and to the book, and what the records count and which calls are pairs is
+    // what it says.
+    ensures history { HistoryLaw }
 {}
 
 /// The law of a line with its book over whole events of a node: what comes to the node or is asked of it, the end of

@@ -3,6 +3,7 @@ use Rattle.line_record_laws.proofs.Missing.{rest_kept}
 use Rattle.line_record_laws.proofs.Relinking.{finished_asks}
 use Rattle.line_record_laws.proofs.Confirming.{confirmed_kept}
 use Rattle.line_record_laws.proofs.Counting.{shown_kept, counts_kept}
+use Rattle.line_record_laws.proofs.Histories.{history_kept}
 use Rattle.line_record_laws.proofs.line_record_law.Goals as goal
 
 pub returns : goal.returns
@@ -28,4 +29,5 @@ returns c = record {
   confirmed = confirmed_kept;
   shown = shown_kept;
   counts = counts_kept;
+  history = history_kept;
 }

@@ -1,0 +1,23 @@
+-- Each line of which all is kept has a history, which its records and pairs follow.
+use Rattle.std.specs.Prelude.{slice_get}
+use Rattle.std.proofs.Common.{ap, ◌∙◌}
+use Rattle.call_records.specs.Book.{Book}
+use Rattle.book_laws.proofs.Counting.{records_counted}
+use Rattle.book_laws.proofs.AcceptedPairs.{pairs_accepted}
+use Rattle.line_record_laws.specs.Histories.{LineHistory, HistoryLaw}
+use Rattle.line_record_laws.proofs.Counting.{same_layer}
+
+pub history_kept : HistoryLaw
+history_kept s b l k =
+    let p = k.setting.dte.layer in
+    let h : LineHistory = record { setting = s; moves = k.moves } in (
+      h,
+      record {
+        possible = record { setting = k.setting; allowed = k.allowed };
+        layers = λ role. same_layer s b l k role;
+        book = k.book;
+        counts = λ i r there. records_counted s.dte_node s.dce_node s.dte.channels s.dte.window s.dte.standing p.channels_least p.window_most k.moves k.allowed i r
+            (ap (λ (x : Book). slice_get x.records i) k.book ∙ there);
+        accepted = pairs_accepted s.dte_node s.dce_node s.dte.channels s.dte.window s.dte.standing p.channels_least p.window_most k.moves k.allowed;
+      },
+    )
