@@ -1,6 +1,7 @@
 //! What a capture is, by octets that Wireshark read, and lines that are none of a trace.
-use std::alloc::Global;
-use trace_capture::{TraceFault, capture};
+use memory_line::Direction;
+use std::alloc::{AllocError, Global};
+use trace_capture::{TraceFault, capture, read_line};
 
 /// The head of each capture.
 const HEAD: &[u8] =
@@ -57,4 +58,52 @@ fn tells_the_line_that_is_no_frame(rt: HostRuntime) {
     for (text, line) in TEXTS {
         assert!(rt; is_no_frame(rt.alloc(), text, *line), "at {text}");
     }
+}
+
+/// Whether a line is read as a frame of the line of these digits, with this direction and these octets.
+fn is_frame(line: &[u8], digits: &[u8], direction: Direction, octets: &[u8]) -> bool {
+    match read_line(line) {
+        Ok(Some(frame)) => {
+            frame.line == digits
+                && frame.direction == direction
+                && frame.octets.as_slice() == octets
+        }
+        _ => false,
+    }
+}
+
+#[test]
+fn lines_of_frames_are_read(rt: HostRuntime) {
+    const LINES: &[(&[u8], &[u8], Direction, &[u8])] = &[
+        (b"0 > 01", b"0", Direction::FromDte, b"\x01"),
+        (
+            b"63 < 0F 1E 2D 3C 4B 5A 69 78 87 96 A5 B4 C3 D2 E1 F0",
+            b"63",
+            Direction::FromDce,
+            b"\x0F\x1E\x2D\x3C\x4B\x5A\x69\x78\x87\x96\xA5\xB4\xC3\xD2\xE1\xF0",
+        ),
+        (b"65535 < FF", b"65535", Direction::FromDce, b"\xFF"),
+        (b"7 >", b"7", Direction::FromDte, b""),
+    ];
+    for (line, digits, direction, octets) in LINES {
+        assert!(rt; is_frame(line, digits, *direction, octets), "at {line:?}");
+    }
+}
+
+/// The line of a frame with so many octets `FF`.
+fn line_of(alloc: Global, count: usize) -> Result<Vec<u8>, AllocError> {
+    let mut line = Vec::new(alloc);
+    line.extend_from_slice(b"0 >")?;
+    for _ in 0..count {
+        line.extend_from_slice(b" FF")?;
+    }
+    Ok(line)
+}
+
+#[test]
+fn the_longest_frame_is_read(rt: HostRuntime) {
+    let longest = line_of(rt.alloc(), 147).expect(&rt, "a line");
+    assert!(rt; is_frame(longest.as_slice(), b"0", Direction::FromDte, &[0xFF; 147]));
+    let longer = line_of(rt.alloc(), 148).expect(&rt, "a line");
+    assert!(rt; read_line(longer.as_slice()).is_err());
 }

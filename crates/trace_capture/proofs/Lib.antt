@@ -1,1 +1,4 @@
 pub mod Lines
+pub mod Octets
+pub mod FrameLines
+pub mod WholeRead

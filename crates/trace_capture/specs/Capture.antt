@@ -1,9 +1,13 @@
 -- Captures, as Wireshark reads them (pcapng): blocks of octets, numbers with their low octet first.
 use Rattle.std.specs.Prelude.{◌≡◌, ℕ, ◌+◌, ◌-◌, ◌%◌, List, [], ◌∷◌, ◌++◌, length, replicate, codes, false, Some}
+use Rattle.std.specs.Prelude.{true, Option, IfSome}
+use Rattle.std.specs.Io.KnownBytes.{Appends}
 use Rattle.std.specs.Int.{to_le_bytes, w16, w32}
 use Rattle.memory_line.specs.declared.line.Direction.{Direction}
 use Rattle.memory_line.specs.declared.line.Direction.TheVariants.{FromDte, FromDce}
-use Rattle.trace_capture.specs.Trace.{is_traced, frame_line}
+use Rattle.trace_capture.specs.declared.fault.TraceFault.{TraceFault}
+use Rattle.trace_capture.specs.declared.fault.TraceFault.TheVariants.{Line, OutOfMemory}
+use Rattle.trace_capture.specs.Trace.{is_traced, frame_line, IsFrameLine}
 use Rattle.trace_capture.specs.Lines.{AreLines}
 
 -- ---- blocks
@@ -77,3 +81,22 @@ pub record IsCapture (text capture : List ℕ) : Type 0 where
   pub are_lines : AreLines (Some text) lines
   pub count : ℕ
   pub has_blocks : HasBlocks lines count capture
+
+-- the capture of all that a reader had left was written behind what was known to be written
+pub record Converts (left before after : Option (List ℕ)) : Type 0 where
+  pub text : List ℕ
+  pub read : IfSome left (λ octets. text ≡ octets)
+  pub capture : List ℕ
+  pub is_capture : IsCapture text capture
+  pub written : Appends before after capture
+
+-- ---- faults
+
+-- memory was wanted; or a line begins as that of a frame and is none, and each line before it is of something else or a
+-- frame's: the fault has its number, counted from 1 modulo 2^32
+pub data IsTraceFault (text : List ℕ) : TraceFault → Type 0 where
+  no_memory : IsTraceFault text OutOfMemory
+  no_frame : {before : List (List ℕ)} {line : List ℕ} {rest : Option (List ℕ)} {count number : ℕ} {blocks : List ℕ}
+      → ((after : List (List ℕ)) → AreLines rest after → AreLines (Some text) (before ++ line ∷ after))
+      → AreBlocks before count blocks → is_traced line ≡ true → ¬ IsFrameLine line
+      → number ≡ (length before + 1) % 4294967296 → IsTraceFault text (Line number)

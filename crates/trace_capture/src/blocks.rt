@@ -1,8 +1,9 @@
 //! The capture of a trace.
-ghost use Rattle.std.specs.Prelude.{◌≡◌, ◌≤◌, ◌<◌, ◌+◌, ◌++◌, ◌%◌, ◌-◌, length, replicate, IfOk, IfSome, OnOk};
+ghost use Rattle.std.specs.Prelude.{◌≡◌, ◌≤◌, ◌<◌, ◌+◌, ◌++◌, ◌%◌, ◌-◌, length, replicate, IfOk, IfErr, IfSome, OnOk};
 ghost use Rattle.std.specs.Option.{option_map};
 ghost use Rattle.trace_capture.specs.Lines.{line_feed, first_line, behind_line};
 ghost use Rattle.trace_capture.specs.Capture.{block, head, packet, comment, packet_body, way_of, IsCapture};
+ghost use Rattle.trace_capture.specs.Capture.{IsTraceFault};
 
 use crate::fault::TraceFault;
 use crate::frame::{TracedFrame, read_line};
@@ -23,7 +24,8 @@ const PACKET: u32 = 6;
 /// `Line` with the number of the first line that begins so and is no frame, counted from 1; `OutOfMemory` for want of
 /// memory.
 pub fn capture(alloc: Global, text: &[u8]) -> Result<Vec<u8>, TraceFault>
-    ensures { IfOk result (λ capture. IsCapture text.now capture.items) }
+    ensures ok { IfOk result (λ capture. IsCapture text.now capture.items) }
+    ensures fault { IfErr result (IsTraceFault text.now) }
 {
     let mut capture = head(alloc)?;
     let mut number = 0u32;

@@ -20,6 +20,11 @@ pub enum TraceFault {
 }
 
 impl From<AllocError> for TraceFault {
+    ghost use Rattle.std.specs.Prelude.{◌≡◌};
+    ghost use Rattle.trace_capture.specs.declared.fault.TraceFault.TheVariants.{OutOfMemory};
+
+    ghost from_gives = { λ _ fault. fault ≡ OutOfMemory };
+
     fn from(_: AllocError) -> Self {
         TraceFault::OutOfMemory
     }

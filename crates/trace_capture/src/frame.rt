@@ -1,9 +1,11 @@
 //! The lines of a trace.
-ghost use Rattle.std.specs.Prelude.{◌≡◌, ◌/◌, ◌%◌, ◌≤◌, true, false, length, not, Ok, None};
-ghost use Rattle.std.specs.Prelude.{IfOk, IfSome, OnErr};
+ghost use Rattle.std.specs.Prelude.{◌≡◌, ◌≢◌, ◌/◌, ◌%◌, ◌≤◌, ◌<◌, ℕ, List, true, false, length, not, Ok, None};
+ghost use Rattle.std.specs.Prelude.{IfOk, IfSome, OnErr, IsOkAnd, IsSome};
 ghost use Rattle.std.specs.Char.{is_ascii_digit};
 ghost use Rattle.std.specs.List.{flat_map, position};
+ghost use Rattle.memory_line.specs.declared.line.Direction.{Direction};
 ghost use Rattle.trace_capture.specs.Trace.{number_end, is_traced, hex_digit, spaced, sign_of, frame_line};
+ghost use Rattle.trace_capture.specs.Trace.{AreOctets, IsFrameLine};
 
 use frame_codec::{FrameBuf, MAX_FRAME};
 use memory_line::Direction;
@@ -31,6 +33,7 @@ pub struct NotAFrame;
 pub fn read_line(line: &[u8]) -> Result<Option<TracedFrame<'_>>, NotAFrame>
     ensures frame { IfOk result (λ frame. IfSome frame (λ f. line.now ≡ frame_line f.line.now f.direction f.octets)) }
     ensures fits { IfOk result (λ frame. IfSome frame (λ f. length f.line.now ≤ 5)) }
+    ensures reads { IsFrameLine line.now → IsOkAnd result (λ frame. IsSome frame) }
     ensures others { result ≡ Ok None → is_traced line.now ≡ false }
     ensures fault { OnErr result (is_traced line.now ≡ true) }
 {
@@ -76,7 +79,8 @@ fn is_traced(line: &[u8]) -> bool
 
 /// The direction of which this is the sign.
 fn read_direction(sign: u8) -> Result<Direction, NotAFrame>
-    ensures { IfOk result (λ direction. sign ≡ sign_of direction) }
+    ensures value { IfOk result (λ direction. sign ≡ sign_of direction) }
+    ensures fault { OnErr result ((direction : Direction) → sign ≢ sign_of direction) }
 {
     match sign {
         b'>' => Ok(Direction::FromDte),
@@ -87,7 +91,8 @@ fn read_direction(sign: u8) -> Result<Direction, NotAFrame>
 
 /// Octets of two hexadecimal digits, each behind a space.
 fn read_octets(text: &[u8]) -> Result<FrameBuf, NotAFrame>
-    ensures { IfOk result (λ frame. text.now ≡ flat_map spaced frame) }
+    ensures value { IfOk result (λ frame. text.now ≡ flat_map spaced frame) }
+    ensures fault { OnErr result ((octets : List ℕ) → AreOctets octets → text.now ≢ flat_map spaced octets) }
 {
     let mut frame = FrameBuf::new();
     let mut rest = text;
@@ -107,7 +112,9 @@ fn read_octets(text: &[u8]) -> Result<FrameBuf, NotAFrame>
 
 /// The octet of two hexadecimal digits.
 fn read_octet(high: u8, low: u8) -> Result<u8, NotAFrame>
-    ensures { IfOk result (λ octet. (high ≡ hex_digit (octet / 16)) × (low ≡ hex_digit (octet % 16))) }
+    ensures value { IfOk result (λ octet. (high ≡ hex_digit (octet / 16)) × (low ≡ hex_digit (octet % 16))) }
+    ensures fault { OnErr result ((octet : ℕ) → octet < 256
+        → (high ≡ hex_digit (octet / 16)) × (low ≡ hex_digit (octet % 16)) → ⊥) }
 {
     Ok(16 * read_digit(high)? + read_digit(low)?)
 }
@@ -116,6 +123,7 @@ fn read_octet(high: u8, low: u8) -> Result<u8, NotAFrame>
 fn read_digit(digit: u8) -> Result<u8, NotAFrame>
     ensures value { IfOk result (λ value. digit ≡ hex_digit value) }
     ensures below { IfOk result (λ value. value ≤ 15) }
+    ensures fault { OnErr result ((value : ℕ) → value ≤ 15 → digit ≢ hex_digit value) }
 {
     match digit {
         b'0'..=b'9' => Ok(digit - b'0'),

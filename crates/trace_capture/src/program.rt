@@ -1,5 +1,6 @@
 //! The program that makes a capture.
-ghost use Rattle.std.specs.Prelude.{◌≡◌, ◌⊎◌};
+ghost use Rattle.std.specs.Prelude.{◌≡◌, ◌⊎◌, IfOk, IfSome, OnOk};
+ghost use Rattle.trace_capture.specs.Capture.{Converts};
 
 use crate::blocks::capture;
 use crate::fault::TraceFault;
@@ -23,7 +24,8 @@ pub fn convert<R: Read, W: Write, E: Write>(
     out: &mut W,
     err: &mut E,
 ) -> u8
-    ensures { (result ≡ DONE) ⊎ (result ≡ FAULT) }
+    ensures status { (result ≡ DONE) ⊎ (result ≡ FAULT) }
+    ensures done { result ≡ DONE → Converts (R.remaining input.old) (W.contents out.old) (W.contents out.new) }
 {
     match try_convert(alloc, input, out) {
         Ok(()) => DONE,
@@ -38,19 +40,23 @@ fn try_convert<R: Read, W: Write>(
     alloc: Global,
     input: &mut R,
     out: &mut W,
-) -> Result<(), TraceFault> {
+) -> Result<(), TraceFault>
+    ensures { OnOk result (Converts (R.remaining input.old) (W.contents out.old) (W.contents out.new)) }
+{
     let text = read_all(alloc, input)?;
     let capture = capture(alloc, text.as_slice())?;
-    match out.write_all(capture.as_slice()).and_then(|()| out.flush()) {
-        Ok(()) => Ok(()),
-        Err(_) => Err(TraceFault::Write),
+    if out.write_all(capture.as_slice()).is_err() || out.flush().is_err() {
+        return Err(TraceFault::Write);
     }
+    Ok(())
 }
 
 /// Reads all that a reader has.
-fn read_all<R: Read>(alloc: Global, input: &mut R) -> Result<Vec<u8>, TraceFault> {
+fn read_all<R: Read>(alloc: Global, input: &mut R) -> Result<Vec<u8>, TraceFault>
+    ensures { IfOk result (λ text. IfSome (R.remaining input.old) (λ octets. text.items ≡ octets)) }
+{
     let mut text = Vec::new(alloc);
-    match input.by_ref().take(TEXT_OCTETS + 1).read_to_end(&mut text) {
+    match input.take(TEXT_OCTETS + 1).read_to_end(&mut text) {
         Ok(count) if count as u64 <= TEXT_OCTETS => Ok(text),
         Ok(_) => Err(TraceFault::Input),
         Err(error) => match error.kind() {

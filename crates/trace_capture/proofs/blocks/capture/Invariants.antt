@@ -4,7 +4,7 @@ use Rattle.trace_capture.proofs.Lines.{Reads}
 use Rattle.trace_capture.proofs.blocks.capture.Given as goal
 
 abbrev pub invariant-loop-rest : goal.invariant-loop-rest
-invariant-loop-rest l = Reads l.fn.text (option_map (λ others. others.now) l.rest) l.frames l.capture.items
+invariant-loop-rest l = Reads l.fn.text (option_map (λ others. others.now) l.rest) l.number l.frames l.capture.items
 
 abbrev left : Option (List ℕ) → ℕ
 left None = 0
