@@ -24,7 +24,7 @@ use crate::taken::{Front, TakenBuf};
 use crate::traffic::{SEND_QUEUE, Traffic};
 use flow_window::pool::Pool;
 use packet_codec::{CallBuf, PacketBuf, diagnostic};
-pub use requests::Request;
+pub use requests::{BareRequest, Request};
 use std::alloc::{AllocError, Global};
 use std::marker::Model;
 

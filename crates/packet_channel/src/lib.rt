@@ -16,7 +16,7 @@ mod taken;
 mod traffic;
 mod user_data;
 
-pub use channel::{Channel, Request};
+pub use channel::{BareRequest, Channel, Request};
 pub use fault::{ChannelFault, RefusedBuf};
 pub use kept::KeptPacket;
 pub use note::{LayerNote, Reason};

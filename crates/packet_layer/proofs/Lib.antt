@@ -5,3 +5,5 @@ pub mod Closed
 pub mod Serving
 pub mod Silence
 pub mod Round
+pub mod Asked
+pub mod Served

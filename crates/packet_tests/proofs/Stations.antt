@@ -1,11 +1,11 @@
 -- The pool of a layer has room.
-use Rattle.std.proofs.Common.{◌≡◌, ℕ, zero, suc, ◌+◌, ◌*◌, Bool, true, false, List, [], ◌∷◌, length, refl, ap, arith}
+use Rattle.std.proofs.Common.{◌≡◌, ℕ, zero, suc, ◌+◌, ◌*◌, Bool, true, false, List, [], ◌∷◌, length, refl, ap, sym, ◌∙◌, arith}
 use Rattle.std.specs.Prelude.{replicate}
 use Rattle.link_timers.specs.declared.role.Role.{Role}
 use Rattle.flow_window.specs.Pool.{Buffer, IsIn, weight}
 use Rattle.flow_window.proofs.Weights.{weight_ones, held_in}
 use Rattle.packet_layer.specs.Channel.{closed_channel}
-use Rattle.packet_layer.specs.Held.{most_held, HasRoom}
+use Rattle.packet_layer.specs.Held.{Layer as Held, most_held, HasRoom}
 use Rattle.packet_layer.specs.Layer as machine
 use Rattle.packet_layer.specs.Layer.{standing_channels}
 use Rattle.packet_tests.specs.declared.station.Station.TheInside.{Inside}
@@ -39,3 +39,12 @@ made_most role channels window standing = ap (λ n. n * (window + 8)) (made_leng
 pub replicated : {X : Type 0} (n : ℕ) (x : X) → length (replicate n x) ≡ n
 replicated zero x = refl
 replicated (suc n) x = ap (λ m. suc m) (replicated n x)
+
+-- a call that touches no packet
+pub kept : (a : Inside) (new : Held) → IsStation a → most_held new.layer ≡ most_held a.layer.layer →
+    new.held ≡ a.layer.held → IsStation (record a { layer = new })
+kept a new is most held = record {
+  size = is.size;
+  places = is.places ∙ ap (λ (n : ℕ). n + 1) (sym most);
+  exact = λ w. is.exact w ∙ ap (λ (bs : List Buffer). weight w bs) (sym held);
+}

@@ -78,7 +78,7 @@ impl Station {
     }
 
     pub(crate) fn accept(&mut self, channel: u8) -> Result<(), ChannelFault> {
-        self.layer.accept(channel, &mut self.pool)
+        self.layer.accept(channel)
     }
 
     pub(crate) fn clear(&mut self, channel: u8) -> Result<(), ChannelFault> {
@@ -100,23 +100,23 @@ impl Station {
     }
 
     pub(crate) fn interrupt(&mut self, channel: u8, octets: &[u8]) -> Result<(), ChannelFault> {
-        self.layer.interrupt(channel, octets, &mut self.pool)
+        self.layer.interrupt(channel, octets)
     }
 
     pub(crate) fn stop(&mut self, channel: u8) -> Result<(), ChannelFault> {
-        self.layer.stop(channel, &mut self.pool)
+        self.layer.stop(channel)
     }
 
     pub(crate) fn go(&mut self, channel: u8) -> Result<(), ChannelFault> {
-        self.layer.go(channel, &mut self.pool)
+        self.layer.go(channel)
     }
 
     pub(crate) fn release(&mut self, channel: u8, count: u8) {
-        self.layer.release(channel, count, &mut self.pool);
+        self.layer.release(channel, count);
     }
 
     pub(crate) fn confirm_interrupt(&mut self, channel: u8) {
-        self.layer.confirm_interrupt(channel, &mut self.pool);
+        self.layer.confirm_interrupt(channel);
     }
 
     pub(crate) fn take(&mut self, channel: u8) -> Option<Taken> {

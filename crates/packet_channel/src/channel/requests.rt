@@ -6,7 +6,7 @@ ghost use Rattle.packet_channel.specs.Channel as machine;
 ghost use Rattle.packet_channel.specs.Answers.{Answers, BufAnswers, handed_back};
 ghost use Rattle.packet_channel.specs.Held.{Fits, Takes};
 ghost use Rattle.packet_channel.specs.Packets.{Datum};
-ghost use Rattle.packet_channel.specs.RequestView.{request_of, refusal_of};
+ghost use Rattle.packet_channel.specs.RequestView.{request_of, bare_request_of, refusal_of};
 
 use crate::channel::Channel;
 use crate::control::Control;
@@ -61,6 +61,16 @@ pub enum Request<'a> {
     ConfirmInterrupt,
 }
 
+/// What a user may ask of a call that touches no packet: [`Request`] has what each comes to, and its refusals.
+#[derive(Clone, Copy)]
+pub enum BareRequest<'a> {
+    Accept,
+    Interrupt(&'a [u8]),
+    Stop(bool),
+    Release(u8),
+    ConfirmInterrupt,
+}
+
 impl Channel {
     /// Does what is asked, if it is not refused, and answers whether one control packet too many is owed.
     pub fn request(
@@ -90,6 +100,26 @@ impl Channel {
             Request::Stop(stopped) => self.stop(*stopped),
             Request::Release(count) => self.release(*count),
             Request::ConfirmInterrupt => self.confirm_interrupt(),
+        }
+    }
+
+    /// Does what is asked, if it is not refused, and answers whether one control packet too many is owed. The channel
+    /// keeps its packets.
+    pub fn bare_request(
+        &mut self,
+        role: Role,
+        request: &BareRequest<'_>,
+    ) -> Result<bool, ChannelFault>
+        ensures answer { Answers role self.old.channel (bare_request_of request.now) result self.new.channel }
+        ensures held { self.new.held ≡ self.old.held }
+        ensures arrived { self.new.channel.traffic.arrived ≡ self.old.channel.traffic.arrived }
+    {
+        match request {
+            BareRequest::Accept => self.accept(role),
+            BareRequest::Interrupt(octets) => self.interrupt(octets),
+            BareRequest::Stop(stopped) => self.stop(*stopped),
+            BareRequest::Release(count) => self.release(*count),
+            BareRequest::ConfirmInterrupt => self.confirm_interrupt(),
         }
     }
 

@@ -9,7 +9,7 @@ ghost use Rattle.packet_codec.specs.View.{call_view};
 ghost use Rattle.packet_channel.specs.Channel.{Request as asked};
 ghost use Rattle.packet_layer.specs.Layer as machine;
 ghost use Rattle.packet_channel.specs.Octets.{parts_of};
-ghost use Rattle.packet_layer.specs.RequestView.{request_of, refusal_of, call_refusal_of};
+ghost use Rattle.packet_layer.specs.RequestView.{request_of, bare_request_of, refusal_of, call_refusal_of};
 ghost use Rattle.packet_channel.specs.TakenView.{maybe_taken, maybe_taken_in, maybe_buffers_in};
 ghost use Rattle.packet_layer.specs.Free.{IsFreeAt};
 
@@ -18,7 +18,7 @@ use crate::layer::Layer;
 use crate::restart::Phase;
 use flow_window::pool::{BufNo, Pool};
 use link_timers::Role;
-use packet_channel::{Channel, ChannelFault, RefusedBuf, Request, Taken, TakenBuf};
+use packet_channel::{BareRequest, Channel, ChannelFault, RefusedBuf, Request, Taken, TakenBuf};
 use packet_codec::{CallBuf, CallData};
 
 fn lowest_free(channels: &[Channel]) -> Option<usize>
@@ -117,32 +117,44 @@ impl Layer {
         let role = self.role;
         self.to_serve.insert(place);
         let channel = &mut self.channels[place];
-        match channel.request(role, request, pool) {
-            Ok(relink) => {
-                if relink {
-                    self.relink = true;
-                }
-                Ok(())
-            }
-            Err(fault) => Err(fault),
-        }
+        let relink = channel.request(role, request, pool)?;
+        self.relink_if(relink);
+        Ok(())
+    }
+
+    // Asks what touches no packet of the call on the channel, as `ask` does.
+    fn ask_bare(&mut self, channel: u8, request: &BareRequest<'_>) -> Result<(), ChannelFault>
+        ensures answer { MatchResult result
+            (λ _. machine.request_refusal self.old.layer channel (bare_request_of request.now) ≡ None)
+            (λ fault. machine.request_refusal self.old.layer channel (bare_request_of request.now)
+            ≡ Some (refusal_of fault)) }
+        ensures layer { self.new.layer ≡ machine.request self.old.layer channel (bare_request_of request.now) }
+        ensures held { self.new.held ≡ self.old.held }
+        ensures most { most_held self.new.layer ≡ most_held self.old.layer }
+    {
+        let Some(place) = self.place(u16::from(channel)) else {
+            return Err(ChannelFault::NoCall);
+        };
+        let role = self.role;
+        self.to_serve.insert(place);
+        let channel = &mut self.channels[place];
+        let relink = channel.bare_request(role, request)?;
+        self.relink_if(relink);
+        Ok(())
     }
 
     /// Accepts the call that came in on the channel (X.25 4.1.4).
     ///
     /// `NoCall` comes where none waits for it: no call came in, or a DTE's own call collided with it.
-    pub fn accept(&mut self, channel: u8, pool: &mut Pool) -> Result<(), ChannelFault>
-        requires holds { Holds pool.old self.old.held }
-        requires size { 128 ≤ pool.old.size }
-        requires room { HasRoom pool.old self.old.held (most_held self.old.layer + 1) }
+    pub fn accept(&mut self, channel: u8) -> Result<(), ChannelFault>
         ensures answer { MatchResult result
             (λ _. machine.request_refusal self.old.layer channel asked.Accept ≡ None)
             (λ fault. machine.request_refusal self.old.layer channel asked.Accept ≡ Some (refusal_of fault)) }
         ensures layer { self.new.layer ≡ machine.request self.old.layer channel asked.Accept }
-        ensures pool { Balances pool.old self.old.held pool.new self.new.held }
+        ensures held { self.new.held ≡ self.old.held }
         ensures most { most_held self.new.layer ≡ most_held self.old.layer }
     {
-        self.ask(channel, &Request::Accept, pool)
+        self.ask_bare(channel, &BareRequest::Accept)
     }
 
     /// Clears the call on the channel, also one that is being set up, with a cause and a diagnostic (X.25 4.1.7).
@@ -274,58 +286,44 @@ impl Layer {
     ///
     /// `NoCall` comes where no call is in data transfer, then `Resetting` while the own reset is not confirmed,
     /// `TooLong` for no octets or more than 32, `InterruptPending` while the last interrupt is not confirmed.
-    pub fn interrupt(
-        &mut self,
-        channel: u8,
-        octets: &[u8],
-        pool: &mut Pool,
-    ) -> Result<(), ChannelFault>
-        requires holds { Holds pool.old self.old.held }
-        requires size { 128 ≤ pool.old.size }
-        requires room { HasRoom pool.old self.old.held (most_held self.old.layer + 1) }
+    pub fn interrupt(&mut self, channel: u8, octets: &[u8]) -> Result<(), ChannelFault>
         ensures answer { MatchResult result
             (λ _. machine.request_refusal self.old.layer channel (asked.Interrupting octets.now) ≡ None)
             (λ fault. machine.request_refusal self.old.layer channel (asked.Interrupting octets.now)
             ≡ Some (refusal_of fault)) }
         ensures layer { self.new.layer ≡ machine.request self.old.layer channel (asked.Interrupting octets.now) }
-        ensures pool { Balances pool.old self.old.held pool.new self.new.held }
+        ensures held { self.new.held ≡ self.old.held }
         ensures most { most_held self.new.layer ≡ most_held self.old.layer }
     {
-        self.ask(channel, &Request::Interrupt(octets), pool)
+        self.ask_bare(channel, &BareRequest::Interrupt(octets))
     }
 
     /// Asks the far end by RNR to send no more data on the channel (X.25 4.4.1.5).
     ///
     /// `NoCall` comes where no call is in data transfer.
-    pub fn stop(&mut self, channel: u8, pool: &mut Pool) -> Result<(), ChannelFault>
-        requires holds { Holds pool.old self.old.held }
-        requires size { 128 ≤ pool.old.size }
-        requires room { HasRoom pool.old self.old.held (most_held self.old.layer + 1) }
+    pub fn stop(&mut self, channel: u8) -> Result<(), ChannelFault>
         ensures answer { MatchResult result
             (λ _. machine.request_refusal self.old.layer channel (asked.Stopping true) ≡ None)
             (λ fault. machine.request_refusal self.old.layer channel (asked.Stopping true) ≡ Some (refusal_of fault)) }
         ensures layer { self.new.layer ≡ machine.request self.old.layer channel (asked.Stopping true) }
-        ensures pool { Balances pool.old self.old.held pool.new self.new.held }
+        ensures held { self.new.held ≡ self.old.held }
         ensures most { most_held self.new.layer ≡ most_held self.old.layer }
     {
-        self.ask(channel, &Request::Stop(true), pool)
+        self.ask_bare(channel, &BareRequest::Stop(true))
     }
 
     /// Ends by RR what `stop` asked (X.25 4.4.1.4).
     ///
     /// `NoCall` comes where no call is in data transfer.
-    pub fn go(&mut self, channel: u8, pool: &mut Pool) -> Result<(), ChannelFault>
-        requires holds { Holds pool.old self.old.held }
-        requires size { 128 ≤ pool.old.size }
-        requires room { HasRoom pool.old self.old.held (most_held self.old.layer + 1) }
+    pub fn go(&mut self, channel: u8) -> Result<(), ChannelFault>
         ensures answer { MatchResult result
             (λ _. machine.request_refusal self.old.layer channel (asked.Stopping false) ≡ None)
             (λ fault. machine.request_refusal self.old.layer channel (asked.Stopping false) ≡ Some (refusal_of fault)) }
         ensures layer { self.new.layer ≡ machine.request self.old.layer channel (asked.Stopping false) }
-        ensures pool { Balances pool.old self.old.held pool.new self.new.held }
+        ensures held { self.new.held ≡ self.old.held }
         ensures most { most_held self.new.layer ≡ most_held self.old.layer }
     {
-        self.ask(channel, &Request::Stop(false), pool)
+        self.ask_bare(channel, &BareRequest::Stop(false))
     }
 
     /// Takes what comes next on the channel, if anything: an interrupt before all packets.
@@ -359,27 +357,21 @@ impl Layer {
 
     /// Lets P(R) pass `count` more of the packets that were taken on the channel (X.25 4.4.1.3). Nothing happens
     /// where fewer are taken and not released.
-    pub fn release(&mut self, channel: u8, count: u8, pool: &mut Pool)
-        requires holds { Holds pool.old self.old.held }
-        requires size { 128 ≤ pool.old.size }
-        requires room { HasRoom pool.old self.old.held (most_held self.old.layer + 1) }
+    pub fn release(&mut self, channel: u8, count: u8)
         ensures layer { self.new.layer ≡ machine.request self.old.layer channel (asked.Releasing count) }
-        ensures pool { Balances pool.old self.old.held pool.new self.new.held }
+        ensures held { self.new.held ≡ self.old.held }
         ensures most { most_held self.new.layer ≡ most_held self.old.layer }
     {
-        let _ = self.ask(channel, &Request::Release(count), pool);
+        let _ = self.ask_bare(channel, &BareRequest::Release(count));
     }
 
     /// Owes the confirmation of the interrupt that was taken on the channel (X.25 4.3.7). Nothing happens where none is
     /// unconfirmed.
-    pub fn confirm_interrupt(&mut self, channel: u8, pool: &mut Pool)
-        requires holds { Holds pool.old self.old.held }
-        requires size { 128 ≤ pool.old.size }
-        requires room { HasRoom pool.old self.old.held (most_held self.old.layer + 1) }
+    pub fn confirm_interrupt(&mut self, channel: u8)
         ensures layer { self.new.layer ≡ machine.request self.old.layer channel asked.Confirming }
-        ensures pool { Balances pool.old self.old.held pool.new self.new.held }
+        ensures held { self.new.held ≡ self.old.held }
         ensures most { most_held self.new.layer ≡ most_held self.old.layer }
     {
-        let _ = self.ask(channel, &Request::ConfirmInterrupt, pool);
+        let _ = self.ask_bare(channel, &BareRequest::ConfirmInterrupt);
     }
 }

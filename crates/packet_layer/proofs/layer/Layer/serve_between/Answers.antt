@@ -1,101 +1,61 @@
-use Rattle.std.proofs.Common.{◌≡◌, ◌∙◌, ◌+◌, ◌-◌, refl, ap, sym, subst, List, ℕ}
-use Rattle.std.specs.Prelude.{is_some, true, false, None}
+use Rattle.std.proofs.Common.{◌≡◌, ◌∙◌, ◌+◌, ◌-◌, refl, ap, sym, subst, true, false}
+use Rattle.std.specs.Prelude.{is_some}
 use Rattle.packet_layer.specs.Layer.{Layer, Next, serve}
-use Rattle.packet_layer.specs.Events.{written_packet, ReadsBack}
+use Rattle.packet_layer.specs.Events.{written_packet}
 use Rattle.packet_layer.specs.LayerView.{layer_of}
 use Rattle.packet_layer.proofs.Serving.{silent_same}
-use Rattle.packet_layer.proofs.Round.{ArePassed, none_passed, one_passed, serves_first, serves_none}
+use Rattle.packet_layer.proofs.Round.{ArePassed, none_passed, one_passed}
+use Rattle.packet_layer.proofs.Served.{IsServed, found, none_found}
 use Rattle.flow_window.proofs.Weights.{balances_same, balances_then, holds_after}
 use Rattle.packet_layer.specs.Held.{Layer as Held}
 use Rattle.packet_layer.proofs.layer.Layer.serve_between.Goals as goal
 
+served : (c : goal.Then-serve_channel) →
+    IsServed (serve (c.args.end - c.args.first) c.args.self.now.layer (c.args.first + 1)) c.serve_channel.new.self.layer
+    true c.args.buf.now.items c.serve_channel.new.buf.items
+served c =
+    found c.args.self.now.layer c.loop-place.self.layer c.serve_channel.new.self.layer c.args.first c.args.end
+    c.in-Some.place c.loop-place.places c.take_first.new.self c.args.buf.now.items c.loop-place.buf.items
+    c.serve_channel.new.buf.items c.loop-place.invariant.same c.loop-place.invariant.octets c.requires.within
+    c.loop-place.invariant.passed c.in-Some.ensures.first
+    (record {
+      layer = c.if-serve_channel.ensures.layer;
+      said = c.if-serve_channel.ensures.said;
+      octets = c.if-serve_channel.ensures.octets;
+      reads_back = c.if-serve_channel.ensures.reads_back;
+    })
+
+none : (c : goal.In_default) →
+    IsServed (serve (c.args.end - c.args.first) c.args.self.now.layer (c.args.first + 1)) c.loop-place.self.layer
+    false c.args.buf.now.items c.loop-place.buf.items
+none c =
+    none_found c.args.self.now.layer c.loop-place.self.layer c.args.first c.args.end c.loop-place.places
+    c.args.buf.now.items c.loop-place.buf.items c.loop-place.invariant.same c.loop-place.invariant.octets
+    c.requires.order c.requires.within c.loop-place.invariant.passed c.in_default.ensures.first
+
 pub returns-then-serve_channel-clause-layer : goal.returns-then-serve_channel-clause-layer
-returns-then-serve_channel-clause-layer c =
-    let old = c.args.self.now.layer in
-    let place = c.in-Some.place in
-    let same = c.loop-place.invariant.same in
-    let says : is_some (serve 1 old (place + 1)).packet ≡ true =
-    sym (c.if-serve_channel.ensures.said ∙ ap (λ (x : Layer). is_some (serve 1 x (place + 1)).packet) same) in
-    let first : serve (c.args.end - c.args.first) old (c.args.first + 1) ≡ serve 1 old (place + 1) =
-    serves_first old c.args.first c.args.end place c.loop-place.places c.take_first.new.self c.requires.within
-    c.loop-place.invariant.passed c.in-Some.ensures.first says in
-    c.serve_channel.ensures.layer
-    ∙ ap (λ (x : Layer). (serve 1 x (place + 1)).layer) same
-    ∙ ap (λ (n : Next). n.layer) (sym first)
+returns-then-serve_channel-clause-layer c = (served c).layer
 
 pub returns-then-serve_channel-clause-said : goal.returns-then-serve_channel-clause-said
-returns-then-serve_channel-clause-said c =
-    let old = c.args.self.now.layer in
-    let place = c.in-Some.place in
-    let same = c.loop-place.invariant.same in
-    let says : is_some (serve 1 old (place + 1)).packet ≡ true =
-    sym (c.if-serve_channel.ensures.said ∙ ap (λ (x : Layer). is_some (serve 1 x (place + 1)).packet) same) in
-    let first : serve (c.args.end - c.args.first) old (c.args.first + 1) ≡ serve 1 old (place + 1) =
-    serves_first old c.args.first c.args.end place c.loop-place.places c.take_first.new.self c.requires.within
-    c.loop-place.invariant.passed c.in-Some.ensures.first says in
-    sym says ∙ ap (λ (n : Next). is_some n.packet) (sym first)
+returns-then-serve_channel-clause-said c = (served c).said
 
 pub returns-then-serve_channel-clause-octets : goal.returns-then-serve_channel-clause-octets
-returns-then-serve_channel-clause-octets c =
-    let old = c.args.self.now.layer in
-    let place = c.in-Some.place in
-    let same = c.loop-place.invariant.same in
-    let says : is_some (serve 1 old (place + 1)).packet ≡ true =
-    sym (c.if-serve_channel.ensures.said ∙ ap (λ (x : Layer). is_some (serve 1 x (place + 1)).packet) same) in
-    let first : serve (c.args.end - c.args.first) old (c.args.first + 1) ≡ serve 1 old (place + 1) =
-    serves_first old c.args.first c.args.end place c.loop-place.places c.take_first.new.self c.requires.within
-    c.loop-place.invariant.passed c.in-Some.ensures.first says in
-    c.serve_channel.ensures.octets
-    ∙ ap (λ (x : Layer). written_packet (serve 1 x (place + 1)).packet c.loop-place.buf.items) same
-    ∙ ap (λ (n : Next). written_packet n.packet c.loop-place.buf.items) (sym first)
-    ∙ ap (λ (xs : List ℕ). written_packet (serve (c.args.end - c.args.first) old (c.args.first + 1)).packet xs)
-    c.loop-place.invariant.octets
+returns-then-serve_channel-clause-octets c = (served c).octets
 
 pub returns-then-serve_channel-clause-reads_back : goal.returns-then-serve_channel-clause-reads_back
-returns-then-serve_channel-clause-reads_back c =
-    let old = c.args.self.now.layer in
-    let place = c.in-Some.place in
-    let same = c.loop-place.invariant.same in
-    let says : is_some (serve 1 old (place + 1)).packet ≡ true =
-    sym (c.if-serve_channel.ensures.said ∙ ap (λ (x : Layer). is_some (serve 1 x (place + 1)).packet) same) in
-    let first : serve (c.args.end - c.args.first) old (c.args.first + 1) ≡ serve 1 old (place + 1) =
-    serves_first old c.args.first c.args.end place c.loop-place.places c.take_first.new.self c.requires.within
-    c.loop-place.invariant.passed c.in-Some.ensures.first says in
-    subst (λ (n : Next). ReadsBack n.packet c.serve_channel.new.buf.items) (sym first)
-    (subst (λ (x : Layer). ReadsBack (serve 1 x (place + 1)).packet c.serve_channel.new.buf.items) same
-    c.serve_channel.ensures.reads_back)
+returns-then-serve_channel-clause-reads_back c = (served c).reads_back
 
 pub returns-clause-layer : goal.returns-clause-layer
-returns-clause-layer c =
-    let old = c.args.self.now.layer in
-    let none : serve (c.args.end - c.args.first) old (c.args.first + 1) ≡ record { layer = old; packet = None } =
-    serves_none old c.args.first c.args.end c.loop-place.places c.requires.order c.requires.within
-    c.loop-place.invariant.passed c.in_default.ensures.first in
-    c.loop-place.invariant.same ∙ ap (λ (n : Next). n.layer) (sym none)
+returns-clause-layer c = (none c).layer
 
 pub returns-clause-said : goal.returns-clause-said
-returns-clause-said c =
-    let old = c.args.self.now.layer in
-    let none : serve (c.args.end - c.args.first) old (c.args.first + 1) ≡ record { layer = old; packet = None } =
-    serves_none old c.args.first c.args.end c.loop-place.places c.requires.order c.requires.within
-    c.loop-place.invariant.passed c.in_default.ensures.first in
-    ap (λ (n : Next). is_some n.packet) (sym none)
+returns-clause-said c = (none c).said
 
 pub returns-clause-octets : goal.returns-clause-octets
-returns-clause-octets c =
-    let old = c.args.self.now.layer in
-    let none : serve (c.args.end - c.args.first) old (c.args.first + 1) ≡ record { layer = old; packet = None } =
-    serves_none old c.args.first c.args.end c.loop-place.places c.requires.order c.requires.within
-    c.loop-place.invariant.passed c.in_default.ensures.first in
-    c.loop-place.invariant.octets ∙ ap (λ (n : Next). written_packet n.packet c.args.buf.now.items) (sym none)
+returns-clause-octets c = (none c).octets
 
 pub returns-clause-reads_back : goal.returns-clause-reads_back
-returns-clause-reads_back c =
-    let old = c.args.self.now.layer in
-    let none : serve (c.args.end - c.args.first) old (c.args.first + 1) ≡ record { layer = old; packet = None } =
-    serves_none old c.args.first c.args.end c.loop-place.places c.requires.order c.requires.within
-    c.loop-place.invariant.passed c.in_default.ensures.first in
-    subst (λ (n : Next). ReadsBack n.packet c.loop-place.buf.items) (sym none) tt
+returns-clause-reads_back c = (none c).reads_back
 
 pub loop-place-init : goal.loop-place-init
 loop-place-init c = record {

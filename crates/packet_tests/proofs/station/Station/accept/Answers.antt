@@ -1,5 +1,6 @@
-use Rattle.packet_tests.proofs.Stations.{has_room}
+use Rattle.packet_tests.proofs.Stations.{kept}
 use Rattle.packet_tests.proofs.station.Station.accept.Goals as goal
 
-pub accept-requires-clause-room : goal.accept-requires-clause-room
-accept-requires-clause-room c = has_room c.self.inside c.self.invariant
+pub invariant_of-self : goal.invariant_of-self
+invariant_of-self c =
+    kept c.self.inside c.accept.new.self c.self.invariant c.accept.ensures.most c.accept.ensures.held

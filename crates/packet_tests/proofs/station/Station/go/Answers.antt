@@ -1,5 +1,6 @@
-use Rattle.packet_tests.proofs.Stations.{has_room}
+use Rattle.packet_tests.proofs.Stations.{kept}
 use Rattle.packet_tests.proofs.station.Station.go.Goals as goal
 
-pub go-requires-clause-room : goal.go-requires-clause-room
-go-requires-clause-room c = has_room c.self.inside c.self.invariant
+pub invariant_of-self : goal.invariant_of-self
+invariant_of-self c =
+    kept c.self.inside c.go.new.self c.self.invariant c.go.ensures.most c.go.ensures.held

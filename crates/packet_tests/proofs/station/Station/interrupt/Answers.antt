@@ -1,5 +1,6 @@
-use Rattle.packet_tests.proofs.Stations.{has_room}
+use Rattle.packet_tests.proofs.Stations.{kept}
 use Rattle.packet_tests.proofs.station.Station.interrupt.Goals as goal
 
-pub interrupt-requires-clause-room : goal.interrupt-requires-clause-room
-interrupt-requires-clause-room c = has_room c.self.inside c.self.invariant
+pub invariant_of-self : goal.invariant_of-self
+invariant_of-self c =
+    kept c.self.inside c.interrupt.new.self c.self.invariant c.interrupt.ensures.most c.interrupt.ensures.held

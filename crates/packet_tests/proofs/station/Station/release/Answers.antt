@@ -1,5 +1,6 @@
-use Rattle.packet_tests.proofs.Stations.{has_room}
+use Rattle.packet_tests.proofs.Stations.{kept}
 use Rattle.packet_tests.proofs.station.Station.release.Goals as goal
 
-pub release-requires-clause-room : goal.release-requires-clause-room
-release-requires-clause-room c = has_room c.self.inside c.self.invariant
+pub invariant_of-self : goal.invariant_of-self
+invariant_of-self c =
+    kept c.self.inside c.release.new.self c.self.invariant c.release.ensures.most c.release.ensures.held

@@ -1,5 +1,6 @@
-use Rattle.packet_tests.proofs.Stations.{has_room}
+use Rattle.packet_tests.proofs.Stations.{kept}
 use Rattle.packet_tests.proofs.station.Station.stop.Goals as goal
 
-pub stop-requires-clause-room : goal.stop-requires-clause-room
-stop-requires-clause-room c = has_room c.self.inside c.self.invariant
+pub invariant_of-self : goal.invariant_of-self
+invariant_of-self c =
+    kept c.self.inside c.stop.new.self c.self.invariant c.stop.ensures.most c.stop.ensures.held

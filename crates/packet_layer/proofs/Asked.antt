@@ -1,0 +1,75 @@
+-- What a request of the call on the channel at a place comes to.
+use Rattle.std.proofs.Common.{◌≡◌, ℕ, ◌+◌, ◌<◌, Bool, length, set, get_or, Some, None, sym, ap, ◌∙◌}
+use Rattle.std.specs.Prelude.{slice_get, Result, Ok, Err, MatchResult}
+use Rattle.std.specs.Result.{IsErrAnd}
+use Rattle.packet_channel.specs.Answers.{CarriedOut, Refused}
+use Rattle.packet_channel.specs.Channel.{Request}
+use Rattle.packet_channel.specs.Held.{Channel as Holder}
+use Rattle.packet_channel.specs.RequestView.{refusal_of}
+use Rattle.packet_channel.specs.declared.fault.ChannelFault.{ChannelFault}
+use Rattle.packet_layer.specs.declared.layer.Layer.TheInside.{Inside}
+use Rattle.packet_layer.specs.Held.{Layer as Held, plain, buffers}
+use Rattle.packet_layer.specs.Layer as machine
+use Rattle.packet_layer.specs.Layer.{Layer, set_if}
+use Rattle.packet_layer.specs.LayerView.{holding, layer_of}
+use Rattle.packet_layer.proofs.Placed.{placed, plain_at, plain_set, buffers_same}
+use Rattle.packet_layer.proofs.Places.{request_done, request_refused, refused_at}
+
+-- the channel of this number is at this place
+pub record IsAt (a : Inside) (x : Held) (c place : ℕ) (old : Holder) : Type 0 where
+  pub view : holding a ≡ x
+  pub number : place + 1 ≡ c
+  pub there : slice_get a.channels.items place ≡ Some old
+
+pub is_at : (a : Inside) (x : Held) (c place : ℕ) (old : Holder) → holding a ≡ x → place + 1 ≡ c →
+    place < length x.layer.channels → old ≡ get_or a.channels.items place old → IsAt a x c place old
+is_at a x c place old view number within e =
+    record { view = view; number = number; there = placed a x place old view within e }
+
+-- the layer with another channel at this place
+abbrev changed : Inside → ℕ → Holder → Layer
+changed a place new = record (layer_of a) { channels = plain (set a.channels.items place new) }
+
+pub done : (a : Inside) (x : Held) (c place : ℕ) (old new : Holder) (r : Request) (relink : Bool) →
+    IsAt a x c place old → CarriedOut a.role old.channel r relink new.channel →
+    record (changed a place new) { relink = set_if relink a.relink } ≡ machine.request x.layer c r
+done a x c place old new r relink at is =
+    ap (λ chs. record (layer_of a) { channels = chs; relink = set_if relink a.relink })
+    (plain_set a.channels.items place new)
+    ∙ request_done (layer_of a) c place old.channel new.channel r relink at.number
+    (plain_at a.channels.items place old at.there) is
+    ∙ ap (λ (x : Held). machine.request x.layer c r) at.view
+
+pub allowed : (a : Inside) (x : Held) (c place : ℕ) (old new : Holder) (r : Request) (relink : Bool) →
+    IsAt a x c place old → CarriedOut a.role old.channel r relink new.channel →
+    machine.request_refusal x.layer c r ≡ None
+allowed a x c place old new r relink at is =
+    ap (λ (x : Held). machine.request_refusal x.layer c r) (sym at.view)
+    ∙ refused_at (layer_of a) c place old.channel r at.number (plain_at a.channels.items place old at.there)
+    ∙ is.allowed
+
+pub refused : (a : Inside) (x : Held) (c place : ℕ) (old new : Holder) (r : Request) (fault : ChannelFault) →
+    IsAt a x c place old → Refused a.role old.channel r fault new.channel →
+    changed a place new ≡ machine.request x.layer c r
+refused a x c place old new r fault at is =
+    ap (λ chs. record (layer_of a) { channels = chs }) (plain_set a.channels.items place new)
+    ∙ request_refused (layer_of a) c place old.channel new.channel r fault at.number
+    (plain_at a.channels.items place old at.there) is
+    ∙ ap (λ (x : Held). machine.request x.layer c r) at.view
+
+pub told : (a : Inside) (x : Held) (c place : ℕ) (old new : Holder) (r : Request) (fault : ChannelFault)
+    (result : Result Unit ChannelFault) → IsErrAnd result (λ e. e ≡ fault) → IsAt a x c place old →
+    Refused a.role old.channel r fault new.channel →
+    MatchResult result (λ _. machine.request_refusal x.layer c r ≡ None)
+    (λ fault. machine.request_refusal x.layer c r ≡ Some (refusal_of fault))
+told a x c place old new r fault (Ok _) same at is = absurd same
+told a x c place old new r fault (Err e) same at is =
+    ap (λ (x : Held). machine.request_refusal x.layer c r) (sym at.view)
+    ∙ refused_at (layer_of a) c place old.channel r at.number (plain_at a.channels.items place old at.there)
+    ∙ is.first ∙ ap (λ f. Some (refusal_of f)) (sym same)
+
+-- a request that touches no packet
+pub same_held : (a : Inside) (x : Held) (c place : ℕ) (old new : Holder) → IsAt a x c place old →
+    new.held ≡ old.held → buffers (set a.channels.items place new) ≡ x.held
+same_held a x c place old new at same =
+    buffers_same a.channels.items place old new at.there same ∙ ap (λ (x : Held). x.held) at.view

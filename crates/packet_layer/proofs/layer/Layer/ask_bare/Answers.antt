@@ -1,0 +1,66 @@
+use Rattle.std.proofs.Common.{◌∙◌, List, ap, arith, length}
+use Rattle.flow_window.specs.Pool.{Buffer}
+use Rattle.packet_channel.specs.Packets.{Datum}
+use Rattle.packet_layer.specs.Held.{Layer as Held}
+use Rattle.packet_layer.specs.RequestView.{bare_request_of}
+use Rattle.packet_layer.proofs.Asked.{IsAt, is_at, done, allowed, refused, told, same_held}
+use Rattle.packet_layer.proofs.Silence.{layer_touched}
+use Rattle.packet_layer.proofs.layer.Layer.ask_bare.Goals as goal
+
+-- the channel that is asked
+at_ok : (c : goal.After-relink_if) → IsAt c.self.inside c.args.self.now c.args.channel c.in-Some.place c.index_mut-channel.result.now
+at_ok c =
+    is_at c.self.inside c.args.self.now c.args.channel c.in-Some.place c.index_mut-channel.result.now c.self.view_is
+    (c.in-Some.ensures.0 ∙ c.from.ensures) c.in-Some.ensures.1 c.index_mut-channel.ensures.value
+
+at_err : (c : goal.After-from_residual) → IsAt c.self.inside c.args.self.now c.args.channel c.in-Some.place c.index_mut-channel.result.now
+at_err c =
+    is_at c.self.inside c.args.self.now c.args.channel c.in-Some.place c.index_mut-channel.result.now c.self.view_is
+    (c.in-Some.ensures.0 ∙ c.from.ensures) c.in-Some.ensures.1 c.index_mut-channel.ensures.value
+
+pub invariant_of-self : goal.invariant_of-self
+invariant_of-self c =
+    layer_touched c.self.inside c.insert.new.self c.in-Some.place c.index_mut-channel.result.now c.bare_request.new.self
+    c.self.inside.relink c.self.invariant c.insert.ensures (at_err c).there (λ fits. record { arrived = omega (arith, fits.arrived, ap (λ (xs : List Datum). length xs) c.bare_request.ensures.arrived); held = omega (arith, fits.held, ap (λ (bs : List Buffer). length bs) c.bare_request.ensures.held) })
+
+pub invariant_of-self-2 : goal.invariant_of-self-2
+invariant_of-self-2 c =
+    let at = is_at c.self.inside c.args.self.now c.args.channel c.in-Some.place c.index_mut-channel.result.now
+    c.self.view_is (c.in-Some.ensures.0 ∙ c.from.ensures) c.in-Some.ensures.1 c.index_mut-channel.ensures.value in
+    layer_touched c.self.inside c.insert.new.self c.in-Some.place c.index_mut-channel.result.now c.bare_request.new.self
+    c.self.inside.relink c.self.invariant c.insert.ensures at.there (λ fits. record { arrived = omega (arith, fits.arrived, ap (λ (xs : List Datum). length xs) c.bare_request.ensures.arrived); held = omega (arith, fits.held, ap (λ (bs : List Buffer). length bs) c.bare_request.ensures.held) })
+
+pub returns-clause-answer : goal.returns-clause-answer
+returns-clause-answer c =
+    allowed c.self.inside c.args.self.now c.args.channel c.in-Some.place c.index_mut-channel.result.now
+    c.bare_request.new.self (bare_request_of c.args.request.now) c.in_ok-relink.relink (at_ok c)
+    c.in_ok-relink.ensures.answer
+
+pub returns-clause-layer : goal.returns-clause-layer
+returns-clause-layer c =
+    ap (λ (x : Held). x.layer) c.relink_if.ensures
+    ∙ done c.self.inside c.args.self.now c.args.channel c.in-Some.place c.index_mut-channel.result.now
+    c.bare_request.new.self (bare_request_of c.args.request.now) c.in_ok-relink.relink (at_ok c)
+    c.in_ok-relink.ensures.answer
+
+pub returns-in_err-relink-clause-answer : goal.returns-in_err-relink-clause-answer
+returns-in_err-relink-clause-answer c =
+    told c.self.inside c.args.self.now c.args.channel c.in-Some.place c.index_mut-channel.result.now
+    c.bare_request.new.self (bare_request_of c.args.request.now) c.in_err-relink.field-0.0 c.from_residual.result
+    c.from_residual.ensures.1 (at_err c) c.in_err-relink.ensures.answer
+
+pub returns-in_err-relink-clause-layer : goal.returns-in_err-relink-clause-layer
+returns-in_err-relink-clause-layer c =
+    refused c.self.inside c.args.self.now c.args.channel c.in-Some.place c.index_mut-channel.result.now
+    c.bare_request.new.self (bare_request_of c.args.request.now) c.in_err-relink.field-0.0 (at_err c) c.in_err-relink.ensures.answer
+
+pub returns-clause-held : goal.returns-clause-held
+returns-clause-held c =
+    ap (λ (x : Held). x.held) c.relink_if.ensures
+    ∙ same_held c.self.inside c.args.self.now c.args.channel c.in-Some.place c.index_mut-channel.result.now
+    c.bare_request.new.self (at_ok c) c.bare_request.ensures.held
+
+pub returns-in_err-relink-clause-held : goal.returns-in_err-relink-clause-held
+returns-in_err-relink-clause-held c =
+    same_held c.self.inside c.args.self.now c.args.channel c.in-Some.place c.index_mut-channel.result.now
+    c.bare_request.new.self (at_err c) c.bare_request.ensures.held
