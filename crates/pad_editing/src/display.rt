@@ -1,3 +1,4 @@
+//! The layout of text for a terminal.
 ghost use Rattle.std.specs.Prelude.{◌≡◌, ◌+◌, ◌*◌, ◌≤◌, ◌∷◌, ◌++◌, length, replicate, if◌then◌else◌, [], Bool, min};
 ghost use Rattle.std.specs.Bool.{OnTrue};
 ghost use Rattle.arrayvec.specs.ArrayVec.{array_vec_len};
@@ -6,6 +7,10 @@ ghost use Rattle.pad_editing.specs.Shown as spec;
 
 use arrayvec::ArrayVec;
 use x3_params::{LineFeedInsertion, Params};
+
+/// The most octets to which one is laid out: a graphic character after a carriage return and a line feed, each with
+/// seven NULs.
+pub const OCTET_LIMIT: usize = 17;
 
 /// The layout of octets for a terminal.
 pub struct Display;
@@ -26,10 +31,10 @@ impl Display {
         column: u16,
         out: &mut ArrayVec<u8, N>,
     ) -> u16
-        requires { array_vec_len out.old + 17 * length octets.now ≤ N }
+        requires { array_vec_len out.old + OCTET_LIMIT * length octets.now ≤ N }
         ensures text { out.new.items ≡ out.old.items ++ (spec.shown octets.now echo params.now column).text }
         ensures column { result ≡ (spec.shown octets.now echo params.now column).column }
-        ensures room { array_vec_len out.new ≤ array_vec_len out.old + 17 * length octets.now }
+        ensures room { array_vec_len out.new ≤ array_vec_len out.old + OCTET_LIMIT * length octets.now }
     {
         let mut at = column;
         for octet in octets {
@@ -57,10 +62,10 @@ fn show<const N: usize>(
     column: u16,
     out: &mut ArrayVec<u8, N>,
 ) -> u16
-    requires { array_vec_len out.old + 17 ≤ N }
+    requires { array_vec_len out.old + OCTET_LIMIT ≤ N }
     ensures text { out.new.items ≡ out.old.items ++ (spec.shown_octet octet echo params.now column).text }
     ensures column { result ≡ (spec.shown_octet octet echo params.now column).column }
-    ensures room { array_vec_len out.new ≤ array_vec_len out.old + 17 }
+    ensures room { array_vec_len out.new ≤ array_vec_len out.old + OCTET_LIMIT }
 {
     if ends_line(octet, params, column) {
         carriage_return(params, out);

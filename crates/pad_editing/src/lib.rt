@@ -11,6 +11,6 @@ mod echo;
 mod editor;
 
 pub use block::{BLOCK_LIMIT, Block};
-pub use display::Display;
+pub use display::{Display, OCTET_LIMIT};
 pub use echo::Echo;
 pub use editor::{Editor, KeyOut};

@@ -12,7 +12,7 @@ use x28_commands::hides_echo;
 /// How many octets of a command line are held: one more than a command may have.
 const HELD_LIMIT: usize = 65;
 
-/// The octets of a command line, at most 65 of them.
+/// The octets of a command line, at most [`HELD_LIMIT`] of them.
 #[derive(Drop)]
 pub(crate) struct CommandLine {
     octets: ArrayVec<u8, HELD_LIMIT>,
@@ -45,10 +45,10 @@ impl CommandLine {
         }
     }
 
-    /// The octets, at most 65 of them.
+    /// The octets of the line.
     pub(crate) fn as_slice(&self) -> &[u8]
         ensures octets { result.now ≡ self.now }
-        ensures limit { length self.now ≤ 65 }
+        ensures limit { length self.now ≤ HELD_LIMIT }
     {
         self.octets.as_slice()
     }

@@ -8,7 +8,7 @@ ghost use Rattle.x28_commands.specs.Signals.{signal_text};
 
 use arrayvec::ArrayVec;
 use circular_buffer::HeapCircularBuffer;
-use pad_editing::Display;
+use pad_editing::{Display, OCTET_LIMIT};
 use std::alloc::{AllocError, Global};
 use std::marker::Model;
 use x3_params::Params;
@@ -16,9 +16,6 @@ use x28_commands::{Signal, write_signal};
 
 /// How many octets of text may wait to be shown at a terminal.
 pub const TEXT_LIMIT: usize = 1024;
-
-/// The most octets to which one is laid out.
-const OCTET_LIMIT: usize = 17;
 
 /// The longest service signal.
 const SIGNAL_LIMIT: usize = 160;
@@ -136,12 +133,12 @@ impl Output {
         params: &Params,
         out: &mut ArrayVec<u8, N>,
     )
-        requires { array_vec_len out.old + 17 * length octets.now ≤ N }
+        requires { array_vec_len out.old + OCTET_LIMIT * length octets.now ≤ N }
         ensures output { self.new ≡ record self.old {
           column = (laid_out octets.now params.now self.old.column).column;
         } }
         ensures text { out.new.items ≡ out.old.items ++ (laid_out octets.now params.now self.old.column).text }
-        ensures room { array_vec_len out.new ≤ array_vec_len out.old + 17 * length octets.now }
+        ensures room { array_vec_len out.new ≤ array_vec_len out.old + OCTET_LIMIT * length octets.now }
     {
         if !params.discards_output() {
             self.column = Display::text(octets, false, params, self.column, out);

@@ -15,7 +15,7 @@ use crate::mode::Mode;
 use crate::output::{Output, TEXT_LIMIT};
 use crate::settings::Settings;
 use arrayvec::ArrayVec;
-use pad_editing::Editor;
+use pad_editing::{Editor, OCTET_LIMIT};
 use std::alloc::{AllocError, Global};
 use std::marker::Model;
 use x3_params::Params;
@@ -213,11 +213,11 @@ impl Terminal {
     /// Shows user octets of the far end: adds them to `out` as they are laid out for the terminal, or nothing where
     /// output is discarded (X.3 3.8).
     pub fn display<const N: usize>(&mut self, octets: &[u8], out: &mut ArrayVec<u8, N>)
-        requires { array_vec_len out.old + 17 * length octets.now ≤ N }
+        requires { array_vec_len out.old + OCTET_LIMIT * length octets.now ≤ N }
         ensures terminal { self.new ≡ calls.displayed octets.now self.old }
         ensures text { out.new.items ≡ out.old.items
             ++ (output.laid_out octets.now self.old.settings.params self.old.output.column).text }
-        ensures room { array_vec_len out.new ≤ array_vec_len out.old + 17 * length octets.now }
+        ensures room { array_vec_len out.new ≤ array_vec_len out.old + OCTET_LIMIT * length octets.now }
     {
         self.output.lay_out(octets, &self.settings.params, out);
     }

@@ -15,3 +15,4 @@ pub use config::PadConfig;
 pub use law::block_law;
 pub use note::PadNote;
 pub use pad::Pad;
+pub use port::MOST_TEXT;

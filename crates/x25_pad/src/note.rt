@@ -9,8 +9,15 @@ use std::alloc::{AllocError, Global};
 use std::marker::Model;
 use x3_params::Params;
 
-/// The most notes of one event: 64 that the packet layer tells, 32 at the end, and those of the PAD itself.
-pub(crate) const MOST_NOTES: usize = 104;
+/// The most notes that the packet layer tells before an event ends: two steps of the layer give at most 32 each.
+pub(crate) const TOLD_NOTES: usize = 64;
+
+/// The most notes before an event ends: those that the packet layer told, and the answer to a call that came in.
+pub(crate) const EARLY_NOTES: usize = TOLD_NOTES + 1;
+
+/// The most notes of one event: the early ones, at most 32 that the packet layer tells at the end, and a few of the PAD
+/// itself.
+pub(crate) const MOST_NOTES: usize = EARLY_NOTES + 39;
 
 /// What happened at a PAD, with the logical channel.
 #[derive(Drop)]

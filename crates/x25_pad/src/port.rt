@@ -8,6 +8,7 @@ mod printing;
 use crate::call::{Call, CallNote};
 use crate::line::PadLine;
 use pad_terminal::Terminal;
+pub use printing::MOST_TEXT;
 use std::alloc::{AllocError, Global};
 use std::marker::Model;
 use x3_params::Params;

@@ -7,7 +7,7 @@ ghost use Rattle.x25_pad.specs.Line as line;
 ghost use Rattle.x25_pad.specs.Pad as spec;
 
 use crate::call::CallNote;
-use crate::note::{MOST_NOTES, PadNote};
+use crate::note::{EARLY_NOTES, MOST_NOTES, PadNote, TOLD_NOTES};
 use crate::pad::Pad;
 use crate::port::Port;
 use packet_layer::LayerNote;
@@ -24,7 +24,7 @@ impl Pad {
     // Ends an event that came from the line: the terminals learn what became of their calls, and a call that came in is
     // answered.
     pub(super) fn end_line_event(&mut self)
-        requires told { length self.old.line.end.notes ≤ 64 }
+        requires told { length self.old.line.end.notes ≤ TOLD_NOTES }
         requires empty { self.old.line.notes ≡ [] }
         ensures pad { self.new ≡ spec.line_event self.old }
         ensures nothing_kept_back { end.KeepsNothingBack self.new.line.end }
@@ -39,7 +39,7 @@ impl Pad {
     // terminals learn of that, and may go on.
     pub(super) fn finish(&mut self)
         requires told { self.old.line.end.notes ≡ [] }
-        requires room { length self.old.line.notes ≤ 65 }
+        requires room { length self.old.line.notes ≤ EARLY_NOTES }
         ensures pad { self.new ≡ spec.ended self.old }
         ensures nothing_kept_back { end.KeepsNothingBack self.new.line.end }
         ensures timers { TimersAgree self.new.line.end.layer self.new.line.end.timers }
@@ -103,7 +103,7 @@ impl Pad {
 
     // Accepts a call that came in, if one did, for the first terminal without a call, or else clears it.
     fn answer(&mut self, incoming: Option<u8>)
-        requires { length self.old.line.notes < 104 }
+        requires { length self.old.line.notes < MOST_NOTES }
         ensures pad { self.new ≡ spec.answered incoming self.old }
         ensures room { length self.new.line.notes ≤ length self.old.line.notes + 1 }
     {

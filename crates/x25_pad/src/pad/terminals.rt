@@ -9,7 +9,9 @@ ghost use Rattle.x25_pad.specs.Ports as port;
 ghost use Rattle.x25_pad.specs.Pad as spec;
 
 use crate::answer::PadAnswer;
+use crate::note::EARLY_NOTES;
 use crate::pad::Pad;
+use crate::port::MOST_TEXT;
 use arrayvec::ArrayVec;
 use link_timers::TimerId;
 use packet_layer::Taken;
@@ -52,7 +54,7 @@ impl Pad {
     // What a key does at its terminal.
     fn press(&mut self, terminal: u8, octet: u8) -> bool
         requires there { terminal < length self.old.ports }
-        requires room { length self.old.line.notes ≤ 60 }
+        requires room { length self.old.line.notes + 2 ≤ EARLY_NOTES }
         ensures pad { self.new ≡ spec.at_port terminal (port.after_key octet) self.old }
         ensures taken { result ≡ spec.key_taken_now terminal octet self.old }
         ensures room { length self.new.line.notes ≤ length self.old.line.notes + 2 }
@@ -64,7 +66,7 @@ impl Pad {
     // What a break does at its terminal.
     fn break_in(&mut self, terminal: u8) -> bool
         requires there { terminal < length self.old.ports }
-        requires room { length self.old.line.notes ≤ 60 }
+        requires room { length self.old.line.notes + 2 ≤ EARLY_NOTES }
         ensures pad { self.new ≡ spec.at_port terminal port.after_break self.old }
         ensures taken { result ≡ spec.break_taken_now terminal self.old }
         ensures room { length self.new.line.notes ≤ length self.old.line.notes + 2 }
@@ -105,7 +107,7 @@ impl Pad {
     // What the end of an idle time does at its terminal.
     fn pause(&mut self, terminal: u8) -> bool
         requires there { terminal < length self.old.ports }
-        requires room { length self.old.line.notes ≤ 60 }
+        requires room { length self.old.line.notes + 2 ≤ EARLY_NOTES }
         ensures pad { self.new ≡ spec.at_port terminal port.after_idle self.old }
         ensures taken { result ≡ spec.idle_taken_now terminal self.old }
         ensures room { length self.new.line.notes ≤ length self.old.line.notes + 2 }
@@ -123,7 +125,7 @@ impl Pad {
         out: &mut ArrayVec<u8, N>,
     ) -> Option<Taken>
         requires there { terminal < length self.old.ports }
-        requires room { array_vec_len out.old + 3200 ≤ N }
+        requires room { array_vec_len out.old + MOST_TEXT ≤ N }
         ensures pad { self.new ≡ spec.terminal_event terminal port.after_print self.old }
         ensures taken { maybe_taken result ≡ spec.print_taken terminal self.old }
         ensures text { out.new.items ≡ out.old.items ++ spec.print_text terminal self.old }
@@ -139,8 +141,8 @@ impl Pad {
     // What printing does at its terminal.
     fn show<const N: usize>(&mut self, terminal: u8, out: &mut ArrayVec<u8, N>) -> Option<Taken>
         requires there { terminal < length self.old.ports }
-        requires room { length self.old.line.notes ≤ 60 }
-        requires out { array_vec_len out.old + 3200 ≤ N }
+        requires room { length self.old.line.notes + 2 ≤ EARLY_NOTES }
+        requires out { array_vec_len out.old + MOST_TEXT ≤ N }
         ensures pad { self.new ≡ spec.at_port terminal port.after_print self.old }
         ensures taken { maybe_taken result ≡ spec.print_taken_now terminal self.old }
         ensures text { out.new.items ≡ out.old.items ++ spec.print_text_now terminal self.old }

@@ -8,8 +8,16 @@ use crate::line::PadLine;
 use crate::note::MOST_NOTES;
 use crate::port::Port;
 use arrayvec::ArrayVec;
+use packet_codec::MAX_USER_DATA;
 use packet_layer::{Front, Request, Taken, UserData};
-use pad_terminal::Reply;
+use pad_editing::OCTET_LIMIT;
+use pad_terminal::{Reply, TEXT_LIMIT};
+
+/// The most octets that a terminal shows for one packet.
+const PACKET_TEXT: usize = OCTET_LIMIT * MAX_USER_DATA;
+
+/// The most octets that a terminal has to show: the text that waits, and one packet.
+pub const MOST_TEXT: usize = TEXT_LIMIT + PACKET_TEXT;
 
 impl Port {
     /// Shows the text that waits, and then what waits first on the call, if it is to be shown now: it is taken.
@@ -19,7 +27,7 @@ impl Port {
         out: &mut ArrayVec<u8, N>,
     ) -> Option<Taken>
         requires notes { length line.old.notes + 2 ≤ MOST_NOTES }
-        requires room { array_vec_len out.old + 3200 ≤ N }
+        requires room { array_vec_len out.old + MOST_TEXT ≤ N }
         ensures port { self.new ≡ (spec.after_print (record { port = self.old; line = line.old })).port }
         ensures line { line.new ≡ (spec.after_print (record { port = self.old; line = line.old })).line }
         ensures taken { maybe_taken result ≡ spec.taken_of (record { port = self.old; line = line.old }) }
@@ -65,7 +73,7 @@ impl Port {
     // Shows what was taken, and lets P(R) pass it; an interrupt is confirmed.
     fn show<const N: usize>(&mut self, taken: &Taken, line: &mut PadLine, out: &mut ArrayVec<u8, N>)
         requires notes { length line.old.notes + 1 ≤ MOST_NOTES }
-        requires room { array_vec_len out.old + 2176 ≤ N }
+        requires room { array_vec_len out.old + PACKET_TEXT ≤ N }
         ensures port { self.new ≡ (spec.on_call (spec.after_taking (value_of taken.now)) self.old.call
             (record { port = self.old; line = line.old })).port }
         ensures line { line.new ≡ (spec.on_call (spec.after_taking (value_of taken.now)) self.old.call
@@ -97,7 +105,7 @@ impl Port {
         out: &mut ArrayVec<u8, N>,
     )
         requires notes { length line.old.notes + 1 ≤ MOST_NOTES }
-        requires room { array_vec_len out.old + 2176 ≤ N }
+        requires room { array_vec_len out.old + PACKET_TEXT ≤ N }
         ensures port { self.new ≡ (spec.after_datum user_data.now user_data.now.qualified
             (record { port = self.old; line = line.old })).port }
         ensures line { line.new ≡ (spec.after_datum user_data.now user_data.now.qualified
