@@ -64,5 +64,5 @@ pub standing : (L : LineService) (s : Network) → IsBetweenEvents L s → IsSta
 standing L s b = by b.any
   where
     by : IsAny L s → IsStanding s
-    by (of_users n) = users_stand L s n
-    by (with_switch p) = switched_stand L s p b.registered
+    by (of_users n a) = users_stand L s n
+    by (with_switch p a) = switched_stand L s p b.registered

@@ -28,7 +28,7 @@ landed L d (f ∷ frames) old new (mid, put, rest) =
     elim put [
       | inl is ↦ record {
         kept = true ∷ w.kept;
-        is = w.is ∙ ap (λ (m : Flights). with_flying d (flying d m ++ chosen w.kept frames) m) is ∙ more d f (chosen w.kept frames) old;
+        is = w.is ∙ ap (λ (m : Flights). with_flying d (flying d m ++ chosen w.kept frames) m) is.1 ∙ more d f (chosen w.kept frames) old;
       }
       | inr is ↦ record {
         kept = false ∷ w.kept;

@@ -15,7 +15,7 @@ use Rattle.x25_pad.specs.Line as line
 use Rattle.call_records.specs.Book.{Book}
 use Rattle.memory_line.specs.declared.line.Direction.{Direction}
 use Rattle.memory_line.specs.declared.line.Direction.TheVariants.{FromDte, FromDce}
-use Rattle.memory_line.specs.Lines.{Flights, no_flights, flying, with_flying, without_first, LineService, ArePut}
+use Rattle.memory_line.specs.Lines.{Flights, no_flights, flying, with_flying, without_first, lossless_service, ArePut}
 use Rattle.line_nodes.specs.Node.{NodeState, Pad, Host, is_pad, frames_of, end_of, drained}
 use Rattle.line_nodes.specs.Terminals.{after_terminal, HasTerminal}
 use Rattle.line_nodes.specs.declared.terminal.TerminalEvent.{TerminalEvent}
@@ -41,10 +41,10 @@ use Rattle.network_laws.proofs.Made.{made_lines}
 
 -- ---- frames that are put, of which none is lost
 
-puts_all : (L : LineService) (d : Direction) (frames : List (List ℕ)) (f : Flights) → ArePut L d frames f (all_put d frames f)
-puts_all L d [] f = refl
-puts_all L d (frame ∷ frames) f =
-    let mid : Flights = with_flying d (flying d f ++ frame ∷ []) f in (mid, inl refl, puts_all L d frames mid)
+puts_all : (d : Direction) (frames : List (List ℕ)) (f : Flights) → ArePut lossless_service d frames f (all_put d frames f)
+puts_all d [] f = refl
+puts_all d (frame ∷ frames) f =
+    let mid : Flights = with_flying d (flying d f ++ frame ∷ []) f in (mid, inl (tt, refl), puts_all d frames mid)
 
 -- ---- a PAD keeps its terminals
 
@@ -182,58 +182,58 @@ are_after TakesNext s h = record { dte = h.dte; dce = host_takes_next (end_of s.
 
 -- ---- the law speaks of each act
 
-put_all : (L : LineService) (event : NodeEvent) (role : Role) (between : Flights) (s : LineState) → IsFor event (node_at role s)
-    → LeftBy event role s.flights between → Happened L event role s (after_event event role between s)
-put_all L event Dte between s fits left = record {
+put_all : (event : NodeEvent) (role : Role) (between : Flights) (s : LineState) → IsFor event (node_at role s)
+    → LeftBy event role s.flights between → Happened lossless_service event role s (after_event event role between s)
+put_all event Dte between s fits left = record {
   is_for = fits;
   between = between;
   left = λ f. left;
-  put = λ f. puts_all L FromDte (frames_of (turn_of event Dte s.dte s.book).node) between;
+  put = λ f. puts_all FromDte (frames_of (turn_of event Dte s.dte s.book).node) between;
   others = refl;
 }
-put_all L event Dce between s fits left = record {
+put_all event Dce between s fits left = record {
   is_for = fits;
   between = between;
   left = λ f. left;
-  put = λ f. puts_all L FromDce (frames_of (turn_of event Dce s.dce s.book).node) between;
+  put = λ f. puts_all FromDce (frames_of (turn_of event Dce s.dce s.book).node) between;
   others = refl;
 }
 
-frame_arrives : (L : LineService) (role : Role) (s : LineState) (octets : List ℕ) → (o : Option (List ℕ)) → o ≡ Some octets
-    → slice_get (flying (direction_to role) s.flights) 0 ≡ Some octets → Happened L (Hears octets) role s (after_arrival o role s)
-frame_arrives L role s octets None is at = absurd (none-some octets is)
-frame_arrives L role s octets (Some other) is at =
-    subst (λ (x : List ℕ). Happened L (Hears octets) role s (after_arrival (Some x) role s)) (sym (same_Some other octets is))
-    (put_all L (Hears octets) role (without_first (direction_to role) s.flights) s tt (at, refl))
+frame_arrives : (role : Role) (s : LineState) (octets : List ℕ) → (o : Option (List ℕ)) → o ≡ Some octets
+    → slice_get (flying (direction_to role) s.flights) 0 ≡ Some octets → Happened lossless_service (Hears octets) role s (after_arrival o role s)
+frame_arrives role s octets None is at = absurd (none-some octets is)
+frame_arrives role s octets (Some other) is at =
+    subst (λ (x : List ℕ). Happened lossless_service (Hears octets) role s (after_arrival (Some x) role s)) (sym (same_Some other octets is))
+    (put_all (Hears octets) role (without_first (direction_to role) s.flights) s tt (at, refl))
 
-is_act : (L : LineService) (act : Act) (s : LineState) → Are s → IsAct L act s
-is_act L (Arrives role) s h = λ octets at. frame_arrives L role s octets (slice_get (flying (direction_to role) s.flights) 0) at at
-is_act L (Does event) s h = put_all L (AtTerminal 0 event) Dte s.flights s (has_terminal s.dte h.dte) refl
-is_act L (Asked r) s h = put_all L (Asks 1 r) Dce s.flights s (is_host s.dce h.dce) refl
-is_act L (Tells octets) s h = put_all L (Says 1 octets true false) Dce s.flights s (is_host s.dce h.dce) refl
-is_act L TakesNext s h = put_all L (Takes 1) Dce s.flights s (is_host s.dce h.dce) refl
+is_act : (act : Act) (s : LineState) → Are s → IsAct lossless_service act s
+is_act (Arrives role) s h = λ octets at. frame_arrives role s octets (slice_get (flying (direction_to role) s.flights) 0) at at
+is_act (Does event) s h = put_all (AtTerminal 0 event) Dte s.flights s (has_terminal s.dte h.dte) refl
+is_act (Asked r) s h = put_all (Asks 1 r) Dce s.flights s (is_host s.dce h.dce) refl
+is_act (Tells octets) s h = put_all (Says 1 octets true false) Dce s.flights s (is_host s.dce h.dce) refl
+is_act TakesNext s h = put_all (Takes 1) Dce s.flights s (is_host s.dce h.dce) refl
 
-all_are : (L : LineService) (acts : List Act) (s : LineState) → Are s → AllAre L acts s
-all_are L [] s h = tt
-all_are L (act ∷ acts) s h = (is_act L act s h, all_are L acts (after_act act s) (are_after act s h))
+all_are : (acts : List Act) (s : LineState) → Are s → AllAre lossless_service acts s
+all_are [] s h = tt
+all_are (act ∷ acts) s h = (is_act act s h, all_are acts (after_act act s) (are_after act s h))
 
 -- ---- so what holds of the line holds after it
 
-may_hold : (L : LineService) (o : Option (List ℕ)) (role : Role) (s : LineState) → slice_get (flying (direction_to role) s.flights) 0 ≡ o → Are s → IsLine L s → IsLine L (after_arrival o role s)
-may_hold L None role s at h n = n
-may_hold L (Some octets) role s at h n =
-    happened_line L (Hears octets) role s (after_arrival (Some octets) role s) n (frame_arrives L role s octets (Some octets) refl at)
+may_hold : (o : Option (List ℕ)) (role : Role) (s : LineState) → slice_get (flying (direction_to role) s.flights) 0 ≡ o → Are s → IsLine lossless_service s → IsLine lossless_service (after_arrival o role s)
+may_hold None role s at h n = n
+may_hold (Some octets) role s at h n =
+    happened_line lossless_service (Hears octets) role s (after_arrival (Some octets) role s) n (frame_arrives role s octets (Some octets) refl at)
 
-holds_after : (L : LineService) (act : Act) (s : LineState) → Are s → IsLine L s → IsLine L (after_act act s)
-holds_after L (Arrives role) s h n = may_hold L (slice_get (flying (direction_to role) s.flights) 0) role s refl h n
-holds_after L (Does event) s h n = happened_line L (AtTerminal 0 event) Dte s (after_act (Does event) s) n (is_act L (Does event) s h)
-holds_after L (Asked r) s h n = happened_line L (Asks 1 r) Dce s (after_act (Asked r) s) n (is_act L (Asked r) s h)
-holds_after L (Tells octets) s h n = happened_line L (Says 1 octets true false) Dce s (after_act (Tells octets) s) n (is_act L (Tells octets) s h)
-holds_after L TakesNext s h n = happened_line L (Takes 1) Dce s (after_act TakesNext s) n (is_act L TakesNext s h)
+holds_after : (act : Act) (s : LineState) → Are s → IsLine lossless_service s → IsLine lossless_service (after_act act s)
+holds_after (Arrives role) s h n = may_hold (slice_get (flying (direction_to role) s.flights) 0) role s refl h n
+holds_after (Does event) s h n = happened_line lossless_service (AtTerminal 0 event) Dte s (after_act (Does event) s) n (is_act (Does event) s h)
+holds_after (Asked r) s h n = happened_line lossless_service (Asks 1 r) Dce s (after_act (Asked r) s) n (is_act (Asked r) s h)
+holds_after (Tells octets) s h n = happened_line lossless_service (Says 1 octets true false) Dce s (after_act (Tells octets) s) n (is_act (Tells octets) s h)
+holds_after TakesNext s h n = happened_line lossless_service (Takes 1) Dce s (after_act TakesNext s) n (is_act TakesNext s h)
 
-all_hold : (L : LineService) (acts : List Act) (s : LineState) → Are s → IsLine L s → IsLine L (after acts s)
-all_hold L [] s h n = n
-all_hold L (act ∷ acts) s h n = all_hold L acts (after_act act s) (are_after act s h) (holds_after L act s h n)
+all_hold : (acts : List Act) (s : LineState) → Are s → IsLine lossless_service s → IsLine lossless_service (after acts s)
+all_hold [] s h n = n
+all_hold (act ∷ acts) s h n = all_hold acts (after_act act s) (are_after act s h) (holds_after act s h n)
 
 -- ---- the making
 
@@ -248,39 +248,39 @@ are_params standing =
       layer = record { channels_least = least_channels; channels_most = most_channels; window_least = least_window; window_most = most_window };
     }
 
-sent : (L : LineService) (standing : Bool) → AreSent L (new_dte new_pad (params standing)) (new_dce (params standing)) (first_frames standing)
-sent L standing =
+sent : (standing : Bool) → AreSent lossless_service (new_dte new_pad (params standing)) (new_dce (params standing)) (first_frames standing)
+sent standing =
     let up : Flights = all_put FromDte (frames_of (new_dte new_pad (params standing))) no_flights in
     record {
       between = up;
-      from_dte = puts_all L FromDte (frames_of (new_dte new_pad (params standing))) no_flights;
-      from_dce = puts_all L FromDce (frames_of (new_dce (params standing))) up;
+      from_dte = puts_all FromDte (frames_of (new_dte new_pad (params standing))) no_flights;
+      from_dce = puts_all FromDce (frames_of (new_dce (params standing))) up;
     }
 
-begins : (L : LineService) (standing : Bool) → IsLine L (first standing)
-begins L standing =
-    made_lines L 0 1 new_pad (params standing) (first_frames standing) (λ e. omega (arith, e)) (are_params standing)
-    (let least : 1 ≤ 2 = omega arith in let most : 2 ≤ 16 = omega arith in (least, most)) (λ f. sent L standing)
+begins : (standing : Bool) → IsLine lossless_service (first standing)
+begins standing =
+    made_lines lossless_service 0 1 new_pad (params standing) (first_frames standing) (λ e. omega (arith, e)) (are_params standing)
+    (let least : 1 ≤ 2 = omega arith in let most : 2 ≤ 16 = omega arith in (least, most)) (λ f. sent standing)
 
 are_first : (standing : Bool) → Are (first standing)
 are_first standing = record { dte = (let some : 0 < 2 = omega arith in some); dce = tt }
 
 -- ---- the runs
 
-pub runs_are_right : (L : LineService) → PadRunLaw L
-runs_are_right L = record {
+pub runs_are_right : PadRunLaw
+runs_are_right = record {
   dialled = record {
-    begins = begins L false;
-    happens = all_are L dialled_run (first false) (are_first false);
-    ends = all_hold L dialled_run (first false) (are_first false) (begins L false);
+    begins = begins false;
+    happens = all_are dialled_run (first false) (are_first false);
+    ends = all_hold dialled_run (first false) (are_first false) (begins false);
     records = ap (λ (b : Book). b.records) dialled_book;
     pairs = ap (λ (b : Book). b.pairs) dialled_book;
     shown = dialled_texts;
   };
   standing = record {
-    begins = begins L true;
-    happens = all_are L standing_run (first true) (are_first true);
-    ends = all_hold L standing_run (first true) (are_first true) (begins L true);
+    begins = begins true;
+    happens = all_are standing_run (first true) (are_first true);
+    ends = all_hold standing_run (first true) (are_first true) (begins true);
     records = ap (λ (b : Book). b.records) standing_book;
     pairs = ap (λ (b : Book). b.pairs) standing_book;
     shown = standing_texts;

@@ -12,7 +12,7 @@ use Rattle.x3_params.specs.Table.{profile_values}
 use Rattle.x3_params.specs.declared.profile.Profile.TheVariants.{Simple}
 use Rattle.line_nodes.specs.Node.{frames_of}
 use Rattle.memory_line.specs.declared.line.Direction.TheVariants.{FromDte}
-use Rattle.memory_line.specs.Lines.{Flights, no_flights, LineService, ArePut}
+use Rattle.memory_line.specs.Lines.{Flights, no_flights, memory_service, ArePut}
 use Rattle.net_events.specs.Opening.{NewDte, NewPad, NewHost, new_dte, new_dce, AreSent}
 use Rattle.net_events.specs.NodeEvents.{NodeEvent}
 use Rattle.net_events.specs.NodeEvents.NodeEvent.{Restarts, AtTerminal}
@@ -127,32 +127,35 @@ network = record {
   register = Rattle.call_records.specs.Register.made_register (line_plan (record { dte = 0; dce = 1; address = []; params = params }) ∷ line_plan (record { dte = 2; dce = 3; address = []; params = params }) ∷ []);
 }
 
-sent : (L : LineService) → AreSent L (new_dte NewHost params) (new_dce params) (flights NewHost)
-sent L = record {
+few : 0 < 64
+few = omega arith
+
+sent : AreSent memory_service (new_dte NewHost params) (new_dce params) (flights NewHost)
+sent = record {
   between = record { from_dte = up NewHost; from_dce = [] };
-  from_dte = (record { from_dte = up NewHost; from_dce = [] }, inl refl, refl);
-  from_dce = (flights NewHost, inl refl, refl);
+  from_dte = (record { from_dte = up NewHost; from_dce = [] }, inl (few, refl), refl);
+  from_dce = (flights NewHost, inl (few, refl), refl);
 }
 
-pad_sent : (L : LineService) → AreSent L (new_dte new_pad params) (new_dce params) (flights new_pad)
-pad_sent L = record {
+pad_sent : AreSent memory_service (new_dte new_pad params) (new_dce params) (flights new_pad)
+pad_sent = record {
   between = record { from_dte = up new_pad; from_dce = [] };
-  from_dte = (record { from_dte = up new_pad; from_dce = [] }, inl refl, refl);
-  from_dce = (flights new_pad, inl refl, refl);
+  from_dte = (record { from_dte = up new_pad; from_dce = [] }, inl (few, refl), refl);
+  from_dce = (flights new_pad, inl (few, refl), refl);
 }
 
-line_made : (L : LineService) (line : ℕ) (l : NewLine) → slice_get plan.lines line ≡ Some l → LineIsMade L plan network line l
-line_made L zero l at = subst (λ (x : NewLine). LineIsMade L plan network 0 x) (same_Some (record { dte = 0; dce = 1; address = []; params = params }) l at) (record {
+line_made : (line : ℕ) (l : NewLine) → slice_get plan.lines line ≡ Some l → LineIsMade memory_service plan network line l
+line_made zero l at = subst (λ (x : NewLine). LineIsMade memory_service plan network 0 x) (same_Some (record { dte = 0; dce = 1; address = []; params = params }) l at) (record {
   flights = flights new_pad;
   there = refl;
-  sent = λ f dte there. subst (λ (x : NewNode). AreSent L (new_dte x.as_dte params) (new_dce params) (flights new_pad)) (same_planned pad_node dte there) (pad_sent L);
+  sent = λ f dte there. subst (λ (x : NewNode). AreSent memory_service (new_dte x.as_dte params) (new_dce params) (flights new_pad)) (same_planned pad_node dte there) (pad_sent);
 })
-line_made L (suc zero) l at = subst (λ (x : NewLine). LineIsMade L plan network 1 x) (same_Some (record { dte = 2; dce = 3; address = []; params = params }) l at) (record {
+line_made (suc zero) l at = subst (λ (x : NewLine). LineIsMade memory_service plan network 1 x) (same_Some (record { dte = 2; dce = 3; address = []; params = params }) l at) (record {
   flights = flights NewHost;
   there = refl;
-  sent = λ f dte there. subst (λ (x : NewNode). AreSent L (new_dte x.as_dte params) (new_dce params) (flights NewHost)) (same_planned (node 1 Dte) dte there) (sent L);
+  sent = λ f dte there. subst (λ (x : NewNode). AreSent memory_service (new_dte x.as_dte params) (new_dce params) (flights NewHost)) (same_planned (node 1 Dte) dte there) (sent);
 })
-line_made L (suc (suc line)) l at = absurd (none-some l at)
+line_made (suc (suc line)) l at = absurd (none-some l at)
 
 user_made : (place : ℕ) (m n : NewNode) → PlannedUser m ≡ PlannedUser n → (l : NewLine) → slice_get plan.lines n.line ≡ Some l → slice_get network.nodes place ≡ Some (User (placed_new m params))
     → slice_get network.nodes place ≡ Some (User (placed_new n l.params))
@@ -176,11 +179,11 @@ node_made (suc (suc zero)) n at = made_so 2 (node 1 Dte) n (same_Some (PlannedUs
 node_made (suc (suc (suc zero))) n at = made_so 3 (node 1 Dce) n (same_Some (PlannedUser (node 1 Dce)) n at) refl
 node_made (suc (suc (suc (suc place)))) n at = absurd (none-some n at)
 
-made : (L : LineService) → IsMade L plan network
-made L = record { node_count = refl; nodes = node_made; line_count = refl; lines = line_made L; register = refl }
+made : IsMade memory_service plan network
+made = record { node_count = refl; nodes = node_made; line_count = refl; lines = line_made; register = refl }
 
-holds : (L : LineService) → IsNetwork L network
-holds L = made_network L plan network planned users (made L)
+holds : IsNetwork memory_service network
+holds = made_network memory_service plan network planned users (made)
 
 -- ---- the host at the DCE of the second line begins anew: its line loses all frames, and it sends its first one
 
@@ -188,8 +191,8 @@ abbrev anew : Network
 anew = with_turn_at 1 (net_line 2 3 NewHost) 3 (placed_new (node 1 Dce) params) (net_turn Restarts 1 Dce (placed_new (node 1 Dce) params) network)
     (record { from_dte = []; from_dce = down }) network
 
-restarted : (L : LineService) → HappenedAt L Restarts 1 Dce network anew
-restarted L = record {
+restarted : HappenedAt memory_service Restarts 1 Dce network anew
+restarted = record {
   line_is = net_line 2 3 NewHost;
   line_there = refl;
   node = placed_new (node 1 Dce) params;
@@ -198,12 +201,12 @@ restarted L = record {
   between = no_flights;
   left = λ f. refl;
   flights = record { from_dte = []; from_dce = down };
-  put = λ f. (record { from_dte = []; from_dce = down }, inl refl, refl);
+  put = λ f. (record { from_dte = []; from_dce = down }, inl (few, refl), refl);
   others = refl;
 }
 
-pub holds_anew : (L : LineService) → IsNetwork L anew
-holds_anew L = happened_network L Restarts 1 Dce network anew (holds L) (restarted L)
+pub holds_anew : IsNetwork memory_service anew
+holds_anew = happened_network memory_service Restarts 1 Dce network anew (holds) (restarted)
 
 -- ---- a 2 is typed at the second terminal of the PAD, which shows it and sends nothing
 
@@ -218,8 +221,8 @@ sends_nothing : frames_of (net_turn typing 0 Dte (placed_new pad_node params) ne
 unfolding finished all_offered
 sends_nothing = refl
 
-types : (L : LineService) → HappenedAt L typing 0 Dte network typed
-types L = record {
+types : HappenedAt memory_service typing 0 Dte network typed
+types = record {
   line_is = net_line 0 1 new_pad;
   line_there = refl;
   node = placed_new pad_node params;
@@ -228,9 +231,9 @@ types L = record {
   between = flights new_pad;
   left = λ f. refl;
   flights = flights new_pad;
-  put = λ f. subst (λ (fs : List (List ℕ)). ArePut L FromDte fs (flights new_pad) (flights new_pad)) (sym sends_nothing) refl;
+  put = λ f. subst (λ (fs : List (List ℕ)). ArePut memory_service FromDte fs (flights new_pad) (flights new_pad)) (sym sends_nothing) refl;
   others = refl;
 }
 
-pub holds_typed : (L : LineService) → IsNetwork L typed
-holds_typed L = happened_network L typing 0 Dte network typed (holds L) (types L)
+pub holds_typed : IsNetwork memory_service typed
+holds_typed = happened_network memory_service typing 0 Dte network typed (holds) (types)

@@ -12,7 +12,10 @@ use Rattle.packet_host.specs.Saying.{cut, say_refusal}
 use Rattle.call_records.specs.Book.{Book}
 use Rattle.call_records.specs.Writes.{Write, all_written}
 use Rattle.call_records.specs.Writes.Write.{Told, Placed, Asked, Said, Took, Cleared, AllClosed}
-use Rattle.pad_records.specs.Writing.{writes_of}
+use Rattle.x25_pad.specs.Notes.{PadNote}
+use Rattle.x25_pad.specs.Notes as pad
+use Rattle.pad_records.specs.Writing.{write_of, writes_of}
+use Rattle.register_laws.specs.Giving.{GivesNone, AllGiveNone}
 use Rattle.line_nodes.specs.Node.{NodeState, Pad, Host, end_of}
 use Rattle.line_nodes.specs.NodeEvents.{heard, node_runs, expired, relinked}
 use Rattle.line_nodes.specs.Turn.{Turn, told, unchanged}
@@ -93,3 +96,49 @@ uniform (Says channel octets q d) role n =
 uniform (Takes channel) role n = taken role (end_of n) channel (front_on (end_of n).layer channel)
 uniform (AtTerminal terminal event) role (Pad p) = only_told role (Pad (after_terminal terminal event p))
 uniform (AtTerminal terminal event) role (Host e) = nothing role (Host e)
+
+-- ---- no user gives a calling address
+
+note_gives : (note : PadNote) → GivesNone (write_of note)
+note_gives (pad.Told note) = tt
+note_gives (pad.Placed channel address) = refl
+note_gives (pad.Accepted channel) = tt
+note_gives (pad.Cleared channel) = tt
+note_gives (pad.WasReset channel) = tt
+note_gives (pad.Edited channel step) = tt
+note_gives (pad.Sent channel d) = tt
+note_gives (pad.Interrupted channel octets) = tt
+note_gives (pad.Took channel x) = tt
+
+notes_give : (notes : List PadNote) → AllGiveNone (writes_of notes)
+notes_give [] = tt
+notes_give (note ∷ notes) = (note_gives note, notes_give notes)
+
+told_gives : (role : Role) (n : NodeState) → AllGiveNone (only_told role n).writes
+unfolding only_told
+told_gives role (Pad p) = notes_give p.line.notes
+told_gives role (Host e) = (tt, tt)
+
+if_gives : (role : Role) (v : Bool) (turn : Book → Turn) (n : NodeState) (h : IsUniform role turn) → AllGiveNone h.writes → AllGiveNone (if-runs role v turn n h).writes
+unfolding if-runs nothing
+if_gives role true turn n h g = g
+if_gives role false turn n h g = tt
+
+taken_gives : (role : Role) (e : PacketEnd) (channel : ℕ) (front : Option Taken) → AllGiveNone (taken role e channel front).writes
+unfolding taken nothing
+taken_gives role e channel None = tt
+taken_gives role e channel (Some x) = (tt, (tt, tt))
+
+pub none_given : (event : NodeEvent) (role : Role) (n : NodeState) → AllGiveNone (uniform event role n).writes
+unfolding uniform nothing
+none_given (Hears octets) role n = told_gives role (heard n octets)
+none_given (Expires id) role n = if_gives role (node_runs n id) (λ b. told role (expired n id) b) n (only_told role (expired n id)) (told_gives role (expired n id))
+none_given Relinks role n = told_gives role (relinked n)
+none_given Restarts role n = (tt, tt)
+none_given (Calls address user_data) role n = (refl, (tt, tt))
+none_given (Asks channel r) role n = (tt, (tt, tt))
+none_given (Refuses channel) role n = (tt, (tt, tt))
+none_given (Says channel octets q d) role n = (tt, (tt, tt))
+none_given (Takes channel) role n = taken_gives role (end_of n) channel (front_on (end_of n).layer channel)
+none_given (AtTerminal terminal event) role (Pad p) = told_gives role (Pad (after_terminal terminal event p))
+none_given (AtTerminal terminal event) role (Host e) = tt

@@ -14,7 +14,7 @@ use Rattle.packet_layer.specs.Channel.Request.{Accept, Resetting}
 use Rattle.packet_end.specs.declared.params.EndParams.{EndParams}
 use Rattle.call_records.specs.Records.{RecordValue, new_record, with_closed}
 use Rattle.memory_line.specs.declared.line.Direction.{Direction}
-use Rattle.memory_line.specs.Lines.{Flights, no_flights, flying, with_flying, without_first, LineService}
+use Rattle.memory_line.specs.Lines.{Flights, no_flights, flying, with_flying, without_first, LineService, lossless_service}
 use Rattle.line_nodes.specs.Node.{NodeState, Pad, Host, frames_of}
 use Rattle.line_nodes.specs.Terminals.{text_shown}
 use Rattle.line_nodes.specs.declared.terminal.TerminalEvent.{TerminalEvent}
@@ -282,7 +282,8 @@ pub record RunIs (L : LineService) (standing : Bool) (acts : List Act) (pad host
   pub pairs : (after acts (first standing)).book.pairs ≡ record { caller = 0; callee = 1 } ∷ []
   pub shown : shown acts (first standing) ≡ texts
 
-pub record PadRunLaw (L : LineService) : Type 0 where
-  pub dialled : RunIs L false dialled_run dialled_pad dialled_host (first_text ∷ [])
+-- on a line that loses nothing
+pub record PadRunLaw : Type 0 where
+  pub dialled : RunIs lossless_service false dialled_run dialled_pad dialled_host (first_text ∷ [])
   pub standing :
-      RunIs L true standing_run (with_closed standing_pad) (with_closed standing_host) (second_text ∷ [])
+      RunIs lossless_service true standing_run (with_closed standing_pad) (with_closed standing_host) (second_text ∷ [])

@@ -42,14 +42,14 @@ fewer_at_user L line role id s t p d due =
     (expiry_law.fewer-due role d.node.node id (book_at line s.register) (quiet_user s.nodes line d.line_is (p.lines line d.line_is d.line_there) role d.node d.node_there) due))
 
 pub fewer_any : (L : LineService) → FewerLaw L
-fewer_any L line role id s t (of_users n) d due = fewer_due L line role id s t n d due
-fewer_any L line role id s t (with_switch p) d due = fewer_at_user L line role id s t p d due
+fewer_any L line role id s t (of_users n a) d due = fewer_due L line role id s t n d due
+fewer_any L line role id s t (with_switch p a) d due = fewer_at_user L line role id s t p d due
 
 -- ---- at the switch
 
 pub fewer_at_switch : (L : LineService) → SwitchFewerLaw L
-fewer_at_switch L own id place s t (of_users n) d due = absurd (n.nodes place (Switching d.node) d.node_there)
-fewer_at_switch L own id place s t (with_switch p) d due =
+fewer_at_switch L own id place s t (of_users n a) d due = absurd (n.nodes place (Switching d.node) d.node_there)
+fewer_at_switch L own id place s t (with_switch p a) d due =
     let is_quiet : IsQuietSwitch d.node.switch =
     switch_quiet s.lines s.nodes place d.node d.node_there (p.nodes place (Switching d.node) d.node_there) p.lines in
     subst (λ (x : List NetNode). all_due x < all_due s.nodes) (sym d.nodes)

@@ -79,6 +79,6 @@ as_before L own id place s t d q idle = record { nodes = nodes; register = d.reg
     lines f = same_list s.lines t.lines (line_is f)
 
 pub idle_expiry : (L : LineService) → IdleExpiryLaw L
-idle_expiry L own id place s t (of_users n) d idle = absurd (n.nodes place (Switching d.node) d.node_there)
-idle_expiry L own id place s t (with_switch p) d idle =
+idle_expiry L own id place s t (of_users n a) d idle = absurd (n.nodes place (Switching d.node) d.node_there)
+idle_expiry L own id place s t (with_switch p a) d idle =
     as_before L own id place s t d (switch_quiet s.lines s.nodes place d.node d.node_there (p.nodes place (Switching d.node) d.node_there) p.lines) idle

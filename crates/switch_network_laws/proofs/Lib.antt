@@ -1,5 +1,10 @@
 pub use Rattle.network_laws.proofs.Networks
 pub mod PromiseLines
+pub mod Addressed
+pub mod FarAddresses
+pub mod Histories
+pub mod PairsUsers
+pub mod PairsHeld
 pub mod PromiseHeld
 pub mod PromiseUsers
 pub mod PromiseAny

@@ -41,6 +41,7 @@ use Rattle.network_laws.proofs.Opened.{mapped, unmapped, made_network}
 use Rattle.switch_network_laws.specs.Plans.{IsPlanOf, has_users, goes_on_at}
 use Rattle.switch_network_laws.specs.IsSwitched.{ends_state, EndStands, LineStands, IsPartner, IsHeld, IsSwitched, of_users, with_switch}
 use Rattle.switch_network_laws.specs.Laws.{MadeLaw}
+use Rattle.switch_network_laws.proofs.Addressed.{made_addressed}
 use Rattle.switch_network_laws.proofs.Standing.{same_switch, AreApart, same_end, are_apart}
 use Rattle.switch_network_laws.proofs.UsersWrites.{line_named}
 use Rattle.switch_network_laws.proofs.UsersHeld.{address_kept}
@@ -358,6 +359,6 @@ made_switched L plan s is m place n at = record {
 
 pub made_any : (L : LineService) → MadeLaw L
 made_any L plan s is m = elim (find_switch plan.nodes) [
-  | inl found ↦ with_switch (made_switched L plan s is m found.0 found.1 found.2)
-  | inr users ↦ of_users (made_network L plan s is users m)
+  | inl found ↦ with_switch (made_switched L plan s is m found.0 found.1 found.2) (made_addressed L plan s m)
+  | inr users ↦ of_users (made_network L plan s is users m) (made_addressed L plan s m)
 ]

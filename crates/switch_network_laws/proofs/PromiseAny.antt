@@ -14,8 +14,8 @@ use Rattle.switch_network_laws.proofs.PromiseHeld.{promise_held}
 use Rattle.switch_network_laws.proofs.PromiseUsers.{promise_users}
 
 pub promise_any : (L : LineService) → PromiseLaw L
-promise_any L s (of_users n) f = promise_users L s n f
-promise_any L s (with_switch p) f = promise_held L s p f
+promise_any L s (of_users n a) f = promise_users L s n a f
+promise_any L s (with_switch p a) f = promise_held L s p a f
 
 pub delivered_any : (L : LineService) → DeliveredLaw L
 delivered_any L s any f place channel m there says line l role number r line_is place_is present record_is =

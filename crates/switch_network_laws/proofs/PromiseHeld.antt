@@ -1,6 +1,7 @@
 -- What holds of a network with a switch has, on faithful lines, all that the network promises.
-use Rattle.std.proofs.Common.{◌≡◌, ℕ, true, false, length, Some, refl, sym, ap, ◌∙◌, subst}
+use Rattle.std.proofs.Common.{◌≡◌, ◌≢◌, ℕ, true, false, List, length, Some, refl, sym, ap, ◌∙◌, subst, inr, [], arith}
 use Rattle.std.specs.Prelude.{slice_get}
+use Rattle.std.proofs.lemmas.Option.{slice_get_within}
 use Rattle.link_timers.specs.declared.role.Role.{Role}
 use Rattle.link_timers.specs.declared.role.Role.TheVariants.{Dte, Dce}
 use Rattle.packet_layer.specs.Layer.{channel_of}
@@ -13,11 +14,14 @@ use Rattle.network_laws.specs.Sending.{HasSent}
 use Rattle.register_laws.specs.Promise.{HasRecords}
 use Rattle.line_record_laws.specs.Kept.{end_at}
 use Rattle.line_record_laws.specs.Confirmed.{SaysConfirmed}
-use Rattle.line_record_laws.specs.Counted.{ShowsCounts, HasItsEpochs}
+use Rattle.line_record_laws.specs.Counted.{ShowsCounts}
 use Rattle.line_record_laws.proofs.Keeping as keeping_law
 use Rattle.line_record_laws.proofs.Confirming.{confirmed_kept}
-use Rattle.line_record_laws.proofs.Counting.{shown_kept, counts_kept, all_sent, all_taken, its_epochs_alike}
+use Rattle.line_record_laws.proofs.Counting.{shown_kept}
+use Rattle.line_record_laws.specs.Histories.{LineHistory}
+use Rattle.line_record_laws.proofs.Histories.{history_kept}
 use Rattle.call_path_laws.specs.Ends.{IsOfPresent, EndIsSeen, IsOfUser}
+use Rattle.call_path_laws.specs.Seen.{address_at, SideIsSeen}
 use Rattle.call_path_laws.specs.Promise.{PathsHold}
 use Rattle.call_path_laws.proofs.Ending.{ends_seen, users_own, open_seen}
 use Rattle.switch_path_laws.specs.Law as paths
@@ -30,8 +34,12 @@ use Rattle.network_laws.specs.IsLine.{line_of, IsLine, IsKept}
 use Rattle.network_laws.specs.Promise.{EndHolds, PlacedHolds}
 use Rattle.network_laws.proofs.Answering.{came_kept, paired_kept, placed_kept, records_kept}
 use Rattle.network_laws.proofs.Made.{typed_line}
-use Rattle.switch_network_laws.specs.IsSwitched.{ends_state, LineStands, IsHeld, IsSwitched}
-use Rattle.switch_network_laws.specs.Promise.{HasUserAt, NetworkPromise}
+use Rattle.switch_network_laws.specs.IsSwitched.{ends_state, LineStands, IsHeld, IsSwitched, IsAddressed}
+use Rattle.switch_network_laws.specs.Histories.{HasUserAt, HistoriesHold}
+use Rattle.switch_network_laws.specs.Promise.{NetworkPromise}
+use Rattle.switch_network_laws.proofs.FarAddresses.{AreEnds, far_none}
+use Rattle.switch_network_laws.proofs.Histories.{LineData, IsLed, IsOwned, PairsAre, histories_hold}
+use Rattle.switch_network_laws.proofs.PairsHeld.{PairOf, all_owned, held_pairs}
 use Rattle.switch_network_laws.proofs.UsersLine.{at_end, user_end}
 use Rattle.switch_network_laws.proofs.FewerAny.{quiet_user}
 use Rattle.switch_network_laws.proofs.PromiseLines.{fellow}
@@ -203,24 +211,6 @@ module _ (L : LineService) (s : Network) (p : IsSwitched L s) (f : L.faithful) w
       (ap (λ (k : ℕ). slice_get s.nodes k) here ∙ at) pad o.own_there
       (sym (same_node o.own r o.same) ∙ where_is))
 
-  -- ---- what the records count
-
-  counts_hold : (place : ℕ) (n : PlacedNode) (i : ℕ) (r : RecordValue) → slice_get s.nodes place ≡ Some (User n)
-      → slice_get s.register.records i ≡ Some r → r.node ≡ place → (role : Role) × HasItsEpochs role (end_of n.node).layer r
-  counts_hold place n i r at there node =
-      let o : IsOfUser held.plan held.books r =
-      users_own held.plan held.world held.books held.traces i r held.network.seen.seen held.network.seen.lines
-      (ap (λ (g : Register). slice_get g.records i) held.register ∙ there) in
-      let l = its_line o.line o.line_book o.line_there in
-      let h : LineHas o.line l.0 o.line_book = line_has o.line l.0 o.line_book l.1 o.line_there in
-      let own : LineState = ends_state l.0 h.stands.dte.node h.stands.dce o.line_book in
-      let c = counts_kept h.kept.setting o.line_book (line_of own) o.place o.own h.kept.kept o.own_there in
-      let here : place_at c.role l.0 ≡ place =
-      sym (own_node c.role l.0 h.stands.dte.node h.stands.dce o.line_book h.holds) ∙ sym c.node ∙ sym (same_node o.own r o.same) ∙ node in
-      let u = user_end s.nodes o.line l.0 h.stands c.role n (ap (λ (k : ℕ). slice_get s.nodes k) here ∙ at) in
-      let is : end_at c.role (line_of own) ≡ end_of n.node = end_is c.role o.line l.0 o.line_book h.stands ∙ ap (λ (x : NodeState). end_of x) u.node_is in
-      (c.role, subst (λ (e : PacketEnd). HasItsEpochs c.role e.layer r) is (its_epochs_alike c.role (end_at c.role (line_of own)).layer o.own r (ap (λ (x : RecordValue). all_sent x) o.same) (ap (λ (x : RecordValue). all_taken x) o.same) c.epochs))
-
   -- where the plan has a user at an end of a line, one stands there
   user_there : (line : ℕ) (l : NetLine) (role : Role) → slice_get s.lines line ≡ Some l → held.plan.has_user line role ≡ true → HasUserAt s l role
   user_there line l Dte at user = let h = p.lines line l at in (h.dte, h.dte_there)
@@ -239,16 +229,76 @@ module _ (L : LineService) (s : Network) (p : IsSwitched L s) (f : L.faithful) w
       let u : HasUserAt s l.0 o.role = user_there o.line l.0 o.role l.1 o.user in
       (u.0, ap (λ (k : ℕ). slice_get s.nodes k) (o.node ∙ held.plan_is.node o.line l.0 o.role l.1) ∙ u.1)
 
+  -- ---- the histories of the lines
+
+  line_apart : (l : NetLine) (dte dce : NodeState) (b : Book) → IsLine L (ends_state l dte dce b) → l.dte ≢ l.dce
+  line_apart l dte dce b h = h.apart
+
+  line_led : (line : ℕ) (l : NetLine) (b : Book) → slice_get s.lines line ≡ Some l → slice_get held.books line ≡ Some b → (d : LineData) × IsLed s line l b d
+  line_led line l b at there =
+      let h : LineHas line l b = line_has line l b at there in
+      let own : LineState = ends_state l h.stands.dte.node h.stands.dce b in
+      let x = history_kept h.kept.setting b (line_of own) h.kept.kept in (
+        record { history = x.0; uses = x.1.accepted.0 },
+        record {
+          possible = x.1.possible;
+          layers = λ role p is.
+              let u = user_end s.nodes line l h.stands role p is in
+              x.1.layers role ∙ ap (λ (e : PacketEnd). e.layer) (end_is role line l b h.stands ∙ ap (λ (y : NodeState). end_of y) u.node_is);
+          book = x.1.book;
+          counts = x.1.counts;
+          accepted = x.1.accepted.1;
+          nodes = λ role. own_node role l h.stands.dte.node h.stands.dce b h.holds;
+          apart = line_apart l h.stands.dte.node h.stands.dce b h.holds;
+          at_line = λ role p is. (user_end s.nodes line l h.stands role p is).line_is;
+        },
+      )
+
+  all_histories : (hs : List LineHistory) × HistoriesHold s hs
+  all_histories =
+      let seen = held.network.seen.seen in
+      let alike = held.network.seen.lines in
+      histories_hold s held.books held.count line_led of_users
+      (subst (λ (g : Register). (i : ℕ) (r : RecordValue) → slice_get g.records i ≡ Some r → IsOwned held.books r) held.register
+      (all_owned held.plan held.world held.books held.traces seen alike))
+      (PairOf held.plan held.world held.books held.traces seen alike)
+      (subst (λ (g : Register). PairsAre s g held.books (PairOf held.plan held.world held.books held.traces seen alike)) held.register
+      (held_pairs held.plan held.world held.books held.traces seen alike s held.plan_is))
+
+module _ (L : LineService) (s : Network) (p : IsSwitched L s) (a : IsAddressed s) (f : L.faithful) where
+  -- ---- addresses
+
+  seen_side : (line : ℕ) (l : NetLine) (role : Role) → slice_get s.lines line ≡ Some l → SideIsSeen (held L s p f).plan (held L s p f).world.origins (held L s p f).world.joins line role (side_of role (book_at line (held L s p f).world.register)) (side_of role (book_at line (held L s p f).world.whole))
+  seen_side line l role at =
+      (held L s p f).network.seen.seen.sides line role
+      (let within = slice_get_within s.lines line l at in let seen = (held L s p f).network.seen.seen.lines in let same = ap (λ (g : Register). length g.lines) (held L s p f).register in let count = a.registered in omega arith)
+
+  no_address : (line : ℕ) (l : NetLine) (role : Role) → slice_get s.lines line ≡ Some l → HasUserAt s l Dce → address_at (held L s p f).plan line role ≡ []
+  no_address line l Dte at user = (held L s p f).network.planned.alike line (inr ((held L s p f).plan_is.user line l Dce (User user.0) at user.1))
+  no_address line l Dce at user = refl
+
+  all_ends : AreEnds s
+  all_ends = record {
+    at_line = λ line l role n at is. (user_end s.nodes line l (p.lines line l at) role n is).line_is;
+    dte = λ line l at. let h = p.lines line l at in (h.dte, h.dte_there);
+    nodes = λ line l role at. ap (λ (g : Register). (side_of role (book_at line g)).node) (sym (held L s p f).register) ∙ (seen_side line l role at).seen_node ∙ (held L s p f).plan_is.node line l role at;
+    bare = λ line l role at user.
+        ap (λ (g : Register). (side_of role (book_at line g)).address) (sym (held L s p f).register) ∙ (seen_side line l role at).seen_address ∙ no_address line l role at user;
+  }
+
   pub promise_held : NetworkPromise s
   promise_held = record {
-    plan = held.plan;
-    plan_is = held.plan_is;
-    calls = paths_hold;
-    of_users = of_users;
-    records = records_hold;
-    ends = end_holds;
-    placed = placed_holds;
-    typed = typed_holds;
-    counts = counts_hold;
+    plan = (held L s p f).plan;
+    plan_is = (held L s p f).plan_is;
+    calls = (paths_hold L s p f);
+    of_users = of_users L s p f;
+    records = (records_hold L s p f);
+    ends = (end_holds L s p f);
+    placed = (placed_holds L s p f);
+    typed = (typed_holds L s p f);
+    histories = (all_histories L s p f).0;
+    kept = (all_histories L s p f).1;
+    own = a.own;
+    far = far_none s (held L s p f).plan (held L s p f).plan_is (paths_hold L s p f) a all_ends;
     alone = λ none. absurd (none p.place p.switch p.there);
   }

@@ -15,23 +15,33 @@ use Rattle.call_records.specs.Writes.Write.{Edited}
 use Rattle.book_laws.specs.Told.{World, Move, written, after_move, after_all}
 use Rattle.book_laws.specs.Told.Move.{Happens, Edits}
 use Rattle.line_laws.specs.Line.{Line}
-use Rattle.line_record_laws.specs.Kept.{Setting, Kept, beginning}
+use Rattle.line_record_laws.specs.Kept.{Setting, Kept, beginning, end_at}
+use Rattle.line_record_laws.specs.Histories.{LineHistory}
+use Rattle.line_record_laws.proofs.Histories.{history_kept}
 use Rattle.register_laws.specs.Promise.{PairHolds, PairIsRight, IsOfEnd}
 use Rattle.call_path_laws.specs.World.{Plan, calling_on}
 use Rattle.call_path_laws.specs.Lines.{writes_of}
 use Rattle.call_path_laws.specs.Promise.{PathIsRight, PathHolds, PathsHold, by_caller}
 use Rattle.call_path_laws.proofs.Moves.{written_so}
 use Rattle.memory_line.specs.Lines.{LineService}
+use Rattle.packet_end.specs.PacketEnd.{PacketEnd}
+use Rattle.network_laws.specs.Node.{end_of}
 use Rattle.network_laws.specs.OneLine.{LineState}
 use Rattle.network_laws.specs.Network.{PlacedNode, NetNode, User, Switching, NetLine, Network, place_at}
 use Rattle.network_laws.specs.IsLine.{line_of, IsKept}
 use Rattle.network_laws.specs.IsNetwork.{line_state, LineHolds, IsNetwork}
 use Rattle.network_laws.specs.Promise.{NetworkHolds}
 use Rattle.network_laws.proofs.Shapes.{sides_stay}
-use Rattle.network_laws.proofs.Networks.{line_there}
+use Rattle.network_laws.proofs.Networks.{line_there, there_is, placed}
 use Rattle.network_laws.proofs.Promising.{holds_network}
+use Rattle.network_laws.proofs.Users.{same_user}
 use Rattle.switch_network_laws.specs.Plans.{has_users, IsPlanOf}
+use Rattle.switch_network_laws.specs.Histories.{HistoriesHold}
 use Rattle.switch_network_laws.specs.Promise.{NetworkPromise}
+use Rattle.switch_network_laws.specs.IsSwitched.{IsAddressed}
+use Rattle.switch_network_laws.proofs.FarAddresses.{AreEnds, far_none}
+use Rattle.switch_network_laws.proofs.Histories.{LineData, IsLed, histories_hold}
+use Rattle.switch_network_laws.proofs.PairsUsers.{PairOf, all_owned, user_pairs}
 use Rattle.switch_network_laws.proofs.PromiseLines.{fellow}
 
 -- ---- the books of lines have no addresses
@@ -79,7 +89,7 @@ users_plan s = record {
   route = λ switch called. None;
 }
 
-module _ (L : LineService) (s : Network) (n : IsNetwork L s) (f : L.faithful) where
+module _ (L : LineService) (s : Network) (n : IsNetwork L s) (a : IsAddressed s) (f : L.faithful) where
   holds : NetworkHolds s
   holds = holds_network L s n f
 
@@ -186,6 +196,66 @@ module _ (L : LineService) (s : Network) (n : IsNetwork L s) (f : L.faithful) wh
             (h.node, ap (λ k. slice_get s.nodes k) (at ∙ ap (λ o. (found_ends o).dce.node) (sym e.line_there) ∙ h.own) ∙ h.node_there)
       ]
 
+  -- ---- the histories of the lines
+
+  end_is : (role : Role) (l : NetLine) (dte dce : PlacedNode) (b : Book) → end_at role (line_of (line_state l dte dce b)) ≡ end_of (placed role dte dce).node
+  end_is Dte l dte dce b = refl
+  end_is Dce l dte dce b = refl
+
+  its_node : (role : Role) (line : ℕ) (l : NetLine) (b : Book) → LineHolds L s.nodes line l b → (side_of role b).node ≡ place_at role l
+  its_node Dte line l b h = h.holds.dte_node
+  its_node Dce line l b h = h.holds.dce_node
+
+  line_led : (line : ℕ) (l : NetLine) (b : Book) → slice_get s.lines line ≡ Some l → slice_get n.books line ≡ Some b → (d : LineData) × IsLed s line l b d
+  line_led line l b at there =
+      let h : LineHolds L s.nodes line l b = n.lines line l b at there in
+      let own : LineState = line_state l h.dte h.dce b in
+      let k : IsKept own = h.holds.kept f in
+      let x = history_kept k.setting b (line_of own) k.kept in (
+        record { history = x.0; uses = x.1.accepted.0 },
+        record {
+          possible = x.1.possible;
+          layers = λ role p is.
+              let e = there_is L s.nodes line l b h role in
+              let same : placed role h.dte h.dce ≡ p = same_user (placed role h.dte h.dce) p (sym e.0 ∙ is) in
+              x.1.layers role ∙ ap (λ (y : PacketEnd). y.layer) (end_is role l h.dte h.dce b) ∙ ap (λ (y : PlacedNode). (end_of y.node).layer) same;
+          book = x.1.book;
+          counts = x.1.counts;
+          accepted = x.1.accepted.1;
+          nodes = λ role. its_node role line l b h;
+          apart = h.holds.apart;
+          at_line = λ role p is.
+              let e = there_is L s.nodes line l b h role in
+              let same : placed role h.dte h.dce ≡ p = same_user (placed role h.dte h.dce) p (sym e.0 ∙ is) in
+              sym (ap (λ (y : PlacedNode). y.line) same) ∙ e.1;
+        },
+      )
+
+  all_histories : (hs : List LineHistory) × HistoriesHold s hs
+  all_histories =
+      histories_hold s n.books n.count line_led of_users (all_owned s.register n.books n.seen) (PairOf s.register n.books n.seen) (user_pairs s.register n.books n.seen s)
+
+  -- ---- addresses
+
+  all_ends : AreEnds s
+  all_ends = record {
+    at_line = λ line l role p at is.
+        let b = fellow n.books s.lines line l n.count at in
+        (line_led line l b.0 at b.1).1.at_line role p is;
+    dte = λ line l at.
+        let b = fellow n.books s.lines line l n.count at in
+        let h : LineHolds L s.nodes line l b.0 = n.lines line l b.0 at b.1 in (h.dte, h.dte_there);
+    nodes = λ line l role at.
+        let b = fellow n.books s.lines line l n.count at in
+        ((n.seen.line line b.0 b.1).sides role).node ∙ its_node role line l b.0 (n.lines line l b.0 at b.1);
+    bare = λ line l role at user.
+        let b = fellow n.books s.lines line l n.count at in
+        let h : LineHolds L s.nodes line l b.0 = n.lines line l b.0 at b.1 in
+        let own : LineState = line_state l h.dte h.dce b.0 in
+        let k : IsKept own = h.holds.kept f in
+        ((n.seen.line line b.0 b.1).sides role).address ∙ no_address k.setting b.0 (line_of own) role k.kept;
+  }
+
   pub promise_users : NetworkPromise s
   promise_users = record {
     plan = users_plan s;
@@ -196,6 +266,9 @@ module _ (L : LineService) (s : Network) (n : IsNetwork L s) (f : L.faithful) wh
     ends = λ line l role at user. holds.ends line l role at;
     placed = λ line l role at user. holds.placed line l role at;
     typed = holds.typed;
-    counts = holds.counts;
+    histories = all_histories.0;
+    kept = all_histories.1;
+    own = a.own;
+    far = far_none s (users_plan s) plan_is paths_hold a all_ends;
     alone = λ none. holds;
   }

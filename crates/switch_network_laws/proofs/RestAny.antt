@@ -79,5 +79,5 @@ module _ (L : LineService) (s : Network) (p : IsSwitched L s) (f : L.faithful) (
 -- ---- any network
 
 pub rest_any : (L : LineService) → RestLaw L
-rest_any L s (of_users n) f rests = rest_network L s n f rests.users
-rest_any L s (with_switch p) f rests = rest_held L s p f rests
+rest_any L s (of_users n a) f rests = rest_network L s n f rests.users
+rest_any L s (with_switch p a) f rests = rest_held L s p f rests

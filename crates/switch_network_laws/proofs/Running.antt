@@ -7,7 +7,7 @@ use Rattle.std.proofs.lemmas.List.{append_assoc, append-nil}
 use Rattle.link_timers.specs.declared.role.Role.TheVariants.{Dte}
 use Rattle.network_laws.specs.Node.{NodeState, is_pad, end_of, frames_of, node_rests}
 use Rattle.memory_line.specs.declared.line.Direction.TheVariants.{FromDte, FromDce}
-use Rattle.memory_line.specs.Lines.{Flights, memory_service, no_flights, without_first, ArePut}
+use Rattle.memory_line.specs.Lines.{Flights, lossless_service, no_flights, without_first, ArePut}
 use Rattle.network_laws.specs.NodeEvents.{NodeEvent, Hears, Calls, Asks, Says, Takes, Expires, Relinks, Restarts, Refuses, AtTerminal, IsFor, LeftBy}
 use Rattle.network_laws.specs.Network.{PlacedNode, PlacedSwitch, NetLine, NetNode, Network, User, Switching, HappenedAt}
 use Rattle.network_laws.specs.AtSwitch.{SwitchEvent, SwitchHappened, OwnLineServed, switched, waiting_on}
@@ -44,21 +44,21 @@ use Rattle.switch_network_laws.specs.Run.{TwoHosts, Act, First, Second, FromFirs
 
 -- ---- frames are put
 
-put_dte : (frames : List (List ℕ)) (f : Flights) → ArePut memory_service FromDte frames f (put_all FromDte frames f)
+put_dte : (frames : List (List ℕ)) (f : Flights) → ArePut lossless_service FromDte frames f (put_all FromDte frames f)
 put_dte [] f = ap (λ (l : List (List ℕ)). record f { from_dte = l }) (append-nil f.from_dte)
 put_dte (x ∷ xs) f = (
   record f { from_dte = f.from_dte ++ x ∷ [] },
-  inl refl,
-  subst (λ (l : List (List ℕ)). ArePut memory_service FromDte xs (record f { from_dte = f.from_dte ++ x ∷ [] }) (record f { from_dte = l })) (append_assoc f.from_dte (x ∷ []) xs)
+  inl (tt, refl),
+  subst (λ (l : List (List ℕ)). ArePut lossless_service FromDte xs (record f { from_dte = f.from_dte ++ x ∷ [] }) (record f { from_dte = l })) (append_assoc f.from_dte (x ∷ []) xs)
       (put_dte xs (record f { from_dte = f.from_dte ++ x ∷ [] })),
 )
 
-put_dce : (frames : List (List ℕ)) (f : Flights) → ArePut memory_service FromDce frames f (put_all FromDce frames f)
+put_dce : (frames : List (List ℕ)) (f : Flights) → ArePut lossless_service FromDce frames f (put_all FromDce frames f)
 put_dce [] f = ap (λ (l : List (List ℕ)). record f { from_dce = l }) (append-nil f.from_dce)
 put_dce (x ∷ xs) f = (
   record f { from_dce = f.from_dce ++ x ∷ [] },
-  inl refl,
-  subst (λ (l : List (List ℕ)). ArePut memory_service FromDce xs (record f { from_dce = f.from_dce ++ x ∷ [] }) (record f { from_dce = l })) (append_assoc f.from_dce (x ∷ []) xs)
+  inl (tt, refl),
+  subst (λ (l : List (List ℕ)). ArePut lossless_service FromDce xs (record f { from_dce = f.from_dce ++ x ∷ [] }) (record f { from_dce = l })) (append_assoc f.from_dce (x ∷ []) xs)
       (put_dce xs (record f { from_dce = f.from_dce ++ x ∷ [] })),
 )
 
@@ -109,7 +109,7 @@ left_so (AtTerminal terminal event) n f h = absurd cc
 -- ---- a host has its turn
 
 first_turn : (event : NodeEvent) (left : Flights) (t : TwoHosts) → IsFor event t.first → LeftBy event Dte t.near left
-    → HappenedAt memory_service event 0 Dte (network t) (network (at_first event left t))
+    → HappenedAt lossless_service event 0 Dte (network t) (network (at_first event left t))
 first_turn event left t for left_is = record {
   line_is = record { dte = 0; dce = 2; channels = 1; flights = t.near };
   line_there = refl;
@@ -124,7 +124,7 @@ first_turn event left t for left_is = record {
 }
 
 second_turn : (event : NodeEvent) (left : Flights) (t : TwoHosts) → IsFor event t.second → LeftBy event Dte t.far left
-    → HappenedAt memory_service event 1 Dte (network t) (network (at_second event left t))
+    → HappenedAt lossless_service event 1 Dte (network t) (network (at_second event left t))
 second_turn event left t for left_is = record {
   line_is = record { dte = 1; dce = 2; channels = 1; flights = t.far };
   line_there = refl;
@@ -144,7 +144,7 @@ second_turn event left t for left_is = record {
 near_served : (event : SwitchEvent) (left : Flights) (frames : List (List ℕ)) (t : TwoHosts) (after : List NetLine)
     → at_switch.LeftOn event 0 t.near left
     → slice_get after 0 ≡ Some (record { dte = 0; dce = 2; channels = 1; flights = put_all FromDce frames left })
-    → OwnLineServed memory_service event 0 0 frames (network t).lines after
+    → OwnLineServed lossless_service event 0 0 frames (network t).lines after
 near_served event left frames t after left_so there = record {
   line_is = record { dte = 0; dce = 2; channels = 1; flights = t.near };
   line_there = refl;
@@ -158,7 +158,7 @@ near_served event left frames t after left_so there = record {
 far_served : (event : SwitchEvent) (left : Flights) (frames : List (List ℕ)) (t : TwoHosts) (after : List NetLine)
     → at_switch.LeftOn event 1 t.far left
     → slice_get after 1 ≡ Some (record { dte = 1; dce = 2; channels = 1; flights = put_all FromDce frames left })
-    → OwnLineServed memory_service event 1 1 frames (network t).lines after
+    → OwnLineServed lossless_service event 1 1 frames (network t).lines after
 far_served event left frames t after left_so there = record {
   line_is = record { dte = 1; dce = 2; channels = 1; flights = t.far };
   line_there = refl;
@@ -171,12 +171,12 @@ far_served event left frames t after left_so there = record {
 
 own_served : (event : SwitchEvent) (near far : Flights) (t : TwoHosts) → at_switch.LeftOn event 0 t.near near → at_switch.LeftOn event 1 t.far far
     → (own line : ℕ) → slice_get (0 ∷ 1 ∷ []) own ≡ Some line
-    → OwnLineServed memory_service event own line (waiting_on own (switched event t.switch)) (network t).lines (network (heard_by_switch event near far t)).lines
+    → OwnLineServed lossless_service event own line (waiting_on own (switched event t.switch)) (network t).lines (network (heard_by_switch event near far t)).lines
 own_served event near far t at_near at_far zero line e =
-    subst (λ (k : ℕ). OwnLineServed memory_service event 0 k (waiting_on 0 (switched event t.switch)) (network t).lines (network (heard_by_switch event near far t)).lines) (same_Some 0 line e)
+    subst (λ (k : ℕ). OwnLineServed lossless_service event 0 k (waiting_on 0 (switched event t.switch)) (network t).lines (network (heard_by_switch event near far t)).lines) (same_Some 0 line e)
     (near_served event near (waiting_on 0 (switched event t.switch)) t (network (heard_by_switch event near far t)).lines at_near refl)
 own_served event near far t at_near at_far (suc zero) line e =
-    subst (λ (k : ℕ). OwnLineServed memory_service event 1 k (waiting_on 1 (switched event t.switch)) (network t).lines (network (heard_by_switch event near far t)).lines) (same_Some 1 line e)
+    subst (λ (k : ℕ). OwnLineServed lossless_service event 1 k (waiting_on 1 (switched event t.switch)) (network t).lines (network (heard_by_switch event near far t)).lines) (same_Some 1 line e)
     (far_served event far (waiting_on 1 (switched event t.switch)) t (network (heard_by_switch event near far t)).lines at_far refl)
 own_served event near far t at_near at_far (suc (suc own)) line e = absurd (none-some line e)
 
@@ -189,7 +189,7 @@ others_stay event near far t (suc (suc line)) other = refl
 
 switch_turn : (own : ℕ) (octets : List ℕ) (near far : Flights) (t : TwoHosts) → own < 2 → AreOctets octets
     → at_switch.LeftOn (at_switch.Hears own octets) 0 t.near near → at_switch.LeftOn (at_switch.Hears own octets) 1 t.far far
-    → SwitchHappened memory_service (at_switch.Hears own octets) 2 (network t) (network (heard_by_switch (at_switch.Hears own octets) near far t))
+    → SwitchHappened lossless_service (at_switch.Hears own octets) 2 (network t) (network (heard_by_switch (at_switch.Hears own octets) near far t))
 switch_turn own octets near far t below are at_near at_far = record {
   node = record { lines = 0 ∷ 1 ∷ []; switch = t.switch };
   node_there = refl;
@@ -334,31 +334,31 @@ made_node (suc zero) n e = subst (λ (x : Planned). NodeIsMade plan (network sta
 made_node (suc (suc zero)) n e = subst (λ (x : Planned). NodeIsMade plan (network start) 2 x) (same_Some (PlannedSwitch (record { lines = 0 ∷ 1 ∷ []; routes = routes })) n e) refl
 made_node (suc (suc (suc place))) n e = absurd (none-some n e)
 
-sent_first : (own : ℕ) (dte dce : NodeState) → frames_of dte ≡ frames_of host → frames_of dce ≡ waiting_on own new_switch → AreSent memory_service dte dce (first_frames own)
+sent_first : (own : ℕ) (dte dce : NodeState) → frames_of dte ≡ frames_of host → frames_of dce ≡ waiting_on own new_switch → AreSent lossless_service dte dce (first_frames own)
 sent_first own dte dce d c = record {
   between = put_all FromDte (frames_of host) no_flights;
-  from_dte = subst (λ (fs : List (List ℕ)). ArePut memory_service FromDte fs no_flights (put_all FromDte (frames_of host) no_flights)) (sym d) (put_dte (frames_of host) no_flights);
-  from_dce = subst (λ (fs : List (List ℕ)). ArePut memory_service FromDce fs (put_all FromDte (frames_of host) no_flights) (first_frames own)) (sym c) (put_dce (waiting_on own new_switch) (put_all FromDte (frames_of host) no_flights));
+  from_dte = subst (λ (fs : List (List ℕ)). ArePut lossless_service FromDte fs no_flights (put_all FromDte (frames_of host) no_flights)) (sym d) (put_dte (frames_of host) no_flights);
+  from_dce = subst (λ (fs : List (List ℕ)). ArePut lossless_service FromDce fs (put_all FromDte (frames_of host) no_flights) (first_frames own)) (sym c) (put_dce (waiting_on own new_switch) (put_all FromDte (frames_of host) no_flights));
 }
 
 abbrev dte_frames : Planned → List (List ℕ)
 dte_frames (PlannedUser n) = frames_of (new_dte n.as_dte parameters)
 dte_frames (PlannedSwitch n) = []
 
-made_line : (line : ℕ) (l : NewLine) → slice_get plan.lines line ≡ Some l → LineIsMade memory_service plan (network start) line l
-made_line zero l e = subst (λ (x : NewLine). LineIsMade memory_service plan (network start) 0 x) (same_Some (new_line 0 (1 ∷ [])) l e) (record {
+made_line : (line : ℕ) (l : NewLine) → slice_get plan.lines line ≡ Some l → LineIsMade lossless_service plan (network start) line l
+made_line zero l e = subst (λ (x : NewLine). LineIsMade lossless_service plan (network start) 0 x) (same_Some (new_line 0 (1 ∷ [])) l e) (record {
   flights = first_frames 0;
   there = refl;
   sent = λ f dte at. sent_first 0 (new_dte dte.as_dte parameters) (new_dce parameters) (ap dte_frames (sym (same_Some (new_host 0) (PlannedUser dte) at))) refl;
 })
-made_line (suc zero) l e = subst (λ (x : NewLine). LineIsMade memory_service plan (network start) 1 x) (same_Some (new_line 1 (2 ∷ [])) l e) (record {
+made_line (suc zero) l e = subst (λ (x : NewLine). LineIsMade lossless_service plan (network start) 1 x) (same_Some (new_line 1 (2 ∷ [])) l e) (record {
   flights = first_frames 1;
   there = refl;
   sent = λ f dte at. sent_first 1 (new_dte dte.as_dte parameters) (new_dce parameters) (ap dte_frames (sym (same_Some (new_host 1) (PlannedUser dte) at))) refl;
 })
 made_line (suc (suc line)) l e = absurd (none-some l e)
 
-made_so : IsMade memory_service plan (network start)
+made_so : IsMade lossless_service plan (network start)
 made_so = record { node_count = refl; nodes = made_node; line_count = refl; lines = made_line; register = refl }
 
 -- ---- what it comes to
@@ -505,13 +505,13 @@ all_at_rest t h =
 
 -- ---- it is a network of which the laws speak
 
-any_after : {s t : Network} → Goes s t → IsAny memory_service s → IsAny memory_service t
+any_after : {s t : Network} → Goes s t → IsAny lossless_service s → IsAny lossless_service t
 any_after stays any = any
-any_after {s} (by_user {mid = mid} event line role h m) any = any_after m (event_any memory_service event line role s mid any h)
-any_after {s} (by_switch {mid = mid} event place h m) any = any_after m (switch_event_holds memory_service event place s mid any h)
+any_after {s} (by_user {mid = mid} event line role h m) any = any_after m (event_any lossless_service event line role s mid any h)
+any_after {s} (by_switch {mid = mid} event place h m) any = any_after m (switch_event_holds lossless_service event place s mid any h)
 
-any_network : IsAny memory_service (network rested)
-any_network = any_after goes (made_any memory_service plan (network start) planned made_so)
+any_network : IsAny lossless_service (network rested)
+any_network = any_after goes (made_any lossless_service plan (network start) planned made_so)
 
 pub run_holds : RunLaw
 run_holds = record {
@@ -521,5 +521,5 @@ run_holds = record {
   rests = comes_to_rest;
   is_any = any_network;
   are_all_at_rest = nodes_rest rested (all_at_rest rested comes_to_rest);
-  misses_nothing = rest_any memory_service (network rested) any_network tt (nodes_rest rested (all_at_rest rested comes_to_rest));
+  misses_nothing = rest_any lossless_service (network rested) any_network tt (nodes_rest rested (all_at_rest rested comes_to_rest));
 }

@@ -10,6 +10,7 @@ use Rattle.network_laws.specs.Network.{PlacedSwitch, NetNode, Switching, Network
 use Rattle.switch_network_laws.specs.IsSwitched.{IsHeld, IsSwitched, of_users, with_switch}
 use Rattle.switch_network_laws.specs.Laws.{SwitchEventLaw}
 use Rattle.switch_network_laws.proofs.Standing.{same_switch}
+use Rattle.switch_network_laws.proofs.Addressed.{switched_addressed}
 use Rattle.switch_network_laws.proofs.SwitchStanding.{switch_after, quiet_after, switch_quiet, was_line, stands_still, switch_stands, stands_then}
 use Rattle.switch_network_laws.proofs.SwitchHolding.{network_then, held_then}
 
@@ -54,6 +55,7 @@ switched_network L event place s t i d = record {
     stands_by at m (inr e) = stands_still L event d.node s.lines t.lines d.lines at m (i.nodes at m e.1)
 
 pub switch_event_holds : (L : LineService) → SwitchEventLaw L
-switch_event_holds L event place s t (of_users i) d = absurd (i.nodes place (Switching d.node) d.node_there)
-switch_event_holds L event place s t (with_switch i) d =
+switch_event_holds L event place s t (of_users i a) d = absurd (i.nodes place (Switching d.node) d.node_there)
+switch_event_holds L event place s t (with_switch i a) d =
     with_switch (subst (IsSwitched L) (λ k. record { nodes = sym d.nodes k; lines = t.lines; register = t.register }) (switched_network L event place s t i d))
+    (switched_addressed L event place s t a d)

@@ -10,6 +10,7 @@ use Rattle.switch_path_laws.specs.Kept.{Partner}
 use Rattle.switch_path_laws.specs.Tied.{Histories}
 use Rattle.switch_path_laws.specs.Calls.{JoinedCall}
 use Rattle.call_path_laws.specs.World.{Origin, World, Plan}
+use Rattle.call_path_laws.specs.OwnAddresses.{HaveOwnAddresses}
 use Rattle.switch_path_laws.specs.Network as paths
 use Rattle.network_laws.specs.OneLine.{LineState}
 use Rattle.network_laws.specs.Network.{PlacedNode, PlacedSwitch, NetNode, User, Switching, NetLine, Network, Stands}
@@ -96,7 +97,12 @@ pub record IsSwitched (L : LineService) (s : Network) : Type 0 where
   pub nodes : (at : ℕ) (n : NetNode) → slice_get s.nodes at ≡ Some n → Stands s.lines at n
   pub holds : L.faithful → IsHeld L s switch
 
+-- the register has each line, and the own address of each caller is that of its line
+pub record IsAddressed (s : Network) : Type 0 where
+  pub registered : length s.register.lines ≡ length s.lines
+  pub own : HaveOwnAddresses s.register
+
 -- a network of nodes with users alone, or with a switch
 pub data IsAny (L : LineService) (s : Network) : Type 0 where
-  of_users : IsNetwork L s → IsAny L s
-  with_switch : IsSwitched L s → IsAny L s
+  of_users : IsNetwork L s → IsAddressed s → IsAny L s
+  with_switch : IsSwitched L s → IsAddressed s → IsAny L s

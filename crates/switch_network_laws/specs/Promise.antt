@@ -1,20 +1,19 @@
 -- What a network promises, with a switch or without one.
-use Rattle.std.specs.Prelude.{◌≡◌, ℕ, true, slice_get, Some}
+use Rattle.std.specs.Prelude.{◌≡◌, ℕ, true, List, slice_get, Some, None}
 use Rattle.link_timers.specs.declared.role.Role.{Role}
-use Rattle.call_records.specs.Records.{RecordValue}
+use Rattle.link_timers.specs.declared.role.Role.TheVariants.{Dce}
+use Rattle.call_records.specs.Records.{RecordValue, PairValue}
 use Rattle.network_laws.specs.Sending.{HasSent}
 use Rattle.register_laws.specs.Promise.{HasRecords}
 use Rattle.call_path_laws.specs.World.{Plan}
+use Rattle.call_path_laws.specs.OwnAddresses.{HaveOwnAddresses}
 use Rattle.call_path_laws.specs.Promise.{PathsHold}
-use Rattle.line_record_laws.specs.Counted.{HasItsEpochs}
-use Rattle.network_laws.specs.Node.{end_of, is_pad}
+use Rattle.network_laws.specs.Node.{is_pad}
 use Rattle.network_laws.specs.Network.{PlacedNode, User, NetLine, Network, place_at}
 pub use Rattle.network_laws.specs.Promise.{its_slot, EndHolds, PlacedHolds, NetworkHolds}
+use Rattle.line_record_laws.specs.Histories.{LineHistory}
 use Rattle.switch_network_laws.specs.Plans.{HasNoSwitch, IsPlanOf}
-
--- a node with users stands at the end of a role of a line
-abbrev pub HasUserAt : Network → NetLine → Role → Type 0
-HasUserAt s l role = (n : PlacedNode) × (slice_get s.nodes (place_at role l) ≡ Some (User n))
+pub use Rattle.switch_network_laws.specs.Histories.{HasUserAt, HistoriesHold}
 
 pub record NetworkPromise (s : Network) : Type 0 where
   -- which node is where, the addresses of the lines, and the routes of the switch if there is one
@@ -40,11 +39,16 @@ pub record NetworkPromise (s : Network) : Type 0 where
   -- idle times; else the PAD sent only what it told the far end by its messages, and the interrupts of breaks
   pub typed : (place : ℕ) (n : PlacedNode) (i : ℕ) (r : RecordValue) → slice_get s.nodes place ≡ Some (User n)
       → is_pad n.node ≡ true → slice_get s.register.records i ≡ Some r → r.node ≡ place → HasSent r
-  -- each record, open or closed, has the epochs that the packet layer of its node counted: packets, interrupts, and how
-  -- many packets a P(R) covered and how many were released, with nothing cut
-  pub counts : (place : ℕ) (n : PlacedNode) (i : ℕ) (r : RecordValue) → slice_get s.nodes place ≡ Some (User n)
-      → slice_get s.register.records i ≡ Some r → r.node ≡ place
-      → (role : Role) × HasItsEpochs role (end_of n.node).layer r
+  -- for each line there is one history of its packet layers, which leads to those of its nodes with users; what the
+  -- records count, open or closed, is what it says, and the pairs are the calls that users accepted in it, one for each
+  pub histories : List LineHistory
+  pub kept : HistoriesHold s histories
+  -- the own address of a caller is that of its line; on a line between two nodes with users that is none, and so is the
+  -- far address of the callee
+  pub own : HaveOwnAddresses s.register
+  pub far : (i line : ℕ) (pair : PairValue) (callee : RecordValue) (l : NetLine) (role : Role)
+      → slice_get s.register.pairs i ≡ Some pair → slice_get s.register.records pair.callee ≡ Some callee
+      → slice_get s.lines line ≡ Some l → callee.node ≡ place_at role l → HasUserAt s l Dce → callee.far ≡ None
   -- without a switch each pair is of the two ends of one line, and what one end took begins, epoch by epoch, what the
   -- other one sent
   pub alone : HasNoSwitch s → NetworkHolds s

@@ -19,7 +19,7 @@ use Rattle.network_laws.specs.Node.{NodeState, Host, is_pad, end_of, drained, fr
 use Rattle.network_laws.specs.Turn.{Turn}
 use Rattle.memory_line.specs.declared.line.Direction.{Direction}
 use Rattle.memory_line.specs.declared.line.Direction.TheVariants.{FromDte, FromDce}
-use Rattle.memory_line.specs.Lines.{Flights, memory_service, no_flights, flying, with_flying, without_first}
+use Rattle.memory_line.specs.Lines.{Flights, lossless_service, no_flights, flying, with_flying, without_first}
 use Rattle.address_routes.specs.Routes.{RouteMap}
 use Rattle.switch_lines.specs.Making.{made as made_switch}
 use Rattle.switch_lines.specs.Switch.{Switch, switch_rests}
@@ -228,9 +228,9 @@ rested = after_acts talking (after_act FromFirst placed)
 pub data Goes : Network → Network → Type 0 where
   stays : {s : Network} → Goes s s
   by_user : {s mid t : Network} (event : NodeEvent) (line : ℕ) (role : Role)
-      → HappenedAt memory_service event line role s mid → Goes mid t → Goes s t
+      → HappenedAt lossless_service event line role s mid → Goes mid t → Goes s t
   by_switch : {s mid t : Network} (event : SwitchEvent) (place : ℕ)
-      → SwitchHappened memory_service event place s mid → Goes mid t → Goes s t
+      → SwitchHappened lossless_service event place s mid → Goes mid t → Goes s t
 
 -- no frame is in flight, and the nodes are at rest
 abbrev pub flies_nothing : Flights → Bool
@@ -267,9 +267,9 @@ has_come_to_rest t =
 -- law of rest says that nothing is missing
 pub record RunLaw : Type 0 where
   pub may_be_planned : IsPlan plan
-  pub is_made : IsMade memory_service plan (network start)
+  pub is_made : IsMade lossless_service plan (network start)
   pub goes : Goes (network start) (network rested)
   pub rests : has_come_to_rest rested ≡ true
-  pub is_any : IsAny memory_service (network rested)
+  pub is_any : IsAny lossless_service (network rested)
   pub are_all_at_rest : AreAllAtRest (network rested).nodes
   pub misses_nothing : MissesNothing (network rested)
