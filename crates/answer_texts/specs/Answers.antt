@@ -134,6 +134,11 @@ refusal_text fault.NoSuchCall = codes "refused 3 NoSuchCall" ++ 10 ∷ []
 refusal_text (fault.Refused reason) = node_refusal_text reason
 refusal_text fault.OutOfMemory = codes "refused 5 OutOfMemory" ++ 10 ∷ []
 
+-- the line of a check
+abbrev pub check_line : (all_match : Bool) → List ℕ
+check_line true = codes "check ok" ++ 10 ∷ []
+check_line false = codes "check fail" ++ 10 ∷ []
+
 -- the text of an answer or a refusal
 abbrev pub answer_text : Names → (traces : Bool) → Event → Result Answer StepFault → List ℕ
 answer_text names traces e (Ok answer) =

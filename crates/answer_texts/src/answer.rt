@@ -5,7 +5,7 @@ ghost use Rattle.std.specs.List.{flat_map};
 ghost use Rattle.std.specs.Fmt.{WritesOnOk};
 ghost use Rattle.answer_texts.specs.Answers.{Names, quoted, shown, hex_digit, flags_of, taken_text};
 ghost use Rattle.answer_texts.specs.Answers.{name_of, outcome_text, refusal_text, node_refusal_text, way_of, spaced};
-ghost use Rattle.answer_texts.specs.Answers.{frame_text, note_text, happening};
+ghost use Rattle.answer_texts.specs.Answers.{frame_text, note_text, happening, check_line};
 
 use itoa::Buffer;
 use line_nodes::{HostNote, NodeFault, NoteKind};
@@ -247,6 +247,17 @@ pub fn refusal_text(fault: StepFault) -> &'static str
         StepFault::NoSuchCall => "refused 3 NoSuchCall\n",
         StepFault::Refused(fault) => node_refusal_text(fault),
         StepFault::OutOfMemory => "refused 5 OutOfMemory\n",
+    }
+}
+
+/// The line of a check: whether in each call what each end took matches what the other one sent.
+pub fn check_line(all_match: bool) -> &'static str
+    ensures { result.now ≡ check_line all_match }
+{
+    if all_match {
+        "check ok\n"
+    } else {
+        "check fail\n"
     }
 }
 

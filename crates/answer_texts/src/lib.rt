@@ -4,4 +4,4 @@
 
 mod answer;
 
-pub use answer::{frame_text, note_text, outcome_line, prints_nothing, refusal_text};
+pub use answer::{check_line, frame_text, note_text, outcome_line, prints_nothing, refusal_text};

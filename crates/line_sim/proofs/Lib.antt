@@ -8,3 +8,4 @@ mod Stepped
 mod Resting
 mod Empties
 mod Receipts
+mod Matched

@@ -1,7 +1,8 @@
 //! The network, and what it promises.
-ghost use Rattle.std.specs.Prelude.{◌≡◌, ◌≢◌, true, false, map, Err, IsOkUnless, IfOk, vec_len};
+ghost use Rattle.std.specs.Prelude.{◌≡◌, ◌≢◌, ◌↔◌, true, false, map, Err, IsTrue, IsOkUnless, IfOk, vec_len};
 ghost use Rattle.std.specs.Bool.{OnTrue};
 ghost use Rattle.call_records.specs.RecordView.{shown, pair_of};
+ghost use Rattle.epoch_matching.specs.Pairs.{AllMatch};
 ghost use Rattle.net_events.specs.Network.{all_elapsed};
 ghost use Rattle.switch_network_laws.specs.Promise.{NetworkPromise};
 ghost use Rattle.switch_network_laws.specs.Rest.{MissesNothing, IsDelivered};
@@ -16,6 +17,7 @@ ghost use Rattle.net_nodes.specs.Questions.{net_confirmed, net_rests};
 ghost use Rattle.line_sim.specs.Runs.{IsMadeBy};
 
 use call_records::{Pair, Record};
+use epoch_matching::all_match;
 use memory_line::{Direction, Line};
 use net_config::{Config, MakeFault};
 use net_events::{Answer, Event, Outcome, StepFault};
@@ -94,6 +96,14 @@ impl<L: Line> Net<L> {
         ensures { map pair_of result.now ≡ self.now.register.pairs }
     {
         self.nodes.pairs()
+    }
+
+    /// Whether in each call what each end took matches what the other one sent, both ways. On faithful lines it does.
+    pub fn all_match(&self) -> bool
+        ensures exact { IsTrue result ↔ AllMatch self.now.register.records self.now.register.pairs }
+        ensures faithful { L.service.faithful → result ≡ true }
+    {
+        all_match(self.records(), self.pairs())
     }
 
     /// Whether nothing is in flight, unacknowledged, owed, or waits to be sent, carried on or taken. What waits at a

@@ -78,6 +78,7 @@ command_text command_is.Key = codes "key"
 command_text command_is.Flow = codes "flow"
 command_text command_is.Tick = codes "tick"
 command_text command_is.Trace = codes "trace"
+command_text command_is.Check = codes "check"
 command_text (command_is.Event word) = event_text word
 
 abbrev Asked : List ℕ → RequestWord → Type 0
@@ -128,7 +129,8 @@ command_named word w h =
     choose Begins word (codes "key") command_is.Key w _ refl (
     choose Begins word (codes "flow") command_is.Flow w _ refl (
     choose Begins word (codes "tick") command_is.Tick w _ refl (
-    choose Begins word (codes "trace") command_is.Trace w _ refl (one_named word w)))) h
+    choose Begins word (codes "trace") command_is.Trace w _ refl (
+    choose Begins word (codes "check") command_is.Check w _ refl (one_named word w))))) h
 
 direction_found : (word : List ℕ) (direction : Direction) → direction_of word ≡ Some direction → DirectionForm word direction
 direction_found word direction h =
@@ -488,6 +490,10 @@ from_found names command_is.Trace left value h =
     let word = word_ends switch_of left made.0 made.1 in
     subst (λ (l : Left). CommandForm names (joined (codes "trace") l) value) (sym word.whole)
     (subst (λ v. CommandForm names (codes "trace" ␣ word.text) v) made.2 (switch_found names word.text made.0 word.form))
+from_found names command_is.Check left value h =
+    let at = ended_alone left CommandValue.Check value h in
+    subst (λ (l : Left). CommandForm names (joined (codes "check") l) value) (sym at.0)
+    (subst (λ v. CommandForm names (codes "check") v) at.1 command_form.check)
 from_found names (command_is.Event word) left value h =
     let made = map_some (λ e. CommandValue.Events (e ∷ [])) (event_of names word left) value h in
     let found = event_found names word left made.0 made.1 in

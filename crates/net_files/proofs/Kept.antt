@@ -7,7 +7,7 @@ use Rattle.std.proofs.lemmas.Option.{same_Some}
 use Rattle.net_events.specs.declared.event.Event.{Event as NetEvent}
 use Rattle.net_files.specs.declared.commands.Entry.{Entry}
 use Rattle.net_files.specs.declared.commands.Entry.TheVariants as entry
-use Rattle.net_files.specs.Commands.{CommandView, Keys, Event, Flow, Tick, Trace, read_commands, entry_of, events_of, octets_of, AreKept}
+use Rattle.net_files.specs.Commands.{CommandView, Keys, Event, Flow, Tick, Trace, Check, read_commands, entry_of, events_of, octets_of, AreKept}
 
 pub take_front : (xs ys : List ℕ) → take (length xs) (xs ++ ys) ≡ xs
 take_front [] ys = refl
@@ -29,6 +29,7 @@ read_back (Event e ∷ cs) = ap (λ xs. Event e ∷ xs) (read_back cs)
 read_back (Flow ∷ cs) = ap (λ xs. Flow ∷ xs) (read_back cs)
 read_back (Tick ticks ∷ cs) = ap (λ xs. Tick ticks ∷ xs) (read_back cs)
 read_back (Trace traces ∷ cs) = ap (λ xs. Trace traces ∷ xs) (read_back cs)
+read_back (Check ∷ cs) = ap (λ xs. Check ∷ xs) (read_back cs)
 
 -- the entries of commands with one more
 map_more : (cs : List CommandView) (c : CommandView) → map entry_of (cs ++ c ∷ []) ≡ map entry_of cs ++ entry_of c ∷ []
@@ -138,6 +139,13 @@ behind_tick ticks es vs os kept = record {
 pub behind_trace : (traces : Bool) (es : List Entry) (vs : List NetEvent) (os : List ℕ)
     → AreKept (entry.Trace traces ∷ es) vs os → AreKept es vs os
 behind_trace traces es vs os kept = record {
+  in_place = ap (λ (xs : List Entry). drop 1 xs) kept.in_place;
+  with_events = kept.with_events;
+  with_octets = kept.with_octets;
+}
+
+pub behind_check : (es : List Entry) (vs : List NetEvent) (os : List ℕ) → AreKept (entry.Check ∷ es) vs os → AreKept es vs os
+behind_check es vs os kept = record {
   in_place = ap (λ (xs : List Entry). drop 1 xs) kept.in_place;
   with_events = kept.with_events;
   with_octets = kept.with_octets;

@@ -261,3 +261,4 @@ command_only {names = names} (command_form.tick {number = number} {n = n} is) =
     begun names (codes "tick") number command_is.Tick _ refl refl (with_last number n CommandValue.Tick is)
 command_only command_form.trace_on = refl
 command_only command_form.trace_off = refl
+command_only command_form.check = refl

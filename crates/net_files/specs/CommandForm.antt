@@ -104,3 +104,4 @@ pub data CommandForm (names : List (List ℕ)) : List ℕ → CommandValue → T
   tick : {number : List ℕ} {n : ℕ} → IsNumber number n → CommandForm names (codes "tick" ␣ number) (command.Tick n)
   trace_on : CommandForm names (codes "trace" ␣ codes "on") (command.Trace true)
   trace_off : CommandForm names (codes "trace" ␣ codes "off") (command.Trace false)
+  check : CommandForm names (codes "check") command.Check

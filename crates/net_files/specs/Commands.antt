@@ -7,14 +7,15 @@ use Rattle.net_files.specs.declared.commands.Command.TheVariants as command
 use Rattle.net_files.specs.declared.commands.Entry.{Entry}
 use Rattle.net_files.specs.declared.commands.Entry.TheVariants as entry
 
--- what a line of a script asks for: keys at a terminal, an event, a flow of frames, time that goes by, and whether frames
--- are traced from there on
+-- what a line of a script asks for: keys at a terminal, an event, a flow of frames, time that goes by, whether frames
+-- are traced from there on, and a check of the calls
 pub data CommandView : Type 0 where
   Keys : (node terminal : ℕ) → (octets : List ℕ) → CommandView
   Event : NetEvent → CommandView
   Flow : CommandView
   Tick : (ticks : ℕ) → CommandView
   Trace : (traces : Bool) → CommandView
+  Check : CommandView
 
 abbrev pub view_of : Command → CommandView
 view_of (command.Keys keys) = Keys keys.node keys.terminal keys.octets.now
@@ -22,6 +23,7 @@ view_of (command.Event e) = Event e.now
 view_of command.Flow = Flow
 view_of (command.Tick ticks) = Tick ticks
 view_of (command.Trace traces) = Trace traces
+view_of command.Check = Check
 
 -- the commands of entries in order: keys take so many of the octets, and an event is the next of the events
 abbrev pub read_commands : List Entry → List NetEvent → (octets : List ℕ) → List CommandView
@@ -33,6 +35,7 @@ read_commands (entry.Event ∷ entries) (e ∷ events) octets = Event e ∷ read
 read_commands (entry.Flow ∷ entries) events octets = Flow ∷ read_commands entries events octets
 read_commands (entry.Tick ticks ∷ entries) events octets = Tick ticks ∷ read_commands entries events octets
 read_commands (entry.Trace traces ∷ entries) events octets = Trace traces ∷ read_commands entries events octets
+read_commands (entry.Check ∷ entries) events octets = Check ∷ read_commands entries events octets
 
 -- what is kept of a command: its entry, its event if it is one, and the octets of its keys
 abbrev pub entry_of : CommandView → Entry
@@ -41,6 +44,7 @@ entry_of (Event e) = entry.Event
 entry_of Flow = entry.Flow
 entry_of (Tick ticks) = entry.Tick ticks
 entry_of (Trace traces) = entry.Trace traces
+entry_of Check = entry.Check
 
 abbrev pub events_of : CommandView → List NetEvent
 events_of (Event e) = e ∷ []

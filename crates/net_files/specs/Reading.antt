@@ -56,6 +56,7 @@ command_word word =
     else if bytes_eq word (codes "flow") then Some command_is.Flow
     else if bytes_eq word (codes "tick") then Some command_is.Tick
     else if bytes_eq word (codes "trace") then Some command_is.Trace
+    else if bytes_eq word (codes "check") then Some command_is.Check
     else option_map command_is.Event (event_word word)
 
 -- `on` or `off`
@@ -190,6 +191,7 @@ command_from names command_is.Key left = keys_of names left
 command_from names command_is.Flow left = ended left command.Flow
 command_from names command_is.Tick left = option_map command.Tick (last (number_at left))
 command_from names command_is.Trace left = option_map command.Trace (last (named switch_of (next_word left)))
+command_from names command_is.Check left = ended left command.Check
 command_from names (command_is.Event word) left = option_map (λ e. command.Events (e ∷ [])) (event_of names word left)
 
 -- the whole line

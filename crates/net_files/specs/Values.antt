@@ -40,6 +40,7 @@ pub data CommandValue : Type 0 where
   Flow : CommandValue
   Tick : (ticks : ℕ) → CommandValue
   Trace : (traces : Bool) → CommandValue
+  Check : CommandValue
 
 -- ---- of the code's requests, events and commands
 
@@ -74,3 +75,4 @@ command_value (command.Event e) = Events (event_value e ∷ [])
 command_value command.Flow = Flow
 command_value (command.Tick ticks) = Tick ticks
 command_value (command.Trace traces) = Trace traces
+command_value command.Check = Check

@@ -1,7 +1,7 @@
 //! The commands of a script, in order.
 ghost use Rattle.std.specs.Prelude.{◌≡◌, ◌==◌, ◌++◌, [], ◌∷◌, OnOk, length, option_map};
 ghost use Rattle.net_files.specs.Commands.{Keys as KeysView, Event as EventView, Flow as FlowView};
-ghost use Rattle.net_files.specs.Commands.{Tick as TickView, Trace as TraceView};
+ghost use Rattle.net_files.specs.Commands.{Tick as TickView, Trace as TraceView, Check as CheckView};
 ghost use Rattle.net_files.specs.Answers.{GivesOrWants};
 ghost use Rattle.net_files.specs.Texts.{octets_of};
 
@@ -31,6 +31,8 @@ pub enum Command<'a> {
     Tick(u16),
     /// From here on each frame that is put is printed, or none is.
     Trace(bool),
+    /// It is printed whether in each call what each end took matches what the other one sent.
+    Check,
 }
 
 // What stands of a command in its place among the others: of keys how many octets they are, and of an event only that
@@ -46,6 +48,7 @@ enum Entry {
     Flow,
     Tick(u16),
     Trace(bool),
+    Check,
 }
 
 /// The commands of a script, in order. All events lie in one list, and so do the octets of all keys.
@@ -165,6 +168,15 @@ impl Commands {
         self.entries.push_reserved(Entry::Trace(traces));
         Ok(())
     }
+
+    /// Adds that the calls are checked.
+    pub(crate) fn add_check(&mut self) -> Result<(), AllocError>
+        ensures { OnOk result (self.new ≡ self.old ++ CheckView ∷ []) }
+    {
+        self.entries.reserve(1)?;
+        self.entries.push_reserved(Entry::Check);
+        Ok(())
+    }
 }
 
 /// Goes over the commands of a script.
@@ -220,6 +232,7 @@ impl<'a> Iterator for CommandsIter<'a> {
             Entry::Flow => Command::Flow,
             Entry::Tick(ticks) => Command::Tick(ticks),
             Entry::Trace(traces) => Command::Trace(traces),
+            Entry::Check => Command::Check,
         };
         self.entries = entries;
         Some(command)

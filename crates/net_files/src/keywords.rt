@@ -13,6 +13,7 @@ pub(crate) enum CommandWord {
     Flow,
     Tick,
     Trace,
+    Check,
     /// The name of one event.
     Event(EventWord),
 }
@@ -60,6 +61,8 @@ impl CommandWord {
             Some(CommandWord::Tick)
         } else if spells(word, b"trace") {
             Some(CommandWord::Trace)
+        } else if spells(word, b"check") {
+            Some(CommandWord::Check)
         } else {
             EventWord::named(word).map(CommandWord::Event)
         }

@@ -140,6 +140,10 @@ fn add_from(
             let traces = read_trace(words)?;
             Ok(commands.add_trace(traces)?)
         }
+        CommandWord::Check => {
+            words.end()?;
+            Ok(commands.add_check()?)
+        }
         CommandWord::Event(word) => {
             let event = read_event(alloc, word, words, names)?;
             Ok(commands.add_event(event)?)

@@ -1,6 +1,6 @@
 -- What a script makes of a network, and what is printed.
-use Rattle.std.specs.Prelude.{◌≡◌, ◌≢◌, ℕ, zero, suc, ◌+◌, ◌<◌, Bool, true, false, List, [], ◌∷◌, ◌++◌, map}
-use Rattle.std.specs.Prelude.{Some, None, Result, Ok, Err, codes}
+use Rattle.std.specs.Prelude.{◌≡◌, ◌≢◌, ◌↔◌, ℕ, zero, suc, ◌+◌, ◌<◌, Bool, true, false, List, [], ◌∷◌, ◌++◌, map}
+use Rattle.std.specs.Prelude.{Some, None, Result, Ok, Err, IsTrue, codes}
 use Rattle.memory_line.specs.declared.line.Direction.TheVariants.{FromDte, FromDce}
 use Rattle.memory_line.specs.Lines.{LineService}
 use Rattle.line_nodes.specs.declared.terminal.TerminalEvent.TheVariants.{Key}
@@ -14,11 +14,12 @@ use Rattle.net_events.specs.declared.event.StepFault.TheVariants.{OutOfMemory}
 use Rattle.line_sim.specs.Network.{Network, all_elapsed}
 use Rattle.line_sim.specs.Questions.{net_rests}
 use Rattle.line_sim.specs.Due.{net_due}
+use Rattle.line_sim.specs.Pairs.{AllMatch}
 use Rattle.line_sim.specs.Happening.{Happens}
 use Rattle.net_files.specs.Commands.{CommandView}
 use Rattle.net_files.specs.Commands.{CommandView as command}
 use Rattle.net_files.specs.declared.script.Script.{Script}
-use Rattle.answer_texts.specs.Answers.{Names, answer_text}
+use Rattle.answer_texts.specs.Answers.{Names, answer_text, check_line}
 use Rattle.net_player.specs.InTurn.{InTurn}
 
 -- whether a frame arrived
@@ -102,8 +103,13 @@ key_event node terminal octet = AtTerminal node terminal (Key octet)
 abbrev pub key_events : (node terminal : ℕ) → (octets : List ℕ) → List Event
 key_events node terminal octets = map (key_event node terminal) octets
 
--- what a command does: its keys are typed in order, its event happens, at most 100,000 frames flow, time goes by, or
--- frames are traced from here on, or not
+-- whether in each call what each end took matches what the other one sent; on faithful lines it does
+pub record IsChecked (L : LineService) (s : Network) (all_match : Bool) : Type 0 where
+  pub exact : IsTrue all_match ↔ AllMatch s.register.records s.register.pairs
+  pub faithful : L.faithful → all_match ≡ true
+
+-- what a command does: its keys are typed in order, its event happens, at most 100,000 frames flow, time goes by,
+-- frames are traced from here on, or not, or the calls are checked
 pub data DoesCommand (L : LineService) (names : Names) (lines : ℕ) : CommandView → Played → List ℕ → Played → Type 0 where
   keys : {node terminal : ℕ} {octets : List ℕ} {traces : Bool} {s t : Network} {text : List ℕ}
       → InTurn Event Network (TellsEvent L names traces) (key_events node terminal octets) s text t
@@ -124,6 +130,9 @@ pub data DoesCommand (L : LineService) (names : Names) (lines : ℕ) : CommandVi
   trace : {before after : Bool} {s : Network}
       → DoesCommand L names lines (command.Trace after) (record { net = s; traces = before }) []
       (record { net = s; traces = after })
+  check : {all_match traces : Bool} {s : Network} → IsChecked L s all_match
+      → DoesCommand L names lines command.Check (record { net = s; traces = traces }) (check_line all_match)
+      (record { net = s; traces = traces })
 
 -- the last line
 abbrev pub end_line : (at_rest : Bool) → List ℕ

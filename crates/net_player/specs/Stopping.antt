@@ -14,10 +14,10 @@ use Rattle.net_files.specs.declared.fault.ProgFault.TheVariants.{OutOfMemory, Wr
 use Rattle.net_files.specs.Commands.{CommandView}
 use Rattle.net_files.specs.Commands.{CommandView as command}
 use Rattle.net_files.specs.declared.script.Script.{Script}
-use Rattle.answer_texts.specs.Answers.{Names, answer_text}
+use Rattle.answer_texts.specs.Answers.{Names, answer_text, check_line}
 use Rattle.net_player.specs.InTurn.{InTurn, StopsInTurn}
 use Rattle.net_player.specs.Playing.{key_events, TellsEvent, Flowing, Delivers, deliveries_from, Passes, Played}
-use Rattle.net_player.specs.Playing.{DoesCommand, end_line}
+use Rattle.net_player.specs.Playing.{IsChecked, DoesCommand, end_line}
 
 -- a script stops for want of memory, or where its text cannot be written
 abbrev pub IsPlayFault : ProgFault → Type 0
@@ -69,7 +69,8 @@ pub data ExpiryStops (L : LineService) (names : Names) (traces : Bool) (fault : 
       → net_due s ≡ Some expiry → TellsEvent L names traces expiry s first mid
       → ExpiryStops L names traces fault mid part → ExpiryStops L names traces fault s (first ++ part)
 
--- a command that stops: at one of its keys, at its event, in its flow, or at what is due after its ticks
+-- a command that stops: at one of its keys, at its event, in its flow, at what is due after its ticks, or at the line of
+-- a check
 pub data CommandStops (L : LineService) (names : Names) (lines : ℕ) (fault : ProgFault)
     : CommandView → Played → List ℕ → Type 0 where
   in_keys : {node terminal : ℕ} {octets : List ℕ} {s : Played} {part : List ℕ}
@@ -85,6 +86,9 @@ pub data CommandStops (L : LineService) (names : Names) (lines : ℕ) (fault : P
   in_ticks : {ticks : ℕ} {s : Played} {part : List ℕ}
       → ExpiryStops L names s.traces fault (all_elapsed ticks s.net) part
       → CommandStops L names lines fault (command.Tick ticks) s part
+  in_check : {all_match : Bool} {s : Played} {part : List ℕ}
+      → IsChecked L s.net all_match → fault ≡ Write → IsPartOf (check_line all_match) fault part
+      → CommandStops L names lines fault command.Check s part
 
 -- the play of a script that stops: in one of its commands, or at the last line
 pub data PlayStops (L : LineService) (script : Script) (fault : ProgFault) (s : Network) : List ℕ → Type 0 where

@@ -20,7 +20,7 @@ ghost use Rattle.net_player.specs.Stopping.{IsPlayFault, IsPartOf, StopsAt, Deli
 ghost use Rattle.net_player.specs.Stopping.{ExpiryStops, CommandStops, PlayStops};
 
 use crate::output::{write, write_octets};
-use answer_texts::{frame_text, note_text, outcome_line, prints_nothing, refusal_text};
+use answer_texts::{check_line, frame_text, note_text, outcome_line, prints_nothing, refusal_text};
 use line_nodes::{HostNote, TerminalEvent};
 use line_sim::{Answer, Direction, Event, Line, Net, Outcome, Put, StepFault};
 use net_files::{Command, Keys, ProgFault, Script};
@@ -111,6 +111,10 @@ impl Player<'_> {
                 Ok(self.traces)
             }
             Command::Trace(on) => Ok(*on),
+            Command::Check => {
+                write(out, check_line(net.all_match()))?;
+                Ok(self.traces)
+            }
         }
     }
 

@@ -4,6 +4,7 @@ ghost use Rattle.std.specs.Prelude.{◌≤◌};
 use crate::lines::{STANDING, incoming};
 use crate::nodes::is_packet;
 use call_records::{Book, EditStep, Epoch, Interrupt, PacketsIter, Pair, Passed, Record};
+use epoch_matching::{all_match, matches};
 use frame_codec::FrameBuf;
 use link_timers::Role;
 use packet_codec::Address;
@@ -85,13 +86,17 @@ enum Step<'a> {
     Present(Role, u8, Option<usize>),
     // what the record of a number shows
     Shows(usize, Shown<'a>),
+    // whether what the DTE's record has as sent, if it had been taken, matches what the DCE's record has as sent
+    Matches(bool),
+    // whether in each pair what was taken matches what was sent
+    AllMatch(bool),
 }
 
 use Role::{Dce, Dte};
 use Shown::{Ended, IsClosed, NoEpoch, Open, Sent, SentCount, TakenCount, Took};
 use Step::{
-    Answer, Close, CloseAll, Closed, Connected, Cover, Covered, Incoming, Pairs, Place, Present,
-    Records, Release, Renew, Reset, Send, SendInterrupt, SendOn, Shows,
+    AllMatch, Answer, Close, CloseAll, Closed, Connected, Cover, Covered, Incoming, Matches, Pairs,
+    Place, Present, Records, Release, Renew, Reset, Send, SendInterrupt, SendOn, Shows,
 };
 
 // A rule, and steps by which it is seen at a new book, with a call that stands on channel 1 or without one.
@@ -135,7 +140,17 @@ fn fits(book: &mut Book, step: Step<'_>) -> bool {
         Pairs(pairs) => book.pairs() == pairs,
         Present(role, channel, number) => book.present(role, channel) == number,
         Shows(number, shown) => record_shows(book, number, shown),
+        Matches(matching) => sent_matches(book) == Some(matching),
+        AllMatch(matching) => all_match(book.records(), book.pairs()) == matching,
         _ => writes(book, step),
+    }
+}
+
+// Whether what the first record has as sent matches what the second one has.
+fn sent_matches(book: &Book) -> Option<bool> {
+    match book.records() {
+        [dte, dce, ..] => Some(matches(&dte.sent, &dce.sent)),
+        _ => None,
     }
 }
 
@@ -283,6 +298,112 @@ const FIRST_PAIR: &[Pair] = &[Pair {
     caller: 0,
     callee: 1,
 }];
+
+// What matches, and what does not.
+const MATCHES: &[Example] = &[
+    Example {
+        rule: "a taken epoch begins a later sent one",
+        standing: true,
+        steps: &[
+            Send(Dte, b"A"),
+            Send(Dce, b"B"),
+            Matches(false),
+            Renew(Dce),
+            Send(Dce, b"AC"),
+            Matches(true),
+        ],
+    },
+    Example {
+        rule: "two taken epochs do not come of one sent epoch",
+        standing: true,
+        steps: &[
+            Send(Dte, b"A"),
+            Send(Dce, b"AA"),
+            Matches(true),
+            Renew(Dte),
+            Send(Dte, b"A"),
+            Matches(false),
+            Renew(Dce),
+            Send(Dce, b"A"),
+            Matches(true),
+        ],
+    },
+    Example {
+        rule: "two taken epochs do not come of two sent ones in the other order",
+        standing: true,
+        steps: &[
+            Send(Dte, b"A"),
+            Renew(Dte),
+            Send(Dte, b"B"),
+            Send(Dce, b"B"),
+            Renew(Dce),
+            Send(Dce, b"A"),
+            Matches(false),
+            Renew(Dce),
+            Send(Dce, b"BB"),
+            Matches(true),
+        ],
+    },
+    Example {
+        rule: "an empty epoch need not come of any",
+        standing: true,
+        steps: &[
+            Matches(true),
+            Renew(Dte),
+            Renew(Dte),
+            Matches(true),
+            Send(Dte, b"A"),
+            Matches(false),
+            AllMatch(true),
+        ],
+    },
+    Example {
+        rule: "where a packet ends does not show, and the end of a message does",
+        standing: true,
+        steps: &[
+            Send(Dte, b"A"),
+            Send(Dte, b""),
+            Send(Dte, b"BC"),
+            Send(Dce, b"AB"),
+            Matches(false),
+            Send(Dce, b"C"),
+            Matches(true),
+            SendOn(Dte, 1, b""),
+            Send(Dce, b"D"),
+            Matches(false),
+        ],
+    },
+    Example {
+        rule: "a packet without octets and with M = 1 has no item",
+        standing: true,
+        steps: &[
+            Send(Dte, b""),
+            Renew(Dte),
+            Send(Dte, b"A"),
+            Send(Dce, b"A"),
+            Matches(true),
+        ],
+    },
+    Example {
+        rule: "interrupts count apart from packets",
+        standing: true,
+        steps: &[
+            SendInterrupt(Dte, INTERRUPT),
+            Matches(false),
+            Send(Dce, b"A"),
+            SendInterrupt(Dce, INTERRUPT),
+            Matches(true),
+            SendInterrupt(Dte, INTERRUPT),
+            SendInterrupt(Dce, &[8]),
+            Matches(false),
+        ],
+    },
+];
+
+#[test]
+fn taken_matches_sent(rt: HostRuntime) {
+    play(&rt, rt.alloc(), MATCHES);
+}
 
 // Calls that are placed, that cross and that stand.
 const CALLS: &[Example] = &[

@@ -1,7 +1,8 @@
-use Rattle.net_player.specs.Playing.DoesCommand.{keys, event, flow, tick, trace}
+use Rattle.net_player.specs.Playing.DoesCommand.{keys, event, flow, tick, trace, check}
 use Rattle.std.proofs.lemmas.Result.{err_from_is_err_and}
-use Rattle.net_player.specs.Stopping.CommandStops.{in_keys, at_event, in_flow, in_ticks}
+use Rattle.net_player.specs.Stopping.CommandStops.{in_keys, at_event, in_flow, in_ticks, in_check}
 use Rattle.net_player.proofs.Turns.{writes_as, writes_nothing}
+use Rattle.net_player.proofs.Parts.{writes_known}
 use Rattle.net_player.proofs.player.Player.play_command.Goals as goal
 
 pub returns-in_ok-play_keys-in-Keys-clause-writes : goal.returns-in_ok-play_keys-in-Keys-clause-writes
@@ -40,3 +41,16 @@ pub returns-in_err-tick-in-Tick-clause-stops : goal.returns-in_err-tick-in-Tick-
 returns-in_err-tick-in-Tick-clause-stops g c =
     let p = err_from_is_err_and c.from_residual-in_err-tick-in-Tick.result c.from_residual-in_err-tick-in-Tick.ensures.1 in
     rw (p.1, p.2, c.in-Tick.is) (writes_as (λ part stops. in_ticks stops) c.in_err-tick-in-Tick.ensures.stops)
+
+pub returns-in_ok-write-in-Check-clause-writes : goal.returns-in_ok-write-in-Check-clause-writes
+returns-in_ok-write-in-Check-clause-writes g c =
+    rw c.in-Check.is (writes_known _
+    (rw c.check_line-in-Check.ensures (check (record { exact = c.all_match-in-Check.ensures.exact; faithful = c.all_match-in-Check.ensures.faithful })))
+    c.in_ok-write-in-Check.ensures.writes)
+
+pub returns-in_err-write-in-Check-clause-stops : goal.returns-in_err-write-in-Check-clause-stops
+returns-in_err-write-in-Check-clause-stops g c =
+    let p = err_from_is_err_and c.from_residual-in_err-write-in-Check.result c.from_residual-in_err-write-in-Check.ensures.1 in
+    let checked = record { exact = c.all_match-in-Check.ensures.exact; faithful = c.all_match-in-Check.ensures.faithful } in
+    rw (p.1, p.2, c.in-Check.is) (writes_as (λ part told. in_check checked c.in_err-write-in-Check.ensures.fault told)
+    (rw c.check_line-in-Check.ensures at c.in_err-write-in-Check.ensures.refused))
