@@ -5,4 +5,5 @@ mod files;
 mod networks;
 mod output;
 mod programs;
+mod sockets;
 mod switched;
