@@ -7,3 +7,4 @@ mod output;
 mod programs;
 mod sockets;
 mod switched;
+mod writers;
