@@ -49,9 +49,10 @@ impl From<ClapError> for WordsFault {
     ghost use Rattle.std.specs.Prelude.{◌≡◌, ◌≢◌};
     ghost use Rattle.clap.specs.Words.{kind_of};
     ghost use Rattle.clap.specs.declared.error.kind.ErrorKind.TheVariants.{OutOfMemory as NoMemory};
-    ghost use Rattle.command_words.specs.declared.invocation.WordsFault.TheVariants.{BadWords};
+    ghost use Rattle.command_words.specs.declared.invocation.WordsFault.TheVariants.{BadWords, OutOfMemory};
 
-    ghost from_gives = { λ error fault. fault ≡ BadWords → kind_of error ≢ NoMemory };
+    ghost from_gives = { λ error fault. (fault ≡ BadWords → kind_of error ≢ NoMemory)
+        × (fault ≡ OutOfMemory → kind_of error ≡ NoMemory) };
 
     fn from(error: ClapError) -> Self {
         match error.kind() {

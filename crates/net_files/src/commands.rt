@@ -89,13 +89,6 @@ impl Commands {
         self.entries.len()
     }
 
-    /// Whether there is none.
-    pub fn is_empty(&self) -> bool
-        ensures { result ≡ (length self.now == 0) }
-    {
-        self.entries.is_empty()
-    }
-
     /// The commands, one after the other.
     pub fn iter(&self) -> CommandsIter<'_>
         ensures { result ≡ self.now }

@@ -1,5 +1,4 @@
 //! Why the program, or one of its parts, gives up.
-use net_config::MakeFault;
 use std::alloc::{AllocError, AllocFailed};
 use thiserror::Error;
 
@@ -48,14 +47,5 @@ impl<T: Drop> From<AllocFailed<T>> for ProgFault {
 
     fn from(_: AllocFailed<T>) -> Self {
         ProgFault::OutOfMemory
-    }
-}
-
-impl From<MakeFault> for ProgFault {
-    fn from(fault: MakeFault) -> Self {
-        match fault {
-            MakeFault::BadConfig => ProgFault::BadConfig,
-            MakeFault::OutOfMemory => ProgFault::OutOfMemory,
-        }
     }
 }

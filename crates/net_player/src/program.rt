@@ -327,7 +327,8 @@ fn read_all<R: Read>(alloc: Global, input: &mut R) -> Result<Vec<u8>, ProgFault>
 
 /// Why nothing is read of a file or of the input.
 fn reading_fault(error: &io::Error) -> ProgFault
-    ensures { IsReadFault result }
+    ensures memory { error_kind error.now ≡ ErrorKind.OutOfMemory → result ≡ ProgFault.OutOfMemory }
+    ensures others { error_kind error.now ≢ ErrorKind.OutOfMemory → result ≡ ProgFault.File }
 {
     match error.kind() {
         ErrorKind::OutOfMemory => ProgFault::OutOfMemory,

@@ -17,7 +17,7 @@ impl Datagrams for Partner {
         Err(io::Error::from(io::ErrorKind::ConnectionRefused))
     }
 
-    fn receive(&mut self, octets: &mut [u8]) -> io::Result<usize> {
+    fn recv(&mut self, octets: &mut [u8]) -> io::Result<usize> {
         match self.octets.take() {
             Some(count) => {
                 let count = count.min(octets.len());

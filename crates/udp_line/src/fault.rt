@@ -37,6 +37,14 @@ impl<T: Drop> From<AllocFailed<T>> for SocketFault {
 }
 
 impl From<io::Error> for SocketFault {
+    ghost use Rattle.std.specs.Prelude.{◌≡◌, ◌≢◌};
+    ghost use Rattle.std.specs.IoError.{error_kind};
+    ghost use Rattle.std.specs.declared.io.ErrorKind.TheVariants as kind_is;
+    ghost use Rattle.udp_line.specs.declared.fault.SocketFault.TheVariants.{OutOfMemory, Socket};
+
+    ghost from_gives = { λ error fault. (error_kind error ≡ kind_is.OutOfMemory → fault ≡ OutOfMemory)
+        × (error_kind error ≢ kind_is.OutOfMemory → fault ≡ Socket) };
+
     fn from(error: io::Error) -> Self {
         match error.kind() {
             io::ErrorKind::OutOfMemory => SocketFault::OutOfMemory,

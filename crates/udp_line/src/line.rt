@@ -1,22 +1,24 @@
 //! The line.
-ghost use Rattle.std.specs.Prelude.{◌≡◌, ◌≤◌, ◌<◌, false, length, IfSome, IfOk, IfErr};
+ghost use Rattle.std.specs.Prelude.{◌≡◌, ◌≤◌, false, length, IfOk, IfErr};
 ghost use Rattle.std.specs.Bool.{OnFalse};
 ghost use Rattle.memory_line.specs.Lines.{no_flights};
-ghost use Rattle.udp_line.specs.Sockets.{socket_service};
+ghost use Rattle.udp_line.specs.Sockets.{socket_service, sender, receiver, Sends, Puts, Takes};
 
 use crate::datagrams::Datagrams;
 use crate::fault::SocketFault;
 use frame_codec::{FrameBuf, MAX_FRAME};
 use memory_line::{Direction, Line};
 use std::alloc::Global;
+use std::io::ErrorKind;
 use std::net::{Ipv4Addr, Net, UdpSocket};
 
-/// How many datagrams of a direction are received at most where the line is emptied.
+/// How many datagrams of a direction are received at most when it is emptied.
 const DATAGRAMS_EMPTIED: u32 = 1_024;
 
 /// A line over two partners, one at each end, that send each other a datagram for each frame. Nothing is known of what
-/// arrives: a datagram that does not go whole, and one that does not come or has no octets or more than a frame, is a
-/// frame that the line lost.
+/// arrives. A datagram that does not go whole is a frame that the line lost, and so is one that does not come, has no
+/// octets or has more than a frame. With a datagram that went cut, the line loses what else waits in its direction, so
+/// that no part of a frame is taken as a frame.
 #[derive(Drop)]
 pub struct UdpLine<D: Datagrams> {
     dte: D,
@@ -55,23 +57,51 @@ impl<D: Datagrams> UdpLine<D> {
         Ok(UdpLine { dte, dce, received })
     }
 
-    /// The partner that sends in this direction.
-    fn sender(&mut self, direction: Direction) -> &mut D {
-        match direction {
-            Direction::FromDte => &mut self.dte,
-            Direction::FromDce => &mut self.dce,
-        }
-    }
-
-    /// Receives a datagram of a direction, and gives how many octets it has.
-    fn receive(&mut self, direction: Direction) -> Option<usize>
-        ensures { IfSome result (λ count. count ≤ length self.new.received.items) }
+    /// Loses the datagrams that wait in a direction.
+    fn lose_waiting(&mut self, direction: Direction)
+        ensures { sender direction self.new.dte self.new.dce ≡ sender direction self.old.dte self.old.dce }
     {
         let received = self.received.as_mut_slice();
         match direction {
-            Direction::FromDte => self.dce.receive(received).ok(),
-            Direction::FromDce => self.dte.receive(received).ok(),
+            Direction::FromDte => receive_all(&mut self.dce, received),
+            Direction::FromDce => receive_all(&mut self.dte, received),
         }
+    }
+}
+
+/// Sends a datagram of these octets by a partner, and says whether it went cut.
+fn goes_cut<D: Datagrams>(partner: &mut D, octets: &[u8]) -> bool
+    ensures { Sends D D.sends octets.now partner.old result partner.new }
+{
+    match partner.send(octets) {
+        Ok(count) => count != octets.len(),
+        Err(_) => false,
+    }
+}
+
+/// Receives datagrams until none waits.
+fn receive_all<D: Datagrams>(partner: &mut D, place: &mut [u8]) {
+    for _ in 0..DATAGRAMS_EMPTIED {
+        match partner.recv(place) {
+            Err(error) if error.kind() == ErrorKind::WouldBlock => return,
+            _ => {}
+        }
+    }
+}
+
+/// Takes a partner's next datagram if it is a frame; else `frame` stays.
+fn take_frame<D: Datagrams>(partner: &mut D, place: &mut [u8], frame: &mut FrameBuf) -> bool
+    ensures same { OnFalse result (frame.new ≡ frame.old) }
+    ensures takes { Takes D D.receives partner.old result frame.new partner.new }
+{
+    match partner.recv(place) {
+        Ok(count) if count == 0 || count > MAX_FRAME => false,
+        Ok(count) => {
+            frame.clear();
+            frame.extend(&place[..count]);
+            true
+        }
+        Err(_) => false,
     }
 }
 
@@ -80,32 +110,37 @@ impl<D: Datagrams> Line for UdpLine<D> {
 
     ghost service = { socket_service };
 
-    fn put(&mut self, direction: Direction, frame: &FrameBuf) {
-        let _ = self.sender(direction).send(frame.as_slice());
+    fn put(&mut self, direction: Direction, frame: &FrameBuf)
+        ensures { Puts D D.sends frame.now
+            (sender direction self.old.dte self.old.dce) (sender direction self.new.dte self.new.dce)
+            (receiver direction self.old.dte self.old.dce) (receiver direction self.new.dte self.new.dce) }
+    {
+        let octets = frame.as_slice();
+        let is_cut = match direction {
+            Direction::FromDte => goes_cut(&mut self.dte, octets),
+            Direction::FromDce => goes_cut(&mut self.dce, octets),
+        };
+        if is_cut {
+            self.lose_waiting(direction);
+        }
     }
 
     fn take(&mut self, direction: Direction, frame: &mut FrameBuf) -> bool
         ensures same { OnFalse result (frame.new ≡ frame.old) }
+        ensures takes { Takes D D.receives (receiver direction self.old.dte self.old.dce) result frame.new
+            (receiver direction self.new.dte self.new.dce) }
+        ensures others { sender direction self.new.dte self.new.dce ≡ sender direction self.old.dte self.old.dce }
     {
-        let Some(count) = self.receive(direction) else {
-            return false;
-        };
-        if count == 0 || count > MAX_FRAME {
-            return false;
+        let place = self.received.as_mut_slice();
+        match direction {
+            Direction::FromDte => take_frame(&mut self.dce, place, frame),
+            Direction::FromDce => take_frame(&mut self.dte, place, frame),
         }
-        frame.clear();
-        frame.extend(&self.received.as_slice()[..count]);
-        true
     }
 
     fn empty(&mut self) {
-        for direction in [Direction::FromDte, Direction::FromDce] {
-            for _ in 0..DATAGRAMS_EMPTIED {
-                if self.receive(direction).is_none() {
-                    break;
-                }
-            }
-        }
+        self.lose_waiting(Direction::FromDte);
+        self.lose_waiting(Direction::FromDce);
     }
 
     fn in_flight(&self, _direction: Direction) -> bool

@@ -6,4 +6,6 @@ mod networks;
 mod output;
 mod programs;
 mod restarts;
+mod sockets;
 mod switched;
+mod writers;

@@ -37,7 +37,7 @@ impl Datagrams for Partner {
         Err(io::Error::from(io::ErrorKind::ConnectionRefused))
     }
 
-    fn receive(&mut self, octets: &mut [u8]) -> io::Result<usize> {
+    fn recv(&mut self, octets: &mut [u8]) -> io::Result<usize> {
         if self.before > 0 {
             self.before -= 1;
             return Err(io::Error::from(io::ErrorKind::WouldBlock));

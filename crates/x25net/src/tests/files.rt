@@ -90,7 +90,7 @@ fn files_are_played_over_memory_and_over_sockets(rt: HostRuntime) {
 }
 
 /// Words, with the files of this test, and what is told of the first fault.
-const FAULTS: [(&str, &[u8]); 7] = [
+const FAULTS: [(&str, &[u8]); 11] = [
     ("sim --net absent --script bad_script", b"fault 7\n"),
     ("sim --net bad_net --script absent", b"fault 1\n"),
     ("sim --net good_net --script absent", b"fault 7\n"),
@@ -107,6 +107,10 @@ const FAULTS: [(&str, &[u8]); 7] = [
         b"fault 2 line 2\n",
     ),
     ("sim --net unmade_net --script good_script", b"fault 3\n"),
+    ("run --net unmade_net --script good_script", b"fault 3\n"),
+    ("sim --net . --script good_script", b"fault 7\n"),
+    ("sim --net good_net --script .", b"fault 7\n"),
+    ("sim --net bad_net --script .", b"fault 1\n"),
 ];
 
 #[test]

@@ -53,7 +53,7 @@ returns-in_err-matches-clause-bad c =
     λ is_bad asked. elim asked as (λ a. Asks (map (λ word. string_bytes word) c.args.words.now) a → ⊥) [
       | None ↦ some_words _ _ (sym c.is_empty.ensures ∙ c.if-is_empty.false)
       | Some invocation ↦
-          let memory : kind_of c.in_err-matches.field-0.0 ≢ OutOfMemory = p.2 cc in
+          let memory : kind_of c.in_err-matches.field-0.0 ≢ OutOfMemory = p.2.0 cc in
           has_fault _ _ c.in_err-matches.field-0.0 invocation c.in_ok-program.ensures c.in_err-matches.ensures.kinds memory
     ]
 
