@@ -1,14 +1,12 @@
 //! What the network writes into the book of a line: what a user asked, and what a node noted.
-ghost use Rattle.std.specs.Prelude.{◌≡◌, ◌≤◌, [], Some, length, vec_capacity};
-ghost use Rattle.packet_layer.specs.TakenView.{taken_of};
+ghost use Rattle.std.specs.Prelude.{◌≡◌, ◌≤◌, [], length, vec_capacity};
 ghost use Rattle.packet_host.specs.Saying.{cut};
-ghost use Rattle.call_records.specs.Book.{takes, all_told};
+ghost use Rattle.call_records.specs.Book.{all_told};
 ghost use Rattle.call_records.specs.Room.{opening_notes};
 ghost use Rattle.line_nodes.specs.Node.{all_read};
 ghost use Rattle.line_nodes.specs.NodeView.{node_of};
 ghost use Rattle.line_nodes.specs.Notes.{host_notes};
 ghost use Rattle.line_nodes.specs.Turn.{all_sent, told};
-ghost use Rattle.line_nodes.specs.HostTurns.{let_go};
 ghost use Rattle.line_nodes.specs.Writing.{request_written, IsShort, IsRoomFor};
 
 use crate::node::Node;
@@ -19,7 +17,6 @@ use link_timers::Role;
 use packet_codec::MAX_USER_DATA;
 use packet_end::MOST_NOTES;
 use packet_host::{Host, HostRequest, full_packets};
-use packet_layer::Taken;
 
 /// Writes what a host was asked on a channel and did not refuse. The book has room for it: a message has eight packets
 /// at most.
@@ -46,18 +43,6 @@ pub fn write_request(book: &mut Book, role: Role, channel: u8, request: &HostReq
         HostRequest::Interrupt { octets } => book.interrupt(role, channel, octets.as_slice()),
         HostRequest::Reset => book.renew(role, channel),
         HostRequest::Stop | HostRequest::Go => {}
-    }
-}
-
-/// Writes what a host took on a channel: a packet is released at once.
-pub fn write_taken(book: &mut Book, role: Role, channel: u8, taken: &Taken)
-    requires { 1 ≤ book.old.room }
-    ensures { book.new.book ≡ let_go (taken_of taken.now) role channel
-        (takes role channel (Some (taken_of taken.now)) book.old.book) }
-{
-    book.take(role, channel, taken);
-    if let Taken::Data(_) = taken {
-        book.release(role, channel, 1);
     }
 }
 

@@ -21,7 +21,7 @@ use Rattle.net_turns.specs.Sends.{all_puts}
 use Rattle.net_turns.proofs.SwitchSending.{switched_lines}
 use Rattle.switch_laws.specs.Turn.{AreOctets}
 use Rattle.net_nodes.specs.Places.{EndStands, IsStanding, own_line_in, own_line_at, is_switch, is_switch_at}
-use Rattle.placed_nodes.specs.Node.{is_line}
+use Rattle.net_plans.specs.Plan.{is_line}
 use Rattle.net_nodes.specs.Faults.{step_fault, where_there_is, stands_at}
 use Rattle.net_nodes.specs.Happening.{Happens}
 use Rattle.net_events.specs.declared.event.Event.TheVariants.{Deliver, Expire, Restart}
