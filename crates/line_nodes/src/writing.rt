@@ -9,9 +9,9 @@ ghost use Rattle.line_nodes.specs.Notes.{host_notes};
 ghost use Rattle.line_nodes.specs.Turn.{all_sent, told};
 ghost use Rattle.line_nodes.specs.Writing.{request_written, IsShort, IsRoomFor};
 
+use crate::attachment::Attachment;
 use crate::node::Node;
 use crate::note::{HostNote, list_note};
-use crate::place::Place;
 use call_records::Book;
 use link_timers::Role;
 use packet_codec::MAX_USER_DATA;
@@ -49,7 +49,7 @@ pub fn write_request(book: &mut Book, role: Role, channel: u8, request: &HostReq
 /// Reads the notes of an event at a node, and writes them. `notes` lists those that the user of a host is told, in
 /// order; it is empty before, with [`MOST_NOTES`] places.
 #[inline(always)]
-pub fn write_notes(node: &mut Node, at: Place, book: &mut Book, notes: &mut Vec<HostNote>)
+pub fn write_notes(node: &mut Node, at: Attachment, book: &mut Book, notes: &mut Vec<HostNote>)
     requires room { IsRoomFor (node_of node.old) book.old.room book.old.pairs }
     requires empty { notes.old.items ≡ [] }
     requires capacity { MOST_NOTES ≤ vec_capacity notes.old }
@@ -91,7 +91,7 @@ fn write_message(
 
 // Reads the notes of a host, writes them, and lists those that its user is told.
 #[inline(never)]
-fn write_host_notes(host: &mut Host, at: Place, book: &mut Book, notes: &mut Vec<HostNote>)
+fn write_host_notes(host: &mut Host, at: Attachment, book: &mut Book, notes: &mut Vec<HostNote>)
     requires opening { opening_notes host.old.notes ≤ 1 }
     requires room { opening_notes host.old.notes ≤ book.old.room }
     requires empty { notes.old.items ≡ [] }

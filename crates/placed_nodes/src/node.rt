@@ -6,7 +6,7 @@ ghost use Rattle.net_events.specs.AtSwitch.{network_line};
 ghost use Rattle.net_events.specs.NextDue.{due_at, due_on_lines, due_from};
 ghost use Rattle.net_events.specs.Network.{elapsed_node};
 ghost use Rattle.net_events.specs.Network as network;
-ghost use Rattle.placed_nodes.specs.Node.{is_host, user_of, own_line, terminals_there, rests, confirmed_by};
+ghost use Rattle.placed_nodes.specs.Node.{user_of, own_line, rests, confirmed_by};
 
 use line_nodes::Node;
 use link_timers::TimerId;
@@ -111,28 +111,6 @@ impl NetNode {
         match &self.kind {
             NodeKind::User { .. } => 0,
             NodeKind::Switching { switch, .. } => switch.lines(),
-        }
-    }
-
-    pub fn is_host(&self) -> bool
-        ensures { result ≡ is_host (user_of self.now) }
-    {
-        match &self.kind {
-            NodeKind::User { node, .. } => !node.is_pad(),
-            NodeKind::Switching { .. } => false,
-        }
-    }
-
-    /// How many terminals a PAD has.
-    pub fn terminals(&self) -> Option<u8>
-        ensures { result ≡ terminals_there (user_of self.now) }
-    {
-        match &self.kind {
-            NodeKind::User { node, .. } => match node {
-                Node::Pad(pad) => Some(pad.terminals()),
-                Node::Host(_) => None,
-            },
-            NodeKind::Switching { .. } => None,
         }
     }
 
