@@ -436,8 +436,8 @@ impl Book {
     }
 }
 
-// The calling address that a call gives, if it gives one.
-fn calling_of(call: &CallData<'_>) -> Option<Address>
+/// The calling address that a call gives, if it gives one.
+pub fn calling_of(call: &CallData<'_>) -> Option<Address>
     ensures { result ≡ address_of (digits_or_none call.now.calling) }
 {
     match &call.calling {

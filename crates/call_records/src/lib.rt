@@ -10,7 +10,7 @@ mod record;
 mod register;
 mod spare;
 
-pub use book::Book;
+pub use book::{Book, calling_of};
 pub use interrupt::Interrupt;
 pub use packets::{Packet, PacketsIter};
 pub use passed::{Epoch, Passed};

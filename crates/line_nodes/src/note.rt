@@ -1,10 +1,10 @@
 //! What a host is told of its calls.
 ghost use Rattle.std.specs.Prelude.{◌≡◌, ◌<◌, ◌++◌, vec_len, vec_capacity};
 ghost use Rattle.packet_layer.specs.NoteView.{note_of};
-ghost use Rattle.call_records.specs.Book.{address_of};
 ghost use Rattle.line_nodes.specs.Notes.{host_note};
 
-use packet_codec::{Address, CallBuf};
+use call_records::calling_of;
+use packet_codec::Address;
 use packet_layer::LayerNote;
 
 /// A change of a call that the host's user did not make.
@@ -39,7 +39,7 @@ pub(crate) fn list_note(node: usize, note: &LayerNote, notes: &mut Vec<HostNote>
 {
     let (channel, kind) = match *note {
         LayerNote::Incoming(channel, ref call) => {
-            let calling = calling_of(call);
+            let calling = calling_of(&call.data());
             (channel, NoteKind::Incoming { calling })
         }
         LayerNote::Connected(channel) => (channel, NoteKind::Connected),
@@ -62,14 +62,4 @@ pub(crate) fn list_note(node: usize, note: &LayerNote, notes: &mut Vec<HostNote>
         channel,
         kind,
     });
-}
-
-// The address that a call gives as the calling one, if it gives one.
-fn calling_of(call: &CallBuf) -> Option<Address>
-    ensures { result ≡ address_of call.now.calling }
-{
-    match &call.data().calling {
-        Some(address) => Some(Address::new(address.digits())),
-        None => None,
-    }
 }

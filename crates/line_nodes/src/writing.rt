@@ -1,25 +1,22 @@
 //! What the network writes into the book of a line: what a user asked, and what a node noted.
-ghost use Rattle.std.specs.Prelude.{◌≡◌, ◌≤◌, [], Some, length, vec_capacity};
-ghost use Rattle.packet_layer.specs.TakenView.{taken_of};
+ghost use Rattle.std.specs.Prelude.{◌≡◌, ◌≤◌, [], length, vec_capacity};
 ghost use Rattle.packet_host.specs.Saying.{cut};
-ghost use Rattle.call_records.specs.Book.{takes, all_told};
+ghost use Rattle.call_records.specs.Book.{all_told};
 ghost use Rattle.call_records.specs.Room.{opening_notes};
 ghost use Rattle.line_nodes.specs.Node.{all_read};
 ghost use Rattle.line_nodes.specs.NodeView.{node_of};
 ghost use Rattle.line_nodes.specs.Notes.{host_notes};
 ghost use Rattle.line_nodes.specs.Turn.{all_sent, told};
-ghost use Rattle.line_nodes.specs.HostTurns.{let_go};
 ghost use Rattle.line_nodes.specs.Writing.{request_written, IsShort, IsRoomFor};
 
+use crate::attachment::Attachment;
 use crate::node::Node;
 use crate::note::{HostNote, list_note};
-use crate::place::Place;
 use call_records::Book;
 use link_timers::Role;
 use packet_codec::MAX_USER_DATA;
 use packet_end::MOST_NOTES;
 use packet_host::{Host, HostRequest, full_packets};
-use packet_layer::Taken;
 
 /// Writes what a host was asked on a channel and did not refuse. The book has room for it: a message has eight packets
 /// at most.
@@ -49,22 +46,10 @@ pub fn write_request(book: &mut Book, role: Role, channel: u8, request: &HostReq
     }
 }
 
-/// Writes what a host took on a channel: a packet is released at once.
-pub fn write_taken(book: &mut Book, role: Role, channel: u8, taken: &Taken)
-    requires { 1 ≤ book.old.room }
-    ensures { book.new.book ≡ let_go (taken_of taken.now) role channel
-        (takes role channel (Some (taken_of taken.now)) book.old.book) }
-{
-    book.take(role, channel, taken);
-    if let Taken::Data(_) = taken {
-        book.release(role, channel, 1);
-    }
-}
-
 /// Reads the notes of an event at a node, and writes them. `notes` lists those that the user of a host is told, in
 /// order; it is empty before, with [`MOST_NOTES`] places.
 #[inline(always)]
-pub fn write_notes(node: &mut Node, at: Place, book: &mut Book, notes: &mut Vec<HostNote>)
+pub fn write_notes(node: &mut Node, at: Attachment, book: &mut Book, notes: &mut Vec<HostNote>)
     requires room { IsRoomFor (node_of node.old) book.old.room book.old.pairs }
     requires empty { notes.old.items ≡ [] }
     requires capacity { MOST_NOTES ≤ vec_capacity notes.old }
@@ -106,7 +91,7 @@ fn write_message(
 
 // Reads the notes of a host, writes them, and lists those that its user is told.
 #[inline(never)]
-fn write_host_notes(host: &mut Host, at: Place, book: &mut Book, notes: &mut Vec<HostNote>)
+fn write_host_notes(host: &mut Host, at: Attachment, book: &mut Book, notes: &mut Vec<HostNote>)
     requires opening { opening_notes host.old.notes ≤ 1 }
     requires room { opening_notes host.old.notes ≤ book.old.room }
     requires empty { notes.old.items ≡ [] }

@@ -9,8 +9,12 @@ use Rattle.packet_host.specs.declared.request.HostRequest.TheVariants.{Answer, R
 use Rattle.packet_host.specs.declared.request.HostRequest.TheVariants.{Stop, Go}
 use Rattle.net_events.specs.NodeEvents as law
 use Rattle.net_events.specs.AtSwitch as at_switch
-use Rattle.net_events.specs.declared.node_event.NodeEvent.{NodeEvent}
-use Rattle.net_events.specs.declared.node_event.NodeEvent.TheVariants as event_is
+use Rattle.net_events.specs.declared.node_event.HostEvent.{HostEvent}
+use Rattle.net_events.specs.declared.node_event.HostEvent.TheVariants as host_event_is
+use Rattle.net_events.specs.declared.node_event.LineEvent.{LineEvent}
+use Rattle.net_events.specs.declared.node_event.LineEvent.TheVariants as line_event_is
+use Rattle.net_events.specs.declared.node_event.UserEvent.{UserEvent}
+use Rattle.net_events.specs.declared.node_event.UserEvent.TheVariants as user_event_is
 use Rattle.net_events.specs.declared.switch_event.SwitchEvent.{SwitchEvent}
 use Rattle.net_events.specs.declared.switch_event.SwitchEvent.TheVariants as switch_event_is
 
@@ -25,15 +29,20 @@ request_event channel Clear = law.Asks channel (ask.Clearing clear_cause.dte_ori
 request_event channel Stop = law.Asks channel (ask.Stopping true)
 request_event channel Go = law.Asks channel (ask.Stopping false)
 
-abbrev pub event_of : NodeEvent → law.NodeEvent
-event_of (event_is.Hears octets) = law.Hears octets.now
-event_of (event_is.Expires timer) = law.Expires timer
-event_of event_is.Relinks = law.Relinks
-event_of event_is.Restarts = law.Restarts
-event_of (event_is.Calls address user_data) = law.Calls address user_data.now
-event_of (event_is.Asks channel request) = request_event channel request.now
-event_of (event_is.Takes channel) = law.Takes channel
-event_of (event_is.AtTerminal terminal event) = law.AtTerminal terminal event
+abbrev pub line_event_of : LineEvent → law.NodeEvent
+line_event_of (line_event_is.Hears octets) = law.Hears octets.now
+line_event_of (line_event_is.Expires timer) = law.Expires timer
+line_event_of line_event_is.Relinks = law.Relinks
+line_event_of line_event_is.Restarts = law.Restarts
+
+abbrev pub host_event_of : HostEvent → law.NodeEvent
+host_event_of (host_event_is.Calls address user_data) = law.Calls address user_data.now.items
+host_event_of (host_event_is.Asks channel request) = request_event channel request.now
+host_event_of (host_event_is.Takes channel) = law.Takes channel
+
+abbrev pub user_event_of : UserEvent → law.NodeEvent
+user_event_of (user_event_is.AtTerminal terminal event) = law.AtTerminal terminal event
+user_event_of (user_event_is.AtHost event) = host_event_of event
 
 abbrev pub switch_event_of : SwitchEvent → at_switch.SwitchEvent
 switch_event_of (switch_event_is.Hears own octets) = at_switch.Hears own octets.now

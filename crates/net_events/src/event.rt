@@ -92,3 +92,14 @@ impl From<AllocError> for StepFault {
         StepFault::OutOfMemory
     }
 }
+
+impl From<NodeFault> for StepFault {
+    ghost use Rattle.std.specs.Prelude.{◌≡◌};
+    ghost use Rattle.net_events.specs.declared.event.StepFault.TheVariants.{Refused};
+
+    ghost from_gives = { λ fault made. made ≡ Refused fault };
+
+    fn from(fault: NodeFault) -> Self {
+        StepFault::Refused(fault)
+    }
+}

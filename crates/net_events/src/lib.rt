@@ -8,5 +8,5 @@ mod switch_event;
 
 pub use answer::{Answer, Outcome, Put};
 pub use event::{Event, StepFault};
-pub use node_event::NodeEvent;
+pub use node_event::{HostEvent, LineEvent, UserEvent};
 pub use switch_event::SwitchEvent;

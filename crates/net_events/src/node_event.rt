@@ -1,26 +1,39 @@
-//! What may happen at a node.
+//! What may happen at a node with users.
+use arrayvec::ArrayVec;
 use line_nodes::TerminalEvent;
 use link_timers::TimerId;
 use packet_codec::Address;
 use packet_host::HostRequest;
 
-/// What comes to a node at its line, or what its user asks.
+/// What comes to a node at its line.
 #[derive(Clone, Copy)]
-pub enum NodeEvent<'a> {
+pub enum LineEvent<'a> {
     /// A frame arrives.
     Hears(&'a [u8]),
     /// A timer expires.
     Expires(TimerId),
     /// The link is given up and set up again.
     Relinks,
-    /// The node begins anew.
+    /// The node restarts.
     Restarts,
-    /// A host calls an address, with at most 16 octets of user data.
-    Calls(Address, &'a [u8]),
-    /// A host is asked something of the call on a channel.
-    Asks(u8, &'a HostRequest),
-    /// A host takes what waits on a channel.
-    Takes(u8),
+}
+
+/// What a user asks of a host.
+#[derive(Clone, Copy)]
+pub enum HostEvent<'a> {
+    /// The host calls an address, with these octets of user data.
+    Calls(Address, &'a ArrayVec<u8, 16>),
+    /// The host is asked something of the call on a channel.
+    Asks(u16, &'a HostRequest),
+    /// The host takes what waits on a channel.
+    Takes(u16),
+}
+
+/// What a user does at a node.
+#[derive(Clone, Copy)]
+pub enum UserEvent<'a> {
     /// Something happens at a terminal of a PAD.
-    AtTerminal(u8, TerminalEvent),
+    AtTerminal(u16, TerminalEvent),
+    /// A host is asked something.
+    AtHost(HostEvent<'a>),
 }

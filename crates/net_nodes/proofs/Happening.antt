@@ -2,33 +2,33 @@
 use Rattle.std.proofs.Common.{◌≡◌, ℕ, ◌<◌, Bool, true, false, List, length, Option, Some, None, Result, Ok, Err, refl, sym, ap, ◌∙◌, subst, arith, inl, inr}
 use Rattle.std.specs.Prelude.{slice_get, ◌⊎◌, if◌then◌else◌, is_some, not, [], ◌∷◌, set, drop, zero, suc}
 use Rattle.std.proofs.lemmas.Option.{same_Some}
-use Rattle.std.proofs.lemmas.Bool.{lt-ltb}
 use Rattle.link_timers.specs.declared.role.Role.{Role}
 use Rattle.link_timers.specs.declared.role.Role.TheVariants.{Dte, Dce}
 use Rattle.memory_line.specs.declared.line.Direction.{Direction}
 use Rattle.net_turns.specs.Quiet.{IsQuiet}
 use Rattle.line_nodes.specs.Node.{NodeState, Pad, Host, is_pad}
-use Rattle.line_nodes.specs.Terminals.{HasTerminal}
-use Rattle.line_nodes.specs.declared.fault.NodeFault.{NodeFault}
+use Rattle.line_nodes.specs.declared.terminal.TerminalEvent.{TerminalEvent}
 use Rattle.memory_line.specs.declared.line.Direction.TheVariants.{FromDte, FromDce}
 use Rattle.memory_line.specs.Lines.{LineService, Flights, flying, without_first}
 use Rattle.net_events.specs.declared.answer.Outcome.TheVariants.{Delivered}
-use Rattle.net_events.specs.NodeEvents.{NodeEvent, IsFor, Hears, Relinks, Restarts}
+use Rattle.net_events.specs.NodeEvents.{NodeEvent, Hears, Relinks, Restarts}
+use Rattle.net_events.specs.EventView.{host_event_of, user_event_of}
 use Rattle.net_events.specs.Network.{PlacedNode, User, NetLine, Network, place_at}
 use Rattle.net_events.specs.declared.answer.Answer as answered
 use Rattle.net_turns.specs.Outcomes.{event_fault}
-use Rattle.net_events.specs.EventView.{request_event}
-use Rattle.packet_host.specs.declared.request.HostRequest.{HostRequest}
-use Rattle.packet_host.specs.declared.request.HostRequest.TheVariants.{Answer, Refuse, Say, Interrupt, Reset, Clear, Stop, Go}
+use Rattle.net_turns.specs.Users.{IsRefusedWith, user_fault, is_channel, is_on_line}
 use Rattle.net_events.specs.declared.event.Event.{Event}
-use Rattle.net_events.specs.declared.event.Event.TheVariants.{Deliver, Relink, Restart}
+use Rattle.net_events.specs.declared.event.Event.TheVariants.{AtTerminal, Deliver, Relink, Restart}
 use Rattle.net_events.specs.declared.event.StepFault.{StepFault}
-use Rattle.net_events.specs.declared.event.StepFault.TheVariants.{OutOfMemory, NoSuchNode, NoSuchTerminal, NoSuchCall}
+use Rattle.net_events.specs.declared.event.StepFault.TheVariants.{OutOfMemory, NoSuchNode, NoSuchCall}
+use Rattle.net_events.specs.declared.node_event.HostEvent.{HostEvent}
+use Rattle.net_events.specs.declared.node_event.UserEvent.{UserEvent}
+use Rattle.net_events.specs.declared.node_event.UserEvent.TheVariants as user_event
 use Rattle.net_nodes.specs.declared.nodes.LineEnd.{LineEnd}
-use Rattle.net_nodes.specs.Places.{EndStands, IsStanding, IsPlaceOf, is_host_at, pad_terminals, user_at}
+use Rattle.net_nodes.specs.Places.{EndStands, IsStanding, IsPlaceOf, user_at}
 use Rattle.placed_nodes.specs.Node.{is_host, terminals_of, terminals_there}
-use Rattle.net_nodes.specs.Faults.{refused, step_fault, takes_memory, IsLeftToNode, MayWant, at_node, at_host, at_terminal, where_there_is, on_channel, is_channel_at}
-use Rattle.net_nodes.specs.Turns.{CanAct, AtEnd, IsRefusal, ActsSo, Acts}
+use Rattle.net_nodes.specs.Faults.{refused, step_fault, takes_memory, IsLeftToNode, MayWant, at_node, at_host, at_terminal, where_there_is, on_channel, is_channel_at, has_channel}
+use Rattle.net_nodes.specs.Turns.{CanAct, AtEnd, ActsSo, Acts, UserActs}
 use Rattle.net_nodes.specs.Steps.{AtNode, StepOf, hearer}
 use Rattle.net_nodes.specs.Happening.{Happens}
 use Rattle.net_events.proofs.Users.{same_user, not_both}
@@ -57,13 +57,12 @@ quiet_at place end s st p =
     let e = user_stands end.line p.line end.role p.node s st p.line_there (at_end_of place end s p) in
     subst (λ (x : PlacedNode). IsQuiet x.node) (same_user e.node p.node (sym e.node_there ∙ at_end_of place end s p)) e.quiet
 
-pub can_act : (place : ℕ) (end : LineEnd) (event : NodeEvent) (s : Network) → IsStanding s → (p : IsPlaceOf place end s) → IsFor event p.node.node → CanAct end event s
-can_act place end event s st p is_for = record {
+pub can_act : (place : ℕ) (end : LineEnd) (s : Network) → IsStanding s → (p : IsPlaceOf place end s) → CanAct end s
+can_act place end s st p = record {
   line = p.line;
   line_there = p.line_there;
   node = p.node;
   node_there = at_end_of place end s p;
-  is_for = is_for;
   quiet = quiet_at place end s st p;
   registered = registered_at end.line p.line s st p.line_there;
 }
@@ -75,85 +74,85 @@ own_node L place end event s a t p w =
     let node : w.happened.node ≡ p.node = same_user w.happened.node p.node (sym w.happened.node_there ∙ ap (λ i. slice_get s.nodes i) at ∙ p.node_there) in
     record { end = end; does = w; own_line = ap (λ (x : PlacedNode). x.line) node ∙ p.node_line; own_place = at }
 
--- ---- what the node refuses, and want of memory
+-- ---- what is refused, and want of memory
 
-refused_so : (e : Event) (s : Network) (o : Option NodeFault) (fault : StepFault) → step_fault e s ≡ refused o → takes_memory e ≡ true → IsRefusal o fault
+refused_so : (e : Event) (s : Network) (expected : Option StepFault) (fault : StepFault) → step_fault e s ≡ expected → takes_memory e ≡ true → IsRefusedWith expected fault
     → (step_fault e s ≡ Some fault) ⊎ MayWant e s × (fault ≡ OutOfMemory)
-refused_so e s None fault is takes f = inr ((takes, subst IsLeftToNode (sym is) tt), f)
-refused_so e s (Some nf) fault is takes (inl f) = inl (is ∙ ap Some (sym f))
-refused_so e s (Some nf) fault is takes (inr f) = inr ((takes, subst IsLeftToNode (sym is) tt), f)
+refused_so e s expected fault is takes (inl f) = inl (is ∙ f)
+refused_so e s expected fault is takes (inr f) = inr ((takes, subst IsLeftToNode (sym is) f.0), f.1)
 
+-- what comes at the line of a node with users
 pub acted : (L : LineService) (e : Event) (place : ℕ) (event : NodeEvent) (end : LineEnd) (s t : Network) (r : Result answered.Answer StepFault) (p : IsPlaceOf place end s)
-    → step_fault e s ≡ refused (event_fault event p.node.node) → takes_memory e ≡ true
+    → step_fault e s ≡ None → takes_memory e ≡ true
     → ((a : answered.Answer) → AtNode L place event s a t → StepOf L e s a t) → Acts L end event s r t → Happens L e s r t
 acted L e place event end s t (Ok a) p is takes step acts =
-    let so = acts p.line p.node p.line_there (at_end_of place end s p) in
-    (is ∙ ap refused so.0, step a (own_node L place end event s a t p so.1))
+    (is, step a (own_node L place end event s a t p (acts p.line p.node p.line_there (at_end_of place end s p))))
 acted L e place event end s t (Err fault) p is takes step acts =
     let so = acts p.line p.node p.line_there (at_end_of place end s p) in
-    (refused_so e s (event_fault event p.node.node) fault is takes so.0, so.1)
+    (refused_so e s None fault is takes (inr (tt, so.0)), so.1)
 
--- ---- hosts
+-- what a user does
+pub user_acted : (L : LineService) (e : Event) (place : ℕ) (event : UserEvent) (end : LineEnd) (s t : Network) (r : Result answered.Answer StepFault) (p : IsPlaceOf place end s)
+    → step_fault e s ≡ user_fault p.line.channels event p.node.node → takes_memory e ≡ true
+    → ((a : answered.Answer) → AtNode L place (user_event_of event) s a t → StepOf L e s a t) → UserActs L end event s r t → Happens L e s r t
+user_acted L e place event end s t (Ok a) p is takes step acts =
+    let so = acts p.line p.node p.line_there (at_end_of place end s p) in
+    (is ∙ so.0, step a (own_node L place end (user_event_of event) s a t p so.1))
+user_acted L e place event end s t (Err fault) p is takes step acts =
+    let so = acts p.line p.node p.line_there (at_end_of place end s p) in
+    (refused_so e s (user_fault p.line.channels event p.node.node) fault is takes so.0, so.1)
 
-host_is : (o : Option PlacedNode) (n : PlacedNode) → o ≡ Some n → is_host o ≡ true → is_pad n.node ≡ false
-host_is None n e h = absurd (cc)
-host_is (Some m) n e h = by (is_pad m.node) refl h
-  where
-    same : m ≡ n
-    same = same_Some m n e
+-- ---- what users are refused
 
-    by : (v : Bool) → is_pad m.node ≡ v → not v ≡ true → is_pad n.node ≡ false
-    by true is h = absurd (cc)
-    by false is h = ap (λ (x : PlacedNode). is_pad x.node) (sym same) ∙ is
+terminal_refused : (channels terminal : ℕ) (event : TerminalEvent) (n : NodeState)
+    → at_terminal terminal (terminals_of n) ≡ user_fault channels (user_event.AtTerminal terminal event) n
+terminal_refused channels terminal event (Pad p) = refl
+terminal_refused channels terminal event (Host e) = refl
 
-pub host_at : (place : ℕ) (end : LineEnd) (s : Network) (p : IsPlaceOf place end s) → is_host_at place s ≡ true → is_pad p.node.node ≡ false
-host_at place end s p h = host_is (user_at place s) p.node (user_there place s p.node p.node_there) h
+pub terminal_fault_at : (place : ℕ) (end : LineEnd) (s : Network) (p : IsPlaceOf place end s) (terminal : ℕ) (event : TerminalEvent)
+    → step_fault (AtTerminal place terminal event) s ≡ user_fault p.line.channels (user_event.AtTerminal terminal event) p.node.node
+terminal_fault_at place end s p terminal event =
+    ap (λ o. at_terminal terminal (terminals_there o)) (user_there place s p.node p.node_there)
+    ∙ terminal_refused p.line.channels terminal event p.node.node
 
-pub fault_at : (place : ℕ) (end : LineEnd) (s : Network) (p : IsPlaceOf place end s) (fault : PlacedNode → Option StepFault) → is_host_at place s ≡ true
-    → at_host place s fault ≡ fault p.node
-fault_at place end s p fault h =
-    (λ i. if h i then at_node (user_at place s) fault else Some NoSuchNode) ∙ ap (λ o. at_node o fault) (user_there place s p.node p.node_there)
+-- what a node would be refused with, were it a host
+abbrev asked_fault : (on_line : Bool) → HostEvent → NodeState → Option StepFault
+asked_fault on_line event n = if on_line then refused (event_fault (host_event_of event) n) else Some NoSuchCall
 
-pub no_host : (place : ℕ) (s : Network) (fault : PlacedNode → Option StepFault) → is_host_at place s ≡ false → at_host place s fault ≡ Some NoSuchNode
-no_host place s fault h = λ i. if h i then at_node (user_at place s) fault else Some NoSuchNode
+host_refused : (channels : ℕ) (event : HostEvent) (n : NodeState)
+    → (if not (is_pad n) then asked_fault (is_on_line event channels) event n else Some NoSuchNode) ≡ user_fault channels (user_event.AtHost event) n
+host_refused channels event (Pad p) = refl
+host_refused channels event (Host e) = refl
 
-pub channel_at : (place : ℕ) (end : LineEnd) (s : Network) (p : IsPlaceOf place end s) (channel : ℕ) (fault : Option StepFault) → is_channel_at end.line channel s ≡ true
-    → on_channel channel s p.node fault ≡ fault
-channel_at place end s p channel fault h =
-    (λ i. if is_channel_at (p.node_line i) channel s then fault else Some NoSuchCall) ∙ (λ i. if h i then fault else Some NoSuchCall)
+at_host_is : (place : ℕ) (end : LineEnd) (s : Network) (p : IsPlaceOf place end s) (fault : PlacedNode → Option StepFault)
+    → at_host place s fault ≡ (if not (is_pad p.node.node) then fault p.node else Some NoSuchNode)
+at_host_is place end s p fault =
+    ap (λ o. if is_host o then at_node o fault else Some NoSuchNode) (user_there place s p.node p.node_there)
 
-pub no_channel : (place : ℕ) (end : LineEnd) (s : Network) (p : IsPlaceOf place end s) (channel : ℕ) (fault : Option StepFault) → is_channel_at end.line channel s ≡ false
-    → on_channel channel s p.node fault ≡ Some NoSuchCall
-no_channel place end s p channel fault h =
-    (λ i. if is_channel_at (p.node_line i) channel s then fault else Some NoSuchCall) ∙ (λ i. if h i then fault else Some NoSuchCall)
+channel_is : (place : ℕ) (end : LineEnd) (s : Network) (p : IsPlaceOf place end s) (channel : ℕ)
+    → is_channel_at p.node.line channel s ≡ is_channel p.line.channels channel
+channel_is place end s p channel =
+    ap (λ (k : ℕ). is_channel_at k channel s) p.node_line ∙ ap (has_channel channel) p.line_there
 
-pub asks_for : (channel : ℕ) (r : HostRequest) (n : NodeState) → is_pad n ≡ false → IsFor (request_event channel r) n
-asks_for channel Answer n h = h
-asks_for channel Refuse n h = h
-asks_for channel (Say octets qualified delivery) n h = h
-asks_for channel (Interrupt octets) n h = h
-asks_for channel Reset n h = h
-asks_for channel Clear n h = h
-asks_for channel Stop n h = h
-asks_for channel Go n h = h
+-- a call is on no channel yet
+pub call_fault_at : (place : ℕ) (end : LineEnd) (s : Network) (p : IsPlaceOf place end s) (event : HostEvent) → is_on_line event p.line.channels ≡ true
+    → at_host place s (λ n. refused (event_fault (host_event_of event) n.node)) ≡ user_fault p.line.channels (user_event.AtHost event) p.node.node
+call_fault_at place end s p event on =
+    at_host_is place end s p (λ n. refused (event_fault (host_event_of event) n.node))
+    ∙ (λ i. if not (is_pad p.node.node) then asked_fault (sym on i) event p.node.node else Some NoSuchNode)
+    ∙ host_refused p.line.channels event p.node.node
 
--- ---- PADs
-
-terminal_of : (n : NodeState) (terminals terminal : ℕ) → terminals_of n ≡ Some terminals → terminal < terminals → HasTerminal n terminal
-terminal_of (Pad p) terminals terminal h less = subst (λ (k : ℕ). terminal < k) (sym (same_Some (length p.ports) terminals h)) less
-terminal_of (Host e) terminals terminal h less = absurd (cc)
-
-pub pad_at : (place : ℕ) (end : LineEnd) (s : Network) (p : IsPlaceOf place end s) (terminals terminal : ℕ) → pad_terminals place s ≡ Some terminals → terminal < terminals
-    → HasTerminal p.node.node terminal
-pad_at place end s p terminals terminal h less = terminal_of p.node.node terminals terminal (ap terminals_there (sym (user_there place s p.node p.node_there)) ∙ h) less
-
-pub terminal_there : (place terminal terminals : ℕ) (s : Network) → pad_terminals place s ≡ Some terminals → terminal < terminals
-    → at_terminal terminal (pad_terminals place s) ≡ None
-terminal_there place terminal terminals s h lt = ap (at_terminal terminal) h ∙ (λ i. if lt-ltb terminal terminals lt i then None else Some NoSuchTerminal)
+-- what is asked is asked on a channel
+pub ask_fault_at : (place : ℕ) (end : LineEnd) (s : Network) (p : IsPlaceOf place end s) (channel : ℕ) (event : HostEvent) → is_on_line event p.line.channels ≡ is_channel p.line.channels channel
+    → at_host place s (λ n. on_channel channel s n (refused (event_fault (host_event_of event) n.node))) ≡ user_fault p.line.channels (user_event.AtHost event) p.node.node
+ask_fault_at place end s p channel event on =
+    at_host_is place end s p (λ n. on_channel channel s n (refused (event_fault (host_event_of event) n.node)))
+    ∙ (λ i. if not (is_pad p.node.node) then asked_fault ((channel_is place end s p channel ∙ sym on) i) event p.node.node else Some NoSuchNode)
+    ∙ host_refused p.line.channels event p.node.node
 
 -- ---- lines
 
-pub can_relink : (line : ℕ) (s : Network) → IsStanding s → (l : NetLine) → slice_get s.lines line ≡ Some l → CanAct (record { line = line; role = Dte }) Relinks s
+pub can_relink : (line : ℕ) (s : Network) → IsStanding s → (l : NetLine) → slice_get s.lines line ≡ Some l → CanAct (record { line = line; role = Dte }) s
 can_relink line s st l there =
     let e = st.dtes line l there in
     record {
@@ -161,7 +160,6 @@ can_relink line s st l there =
       line_there = there;
       node = e.node;
       node_there = e.node_there;
-      is_for = tt;
       quiet = e.quiet;
       registered = registered_at line l s st there;
     }
@@ -175,9 +173,9 @@ relinked L line s t r st l there acts =
     none : step_fault (Relink line) s ≡ None
     none = ap (λ o. where_there_is (is_some o)) there
 
-    by : (r : Result answered.Answer StepFault) → ActsSo L (record { line = line; role = Dte }) Relinks (st.dtes line l there).node s r t → Happens L (Relink line) s r t
-    by (Ok a) so = (none, so.1)
-    by (Err fault) so = (refused_so (Relink line) s None fault none refl so.0, so.1)
+    by : (r : Result answered.Answer StepFault) → ActsSo L (record { line = line; role = Dte }) Relinks s r t → Happens L (Relink line) s r t
+    by (Ok a) so = (none, so)
+    by (Err fault) so = (refused_so (Relink line) s None fault none refl (inr (tt, so.0)), so.1)
 
 pub delivered : (L : LineService) (line : ℕ) (d : Direction) (end : LineEnd) → end.line ≡ line → end.role ≡ hearer d → (octets : List ℕ) (s : Network) (l : NetLine)
     → slice_get s.lines line ≡ Some l → (r : Result answered.Answer StepFault) (t : Network)

@@ -1,170 +1,145 @@
 -- What serving an event does to the nodes, to the line and to the register.
 use Rattle.std.proofs.Common.{◌≡◌, ℕ, zero, suc, List, [], ◌∷◌, set, Option, Some, None, Result, Ok, Err, refl, sym, ap, ◌∙◌, subst}
-use Rattle.std.specs.Prelude.{slice_get, MatchResult, OnOk, OnErr}
-use Rattle.std.specs.Result.{result_and}
-use Rattle.std.proofs.lemmas.List.{set-set}
+use Rattle.std.specs.Prelude.{slice_get, MatchResult}
 use Rattle.std.proofs.lemmas.Option.{same_Some}
 use Rattle.call_records.specs.Book.{Book}
-use Rattle.call_records.specs.Register.{LineEnds, book_at, with_book}
-use Rattle.call_records.specs.RegisterView.{register_with, register_of, lines_of, ends_in, IsOpen}
+use Rattle.call_records.specs.Register as spec
+use Rattle.call_records.specs.Register.{book_at, with_book}
+use Rattle.call_records.specs.RegisterView.{register_with, register_of, lines_of, IsOpen}
 use Rattle.call_records.specs.declared.register.Register.{Register}
 use Rattle.line_nodes.specs.Node.{NodeState, drained, frames_of}
 use Rattle.line_nodes.specs.Turn.{Turn}
 use Rattle.line_nodes.specs.Notes.{host_notes}
-use Rattle.line_nodes.specs.declared.fault.NodeFault.{NodeFault}
+use Rattle.line_nodes.specs.declared.attachment.Attachment.{Attachment}
 use Rattle.memory_line.specs.Lines.{Flights, LineService}
 use Rattle.net_events.specs.OneLine.{direction_of}
 use Rattle.net_events.specs.NodeEvents.{NodeEvent, turn_of}
+use Rattle.net_events.specs.EventView.{line_event_of}
 use Rattle.net_events.specs.Network.{PlacedNode, NetNode, User, NetLine, place_at}
 use Rattle.net_events.specs.declared.answer.Answer.{Answer}
-use Rattle.net_events.specs.declared.answer.Outcome.{Outcome}
 use Rattle.net_events.specs.declared.answer.Put.{Put}
 use Rattle.net_events.specs.declared.event.StepFault.{StepFault}
-use Rattle.net_events.specs.declared.event.StepFault.TheVariants.{Refused}
-use Rattle.link_timers.specs.declared.role.Role.{Role}
-use Rattle.line_nodes.specs.declared.note.HostNote.{HostNote}
-use Rattle.net_turns.specs.declared.place.NetPlace.{NetPlace}
-use Rattle.net_turns.specs.Outcomes.{event_fault, IsOutcome, IsAnswered, text_of}
+use Rattle.net_events.specs.declared.node_event.LineEvent.{LineEvent}
+use Rattle.net_events.specs.declared.node_event.LineEvent.TheVariants.{Hears, Expires, Relinks, Restarts}
+use Rattle.net_turns.specs.Quiet.{IsQuiet}
+use Rattle.net_turns.specs.Outcomes.{IsOutcome, text_of}
 use Rattle.net_turns.specs.Sends.{Sends}
 use Rattle.net_turns.specs.Served.{Served}
+use Rattle.net_turns.specs.Users.{IsRefusedWith, IsServed, AtLine}
+use Rattle.net_turns.proofs.Opening.{written_at}
+use Rattle.net_events.proofs.Users.{user_is}
 use Rattle.net_nodes.specs.declared.nodes.LineEnd.{LineEnd}
-use Rattle.net_nodes.specs.Turns.{its_turn, UserServed, HadTurn, HadNone}
+use Rattle.net_nodes.specs.Turns.{its_turn, LineServed, UserServed, HadTurn}
 
 pub set_there : {X : Type 0} (xs : List X) (n : ℕ) (x : X) → slice_get xs n ≡ Some x → set xs n x ≡ xs
 set_there [] n x e = refl
 set_there (y ∷ xs) zero x e = ap (λ z. z ∷ xs) (sym (same_Some y x e))
 set_there (y ∷ xs) (suc n) x e = ap (λ zs. y ∷ zs) (set_there xs n x e)
 
--- the register with another book at the line where it is open
-rewritten : (o : Option ℕ) (line : ℕ) (old new : Book) (lines : List LineEnds) → o ≡ Some line
-    → register_with o new lines ≡ with_book line new (register_with o old lines)
-rewritten o line old new lines is =
-    let P : Option ℕ → Type 0 = λ x. register_with x new lines ≡ with_book line new (register_with x old lines) in
-    subst P (sym is) (λ i. record { records = new.records; pairs = new.pairs; lines = sym (set-set lines line (ends_in old) (ends_in new)) i })
+-- what comes at a line shows no text
+pub no_text : (event : LineEvent) (n : NodeState) → text_of (line_event_of event) n ≡ []
+no_text (Hears octets) n = refl
+no_text (Expires timer) n = refl
+no_text Relinks n = refl
+no_text Restarts n = refl
 
-pub register_turned : (g : Register) (line : ℕ) (b t : Book) → IsOpen line g → b ≡ t
-    → register_with g.open b (lines_of g.lines.items) ≡ with_book line t (register_of g)
-register_turned g line b t at_line is =
-    rewritten g.open line g.book.book b (lines_of g.lines.items) at_line.at ∙ ap (λ x. with_book line x (register_of g)) is
+-- where the node at an end of a line is attached
+abbrev pub attached : LineEnd → NetLine → Attachment
+attached end l = record { line = end.line; role = end.role; node = place_at end.role l }
 
--- the turn of a node with users, named otherwise
-pub user_served : (L : LineService) (at : NetPlace) (event : NodeEvent) (role : Role) (p n : PlacedNode) (old : Book) (before : Flights) (frames : List Put) (notes : List HostNote) (state : NodeState)
-    (after : Flights) (book : Book) {D : Type 0} (r : Result D NodeFault) → p ≡ n → OnOk r (Served L at (turn_of event role p.node old) before frames notes state after book)
-    → OnOk r (UserServed L at (turn_of event role n.node old) n before frames notes (User (record p { node = state })) after book)
-user_served L at event role p n old before frames notes state after book (Err fault) same w = tt
-user_served L at event role p n old before frames notes state after book (Ok o) same w = record {
-  state = state;
-  node_is = ap (λ (x : PlacedNode). User (record x { node = state })) same;
-  served = subst (λ (x : PlacedNode). Served L at (turn_of event role x.node old) before frames notes state after book) same w;
+-- the turn of a node with users at an end of a line, after which the node is this, the frames in flight these, and the
+-- book this one
+pub turned : (L : LineService) (end : LineEnd) (event : NodeEvent) (n : PlacedNode) (nodes : List NetNode) (l : NetLine) (g : spec.Register)
+    (a : Answer) (m : NetNode) (node : NodeState) (flights : Flights) (b : Book) (g' : spec.Register)
+    → m ≡ User (record n { node = node })
+    → Served L (attached end l) (its_turn end event n g) l.flights a.frames.items a.notes.items node flights b
+    → IsOutcome event n.node a.outcome → a.text.items ≡ text_of event n.node → g' ≡ with_book end.line b g
+    → HadTurn L end event n nodes l g a (set nodes (place_at end.role l) m) (record l { flights = flights }) g'
+turned L end event n nodes l g a m node flights b g' is w outcome text register = record {
+  outcome = outcome;
+  sends = w.sends;
+  told = w.told_of;
+  text = text;
+  nodes_are = ap (set nodes (place_at end.role l)) (is ∙ ap (λ (x : NodeState). User (record n { node = x })) w.node_is);
+  line_is = refl;
+  register_is = register ∙ ap (λ x. with_book end.line x g) w.book_is;
 }
 
-module _ (L : LineService) (end : LineEnd) (event : NodeEvent) (p n : PlacedNode) (nodes : List NetNode) (v l : NetLine)
-    (g : Register) (place : ℕ) (is_node : p ≡ n) (is_line : v ≡ l) (is_place : place ≡ place_at end.role l)
-    (at_line : IsOpen end.line g) (book : g.book.book ≡ book_at end.line (register_of g)) where
-  abbrev turn : Turn
-  turn = its_turn end event n (register_of g)
+-- what comes at the line is the turn
+pub line_turned : (L : LineService) (end : LineEnd) (event : LineEvent) (n : PlacedNode) (nodes : List NetNode) (l : NetLine) (g : Register)
+    (r : Result Answer StepFault) (m : NetNode) (flights : Flights) (b : Book) → IsOpen end.line g → g.book.book ≡ book_at end.line (register_of g)
+    → MatchResult r (λ a. LineServed L (attached end l) (line_event_of event) n l.flights g.book.book a m flights b) (λ fault. ⊥)
+    → MatchResult r (λ a. HadTurn L end (line_event_of event) n nodes l (register_of g) a (set nodes (place_at end.role l) m)
+    (record l { flights = flights }) (register_with g.open b (lines_of g.lines.items))) (λ fault. ⊥)
+line_turned L end event n nodes l g (Ok a) m flights b opened book w =
+    let P : Book → Type 0 = λ x. Served L (attached end l) (turn_of (line_event_of event) end.role n.node x) l.flights a.frames.items a.notes.items w.state flights b in
+    turned L end (line_event_of event) n nodes l (register_of g) a m w.state flights b _ w.node_is (subst P book w.served) w.outcome
+    (w.text ∙ sym (no_text event n.node)) (written_at g end.line (register_of g) b opened refl)
+line_turned L end event n nodes l g (Err fault) m flights b opened book w = absurd w
 
-  same_turn : turn_of event end.role p.node g.book.book ≡ turn
-  same_turn = λ i. turn_of event end.role (is_node i).node (book i)
+-- and so is what a user does, or it is refused
+pub user_turned : (L : LineService) (end : LineEnd) (event : NodeEvent) (fault : Option StepFault) (n : PlacedNode) (nodes : List NetNode) (l : NetLine) (g : spec.Register)
+    (r : Result Answer StepFault) (m : NetNode) (v : NetLine) (g' : spec.Register)
+    → slice_get nodes (place_at end.role l) ≡ Some (User n) → v ≡ record l { flights = v.flights }
+    → UserServed L (attached end l) event fault n l.flights g r m v.flights g'
+    → MatchResult r (λ a. (fault ≡ None) × HadTurn L end event n nodes l g a (set nodes (place_at end.role l) m) v g')
+    (λ f. IsRefusedWith fault f × (set nodes (place_at end.role l) m ≡ nodes) × (v ≡ l) × (g' ≡ g))
+user_turned L end event fault n nodes l g (Ok a) m v g' there line w =
+    let t = w.served.1 in
+    let P : NetLine → Type 0 = λ x. HadTurn L end event n nodes l g a (set nodes (place_at end.role l) m) x g' in
+    (w.served.0, subst P (sym line) (turned L end event n nodes l g a m w.state v.flights t.book g' w.node_is t.served t.outcome t.text t.register))
+user_turned L end event fault n nodes l g (Err f) m v g' there line w =
+    let same = w.served.1 in (
+      w.served.0,
+      ap (set nodes (place_at end.role l)) (w.node_is ∙ ap (λ (x : AtLine). User (record n { node = x.node })) same) ∙ set_there nodes (place_at end.role l) (User n) there,
+      line ∙ ap (λ (x : AtLine). record l { flights = x.flights }) same,
+      ap (λ (x : AtLine). x.register) same,
+    )
 
-  turned : (a : Answer) (node : NodeState) (flights : Flights) (b : Book)
-      → (event_fault event p.node ≡ None) × IsOutcome event p.node a.outcome
-      → Served L (record { line = end.line; place = record { role = end.role; node = place } })
-      (turn_of event end.role p.node g.book.book) v.flights a.frames.items a.notes.items node flights b
-      → a.text.items ≡ text_of event p.node
-      → HadTurn L end event n nodes l (register_of g) a (set nodes place (User (record p { node = node })))
-      (record v { flights = flights }) (register_with g.open b (lines_of g.lines.items))
-  turned a node flights b answered w shows =
-      let P : Turn → Flights → List Put → Type 0 = λ t f puts. Sends L (direction_of end.role) end.line (frames_of t.node) f puts flights in
-      let Q : Turn → Type 0 = λ t. P t l.flights a.frames.items in
-      let R : Flights → Type 0 = λ f. P (turn_of event end.role p.node g.book.book) f a.frames.items in
-      let N : NodeState → Type 0 = λ m. event_fault event m ≡ None in
-      let node_is : p.node ≡ n.node = ap (λ (x : PlacedNode). x.node) is_node in
-      let drained_is : node ≡ drained turn.node = w.node_is ∙ ap (λ (t : Turn). drained t.node) same_turn in
-      record {
-        no_fault = subst N node_is answered.0;
-        outcome = subst (λ m. IsOutcome event m a.outcome) node_is answered.1;
-        sends = subst Q same_turn (subst R (ap (λ (x : NetLine). x.flights) is_line) w.sends);
-        told = w.told_of ∙ (λ i. host_notes (is_place i) (same_turn i).notes);
-        text = shows ∙ ap (text_of event) node_is;
-        nodes_are = λ i. set nodes (is_place i) (User (record (is_node i) { node = drained_is i }));
-        line_is = λ i. record (is_line i) { flights = flights };
-        register_is = register_turned g end.line b turn.book at_line (w.book_is ∙ ap (λ (t : Turn). t.book) same_turn);
-      }
+-- ---- the node of a place, named otherwise
 
-  refused : (refusal : NodeFault) (fault : StepFault) (node : NodeState) (flights : Flights) (b : Book) → slice_get nodes (place_at end.role l) ≡ Some (User n)
-      → event_fault event p.node ≡ Some refusal → fault ≡ Refused refusal → node ≡ p.node → flights ≡ v.flights → b ≡ g.book.book
-      → HadNone event n fault nodes l (register_of g) (set nodes place (User (record p { node = node })))
-      (record v { flights = flights }) (register_with g.open b (lines_of g.lines.items))
-  refused refusal fault node flights b there f is same_node same_flights same_book =
-      let N : NodeState → Type 0 = λ m. event_fault event m ≡ Some refusal in
-      let node_is : p.node ≡ n.node = ap (λ (x : PlacedNode). x.node) is_node in
-      let put : set nodes place (User (record p { node = node })) ≡ set nodes (place_at end.role l) (User n)
-      = λ i. set nodes (is_place i) (User (record (is_node i) { node = (same_node ∙ node_is) i })) in
-      record {
-        refusal = refusal;
-        refuses = subst N node_is f;
-        fault_is = is;
-        nodes_are = put ∙ set_there nodes (place_at end.role l) (User n) there;
-        line_is = (λ i. record v { flights = same_flights i }) ∙ is_line;
-        register_is = ap (λ x. register_with g.open x (lines_of g.lines.items)) same_book;
-      }
+pub quiet_of : (a b : PlacedNode) (m : NetNode) → m ≡ User a → m ≡ User b → IsQuiet a.node → IsQuiet b.node
+quiet_of a b m is_a is_b quiet = subst (λ (x : PlacedNode). IsQuiet x.node) (user_is a b (sym is_a ∙ is_b)) quiet
 
-  -- ---- what serving answers
+pub line_served : (L : LineService) (at : Attachment) (event : NodeEvent) (p n : PlacedNode) (before : Flights) (old : Book) (a : Answer) (state : NodeState) (after : Flights) (book : Book)
+    → p ≡ n → IsOutcome event p.node a.outcome → a.text.items ≡ []
+    → Served L at (turn_of event at.role p.node old) before a.frames.items a.notes.items state after book
+    → LineServed L at event n before old a (User (record p { node = state })) after book
+line_served L at event p n before old a state after book same outcome text served =
+    let P : PlacedNode → Type 0 = λ x. LineServed L at event x before old a (User (record p { node = state })) after book in
+    subst P same (record { state = state; node_is = refl; served = served; outcome = outcome; text = text })
 
-  abbrev IsTurn : Result Answer StepFault → NodeState → Flights → Book → Type 0
-  IsTurn x node flights b = MatchResult x
-      (λ a. HadTurn L end event n nodes l (register_of g) a (set nodes place (User (record p { node = node })))
-      (record v { flights = flights }) (register_with g.open b (lines_of g.lines.items)))
-      (λ fault. HadNone event n fault nodes l (register_of g) (set nodes place (User (record p { node = node })))
-      (record v { flights = flights }) (register_with g.open b (lines_of g.lines.items)))
+pub user_served : (L : LineService) (at : Attachment) (event : NodeEvent) (fault : NodeState → Option StepFault) (p n : PlacedNode) (before : Flights) (old : spec.Register)
+    (r : Result Answer StepFault) (state : NodeState) (after : Flights) (register : spec.Register) → p ≡ n
+    → IsServed L at event (fault p.node) (record { node = p.node; flights = before; register = old }) r (record { node = state; flights = after; register = register })
+    → UserServed L at event (fault n.node) n before old r (User (record p { node = state })) after register
+user_served L at event fault p n before old r state after register same w =
+    let P : PlacedNode → Type 0 = λ x. UserServed L at event (fault x.node) x before old r (User (record p { node = state })) after register in
+    subst P same (record { state = state; node_is = refl; served = w })
 
-  pub answered_not : {D : Type 0} (r : Result D NodeFault) (x : Result Answer StepFault) (o : Outcome) (refusal : NodeFault) (node : NodeState) (flights : Flights) (b : Book)
-      → slice_get nodes (place_at end.role l) ≡ Some (User n) → r ≡ Err refusal → x ≡ Err (Refused refusal) → IsAnswered event p.node (result_and r (Ok o))
-      → OnErr r (node ≡ p.node) → OnErr r (flights ≡ v.flights) → OnErr r (b ≡ g.book.book) → IsTurn x node flights b
-  answered_not {D} r x o refusal node flights b there is_err is_refusal of_node same_node same_flights same_book =
-      let A : Result D NodeFault → Type 0 = λ y. IsAnswered event p.node (result_and y (Ok o)) in
-      let N : Result D NodeFault → Type 0 = λ y. OnErr y (node ≡ p.node) in
-      let F : Result D NodeFault → Type 0 = λ y. OnErr y (flights ≡ v.flights) in
-      let B : Result D NodeFault → Type 0 = λ y. OnErr y (b ≡ g.book.book) in
-      let X : Result Answer StepFault → Type 0 = λ y. IsTurn y node flights b in
-      subst X (sym is_refusal)
-      (refused refusal (Refused refusal) node flights b there (subst A is_err of_node) refl (subst N is_err same_node) (subst F is_err same_flights) (subst B is_err same_book))
+-- ---- at the place where the end of the line is attached
 
-  -- ---- and what serving a node with users does
+pub line_served_at : (L : LineService) (end : LineEnd) (event : LineEvent) (n : PlacedNode) (nodes : List NetNode) (v l : NetLine) (g : Register) (at : Attachment)
+    (r : Result Answer StepFault) (m : NetNode) (flights : Flights) (b : Book) → at ≡ attached end l → v ≡ l → IsOpen end.line g → g.book.book ≡ book_at end.line (register_of g)
+    → MatchResult r (λ a. LineServed L at (line_event_of event) n v.flights g.book.book a m flights b) (λ fault. ⊥)
+    → MatchResult r (λ a. HadTurn L end (line_event_of event) n nodes l (register_of g) a (set nodes at.node m)
+    (record v { flights = flights }) (register_with g.open b (lines_of g.lines.items))) (λ fault. ⊥)
+line_served_at L end event n nodes v l g at r m flights b is_at is_line opened book =
+    let R : Attachment → NetLine → Type 0 = λ x y. MatchResult r (λ a. LineServed L x (line_event_of event) n y.flights g.book.book a m flights b) (λ fault. ⊥)
+    → MatchResult r (λ a. HadTurn L end (line_event_of event) n nodes l (register_of g) a (set nodes x.node m)
+    (record y { flights = flights }) (register_with g.open b (lines_of g.lines.items))) (λ fault. ⊥) in
+    let Q : Attachment → Type 0 = λ x. R x l in
+    let S : NetLine → Type 0 = λ y. R at y in
+    subst S (sym is_line) (subst Q (sym is_at) (line_turned L end event n nodes l g r m flights b opened book))
 
-  abbrev IsTurnOf : Result Answer StepFault → NetNode → Flights → Book → Type 0
-  IsTurnOf x m flights b = MatchResult x
-      (λ a. HadTurn L end event n nodes l (register_of g) a (set nodes place m)
-      (record v { flights = flights }) (register_with g.open b (lines_of g.lines.items)))
-      (λ fault. HadNone event n fault nodes l (register_of g) (set nodes place m)
-      (record v { flights = flights }) (register_with g.open b (lines_of g.lines.items)))
-
-  pub user_answered : {D E : Type 0} (r : Result D NodeFault) (x : Result E StepFault) (d : D) (e : E) (a : Answer) (m : NetNode) (flights : Flights) (b : Book)
-      → r ≡ Ok d → x ≡ Ok e → IsAnswered event p.node (result_and r (Ok a.outcome))
-      → OnOk r (UserServed L (record { line = end.line; place = record { role = end.role; node = place } })
-      (turn_of event end.role p.node g.book.book) p v.flights a.frames.items a.notes.items m flights b)
-      → OnOk r (a.text.items ≡ text_of event p.node)
-      → IsTurnOf (result_and x (Ok a)) m flights b
-  user_answered {D} {E} r x d e a m flights b is_ok is_answer of_node w shows =
-      let A : Result D NodeFault → Type 0 = λ y. IsAnswered event p.node (result_and y (Ok a.outcome)) in
-      let S : Result D NodeFault → Type 0 = λ y. OnOk y (UserServed L (record { line = end.line; place = record { role = end.role; node = place } })
-      (turn_of event end.role p.node g.book.book) p v.flights a.frames.items a.notes.items m flights b) in
-      let T : Result D NodeFault → Type 0 = λ y. OnOk y (a.text.items ≡ text_of event p.node) in
-      let X : Result E StepFault → Type 0 = λ y. IsTurnOf (result_and y (Ok a)) m flights b in
-      let u : UserServed L (record { line = end.line; place = record { role = end.role; node = place } })
-      (turn_of event end.role p.node g.book.book) p v.flights a.frames.items a.notes.items m flights b = subst S is_ok w in
-      let N : NetNode → Type 0 = λ y. IsTurnOf (Ok a) y flights b in
-      subst X (sym is_answer) (subst N (sym u.node_is)
-      (turned a u.state flights b (subst A is_ok of_node) u.served (subst T is_ok shows)))
-
-  pub user_refused : {D E : Type 0} (r : Result D NodeFault) (x : Result E StepFault) (refusal : NodeFault) (a : Answer) (m : NetNode) (flights : Flights) (b : Book)
-      → slice_get nodes (place_at end.role l) ≡ Some (User n) → r ≡ Err refusal → x ≡ Err (Refused refusal) → IsAnswered event p.node (result_and r (Ok a.outcome))
-      → OnErr r (m ≡ User p) → OnErr r (flights ≡ v.flights) → OnErr r (b ≡ g.book.book) → IsTurnOf (result_and x (Ok a)) m flights b
-  user_refused {D} {E} r x refusal a m flights b there is_err is_refusal of_node same_node same_flights same_book =
-      let M : Result D NodeFault → Type 0 = λ y. OnErr y (m ≡ User p) in
-      let N : NetNode → Type 0 = λ y. IsTurnOf (Err (Refused refusal)) y flights b in
-      let K : Result D NodeFault → Type 0 = λ y. OnErr y (p.node ≡ p.node) in
-      let X : Result E StepFault → Type 0 = λ y. IsTurnOf (result_and y (Ok a)) m flights b in
-      subst X (sym is_refusal) (subst N (sym (subst M is_err same_node))
-      (answered_not r (Err (Refused refusal)) a.outcome refusal p.node flights b there is_err refl of_node (subst K (sym is_err) refl) same_flights same_book))
+pub user_served_at : (L : LineService) (end : LineEnd) (event : NodeEvent) (fault : Option StepFault) (n : PlacedNode) (nodes : List NetNode) (l : NetLine) (g : spec.Register) (at : Attachment)
+    (r : Result Answer StepFault) (m : NetNode) (v : NetLine) (g' : spec.Register) → at ≡ attached end l
+    → slice_get nodes (place_at end.role l) ≡ Some (User n) → v ≡ record l { flights = v.flights }
+    → UserServed L at event fault n l.flights g r m v.flights g'
+    → MatchResult r (λ a. (fault ≡ None) × HadTurn L end event n nodes l g a (set nodes at.node m) v g')
+    (λ f. IsRefusedWith fault f × (set nodes at.node m ≡ nodes) × (v ≡ l) × (g' ≡ g))
+user_served_at L end event fault n nodes l g at r m v g' is_at there line =
+    let R : Attachment → Type 0 = λ x. UserServed L x event fault n l.flights g r m v.flights g'
+    → MatchResult r (λ a. (fault ≡ None) × HadTurn L end event n nodes l g a (set nodes x.node m) v g')
+    (λ f. IsRefusedWith fault f × (set nodes x.node m ≡ nodes) × (v ≡ l) × (g' ≡ g)) in
+    subst R (sym is_at) (user_turned L end event fault n nodes l g r m v g' there line)

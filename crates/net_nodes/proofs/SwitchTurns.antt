@@ -1,6 +1,7 @@
 -- What serving an event at a switch does, and what it is to the network.
 use Rattle.std.proofs.Common.{◌≡◌, ℕ, Bool, true, false, cond, List, length, set, get_or, Some, Ok, refl, sym, ap, ◌∙◌, subst, inl, inr, arith, true≢false}
-use Rattle.std.specs.Prelude.{slice_get, is_some, Option, None, nat_lt}
+use Rattle.std.specs.Prelude.{slice_get, is_some, Option, None, nat_lt, Result, Err, MatchResult}
+use Rattle.std.specs.Result.{result_and}
 use Rattle.std.specs.List.{position, position_or_len}
 use Rattle.std.proofs.lemmas.Bool.{eqb-true, eq-eqb, ltb-false}
 use Rattle.std.proofs.lemmas.List.Quantifiers.{position-Some}
@@ -21,7 +22,7 @@ use Rattle.net_turns.specs.Sends.{all_puts}
 use Rattle.net_turns.proofs.SwitchSending.{switched_lines}
 use Rattle.switch_laws.specs.Turn.{AreOctets}
 use Rattle.net_nodes.specs.Places.{EndStands, IsStanding, own_line_in, own_line_at, is_switch, is_switch_at}
-use Rattle.placed_nodes.specs.Node.{is_line}
+use Rattle.net_plans.specs.Plan.{is_line}
 use Rattle.net_nodes.specs.Faults.{step_fault, where_there_is, stands_at}
 use Rattle.net_nodes.specs.Happening.{Happens}
 use Rattle.net_events.specs.declared.event.Event.TheVariants.{Deliver, Expire, Restart}
@@ -67,6 +68,15 @@ served_so L event p n own own' joins anew s t lines lines' g g' puts same own_is
       register_is = handed ∙ (λ i. all_handed (own_is i) (joins_are i) g);
       puts_are = listed ∙ (λ i. all_puts (own_is' i) (is i).lines);
     })
+
+-- what never fails is answered
+pub answered : {D E A : Type 0} {P : Type 0} (r : Result D E) (a : A) (Q : Result A E → Type 0) → MatchResult r (λ _. P) (λ _. ⊥) → (P → Q (Ok a)) → Q (result_and r (Ok a))
+answered (Ok d) a Q w q = q w
+answered (Err e) a Q w q = absurd w
+
+pub then_so : {D E : Type 0} {P Q : Type 0} (r : Result D E) → (P → Q) → MatchResult r (λ _. P) (λ _. ⊥) → MatchResult r (λ _. Q) (λ _. ⊥)
+then_so (Ok d) q w = q w
+then_so (Err e) q w = absurd w
 
 -- ---- in the network
 

@@ -1,17 +1,17 @@
 -- When an event is refused (X.25 is silent: these are the network's own, or the node's).
 use Rattle.std.specs.Prelude.{ℕ, ◌≡◌, ◌==◌, ◌&&◌, not, Bool, true, false, Option, Some, None, slice_get, nat_lt}
 use Rattle.std.specs.Prelude.{if◌then◌else◌, is_some}
-use Rattle.line_nodes.specs.declared.fault.NodeFault.{NodeFault}
 use Rattle.net_events.specs.NodeEvents.{Calls}
 use Rattle.net_events.specs.Network.{PlacedNode, NetNode, User, Switching, NetLine, Network}
 use Rattle.net_events.specs.EventView.{request_event}
 use Rattle.net_turns.specs.Outcomes.{event_fault}
+pub use Rattle.net_turns.specs.Users.{refused, IsLeftToNode}
 use Rattle.net_events.specs.declared.event.Event.{Event}
 use Rattle.net_events.specs.declared.event.Event.TheVariants.{AtTerminal, Call, Ask, Take, Deliver, Lose, Expire}
 use Rattle.net_events.specs.declared.event.Event.TheVariants.{Relink}
 use Rattle.net_events.specs.declared.event.Event.TheVariants.{Restart}
 use Rattle.net_events.specs.declared.event.StepFault.{StepFault}
-use Rattle.net_events.specs.declared.event.StepFault.TheVariants.{NoSuchNode, NoSuchTerminal, NoSuchCall, Refused}
+use Rattle.net_events.specs.declared.event.StepFault.TheVariants.{NoSuchNode, NoSuchTerminal, NoSuchCall}
 use Rattle.net_nodes.specs.Places.{is_host_at, pad_terminals, user_at}
 use Rattle.placed_nodes.specs.Node.{own_line}
 
@@ -26,11 +26,6 @@ abbrev pub is_channel_at : (line channel : ℕ) → Network → Bool
 is_channel_at line channel s = has_channel channel (slice_get s.lines line)
 
 -- ---- the first fault of an event, want of memory apart
-
--- what the node refuses
-abbrev pub refused : Option NodeFault → Option StepFault
-refused None = None
-refused (Some fault) = Some (Refused fault)
 
 -- at a node with users, if there is one
 abbrev pub at_node : Option PlacedNode → (PlacedNode → Option StepFault) → Option StepFault
@@ -82,12 +77,6 @@ step_fault (Restart node) s = where_there_is (is_some (slice_get s.nodes node))
 abbrev pub takes_memory : Event → Bool
 takes_memory (Lose line direction) = false
 takes_memory _ = true
-
--- the network itself does not refuse the event, though the node may
-abbrev pub IsLeftToNode : Option StepFault → Type 0
-IsLeftToNode None = Unit {0}
-IsLeftToNode (Some (Refused fault)) = Unit {0}
-IsLeftToNode (Some fault) = ⊥
 
 -- memory may be wanting: it is looked for behind what the network itself refuses, and before the node is asked
 abbrev pub MayWant : Event → Network → Type 0

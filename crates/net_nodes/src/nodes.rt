@@ -3,7 +3,7 @@ ghost use Rattle.std.specs.Prelude.{◌≡◌, MatchResult, None, Ok, true, fals
 ghost use Rattle.std.specs.Result.{result_and};
 ghost use Rattle.net_events.specs.declared.event.StepFault.TheVariants.{NoSuchNode, NoSuchCall};
 ghost use Rattle.net_nodes.specs.Faults.{is_channel_at};
-ghost use Rattle.net_nodes.specs.Places.{IsStanding, IsPlaceOf, is_host_at, pad_terminals, user_at, own_line_at};
+ghost use Rattle.net_nodes.specs.Places.{IsStanding, IsPlaceOf, user_at, own_line_at};
 ghost use Rattle.net_nodes.specs.Happening.{Happens};
 
 mod asking;
@@ -92,28 +92,6 @@ impl<L: Line> Nodes<L> {
             Role::Dce
         };
         Ok(LineEnd { line, role })
-    }
-
-    /// The end of its line that the host of this place is.
-    fn host_end(&self, place: usize) -> Result<LineEnd, StepFault>
-        requires { IsStanding self.now }
-        ensures { MatchResult result (λ end. (is_host_at place self.now ≡ true) × IsPlaceOf place end self.now)
-            (λ fault. (is_host_at place self.now ≡ false) × (fault ≡ NoSuchNode)) }
-    {
-        if place >= self.nodes.len() || !self.nodes[place].is_host() {
-            return Err(StepFault::NoSuchNode);
-        }
-        self.end_of(place)
-    }
-
-    /// How many terminals the PAD at this place has, if there is one.
-    fn terminals_at(&self, place: usize) -> Option<u8>
-        ensures { result ≡ pad_terminals place self.now }
-    {
-        if place >= self.nodes.len() {
-            return None;
-        }
-        self.nodes[place].terminals()
     }
 
     /// Which of the own lines of the switch at this place a line is.

@@ -5,4 +5,4 @@ mod parts;
 mod plan;
 
 pub use parts::{NewKind, NewLine, NewNode, NewRoute, NewSwitch};
-pub use plan::{NetPlan, Planned, PlannedKind, plan_of};
+pub use plan::{NetPlan, Planned, PlannedKind, find_own, plan_of};

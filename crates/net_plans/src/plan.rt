@@ -160,8 +160,8 @@ fn is_line(line: usize, number: &usize) -> bool
     *number == line
 }
 
-/// The place of a line among the own lines of a switch.
-fn find_number(own: &[usize], line: usize) -> Option<usize>
+/// Which own line of a switch a line of the network is, if it is one.
+pub fn find_own(own: &[usize], line: usize) -> Option<usize>
     ensures { result ≡ position (is_line line) own.now }
 {
     own.iter().position(|number| is_line(line, number))
@@ -172,7 +172,7 @@ fn own_number(own: &[usize], line: u16) -> LineNo
     requires { length own.now ≤ 64 }
     ensures { result.0 ≡ own_number own.now line }
 {
-    let number = find_number(own, line as usize).unwrap_or(0);
+    let number = find_own(own, line as usize).unwrap_or(0);
     LineNo(number as u16)
 }
 

@@ -1,4 +1,4 @@
-//! That each event at a node of a network of one line keeps what is kept of the line and of the book of its calls.
+//! Each event at a PAD or a host keeps what is kept of its line and of the book of the line's calls.
 #![tactic(auto)]
 
 mod expiry;

@@ -68,8 +68,8 @@ pub fn write_note(book: &mut Book, role: Role, note: &PadNote)
     }
 }
 
-// What a terminal took: P(R) may pass a packet at once.
-fn write_taken(book: &mut Book, role: Role, channel: u8, taken: &Taken)
+/// Writes what was taken at an end of a line: P(R) may pass a packet at once.
+pub fn write_taken(book: &mut Book, role: Role, channel: u8, taken: &Taken)
     requires { 1 ≤ book.old.room }
     ensures { book.new ≡ record {
       book = written_by role (Took channel (taken_of taken.now)) book.old.book;

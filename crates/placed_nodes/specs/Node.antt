@@ -1,7 +1,8 @@
 -- What a node at its place is, and what may be asked of it.
-use Rattle.std.specs.Prelude.{ℕ, ◌==◌, Bool, false, not, length, Option, Some, None}
+use Rattle.std.specs.Prelude.{ℕ, Bool, false, not, length, Option, Some, None}
 use Rattle.std.specs.List.{position}
 use Rattle.line_nodes.specs.Node.{NodeState, Pad, Host, is_pad}
+use Rattle.net_plans.specs.Plan.{is_line}
 use Rattle.net_events.specs.Network.{PlacedNode, NetNode, User, Switching}
 use Rattle.line_nodes.specs.Node.{node_rests, node_confirmed}
 use Rattle.switch_lines.specs.Switch.{switch_rests}
@@ -10,9 +11,6 @@ use Rattle.switch_lines.specs.Switch.{switch_rests}
 abbrev pub user_of : NetNode → Option PlacedNode
 user_of (User n) = Some n
 user_of (Switching n) = None
-
-abbrev pub is_line : (line own : ℕ) → Bool
-is_line line own = own == line
 
 -- which of the own lines of a switch a line of the network is, if it is one
 abbrev pub own_line : (line : ℕ) → NetNode → Option ℕ

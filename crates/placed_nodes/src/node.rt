@@ -6,10 +6,11 @@ ghost use Rattle.net_events.specs.AtSwitch.{network_line};
 ghost use Rattle.net_events.specs.NextDue.{due_at, due_on_lines, due_from};
 ghost use Rattle.net_events.specs.Network.{elapsed_node};
 ghost use Rattle.net_events.specs.Network as network;
-ghost use Rattle.placed_nodes.specs.Node.{is_host, user_of, is_line, own_line, terminals_there, rests, confirmed_by};
+ghost use Rattle.placed_nodes.specs.Node.{user_of, own_line, rests, confirmed_by};
 
 use line_nodes::Node;
 use link_timers::TimerId;
+use net_plans::find_own;
 use std::marker::Model;
 use x25_switch::Switch;
 
@@ -89,7 +90,7 @@ impl NetNode {
     {
         match &self.kind {
             NodeKind::User { .. } => None,
-            NodeKind::Switching { lines, .. } => find_line(lines, line),
+            NodeKind::Switching { lines, .. } => find_own(lines, line),
         }
     }
 
@@ -110,28 +111,6 @@ impl NetNode {
         match &self.kind {
             NodeKind::User { .. } => 0,
             NodeKind::Switching { switch, .. } => switch.lines(),
-        }
-    }
-
-    pub fn is_host(&self) -> bool
-        ensures { result ≡ is_host (user_of self.now) }
-    {
-        match &self.kind {
-            NodeKind::User { node, .. } => !node.is_pad(),
-            NodeKind::Switching { .. } => false,
-        }
-    }
-
-    /// How many terminals a PAD has.
-    pub fn terminals(&self) -> Option<u8>
-        ensures { result ≡ terminals_there (user_of self.now) }
-    {
-        match &self.kind {
-            NodeKind::User { node, .. } => match node {
-                Node::Pad(pad) => Some(pad.terminals()),
-                Node::Host(_) => None,
-            },
-            NodeKind::Switching { .. } => None,
         }
     }
 
@@ -170,19 +149,6 @@ pub fn network_line(lines: &[usize], own: usize) -> usize
     ensures { result ≡ network_line lines.now own }
 {
     lines.get(own).copied().unwrap_or(0)
-}
-
-/// The own line that is this line of the network.
-fn find_line(lines: &[usize], line: usize) -> Option<usize>
-    ensures { result ≡ position (is_line line) lines.now }
-{
-    lines.iter().position(|own| is_line(line, own))
-}
-
-fn is_line(line: usize, own: &usize) -> bool
-    ensures { result ≡ is_line line own.now }
-{
-    *own == line
 }
 
 /// The first timer without a tick left of the first own line of a switch that has one, and its line of the network.

@@ -9,7 +9,7 @@ use crate::nodes::Nodes;
 use arrayvec::ArrayVec;
 use line_nodes::TerminalEvent;
 use memory_line::Line;
-use net_events::{Answer, NodeEvent, StepFault};
+use net_events::{Answer, HostEvent, StepFault, UserEvent};
 use packet_codec::Address;
 use packet_host::HostRequest;
 
@@ -26,14 +26,8 @@ impl<L: Line> Nodes<L> {
         ensures { Happens L.service (event_is.AtTerminal node terminal event) self.old
             (result_and result (Ok answer.new)) self.new }
     {
-        let Some(terminals) = self.terminals_at(node) else {
-            return Err(StepFault::NoSuchNode);
-        };
-        if terminal >= u16::from(terminals) {
-            return Err(StepFault::NoSuchTerminal);
-        }
         let end = self.end_of(node)?;
-        self.act(end, &NodeEvent::AtTerminal(terminal as u8, event), answer)
+        self.user_acts(end, &UserEvent::AtTerminal(terminal, event), answer)
     }
 
     /// A host places a call.
@@ -48,12 +42,9 @@ impl<L: Line> Nodes<L> {
         ensures { Happens L.service (event_is.Call node address user_data.now) self.old
             (result_and result (Ok answer.new)) self.new }
     {
-        let end = self.host_end(node)?;
-        self.act(
-            end,
-            &NodeEvent::Calls(address, user_data.as_slice()),
-            answer,
-        )
+        let end = self.end_of(node)?;
+        let event = UserEvent::AtHost(HostEvent::Calls(address, user_data));
+        self.user_acts(end, &event, answer)
     }
 
     /// A host is asked something on a channel.
@@ -68,9 +59,9 @@ impl<L: Line> Nodes<L> {
         ensures { Happens L.service (event_is.Ask node channel request.now) self.old
             (result_and result (Ok answer.new)) self.new }
     {
-        let end = self.host_end(node)?;
-        let channel = self.channel(end.line, channel)?;
-        self.act(end, &NodeEvent::Asks(channel, request), answer)
+        let end = self.end_of(node)?;
+        let event = UserEvent::AtHost(HostEvent::Asks(channel, request));
+        self.user_acts(end, &event, answer)
     }
 
     /// A host takes what waits on a channel.
@@ -84,8 +75,8 @@ impl<L: Line> Nodes<L> {
         ensures { Happens L.service (event_is.Take node channel) self.old
             (result_and result (Ok answer.new)) self.new }
     {
-        let end = self.host_end(node)?;
-        let channel = self.channel(end.line, channel)?;
-        self.act(end, &NodeEvent::Takes(channel), answer)
+        let end = self.end_of(node)?;
+        let event = UserEvent::AtHost(HostEvent::Takes(channel));
+        self.user_acts(end, &event, answer)
     }
 }

@@ -15,7 +15,7 @@ use crate::nodes::{LineEnd, Nodes};
 use frame_codec::FrameBuf;
 use link_timers::{Role, TimerId};
 use memory_line::{Direction, Line};
-use net_events::{Answer, NodeEvent, Outcome, StepFault, SwitchEvent};
+use net_events::{Answer, LineEvent, Outcome, StepFault, SwitchEvent};
 use net_turns::{MOST_WRITES, make_bare, make_room};
 
 /// The end that hears what is sent in a direction.
@@ -66,7 +66,7 @@ impl<L: Line> Nodes<L> {
         }
     }
 
-    /// It arrives at a node with users.
+    /// The first frame in flight in a direction arrives at a node with users.
     fn deliver_to_user(
         &mut self,
         line: usize,
@@ -89,12 +89,12 @@ impl<L: Line> Nodes<L> {
             line,
             role: hearer(direction),
         };
-        let event = NodeEvent::Hears(frame.as_slice());
+        let event = LineEvent::Hears(frame.as_slice());
         let (nodes, register) = (&mut self.nodes, &mut self.register);
         serve_at(nodes, net_line, register, end, &event, answer)
     }
 
-    /// It arrives at the switch of this place, on an own line of it.
+    /// The first frame in flight from the DTE arrives at the switch of this place, on an own line of the switch.
     fn deliver_to_switch(
         &mut self,
         line: usize,
@@ -114,8 +114,7 @@ impl<L: Line> Nodes<L> {
             return Ok(());
         }
         let event = frame_heard(own, frame.as_slice());
-        self.switch_acts(place, &event, answer);
-        Ok(())
+        self.switch_acts(place, &event, answer)
     }
 
     /// The first frame in flight in a direction is lost.
@@ -150,14 +149,13 @@ impl<L: Line> Nodes<L> {
     {
         if let Some(own) = self.own_line(line, node) {
             self.make_switch_room(node, answer)?;
-            self.switch_acts(node, &SwitchEvent::Expires(own, timer), answer);
-            return Ok(());
+            return self.switch_acts(node, &SwitchEvent::Expires(own, timer), answer);
         }
         let end = self.end_of(node)?;
         if end.line != line {
             return Err(StepFault::NoSuchNode);
         }
-        self.act(end, &NodeEvent::Expires(timer), answer)
+        self.act(end, &LineEvent::Expires(timer), answer)
     }
 
     /// The DTE of a line gives its link up and sets it up again.
@@ -173,10 +171,10 @@ impl<L: Line> Nodes<L> {
             line,
             role: Role::Dte,
         };
-        self.act(end, &NodeEvent::Relinks, answer)
+        self.act(end, &LineEvent::Relinks, answer)
     }
 
-    /// A node begins anew, and its lines lose all frames.
+    /// A node restarts, and its lines lose all frames.
     pub(super) fn restart(&mut self, node: usize, answer: &mut Answer) -> Result<(), StepFault>
         requires { IsStanding self.old }
         ensures { Happens L.service (event_is.Restart node) self.old
@@ -184,13 +182,12 @@ impl<L: Line> Nodes<L> {
     {
         if self.is_switch(node) {
             self.make_switch_room(node, answer)?;
-            self.switch_acts(node, &SwitchEvent::Restarts, answer);
-            return Ok(());
+            return self.switch_acts(node, &SwitchEvent::Restarts, answer);
         }
         self.restart_user(node, answer)
     }
 
-    /// A node with users begins anew.
+    /// A node with users restarts.
     fn restart_user(&mut self, node: usize, answer: &mut Answer) -> Result<(), StepFault>
         requires standing { IsStanding self.old }
         requires user { is_switch_at node self.old ≡ false }
@@ -203,7 +200,7 @@ impl<L: Line> Nodes<L> {
         let net_line = &mut self.lines[end.line];
         net_line.line.empty();
         let (nodes, register) = (&mut self.nodes, &mut self.register);
-        let event = NodeEvent::Restarts;
+        let event = LineEvent::Restarts;
         serve_at(nodes, net_line, register, end, &event, answer)
     }
 }

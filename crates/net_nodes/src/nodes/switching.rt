@@ -1,5 +1,5 @@
 //! What happens at a switch: it is called, its frames go onto its lines, and the call that it joined is handed on.
-ghost use Rattle.std.specs.Prelude.{◌≡◌, [], Some, OnOk, true, false, length, slice_get, vec_capacity};
+ghost use Rattle.std.specs.Prelude.{◌≡◌, [], Some, OnOk, MatchResult, true, false, length, slice_get, vec_capacity};
 ghost use Rattle.std.specs.Option.{option_to_list};
 ghost use Rattle.call_records.specs.RegisterView.{register_of};
 ghost use Rattle.net_events.specs.AtSwitch.{all_handed, switch_drained};
@@ -15,7 +15,7 @@ use crate::nodes::{NetLine, Nodes};
 use call_records::Register;
 use line_end::MOST_FRAMES;
 use memory_line::Line;
-use net_events::{Answer, Outcome, Put, SwitchEvent};
+use net_events::{Answer, Outcome, Put, StepFault, SwitchEvent};
 use net_turns::{call_switch, make_frame_room, put_switch_frames};
 use placed_nodes::{NetNode, NodeKind, network_line};
 use std::alloc::AllocError;
@@ -36,7 +36,7 @@ fn hand_on(register: &mut Register, lines: &[usize], joined: Option<NewJoin>)
     }
 }
 
-/// Empties the lines of a switch that begins anew, puts all frames that wait there on them, line by line, and lists
+/// Empties the lines of a switch that restarts, puts all frames that wait there on them, line by line, and lists
 /// them.
 fn put_anew<L: Line>(
     switch: &mut Switch,
@@ -78,8 +78,8 @@ fn put_waiting<L: Line>(
     }
 }
 
-/// Puts all frames that wait at a switch on its lines, line by line, and lists them. Where the switch begins anew each
-/// line is emptied first.
+/// Puts all frames that wait at a switch on its lines, line by line, and lists them. If the switch restarts,
+/// each line is emptied first.
 pub(super) fn put_lines<L: Line>(
     switch: &mut Switch,
     own: &[usize],
@@ -99,7 +99,7 @@ pub(super) fn put_lines<L: Line>(
     }
 }
 
-/// Whether the switch begins anew.
+/// Whether the switch restarts.
 fn is_anew(event: &SwitchEvent<'_>) -> bool
     ensures { result ≡ is_anew (switch_event_of event.now) }
 {
@@ -113,19 +113,20 @@ pub(super) fn serve_switch<L: Line>(
     register: &mut Register,
     event: &SwitchEvent<'_>,
     puts: &mut Vec<Put>,
-)
+) -> Result<(), StepFault>
     requires { CanServeSwitch (switch_event_of event.now) node.old lines.old.items puts.old.items
         (vec_capacity puts.old) }
     ensures { (n : network.PlacedSwitch) → node.old ≡ network.Switching n
-        → SwitchServed L.service (switch_event_of event.now) n lines.old.items (register_of register.old) node.new
-        lines.new.items (register_of register.new) puts.new.items }
+        → MatchResult result (λ _. SwitchServed L.service (switch_event_of event.now) n lines.old.items
+        (register_of register.old) node.new lines.new.items (register_of register.new) puts.new.items) (λ _. ⊥) }
 {
     match &mut node.kind {
-        NodeKind::User { .. } => unreachable!(),
+        NodeKind::User { .. } => Err(StepFault::NoSuchNode),
         NodeKind::Switching { lines: own, switch } => {
             let joined = call_switch(switch, event);
             hand_on(register, own, joined);
             put_lines(switch, own, lines, is_anew(event), puts);
+            Ok(())
         }
     }
 }
@@ -170,16 +171,22 @@ impl<L: Line> Nodes<L> {
     }
 
     /// Serves an event at the switch of this place, and writes the answer, in which nothing stands before.
-    pub(super) fn switch_acts(&mut self, place: usize, event: &SwitchEvent<'_>, answer: &mut Answer)
+    pub(super) fn switch_acts(
+        &mut self,
+        place: usize,
+        event: &SwitchEvent<'_>,
+        answer: &mut Answer,
+    ) -> Result<(), StepFault>
         requires can { CanSwitch (switch_event_of event.now) place self.old answer.old.frames.items
             (vec_capacity answer.old.frames) }
         requires notes { answer.old.notes.items ≡ [] }
         requires text { answer.old.text.items ≡ [] }
         ensures { (n : network.PlacedSwitch) → slice_get self.old.nodes place ≡ Some (network.Switching n)
-            → SwitchActed L.service (switch_event_of event.now) place n self.old answer.new self.new }
+            → MatchResult result (λ _. SwitchActed L.service (switch_event_of event.now) place n self.old answer.new
+            self.new) (λ _. ⊥) }
     {
         let (lines, register) = (&mut self.lines, &mut self.register);
-        serve_switch(
+        let served = serve_switch(
             &mut self.nodes[place],
             lines,
             register,
@@ -187,5 +194,6 @@ impl<L: Line> Nodes<L> {
             &mut answer.frames,
         );
         answer.outcome = outcome_of(event);
+        served
     }
 }

@@ -1,142 +1,195 @@
 //! The turn of a node with users at its end of a line.
-ghost use Rattle.std.specs.Prelude.{◌≡◌, ◌≤◌, Some, Ok, MatchResult, OnOk, OnErr, slice_get, vec_capacity};
+ghost use Rattle.std.specs.Prelude.{◌≡◌, ◌≤◌, ◌<◌, [], Some, Ok, MatchResult, length, slice_get};
 ghost use Rattle.std.specs.Result.{result_and};
 ghost use Rattle.call_records.specs.RegisterView.{register_of};
-ghost use Rattle.net_events.specs.EventView.{event_of};
+ghost use Rattle.net_events.specs.EventView.{line_event_of, user_event_of};
 ghost use Rattle.net_events.specs.Network as network;
 ghost use Rattle.net_events.specs.NodeEvents.{turn_of};
-ghost use Rattle.net_turns.specs.Outcomes.{IsAnswered, text_of};
-ghost use Rattle.net_turns.specs.Served.{IsEmpty, HasPlaces, EventHasPlaces};
-ghost use Rattle.net_nodes.specs.Turns.{IsServable, UserServed, CanServe, HadTurn, HadNone, CanAct, LeavesLine, Acts};
+ghost use Rattle.net_turns.specs.Quiet.{IsQuiet};
+ghost use Rattle.net_turns.specs.Served.{IsEmpty};
+ghost use Rattle.net_turns.specs.Users.{IsRefusedWith, user_fault};
+ghost use Rattle.net_nodes.specs.Turns.{LineServed, UserServed, CanServe, CanServeUser, HadTurn, CanAct, LeavesLine};
+ghost use Rattle.net_nodes.specs.Turns.{Acts, IsWhole, UserActs};
 
 use crate::nodes::{LineEnd, NetLine, Nodes};
 use call_records::{Book, Register};
-use line_nodes::{NodeFault, Place, TerminalEvent};
+use line_nodes::Attachment;
 use link_timers::Role;
 use memory_line::Line;
-use net_events::{Answer, NodeEvent, StepFault};
-use net_turns::{MOST_TAKEN, MOST_TEXT, MOST_WRITES, NetPlace, make_room, serve};
+use net_events::{Answer, LineEvent, StepFault, UserEvent};
+use net_turns::{MOST_WRITES, make_room, serve_line, serve_user};
 use placed_nodes::{NetNode, NodeKind};
 
-/// Serves an event at a node with users.
-#[inline(always)]
-fn serve_user<L: Line>(
-    node: &mut NetNode,
-    at: NetPlace,
-    event: &NodeEvent<'_>,
-    line: &mut L,
-    book: &mut Book,
-    answer: &mut Answer,
-) -> Result<(), NodeFault>
-    requires user { IsServable (event_of event.now) node.old }
-    requires writes { MOST_WRITES ≤ book.old.room }
-    requires pairs { 1 ≤ book.old.pairs }
-    requires empty { IsEmpty answer.old }
-    requires places { EventHasPlaces (event_of event.now) (vec_capacity answer.old.text) }
-    ensures answer { (n : network.PlacedNode) → node.old ≡ network.User n
-        → IsAnswered (event_of event.now) n.node (result_and result (Ok answer.new.outcome)) }
-    ensures text { (n : network.PlacedNode) → node.old ≡ network.User n
-        → OnOk result (answer.new.text.items ≡ text_of (event_of event.now) n.node) }
-    ensures served { (n : network.PlacedNode) → node.old ≡ network.User n
-        → OnOk result (UserServed L.service at (turn_of (event_of event.now) at.place.role n.node book.old.book) n
-        (L.flights line.old) answer.new.frames.items answer.new.notes.items node.new (L.flights line.new)
-        book.new.book) }
-    ensures node { OnErr result (node.new ≡ node.old) }
-    ensures line { OnErr result (line.new ≡ line.old) }
-    ensures book { OnErr result (book.new ≡ book.old) }
+/// Where the node at an end of a line is attached.
+fn attachment<L: Line>(end: LineEnd, net_line: &NetLine<L>) -> Attachment
+    ensures { result ≡ record { line = end.line; role = end.role; node = network.place_at end.role net_line.now } }
 {
-    match &mut node.kind {
-        NodeKind::User { node, .. } => serve(node, at, event, line, book, answer),
-        NodeKind::Switching { .. } => unreachable!(),
+    let node = match end.role {
+        Role::Dte => net_line.dte,
+        Role::Dce => net_line.dce,
+    };
+    Attachment {
+        line: end.line,
+        role: end.role,
+        node,
     }
 }
 
-/// Serves an event at the node at an end of a line, at which the register is open, and writes the answer.
+// ---- what comes at the line
+
+/// Serves what comes at the line of a node with users.
+#[inline(always)]
+fn serve_line_of<L: Line>(
+    node: &mut NetNode,
+    at: Attachment,
+    event: &LineEvent<'_>,
+    line: &mut L,
+    book: &mut Book,
+    answer: &mut Answer,
+) -> Result<(), StepFault>
+    requires quiet { (n : network.PlacedNode) → node.old ≡ network.User n → IsQuiet n.node }
+    requires writes { 8 ≤ book.old.room }
+    requires pairs { 1 ≤ book.old.pairs }
+    requires empty { IsEmpty answer.old }
+    ensures { (n : network.PlacedNode) → node.old ≡ network.User n
+        → MatchResult (result_and result (Ok answer.new))
+        (λ a. LineServed L.service at (line_event_of event.now) n (L.flights line.old) book.old.book a node.new
+        (L.flights line.new) book.new.book)
+        (λ fault. ⊥) }
+{
+    match &mut node.kind {
+        NodeKind::User { node, .. } => {
+            serve_line(node, at, event, line, book, answer);
+            Ok(())
+        }
+        NodeKind::Switching { .. } => Err(StepFault::NoSuchNode),
+    }
+}
+
+/// Serves what comes at the node at an end of a line, at which the register is open, and writes the answer.
 #[inline(always)]
 pub(super) fn serve_at<L: Line>(
     nodes: &mut Vec<NetNode>,
     net_line: &mut NetLine<L>,
     register: &mut Register,
     end: LineEnd,
-    event: &NodeEvent<'_>,
+    event: &LineEvent<'_>,
     answer: &mut Answer,
 ) -> Result<(), StepFault>
-    requires { CanServe end (event_of event.now) nodes.old.items net_line.old register.old answer.old }
+    requires { CanServe end nodes.old.items net_line.old register.old answer.old }
     ensures { (n : network.PlacedNode)
         → slice_get nodes.old.items (network.place_at end.role net_line.old) ≡ Some (network.User n)
         → MatchResult (result_and result (Ok answer.new))
-        (λ a. HadTurn L.service end (event_of event.now) n nodes.old.items net_line.old (register_of register.old)
+        (λ a. HadTurn L.service end (line_event_of event.now) n nodes.old.items net_line.old (register_of register.old)
         a nodes.new.items net_line.new (register_of register.new))
-        (λ fault. HadNone (event_of event.now) n fault nodes.old.items net_line.old (register_of register.old)
-        nodes.new.items net_line.new (register_of register.new)) }
+        (λ fault. ⊥) }
 {
-    let node = match end.role {
-        Role::Dte => net_line.dte,
-        Role::Dce => net_line.dce,
-    };
-    let at = NetPlace {
-        line: end.line,
-        place: Place {
-            role: end.role,
-            node,
-        },
-    };
-    let served = serve_user(
-        &mut nodes[node],
+    let at = attachment(end, net_line);
+    serve_line_of(
+        &mut nodes[at.node],
         at,
         event,
         &mut net_line.line,
         &mut register.book,
         answer,
-    );
-    match served {
-        Ok(()) => Ok(()),
-        Err(fault) => Err(StepFault::Refused(fault)),
+    )
+}
+
+// ---- what users do
+
+/// Serves what a user does at a node.
+fn serve_user_of<L: Line>(
+    node: &mut NetNode,
+    at: Attachment,
+    event: &UserEvent<'_>,
+    net_line: &mut NetLine<L>,
+    register: &mut Register,
+    answer: &mut Answer,
+) -> Result<(), StepFault>
+    requires there { at.line < length register.old.lines.items }
+    requires quiet { (n : network.PlacedNode) → node.old ≡ network.User n → IsQuiet n.node }
+    ensures line { net_line.new ≡ record net_line.old { flights = net_line.new.flights } }
+    ensures served { (n : network.PlacedNode) → node.old ≡ network.User n
+        → UserServed L.service at (user_event_of event.now) (user_fault net_line.old.channels event.now n.node) n
+        net_line.old.flights (register_of register.old) (result_and result (Ok answer.new)) node.new
+        net_line.new.flights (register_of register.new) }
+{
+    match &mut node.kind {
+        NodeKind::User { node, .. } => serve_user(
+            node,
+            at,
+            net_line.channels,
+            event,
+            &mut net_line.line,
+            register,
+            answer,
+        ),
+        NodeKind::Switching { .. } => Err(StepFault::NoSuchNode),
     }
 }
 
-/// How many octets of text an event may give.
-fn text_places(event: &NodeEvent<'_>) -> usize
-    ensures { EventHasPlaces (event_of event.now) result }
+/// Serves what a user does at the node at an end of a line, and writes the answer.
+fn serve_user_at<L: Line>(
+    nodes: &mut Vec<NetNode>,
+    net_line: &mut NetLine<L>,
+    register: &mut Register,
+    end: LineEnd,
+    event: &UserEvent<'_>,
+    answer: &mut Answer,
+) -> Result<(), StepFault>
+    requires { CanServeUser end nodes.old.items net_line.old register.old }
+    ensures { (n : network.PlacedNode)
+        → slice_get nodes.old.items (network.place_at end.role net_line.old) ≡ Some (network.User n)
+        → MatchResult (result_and result (Ok answer.new))
+        (λ a. (user_fault net_line.old.channels event.now n.node ≡ None) × HadTurn L.service end
+        (user_event_of event.now) n nodes.old.items net_line.old (register_of register.old) a nodes.new.items
+        net_line.new (register_of register.new))
+        (λ fault. IsRefusedWith (user_fault net_line.old.channels event.now n.node) fault
+        × (nodes.new.items ≡ nodes.old.items) × (net_line.new ≡ net_line.old)
+        × (register_of register.new ≡ register_of register.old)) }
 {
-    match event {
-        NodeEvent::AtTerminal(_, event) => terminal_places(*event),
-        NodeEvent::Takes(_) => MOST_TAKEN,
-        NodeEvent::Hears(_)
-        | NodeEvent::Expires(_)
-        | NodeEvent::Relinks
-        | NodeEvent::Restarts
-        | NodeEvent::Calls(_, _)
-        | NodeEvent::Asks(_, _) => 0,
-    }
-}
-
-/// How many octets of text what happens at a terminal may show.
-fn terminal_places(event: TerminalEvent) -> usize
-    ensures { HasPlaces event result }
-{
-    match event {
-        TerminalEvent::Print => MOST_TEXT,
-        TerminalEvent::Key(_) | TerminalEvent::Break | TerminalEvent::Idle => 0,
-    }
+    let at = attachment(end, net_line);
+    serve_user_of(&mut nodes[at.node], at, event, net_line, register, answer)
 }
 
 impl<L: Line> Nodes<L> {
-    /// Something happens at the node at an end of a line; it is not that a frame arrives or that the node begins anew.
+    /// Something comes to the node at an end of a line; it is not that a frame arrives or that the node restarts.
     pub(super) fn act(
         &mut self,
         end: LineEnd,
-        event: &NodeEvent<'_>,
+        event: &LineEvent<'_>,
         answer: &mut Answer,
     ) -> Result<(), StepFault>
-        requires can { CanAct end (event_of event.now) self.old }
-        requires leaves { LeavesLine (event_of event.now) }
-        ensures { Acts L.service end (event_of event.now) self.old (result_and result (Ok answer.new)) self.new }
+        requires can { CanAct end self.old }
+        requires leaves { LeavesLine event.now }
+        ensures { Acts L.service end (line_event_of event.now) self.old (result_and result (Ok answer.new)) self.new }
     {
-        make_room(answer, text_places(event))?;
+        make_room(answer, 0)?;
         self.register.open(end.line, MOST_WRITES)?;
         let (nodes, register) = (&mut self.nodes, &mut self.register);
         serve_at(
+            nodes,
+            &mut self.lines[end.line],
+            register,
+            end,
+            event,
+            answer,
+        )
+    }
+
+    /// A user does something at the node at an end of a line.
+    pub(super) fn user_acts(
+        &mut self,
+        end: LineEnd,
+        event: &UserEvent<'_>,
+        answer: &mut Answer,
+    ) -> Result<(), StepFault>
+        requires can { CanAct end self.old }
+        requires whole { IsWhole event.now }
+        ensures { UserActs L.service end event.now self.old (result_and result (Ok answer.new)) self.new }
+    {
+        let (nodes, register) = (&mut self.nodes, &mut self.register);
+        serve_user_at(
             nodes,
             &mut self.lines[end.line],
             register,

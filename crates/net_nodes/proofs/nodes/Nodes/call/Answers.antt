@@ -1,23 +1,23 @@
-use Rattle.std.proofs.Common.{Ok, ℕ, List, refl, subst, arith}
+use Rattle.std.proofs.Common.{Ok, refl, arith}
 use Rattle.std.proofs.lemmas.Grind.{common_steps}
 use Rattle.std.specs.Result.{result_and}
-use Rattle.net_events.specs.NodeEvents.{Calls}
-use Rattle.net_turns.specs.Outcomes.{event_fault}
 use Rattle.net_events.specs.declared.event.Event.TheVariants.{Call}
-use Rattle.net_nodes.specs.Faults.{refused}
-use Rattle.net_nodes.specs.Turns.{Acts}
-use Rattle.net_nodes.proofs.Happening.{acted, can_act, host_at, fault_at}
+use Rattle.net_events.specs.declared.node_event.HostEvent.TheVariants as host_event
+use Rattle.net_events.specs.declared.node_event.UserEvent.TheVariants as user_event
+use Rattle.net_nodes.proofs.Happening.{user_acted, can_act, call_fault_at}
 use Rattle.net_nodes.proofs.nodes.Nodes.call.Goals as goal
 
-pub act-requires-clause-can : goal.act-requires-clause-can
-act-requires-clause-can g c =
-    can_act c.args.node c.in_ok-end.end (Calls c.args.address c.as_slice.result.now) c.args.self.now c.requires c.in_ok-end.ensures.1
-    (host_at c.args.node c.in_ok-end.end c.args.self.now c.in_ok-end.ensures.1 (c.in_ok-end.ensures.0), grind (arith, common_steps), grind (arith, common_steps))
+pub user_acts-requires-clause-can : goal.user_acts-requires-clause-can
+user_acts-requires-clause-can g c = can_act c.args.node c.in_ok-end.end c.args.self.now c.requires c.in_ok-end.ensures
+
+pub user_acts-requires-clause-whole : goal.user_acts-requires-clause-whole
+user_acts-requires-clause-whole g c = (grind (arith, common_steps), grind (arith, common_steps))
 
 pub returns : goal.returns
 returns g c =
-    let event = Calls c.args.address c.args.user_data.now.items in
-    let P : List ℕ → Type 0 = λ o. Acts g.L.Line.service c.in_ok-end.end (Calls c.args.address o) c.args.self.now (result_and c.act.result (Ok c.act.new.answer)) c.act.new.self in
-    acted g.L.Line.service (Call c.args.node c.args.address c.args.user_data.now) c.args.node event c.in_ok-end.end c.args.self.now c.act.new.self (result_and c.act.result (Ok c.act.new.answer)) c.in_ok-end.ensures.1
-    (fault_at c.args.node c.in_ok-end.end c.args.self.now c.in_ok-end.ensures.1 (λ n. refused (event_fault event n.node)) (c.in_ok-end.ensures.0))
-    refl (λ a w. w) (subst P c.as_slice.ensures.value c.act.ensures)
+    let p = c.in_ok-end.ensures in
+    let event = host_event.Calls c.args.address c.args.user_data in
+    user_acted g.L.Line.service (Call c.args.node c.args.address c.args.user_data.now) c.args.node (user_event.AtHost event) c.in_ok-end.end
+    c.args.self.now c.user_acts.new.self (result_and c.user_acts.result (Ok c.user_acts.new.answer)) p
+    (call_fault_at c.args.node c.in_ok-end.end c.args.self.now p event refl)
+    refl (λ a w. w) c.user_acts.ensures

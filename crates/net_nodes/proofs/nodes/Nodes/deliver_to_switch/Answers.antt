@@ -7,7 +7,10 @@ use Rattle.net_events.specs.Network.{Network}
 use Rattle.net_nodes.specs.Faults.{where_there_is}
 use Rattle.net_nodes.specs.Places.{IsStanding}
 use Rattle.placed_nodes.proofs.Lists.{there, within}
-use Rattle.net_nodes.proofs.SwitchTurns.{can_switch, can_hear, heard}
+use Rattle.memory_line.specs.declared.line.Direction.TheVariants.{FromDte}
+use Rattle.net_events.specs.declared.event.Event.TheVariants.{Deliver}
+use Rattle.net_nodes.specs.Happening.{Happens}
+use Rattle.net_nodes.proofs.SwitchTurns.{can_switch, can_hear, heard, answered}
 use Rattle.net_nodes.proofs.nodes.Nodes.deliver_to_switch.Goals as goal
 
 pub index_mut-requires : goal.index_mut-requires
@@ -66,7 +69,8 @@ returns g c =
     let h : c.args.line < length lines = within lines c.args.line o.line_is (ap (λ (s : Network). slice_get s.lines c.args.line) c.self.view_is ∙ o.line_there) in
     let here = there lines c.args.line _ c.index_mut.result.now h c.index_mut.ensures.value ∙ ap Some (sym c.behind-self.view_is) in
     rw (← c.self.view_is)
-    (heard L c.args.place c.args.line c.args.own c.as_slice.result.now o.node _ (g.L.Line.flights c.take.new.self) _ c.switch_acts.new.answer c.switch_acts.new.self st node_there o.own_line here
+    (answered c.switch_acts.result c.switch_acts.new.answer (λ x. Happens L (Deliver c.args.line FromDte) _ x c.switch_acts.new.self) (c.switch_acts.ensures o.node node_there)
+    (λ w. heard L c.args.place c.args.line c.args.own c.as_slice.result.now o.node _ (g.L.Line.flights c.take.new.self) _ c.switch_acts.new.answer c.switch_acts.new.self st node_there o.own_line here
     (λ f. (OnTrue_at c.if-not-take.false (c.take.ensures.taken f) ∙ ap Some (sym c.as_slice.ensures.value), c.take.ensures.others f))
     c.frame_heard-event.ensures.octets
-    _ c.frame_heard-event.ensures.event (c.switch_acts.ensures o.node node_there))
+    _ c.frame_heard-event.ensures.event w))

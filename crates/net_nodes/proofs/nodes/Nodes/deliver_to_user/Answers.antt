@@ -4,6 +4,7 @@ use Rattle.std.proofs.lemmas.Bool.{OnTrue_at, OnFalse_at}
 use Rattle.std.specs.Result.{result_and}
 use Rattle.call_records.specs.RegisterView.{register_of}
 use Rattle.net_events.specs.NodeEvents.{Hears}
+use Rattle.net_events.specs.declared.node_event.LineEvent.TheVariants as line_event
 use Rattle.net_events.specs.Network.{NetLine}
 use Rattle.net_nodes.specs.declared.nodes.LineEnd.{LineEnd}
 use Rattle.net_nodes.specs.Faults.{where_there_is}
@@ -50,16 +51,16 @@ serve_at-requires g c =
     let h : c.args.line < length lines = within lines c.args.line st.line_is st.line_there in
     let here = there lines c.args.line _ c.index_mut-net_line.result.now h c.index_mut-net_line.ensures.value ∙ ap Some (sym c.net_line.view_is) in
     let e = hears_there c.args.line (hearer c.args.direction) c.hearer.result c.hearer.ensures _ _ st here in
-    can_serve end (Hears c.as_slice.result.now) c.self.inside.nodes.items _ e.node e.node_there tt e.quiet c.self.inside.register st.registered _
+    can_serve end c.self.inside.nodes.items _ e.node e.node_there e.quiet c.self.inside.register st.registered _
     (g.L.Line.flights c.take.new.self) c.open.new.self c.make_room.new.answer
-    refl c.open.ensures.same c.open.ensures.at c.open.ensures.book c.in_ok-open.ensures.room c.in_ok-open.ensures.pairs c.in_ok-make_room.ensures.empty tt
+    refl c.open.ensures.same c.open.ensures.at c.open.ensures.book c.in_ok-open.ensures.room c.in_ok-open.ensures.pairs c.in_ok-make_room.ensures.empty
 
 pub returns : goal.returns
 returns g c =
     let L = g.L.Line.service in
     let lines = c.self.inside.lines.items in
     let end : LineEnd = record { line = c.args.line; role = c.hearer.result } in
-    let event = Hears c.as_slice.result.now in
+    let event = line_event.Hears c.as_slice.result in
     let st = subst (HearsAt c.args.line (hearer c.args.direction)) (sym c.self.view_is) c.requires in
     let h : c.args.line < length lines = within lines c.args.line st.line_is st.line_there in
     let here = there lines c.args.line _ c.index_mut-net_line.result.now h c.index_mut-net_line.ensures.value ∙ ap Some (sym c.net_line.view_is) in
@@ -68,9 +69,8 @@ returns g c =
     rw (← c.self.view_is)
     (delivered L c.args.line c.args.direction end refl c.hearer.ensures c.as_slice.result.now _ _ here (result_and c.serve_at.result (Ok c.serve_at.new.answer)) _
     (acts_anew L end event _ _ e.node (g.L.Line.flights c.take.new.self) (result_and c.serve_at.result (Ok c.serve_at.new.answer)) c.serve_at.new.nodes.items
-    c.serve_at.new.net_line (register_of c.serve_at.new.register) here e.node_there tt
+    c.serve_at.new.net_line (register_of c.serve_at.new.register) here e.node_there
     (λ f. left_hears c.args.direction c.hearer.result c.hearer.ensures _ _ _ c.as_slice.result.now c.as_slice.ensures.value (sym (OnTrue_at c.if-not-take.false (c.take.ensures.taken f))) (c.take.ensures.others f))
-    refl
-    (turned_from L end event e.node (result_and c.serve_at.result (Ok c.serve_at.new.answer)) c.self.inside.nodes.items _ _ _ (register_of c.self.inside.register) c.serve_at.new.nodes.items
+    (turned_from L end (Hears c.as_slice.result.now) e.node (result_and c.serve_at.result (Ok c.serve_at.new.answer)) c.self.inside.nodes.items _ _ _ (register_of c.self.inside.register) c.serve_at.new.nodes.items
     c.serve_at.new.net_line (register_of c.serve_at.new.register) refl c.open.ensures.same w)
     ))

@@ -4,15 +4,16 @@ use Rattle.std.specs.Result.{result_and}
 use Rattle.net_events.specs.NodeEvents.{Expires}
 use Rattle.net_events.specs.declared.event.Event.TheVariants.{Expire}
 use Rattle.net_nodes.specs.Faults.{where_there_is, stands_at}
+use Rattle.net_nodes.specs.Happening.{Happens}
 use Rattle.net_events.specs.AtSwitch as switch_event
 use Rattle.placed_nodes.proofs.Lists.{within}
 use Rattle.net_nodes.proofs.Happening.{acted, can_act}
-use Rattle.net_nodes.proofs.SwitchTurns.{own_line_found, can_switch, expired}
+use Rattle.net_nodes.proofs.SwitchTurns.{own_line_found, can_switch, expired, answered}
 use Rattle.net_nodes.proofs.nodes.Nodes.expire.Goals as goal
 
 pub act-requires-clause-can : goal.act-requires-clause-can
 act-requires-clause-can g c =
-    can_act c.args.node c.in_ok-end.end (Expires c.args.timer) c.args.self.now c.requires c.in_ok-end.ensures tt
+    can_act c.args.node c.in_ok-end.end c.args.self.now c.requires c.in_ok-end.ensures
 
 pub returns : goal.returns
 returns g c =
@@ -38,4 +39,5 @@ returns-in-Some g c =
     let s = c.args.self.now in
     let is = sym c.own_line.ensures ∙ c.in-Some.is in
     let o = own_line_found c.args.line c.args.node c.in-Some.own s is in
-    expired g.L.Line.service c.args.node c.args.line c.in-Some.own c.args.timer o.0 s c.switch_acts.new.answer c.switch_acts.new.self o.1 o.2 is (c.switch_acts.ensures o.0 o.1)
+    answered c.switch_acts.result c.switch_acts.new.answer (λ x. Happens g.L.Line.service (Expire c.args.node c.args.line c.args.timer) s x c.switch_acts.new.self) (c.switch_acts.ensures o.0 o.1)
+    (λ w. expired g.L.Line.service c.args.node c.args.line c.in-Some.own c.args.timer o.0 s c.switch_acts.new.answer c.switch_acts.new.self o.1 o.2 is w)

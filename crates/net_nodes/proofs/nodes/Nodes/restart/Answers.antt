@@ -1,6 +1,8 @@
 use Rattle.std.proofs.Common.{sym, refl}
 use Rattle.net_events.specs.AtSwitch.{Restarts}
-use Rattle.net_nodes.proofs.SwitchTurns.{switch_found, can_switch, restarted}
+use Rattle.net_nodes.proofs.SwitchTurns.{switch_found, can_switch, restarted, answered}
+use Rattle.net_events.specs.declared.event.Event.TheVariants.{Restart}
+use Rattle.net_nodes.specs.Happening.{Happens}
 use Rattle.net_nodes.proofs.nodes.Nodes.restart.Goals as goal
 
 pub switch_acts-requires-clause-can : goal.switch_acts-requires-clause-can
@@ -18,4 +20,5 @@ pub returns-then-is_switch : goal.returns-then-is_switch
 returns-then-is_switch g c =
     let s = c.args.self.now in
     let o = switch_found c.args.node s (sym c.if-is_switch.ensures) in
-    restarted g.L.Line.service c.args.node o.0 s c.switch_acts.new.answer c.switch_acts.new.self o.1 (c.switch_acts.ensures o.0 o.1)
+    answered c.switch_acts.result c.switch_acts.new.answer (λ x. Happens g.L.Line.service (Restart c.args.node) s x c.switch_acts.new.self) (c.switch_acts.ensures o.0 o.1)
+    (λ w. restarted g.L.Line.service c.args.node o.0 s c.switch_acts.new.answer c.switch_acts.new.self o.1 w)

@@ -2,6 +2,7 @@ use Rattle.std.proofs.Common.{Ok, slice_get, refl, sym, ap, ◌∙◌, subst}
 use Rattle.std.specs.Result.{result_and}
 use Rattle.call_records.specs.RegisterView.{register_of}
 use Rattle.net_events.specs.NodeEvents.{Restarts}
+use Rattle.net_events.specs.declared.node_event.LineEvent.TheVariants as line_event
 use Rattle.net_events.specs.Network.{NetLine, place_at}
 use Rattle.net_nodes.specs.Places.{IsStanding, IsPlaceOf}
 use Rattle.placed_nodes.proofs.Lists.{found, within}
@@ -16,9 +17,9 @@ serve_at-requires g c =
     let st = subst IsStanding (sym c.self.view_is) c.requires.standing in
     let p = subst (IsPlaceOf c.args.node end) (sym c.self.view_is) c.in_ok-end.ensures in
     let same = c.net_line.view_is ∙ found lines end.line _ c.index_mut-net_line.result.now p.line (within lines end.line p.line p.line_there) c.index_mut-net_line.ensures.value p.line_there in
-    can_serve end Restarts c.self.inside.nodes.items p.line p.node (at_end_of c.args.node end _ p) tt (quiet_at c.args.node end _ st p) c.self.inside.register (registered_at end.line p.line _ st p.line_there) _ (g.L.Line.flights c.empty.new.self) c.open.new.self c.make_room.new.answer
+    can_serve end c.self.inside.nodes.items p.line p.node (at_end_of c.args.node end _ p) (quiet_at c.args.node end _ st p) c.self.inside.register (registered_at end.line p.line _ st p.line_there) _ (g.L.Line.flights c.empty.new.self) c.open.new.self c.make_room.new.answer
     (ap (λ (x : NetLine). record x { flights = g.L.Line.flights c.empty.new.self }) same)
-    c.open.ensures.same c.open.ensures.at c.open.ensures.book c.in_ok-open.ensures.room c.in_ok-open.ensures.pairs c.in_ok-make_room.ensures.empty tt
+    c.open.ensures.same c.open.ensures.at c.open.ensures.book c.in_ok-open.ensures.room c.in_ok-open.ensures.pairs c.in_ok-make_room.ensures.empty
 
 pub returns : goal.returns
 returns g c =
@@ -33,8 +34,8 @@ returns g c =
     let w = c.serve_at.ensures p.node there in
     rw (← c.self.view_is)
     (began_anew L c.args.node end _ (result_and c.serve_at.result (Ok c.serve_at.new.answer)) _ p
-    (acts_anew L end Restarts _ p.line p.node empty (result_and c.serve_at.result (Ok c.serve_at.new.answer)) c.serve_at.new.nodes.items
-    c.serve_at.new.net_line (register_of c.serve_at.new.register) p.line_there (at_end_of c.args.node end _ p) tt c.empty.ensures refl
+    (acts_anew L end line_event.Restarts _ p.line p.node empty (result_and c.serve_at.result (Ok c.serve_at.new.answer)) c.serve_at.new.nodes.items
+    c.serve_at.new.net_line (register_of c.serve_at.new.register) p.line_there (at_end_of c.args.node end _ p) c.empty.ensures
     (turned_from L end Restarts p.node (result_and c.serve_at.result (Ok c.serve_at.new.answer)) c.self.inside.nodes.items _ (record p.line { flights = empty }) _ (register_of c.self.inside.register) c.serve_at.new.nodes.items
     c.serve_at.new.net_line (register_of c.serve_at.new.register) emptied c.open.ensures.same w)
     ))

@@ -4,10 +4,11 @@ use Rattle.net_events.specs.EventView.{switch_event_of}
 use Rattle.net_events.specs.Network.{NetNode, Switching}
 use Rattle.net_nodes.specs.Switching.{CanSwitch}
 use Rattle.placed_nodes.proofs.Lists.{found, within}
+use Rattle.net_nodes.proofs.SwitchTurns.{then_so}
 use Rattle.net_nodes.proofs.nodes.Nodes.switch_acts.Goals as goal
 
-pub serve_switch-requires : goal.serve_switch-requires
-serve_switch-requires g c =
+pub serve_switch-served-requires : goal.serve_switch-served-requires
+serve_switch-served-requires g c =
     let nodes = c.self.inside.nodes.items in
     let can = subst (λ s. CanSwitch (switch_event_of c.args.event.now) c.args.place s c.args.answer.now.frames.items (vec_capacity c.args.answer.now.frames)) (sym c.self.view_is) c.requires.can in
     record {
@@ -22,8 +23,8 @@ returns g c =
     let nodes = c.self.inside.nodes.items in
     rw (← c.self.view_is)
     (λ n there.
-    let w = c.serve_switch.ensures n (found nodes c.args.place _ c.index_mut.result.now (Switching n) (within nodes c.args.place (Switching n) there) c.index_mut.ensures.value there) in
-    record {
+    then_so c.serve_switch-served.result
+    (λ w. record {
       nodes_are = ap (λ (m : NetNode). set nodes c.args.place m) w.node_is;
       lines_put = w.lines_put;
       register_is = w.register_is;
@@ -32,3 +33,4 @@ returns g c =
       text = c.requires.text;
       outcome = c.outcome_of-answer.ensures;
     })
+    (c.serve_switch-served.ensures n (found nodes c.args.place _ c.index_mut.result.now (Switching n) (within nodes c.args.place (Switching n) there) c.index_mut.ensures.value there)))

@@ -1,0 +1,18 @@
+use Rattle.line_nodes.specs.NodeView.{node_of}
+use Rattle.net_turns.proofs.Writing.{called_hears, called_expires, called_relinks}
+use Rattle.net_turns.proofs.serving.call_at_line.Goals as goal
+
+pub returns-in-Hears-clause-called : goal.returns-in-Hears-clause-called
+returns-in-Hears-clause-called c =
+    rw (c.in-Hears.is, c.hear.ensures)
+    (called_hears c.args.role (node_of c.args.node.now) c.in-Hears.octets.now c.args.book.now c.requires.quiet c.requires.room.0 c.requires.room.1)
+
+pub returns-in-Expires-clause-called : goal.returns-in-Expires-clause-called
+returns-in-Expires-clause-called c =
+    rw (c.in-Expires.is, c.expire.ensures.node)
+    (called_expires c.args.role (node_of c.args.node.now) c.in-Expires.timer c.args.book.now c.requires.quiet c.requires.room.0 c.requires.room.1)
+
+pub returns-in-Relinks-clause-called : goal.returns-in-Relinks-clause-called
+returns-in-Relinks-clause-called c =
+    rw (c.in-Relinks.is, c.relink.ensures)
+    (called_relinks c.args.role (node_of c.args.node.now) c.args.book.now c.requires.quiet c.requires.room.0 c.requires.room.1)

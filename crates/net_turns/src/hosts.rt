@@ -1,0 +1,116 @@
+//! What a user asks of a host: the host is called, and what was asked is written into the book of its line.
+ghost use Rattle.std.specs.Prelude.{◌≡◌, ◌≤◌, [], Some, Ok, OnOk, OnErr, length, vec_capacity};
+ghost use Rattle.std.specs.Result.{result_and};
+ghost use Rattle.packet_layer.specs.Layer.{front_on};
+ghost use Rattle.packet_layer.specs.TakenView.{taken_of, shown_front, maybe_front};
+ghost use Rattle.packet_host.specs.Host.{after_take};
+ghost use Rattle.line_nodes.specs.Node.{Host as HostNode};
+ghost use Rattle.node_laws.specs.Quiet.{IsQuiet};
+ghost use Rattle.net_events.specs.EventView.{host_event_of};
+ghost use Rattle.net_turns.specs.Outcomes.{IsAnswered, taken_octets, text_of};
+ghost use Rattle.net_turns.specs.Served.{IsCalled, taken_written};
+ghost use Rattle.net_turns.specs.Users.{IsNumbered};
+
+use crate::serving::MOST_WRITES;
+use call_records::Book;
+use line_nodes::{NodeFault, write_request, write_taken};
+use link_timers::Role;
+use net_events::{HostEvent, Outcome};
+use packet_codec::MAX_USER_DATA;
+use packet_host::Host;
+use packet_layer::{Front, Taken};
+
+/// A host takes no more octets at once than this.
+pub(crate) const MOST_TAKEN: usize = MAX_USER_DATA;
+
+/// Takes what comes next on a channel of a host, if anything, writes it, and adds its octets to the text.
+fn take(
+    host: &mut Host,
+    role: Role,
+    channel: u8,
+    book: &mut Book,
+    text: &mut Vec<u8>,
+) -> Option<Front>
+    requires room { 1 ≤ book.old.room }
+    requires empty { text.old.items ≡ [] }
+    requires places { MOST_TAKEN ≤ vec_capacity text.old }
+    ensures taken { result ≡ maybe_front (front_on host.old.layer channel) }
+    ensures host { host.new ≡ after_take host.old channel }
+    ensures book { book.new.book ≡ taken_written (front_on host.old.layer channel) role channel book.old.book }
+    ensures text { text.new.items ≡ taken_octets (front_on host.old.layer channel) }
+{
+    let taken = host.take(channel)?;
+    write_taken(book, role, channel, &taken);
+    let Ok(()) = text.extend_from_slice(octets_of(&taken)) else {
+        unreachable!()
+    };
+    Some(front_of(&taken))
+}
+
+/// The octets of what was taken.
+fn octets_of(taken: &Taken) -> &[u8]
+    ensures value { result.now ≡ taken_octets (Some (taken_of taken.now)) }
+    ensures most { length result.now ≤ MOST_TAKEN }
+{
+    match taken {
+        Taken::Interrupt(interrupt) => interrupt.octets(),
+        Taken::Data(packet) => packet.octets(),
+    }
+}
+
+/// What was taken, but for its octets.
+fn front_of(taken: &Taken) -> Front
+    ensures { result ≡ shown_front (taken_of taken.now) }
+{
+    match taken {
+        Taken::Interrupt(_) => Front::Interrupt,
+        Taken::Data(packet) => Front::Data {
+            length: packet.octets().len() as u8,
+            more: packet.more(),
+            qualified: packet.qualified(),
+            delivery: packet.delivery(),
+        },
+    }
+}
+
+/// Asks a host what its user asks, writes it, and gives the outcome. The octets of what is taken are added to the text.
+#[inline(never)]
+pub(crate) fn ask_host(
+    host: &mut Host,
+    role: Role,
+    event: &HostEvent<'_>,
+    book: &mut Book,
+    text: &mut Vec<u8>,
+    outcome: &mut Outcome,
+) -> Result<(), NodeFault>
+    requires numbered { IsNumbered event.now }
+    requires room { MOST_WRITES ≤ book.old.room }
+    requires quiet { IsQuiet (HostNode host.old) }
+    requires text { (text.old.items ≡ []) × (MOST_TAKEN ≤ vec_capacity text.old) }
+    ensures answer { IsAnswered (host_event_of event.now) (HostNode host.old) (result_and result (Ok outcome.new)) }
+    ensures text { OnOk result (text.new.items ≡ text_of (host_event_of event.now) (HostNode host.old)) }
+    ensures ok { OnOk result (IsCalled (host_event_of event.now) role (HostNode host.old) book.old.book
+        (HostNode host.new) book.new) }
+    ensures host { OnErr result (host.new ≡ host.old) }
+    ensures book { OnErr result (book.new ≡ book.old) }
+{
+    match event {
+        HostEvent::Calls(address, user_data) => {
+            let channel = host.call(*address, user_data.as_slice())?;
+            book.place(role, channel, address);
+            *outcome = Outcome::Called { channel };
+            Ok(())
+        }
+        HostEvent::Asks(channel, request) => {
+            let channel = *channel as u8;
+            host.ask(channel, request)?;
+            write_request(book, role, channel, request);
+            *outcome = Outcome::Done;
+            Ok(())
+        }
+        HostEvent::Takes(channel) => {
+            *outcome = Outcome::Took(take(host, role, *channel as u8, book, text));
+            Ok(())
+        }
+    }
+}
