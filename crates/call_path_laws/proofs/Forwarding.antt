@@ -9,7 +9,7 @@ use Rattle.call_records.specs.Book.{side_of, slot_at, with_record, address_of, c
 use Rattle.call_records.specs.Register.{Register, book_at, written_at, all_written_at, holds}
 use Rattle.call_records.specs.Writes.{Write, all_written}
 use Rattle.book_laws.proofs.Basics.{get_last, get_before, get_there}
-use Rattle.call_path_laws.specs.World.{Origin, placing, Join, World, Plan, Place, after_event, MayJoin, holder_of, with_join, calling_on}
+use Rattle.call_path_laws.specs.World.{Origin, placing, Join, World, Plan, ChannelEnd, after_event, MayJoin, holder_of, with_join, calling_on}
 use Rattle.call_path_laws.specs.World.Event.{Writes, SwitchWrites, Joins}
 use Rattle.call_path_laws.specs.Seen.{Seen}
 use Rattle.call_path_laws.specs.Forwards.{IsForwarded, IsHandedOn, AreHandedOn, MadeForwardLaw, ForwardLaw, RelayedLaw}
@@ -54,7 +54,7 @@ written_headed line role writes g less n r e =
 
 -- ---- a join
 
-module _ (plan : Plan) (from to : Place) (parts : CallParts) (w : World) (m : MayJoin plan from to w) (s : Seen plan w) where
+module _ (plan : Plan) (from to : ChannelEnd) (parts : CallParts) (w : World) (m : MayJoin plan from to w) (s : Seen plan w) where
   abbrev whole : Register
   whole = written_at to.line (places_from to.role to.channel parts.calling parts.called) w.whole
 

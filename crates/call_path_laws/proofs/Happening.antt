@@ -9,7 +9,7 @@ use Rattle.call_records.specs.Writes.{all_written}
 use Rattle.call_records.specs.Register.{Register, LineEnds, book_at, found_ends, with_book, written_at, holds}
 use Rattle.book_laws.proofs.Basics.{set_elsewhere, length_set, number_is}
 use Rattle.register_laws.proofs.Seeing.{book_there}
-use Rattle.call_path_laws.specs.World.{Origin, placing, Join, World, Plan, Place, MayJoin, holder_of, with_join}
+use Rattle.call_path_laws.specs.World.{Origin, placing, Join, World, Plan, ChannelEnd, MayJoin, holder_of, with_join}
 use Rattle.call_path_laws.specs.World.Event.{Writes, SwitchWrites, Joins}
 use Rattle.call_path_laws.specs.Seen.{BeginsIf, IsMadeAt, SideIsSeen, RecordsAreSeen, PairsAreSeen, Seen}
 use Rattle.call_path_laws.specs.Law.{EventLaw}
@@ -87,7 +87,7 @@ module _ (plan : Plan) (w : World) (s : Seen plan w) where
   register_less line less = subst (λ (n : ℕ). line < n) (sym s.lines) less
 
   -- a call that came in at a switch
-  incoming : (from to : Place) (m : MayJoin plan from to w) → joining.Incoming plan w.joins w.origins m.came_in (holder_of from w.register) (plan.node to.line to.role)
+  incoming : (from to : ChannelEnd) (m : MayJoin plan from to w) → joining.Incoming plan w.joins w.origins m.came_in (holder_of from w.register) (plan.node to.line to.role)
   incoming from to m =
       let side : SideIsSeen plan w.origins w.joins from.line from.role (side_of from.role (book_at from.line w.register)) (side_of from.role (book_at from.line w.whole)) =
       s.sides from.line from.role m.from_end.there in

@@ -8,12 +8,12 @@ use Rattle.call_records.specs.Book.{slot_at}
 use Rattle.call_records.specs.Register.{book_at}
 use Rattle.book_laws.specs.Headline.{IsOpenHere}
 use Rattle.register_laws.specs.Promise.{IsPresent, HasRecords}
-use Rattle.call_path_laws.specs.World.{Place}
+use Rattle.call_path_laws.specs.World.{ChannelEnd}
 use Rattle.call_path_laws.specs.Run.{world}
 use Rattle.call_path_laws.proofs.Each.{each}
 
 -- the second call's four records are those of these channels
-abbrev place_of : ℕ → Place
+abbrev place_of : ℕ → ChannelEnd
 place_of (suc (suc (suc (suc zero)))) = record { line = 0; role = Dte; channel = 4 }
 place_of (suc (suc (suc (suc (suc zero))))) = record { line = 0; role = Dce; channel = 4 }
 place_of (suc (suc (suc (suc (suc (suc zero)))))) = record { line = 1; role = Dce; channel = 1 }
@@ -53,7 +53,7 @@ lies (suc (suc line)) Dce (suc i) n e = absurd (none-some n e)
 one_place : (i j : ℕ) (a b : Role) (c d n : ℕ) → (slot_at a c (book_at i world.whole)).present ≡ Some n → (slot_at b d (book_at j world.whole)).present ≡ Some n → (i ≡ j) × ((a ≡ b) × (c ≡ d))
 one_place i j a b c d n e h =
     let same : record { line = i; role = a; channel = c } ≡ record { line = j; role = b; channel = d } = sym (lies i a c n e).at ∙ (lies j b d n h).at in
-    (ap (λ (p : Place). p.line) same, (ap (λ (p : Place). p.role) same, ap (λ (p : Place). p.channel) same))
+    (ap (λ (p : ChannelEnd). p.line) same, (ap (λ (p : ChannelEnd). p.role) same, ap (λ (p : ChannelEnd). p.channel) same))
 
 abbrev Present : ℕ → RecordValue → Type 0
 Present n r = r.closed ≡ false → IsPresent world.whole n

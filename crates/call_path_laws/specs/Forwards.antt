@@ -8,7 +8,7 @@ use Rattle.call_records.specs.Records.{RecordValue}
 use Rattle.call_records.specs.Book.{slot_at, address_of}
 use Rattle.call_records.specs.Register.{LinePlan, book_at}
 use Rattle.book_laws.specs.Headline.{sent_by, taken_by}
-use Rattle.call_path_laws.specs.World.{Origin, World, Plan, Place, Event, after_event, MayHappen, made_world}
+use Rattle.call_path_laws.specs.World.{Origin, World, Plan, ChannelEnd, Event, after_event, MayHappen, made_world}
 use Rattle.call_path_laws.specs.World.{calling_on}
 use Rattle.call_path_laws.specs.World.Event.{Joins}
 use Rattle.call_path_laws.specs.Seen.{IsJoined, Seen}
@@ -18,7 +18,7 @@ use Rattle.call_path_laws.specs.Promise.{JoinsHold}
 
 -- the called address is that of the call; the calling one is that of the line that it came on, or, where this line has
 -- none, that of the call; and it goes on on the line of the route of the called address
-pub record IsForwarded (plan : Plan) (from to : Place) (parts : CallParts) (came : RecordValue) : Type 0 where
+pub record IsForwarded (plan : Plan) (from to : ChannelEnd) (parts : CallParts) (came : RecordValue) : Type 0 where
   pub called : address_of parts.called ≡ came.own
   pub calling : address_of parts.calling ≡ calling_on (plan.address from.line) came.far
   pub routed : plan.route (plan.node to.line to.role) (address_of parts.called) ≡ Some to.line

@@ -58,7 +58,7 @@ all_traced line role (write ∷ writes) b origins =
 -- ---- the network
 
 -- a channel at an end of a line
-pub record Place : Type 0 where
+pub record ChannelEnd : Type 0 where
   pub line : ℕ
   pub role : Role
   pub channel : ℕ
@@ -99,10 +99,10 @@ calling_on (digit ∷ digits) given = Some (digit ∷ digits)
 pub data Event : Type 0 where
   Writes : (line : ℕ) → Role → List Write → Event
   SwitchWrites : (line : ℕ) → Role → List Write → Event
-  Joins : (from to : Place) → CallParts → Event
+  Joins : (from to : ChannelEnd) → CallParts → Event
 
 -- the holder for the channel to which a call goes on: that of the far end of the channel on which it came
-abbrev pub holder_of : Place → Register → Option ℕ
+abbrev pub holder_of : ChannelEnd → Register → Option ℕ
 holder_of from g = (slot_at (other_of from.role) from.channel (book_at from.line g)).placed
 
 abbrev pub with_join : Option ℕ → (placed : ℕ) → List Join → List Join
@@ -147,7 +147,7 @@ pub record IsSwitchEnd (plan : Plan) (line : ℕ) (role : Role) (w : World) : Ty
   pub switch : plan.has_user line role ≡ false
 
 -- a switch joins a call as it comes in: the end that placed it placed none since, and no join has it yet
-pub record MayJoin (plan : Plan) (from to : Place) (w : World) : Type 0 where
+pub record MayJoin (plan : Plan) (from to : ChannelEnd) (w : World) : Type 0 where
   pub from_end : IsSwitchEnd plan from.line from.role w
   pub to_end : IsSwitchEnd plan to.line to.role w
   pub one_switch : plan.node from.line from.role ≡ plan.node to.line to.role

@@ -18,8 +18,8 @@ use Rattle.call_states.specs.declared.table.CallNote.{CallNote}
 use Rattle.call_states.specs.declared.table.CallNote.TheVariants.{Nothing, Incoming, Connected, Cancelled, Cleared}
 use Rattle.call_states.specs.declared.table.CallNote.TheVariants.{Discarded, InDataTransfer}
 use Rattle.call_states.specs.declared.table.CallStep.{CallStep}
-use Rattle.call_states.specs.Places.{Place, state_of, place_of, place_number, state_number}
-use Rattle.call_states.specs.Places.Place.{Ready, OwnWaiting, FarWaiting, DataTransfer, CallCollision, OwnClear}
+use Rattle.call_states.specs.EndStates.{EndState, state_of, end_state_of, end_state_number, state_number}
+use Rattle.call_states.specs.EndStates.EndState.{Ready, OwnWaiting, FarWaiting, DataTransfer, CallCollision, OwnClear}
 
 -- the events of a row: an act of the user, packets of some types, or any packet that no row above has
 pub data Events : Type 0 where
@@ -31,25 +31,25 @@ pub data Events : Type 0 where
 -- the event is a procedure error
 pub record Row : Type 0 where
   pub only : Option Role
-  pub states : List Place
+  pub states : List EndState
   pub events : Events
-  pub new : Place
+  pub new : EndState
   pub owed : Option PacketType
   pub note : CallNote
   pub is_error : Bool
 
 -- a row of both roles
-abbrev pub row : List Place → Events → Place → Option PacketType → CallNote → Row
+abbrev pub row : List EndState → Events → EndState → Option PacketType → CallNote → Row
 row states events new owed note =
     record { only = None; states = states; events = events; new = new; owed = owed; note = note; is_error = false }
 
 -- a row of one role
-abbrev pub row_of_role : Role → List Place → Events → Place → Option PacketType → CallNote → Row
+abbrev pub row_of_role : Role → List EndState → Events → EndState → Option PacketType → CallNote → Row
 row_of_role role states events new owed note =
     record { only = Some role; states = states; events = events; new = new; owed = owed; note = note; is_error = false }
 
 -- a row of a procedure error: the call is cleared, with the diagnostic of the state
-abbrev pub error_row : List Place → CallNote → Row
+abbrev pub error_row : List EndState → CallNote → Row
 error_row states note =
     record {
       only = None;
@@ -62,7 +62,7 @@ error_row states note =
     }
 
 -- the states in which there is a call
-abbrev pub in_call : List Place
+abbrev pub in_call : List EndState
 in_call = OwnWaiting ∷ FarWaiting ∷ DataTransfer ∷ CallCollision ∷ []
 
 -- what data transfer is about
@@ -113,13 +113,13 @@ includes AnyOtherPacket (Received kind) = true
 includes AnyOtherPacket Unreadable = true
 includes _ _ = false
 
-abbrev pub covers : Role → Place → CallEvent → Row → Bool
+abbrev pub covers : Role → EndState → CallEvent → Row → Bool
 covers role place event r =
-    list_any (λ p. place_number p == place_number place) r.states
+    list_any (λ p. end_state_number p == end_state_number place) r.states
     && (includes r.events event && is_for r.only role)
 
 -- the first row that has the role, the state and the event
-abbrev pub row_for : Role → Place → CallEvent → Option Row
+abbrev pub row_for : Role → EndState → CallEvent → Option Row
 row_for role place event = find (covers role place event) table
 
 abbrev pub call_step : CallState → Option PacketType → CallNote → Option ℕ → CallStep
@@ -128,7 +128,7 @@ call_step state owed note error = record { state = state; owed = owed; note = no
 abbrev pub diagnostic_of : CallState → ℕ
 diagnostic_of state = not_allowed_in_p (state_number state)
 
-abbrev pub done_by : Role → Place → Row → CallStep
+abbrev pub done_by : Role → EndState → Row → CallStep
 done_by role place r = record {
   state = state_of role r.new;
   owed = r.owed;
@@ -136,9 +136,9 @@ done_by role place r = record {
   error = if r.is_error then Some (diagnostic_of (state_of role place)) else None;
 }
 
-abbrev pub step_at : Role → Place → CallEvent → Option CallStep
+abbrev pub step_at : Role → EndState → CallEvent → Option CallStep
 step_at role place event = option_map (done_by role place) (row_for role place event)
 
 -- the step of the table for a role, a state and an event, if it has a row for them
 abbrev pub step_of : Role → CallState → CallEvent → Option CallStep
-step_of role state event = option_and_then (λ place. step_at role place event) (place_of role state)
+step_of role state event = option_and_then (λ place. step_at role place event) (end_state_of role state)

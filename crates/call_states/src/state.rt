@@ -1,8 +1,8 @@
 //! States of a call.
 
 ghost use Rattle.std.specs.Prelude.{◌≡◌};
-ghost use Rattle.call_states.specs.Places.{state_of, state_number};
-ghost use Rattle.call_states.specs.Places.Place.{OwnWaiting, FarWaiting, OwnClear};
+ghost use Rattle.call_states.specs.EndStates.{state_of, state_number};
+ghost use Rattle.call_states.specs.EndStates.EndState.{OwnWaiting, FarWaiting, OwnClear};
 
 use link_timers::Role;
 

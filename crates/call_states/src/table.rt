@@ -1,8 +1,9 @@
 //! The state table of call set-up and clearing.
 
 ghost use Rattle.std.specs.Prelude.{◌≡◌, ◌↔◌, IsTrue, IsSome};
-ghost use Rattle.call_states.specs.Places.{place_of, state_of};
-ghost use Rattle.call_states.specs.Places.Place.{Ready, OwnWaiting, FarWaiting, DataTransfer, CallCollision, OwnClear};
+ghost use Rattle.call_states.specs.EndStates.{end_state_of, state_of};
+ghost use Rattle.call_states.specs.EndStates.EndState.{Ready, OwnWaiting, FarWaiting, DataTransfer, CallCollision};
+ghost use Rattle.call_states.specs.EndStates.EndState.{OwnClear};
 ghost use Rattle.call_states.specs.Table.{call_step, diagnostic_of, step_at, step_of};
 
 use crate::state::CallState;
@@ -70,7 +71,7 @@ impl CallState {
         requires { IsSome (step_of role state event) }
         ensures row { step_of role state event ≡ Some result }
         // The state in which the other end clears is never entered.
-        ensures kept { IsSome (place_of role result.state) }
+        ensures kept { IsSome (end_state_of role result.state) }
     {
         met(role, state, event)
     }

@@ -21,8 +21,8 @@ use Rattle.call_records.specs.Book.{Book, Slot, slot_at, told, all_told, closes}
 use Rattle.call_records.specs.Writes.Write.{Told}
 use Rattle.book_laws.proofs.Basics.{number_is}
 use Rattle.book_laws.proofs.Writing.{slot_changed}
-use Rattle.switch_lines.specs.declared.place.Place.{Place}
-use Rattle.switch_lines.specs.declared.place.Joined.{Joined}
+use Rattle.switch_lines.specs.declared.channels.SwitchChannel.{SwitchChannel}
+use Rattle.switch_lines.specs.declared.channels.Joined.{Joined}
 use Rattle.switch_lines.specs.Lines.{SwitchLine, same_place, changed, joined_at, ask}
 use Rattle.switch_lines.specs.Switch.{heed, heed_all, with_end, without_notes, quieted}
 use Rattle.switch_laws.specs.Leg.{Leg, stepped}
@@ -126,7 +126,7 @@ closed_gone (Closed d cause diagnostic reason ∷ ns) r m n c b i a there e o = 
     k = let x = closed_there d m r b there in record { it = x.it; there = x.there; epochs = x.epochs }
 
     later : c ≢ d → (at n c ≡ at n d) ⊎ IsOver n ns (at n c) → ((rec : RecordValue) (x : Book) → AreApart x → slice_get x.records m ≡ Some rec → (slot_at Dce c x).present ≡ Some m → IsOver n ns (at n c) → IsAbsent m (all_told Dce ns x)) → IsAbsent m (all_told Dce ns (closes Dce d b))
-    later ne (inl same) onward = absurd (ne (ap (λ (x : Place). x.channel) same))
+    later ne (inl same) onward = absurd (ne (ap (λ (x : SwitchChannel). x.channel) same))
     later ne (inr more) onward = onward k.it (closes Dce d b) (apart_after Dce d b (closes Dce d b) (touches_closed Dce d b) a) k.there ((touches_closed Dce d b).slots Dce c (λ h. ne h.1) ∙ e) more
 
     by_channel : (c ≡ d) ⊎ (c ≢ d) → ((rec : RecordValue) (x : Book) → AreApart x → slice_get x.records m ≡ Some rec → (slot_at Dce c x).present ≡ Some m → IsOver n ns (at n c) → IsAbsent m (all_told Dce ns x)) → IsAbsent m (all_told Dce ns (closes Dce d b))
@@ -166,7 +166,7 @@ closing_only c reason (ch ∷ chs) = by_call (had_call ch.state) (closing_only (
     by_call false i = i
 
 -- whether notes say that the call of a channel is over
-pub over_or_not : (n : ℕ) (ns : List Note) (x : Place) → IsOver n ns x ⊎ (IsOver n ns x → ⊥)
+pub over_or_not : (n : ℕ) (ns : List Note) (x : SwitchChannel) → IsOver n ns x ⊎ (IsOver n ns x → ⊥)
 over_or_not n [] x = inr (λ o. o)
 over_or_not n (Closed c cause diagnostic reason ∷ ns) x = by_here (decided (same_place x (at n c))) (over_or_not n ns x)
   where
@@ -181,9 +181,9 @@ over_or_not n (InterruptConfirmed c ∷ ns) x = over_or_not n ns x
 over_or_not n (Covered c k ∷ ns) x = over_or_not n ns x
 
 -- one that is over is on the line
-pub over_line : (n : ℕ) (ns : List Note) (x : Place) → IsOver n ns x → x.line ≡ n
+pub over_line : (n : ℕ) (ns : List Note) (x : SwitchChannel) → IsOver n ns x → x.line ≡ n
 over_line n [] x o = absurd o
-over_line n (Closed c cause diagnostic reason ∷ ns) x (inl e) = ap (λ (y : Place). y.line) e
+over_line n (Closed c cause diagnostic reason ∷ ns) x (inl e) = ap (λ (y : SwitchChannel). y.line) e
 over_line n (Closed c cause diagnostic reason ∷ ns) x (inr o) = over_line n ns x o
 over_line n (Incoming c parts ∷ ns) x o = over_line n ns x o
 over_line n (Connected c ∷ ns) x o = over_line n ns x o
@@ -253,7 +253,7 @@ module _ (routes : RouteMap) (n : ℕ) (what : Happening) (ls : List SwitchLine)
   other_book : (k : ℕ) → k ≢ n → bs1 k ≡ bs k
   other_book k ne = ap (λ (as_ : List Act). books_after_all as_ (layers_of ls) bs k) acts_are ∙ books_apart acts n k (layers_of ls) bs (refl, happening_on n what line.end) ne
 
-  pub joined_ms : (y : Place) → joined_at ms y ≡ joined_at ls y
+  pub joined_ms : (y : SwitchChannel) → joined_at ms y ≡ joined_at ls y
   joined_ms y = joined_kept n y.line y.channel (with_end without_notes) l1 (λ z. refl) ∙ joined_kept n y.line y.channel (with_end (λ e. does what (quieted e))) ls (λ z. refl)
 
   pub beside_ms : Beside ms bs1
@@ -277,7 +277,7 @@ module _ (routes : RouteMap) (n : ℕ) (what : Happening) (ls : List SwitchLine)
   rests_ms : (k m : ℕ) (r : RecordValue) → Rests m r (bs k) → Rests m r (bs1 k)
   rests_ms k m r s = books_rest (acts_of (Happens n what) ls) (layers_of ls) bs k m r s
 
-  same_ms : ((y : Place) (j : Joined) → joined_at ls y ≡ Some j → present_at y bs1 ≡ present_at y bs) → Same ls ms bs bs1
+  same_ms : ((y : SwitchChannel) (j : Joined) → joined_at ls y ≡ Some j → present_at y bs1 ≡ present_at y bs) → Same ls ms bs bs1
   same_ms slots = record { joins = λ y. ap shape (joined_ms y); slots = slots; rests = rests_ms }
 
   apart_ls : AreApart (bs n)
@@ -305,7 +305,7 @@ module _ (routes : RouteMap) (n : ℕ) (what : Happening) (ls : List SwitchLine)
           steady_keep R keeps sends ss ms bs1 cs steady mutual_ms (calls_same ls ms bs bs1 cs mutual_ls (same_ms slots) a) kept1,
         )
       where
-        slots : (y : Place) (j : Joined) → joined_at ls y ≡ Some j → present_at y bs1 ≡ present_at y bs
+        slots : (y : SwitchChannel) (j : Joined) → joined_at ls y ≡ Some j → present_at y bs1 ≡ present_at y bs
         slots y j e =
             elim (number_is y.line n) [
               | inl is ↦
@@ -317,21 +317,21 @@ module _ (routes : RouteMap) (n : ℕ) (what : Happening) (ls : List SwitchLine)
     -- ---- some calls are over
 
     -- a side of a call that stood, after it
-    record Sided (ns : List Note) (y : Place) (m : ℕ) (r : RecordValue) : Type 0 where
+    record Sided (ns : List Note) (y : SwitchChannel) (m : ℕ) (r : RecordValue) : Type 0 where
       pub it : RecordValue
       pub side : Side n ns bs1 y m it
       pub epochs : SameEpochs r it
 
     abbrev AllSided : List Note → Type 0
-    AllSided ns = (y : Place) (m : ℕ) (r : RecordValue) → slice_get (bs y.line).records m ≡ Some r → present_at y bs ≡ Some m → Sided ns y m r
+    AllSided ns = (y : SwitchChannel) (m : ℕ) (r : RecordValue) → slice_get (bs y.line).records m ≡ Some r → present_at y bs ≡ Some m → Sided ns y m r
 
     in_hand : (ns : List Note) → AllSided ns → (c : JoinedCall) → Stands ls bs c → InHand n ns ms bs1 c
     in_hand ns sides c s =
         let r : JoinsRecords bs c.near s.join.other = joins_relay ls w bs i h c.near s.join s.joined in
         let near_is : r.near_there.number ≡ c.came_in = same_Some r.near_there.number c.came_in (sym r.near_there.present ∙ s.near_present) in
-        let far_is : r.far_there.number ≡ c.placed = same_Some r.far_there.number c.placed (sym r.far_there.present ∙ (ap (λ (y : Place). present_at y bs) s.other ∙ s.far_present)) in
+        let far_is : r.far_there.number ≡ c.placed = same_Some r.far_there.number c.placed (sym r.far_there.present ∙ (ap (λ (y : SwitchChannel). present_at y bs) s.other ∙ s.far_present)) in
         let x = sides c.near c.came_in r.near (ap (λ (k : ℕ). slice_get (bs c.near.line).records k) (sym near_is) ∙ r.near_there.there) s.near_present in
-        let y = sides c.far c.placed r.far (ap₂ (λ (q : Place) (k : ℕ). slice_get (bs q.line).records k) (sym s.other) (sym far_is) ∙ r.far_there.there) s.far_present in
+        let y = sides c.far c.placed r.far (ap₂ (λ (q : SwitchChannel) (k : ℕ). slice_get (bs q.line).records k) (sym s.other) (sym far_is) ∙ r.far_there.there) s.far_present in
         record {
           near_record = x.it;
           far_record = y.it;
@@ -354,7 +354,7 @@ module _ (routes : RouteMap) (n : ℕ) (what : Happening) (ls : List SwitchLine)
     }
 
     -- one elsewhere
-    side_apart : (ns : List Note) (y : Place) (m : ℕ) (r : RecordValue) → y.line ≢ n → slice_get (bs y.line).records m ≡ Some r → present_at y bs ≡ Some m → Sided ns y m r
+    side_apart : (ns : List Note) (y : SwitchChannel) (m : ℕ) (r : RecordValue) → y.line ≢ n → slice_get (bs y.line).records m ≡ Some r → present_at y bs ≡ Some m → Sided ns y m r
     side_apart ns y m r ne there present = record {
       it = r;
       side = record {
@@ -395,7 +395,7 @@ module _ (routes : RouteMap) (n : ℕ) (what : Happening) (ls : List SwitchLine)
     -- ---- notes of one channel
 
     module _ (d : ℕ) (role : Role) (s : CallState) (of : AreOf d role s notes) where
-      abbrev p : Place
+      abbrev p : SwitchChannel
       p = at n d
 
       touches : TouchesAt p bs bs1
@@ -409,11 +409,11 @@ module _ (routes : RouteMap) (n : ℕ) (what : Happening) (ls : List SwitchLine)
 
           here_ : y ≡ p → Sided (Closed d cause diagnostic reason ∷ []) y m r
           here_ e =
-              let there_n : slice_get (bs n).records m ≡ Some r = ap (λ (z : Place). slice_get (bs z.line).records m) (sym e) ∙ there in
-              let present_n : (slot_at Dce d (bs n)).present ≡ Some m = ap (λ (z : Place). present_at z bs) (sym e) ∙ present in
+              let there_n : slice_get (bs n).records m ≡ Some r = ap (λ (z : SwitchChannel). slice_get (bs z.line).records m) (sym e) ∙ there in
+              let present_n : (slot_at Dce d (bs n)).present ≡ Some m = ap (λ (z : SwitchChannel). present_at z bs) (sym e) ∙ present in
               let k = closed_there d m r (bs n) there_n in
               let rests : Rests m k.it (all_told Dce rest (closes Dce d (bs n))) = event_rests Dce (Told rest ∷ []) m k.it (closes Dce d (bs n)) (record { there = k.there; not_present = closed_absent d m (bs n) apart_ls present_n }) in
-              let book : bs1 y.line ≡ all_told Dce rest (closes Dce d (bs n)) = ap (λ (z : Place). bs1 z.line) e ∙ (here_book ∙ ap (λ (ns : List Note). all_told Dce ns (bs n)) is) in
+              let book : bs1 y.line ≡ all_told Dce rest (closes Dce d (bs n)) = ap (λ (z : SwitchChannel). bs1 z.line) e ∙ (here_book ∙ ap (λ (ns : List Note). all_told Dce ns (bs n)) is) in
               record {
                 it = k.it;
                 side = record { there = ap (λ (b : Book). slice_get b.records m) book ∙ rests.there; held = inl (inl e, subst (λ (b : Book). IsAbsent m b) (sym book) rests.not_present) };
@@ -482,11 +482,11 @@ module _ (routes : RouteMap) (n : ℕ) (what : Happening) (ls : List SwitchLine)
             kept = kept1;
           })
         where
-          not_here : (y : Place) (j : Joined) → joined_at ls y ≡ Some j → same_place y p ≡ false
+          not_here : (y : SwitchChannel) (j : Joined) → joined_at ls y ≡ Some j → same_place y p ≡ false
           not_here y j e = by_test (decided (same_place y p))
             where
               by_test : (same_place y p ≡ true) ⊎ (same_place y p ≡ false) → same_place y p ≡ false
-              by_test (inl t) = absurd (none-some j (sym none ∙ (ap (λ (z : Place). joined_at ls z) (sym (place_is y p t)) ∙ e)))
+              by_test (inl t) = absurd (none-some j (sym none ∙ (ap (λ (z : SwitchChannel). joined_at ls z) (sym (place_is y p t)) ∙ e)))
               by_test (inr f) = f
 
     -- ---- any effect
@@ -495,7 +495,7 @@ module _ (routes : RouteMap) (n : ℕ) (what : Happening) (ls : List SwitchLine)
         → Walked (And AreCalls R) (heed_all_steps routes n notes ms) ms bs1 cs (heed_all routes n notes ms)
     one_step d st e is leg ch found notes_seen = by_joined (joined_at ls p) refl
       where
-        p : Place
+        p : SwitchChannel
         p = at n d
 
         shown_p : shown_at (layers_of ls) (at n d) ≡ Some (seen l ch)
@@ -568,7 +568,7 @@ module _ (routes : RouteMap) (n : ℕ) (what : Happening) (ls : List SwitchLine)
             here : joined_at ms (at n d) ≡ Some j
             here = joined_ms (at n d) ∙ at_j
 
-            slots : (y : Place) (i : Joined) → joined_at ls y ≡ Some i → present_at y bs1 ≡ present_at y bs
+            slots : (y : SwitchChannel) (i : Joined) → joined_at ls y ≡ Some i → present_at y bs1 ≡ present_at y bs
             slots y i e =
                 elim (number_is y.line n) [
                   | inl same ↦

@@ -19,8 +19,8 @@ use Rattle.call_records.specs.Book.{Book, slot_at}
 use Rattle.call_records.specs.Carried.{placed_on}
 use Rattle.book_laws.proofs.Basics.{get_before, get_last}
 use Rattle.switch_lines.specs.Direction.{new_direction}
-use Rattle.switch_lines.specs.declared.place.Place.{Place}
-use Rattle.switch_lines.specs.declared.place.Joined.{Joined}
+use Rattle.switch_lines.specs.declared.channels.SwitchChannel.{SwitchChannel}
+use Rattle.switch_lines.specs.declared.channels.Joined.{Joined}
 use Rattle.switch_lines.specs.Lines.{SwitchLine, same_place, joined_at, with_joined, ask}
 use Rattle.switch_lines.specs.Relay.{told, told_of}
 use Rattle.switch_lines.specs.Switch.{Answer, answer, answered, forwarded, place_call, heed, heed_all, has_any}
@@ -50,29 +50,29 @@ use Rattle.joined_call_laws.proofs.Closing.{if_apart, TouchesAt, clear_touches, 
 
 -- ---- a joined channel has a present record, and so has one with a call
 
-pub joined_present : (ls : List SwitchLine) (bs : Books) (cs : List JoinedCall) (x : Place) (i : Joined) → AreCalls ls bs cs → Mutual ls → joined_at ls x ≡ Some i → (m : ℕ) × (present_at x bs ≡ Some m)
+pub joined_present : (ls : List SwitchLine) (bs : Books) (cs : List JoinedCall) (x : SwitchChannel) (i : Joined) → AreCalls ls bs cs → Mutual ls → joined_at ls x ≡ Some i → (m : ℕ) × (present_at x bs ≡ Some m)
 joined_present ls bs cs x i a m e = by_side i.came_in refl
   where
     k : Paired ls x i
     k = m x i e
 
     by_side : (v : Bool) → i.came_in ≡ v → (n : ℕ) × (present_at x bs ≡ Some n)
-    by_side true f = let c = a.all x i e f in (c.1.came_in, ap (λ (y : Place). present_at y bs) (sym c.4) ∙ c.3.near_present)
+    by_side true f = let c = a.all x i e f in (c.1.came_in, ap (λ (y : SwitchChannel). present_at y bs) (sym c.4) ∙ c.3.near_present)
     by_side false f =
         let c = a.all i.other k.far k.joined (k.one_came_in ∙ ap not f) in
-        let is : c.3.join ≡ k.far = same_Some c.3.join k.far (sym c.3.joined ∙ (ap (λ (y : Place). joined_at ls y) c.4 ∙ k.joined)) in
+        let is : c.3.join ≡ k.far = same_Some c.3.join k.far (sym c.3.joined ∙ (ap (λ (y : SwitchChannel). joined_at ls y) c.4 ∙ k.joined)) in
         let far : c.1.far ≡ x = sym c.3.other ∙ (ap (λ (j : Joined). j.other) is ∙ k.back) in
-        (c.1.placed, ap (λ (y : Place). present_at y bs) (sym far) ∙ c.3.far_present)
+        (c.1.placed, ap (λ (y : SwitchChannel). present_at y bs) (sym far) ∙ c.3.far_present)
 
 -- the channel of a layer, with its call
-pub record Seen (ls : List SwitchLine) (bs : Books) (legs : ℕ → Leg) (x : Place) : Type 0 where
+pub record Seen (ls : List SwitchLine) (bs : Books) (legs : ℕ → Leg) (x : SwitchChannel) : Type 0 where
   pub layer : Layer
   pub there : slice_get (layers_of ls) x.line ≡ Some layer
   pub channel : Channel
   pub found : channel_of layer x.channel ≡ Some channel
   pub has : Has Dce x.channel (leg_if (had_call channel.state) (legs x.channel)) (bs x.line)
 
-pub seen_at : (ls : List SwitchLine) (bs : Books) (x : Place) (b : Beside ls bs) → is_some (shown_at (layers_of ls) x) ≡ true → Seen ls bs (λ c. b.legs (record { line = x.line; channel = c })) x
+pub seen_at : (ls : List SwitchLine) (bs : Books) (x : SwitchChannel) (b : Beside ls bs) → is_some (shown_at (layers_of ls) x) ≡ true → Seen ls bs (λ c. b.legs (record { line = x.line; channel = c })) x
 seen_at ls bs x b e = by_layer (slice_get (layers_of ls) x.line) refl
   where
     by_channel : (l : Layer) (o : Option Channel) → slice_get (layers_of ls) x.line ≡ Some l → channel_of l x.channel ≡ o → Seen ls bs (λ c. b.legs (record { line = x.line; channel = c })) x
@@ -97,7 +97,7 @@ pub record_call : (v : Bool) (c m : ℕ) (g : Leg) (b : Book) → (slot_at Dce c
 record_call true c m g b e h = refl
 record_call false c m g b e h = absurd (none-some m (sym h ∙ e))
 
-pub call_present : (ls : List SwitchLine) (bs : Books) (x : Place) (shown : Shown) → Beside ls bs → shown_at (layers_of ls) x ≡ Some shown → had_call shown.channel.state ≡ true → (m : ℕ) × (present_at x bs ≡ Some m)
+pub call_present : (ls : List SwitchLine) (bs : Books) (x : SwitchChannel) (shown : Shown) → Beside ls bs → shown_at (layers_of ls) x ≡ Some shown → had_call shown.channel.state ≡ true → (m : ℕ) × (present_at x bs ≡ Some m)
 call_present ls bs x shown b e call =
     let s = seen_at ls bs x b (ap (λ (o : Option Shown). is_some o) e) in
     let is : record { role = s.layer.role; window = s.layer.window; channel = s.channel } ≡ shown =
@@ -106,14 +106,14 @@ call_present ls bs x shown b e call =
 
 -- ---- a free channel
 
-free_channel_of : (ls : List SwitchLine) (q : Place) (f : IsFreePlace ls q) → (ch : Channel) × ((channel_of f.line.end.layer q.channel ≡ Some ch) × (is_free ch ≡ true))
+free_channel_of : (ls : List SwitchLine) (q : SwitchChannel) (f : IsFreePlace ls q) → (ch : Channel) × ((channel_of f.line.end.layer q.channel ≡ Some ch) × (is_free ch ≡ true))
 free_channel_of ls q f = free_is f.line.end.layer.role f.line.end.layer.channels q.channel (given_ready f.line.end.layer f.line.end.layer.phase q.channel f.given).1
 
-free_there : (ls : List SwitchLine) (q : Place) → IsFreePlace ls q → is_some (shown_at (layers_of ls) q) ≡ true
+free_there : (ls : List SwitchLine) (q : SwitchChannel) → IsFreePlace ls q → is_some (shown_at (layers_of ls) q) ≡ true
 free_there ls q f =
     ap (λ (o : Option Layer). is_some (shown_on o q.channel)) (layer_there ls q f) ∙ ap (λ (o : Option Channel). is_some (shown_as f.line.end.layer o)) (free_channel_of ls q f).1.0
 
-free_absent : (ls : List SwitchLine) (bs : Books) (q : Place) (m : ℕ) → IsFreePlace ls q → Beside ls bs → present_at q bs ≡ Some m → ⊥
+free_absent : (ls : List SwitchLine) (bs : Books) (q : SwitchChannel) (m : ℕ) → IsFreePlace ls q → Beside ls bs → present_at q bs ≡ Some m → ⊥
 free_absent ls bs q m f b e =
     let s = seen_at ls bs q b (free_there ls q f) in
     let ch = free_channel_of ls q f in
@@ -123,14 +123,14 @@ free_absent ls bs q m f b e =
 
 -- ---- placed
 
-placed_line : (q : Place) (parts : CallParts) (o : Option Layer) (b : Book) → ((l : Layer) → o ≡ Some l → channel_given l l.phase ≡ Some q.channel) → Touches Dce q.channel b (writes_at (Act.Calls q.line parts) o b)
+placed_line : (q : SwitchChannel) (parts : CallParts) (o : Option Layer) (b : Book) → ((l : Layer) → o ≡ Some l → channel_given l l.phase ≡ Some q.channel) → Touches Dce q.channel b (writes_at (Act.Calls q.line parts) o b)
 placed_line q parts None b g = touches_none Dce q.channel b
 placed_line q parts (Some l) b g = subst (λ (o : Option ℕ). Touches Dce q.channel b (placed_on Dce o parts b)) (sym (g l refl)) (touches_new Dce q.channel _ _ b refl)
 
-given_at : (ls : List SwitchLine) (q : Place) (f : IsFreePlace ls q) (l : Layer) → slice_get (layers_of ls) q.line ≡ Some l → channel_given l l.phase ≡ Some q.channel
+given_at : (ls : List SwitchLine) (q : SwitchChannel) (f : IsFreePlace ls q) (l : Layer) → slice_get (layers_of ls) q.line ≡ Some l → channel_given l l.phase ≡ Some q.channel
 given_at ls q f l e = let same : l ≡ f.line.end.layer = same_Some l f.line.end.layer (sym e ∙ layer_there ls q f) in ap (λ (y : Layer). channel_given y y.phase) same ∙ f.given
 
-placed_touches_at : (q : Place) (parts : CallParts) (ls : List SwitchLine) (bs : Books) → IsFreePlace ls q → TouchesAt q bs (books_by (Places q.line parts) ls bs)
+placed_touches_at : (q : SwitchChannel) (parts : CallParts) (ls : List SwitchLine) (bs : Books) → IsFreePlace ls q → TouchesAt q bs (books_by (Places q.line parts) ls bs)
 placed_touches_at q parts ls bs f = record {
   line =
       subst (λ (v : Bool). Touches Dce q.channel (bs q.line) (if v then writes_at (Act.Calls q.line parts) (slice_get (layers_of ls) q.line) (bs q.line) else bs q.line)) (sym (eq-eqb q.line q.line refl))
@@ -138,7 +138,7 @@ placed_touches_at q parts ls bs f = record {
   others = λ k ne. if_apart k q.line _ (bs k) ne;
 }
 
-placed_present : (q : Place) (parts : CallParts) (ls : List SwitchLine) (bs : Books) → IsFreePlace ls q → Beside ls bs → present_at q (books_by (Places q.line parts) ls bs) ≡ Some (length (bs q.line).records)
+placed_present : (q : SwitchChannel) (parts : CallParts) (ls : List SwitchLine) (bs : Books) → IsFreePlace ls q → Beside ls bs → present_at q (books_by (Places q.line parts) ls bs) ≡ Some (length (bs q.line).records)
 placed_present q parts ls bs f b =
     let l = f.line.end.layer in
     let s = (b.records q.line l (layer_there ls q f)).slots q.channel (ap (λ (o : Option Channel). is_some o) (free_channel_of ls q f).1.0) in
@@ -152,7 +152,7 @@ every_last : {X : Type 0} (P : X → Type 0) (xs : List X) (x : X) → Every P x
 every_last P [] x e p = (p, tt)
 every_last P (y ∷ xs) x e p = (e.0, every_last P xs x e.1 p)
 
-cleared : (cause : ℕ) (p : Place) (ls : List SwitchLine) (bs : Books) (cs : List JoinedCall) → Mutual ls → joined_at ls p ≡ None → AreCalls ls bs cs
+cleared : (cause : ℕ) (p : SwitchChannel) (ls : List SwitchLine) (bs : Books) (cs : List JoinedCall) → Mutual ls → joined_at ls p ≡ None → AreCalls ls bs cs
     → AreCalls (ask p (Clearing cause no_information) ls) (books_by (Asks p (Clearing cause no_information)) ls bs) cs
 cleared cause p ls bs cs m none a =
     let r = Clearing cause no_information in
@@ -162,14 +162,14 @@ cleared cause p ls bs cs m none a =
       rests = λ k n rec s. books_rest (Act.Asks p r ∷ []) (layers_of ls) bs k n rec s;
     }) a
   where
-    not_here : (x : Place) (j : Joined) → joined_at ls x ≡ Some j → same_place x p ≡ false
+    not_here : (x : SwitchChannel) (j : Joined) → joined_at ls x ≡ Some j → same_place x p ≡ false
     not_here x j e = by_test (decided (same_place x p))
       where
         by_test : (same_place x p ≡ true) ⊎ (same_place x p ≡ false) → same_place x p ≡ false
-        by_test (inl t) = absurd (none-some j (sym none ∙ (ap (λ (y : Place). joined_at ls y) (sym (place_is x p t)) ∙ e)))
+        by_test (inl t) = absurd (none-some j (sym none ∙ (ap (λ (y : SwitchChannel). joined_at ls y) (sym (place_is x p t)) ∙ e)))
         by_test (inr f) = f
 
-module _ (p q : Place) (parts : CallParts) (ls : List SwitchLine) (bs : Books) (b : Beside ls bs) (none : joined_at ls p ≡ None) (number : ℕ) (p_present : present_at p bs ≡ Some number) (f : IsFreePlace ls q) where
+module _ (p q : SwitchChannel) (parts : CallParts) (ls : List SwitchLine) (bs : Books) (b : Beside ls bs) (none : joined_at ls p ≡ None) (number : ℕ) (p_present : present_at p bs ≡ Some number) (f : IsFreePlace ls q) where
   abbrev jp : Joined
   jp = record { other = q; came_in = true; kept = new_direction }
 
@@ -198,10 +198,10 @@ module _ (p q : Place) (parts : CallParts) (ls : List SwitchLine) (bs : Books) (
   apart = by_test (decided (same_place p q))
     where
       by_test : (same_place p q ≡ true) ⊎ (same_place p q ≡ false) → same_place p q ≡ false
-      by_test (inl t) = absurd (free_absent ls bs q number f b (ap (λ (y : Place). present_at y bs) (sym (place_is p q t)) ∙ p_present))
+      by_test (inl t) = absurd (free_absent ls bs q number f b (ap (λ (y : SwitchChannel). present_at y bs) (sym (place_is p q t)) ∙ p_present))
       by_test (inr g) = g
 
-  kept1 : (x : Place) → joined_at l1 x ≡ joined_at ls x
+  kept1 : (x : SwitchChannel) → joined_at l1 x ≡ joined_at ls x
   kept1 x = joined_kept q.line x.line x.channel _ ls (λ l. refl)
 
   near_now : present_at p bs' ≡ Some number
@@ -227,7 +227,7 @@ module _ (p q : Place) (parts : CallParts) (ls : List SwitchLine) (bs : Books) (
 
   -- the calls that were joined before stay, and this one stands
 
-  module _ (cs : List JoinedCall) (m : Mutual ls) (a : AreCalls ls bs cs) (p_there : is_some (shown_at (layers_of ls) p) ≡ true) (places : (x : Place) → is_some (shown_at (layers_of ls) x) ≡ true → has_place ls x ≡ true) where
+  module _ (cs : List JoinedCall) (m : Mutual ls) (a : AreCalls ls bs cs) (p_there : is_some (shown_at (layers_of ls) p) ≡ true) (places : (x : SwitchChannel) → is_some (shown_at (layers_of ls) x) ≡ true → has_place ls x ≡ true) where
     q_none : joined_at ls q ≡ None
     q_none = by_joined (joined_at ls q) refl
       where
@@ -241,14 +241,14 @@ module _ (p q : Place) (parts : CallParts) (ls : List SwitchLine) (bs : Books) (
     there : joined_at ms q ≡ Some jq
     there = joined_here q (Some jq) l2 (place_joined p (Some jp) l1 q ∙ (place_after q.line _ ls q (λ l. refl) ∙ places q (free_there ls q f)))
 
-    else_ : (x : Place) → same_place x p ≡ false → same_place x q ≡ false → joined_at ms x ≡ joined_at ls x
+    else_ : (x : SwitchChannel) → same_place x p ≡ false → same_place x q ≡ false → joined_at ms x ≡ joined_at ls x
     else_ x g h = joined_apart q (Some jq) x l2 h ∙ (joined_apart p (Some jp) x l1 g ∙ kept1 x)
 
-    not_at : (y x : Place) (j : Joined) → joined_at ls y ≡ None → joined_at ls x ≡ Some j → same_place x y ≡ false
+    not_at : (y x : SwitchChannel) (j : Joined) → joined_at ls y ≡ None → joined_at ls x ≡ Some j → same_place x y ≡ false
     not_at y x j gone e = by_test (decided (same_place x y))
       where
         by_test : (same_place x y ≡ true) ⊎ (same_place x y ≡ false) → same_place x y ≡ false
-        by_test (inl t) = absurd (none-some j (sym gone ∙ (ap (λ (z : Place). joined_at ls z) (sym (place_is x y t)) ∙ e)))
+        by_test (inl t) = absurd (none-some j (sym gone ∙ (ap (λ (z : SwitchChannel). joined_at ls z) (sym (place_is x y t)) ∙ e)))
         by_test (inr g) = g
 
     stay : Stay ls ms bs bs'
@@ -267,11 +267,11 @@ module _ (p q : Place) (parts : CallParts) (ls : List SwitchLine) (bs : Books) (
       all = λ x j e came. by_place x j e came (decided (same_place x p)) (decided (same_place x q));
     }
       where
-        by_place : (x : Place) (j : Joined) → joined_at ms x ≡ Some j → j.came_in ≡ true → (same_place x p ≡ true) ⊎ (same_place x p ≡ false) → (same_place x q ≡ true) ⊎ (same_place x q ≡ false)
+        by_place : (x : SwitchChannel) (j : Joined) → joined_at ms x ≡ Some j → j.came_in ≡ true → (same_place x p ≡ true) ⊎ (same_place x p ≡ false) → (same_place x q ≡ true) ⊎ (same_place x q ≡ false)
             → (i : ℕ) × (c : JoinedCall) × (slice_get (cs ++ made ∷ []) i ≡ Some c) × Stands ms bs' c × (c.near ≡ x)
         by_place x j e came (inl t) v = (length cs, made, get_last cs made, stands, sym (place_is x p t))
         by_place x j e came (inr g) (inl t) =
-            let is : jq ≡ j = same_Some jq j (sym there ∙ (ap (λ (y : Place). joined_at ms y) (sym (place_is x q t)) ∙ e)) in
+            let is : jq ≡ j = same_Some jq j (sym there ∙ (ap (λ (y : SwitchChannel). joined_at ms y) (sym (place_is x q t)) ∙ e)) in
             absurd (true≢false (sym came ∙ ap (λ (i : Joined). i.came_in) (sym is)))
         by_place x j e came (inr g) (inr h) =
             let c = a.all x j (sym (else_ x g h) ∙ e) came in
@@ -280,13 +280,13 @@ module _ (p q : Place) (parts : CallParts) (ls : List SwitchLine) (bs : Books) (
 -- ---- answered
 
 module _ (routes : RouteMap) (given : List (List ℕ)) (R : Books → List JoinedCall → Type 0) (keeps : KeptQuietly R) (joins : KeptJoining routes given R) where
-  clears_walk : (cause : ℕ) (p : Place) (ls : List SwitchLine) (bs : Books) (cs : List JoinedCall) → Mutual ls → joined_at ls p ≡ None → AreCalls ls bs cs → R bs cs
+  clears_walk : (cause : ℕ) (p : SwitchChannel) (ls : List SwitchLine) (bs : Books) (cs : List JoinedCall) → Mutual ls → joined_at ls p ≡ None → AreCalls ls bs cs → R bs cs
       → Walked (And AreCalls R) (Asks p (Clearing cause no_information) ∷ []) ls bs cs (ask p (Clearing cause no_information) ls)
   clears_walk cause p ls bs cs m none a r =
       let ss : List Step = Asks p (Clearing cause no_information) ∷ [] in
       walked_quiet (And AreCalls R) ss ls bs cs (ask p (Clearing cause no_information) ls) refl refl (cleared cause p ls bs cs m none a, steps_keep R keeps ss ls bs cs (tt, tt) r)
 
-  answers_walk : (v : Answer) (p : Place) (parts : CallParts) (ls : List SwitchLine) (bs : Books) (cs : List JoinedCall) → answer routes ls parts ≡ v → IsAnswer ls v → Mutual ls → Beside ls bs → HavePlaces ls → AreCalls ls bs cs → joined_at ls p ≡ None
+  answers_walk : (v : Answer) (p : SwitchChannel) (parts : CallParts) (ls : List SwitchLine) (bs : Books) (cs : List JoinedCall) → answer routes ls parts ≡ v → IsAnswer ls v → Mutual ls → Beside ls bs → HavePlaces ls → AreCalls ls bs cs → joined_at ls p ≡ None
       → is_some (shown_at (layers_of ls) p) ≡ true → CameIn p parts bs → addresses ls ≡ given → R bs cs → Walked (And AreCalls R) (answered_steps v p parts ls) ls bs cs (answered v p parts ls)
   answers_walk (Clears cause) p parts ls bs cs is f m b places a none was came same r = clears_walk cause p ls bs cs m none a r
   answers_walk (Joins q) p parts ls bs cs is f m b places a none was came same r =

@@ -16,7 +16,7 @@ use Rattle.packet_layer.specs.Layer.{Layer, channel_of, request_refusal, refusal
 use Rattle.call_records.specs.Records.{RecordValue, with_closed, changed_at}
 use Rattle.call_records.specs.Book.{Book, Slot, nth_slot, with_nth, slot_at, with_slot, with_change, changed, closes}
 use Rattle.call_records.specs.Carried.{unless_refused}
-use Rattle.switch_lines.specs.declared.place.Place.{Place}
+use Rattle.switch_lines.specs.declared.channels.SwitchChannel.{SwitchChannel}
 use Rattle.switch_lines.specs.Lines.{SwitchLine, same_place}
 use Rattle.switch_laws.specs.Leg.{Leg}
 use Rattle.switch_laws.specs.World.{Act, layers_of, shown_at, shown_on}
@@ -106,22 +106,22 @@ if_apart k n x y ne = by_test (decided (k == n))
     by_test (inl t) = absurd (ne (eqb-true k n t))
     by_test (inr f) = ap (λ (v : Bool). if v then x else y) f
 
-pub record TouchesAt (q : Place) (bs bs' : Books) : Type 0 where
+pub record TouchesAt (q : SwitchChannel) (bs bs' : Books) : Type 0 where
   pub line : Touches Dce q.channel (bs q.line) (bs' q.line)
   pub others : (k : ℕ) → k ≢ q.line → bs' k ≡ bs k
 
-abbrev Clears : (cause diagnostic : ℕ) → Place → Act
+abbrev Clears : (cause diagnostic : ℕ) → SwitchChannel → Act
 Clears cause diagnostic q = Act.Asks q (Clearing cause diagnostic)
 
 refused_touches : (d : ℕ) (o : Option Refusal) (b : Book) → Touches Dce d b (unless_refused o (closes Dce d b) b)
 refused_touches d None b = touches_closed Dce d b
 refused_touches d (Some r) b = touches_none Dce d b
 
-line_touches : (cause diagnostic : ℕ) (q : Place) (o : Option Layer) (b : Book) → Touches Dce q.channel b (writes_at (Clears cause diagnostic q) o b)
+line_touches : (cause diagnostic : ℕ) (q : SwitchChannel) (o : Option Layer) (b : Book) → Touches Dce q.channel b (writes_at (Clears cause diagnostic q) o b)
 line_touches cause diagnostic q None b = touches_none Dce q.channel b
 line_touches cause diagnostic q (Some l) b = refused_touches q.channel (request_refusal l q.channel (Clearing cause diagnostic)) b
 
-pub clear_touches : (cause diagnostic : ℕ) (q : Place) (ls : List SwitchLine) (bs : Books) → TouchesAt q bs (books_by (Asks q (Clearing cause diagnostic)) ls bs)
+pub clear_touches : (cause diagnostic : ℕ) (q : SwitchChannel) (ls : List SwitchLine) (bs : Books) → TouchesAt q bs (books_by (Asks q (Clearing cause diagnostic)) ls bs)
 clear_touches cause diagnostic q ls bs = record {
   line = subst (λ (v : Bool). Touches Dce q.channel (bs q.line) (if v then writes_at (Clears cause diagnostic q) (slice_get (layers_of ls) q.line) (bs q.line) else bs q.line)) (sym (eq-eqb q.line q.line refl)) (line_touches cause diagnostic q (slice_get (layers_of ls) q.line) (bs q.line));
   others = λ k ne. if_apart k q.line _ (bs k) ne;
@@ -146,18 +146,18 @@ called l c m cause diagnostic legs b (Some ch) h e = by_call (had_call ch.state)
     by_call true f x = ap (λ (v : Bool). refused_if (not v) Refusal.NoCall None) (clears_call ch.state f)
 
 -- there is a layer at the line of a channel that is there
-layer_at : (ls : List SwitchLine) (q : Place) → is_some (shown_at (layers_of ls) q) ≡ true → (l : Layer) × (slice_get (layers_of ls) q.line ≡ Some l)
+layer_at : (ls : List SwitchLine) (q : SwitchChannel) → is_some (shown_at (layers_of ls) q) ≡ true → (l : Layer) × (slice_get (layers_of ls) q.line ≡ Some l)
 layer_at ls q e = by_layer (slice_get (layers_of ls) q.line) refl
   where
     by_layer : (o : Option Layer) → slice_get (layers_of ls) q.line ≡ o → (l : Layer) × (slice_get (layers_of ls) q.line ≡ Some l)
     by_layer None f = absurd (true≢false (sym e ∙ ap (λ (o : Option Layer). is_some (shown_on o q.channel)) f))
     by_layer (Some l) f = (l, f)
 
-pub records_at : (ls : List SwitchLine) (bs : Books) (q : Place) → Beside ls bs → is_some (shown_at (layers_of ls) q) ≡ true
+pub records_at : (ls : List SwitchLine) (bs : Books) (q : SwitchChannel) → Beside ls bs → is_some (shown_at (layers_of ls) q) ≡ true
     → (l : Layer) × ((slice_get (layers_of ls) q.line ≡ Some l) × ((legs : ℕ → Leg) × AreRecords Dce l legs (bs q.line)))
 records_at ls bs q b e = let f = layer_at ls q e in (f.0, (f.1, ((λ c. b.legs (record { line = q.line; channel = c })), b.records q.line f.0 f.1)))
 
-pub clear_closes : (cause diagnostic m : ℕ) (q : Place) (ls : List SwitchLine) (bs : Books) → Beside ls bs → is_some (shown_at (layers_of ls) q) ≡ true → present_at q bs ≡ Some m
+pub clear_closes : (cause diagnostic m : ℕ) (q : SwitchChannel) (ls : List SwitchLine) (bs : Books) → Beside ls bs → is_some (shown_at (layers_of ls) q) ≡ true → present_at q bs ≡ Some m
     → books_by (Asks q (Clearing cause diagnostic)) ls bs q.line ≡ closes Dce q.channel (bs q.line)
 clear_closes cause diagnostic m q ls bs b there e =
     let f = records_at ls bs q b there in
@@ -172,15 +172,15 @@ abbrev pub IsAbsent : ℕ → Book → Type 0
 IsAbsent m b = (y : Role) (c : ℕ) → (slot_at y c b).present ≡ Some m → ⊥
 
 -- its channel is said to be over, and the record is of no present call; or it is not, and the record is the present one
-abbrev pub Held : ℕ → List Note → Books → Place → ℕ → Type 0
+abbrev pub Held : ℕ → List Note → Books → SwitchChannel → ℕ → Type 0
 Held n ns bs x m = (IsOver n ns x × IsAbsent m (bs x.line)) ⊎ ((IsOver n ns x → ⊥) × (present_at x bs ≡ Some m))
 
-pub record Side (n : ℕ) (ns : List Note) (bs : Books) (x : Place) (m : ℕ) (it : RecordValue) : Type 0 where
+pub record Side (n : ℕ) (ns : List Note) (bs : Books) (x : SwitchChannel) (m : ℕ) (it : RecordValue) : Type 0 where
   pub there : slice_get (bs x.line).records m ≡ Some it
   pub held : Held n ns bs x m
 
 -- a record elsewhere stays
-elsewhere : (q x : Place) (m : ℕ) (it : RecordValue) (bs bs' : Books) → same_place x q ≡ false → TouchesAt q bs bs' → AreApart (bs q.line) → slice_get (bs x.line).records m ≡ Some it
+elsewhere : (q x : SwitchChannel) (m : ℕ) (it : RecordValue) (bs bs' : Books) → same_place x q ≡ false → TouchesAt q bs bs' → AreApart (bs q.line) → slice_get (bs x.line).records m ≡ Some it
     → (IsAbsent m (bs x.line)) ⊎ (present_at x bs ≡ Some m) → slice_get (bs' x.line).records m ≡ Some it
 elsewhere q x m it bs bs' f t a there how =
     elim (apart_by x q f) [
@@ -193,18 +193,18 @@ elsewhere q x m it bs bs' f t a there how =
           ]))
     ]
 
-slot_elsewhere : (q x : Place) (bs bs' : Books) → same_place x q ≡ false → TouchesAt q bs bs' → present_at x bs' ≡ present_at x bs
+slot_elsewhere : (q x : SwitchChannel) (bs bs' : Books) → same_place x q ≡ false → TouchesAt q bs bs' → present_at x bs' ≡ present_at x bs
 slot_elsewhere q x bs bs' f t =
     elim (apart_by x q f) [
       | inl ne ↦ ap (λ (b : Book). (slot_at Dce x.channel b).present) (t.others x.line ne)
       | inr h ↦ subst (λ (k : ℕ). (slot_at Dce x.channel (bs' k)).present ≡ (slot_at Dce x.channel (bs k)).present) (sym h.0) (t.line.slots Dce x.channel (λ i. h.1 i.1))
     ]
 
-pub touched_slot : (q x : Place) (bs bs' : Books) → same_place x q ≡ false → TouchesAt q bs bs' → present_at x bs' ≡ present_at x bs
+pub touched_slot : (q x : SwitchChannel) (bs bs' : Books) → same_place x q ≡ false → TouchesAt q bs bs' → present_at x bs' ≡ present_at x bs
 touched_slot q x bs bs' f t = slot_elsewhere q x bs bs' f t
 
 -- where clearing q is all that was written, the other sides are as they were
-pub side_stays : (n : ℕ) (ns : List Note) (cause diagnostic : ℕ) (q x : Place) (m : ℕ) (it : RecordValue) (ls : List SwitchLine) (bs : Books) → same_place x q ≡ false → AreApart (bs q.line) → Side n ns bs x m it
+pub side_stays : (n : ℕ) (ns : List Note) (cause diagnostic : ℕ) (q x : SwitchChannel) (m : ℕ) (it : RecordValue) (ls : List SwitchLine) (bs : Books) → same_place x q ≡ false → AreApart (bs q.line) → Side n ns bs x m it
     → Side n ns (books_by (Asks q (Clearing cause diagnostic)) ls bs) x m it
 side_stays n ns cause diagnostic q x m it ls bs f a s = record { there = elsewhere q x m it bs bs' f t a s.there how; held = by_held s.held }
   where
@@ -222,12 +222,12 @@ side_stays n ns cause diagnostic q x m it ls bs f a s = record { there = elsewhe
     by_held (inr h) = inr (h.0, slot_elsewhere q x bs bs' f t ∙ h.1)
 
 -- the side at q rests
-pub record RestsWith (bs : Books) (x : Place) (m : ℕ) (it : RecordValue) : Type 0 where
+pub record RestsWith (bs : Books) (x : SwitchChannel) (m : ℕ) (it : RecordValue) : Type 0 where
   pub now : RecordValue
   pub rests : Rests m now (bs x.line)
   pub epochs : SameEpochs it now
 
-pub side_clears : (n : ℕ) (ns : List Note) (cause diagnostic : ℕ) (q : Place) (m : ℕ) (it : RecordValue) (ls : List SwitchLine) (bs : Books) → Beside ls bs → is_some (shown_at (layers_of ls) q) ≡ true → Side n ns bs q m it
+pub side_clears : (n : ℕ) (ns : List Note) (cause diagnostic : ℕ) (q : SwitchChannel) (m : ℕ) (it : RecordValue) (ls : List SwitchLine) (bs : Books) → Beside ls bs → is_some (shown_at (layers_of ls) q) ≡ true → Side n ns bs q m it
     → RestsWith (books_by (Asks q (Clearing cause diagnostic)) ls bs) q m it
 side_clears n ns cause diagnostic q m it ls bs b there s = by_held s.held
   where
@@ -246,7 +246,7 @@ side_clears n ns cause diagnostic q m it ls bs b there s = by_held s.held
         }
 
 -- a side whose channel is said to be over rests
-pub side_rests : (n : ℕ) (ns : List Note) (acts : List Act) (x : Place) (m : ℕ) (it : RecordValue) (ls : List SwitchLine) (bs : Books) → IsOver n ns x → Side n ns bs x m it → Rests m it (books_after_all acts (layers_of ls) bs x.line)
+pub side_rests : (n : ℕ) (ns : List Note) (acts : List Act) (x : SwitchChannel) (m : ℕ) (it : RecordValue) (ls : List SwitchLine) (bs : Books) → IsOver n ns x → Side n ns bs x m it → Rests m it (books_after_all acts (layers_of ls) bs x.line)
 side_rests n ns acts x m it ls bs o s = books_rest acts (layers_of ls) bs x.line m it (record { there = s.there; not_present = elim s.held [ inl h ↦ h.1 | inr h ↦ absurd (h.0 o) ] })
 
 -- ---- a call that came in elsewhere
@@ -259,11 +259,11 @@ refused_slot : (y : Role) (c d : ℕ) (o : Option Refusal) (b : Book) → (y ≡
 refused_slot y c d None b h = clear_slot y c d b h
 refused_slot y c d (Some r) b h = refl
 
-line_slot : (cause diagnostic : ℕ) (y : Role) (c : ℕ) (q : Place) (o : Option Layer) (b : Book) → (y ≡ Dce → c ≢ q.channel) → slot_at y c (writes_at (Clears cause diagnostic q) o b) ≡ slot_at y c b
+line_slot : (cause diagnostic : ℕ) (y : Role) (c : ℕ) (q : SwitchChannel) (o : Option Layer) (b : Book) → (y ≡ Dce → c ≢ q.channel) → slot_at y c (writes_at (Clears cause diagnostic q) o b) ≡ slot_at y c b
 line_slot cause diagnostic y c q None b h = refl
 line_slot cause diagnostic y c q (Some l) b h = refused_slot y c q.channel (request_refusal l q.channel (Clearing cause diagnostic)) b h
 
-cleared_slot : (cause diagnostic : ℕ) (y : Role) (q x : Place) (ls : List SwitchLine) (bs : Books) → same_place x q ≡ false → slot_at y x.channel (books_by (Asks q (Clearing cause diagnostic)) ls bs x.line) ≡ slot_at y x.channel (bs x.line)
+cleared_slot : (cause diagnostic : ℕ) (y : Role) (q x : SwitchChannel) (ls : List SwitchLine) (bs : Books) → same_place x q ≡ false → slot_at y x.channel (books_by (Asks q (Clearing cause diagnostic)) ls bs x.line) ≡ slot_at y x.channel (bs x.line)
 cleared_slot cause diagnostic y q x ls bs f =
     elim (apart_by x q f) [
       | inl ne ↦ ap (λ (b : Book). slot_at y x.channel b) ((clear_touches cause diagnostic q ls bs).others x.line ne)
@@ -272,7 +272,7 @@ cleared_slot cause diagnostic y q x ls bs f =
           ∙ line_slot cause diagnostic y x.channel q (slice_get (layers_of ls) x.line) (bs x.line) (λ e. h.1)
     ]
 
-pub came_stays : (cause diagnostic : ℕ) (q x : Place) (parts : CallParts) (ls : List SwitchLine) (bs : Books) → same_place x q ≡ false → AreApart (bs q.line) → CameIn x parts bs → CameIn x parts (books_by (Asks q (Clearing cause diagnostic)) ls bs)
+pub came_stays : (cause diagnostic : ℕ) (q x : SwitchChannel) (parts : CallParts) (ls : List SwitchLine) (bs : Books) → same_place x q ≡ false → AreApart (bs q.line) → CameIn x parts bs → CameIn x parts (books_by (Asks q (Clearing cause diagnostic)) ls bs)
 came_stays cause diagnostic q x parts ls bs f a i = record {
   number = i.number;
   caller = i.caller;

@@ -7,8 +7,8 @@ use Rattle.packet_layer.specs.Layer.{Layer, link_down, closing_notes}
 use Rattle.packet_laws.specs.Readable.{Every, AreOctets}
 use Rattle.packet_end.specs.PacketEnd.{begun}
 use Rattle.address_routes.specs.Routes.{RouteMap}
-use Rattle.switch_lines.specs.declared.place.Place.{Place}
-use Rattle.switch_lines.specs.declared.place.Joined.{Joined}
+use Rattle.switch_lines.specs.declared.channels.SwitchChannel.{SwitchChannel}
+use Rattle.switch_lines.specs.declared.channels.Joined.{Joined}
 use Rattle.switch_lines.specs.Lines.{SwitchLine, changed}
 use Rattle.switch_lines.specs.Switch.{Switch, with_end, acted, to_relink, relinked_at, all_relinked, lines_first, rounds, finished, all_begun, quieted, notes_of, without_notes, heed_all, on_frame, on_expiry}
 use Rattle.switch_laws.specs.World.{World, Act, layers_of, after_acts}
@@ -287,7 +287,7 @@ begin_calls routes lines books is =
     let i = (events_hold.begins routes lines is).joins in
     record { each = tt; all = λ p j e came. absurd (none p j (i.joined p j e).other (i.joined p j e).pair) }
   where
-    none : (p : Place) (j k : Joined) → IsPair (new_legs lines p) (new_legs lines j.other) j k ⊎ (⊥ ⊎ ⊥) → ⊥
+    none : (p : SwitchChannel) (j k : Joined) → IsPair (new_legs lines p) (new_legs lines j.other) j k ⊎ (⊥ ⊎ ⊥) → ⊥
     none p j k (inl x) = true≢false (sym (pair_call (new_legs lines p) (new_legs lines j.other) j k x))
     none p j k (inr x) = elim x [ inl y ↦ y | inr y ↦ y ]
 
@@ -317,7 +317,7 @@ partner_calls n ws s h cs i a =
       rests = λ k m r y. rests k m r (k == n) y;
     }) a
   where
-    by_line : (x : Place) (v : Bool) → (slot_at Dce x.channel (if v then all_written Dte ws (h.books x.line) else h.books x.line)).present ≡ present_at x h.books
+    by_line : (x : SwitchChannel) (v : Bool) → (slot_at Dce x.channel (if v then all_written Dte ws (h.books x.line) else h.books x.line)).present ≡ present_at x h.books
     by_line x true = partner_slot ws (h.books x.line) x.channel
     by_line x false = refl
 
@@ -372,7 +372,7 @@ restart_rests ls bs k m r i = by_layer (slice_get (layers_of ls) k)
     by_layer None = i
     by_layer (Some l) = event_rests Dce (Told (link_down l).notes ∷ []) m r (bs k) i
 
-restart_side : (ls : List SwitchLine) (bs : Books) (x : Place) (m : ℕ) (r : RecordValue) → Beside ls bs → is_some (shown_at (layers_of ls) x) ≡ true → slice_get (bs x.line).records m ≡ Some r → present_at x bs ≡ Some m
+restart_side : (ls : List SwitchLine) (bs : Books) (x : SwitchChannel) (m : ℕ) (r : RecordValue) → Beside ls bs → is_some (shown_at (layers_of ls) x) ≡ true → slice_get (bs x.line).records m ≡ Some r → present_at x bs ≡ Some m
     → RestsWith (restarted_books (layers_of ls) bs) x m r
 restart_side ls bs x m r b there e f =
     let k = records_at ls bs x b there in
@@ -384,12 +384,12 @@ standing_records : (s : Switch) (h : Histories) (c : JoinedCall) → IsTied s h 
 standing_records s h c i x =
     let r : JoinsRecords h.books c.near x.join.other = joins_relay s.lines h.legs h.books i.holds.joins i.records c.near x.join x.joined in
     let near_is : r.near_there.number ≡ c.came_in = same_Some r.near_there.number c.came_in (sym r.near_there.present ∙ x.near_present) in
-    let far_is : r.far_there.number ≡ c.placed = same_Some r.far_there.number c.placed (sym r.far_there.present ∙ (ap (λ (y : Place). present_at y h.books) x.other ∙ x.far_present)) in
+    let far_is : r.far_there.number ≡ c.placed = same_Some r.far_there.number c.placed (sym r.far_there.present ∙ (ap (λ (y : SwitchChannel). present_at y h.books) x.other ∙ x.far_present)) in
     record {
       near_record = r.near;
       far_record = r.far;
       near_there = ap (λ (k : ℕ). slice_get (h.books c.near.line).records k) (sym near_is) ∙ r.near_there.there;
-      far_there = ap₂ (λ (q : Place) (k : ℕ). slice_get (h.books q.line).records k) (sym x.other) (sym far_is) ∙ r.far_there.there;
+      far_there = ap₂ (λ (q : SwitchChannel) (k : ℕ). slice_get (h.books q.line).records k) (sym x.other) (sym far_is) ∙ r.far_there.there;
       relayed = r.relayed;
     }
 
@@ -409,7 +409,7 @@ restart_one s h c i (inl x) =
     let far = m x.join.other k.far k.joined in
     let b : Beside s.lines h.books = record { legs = h.legs; world = i.holds.joins.world; records = i.records } in
     let y = restart_side s.lines h.books c.near c.came_in r.near_record b k.there r.near_there x.near_present in
-    let z = restart_side s.lines h.books c.far c.placed r.far_record b (ap (λ (q : Place). is_some (shown_at (layers_of s.lines) q)) (sym x.other) ∙ far.there) r.far_there x.far_present in
+    let z = restart_side s.lines h.books c.far c.placed r.far_record b (ap (λ (q : SwitchChannel). is_some (shown_at (layers_of s.lines) q)) (sym x.other) ∙ far.there) r.far_there x.far_present in
     record { near_record = y.now; far_record = z.now; near_rests = y.rests; far_rests = z.rests; relayed = relayed_same r.near_record r.far_record y.now z.now y.epochs z.epochs r.relayed }
 
 restart_calls : RestartCalls

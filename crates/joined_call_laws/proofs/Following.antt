@@ -35,8 +35,8 @@ use Rattle.book_laws.specs.Told.Move.{Happens, Edits}
 use Rattle.book_laws.proofs.Writing.{slot_here}
 use Rattle.switch_record_laws.specs.Line.{Line}
 use Rattle.switch_record_laws.specs.Kept.{Setting, Kept, beginning}
-use Rattle.switch_lines.specs.declared.place.Place.{Place}
-use Rattle.switch_lines.specs.declared.place.Joined.{Joined}
+use Rattle.switch_lines.specs.declared.channels.SwitchChannel.{SwitchChannel}
+use Rattle.switch_lines.specs.declared.channels.Joined.{Joined}
 use Rattle.switch_lines.specs.Lines.{SwitchLine, changed, same_place, joined_at}
 use Rattle.switch_lines.specs.Switch.{forwarded, with_end, quieted}
 use Rattle.switch_laws.specs.World.{Act, Shown, shown_as, shown_on, shown_at, layers_of}
@@ -62,7 +62,7 @@ use Rattle.joined_call_laws.proofs.Walking.{Beside, there_step}
 
 -- its record is the present one, and that of the end that placed it is the last that this end placed there; it has the
 -- addresses of the call
-pub record CameIn (p : Place) (parts : CallParts) (bs : Books) : Type 0 where
+pub record CameIn (p : SwitchChannel) (parts : CallParts) (bs : Books) : Type 0 where
   pub number : ℕ
   pub caller : ℕ
   pub present : present_at p bs ≡ Some number
@@ -74,7 +74,7 @@ pub record CameIn (p : Place) (parts : CallParts) (bs : Books) : Type 0 where
   pub far : it.far ≡ address_of parts.calling
 
 -- the calls before it, and the two channels
-pub record Joining (routes : RouteMap) (given : List (List ℕ)) (p q : Place) (parts : CallParts) (ls : List SwitchLine) (bs : Books) (cs : List JoinedCall) : Type 0 where
+pub record Joining (routes : RouteMap) (given : List (List ℕ)) (p q : SwitchChannel) (parts : CallParts) (ls : List SwitchLine) (bs : Books) (cs : List JoinedCall) : Type 0 where
   pub calls : AreCalls ls bs cs
   pub beside : Beside ls bs
   pub came_in : CameIn p parts bs
@@ -132,7 +132,7 @@ Sends (Interrupting octets) = Unit {0}
 Sends q = ⊥
 
 abbrev pub KeptSending : (Books → List JoinedCall → Type 0) → Type 0
-KeptSending R = (p : Place) (q : Request) (j : Joined) (ls : List SwitchLine) (bs : Books) (cs : List JoinedCall) → Sends q → Mutual ls → AreCalls ls bs cs → joined_at ls p ≡ Some j → R bs cs → R (books_by (Asks p q) ls bs) cs
+KeptSending R = (p : SwitchChannel) (q : Request) (j : Joined) (ls : List SwitchLine) (bs : Books) (cs : List JoinedCall) → Sends q → Mutual ls → AreCalls ls bs cs → joined_at ls p ≡ Some j → R bs cs → R (books_by (Asks p q) ls bs) cs
 
 -- a call that came in is accepted where the one to which it is joined was: the record of this one is in a pair
 pub record IsInPair (b : Book) (number : ℕ) : Type 0 where
@@ -141,7 +141,7 @@ pub record IsInPair (b : Book) (number : ℕ) : Type 0 where
   pub there : slice_get b.pairs place ≡ Some pair
   pub is_in : IsIn pair number
 
-pub record Connecting (p : Place) (j : Joined) (ls : List SwitchLine) (bs : Books) (cs : List JoinedCall) : Type 0 where
+pub record Connecting (p : SwitchChannel) (j : Joined) (ls : List SwitchLine) (bs : Books) (cs : List JoinedCall) : Type 0 where
   pub calls : AreCalls ls bs cs
   pub pairs : Mutual ls
   pub joined : joined_at ls p ≡ Some j
@@ -151,10 +151,10 @@ pub record Connecting (p : Place) (j : Joined) (ls : List SwitchLine) (bs : Book
   pub answered : IsInPair (bs p.line) number
 
 abbrev pub KeptAccepting : (Books → List JoinedCall → Type 0) → Type 0
-KeptAccepting R = (p : Place) (j : Joined) (ls : List SwitchLine) (bs : Books) (cs : List JoinedCall) → Connecting p j ls bs cs → R bs cs → R (books_by (Asks j.other Accept) ls bs) cs
+KeptAccepting R = (p : SwitchChannel) (j : Joined) (ls : List SwitchLine) (bs : Books) (cs : List JoinedCall) → Connecting p j ls bs cs → R bs cs → R (books_by (Asks j.other Accept) ls bs) cs
 
 abbrev pub KeptJoining : RouteMap → List (List ℕ) → (Books → List JoinedCall → Type 0) → Type 0
-KeptJoining routes given R = (p q : Place) (parts : CallParts) (ls : List SwitchLine) (bs : Books) (cs : List JoinedCall) → (j : Joining routes given p q parts ls bs cs) → R bs cs
+KeptJoining routes given R = (p q : SwitchChannel) (parts : CallParts) (ls : List SwitchLine) (bs : Books) (cs : List JoinedCall) → (j : Joining routes given p q parts ls bs cs) → R bs cs
     → R (books_by (Places q.line (forwarded ls p.line parts)) ls bs) (cs ++ record { near = p; far = q; came_in = j.came_in.number; placed = length (bs q.line).records } ∷ [])
 
 -- one thing and what is kept beside
@@ -227,7 +227,7 @@ steps_keep R k (s ∷ more) ls bs cs i r = steps_keep R k more (lines_after s ls
 
 -- steps that end no call and begin none
 module _ (R : Books → List JoinedCall → Type 0) (keeps : KeptQuietly R) (sends : KeptSending R) where
-  asked_keeps : (p : Place) (q : Request) (ls : List SwitchLine) (bs : Books) (cs : List JoinedCall) → OnJoined q p ls → Mutual ls → AreCalls ls bs cs → R bs cs → R (books_by (Asks p q) ls bs) cs
+  asked_keeps : (p : SwitchChannel) (q : Request) (ls : List SwitchLine) (bs : Books) (cs : List JoinedCall) → OnJoined q p ls → Mutual ls → AreCalls ls bs cs → R bs cs → R (books_by (Asks p q) ls bs) cs
   asked_keeps p (Sending d) ls bs cs o m a r = sends p (Sending d) o.0 ls bs cs tt m a o.1 r
   asked_keeps p (Interrupting octets) ls bs cs o m a r = sends p (Interrupting octets) o.0 ls bs cs tt m a o.1 r
   asked_keeps p Accept ls bs cs o m a r = absurd o
@@ -400,13 +400,13 @@ kept_dce : (s : Setting) (b : Book) (l : Line) → Kept s b l → l.dce.layer.ro
 kept_dce s b l k = sym (ap (λ (y : Layer). y.role) k.joint.yours.layer) ∙ moves_role k.moves (beginning s)
 
 -- the line of a channel that is there
-pub record OnLine (ls : List SwitchLine) (x : Place) (shown : Shown) : Type 0 where
+pub record OnLine (ls : List SwitchLine) (x : SwitchChannel) (shown : Shown) : Type 0 where
   pub line : SwitchLine
   pub there : slice_get ls x.line ≡ Some line
   pub channel : channel_of line.end.layer x.channel ≡ Some shown.channel
   pub role : line.end.layer.role ≡ shown.role
 
-pub line_of_shown : (ls : List SwitchLine) (x : Place) (shown : Shown) → shown_at (layers_of ls) x ≡ Some shown → OnLine ls x shown
+pub line_of_shown : (ls : List SwitchLine) (x : SwitchChannel) (shown : Shown) → shown_at (layers_of ls) x ≡ Some shown → OnLine ls x shown
 line_of_shown ls x shown e = by_line (slice_get ls x.line) refl
   where
     layer_is : slice_get (layers_of ls) x.line ≡ option_map (λ l. l.end.layer) (slice_get ls x.line)
@@ -423,14 +423,14 @@ line_of_shown ls x shown e = by_line (slice_get ls x.line) refl
     by_line None f = absurd (none-some shown (sym (ap (λ (y : Option Layer). shown_on y x.channel) (layer_is ∙ ap (λ (o : Option SwitchLine). option_map (λ l. l.end.layer) o) f)) ∙ e))
     by_line (Some l) f = by_channel l (channel_of l.end.layer x.channel) f refl
 
-pub lines_answered : (ps : Partners) (bs : Books) (ls : List SwitchLine) (x : Place) (shown : Shown) → AreKept ps bs ls → shown_at (layers_of ls) x ≡ Some shown → may_accept shown.role shown.channel.state ≡ true → is_some (slot_at Dce x.channel (bs x.line)).caller ≡ true
+pub lines_answered : (ps : Partners) (bs : Books) (ls : List SwitchLine) (x : SwitchChannel) (shown : Shown) → AreKept ps bs ls → shown_at (layers_of ls) x ≡ Some shown → may_accept shown.role shown.channel.state ≡ true → is_some (slot_at Dce x.channel (bs x.line)).caller ≡ true
 lines_answered ps bs ls x shown k e may =
     let o = line_of_shown ls x shown e in
     let kept = k x.line o.line o.there in
     let dce = kept_dce (ps x.line).setting (bs x.line) (line_with (ps x.line) o.line.end) kept in
     kept_answered (ps x.line).setting (bs x.line) (line_with (ps x.line) o.line.end) x.channel shown.channel kept o.channel (ap (λ (r : Role). may_accept r shown.channel.state) (sym dce ∙ o.role) ∙ may)
 
-pub lines_connected : (ps : Partners) (bs : Books) (ls : List SwitchLine) (x : Place) (shown : Shown) → AreKept ps bs ls → shown_at (layers_of ls) x ≡ Some shown → in_transfer shown.channel.state ≡ true → Answered x.channel (bs x.line)
+pub lines_connected : (ps : Partners) (bs : Books) (ls : List SwitchLine) (x : SwitchChannel) (shown : Shown) → AreKept ps bs ls → shown_at (layers_of ls) x ≡ Some shown → in_transfer shown.channel.state ≡ true → Answered x.channel (bs x.line)
 lines_connected ps bs ls x shown k e up =
     let o = line_of_shown ls x shown e in
     kept_connected (ps x.line).setting (bs x.line) (line_with (ps x.line) o.line.end) x.channel shown.channel (k x.line o.line o.there) o.channel up

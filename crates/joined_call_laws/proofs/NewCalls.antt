@@ -22,8 +22,8 @@ use Rattle.packet_end.specs.PacketEnd.{PacketEnd, heeded, expired, runs_at}
 use Rattle.packet_end.specs.End.{End}
 use Rattle.address_routes.specs.Routes.{RouteMap, line_for}
 use Rattle.switch_lines.specs.Causes.{clear_cause, far_diagnostic}
-use Rattle.switch_lines.specs.declared.place.Place.{Place}
-use Rattle.switch_lines.specs.declared.place.Joined.{Joined}
+use Rattle.switch_lines.specs.declared.channels.SwitchChannel.{SwitchChannel}
+use Rattle.switch_lines.specs.declared.channels.Joined.{Joined}
 use Rattle.switch_lines.specs.Lines.{SwitchLine, changed, joined_at, with_joined}
 use Rattle.switch_lines.specs.Relay.{told, told_of}
 use Rattle.switch_lines.specs.Switch.{Answer, answer, forwarded, heed, has_any, notes_of, with_end, quieted, to_relink, relinked_at, all_relinked, lines_first, rounds}
@@ -108,7 +108,7 @@ plainly : (routes : RouteMap) (n : ℕ) (ns : List Note) (ls : List SwitchLine) 
 plainly routes n ns ls bs i = quietly routes n ns ls bs (steadies_none (heed_all_steps routes n ns ls) ls bs (plains_steady routes n ns ls i)) (every_map IsPlain IsOther ns plain_other i)
 
 -- a call that is connected
-connected_none : (o : Option Joined) (c : ℕ) (p : Place) (ls : List SwitchLine) (bs : Books) → calls_of_all (told_steps o (Connected c) p ls ++ []) ls bs ≡ []
+connected_none : (o : Option Joined) (c : ℕ) (p : SwitchChannel) (ls : List SwitchLine) (bs : Books) → calls_of_all (told_steps o (Connected c) p ls ++ []) ls bs ≡ []
 connected_none None c p ls bs = refl
 connected_none (Some j) c p ls bs = refl
 
@@ -118,7 +118,7 @@ connected_as_said routes n c ns ls bs is =
     (quietly routes n (Connected c ∷ []) ls bs (connected_none (joined_at ls (at n c)) c (at n c) ls bs) (tt, tt))
 
 -- a call that is over
-closed_none : (o : Option Joined) (c cause diagnostic : ℕ) (reason : Reason) (p : Place) (ls : List SwitchLine) (bs : Books) → calls_of_all (told_steps o (Closed c cause diagnostic reason) p ls) ls bs ≡ []
+closed_none : (o : Option Joined) (c cause diagnostic : ℕ) (reason : Reason) (p : SwitchChannel) (ls : List SwitchLine) (bs : Books) → calls_of_all (told_steps o (Closed c cause diagnostic reason) p ls) ls bs ≡ []
 closed_none None c cause diagnostic reason p ls bs = refl
 closed_none (Some j) c cause diagnostic reason p ls bs = refl
 
@@ -151,7 +151,7 @@ record Unjoined (n c : ℕ) (ns : List Note) (ls : List SwitchLine) (bs : Books)
 later : (n c : ℕ) (x : Note) (ns : List Note) (ls : List SwitchLine) (bs : Books) → Unjoined n c (x ∷ ns) ls bs → Unjoined n c ns ls bs
 later n c x ns ls bs i = record { beside = i.beside; none = i.none; came = λ parts h. i.came parts (inr h) }
 
-answered_as_said : (v : Answer) (p : Place) (parts : CallParts) (ls : List SwitchLine) (bs : Books) (number : ℕ) → IsAnswer ls v → Beside ls bs → joined_at ls p ≡ None → present_at p bs ≡ Some number
+answered_as_said : (v : Answer) (p : SwitchChannel) (parts : CallParts) (ls : List SwitchLine) (bs : Books) (number : ℕ) → IsAnswer ls v → Beside ls bs → joined_at ls p ≡ None → present_at p bs ≡ Some number
     → map join_of_call (calls_of_all (answered_steps v p parts ls) ls bs) ≡ join_of v p
 answered_as_said (Clears cause) p parts ls bs number f b none e = refl
 answered_as_said (Joins q) p parts ls bs number f b none e = ap (λ (cs : List JoinedCall). map join_of_call cs) (joins_lead p q (forwarded ls p.line parts) ls bs b none number e f).calls
@@ -219,7 +219,7 @@ module _ (routes : RouteMap) (n : ℕ) (what : Happening) (ls : List SwitchLine)
   beside : Beside ms bs1
   beside = beside_ms routes n what ls w bs i h line got eff
 
-  joined : (y : Place) → joined_at ms y ≡ joined_at ls y
+  joined : (y : SwitchChannel) → joined_at ms y ≡ joined_at ls y
   joined y = joined_ms routes n what ls w bs i h line got eff y
 
   one_as_said : (d : ℕ) (role : Role) (s : CallState) (ch : Channel) → channel_of l d ≡ Some ch → AreOf d role s notes

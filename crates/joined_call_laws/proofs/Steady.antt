@@ -21,8 +21,8 @@ use Rattle.call_records.specs.Carried.{carried, unless_refused}
 use Rattle.book_laws.proofs.Writing.{slot_changed}
 use Rattle.switch_lines.specs.Direction.{new_direction, releasable, carried_by, covered_by, request_for}
 use Rattle.switch_lines.specs.Causes.{reset_cause, far_diagnostic}
-use Rattle.switch_lines.specs.declared.place.Place.{Place}
-use Rattle.switch_lines.specs.declared.place.Joined.{Joined}
+use Rattle.switch_lines.specs.declared.channels.SwitchChannel.{SwitchChannel}
+use Rattle.switch_lines.specs.declared.channels.Joined.{Joined}
 use Rattle.switch_lines.specs.Lines.{SwitchLine, same_place, joined_at, with_joined, ask, refusal_at}
 use Rattle.switch_lines.specs.Lines as lines
 use Rattle.switch_lines.specs.Relay.{moved, relayed, places_first, relayed_first}
@@ -58,14 +58,14 @@ shape_some (Some i) (Some k) j e f = (k, (refl, same_Some (anew k) (anew i) e �
 -- ---- lines and books that are the same to the joined calls
 
 pub record Same (ls ms : List SwitchLine) (bs bs' : Books) : Type 0 where
-  pub joins : (x : Place) → shape (joined_at ms x) ≡ shape (joined_at ls x)
-  pub slots : (x : Place) (j : Joined) → joined_at ls x ≡ Some j → present_at x bs' ≡ present_at x bs
+  pub joins : (x : SwitchChannel) → shape (joined_at ms x) ≡ shape (joined_at ls x)
+  pub slots : (x : SwitchChannel) (j : Joined) → joined_at ls x ≡ Some j → present_at x bs' ≡ present_at x bs
   pub rests : (k n : ℕ) (r : RecordValue) → Rests n r (bs k) → Rests n r (bs' k)
 
 -- joined channels stay joined, with the same present records
 pub record Stay (ls ms : List SwitchLine) (bs bs' : Books) : Type 0 where
-  pub joins : (x : Place) (j : Joined) → joined_at ls x ≡ Some j → (k : Joined) × ((joined_at ms x ≡ Some k) × (anew k ≡ anew j))
-  pub slots : (x : Place) (j : Joined) → joined_at ls x ≡ Some j → present_at x bs' ≡ present_at x bs
+  pub joins : (x : SwitchChannel) (j : Joined) → joined_at ls x ≡ Some j → (k : Joined) × ((joined_at ms x ≡ Some k) × (anew k ≡ anew j))
+  pub slots : (x : SwitchChannel) (j : Joined) → joined_at ls x ≡ Some j → present_at x bs' ≡ present_at x bs
   pub rests : (k n : ℕ) (r : RecordValue) → Rests n r (bs k) → Rests n r (bs' k)
 
 pub same_stay : (ls ms : List SwitchLine) (bs bs' : Books) → Same ls ms bs bs' → Stay ls ms bs bs'
@@ -82,7 +82,7 @@ same_then ls ms ks as_ bs cs s t = record {
 }
 
 -- the two channels of a join are there and joined, each with the other
-pub record Paired (ls : List SwitchLine) (p : Place) (j : Joined) : Type 0 where
+pub record Paired (ls : List SwitchLine) (p : SwitchChannel) (j : Joined) : Type 0 where
   pub far : Joined
   pub joined : joined_at ls j.other ≡ Some far
   pub back : far.other ≡ p
@@ -91,14 +91,14 @@ pub record Paired (ls : List SwitchLine) (p : Place) (j : Joined) : Type 0 where
   pub there : is_some (shown_at (layers_of ls) p) ≡ true
 
 abbrev pub Mutual : List SwitchLine → Type 0
-Mutual ls = (p : Place) (j : Joined) → joined_at ls p ≡ Some j → Paired ls p j
+Mutual ls = (p : SwitchChannel) (j : Joined) → joined_at ls p ≡ Some j → Paired ls p j
 
 pub switch_mutual : (ls : List SwitchLine) (w : World) → IsSwitch ls w → Mutual ls
 switch_mutual ls w i p j e = let k = i.joined p j e in record { far = k.other; joined = k.joined; back = k.back; apart = k.apart; one_came_in = k.one_came_in; there = k.there }
 
 -- there is a place for a join at each channel
 abbrev pub HavePlaces : List SwitchLine → Type 0
-HavePlaces ls = (x : Place) → is_some (shown_at (layers_of ls) x) ≡ true → has_place ls x ≡ true
+HavePlaces ls = (x : SwitchChannel) → is_some (shown_at (layers_of ls) x) ≡ true → has_place ls x ≡ true
 
 pub ended_same : (bs bs' : Books) (c : JoinedCall) → ((k n : ℕ) (r : RecordValue) → Rests n r (bs k) → Rests n r (bs' k)) → HasEnded bs c → HasEnded bs' c
 ended_same bs bs' c f h = record {
@@ -118,7 +118,7 @@ pub record FarJoined (ls : List SwitchLine) (bs : Books) (c : JoinedCall) : Type
 pub far_joined : (ls : List SwitchLine) (bs : Books) (c : JoinedCall) → Mutual ls → Stands ls bs c → FarJoined ls bs c
 far_joined ls bs c m s =
     let k = m c.near s.join s.joined in
-    record { far_join = k.far; joined = ap (λ (x : Place). joined_at ls x) (sym s.other) ∙ k.joined; back = k.back }
+    record { far_join = k.far; joined = ap (λ (x : SwitchChannel). joined_at ls x) (sym s.other) ∙ k.joined; back = k.back }
 
 pub stands_stay : (ls ms : List SwitchLine) (bs bs' : Books) (c : JoinedCall) → Mutual ls → Stay ls ms bs bs' → Stands ls bs c → Stands ms bs' c
 stands_stay ls ms bs bs' c m t s =
@@ -225,7 +225,7 @@ test_slot : (a : Act) (v : Bool) (o : Option Layer) (b : Book) (c : ℕ) → IsM
 test_slot a true o b c m = line_slot a o b c m
 test_slot a false o b c m = refl
 
-pub acts_slots : (acts : List Act) (ys : List Layer) (bs : Books) (x : Place) → Every IsMildAct acts → present_at x (books_after_all acts ys bs) ≡ present_at x bs
+pub acts_slots : (acts : List Act) (ys : List Layer) (bs : Books) (x : SwitchChannel) → Every IsMildAct acts → present_at x (books_after_all acts ys bs) ≡ present_at x bs
 acts_slots [] ys bs x m = refl
 acts_slots (a ∷ more) ys bs x m =
     acts_slots more (after_act a ys) (books_after a ys bs) x m.1
@@ -234,7 +234,7 @@ acts_slots (a ∷ more) ys bs x m =
 -- ---- steps that end no call and begin none
 
 -- what is sent is sent on joined channels, and no call is accepted
-abbrev pub OnJoined : Request → Place → List SwitchLine → Type 0
+abbrev pub OnJoined : Request → SwitchChannel → List SwitchLine → Type 0
 OnJoined (Sending d) p ls = (j : Joined) × (joined_at ls p ≡ Some j)
 OnJoined (Interrupting octets) p ls = (j : Joined) × (joined_at ls p ≡ Some j)
 OnJoined Accept p ls = ⊥
@@ -275,16 +275,16 @@ step_mild Begins ls i = tt
 step_mild Settles ls i = tt
 step_mild (Elapses ticks) ls i = tt
 
-kept_shape : (p : Place) (j k : Joined) (ls : List SwitchLine) (x : Place) → joined_at ls p ≡ Some k → anew j ≡ anew k → shape (joined_at (with_joined p (Some j) ls) x) ≡ shape (joined_at ls x)
+kept_shape : (p : SwitchChannel) (j k : Joined) (ls : List SwitchLine) (x : SwitchChannel) → joined_at ls p ≡ Some k → anew j ≡ anew k → shape (joined_at (with_joined p (Some j) ls) x) ≡ shape (joined_at ls x)
 kept_shape p j k ls x e f = by_place (decided (same_place x p))
   where
     by_place : (same_place x p ≡ true) ⊎ (same_place x p ≡ false) → shape (joined_at (with_joined p (Some j) ls) x) ≡ shape (joined_at ls x)
     by_place (inl t) =
-        ap (λ (y : Place). shape (joined_at (with_joined p (Some j) ls) y)) (place_is x p t)
-        ∙ (ap shape (joined_here p (Some j) ls (joined_place ls p k e)) ∙ (ap (λ (i : Joined). Some i) f ∙ (sym (ap shape e) ∙ ap (λ (y : Place). shape (joined_at ls y)) (sym (place_is x p t)))))
+        ap (λ (y : SwitchChannel). shape (joined_at (with_joined p (Some j) ls) y)) (place_is x p t)
+        ∙ (ap shape (joined_here p (Some j) ls (joined_place ls p k e)) ∙ (ap (λ (i : Joined). Some i) f ∙ (sym (ap shape e) ∙ ap (λ (y : SwitchChannel). shape (joined_at ls y)) (sym (place_is x p t)))))
     by_place (inr n) = ap shape (joined_apart p (Some j) x ls n)
 
-step_shape : (s : Step) (ls : List SwitchLine) (x : Place) → IsSteady s ls → shape (joined_at (lines_after s ls) x) ≡ shape (joined_at ls x)
+step_shape : (s : Step) (ls : List SwitchLine) (x : SwitchChannel) → IsSteady s ls → shape (joined_at (lines_after s ls) x) ≡ shape (joined_at ls x)
 step_shape (Asks p q) ls x i = ap shape (joined_asked p q x ls)
 step_shape (Keeps p (Some j)) ls x i = kept_shape p j i.0 ls x i.1.0 i.1.1
 step_shape (Keeps p None) ls x i = absurd i
@@ -299,7 +299,7 @@ pub books_rest : (acts : List Act) (ys : List Layer) (bs : Books) (k n : ℕ) (r
 books_rest acts ys bs k n r i = acts_rest acts ys bs k n r i
 
 -- joins stay in pairs
-pub mutual_stays : (ls ms : List SwitchLine) → ((x : Place) → shape (joined_at ms x) ≡ shape (joined_at ls x)) → ((x : Place) → is_some (shown_at (layers_of ms) x) ≡ is_some (shown_at (layers_of ls) x)) → Mutual ls → Mutual ms
+pub mutual_stays : (ls ms : List SwitchLine) → ((x : SwitchChannel) → shape (joined_at ms x) ≡ shape (joined_at ls x)) → ((x : SwitchChannel) → is_some (shown_at (layers_of ms) x) ≡ is_some (shown_at (layers_of ls) x)) → Mutual ls → Mutual ms
 mutual_stays ls ms same there m p j e =
     let old = shape_some (joined_at ms p) (joined_at ls p) j (sym (same p)) e in
     let k = m p old.0 old.1.0 in
@@ -307,9 +307,9 @@ mutual_stays ls ms same there m p j e =
     let now = shape_some (joined_at ls old.0.other) (joined_at ms old.0.other) k.far (same old.0.other) k.joined in
     record {
       far = now.0;
-      joined = ap (λ (x : Place). joined_at ms x) (sym other) ∙ now.1.0;
+      joined = ap (λ (x : SwitchChannel). joined_at ms x) (sym other) ∙ now.1.0;
       back = ap (λ (i : Joined). i.other) now.1.1 ∙ k.back;
-      apart = ap (λ (x : Place). same_place p x) (sym other) ∙ k.apart;
+      apart = ap (λ (x : SwitchChannel). same_place p x) (sym other) ∙ k.apart;
       one_came_in = ap (λ (i : Joined). i.came_in) now.1.1 ∙ (k.one_came_in ∙ ap (λ (i : Joined). not i.came_in) old.1.1);
       there = there p ∙ k.there;
     }
@@ -353,30 +353,30 @@ steady_then (a ∷ as_) bs ls ms e i j = (i.0, steady_then as_ bs (lines_after a
 
 -- the other channel of a joined one is joined
 abbrev pub BothJoined : List SwitchLine → Type 0
-BothJoined ls = (p : Place) (j : Joined) → joined_at ls p ≡ Some j → (k : Joined) × (joined_at ls j.other ≡ Some k)
+BothJoined ls = (p : SwitchChannel) (j : Joined) → joined_at ls p ≡ Some j → (k : Joined) × (joined_at ls j.other ≡ Some k)
 
 pub mutual_both : (ls : List SwitchLine) → Mutual ls → BothJoined ls
 mutual_both ls m p j e = let k = m p j e in (k.far, k.joined)
 
-both_stay : (ls ms : List SwitchLine) → ((x : Place) → shape (joined_at ms x) ≡ shape (joined_at ls x)) → BothJoined ls → BothJoined ms
+both_stay : (ls ms : List SwitchLine) → ((x : SwitchChannel) → shape (joined_at ms x) ≡ shape (joined_at ls x)) → BothJoined ls → BothJoined ms
 both_stay ls ms same b p j e =
     let old = shape_some (joined_at ms p) (joined_at ls p) j (sym (same p)) e in
     let far = b p old.0 old.1.0 in
     let now = shape_some (joined_at ls old.0.other) (joined_at ms old.0.other) far.0 (same old.0.other) far.1 in
-    (now.0, ap (λ (x : Place). joined_at ms x) (sym (ap (λ (i : Joined). i.other) old.1.1)) ∙ now.1.0)
+    (now.0, ap (λ (x : SwitchChannel). joined_at ms x) (sym (ap (λ (i : Joined). i.other) old.1.1)) ∙ now.1.0)
 
-steadies_shape : (steps : List Step) (ls : List SwitchLine) (x : Place) → AreSteady steps ls → shape (joined_at (lines_after_all steps ls) x) ≡ shape (joined_at ls x)
+steadies_shape : (steps : List Step) (ls : List SwitchLine) (x : SwitchChannel) → AreSteady steps ls → shape (joined_at (lines_after_all steps ls) x) ≡ shape (joined_at ls x)
 steadies_shape [] ls x i = refl
 steadies_shape (s ∷ more) ls x i = steadies_shape more (lines_after s ls) x i.1 ∙ step_shape s ls x i.0
 
 both_after : (steps : List Step) (ls ms : List SwitchLine) → lines_after_all steps ls ≡ ms → AreSteady steps ls → BothJoined ls → BothJoined ms
 both_after steps ls ms e i b = subst (λ (ks : List SwitchLine). BothJoined ks) e (both_stay ls (lines_after_all steps ls) (λ x. steadies_shape steps ls x i) b)
 
-sent_steady : (t : Taken) (p : Place) (k : Joined) (ls : List SwitchLine) → joined_at ls p ≡ Some k → IsSteady (Asks p (request_for t)) ls
+sent_steady : (t : Taken) (p : SwitchChannel) (k : Joined) (ls : List SwitchLine) → joined_at ls p ≡ Some k → IsSteady (Asks p (request_for t)) ls
 sent_steady (TakenInterrupt octets) p k ls e = (tt, (k, e))
 sent_steady (TakenPacket d) p k ls e = (tt, (k, e))
 
-unless_steady : (o : Option Refusal) (t : Taken) (p : Place) (j : Joined) (ls : List SwitchLine) → BothJoined ls → joined_at ls p ≡ Some j → AreSteady (moved_unless_steps o t p j) ls
+unless_steady : (o : Option Refusal) (t : Taken) (p : SwitchChannel) (j : Joined) (ls : List SwitchLine) → BothJoined ls → joined_at ls p ≡ Some j → AreSteady (moved_unless_steps o t p j) ls
 unless_steady (Some r) t p j ls b e = tt
 unless_steady None t p j ls b e =
     let k = b p j e in
@@ -384,22 +384,22 @@ unless_steady None t p j ls b e =
     let l2 = ask j.other (request_for t) l1 in
     ((tt, tt), (sent_steady t j.other k.0 l1 (joined_asked p Taking j.other ls ∙ k.1), ((tt, tt), ((j, (joined_asked p (Releasing (releasable (carried_by t j.kept).held)) p l2 ∙ (joined_asked j.other (request_for t) p l1 ∙ (joined_asked p Taking p ls ∙ e)), refl)), tt))))
 
-front_steady : (o : Option Taken) (p : Place) (j : Joined) (ls : List SwitchLine) → BothJoined ls → joined_at ls p ≡ Some j → AreSteady (moved_front_steps o p j ls) ls
+front_steady : (o : Option Taken) (p : SwitchChannel) (j : Joined) (ls : List SwitchLine) → BothJoined ls → joined_at ls p ≡ Some j → AreSteady (moved_front_steps o p j ls) ls
 front_steady None p j ls b e = tt
 front_steady (Some t) p j ls b e = unless_steady (refusal_at ls j.other (request_for t)) t p j ls b e
 
-moved_steady : (o : Option Joined) (p : Place) (ls : List SwitchLine) → BothJoined ls → joined_at ls p ≡ o → AreSteady (moved_joined_steps o p ls) ls
+moved_steady : (o : Option Joined) (p : SwitchChannel) (ls : List SwitchLine) → BothJoined ls → joined_at ls p ≡ o → AreSteady (moved_joined_steps o p ls) ls
 moved_steady None p ls b e = tt
 moved_steady (Some j) p ls b e = front_steady (lines.front_at ls p) p j ls b e
 
-relayed_steady : (most : ℕ) (p : Place) (ls : List SwitchLine) → BothJoined ls → AreSteady (relayed_steps most p ls) ls
+relayed_steady : (most : ℕ) (p : SwitchChannel) (ls : List SwitchLine) → BothJoined ls → AreSteady (relayed_steps most p ls) ls
 relayed_steady zero p ls b = tt
 relayed_steady (suc most) p ls b =
     let one = moved_steady (joined_at ls p) p ls b refl in
     steady_then (moved_joined_steps (joined_at ls p) p ls) (relayed_steps most p (moved p ls)) ls (moved p ls) (moved_leads (joined_at ls p) p ls) one
     (relayed_steady most p (moved p ls) (both_after (moved_joined_steps (joined_at ls p) p ls) ls (moved p ls) (moved_leads (joined_at ls p) p ls) one b))
 
-from_steady : (ps : List Place) (ls : List SwitchLine) → BothJoined ls → AreSteady (relayed_from_steps ps ls) ls
+from_steady : (ps : List SwitchChannel) (ls : List SwitchLine) → BothJoined ls → AreSteady (relayed_from_steps ps ls) ls
 from_steady [] ls b = tt
 from_steady (p ∷ ps) ls b =
     let one = relayed_steady 8 p ls b in
@@ -431,7 +431,7 @@ rounds_steady (suc most) first ls b =
 
 -- ---- a call is accepted
 
-pub accept_same : (q : Place) (ls : List SwitchLine) (bs : Books) → Same ls (ask q Accept ls) bs (books_by (Asks q Accept) ls bs)
+pub accept_same : (q : SwitchChannel) (ls : List SwitchLine) (bs : Books) → Same ls (ask q Accept ls) bs (books_by (Asks q Accept) ls bs)
 accept_same q ls bs = record {
   joins = λ x. ap shape (joined_asked q Accept x ls);
   slots = λ x j e. acts_slots (Act.Asks q Accept ∷ []) (layers_of ls) bs x (tt, tt);
@@ -440,7 +440,7 @@ accept_same q ls bs = record {
 
 -- ---- notes of a call that goes on
 
-anew_steady : (o : Option Joined) (q : Place) (ls : List SwitchLine) → shape (joined_at ls q) ≡ shape o → AreSteady (anew_steps o q) ls
+anew_steady : (o : Option Joined) (q : SwitchChannel) (ls : List SwitchLine) → shape (joined_at ls q) ≡ shape o → AreSteady (anew_steps o q) ls
 anew_steady None q ls e = tt
 anew_steady (Some k) q ls e = let i = shape_some (Some k) (joined_at ls q) k e refl in ((i.0, (i.1.0, sym i.1.1)), tt)
 
@@ -451,7 +451,7 @@ IsPlain (Connected c) = ⊥
 IsPlain (Closed c cause diagnostic reason) = ⊥
 IsPlain note = Unit {0}
 
-told_joined_steady : (note : Note) (p : Place) (j : Joined) (ls : List SwitchLine) → IsPlain note → joined_at ls p ≡ Some j → AreSteady (told_joined_steps note p j ls) ls
+told_joined_steady : (note : Note) (p : SwitchChannel) (j : Joined) (ls : List SwitchLine) → IsPlain note → joined_at ls p ≡ Some j → AreSteady (told_joined_steps note p j ls) ls
 told_joined_steady (Incoming c parts) p j ls i e = absurd i
 told_joined_steady (Closed c cause diagnostic reason) p j ls i e = absurd i
 told_joined_steady (Connected c) p j ls i e = absurd i
@@ -468,7 +468,7 @@ told_joined_steady (WasReset c cause diagnostic reason) p j ls i e =
     let l2 = with_joined p (Some (record j { kept = new_direction })) l1 in
     ((tt, tt), ((j, (here, refl)), anew_steady (joined_at ls j.other) j.other l2 (kept_shape p (record j { kept = new_direction }) j l1 j.other here refl ∙ ap shape (joined_asked j.other r j.other ls))))
 
-told_steady : (o : Option Joined) (note : Note) (p : Place) (ls : List SwitchLine) → IsPlain note → joined_at ls p ≡ o → AreSteady (told_steps o note p ls) ls
+told_steady : (o : Option Joined) (note : Note) (p : SwitchChannel) (ls : List SwitchLine) → IsPlain note → joined_at ls p ≡ o → AreSteady (told_steps o note p ls) ls
 told_steady None note p ls i e = tt
 told_steady (Some j) note p ls i e = told_joined_steady note p j ls i e
 

@@ -10,8 +10,8 @@ use Rattle.packet_laws.specs.Readable.{Every}
 use Rattle.address_routes.specs.Routes.{RouteMap}
 use Rattle.call_records.specs.Records.{RecordValue}
 use Rattle.switch_lines.specs.Causes.{clear_cause, far_diagnostic}
-use Rattle.switch_lines.specs.declared.place.Place.{Place}
-use Rattle.switch_lines.specs.declared.place.Joined.{Joined}
+use Rattle.switch_lines.specs.declared.channels.SwitchChannel.{SwitchChannel}
+use Rattle.switch_lines.specs.declared.channels.Joined.{Joined}
 use Rattle.switch_lines.specs.Lines.{SwitchLine, same_place, joined_at, with_joined, ask}
 use Rattle.switch_lines.specs.Relay.{told_of}
 use Rattle.switch_lines.specs.Switch.{heed, heed_all}
@@ -49,24 +49,24 @@ pub record Marks (n : ℕ) (ns : List Note) (ls : List SwitchLine) (bs : Books) 
   pub places : HavePlaces ls
   pub beside : Beside ls bs
   pub each : Every (λ c. InHand n ns ls bs c ⊎ HasEnded bs c) cs
-  pub all : (p : Place) (j : Joined) → joined_at ls p ≡ Some j → j.came_in ≡ true
+  pub all : (p : SwitchChannel) (j : Joined) → joined_at ls p ≡ Some j → j.came_in ≡ true
       → (i : ℕ) × (c : JoinedCall) × (slice_get cs i ≡ Some c) × InHand n ns ls bs c × (c.near ≡ p)
 
 -- ---- one of them is over
 
-fewer_held : (n : ℕ) (note : Note) (ns : List Note) (bs : Books) (x : Place) (m : ℕ) → (IsOver n (note ∷ ns) x → IsOver n ns x) → (IsOver n ns x → IsOver n (note ∷ ns) x) → Held n (note ∷ ns) bs x m → Held n ns bs x m
+fewer_held : (n : ℕ) (note : Note) (ns : List Note) (bs : Books) (x : SwitchChannel) (m : ℕ) → (IsOver n (note ∷ ns) x → IsOver n ns x) → (IsOver n ns x → IsOver n (note ∷ ns) x) → Held n (note ∷ ns) bs x m → Held n ns bs x m
 fewer_held n note ns bs x m f g (inl h) = inl (f h.0, h.1)
 fewer_held n note ns bs x m f g (inr h) = inr ((λ o. h.0 (g o)), h.1)
 
-fewer_side : (n : ℕ) (note : Note) (ns : List Note) (bs : Books) (x : Place) (m : ℕ) (it : RecordValue) → (IsOver n (note ∷ ns) x → IsOver n ns x) → (IsOver n ns x → IsOver n (note ∷ ns) x) → Side n (note ∷ ns) bs x m it → Side n ns bs x m it
+fewer_side : (n : ℕ) (note : Note) (ns : List Note) (bs : Books) (x : SwitchChannel) (m : ℕ) (it : RecordValue) → (IsOver n (note ∷ ns) x → IsOver n ns x) → (IsOver n ns x → IsOver n (note ∷ ns) x) → Side n (note ∷ ns) bs x m it → Side n ns bs x m it
 fewer_side n note ns bs x m it f g s = record { there = s.there; held = fewer_held n note ns bs x m f g s.held }
 
 module _ (n c cause diagnostic : ℕ) (reason : Reason) (ns : List Note) (ls : List SwitchLine) (bs : Books) (cs : List JoinedCall) (m : Marks n (Closed c cause diagnostic reason ∷ ns) ls bs cs)
     (j : Joined) (here : joined_at ls (at n c) ≡ Some j) where
-  abbrev p : Place
+  abbrev p : SwitchChannel
   p = at n c
 
-  abbrev q : Place
+  abbrev q : SwitchChannel
   q = j.other
 
   abbrev first : Note
@@ -99,7 +99,7 @@ module _ (n c cause diagnostic : ℕ) (reason : Reason) (ns : List Note) (ls : L
   q_there : is_some (shown_at (layers_of l2) q) ≡ true
   q_there = there_step (Keeps q None) l1 q ∙ (there_step (Keeps p None) ls q ∙ far_pair.there)
 
-  joined_else : (x : Place) → same_place x p ≡ false → same_place x q ≡ false → joined_at ms x ≡ joined_at ls x
+  joined_else : (x : SwitchChannel) → same_place x p ≡ false → same_place x q ≡ false → joined_at ms x ≡ joined_at ls x
   joined_else x a b = joined_asked q r x l2 ∙ (joined_apart q None x l1 b ∙ joined_apart p None x ls a)
 
   p_none : joined_at ms p ≡ None
@@ -109,26 +109,26 @@ module _ (n c cause diagnostic : ℕ) (reason : Reason) (ns : List Note) (ls : L
   q_none = joined_asked q r q l2 ∙ joined_here q None l1 (place_joined p None ls q ∙ joined_place ls q pair.far pair.joined)
 
   -- a channel that is joined after it
-  record Other (x : Place) (i : Joined) : Type 0 where
+  record Other (x : SwitchChannel) (i : Joined) : Type 0 where
     pub was : joined_at ls x ≡ Some i
     pub not_p : same_place x p ≡ false
     pub not_q : same_place x q ≡ false
 
-  not_none : (x y : Place) (i : Joined) → joined_at ms y ≡ None → joined_at ms x ≡ Some i → same_place x y ≡ false
+  not_none : (x y : SwitchChannel) (i : Joined) → joined_at ms y ≡ None → joined_at ms x ≡ Some i → same_place x y ≡ false
   not_none x y i none e = by_test (decided (same_place x y))
     where
       by_test : (same_place x y ≡ true) ⊎ (same_place x y ≡ false) → same_place x y ≡ false
-      by_test (inl t) = absurd (none-some i (sym none ∙ (ap (λ (z : Place). joined_at ms z) (sym (place_is x y t)) ∙ e)))
+      by_test (inl t) = absurd (none-some i (sym none ∙ (ap (λ (z : SwitchChannel). joined_at ms z) (sym (place_is x y t)) ∙ e)))
       by_test (inr f) = f
 
-  still : (x : Place) (i : Joined) → joined_at ms x ≡ Some i → Other x i
+  still : (x : SwitchChannel) (i : Joined) → joined_at ms x ≡ Some i → Other x i
   still x i e =
       let a = not_none x p i p_none e in
       let b = not_none x q i q_none e in
       record { was = sym (joined_else x a b) ∙ e; not_p = a; not_q = b }
 
   -- the one that it is joined to is neither of the two
-  other_not : (x : Place) (i : Joined) → joined_at ls x ≡ Some i → same_place x p ≡ false → same_place x q ≡ false → (same_place i.other p ≡ false) × (same_place i.other q ≡ false)
+  other_not : (x : SwitchChannel) (i : Joined) → joined_at ls x ≡ Some i → same_place x p ≡ false → same_place x q ≡ false → (same_place i.other p ≡ false) × (same_place i.other q ≡ false)
   other_not x i e a b = (by_p (decided (same_place i.other p)), by_q (decided (same_place i.other q)))
     where
       k : Paired ls x i
@@ -137,13 +137,13 @@ module _ (n c cause diagnostic : ℕ) (reason : Reason) (ns : List Note) (ls : L
       by_p : (same_place i.other p ≡ true) ⊎ (same_place i.other p ≡ false) → same_place i.other p ≡ false
       by_p (inr f) = f
       by_p (inl t) =
-          let is : k.far ≡ j = same_Some k.far j (sym k.joined ∙ (ap (λ (y : Place). joined_at ls y) (place_is i.other p t) ∙ here)) in
+          let is : k.far ≡ j = same_Some k.far j (sym k.joined ∙ (ap (λ (y : SwitchChannel). joined_at ls y) (place_is i.other p t) ∙ here)) in
           absurd (true≢false (sym (same_as x q (sym k.back ∙ ap (λ (y : Joined). y.other) is)) ∙ b))
 
       by_q : (same_place i.other q ≡ true) ⊎ (same_place i.other q ≡ false) → same_place i.other q ≡ false
       by_q (inr f) = f
       by_q (inl t) =
-          let is : k.far ≡ pair.far = same_Some k.far pair.far (sym k.joined ∙ (ap (λ (y : Place). joined_at ls y) (place_is i.other q t) ∙ pair.joined)) in
+          let is : k.far ≡ pair.far = same_Some k.far pair.far (sym k.joined ∙ (ap (λ (y : SwitchChannel). joined_at ls y) (place_is i.other q t) ∙ pair.joined)) in
           absurd (true≢false (sym (same_as x p (sym k.back ∙ (ap (λ (y : Joined). y.other) is ∙ pair.back))) ∙ a))
 
   mutual_then : Mutual ms
@@ -160,17 +160,17 @@ module _ (n c cause diagnostic : ℕ) (reason : Reason) (ns : List Note) (ls : L
         there = there_step (Asks q r) l2 x ∙ (there_step (Keeps q None) l1 x ∙ (there_step (Keeps p None) ls x ∙ k.there));
       }
 
-  over_else : (x : Place) → same_place x p ≡ false → IsOver n (first ∷ ns) x → IsOver n ns x
+  over_else : (x : SwitchChannel) → same_place x p ≡ false → IsOver n (first ∷ ns) x → IsOver n ns x
   over_else x a (inl e) = absurd (true≢false (sym (same_as x (at n c) e) ∙ a))
   over_else x a (inr h) = h
 
-  over_more : (x : Place) → IsOver n ns x → IsOver n (first ∷ ns) x
+  over_more : (x : SwitchChannel) → IsOver n ns x → IsOver n (first ∷ ns) x
   over_more x h = inr h
 
-  over_p : (x : Place) → x ≡ p → IsOver n (first ∷ ns) x
+  over_p : (x : SwitchChannel) → x ≡ p → IsOver n (first ∷ ns) x
   over_p x e = inl e
 
-  side_else : (x : Place) (k : ℕ) (it : RecordValue) → same_place x p ≡ false → same_place x q ≡ false → Side n (first ∷ ns) bs x k it → Side n ns bs' x k it
+  side_else : (x : SwitchChannel) (k : ℕ) (it : RecordValue) → same_place x p ≡ false → same_place x q ≡ false → Side n (first ∷ ns) bs x k it → Side n ns bs' x k it
   side_else x k it a b s =
       fewer_side n first ns bs' x k it (λ o. over_else x a o) (λ o. over_more x o)
       (side_stays n (first ∷ ns) (clear_cause reason cause) (far_diagnostic reason diagnostic) q x k it l2 bs b (records_at l2 bs q beside2 q_there).1.1.1.apart s)
@@ -187,15 +187,15 @@ module _ (n c cause diagnostic : ℕ) (reason : Reason) (ns : List Note) (ls : L
         other = h.other;
         came_in_here = h.came_in_here;
         near_side = side_else d.near d.came_in h.near_record a b h.near_side;
-        far_side = side_else d.far d.placed h.far_record (subst (λ (y : Place). same_place y p ≡ false) h.other z.0) (subst (λ (y : Place). same_place y q ≡ false) h.other z.1) h.far_side;
+        far_side = side_else d.far d.placed h.far_record (subst (λ (y : SwitchChannel). same_place y p ≡ false) h.other z.0) (subst (λ (y : SwitchChannel). same_place y q ≡ false) h.other z.1) h.far_side;
       }
 
-  clears_side : (x : Place) (k : ℕ) (it : RecordValue) → x ≡ q → Side n (first ∷ ns) bs x k it → RestsWith bs' x k it
+  clears_side : (x : SwitchChannel) (k : ℕ) (it : RecordValue) → x ≡ q → Side n (first ∷ ns) bs x k it → RestsWith bs' x k it
   clears_side x k it e s =
-      subst (λ (y : Place). RestsWith bs' y k it) (sym e)
-      (side_clears n (first ∷ ns) (clear_cause reason cause) (far_diagnostic reason diagnostic) q k it l2 bs beside2 q_there (subst (λ (y : Place). Side n (first ∷ ns) bs y k it) e s))
+      subst (λ (y : SwitchChannel). RestsWith bs' y k it) (sym e)
+      (side_clears n (first ∷ ns) (clear_cause reason cause) (far_diagnostic reason diagnostic) q k it l2 bs beside2 q_there (subst (λ (y : SwitchChannel). Side n (first ∷ ns) bs y k it) e s))
 
-  rests_side : (x : Place) (k : ℕ) (it : RecordValue) → x ≡ p → Side n (first ∷ ns) bs x k it → RestsWith bs' x k it
+  rests_side : (x : SwitchChannel) (k : ℕ) (it : RecordValue) → x ≡ p → Side n (first ∷ ns) bs x k it → RestsWith bs' x k it
   rests_side x k it e s = record { now = it; rests = side_rests n (first ∷ ns) (Act.Asks q r ∷ []) x k it l2 bs (over_p x e) s; epochs = epochs_itself it }
 
   ended_by : (d : JoinedCall) (near_it far_it : RecordValue) → AreRelayed near_it far_it → RestsWith bs' d.near d.came_in near_it → RestsWith bs' d.far d.placed far_it → HasEnded bs' d
@@ -203,12 +203,12 @@ module _ (n c cause diagnostic : ℕ) (reason : Reason) (ns : List Note) (ls : L
 
   ends_here : (d : JoinedCall) → d.near ≡ p → InHand n (first ∷ ns) ls bs d → HasEnded bs' d
   ends_here d e h =
-      let is : h.join ≡ j = same_Some h.join j (sym h.joined ∙ (ap (λ (y : Place). joined_at ls y) e ∙ here)) in
+      let is : h.join ≡ j = same_Some h.join j (sym h.joined ∙ (ap (λ (y : SwitchChannel). joined_at ls y) e ∙ here)) in
       ended_by d h.near_record h.far_record h.relayed (rests_side d.near d.came_in h.near_record e h.near_side) (clears_side d.far d.placed h.far_record (sym h.other ∙ ap (λ (y : Joined). y.other) is) h.far_side)
 
   ends_there : (d : JoinedCall) → d.near ≡ q → InHand n (first ∷ ns) ls bs d → HasEnded bs' d
   ends_there d e h =
-      let is : h.join ≡ pair.far = same_Some h.join pair.far (sym h.joined ∙ (ap (λ (y : Place). joined_at ls y) e ∙ pair.joined)) in
+      let is : h.join ≡ pair.far = same_Some h.join pair.far (sym h.joined ∙ (ap (λ (y : SwitchChannel). joined_at ls y) e ∙ pair.joined)) in
       ended_by d h.near_record h.far_record h.relayed (clears_side d.near d.came_in h.near_record e h.near_side) (rests_side d.far d.placed h.far_record (sym h.other ∙ (ap (λ (y : Joined). y.other) is ∙ pair.back)) h.far_side)
 
   one_then : (d : JoinedCall) → InHand n (first ∷ ns) ls bs d ⊎ HasEnded bs d → InHand n ns ms bs' d ⊎ HasEnded bs' d
@@ -229,7 +229,7 @@ module _ (n c cause diagnostic : ℕ) (reason : Reason) (ns : List Note) (ls : L
     all = λ x i e came.
         let o = still x i e in
         let k = m.all x i o.was came in
-        (k.0, k.1, k.2, stays_in_hand k.1 (subst (λ (y : Place). same_place y p ≡ false) (sym k.4) o.not_p) (subst (λ (y : Place). same_place y q ≡ false) (sym k.4) o.not_q) k.3, k.4);
+        (k.0, k.1, k.2, stays_in_hand k.1 (subst (λ (y : SwitchChannel). same_place y p ≡ false) (sym k.4) o.not_p) (subst (λ (y : SwitchChannel). same_place y q ≡ false) (sym k.4) o.not_q) k.3, k.4);
   }
 
   -- a call that came in on the channel itself
@@ -249,11 +249,11 @@ closed_alone n c cause diagnostic reason ns ls bs cs none m = record {
   all = λ x i e came. let k = m.all x i e came in (k.0, k.1, k.2, kept k.1 k.3, k.4);
 }
   where
-    apart : (x : Place) (i : Joined) → joined_at ls x ≡ Some i → IsOver n (Closed c cause diagnostic reason ∷ ns) x → IsOver n ns x
-    apart x i e (inl is) = absurd (none-some i (sym none ∙ (ap (λ (y : Place). joined_at ls y) (sym is) ∙ e)))
+    apart : (x : SwitchChannel) (i : Joined) → joined_at ls x ≡ Some i → IsOver n (Closed c cause diagnostic reason ∷ ns) x → IsOver n ns x
+    apart x i e (inl is) = absurd (none-some i (sym none ∙ (ap (λ (y : SwitchChannel). joined_at ls y) (sym is) ∙ e)))
     apart x i e (inr h) = h
 
-    side : (x : Place) (i : Joined) (k : ℕ) (it : RecordValue) → joined_at ls x ≡ Some i → Side n (Closed c cause diagnostic reason ∷ ns) bs x k it → Side n ns bs x k it
+    side : (x : SwitchChannel) (i : Joined) (k : ℕ) (it : RecordValue) → joined_at ls x ≡ Some i → Side n (Closed c cause diagnostic reason ∷ ns) bs x k it → Side n ns bs x k it
     side x i k it e s = fewer_side n (Closed c cause diagnostic reason) ns bs x k it (λ o. apart x i e o) (λ o. inr o) s
 
     kept : (d : JoinedCall) → InHand n (Closed c cause diagnostic reason ∷ ns) ls bs d → InHand n ns ls bs d
@@ -268,7 +268,7 @@ closed_alone n c cause diagnostic reason ns ls bs cs none m = record {
           other = h.other;
           came_in_here = h.came_in_here;
           near_side = side d.near h.join d.came_in h.near_record h.joined h.near_side;
-          far_side = side d.far k.far d.placed h.far_record (ap (λ (y : Place). joined_at ls y) (sym h.other) ∙ k.joined) h.far_side;
+          far_side = side d.far k.far d.placed h.far_record (ap (λ (y : SwitchChannel). joined_at ls y) (sym h.other) ∙ k.joined) h.far_side;
         }
 
 -- what is kept where a note was heeded: the marks, and the present record of its own channel
@@ -313,7 +313,7 @@ module _ (R : Books → List JoinedCall → Type 0) (keeps : KeptQuietly R) wher
 
 -- ---- none is left to be told
 
-side_present : (n : ℕ) (bs : Books) (x : Place) (m : ℕ) (it : RecordValue) → Side n [] bs x m it → present_at x bs ≡ Some m
+side_present : (n : ℕ) (bs : Books) (x : SwitchChannel) (m : ℕ) (it : RecordValue) → Side n [] bs x m it → present_at x bs ≡ Some m
 side_present n bs x m it s = elim s.held [ inl h ↦ absurd h.0 | inr h ↦ h.1 ]
 
 stands : (n : ℕ) (ls : List SwitchLine) (bs : Books) (c : JoinedCall) → InHand n [] ls bs c → Stands ls bs c

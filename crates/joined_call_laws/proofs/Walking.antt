@@ -3,7 +3,7 @@ use Rattle.std.specs.Prelude.{◌≡◌, List, [], ◌∷◌, ◌++◌, is_some}
 use Rattle.std.proofs.Common.{refl, sym, ap, subst, ◌∙◌, append_assoc, append-nil}
 use Rattle.packet_layer.specs.Layer.{Layer}
 use Rattle.packet_laws.specs.Readable.{Every}
-use Rattle.switch_lines.specs.declared.place.Place.{Place}
+use Rattle.switch_lines.specs.declared.channels.SwitchChannel.{SwitchChannel}
 use Rattle.switch_lines.specs.Lines.{SwitchLine}
 use Rattle.switch_laws.specs.World.{World, IsWorld, Act, MayHappen, layers_of, shown_at, after_act, after_acts, world_after_all}
 use Rattle.switch_laws.specs.Steps.{Step, lines_after, lines_after_all, acts_of, acts_of_all}
@@ -99,13 +99,13 @@ beside_acts acts ls ms bs e m b =
 pub beside_step : (s : Step) (ls : List SwitchLine) (bs : Books) → Every MayHappen (acts_of s ls) → Beside ls bs → Beside (lines_after s ls) (books_by s ls bs)
 beside_step s ls bs m b = beside_acts (acts_of s ls) ls (lines_after s ls) bs (step_layers s ls) m b
 
-there_acts : (acts : List Act) (ys : List Layer) (x : Place) → is_some (shown_at (after_acts acts ys) x) ≡ is_some (shown_at ys x)
+there_acts : (acts : List Act) (ys : List Layer) (x : SwitchChannel) → is_some (shown_at (after_acts acts ys) x) ≡ is_some (shown_at ys x)
 there_acts [] ys x = refl
 there_acts (a ∷ more) ys x = there_acts more (after_act a ys) x ∙ there_after a ys x
 
-pub there_step : (s : Step) (ls : List SwitchLine) (x : Place) → is_some (shown_at (layers_of (lines_after s ls)) x) ≡ is_some (shown_at (layers_of ls) x)
+pub there_step : (s : Step) (ls : List SwitchLine) (x : SwitchChannel) → is_some (shown_at (layers_of (lines_after s ls)) x) ≡ is_some (shown_at (layers_of ls) x)
 there_step s ls x = ap (λ (ys : List Layer). is_some (shown_at ys x)) (step_layers s ls) ∙ there_acts (acts_of s ls) (layers_of ls) x
 
-pub there_steps : (steps : List Step) (ls : List SwitchLine) (x : Place) → is_some (shown_at (layers_of (lines_after_all steps ls)) x) ≡ is_some (shown_at (layers_of ls) x)
+pub there_steps : (steps : List Step) (ls : List SwitchLine) (x : SwitchChannel) → is_some (shown_at (layers_of (lines_after_all steps ls)) x) ≡ is_some (shown_at (layers_of ls) x)
 there_steps [] ls x = refl
 there_steps (s ∷ more) ls x = there_steps more (lines_after s ls) x ∙ there_step s ls x

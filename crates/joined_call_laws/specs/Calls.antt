@@ -4,8 +4,8 @@ use Rattle.link_timers.specs.declared.role.Role.TheVariants.{Dce}
 use Rattle.packet_laws.specs.Readable.{Every}
 use Rattle.call_records.specs.Records.{RecordValue}
 use Rattle.call_records.specs.Book.{slot_at}
-use Rattle.switch_lines.specs.declared.place.Place.{Place}
-use Rattle.switch_lines.specs.declared.place.Joined.{Joined}
+use Rattle.switch_lines.specs.declared.channels.SwitchChannel.{SwitchChannel}
+use Rattle.switch_lines.specs.declared.channels.Joined.{Joined}
 use Rattle.switch_lines.specs.Lines.{SwitchLine, joined_at}
 use Rattle.switch_laws.specs.World.{layers_of}
 use Rattle.switch_laws.specs.Steps.{Step, lines_after, acts_of}
@@ -17,23 +17,23 @@ use Rattle.switch_record_laws.specs.Rests.{Rests}
 -- the channel where the call came in and the one where it goes on, with the numbers of the two records in the books of
 -- their lines
 pub record JoinedCall : Type 0 where
-  pub near : Place
-  pub far : Place
+  pub near : SwitchChannel
+  pub far : SwitchChannel
   pub came_in : ℕ
   pub placed : ℕ
 
 -- the present record of a channel at the switch's end of its line
-abbrev pub present_at : Place → Books → Option ℕ
+abbrev pub present_at : SwitchChannel → Books → Option ℕ
 present_at p bs = (slot_at Dce p.channel (bs p.line)).present
 
 -- ---- the calls that steps join, in order
 
-abbrev pub numbered : (near far : Place) → (came_in placed : Option ℕ) → List JoinedCall
+abbrev pub numbered : (near far : SwitchChannel) → (came_in placed : Option ℕ) → List JoinedCall
 numbered p q (Some a) (Some b) = record { near = p; far = q; came_in = a; placed = b } ∷ []
 numbered p q _ _ = []
 
 -- a channel that was not joined is, to the channel where the call goes on that came in on it
-abbrev pub made_call : (before : Option Joined) → Place → Joined → Books → List JoinedCall
+abbrev pub made_call : (before : Option Joined) → SwitchChannel → Joined → Books → List JoinedCall
 made_call None p j bs = if j.came_in then numbered p j.other (present_at p bs) (present_at j.other bs) else []
 made_call (Some old) p j bs = []
 
@@ -78,5 +78,5 @@ StandsOrEnded ls bs c = Stands ls bs c ⊎ HasEnded bs c
 -- these are the calls that were joined: each stands or is over, and each join is of one that stands
 pub record AreCalls (ls : List SwitchLine) (bs : Books) (cs : List JoinedCall) : Type 0 where
   pub each : Every (StandsOrEnded ls bs) cs
-  pub all : (p : Place) (j : Joined) → joined_at ls p ≡ Some j → j.came_in ≡ true
+  pub all : (p : SwitchChannel) (j : Joined) → joined_at ls p ≡ Some j → j.came_in ≡ true
       → (i : ℕ) × (c : JoinedCall) × (slice_get cs i ≡ Some c) × Stands ls bs c × (c.near ≡ p)

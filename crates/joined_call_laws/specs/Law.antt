@@ -7,9 +7,9 @@ use Rattle.packet_laws.specs.Readable.{Every, AreOctets}
 use Rattle.call_records.specs.Records.{RecordValue}
 use Rattle.call_records.specs.Writes.{Write, all_written}
 use Rattle.address_routes.specs.Routes.{RouteMap}
-use Rattle.switch_lines.specs.declared.config.LineConfig.{LineConfig}
+use Rattle.switch_lines.specs.declared.config.SwitchLineConfig.{SwitchLineConfig}
 use Rattle.switch_lines.specs.Making.{IsConfig, made}
-use Rattle.switch_lines.specs.declared.place.NewJoin.{NewJoin}
+use Rattle.switch_lines.specs.declared.channels.NewJoin.{NewJoin}
 use Rattle.switch_lines.specs.NewJoins.{new_joins}
 use Rattle.switch_lines.specs.Switch.{Switch, on_frame, on_expiry, elapse, restart}
 use Rattle.switch_laws.specs.Steps.{Happening}
@@ -36,7 +36,7 @@ pub record NewJoinsLaw : Type 0 where
 
 -- a switch as it is made has none
 abbrev pub BeginCalls : Type 0
-BeginCalls = (routes : RouteMap) (lines : List LineConfig) (books : Books) → IsConfig lines
+BeginCalls = (routes : RouteMap) (lines : List SwitchLineConfig) (books : Books) → IsConfig lines
     → AreCalls (made routes lines).lines books []
 
 -- over each event the calls that were joined stand or are over, and those that it joins come behind them

@@ -293,7 +293,7 @@ impl LineEnd {
     }
 
     /// Whether the link is up and has nothing to wait for or to tell.
-    pub fn at_rest(&self) -> bool
+    pub fn is_at_rest(&self) -> bool
         ensures { result ≡ machine.at_rest self.now.end.link }
     {
         self.link.at_rest()

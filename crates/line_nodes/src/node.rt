@@ -22,7 +22,7 @@ pub enum Node {
 
 impl Node {
     /// Takes the octets of a received frame (X.25 2.4, 3 to 5).
-    pub fn hear(&mut self, octets: &[u8])
+    pub fn on_frame(&mut self, octets: &[u8])
         ensures { node_of self.new ≡ heard (node_of self.old) octets.now }
     {
         match self {
@@ -33,7 +33,7 @@ impl Node {
 
     /// Takes an expiry of a timer of the line, or at a PAD of a terminal's idle timer, and answers whether it ran.
     /// Where it did not nothing happens.
-    pub fn expire(&mut self, id: TimerId) -> bool
+    pub fn on_timer(&mut self, id: TimerId) -> bool
         ensures ran { result ≡ node_runs (node_of self.old) id }
         ensures node { node_of self.new ≡ expired (node_of self.old) id }
     {

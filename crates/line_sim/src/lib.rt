@@ -10,7 +10,7 @@ pub use line_nodes::{HostNote, NodeFault, NoteKind, TerminalEvent};
 pub use memory_line::{Direction, FRAMES_IN_FLIGHT, Line, MemLine, mem_lines};
 pub use net::Net;
 pub use net_config::{
-    Config, LineConfig, MakeFault, NodeConfig, NodeKind, PadConfig, RouteConfig, Setting,
+    Config, LineConfig, MakeFault, NodeConfig, NodeKind, RouteConfig, Setting, TerminalsConfig,
 };
 pub use net_events::{Answer, Event, Outcome, Put, StepFault};
 pub use packet_host::HostRequest;

@@ -119,7 +119,7 @@ fn is_seen(end: &LineEnd, act: Act<'_>) -> bool {
     match act {
         Due(timer) => end.due() == timer,
         HasRoom(has_room) => end.has_room() == has_room,
-        AtRest(at_rest) => end.at_rest() == at_rest,
+        AtRest(at_rest) => end.is_at_rest() == at_rest,
         Waiting(frames) => end.waiting() == frames,
         _ => false,
     }

@@ -11,7 +11,7 @@ use Rattle.net_config.specs.declared.config.Config.{Config}
 use Rattle.net_config.specs.declared.config.NodeConfig.{NodeConfig}
 use Rattle.net_config.specs.declared.config.NodeKind.{NodeKind}
 use Rattle.net_config.specs.declared.config.NodeKind.TheVariants as node_kind
-use Rattle.net_config.specs.declared.config.PadConfig.{PadConfig}
+use Rattle.net_config.specs.declared.config.TerminalsConfig.{TerminalsConfig}
 use Rattle.net_config.specs.declared.config.LineConfig.{LineConfig}
 use Rattle.net_config.specs.declared.config.RouteConfig.{RouteConfig}
 use Rattle.net_config.specs.declared.config.Setting.{Setting}
@@ -45,7 +45,7 @@ abbrev pub is_accepted : Setting → Bool
 is_accepted s = is_none (fault_of s.number s.value)
 
 -- a PAD has 1 to 16 terminals, and a speed of at most 255
-abbrev pub is_pad_served : PadConfig → Bool
+abbrev pub is_pad_served : TerminalsConfig → Bool
 is_pad_served p = is_from 1 16 p.terminals && nat_le p.speed 255 && list_all is_accepted p.settings.items
 
 abbrev pub is_kind_served : NodeKind → Bool

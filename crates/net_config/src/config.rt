@@ -19,7 +19,7 @@ pub struct NodeConfig {
 /// The kind of a node.
 #[derive(Drop)]
 pub enum NodeKind {
-    Pad(PadConfig),
+    Pad(TerminalsConfig),
     Host,
     Switch,
 }
@@ -27,7 +27,7 @@ pub enum NodeKind {
 /// A PAD: how many terminals it has, from which profile and speed their parameters start, and which of these are set to
 /// other values, in order.
 #[derive(Drop)]
-pub struct PadConfig {
+pub struct TerminalsConfig {
     pub terminals: u16,
     pub profile: Profile,
     pub speed: u16,

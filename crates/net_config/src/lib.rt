@@ -5,6 +5,6 @@ mod config;
 mod fault;
 mod served;
 
-pub use config::{Config, LineConfig, NodeConfig, NodeKind, PadConfig, RouteConfig, Setting};
+pub use config::{Config, LineConfig, NodeConfig, NodeKind, RouteConfig, Setting, TerminalsConfig};
 pub use fault::MakeFault;
 pub use served::{has_dte, has_end, is_named, is_route_of, is_served};

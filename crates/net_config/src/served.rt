@@ -8,7 +8,9 @@ ghost use Rattle.net_config.specs.Served.{may_stand, is_line_served, ends_at, sa
 ghost use Rattle.net_config.specs.Served.{is_served};
 ghost use Rattle.std.specs.List.{list_all, list_any, filter};
 
-use crate::config::{Config, LineConfig, NodeConfig, NodeKind, PadConfig, RouteConfig, Setting};
+use crate::config::{
+    Config, LineConfig, NodeConfig, NodeKind, RouteConfig, Setting, TerminalsConfig,
+};
 use packet_codec::Address;
 use x3_params::{Params, Profile};
 
@@ -47,7 +49,7 @@ fn is_accepted(setting: Setting) -> bool
     params.set(setting.number, setting.value).is_ok()
 }
 
-fn is_pad_served(pad: &PadConfig) -> bool
+fn is_pad_served(pad: &TerminalsConfig) -> bool
     ensures { result ≡ is_pad_served pad.now }
 {
     is_from(1, 16, pad.terminals) && pad.speed <= 255 && are_accepted(&pad.settings)

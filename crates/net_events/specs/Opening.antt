@@ -14,7 +14,7 @@ use Rattle.memory_line.specs.declared.line.Direction.TheVariants.{FromDte, FromD
 use Rattle.memory_line.specs.Lines.{Flights, no_flights, LineService, ArePut}
 use Rattle.address_routes.specs.Routes.{RouteMap}
 use Rattle.switch_lines.specs.Making.{made}
-use Rattle.switch_lines.specs.declared.config.LineConfig.{LineConfig}
+use Rattle.switch_lines.specs.declared.config.SwitchLineConfig.{SwitchLineConfig}
 use Rattle.net_events.specs.Network.{PlacedNode, PlacedSwitch, User, Switching, Network}
 use Rattle.net_events.specs.AtSwitch.{switch_drained}
 
@@ -134,14 +134,14 @@ abbrev pub placed_new : NewNode → EndParams → PlacedNode
 placed_new n params = record { line = n.line; node = drained (new_node n params) }
 
 -- how the own lines of a switch are made
-abbrev pub line_config : NewLine → LineConfig
+abbrev pub line_config : NewLine → SwitchLineConfig
 line_config l = record { params = l.params; address = l.address }
 
-abbrev pub found_config : Option NewLine → List LineConfig → List LineConfig
+abbrev pub found_config : Option NewLine → List SwitchLineConfig → List SwitchLineConfig
 found_config None configs = configs
 found_config (Some l) configs = line_config l ∷ configs
 
-abbrev pub own_configs : (own : List ℕ) → (lines : List NewLine) → List LineConfig
+abbrev pub own_configs : (own : List ℕ) → (lines : List NewLine) → List SwitchLineConfig
 own_configs [] lines = []
 own_configs (line ∷ own) lines = found_config (slice_get lines line) (own_configs own lines)
 

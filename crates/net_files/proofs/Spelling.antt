@@ -4,7 +4,7 @@ use Rattle.std.proofs.lemmas.List.{append-nil}
 use Rattle.std.proofs.lemmas.Option.{same_Some}
 use borrow.Author.Tests.{eqb-true, ne_eqb}
 use Rattle.net_files.specs.Digits.{hex_value}
-use Rattle.net_files.specs.Texts.{OctetForm, TextForm, Place, Front, Backslash, Digit, octet_at, escaped, with_digit, octets_from, octets_of, in_front, octet_of}
+use Rattle.net_files.specs.Texts.{OctetForm, TextForm, EscapeState, Front, Backslash, Digit, octet_at, escaped, with_digit, octets_from, octets_of, in_front, octet_of}
 use Rattle.net_files.specs.Texts.OctetForm.{backslash, escape, plain}
 use Rattle.net_files.specs.Texts.TextForm.{empty, more}
 
@@ -136,7 +136,7 @@ text_only (more {text = text} {rest = rest} {octets = octets} {octet = octet} fo
 -- ---- what is read is spelled
 
 -- the text from such a place on spells the octets
-abbrev Means : Place → List ℕ → List ℕ → Type 0
+abbrev Means : EscapeState → List ℕ → List ℕ → Type 0
 Means Front text octets = TextForm text octets
 Means Backslash text octets = TextForm (92 ∷ text) octets
 Means (Digit value) text octets = (high : ℕ) → hex_value high ≡ value → TextForm (92 ∷ high ∷ text) octets
@@ -184,7 +184,7 @@ behind_means high rest octets true is plainly digits h =
     rw (same, parts.4, ← first) (more backslash (plainly parts.1 parts.3))
 behind_means high rest octets false is plainly digits h = digits h
 
-means : (place : Place) (text octets : List ℕ) → octets_from place text ≡ Some octets → Means place text octets
+means : (place : EscapeState) (text octets : List ℕ) → octets_from place text ≡ Some octets → Means place text octets
 unfolding octets_from
 means Front [] octets h = let none : [] ≡ octets = cc in subst (λ xs. TextForm [] xs) none empty
 means Backslash [] octets h = cc

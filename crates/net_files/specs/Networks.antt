@@ -13,7 +13,7 @@ use Rattle.net_config.specs.declared.config.Config.{Config}
 use Rattle.net_config.specs.declared.config.NodeConfig.{NodeConfig}
 use Rattle.net_config.specs.declared.config.NodeKind.{NodeKind}
 use Rattle.net_config.specs.declared.config.NodeKind.TheVariants as kind_is
-use Rattle.net_config.specs.declared.config.PadConfig.{PadConfig}
+use Rattle.net_config.specs.declared.config.TerminalsConfig.{TerminalsConfig}
 use Rattle.net_config.specs.declared.config.Setting.{Setting}
 use Rattle.net_config.specs.declared.config.LineConfig.{LineConfig}
 use Rattle.net_config.specs.declared.config.RouteConfig.{RouteConfig}
@@ -42,7 +42,7 @@ pub data SettingsForm : List ℕ → List Setting → Type 0 where
   some : {text : List ℕ} {settings : List Setting} → IsShortList (ℕ × ℕ) IsPair text (map pair_of settings)
       → SettingsForm text settings
 
-pub record IsPad (entry : Members) (pad : PadConfig) : Type 0 where
+pub record IsPad (entry : Members) (pad : TerminalsConfig) : Type 0 where
   pub keys : IsTrue (has_only (codes "name" ∷ codes "kind" ∷ codes "terminals" ∷ codes "profile" ∷ codes "set"
       ∷ codes "speed" ∷ []) entry)
   pub terminals : number_at (codes "terminals") (Some 1) entry ≡ Some pad.terminals

@@ -38,10 +38,10 @@ octet_at (first ∷ rest) = if first == 92 then escaped rest else Some (first, r
 
 -- where in a text its next octet stands: at the front of a form, behind a backslash, or behind the first digit of an
 -- escape
-pub data Place : Type 0 where
-  Front : Place
-  Backslash : Place
-  Digit : Option ℕ → Place
+pub data EscapeState : Type 0 where
+  Front : EscapeState
+  Backslash : EscapeState
+  Digit : Option ℕ → EscapeState
 
 -- an octet in front of others, where there are both
 abbrev pub in_front : Option ℕ → Option (List ℕ) → Option (List ℕ)
@@ -53,7 +53,7 @@ octet_of None low = None
 octet_of (Some sixteens) low = option_map (λ ones. sixteens * 16 + ones) low
 
 -- the octets that a text spells from such a place on, if it does
-unfoldable pub octets_from : Place → List ℕ → Option (List ℕ)
+unfoldable pub octets_from : EscapeState → List ℕ → Option (List ℕ)
 octets_from Front [] = Some []
 octets_from Front (octet ∷ rest) =
     if octet == 92 then octets_from Backslash rest else in_front (Some octet) (octets_from Front rest)

@@ -14,7 +14,7 @@ ghost use Rattle.net_files.specs.DocumentAnswers.{Finds, Makes};
 use crate::entries::{array, flag, has_only, name, number, text};
 use crate::fault::ProgFault;
 use crate::settings::read_settings;
-use net_config::{Config, LineConfig, NodeConfig, NodeKind, PadConfig, RouteConfig};
+use net_config::{Config, LineConfig, NodeConfig, NodeKind, RouteConfig, TerminalsConfig};
 use packet_codec::Address;
 use std::alloc::Global;
 use toml::{Table, Value};
@@ -144,7 +144,7 @@ fn read_kind(alloc: Global, entry: &Table, word: &str) -> Result<NodeKind, ProgF
 }
 
 /// What a PAD has beside its name and its kind.
-fn read_pad(alloc: Global, entry: &Table) -> Result<PadConfig, ProgFault>
+fn read_pad(alloc: Global, entry: &Table) -> Result<TerminalsConfig, ProgFault>
     ensures { Makes (IsPad (table_view entry.now)) result }
 {
     if !has_only(
@@ -153,7 +153,7 @@ fn read_pad(alloc: Global, entry: &Table) -> Result<PadConfig, ProgFault>
     ) {
         return Err(ProgFault::NetText);
     }
-    Ok(PadConfig {
+    Ok(TerminalsConfig {
         terminals: number(entry, "terminals", Some(1))?,
         profile: read_profile(text(entry, "profile", Some("SIMPLE"))?)?,
         speed: number(entry, "speed", Some(14))?,

@@ -33,7 +33,7 @@ use Rattle.net_turns.specs.Served.{IsEmpty}
 use Rattle.net_turns.specs.Users.{IsRefusedWith, user_fault}
 use Rattle.net_events.specs.declared.event.StepFault.{StepFault}
 use Rattle.net_events.specs.declared.event.StepFault.TheVariants.{NoSuchTerminal}
-use Rattle.net_nodes.specs.declared.nodes.LineEnd.{LineEnd}
+use Rattle.net_nodes.specs.declared.nodes.LineSide.{LineSide}
 use Rattle.net_nodes.specs.Turns.{CanServe, CanServeUser, HadTurn, AtEnd, ActsSo, LeavesLine, IsWhole, UserActsSo, its_turn}
 use Rattle.net_nodes.proofs.Serving.{set_there}
 
@@ -51,7 +51,7 @@ same_place Dte l flights = refl
 same_place Dce l flights = refl
 
 -- the register is opened at the line with room, and the frames in flight may have changed
-pub can_serve : (end : LineEnd) (nodes : List NetNode) (l : NetLine) (n : PlacedNode) → slice_get nodes (place_at end.role l) ≡ Some (User n) → IsQuiet n.node
+pub can_serve : (end : LineSide) (nodes : List NetNode) (l : NetLine) (n : PlacedNode) → slice_get nodes (place_at end.role l) ≡ Some (User n) → IsQuiet n.node
     → (g : Register) → end.line < length (register_of g).lines → (v : NetLine) (flights : Flights) (h : Register) (a : Answer)
     → v ≡ record l { flights = flights } → register_of h ≡ register_of g
     → (end.line < length g.lines.items → IsOpen end.line h) → (end.line < length g.lines.items → h.book.book ≡ book_at end.line (register_of g))
@@ -73,7 +73,7 @@ can_serve end nodes l n node_there quiet g registered v flights h a is_line same
 -- ---- after it
 
 -- what the event did: this was in flight before the node's turn
-pub at_end : (L : LineService) (end : LineEnd) (event : NodeEvent) (s : Network) (l : NetLine) (n : PlacedNode) (between : Flights)
+pub at_end : (L : LineService) (end : LineSide) (event : NodeEvent) (s : Network) (l : NetLine) (n : PlacedNode) (between : Flights)
     (nodes : List NetNode) (line : NetLine) (g : spec.Register) (a : Answer)
     → slice_get s.lines end.line ≡ Some l → slice_get s.nodes (place_at end.role l) ≡ Some (User n) → IsFor event n.node
     → (L.faithful → LeftBy event end.role l.flights between)
@@ -119,7 +119,7 @@ leaves (line_event.Expires timer) role flights h = refl
 leaves line_event.Relinks role flights h = refl
 
 -- what came at the line, where it left the frames in flight
-pub acts : (L : LineService) (end : LineEnd) (event : LineEvent) (s : Network) (l : NetLine) (n : PlacedNode) (r : Result Answer StepFault)
+pub acts : (L : LineService) (end : LineSide) (event : LineEvent) (s : Network) (l : NetLine) (n : PlacedNode) (r : Result Answer StepFault)
     (nodes : List NetNode) (line : NetLine) (g : spec.Register)
     → slice_get s.lines end.line ≡ Some l → slice_get s.nodes (place_at end.role l) ≡ Some (User n) → LeavesLine event
     → MatchResult r (λ a. HadTurn L end (line_event_of event) n s.nodes l s.register a nodes line g) (λ fault. ⊥)
@@ -129,7 +129,7 @@ acts L end event s l n (Ok a) nodes line g line_there node_there left w =
 acts L end event s l n (Err fault) nodes line g line_there node_there left w = absurd w
 
 -- and where it changed them
-pub acts_anew : (L : LineService) (end : LineEnd) (event : LineEvent) (s : Network) (l : NetLine) (n : PlacedNode) (between : Flights) (r : Result Answer StepFault)
+pub acts_anew : (L : LineService) (end : LineSide) (event : LineEvent) (s : Network) (l : NetLine) (n : PlacedNode) (between : Flights) (r : Result Answer StepFault)
     (nodes : List NetNode) (line : NetLine) (g : spec.Register)
     → slice_get s.lines end.line ≡ Some l → slice_get s.nodes (place_at end.role l) ≡ Some (User n) → (L.faithful → LeftBy (line_event_of event) end.role l.flights between)
     → MatchResult r (λ a. HadTurn L end (line_event_of event) n s.nodes (record l { flights = between }) s.register a nodes line g) (λ fault. ⊥)
@@ -139,7 +139,7 @@ acts_anew L end event s l n between (Ok a) nodes line g line_there node_there le
 acts_anew L end event s l n between (Err fault) nodes line g line_there node_there left w = absurd w
 
 -- a turn is told of the same line and the same register
-pub turned_from : (L : LineService) (end : LineEnd) (event : NodeEvent) (n : PlacedNode) (r : Result Answer StepFault) (nodes : List NetNode) (v l : NetLine) (h g : spec.Register)
+pub turned_from : (L : LineService) (end : LineSide) (event : NodeEvent) (n : PlacedNode) (r : Result Answer StepFault) (nodes : List NetNode) (v l : NetLine) (h g : spec.Register)
     (nodes' : List NetNode) (line : NetLine) (g' : spec.Register) → v ≡ l → h ≡ g
     → MatchResult r (λ a. HadTurn L end event n nodes v h a nodes' line g') (λ fault. ⊥)
     → MatchResult r (λ a. HadTurn L end event n nodes l g a nodes' line g') (λ fault. ⊥)
@@ -190,7 +190,7 @@ user_leaves (user_event.AtHost (host_event.Asks channel request)) role flights =
     asked_leaves channel Go role flights = refl
 user_leaves (user_event.AtHost (host_event.Takes channel)) role flights = refl
 
-pub user_acts : (L : LineService) (end : LineEnd) (event : UserEvent) (s : Network) (l : NetLine) (n : PlacedNode) (r : Result Answer StepFault)
+pub user_acts : (L : LineService) (end : LineSide) (event : UserEvent) (s : Network) (l : NetLine) (n : PlacedNode) (r : Result Answer StepFault)
     (nodes : List NetNode) (line : NetLine) (g : spec.Register)
     → slice_get s.lines end.line ≡ Some l → slice_get s.nodes (place_at end.role l) ≡ Some (User n) → IsWhole event
     → MatchResult r (λ a. (user_fault l.channels event n.node ≡ None) × HadTurn L end (user_event_of event) n s.nodes l s.register a nodes line g)
@@ -207,7 +207,7 @@ user_acts L end event s l n (Err fault) nodes line g line_there node_there whole
       ∙ (λ i. record s { lines = set_there s.lines end.line l line_there i }),
 )
 
-pub can_serve_user : (end : LineEnd) (nodes : List NetNode) (l : NetLine) (n : PlacedNode) → slice_get nodes (place_at end.role l) ≡ Some (User n) → IsQuiet n.node
+pub can_serve_user : (end : LineSide) (nodes : List NetNode) (l : NetLine) (n : PlacedNode) → slice_get nodes (place_at end.role l) ≡ Some (User n) → IsQuiet n.node
     → (g : Register) → end.line < length (register_of g).lines → (v : NetLine) → v ≡ l → CanServeUser end nodes v g
 can_serve_user end nodes l n node_there quiet g registered v is_line = record {
   node = n;

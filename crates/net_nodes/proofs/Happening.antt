@@ -24,7 +24,7 @@ use Rattle.net_events.specs.declared.event.StepFault.TheVariants.{OutOfMemory, N
 use Rattle.net_events.specs.declared.node_event.HostEvent.{HostEvent}
 use Rattle.net_events.specs.declared.node_event.UserEvent.{UserEvent}
 use Rattle.net_events.specs.declared.node_event.UserEvent.TheVariants as user_event
-use Rattle.net_nodes.specs.declared.nodes.LineEnd.{LineEnd}
+use Rattle.net_nodes.specs.declared.nodes.LineSide.{LineSide}
 use Rattle.net_nodes.specs.Places.{EndStands, IsStanding, IsPlaceOf, user_at}
 use Rattle.placed_nodes.specs.Node.{is_host, terminals_of, terminals_there}
 use Rattle.net_nodes.specs.Faults.{refused, step_fault, takes_memory, IsLeftToNode, MayWant, at_node, at_host, at_terminal, where_there_is, on_channel, is_channel_at, has_channel}
@@ -37,7 +37,7 @@ use Rattle.placed_nodes.proofs.Lists.{within}
 
 -- ---- the node of a place
 
-pub at_end_of : (place : ℕ) (end : LineEnd) (s : Network) (p : IsPlaceOf place end s) → slice_get s.nodes (place_at end.role p.line) ≡ Some (User p.node)
+pub at_end_of : (place : ℕ) (end : LineSide) (s : Network) (p : IsPlaceOf place end s) → slice_get s.nodes (place_at end.role p.line) ≡ Some (User p.node)
 at_end_of place end s p = ap (λ i. slice_get s.nodes i) p.at_end ∙ p.node_there
 
 pub registered_at : (line : ℕ) (l : NetLine) (s : Network) → IsStanding s → slice_get s.lines line ≡ Some l → line < length s.register.lines
@@ -52,12 +52,12 @@ user_stands line l Dce n s st there node_there = elim (st.dces line l there) [
   | inr e ↦ absurd (not_both n e.node (sym node_there ∙ e.node_there))
 ]
 
-pub quiet_at : (place : ℕ) (end : LineEnd) (s : Network) → IsStanding s → (p : IsPlaceOf place end s) → IsQuiet p.node.node
+pub quiet_at : (place : ℕ) (end : LineSide) (s : Network) → IsStanding s → (p : IsPlaceOf place end s) → IsQuiet p.node.node
 quiet_at place end s st p =
     let e = user_stands end.line p.line end.role p.node s st p.line_there (at_end_of place end s p) in
     subst (λ (x : PlacedNode). IsQuiet x.node) (same_user e.node p.node (sym e.node_there ∙ at_end_of place end s p)) e.quiet
 
-pub can_act : (place : ℕ) (end : LineEnd) (s : Network) → IsStanding s → (p : IsPlaceOf place end s) → CanAct end s
+pub can_act : (place : ℕ) (end : LineSide) (s : Network) → IsStanding s → (p : IsPlaceOf place end s) → CanAct end s
 can_act place end s st p = record {
   line = p.line;
   line_there = p.line_there;
@@ -67,7 +67,7 @@ can_act place end s st p = record {
   registered = registered_at end.line p.line s st p.line_there;
 }
 
-pub own_node : (L : LineService) (place : ℕ) (end : LineEnd) (event : NodeEvent) (s : Network) (a : answered.Answer) (t : Network) → IsPlaceOf place end s → AtEnd L end event s a t → AtNode L place event s a t
+pub own_node : (L : LineService) (place : ℕ) (end : LineSide) (event : NodeEvent) (s : Network) (a : answered.Answer) (t : Network) → IsPlaceOf place end s → AtEnd L end event s a t → AtNode L place event s a t
 own_node L place end event s a t p w =
     let line : w.happened.line_is ≡ p.line = same_Some w.happened.line_is p.line (sym w.happened.line_there ∙ p.line_there) in
     let at : place_at end.role w.happened.line_is ≡ place = ap (place_at end.role) line ∙ p.at_end in
@@ -82,7 +82,7 @@ refused_so e s expected fault is takes (inl f) = inl (is ∙ f)
 refused_so e s expected fault is takes (inr f) = inr ((takes, subst IsLeftToNode (sym is) f.0), f.1)
 
 -- what comes at the line of a node with users
-pub acted : (L : LineService) (e : Event) (place : ℕ) (event : NodeEvent) (end : LineEnd) (s t : Network) (r : Result answered.Answer StepFault) (p : IsPlaceOf place end s)
+pub acted : (L : LineService) (e : Event) (place : ℕ) (event : NodeEvent) (end : LineSide) (s t : Network) (r : Result answered.Answer StepFault) (p : IsPlaceOf place end s)
     → step_fault e s ≡ None → takes_memory e ≡ true
     → ((a : answered.Answer) → AtNode L place event s a t → StepOf L e s a t) → Acts L end event s r t → Happens L e s r t
 acted L e place event end s t (Ok a) p is takes step acts =
@@ -92,7 +92,7 @@ acted L e place event end s t (Err fault) p is takes step acts =
     (refused_so e s None fault is takes (inr (tt, so.0)), so.1)
 
 -- what a user does
-pub user_acted : (L : LineService) (e : Event) (place : ℕ) (event : UserEvent) (end : LineEnd) (s t : Network) (r : Result answered.Answer StepFault) (p : IsPlaceOf place end s)
+pub user_acted : (L : LineService) (e : Event) (place : ℕ) (event : UserEvent) (end : LineSide) (s t : Network) (r : Result answered.Answer StepFault) (p : IsPlaceOf place end s)
     → step_fault e s ≡ user_fault p.line.channels event p.node.node → takes_memory e ≡ true
     → ((a : answered.Answer) → AtNode L place (user_event_of event) s a t → StepOf L e s a t) → UserActs L end event s r t → Happens L e s r t
 user_acted L e place event end s t (Ok a) p is takes step acts =
@@ -109,7 +109,7 @@ terminal_refused : (channels terminal : ℕ) (event : TerminalEvent) (n : NodeSt
 terminal_refused channels terminal event (Pad p) = refl
 terminal_refused channels terminal event (Host e) = refl
 
-pub terminal_fault_at : (place : ℕ) (end : LineEnd) (s : Network) (p : IsPlaceOf place end s) (terminal : ℕ) (event : TerminalEvent)
+pub terminal_fault_at : (place : ℕ) (end : LineSide) (s : Network) (p : IsPlaceOf place end s) (terminal : ℕ) (event : TerminalEvent)
     → step_fault (AtTerminal place terminal event) s ≡ user_fault p.line.channels (user_event.AtTerminal terminal event) p.node.node
 terminal_fault_at place end s p terminal event =
     ap (λ o. at_terminal terminal (terminals_there o)) (user_there place s p.node p.node_there)
@@ -124,18 +124,18 @@ host_refused : (channels : ℕ) (event : HostEvent) (n : NodeState)
 host_refused channels event (Pad p) = refl
 host_refused channels event (Host e) = refl
 
-at_host_is : (place : ℕ) (end : LineEnd) (s : Network) (p : IsPlaceOf place end s) (fault : PlacedNode → Option StepFault)
+at_host_is : (place : ℕ) (end : LineSide) (s : Network) (p : IsPlaceOf place end s) (fault : PlacedNode → Option StepFault)
     → at_host place s fault ≡ (if not (is_pad p.node.node) then fault p.node else Some NoSuchNode)
 at_host_is place end s p fault =
     ap (λ o. if is_host o then at_node o fault else Some NoSuchNode) (user_there place s p.node p.node_there)
 
-channel_is : (place : ℕ) (end : LineEnd) (s : Network) (p : IsPlaceOf place end s) (channel : ℕ)
+channel_is : (place : ℕ) (end : LineSide) (s : Network) (p : IsPlaceOf place end s) (channel : ℕ)
     → is_channel_at p.node.line channel s ≡ is_channel p.line.channels channel
 channel_is place end s p channel =
     ap (λ (k : ℕ). is_channel_at k channel s) p.node_line ∙ ap (has_channel channel) p.line_there
 
 -- a call is on no channel yet
-pub call_fault_at : (place : ℕ) (end : LineEnd) (s : Network) (p : IsPlaceOf place end s) (event : HostEvent) → is_on_line event p.line.channels ≡ true
+pub call_fault_at : (place : ℕ) (end : LineSide) (s : Network) (p : IsPlaceOf place end s) (event : HostEvent) → is_on_line event p.line.channels ≡ true
     → at_host place s (λ n. refused (event_fault (host_event_of event) n.node)) ≡ user_fault p.line.channels (user_event.AtHost event) p.node.node
 call_fault_at place end s p event on =
     at_host_is place end s p (λ n. refused (event_fault (host_event_of event) n.node))
@@ -143,7 +143,7 @@ call_fault_at place end s p event on =
     ∙ host_refused p.line.channels event p.node.node
 
 -- what is asked is asked on a channel
-pub ask_fault_at : (place : ℕ) (end : LineEnd) (s : Network) (p : IsPlaceOf place end s) (channel : ℕ) (event : HostEvent) → is_on_line event p.line.channels ≡ is_channel p.line.channels channel
+pub ask_fault_at : (place : ℕ) (end : LineSide) (s : Network) (p : IsPlaceOf place end s) (channel : ℕ) (event : HostEvent) → is_on_line event p.line.channels ≡ is_channel p.line.channels channel
     → at_host place s (λ n. on_channel channel s n (refused (event_fault (host_event_of event) n.node))) ≡ user_fault p.line.channels (user_event.AtHost event) p.node.node
 ask_fault_at place end s p channel event on =
     at_host_is place end s p (λ n. on_channel channel s n (refused (event_fault (host_event_of event) n.node)))
@@ -177,16 +177,16 @@ relinked L line s t r st l there acts =
     by (Ok a) so = (none, so)
     by (Err fault) so = (refused_so (Relink line) s None fault none refl (inr (tt, so.0)), so.1)
 
-pub delivered : (L : LineService) (line : ℕ) (d : Direction) (end : LineEnd) → end.line ≡ line → end.role ≡ hearer d → (octets : List ℕ) (s : Network) (l : NetLine)
+pub delivered : (L : LineService) (line : ℕ) (d : Direction) (end : LineSide) → end.line ≡ line → end.role ≡ hearer d → (octets : List ℕ) (s : Network) (l : NetLine)
     → slice_get s.lines line ≡ Some l → (r : Result answered.Answer StepFault) (t : Network)
     → (a : answered.Answer) × (r ≡ Ok a) × AtEnd L end (Hears octets) s a t → Happens L (Deliver line d) s r t
 delivered L line d end is_line is_role octets s l there r t w =
     let same : end ≡ record { line = line; role = hearer d } = λ i. record { line = is_line i; role = is_role i } in
-    let P : LineEnd → Type 0 = λ e. AtEnd L e (Hears octets) s w.0 t in
+    let P : LineSide → Type 0 = λ e. AtEnd L e (Hears octets) s w.0 t in
     let Q : Result answered.Answer StepFault → Type 0 = λ x. Happens L (Deliver line d) s x t in
     subst Q (sym w.1) (ap (λ o. where_there_is (is_some o)) there, inr (octets, inl (subst P same w.2)))
 
-pub began_anew : (L : LineService) (place : ℕ) (end : LineEnd) (s : Network) (r : Result answered.Answer StepFault) (t : Network) → IsPlaceOf place end s
+pub began_anew : (L : LineService) (place : ℕ) (end : LineSide) (s : Network) (r : Result answered.Answer StepFault) (t : Network) → IsPlaceOf place end s
     → (a : answered.Answer) × (r ≡ Ok a) × AtEnd L end Restarts s a t → Happens L (Restart place) s r t
 began_anew L place end s r t p w =
     let Q : Result answered.Answer StepFault → Type 0 = λ x. Happens L (Restart place) s x t in

@@ -28,7 +28,7 @@ use Rattle.net_turns.specs.Served.{Served}
 use Rattle.net_turns.specs.Users.{IsRefusedWith, IsServed, AtLine}
 use Rattle.net_turns.proofs.Opening.{written_at}
 use Rattle.net_events.proofs.Users.{user_is}
-use Rattle.net_nodes.specs.declared.nodes.LineEnd.{LineEnd}
+use Rattle.net_nodes.specs.declared.nodes.LineSide.{LineSide}
 use Rattle.net_nodes.specs.Turns.{its_turn, LineServed, UserServed, HadTurn}
 
 pub set_there : {X : Type 0} (xs : List X) (n : ℕ) (x : X) → slice_get xs n ≡ Some x → set xs n x ≡ xs
@@ -44,12 +44,12 @@ no_text Relinks n = refl
 no_text Restarts n = refl
 
 -- where the node at an end of a line is attached
-abbrev pub attached : LineEnd → NetLine → Attachment
+abbrev pub attached : LineSide → NetLine → Attachment
 attached end l = record { line = end.line; role = end.role; node = place_at end.role l }
 
 -- the turn of a node with users at an end of a line, after which the node is this, the frames in flight these, and the
 -- book this one
-pub turned : (L : LineService) (end : LineEnd) (event : NodeEvent) (n : PlacedNode) (nodes : List NetNode) (l : NetLine) (g : spec.Register)
+pub turned : (L : LineService) (end : LineSide) (event : NodeEvent) (n : PlacedNode) (nodes : List NetNode) (l : NetLine) (g : spec.Register)
     (a : Answer) (m : NetNode) (node : NodeState) (flights : Flights) (b : Book) (g' : spec.Register)
     → m ≡ User (record n { node = node })
     → Served L (attached end l) (its_turn end event n g) l.flights a.frames.items a.notes.items node flights b
@@ -66,7 +66,7 @@ turned L end event n nodes l g a m node flights b g' is w outcome text register 
 }
 
 -- what comes at the line is the turn
-pub line_turned : (L : LineService) (end : LineEnd) (event : LineEvent) (n : PlacedNode) (nodes : List NetNode) (l : NetLine) (g : Register)
+pub line_turned : (L : LineService) (end : LineSide) (event : LineEvent) (n : PlacedNode) (nodes : List NetNode) (l : NetLine) (g : Register)
     (r : Result Answer StepFault) (m : NetNode) (flights : Flights) (b : Book) → IsOpen end.line g → g.book.book ≡ book_at end.line (register_of g)
     → MatchResult r (λ a. LineServed L (attached end l) (line_event_of event) n l.flights g.book.book a m flights b) (λ fault. ⊥)
     → MatchResult r (λ a. HadTurn L end (line_event_of event) n nodes l (register_of g) a (set nodes (place_at end.role l) m)
@@ -78,7 +78,7 @@ line_turned L end event n nodes l g (Ok a) m flights b opened book w =
 line_turned L end event n nodes l g (Err fault) m flights b opened book w = absurd w
 
 -- and so is what a user does, or it is refused
-pub user_turned : (L : LineService) (end : LineEnd) (event : NodeEvent) (fault : Option StepFault) (n : PlacedNode) (nodes : List NetNode) (l : NetLine) (g : spec.Register)
+pub user_turned : (L : LineService) (end : LineSide) (event : NodeEvent) (fault : Option StepFault) (n : PlacedNode) (nodes : List NetNode) (l : NetLine) (g : spec.Register)
     (r : Result Answer StepFault) (m : NetNode) (v : NetLine) (g' : spec.Register)
     → slice_get nodes (place_at end.role l) ≡ Some (User n) → v ≡ record l { flights = v.flights }
     → UserServed L (attached end l) event fault n l.flights g r m v.flights g'
@@ -119,7 +119,7 @@ user_served L at event fault p n before old r state after register same w =
 
 -- ---- at the place where the end of the line is attached
 
-pub line_served_at : (L : LineService) (end : LineEnd) (event : LineEvent) (n : PlacedNode) (nodes : List NetNode) (v l : NetLine) (g : Register) (at : Attachment)
+pub line_served_at : (L : LineService) (end : LineSide) (event : LineEvent) (n : PlacedNode) (nodes : List NetNode) (v l : NetLine) (g : Register) (at : Attachment)
     (r : Result Answer StepFault) (m : NetNode) (flights : Flights) (b : Book) → at ≡ attached end l → v ≡ l → IsOpen end.line g → g.book.book ≡ book_at end.line (register_of g)
     → MatchResult r (λ a. LineServed L at (line_event_of event) n v.flights g.book.book a m flights b) (λ fault. ⊥)
     → MatchResult r (λ a. HadTurn L end (line_event_of event) n nodes l (register_of g) a (set nodes at.node m)
@@ -132,7 +132,7 @@ line_served_at L end event n nodes v l g at r m flights b is_at is_line opened b
     let S : NetLine → Type 0 = λ y. R at y in
     subst S (sym is_line) (subst Q (sym is_at) (line_turned L end event n nodes l g r m flights b opened book))
 
-pub user_served_at : (L : LineService) (end : LineEnd) (event : NodeEvent) (fault : Option StepFault) (n : PlacedNode) (nodes : List NetNode) (l : NetLine) (g : spec.Register) (at : Attachment)
+pub user_served_at : (L : LineService) (end : LineSide) (event : NodeEvent) (fault : Option StepFault) (n : PlacedNode) (nodes : List NetNode) (l : NetLine) (g : spec.Register) (at : Attachment)
     (r : Result Answer StepFault) (m : NetNode) (v : NetLine) (g' : spec.Register) → at ≡ attached end l
     → slice_get nodes (place_at end.role l) ≡ Some (User n) → v ≡ record l { flights = v.flights }
     → UserServed L at event fault n l.flights g r m v.flights g'

@@ -13,7 +13,7 @@ use Rattle.call_records.specs.Register.{Register}
 use Rattle.memory_line.specs.declared.line.Direction.TheVariants.{FromDte}
 use Rattle.memory_line.specs.Lines.{Flights, LineService, without_first}
 use Rattle.switch_lines.specs.Switch.{Switch}
-use Rattle.switch_lines.specs.declared.place.NewJoin.{NewJoin}
+use Rattle.switch_lines.specs.declared.channels.NewJoin.{NewJoin}
 use Rattle.net_events.specs.AtSwitch.{SwitchEvent, Hears, Expires, Restarts, HasOwnLine, switched, joins_of, switch_drained, all_handed, LinesServed}
 use Rattle.net_events.specs.Network.{PlacedSwitch, NetNode, User, Switching, NetLine, Network, StandsAtLines}
 use Rattle.net_events.specs.declared.answer.Answer.{Answer}

@@ -5,7 +5,7 @@ use Rattle.link_timers.specs.declared.role.Role.TheVariants.{Dte, Dce}
 use Rattle.net_turns.specs.Quiet.{IsQuiet}
 use Rattle.net_events.specs.Network.{PlacedNode, PlacedSwitch, NetNode, User, Switching, NetLine, Network, place_at}
 use Rattle.net_events.specs.Network.{Stands}
-use Rattle.net_nodes.specs.declared.nodes.LineEnd.{LineEnd}
+use Rattle.net_nodes.specs.declared.nodes.LineSide.{LineSide}
 use Rattle.placed_nodes.specs.Node.{user_of, own_line, is_host, terminals_there}
 
 -- a node with users stands at the end of a role of a line, and neither a frame nor a note waits at it
@@ -32,7 +32,7 @@ pub record IsStanding (s : Network) : Type 0 where
   pub registered : length s.register.lines ≡ length s.lines
 
 -- the node with users of this place is at this end of its line
-pub record IsPlaceOf (place : ℕ) (end : LineEnd) (s : Network) : Type 0 where
+pub record IsPlaceOf (place : ℕ) (end : LineSide) (s : Network) : Type 0 where
   pub node : PlacedNode
   pub node_there : slice_get s.nodes place ≡ Some (User node)
   pub node_line : node.line ≡ end.line

@@ -19,7 +19,7 @@ use Rattle.net_events.specs.declared.event.Event.{Event}
 use Rattle.net_events.specs.declared.event.Event.TheVariants.{AtTerminal, Call, Ask, Take, Deliver, Lose, Expire}
 use Rattle.net_events.specs.declared.event.Event.TheVariants.{Relink}
 use Rattle.net_events.specs.declared.event.Event.TheVariants.{Restart}
-use Rattle.net_nodes.specs.declared.nodes.LineEnd.{LineEnd}
+use Rattle.net_nodes.specs.declared.nodes.LineSide.{LineSide}
 use Rattle.net_turns.specs.Sends.{all_puts}
 use Rattle.net_nodes.specs.Turns.{AtEnd}
 
@@ -31,7 +31,7 @@ hearer FromDce = Dte
 -- the event happened at the node with users of this place, at the end that it is of its own line
 pub record AtNode (L : LineService) (place : ℕ) (event : NodeEvent) (s : Network) (a : Answer)
     (t : Network) : Type 0 where
-  pub end : LineEnd
+  pub end : LineSide
   pub does : AtEnd L end event s a t
   pub own_line : does.happened.node.line ≡ end.line
   pub own_place : place_at end.role does.happened.line_is ≡ place

@@ -29,7 +29,7 @@ use Rattle.net_turns.specs.Served.{Served, IsEmpty}
 use Rattle.net_turns.specs.Users.{IsServed, IsRefusedWith, user_fault}
 use Rattle.net_events.specs.declared.event.StepFault.{StepFault}
 use Rattle.net_events.specs.declared.event.StepFault.TheVariants.{OutOfMemory}
-use Rattle.net_nodes.specs.declared.nodes.LineEnd.{LineEnd}
+use Rattle.net_nodes.specs.declared.nodes.LineSide.{LineSide}
 
 -- ---- the turn of the node
 
@@ -53,7 +53,7 @@ pub record UserServed (L : LineService) (at : Attachment) (event : NodeEvent) (f
 
 -- the node is there, and it has no frame or note that waits; the register is open at the line, with room for all that
 -- may be written, and so are the lists of the answer
-pub record CanServe (end : LineEnd) (nodes : List NetNode) (l : NetLine) (g : Register) (answer : Answer) : Type 0 where
+pub record CanServe (end : LineSide) (nodes : List NetNode) (l : NetLine) (g : Register) (answer : Answer) : Type 0 where
   pub node : PlacedNode
   pub there : slice_get nodes (place_at end.role l) ≡ Some (User node)
   pub quiet : IsQuiet node.node
@@ -64,17 +64,17 @@ pub record CanServe (end : LineEnd) (nodes : List NetNode) (l : NetLine) (g : Re
   pub empty : IsEmpty answer
 
 -- the node is there, and it has no frame or note that waits; the register has the line
-pub record CanServeUser (end : LineEnd) (nodes : List NetNode) (l : NetLine) (g : Register) : Type 0 where
+pub record CanServeUser (end : LineSide) (nodes : List NetNode) (l : NetLine) (g : Register) : Type 0 where
   pub node : PlacedNode
   pub there : slice_get nodes (place_at end.role l) ≡ Some (User node)
   pub quiet : IsQuiet node.node
   pub line : end.line < length g.lines.items
 
-abbrev pub its_turn : LineEnd → NodeEvent → PlacedNode → spec.Register → Turn
+abbrev pub its_turn : LineSide → NodeEvent → PlacedNode → spec.Register → Turn
 its_turn end event n g = turn_of event end.role n.node (book_at end.line g)
 
 -- the node had its turn: its frames were put and listed, its notes told, and all was written; this is the answer
-pub record HadTurn (L : LineService) (end : LineEnd) (event : NodeEvent) (n : PlacedNode) (nodes : List NetNode)
+pub record HadTurn (L : LineService) (end : LineSide) (event : NodeEvent) (n : PlacedNode) (nodes : List NetNode)
     (l : NetLine) (g : spec.Register) (a : Answer) (nodes' : List NetNode) (l' : NetLine)
     (g' : spec.Register) : Type 0 where
   pub outcome : IsOutcome event n.node a.outcome
@@ -91,7 +91,7 @@ pub record HadTurn (L : LineService) (end : LineEnd) (event : NodeEvent) (n : Pl
 
 -- the event happened at an end of a line, and this is the answer: the frames that were put, what a host is told, what a
 -- terminal shows, and what the event gives
-pub record AtEnd (L : LineService) (end : LineEnd) (event : NodeEvent) (s : Network) (a : Answer)
+pub record AtEnd (L : LineService) (end : LineSide) (event : NodeEvent) (s : Network) (a : Answer)
     (t : Network) : Type 0 where
   pub happened : HappenedAt L event end.line end.role s t
   pub puts : ArePutsOf (direction_of end.role) end.line
@@ -102,7 +102,7 @@ pub record AtEnd (L : LineService) (end : LineEnd) (event : NodeEvent) (s : Netw
   pub outcome : IsOutcome event happened.node.node a.outcome
 
 -- an event can be at this end
-pub record CanAct (end : LineEnd) (s : Network) : Type 0 where
+pub record CanAct (end : LineSide) (s : Network) : Type 0 where
   pub line : NetLine
   pub line_there : slice_get s.lines end.line ≡ Some line
   pub node : PlacedNode
@@ -110,7 +110,7 @@ pub record CanAct (end : LineEnd) (s : Network) : Type 0 where
   pub quiet : IsQuiet node.node
   pub registered : end.line < length s.register.lines
 
-abbrev pub ActsSo : LineService → LineEnd → NodeEvent → Network → Result Answer StepFault → Network → Type 0
+abbrev pub ActsSo : LineService → LineSide → NodeEvent → Network → Result Answer StepFault → Network → Type 0
 ActsSo L end event s (Ok answer) t = AtEnd L end event s answer t
 ActsSo L end event s (Err fault) t = (fault ≡ OutOfMemory) × (t ≡ s)
 
@@ -121,7 +121,7 @@ LeavesLine Restarts = ⊥
 LeavesLine _ = Unit {0}
 
 -- what comes at the line is answered, or memory is wanting, and nothing changes
-abbrev pub Acts : LineService → LineEnd → NodeEvent → Network → Result Answer StepFault → Network → Type 0
+abbrev pub Acts : LineService → LineSide → NodeEvent → Network → Result Answer StepFault → Network → Type 0
 Acts L end event s r t = (l : NetLine) (n : PlacedNode) → slice_get s.lines end.line ≡ Some l
     → slice_get s.nodes (place_at end.role l) ≡ Some (User n) → ActsSo L end event s r t
 
@@ -130,13 +130,13 @@ abbrev pub IsWhole : UserEvent → Type 0
 IsWhole (AtHost (Calls address user_data)) = AreDigits address × (length user_data.now.items ≤ 16)
 IsWhole event = Unit {0}
 
-abbrev pub UserActsSo : LineService → LineEnd → UserEvent → NetLine → PlacedNode → Network → Result Answer StepFault
+abbrev pub UserActsSo : LineService → LineSide → UserEvent → NetLine → PlacedNode → Network → Result Answer StepFault
     → Network → Type 0
 UserActsSo L end event l n s (Ok answer) t =
     (user_fault l.channels event n.node ≡ None) × AtEnd L end (user_event_of event) s answer t
 UserActsSo L end event l n s (Err fault) t = IsRefusedWith (user_fault l.channels event n.node) fault × (t ≡ s)
 
 -- what a user does is answered, or refused and changes nothing
-abbrev pub UserActs : LineService → LineEnd → UserEvent → Network → Result Answer StepFault → Network → Type 0
+abbrev pub UserActs : LineService → LineSide → UserEvent → Network → Result Answer StepFault → Network → Type 0
 UserActs L end event s r t = (l : NetLine) (n : PlacedNode) → slice_get s.lines end.line ≡ Some l
     → slice_get s.nodes (place_at end.role l) ≡ Some (User n) → UserActsSo L end event l n s r t

@@ -39,7 +39,7 @@ impl<L: Line> Model for NetLine<L> {
 
 /// An end of a line.
 #[derive(Clone, Copy)]
-pub(crate) struct LineEnd {
+pub(crate) struct LineSide {
     line: usize,
     role: Role,
 }
@@ -72,7 +72,7 @@ impl<L: Line> Model for Nodes<L> {
 
 impl<L: Line> Nodes<L> {
     /// The end of its line that the node with users of this place is.
-    fn end_of(&self, place: usize) -> Result<LineEnd, StepFault>
+    fn end_of(&self, place: usize) -> Result<LineSide, StepFault>
         requires { IsStanding self.now }
         ensures { MatchResult result (λ end. IsPlaceOf place end self.now)
             (λ fault. (user_at place self.now ≡ None) × (fault ≡ NoSuchNode)) }
@@ -91,7 +91,7 @@ impl<L: Line> Nodes<L> {
         } else {
             Role::Dce
         };
-        Ok(LineEnd { line, role })
+        Ok(LineSide { line, role })
     }
 
     /// Which of the own lines of the switch at this place a line is.

@@ -21,7 +21,7 @@ use Rattle.net_config.specs.declared.config.Config.{Config}
 use Rattle.net_config.specs.declared.config.NodeConfig.{NodeConfig}
 use Rattle.net_config.specs.declared.config.NodeKind.{NodeKind}
 use Rattle.net_config.specs.declared.config.NodeKind.TheVariants as node_kind
-use Rattle.net_config.specs.declared.config.PadConfig.{PadConfig}
+use Rattle.net_config.specs.declared.config.TerminalsConfig.{TerminalsConfig}
 use Rattle.net_config.specs.declared.config.LineConfig.{LineConfig}
 use Rattle.net_plans.proofs.Counting.{any_there, one_there, place_is, same_place}
 use Rattle.net_plans.proofs.Naming.{same_so, so_same, LineIsServed, within_params, served_node, served_line, one_line}
@@ -50,7 +50,7 @@ there_mapped f xs i x e = slice_get-map f xs i ∙ ap (option_map f) e
 -- ---- what a node is planned as
 
 -- a PAD that is served has 1 to 16 terminals
-pad_made : (p : PadConfig) → is_kind_served (node_kind.Pad p) ≡ true → IsNewDte (NewPad (initial_params p) p.terminals)
+pad_made : (p : TerminalsConfig) → is_kind_served (node_kind.Pad p) ≡ true → IsNewDte (NewPad (initial_params p) p.terminals)
 pad_made p served =
     let parts = and_parts (is_from 1 16 p.terminals && nat_le p.speed 255) _ served in
     let terminals = from_so 1 16 p.terminals (and_parts (is_from 1 16 p.terminals) (nat_le p.speed 255) parts.0).0 in

@@ -19,7 +19,7 @@ use Rattle.net_config.specs.declared.config.Config.{Config}
 use Rattle.net_config.specs.declared.config.NodeConfig.{NodeConfig}
 use Rattle.net_config.specs.declared.config.NodeKind.{NodeKind}
 use Rattle.net_config.specs.declared.config.NodeKind.TheVariants as node_kind
-use Rattle.net_config.specs.declared.config.PadConfig.{PadConfig}
+use Rattle.net_config.specs.declared.config.TerminalsConfig.{TerminalsConfig}
 use Rattle.net_config.specs.declared.config.LineConfig.{LineConfig}
 use Rattle.net_config.specs.declared.config.RouteConfig.{RouteConfig}
 use Rattle.net_config.specs.declared.config.Setting.{Setting}
@@ -35,7 +35,7 @@ abbrev pub set_one : List ℕ → Setting → List ℕ
 set_one values s = if is_accepted s then with_value values s.number s.value else values
 
 -- the initial parameters of a PAD: its profile's, and the settings in order
-abbrev pub initial_params : PadConfig → List ℕ
+abbrev pub initial_params : TerminalsConfig → List ℕ
 initial_params p = fold set_one (profile_values p.profile p.speed) p.settings.items
 
 -- a node is a DTE where a line has it as its DTE

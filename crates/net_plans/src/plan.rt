@@ -19,8 +19,8 @@ use crate::parts::{NewKind, NewLine, NewNode, NewRoute, NewSwitch};
 use address_routes::LineNo;
 use link_timers::Role;
 use net_config::{
-    Config, LineConfig, MakeFault, NodeConfig, NodeKind, PadConfig, RouteConfig, Setting, has_dte,
-    has_end, is_named, is_route_of, is_served,
+    Config, LineConfig, MakeFault, NodeConfig, NodeKind, RouteConfig, Setting, TerminalsConfig,
+    has_dte, has_end, is_named, is_route_of, is_served,
 };
 use packet_codec::Address;
 use packet_end::EndParams;
@@ -83,7 +83,7 @@ fn set_one(params: &mut Params, setting: &Setting)
 }
 
 /// The initial parameters of a PAD: those of its profile, with the settings made in order.
-fn initial_params(pad: &PadConfig) -> Params
+fn initial_params(pad: &TerminalsConfig) -> Params
     requires { is_pad_served pad.now ≡ true }
     ensures { result ≡ initial_params pad.now }
 {

@@ -13,7 +13,8 @@ ghost use Rattle.net_events.specs.OneLine.{direction_of};
 ghost use Rattle.net_events.specs.EventView.{line_event_of, host_event_of, user_event_of};
 ghost use Rattle.net_turns.specs.Outcomes.{IsOutcome};
 ghost use Rattle.net_turns.specs.Served.{IsCalled, Served, IsEmpty, IsReady};
-ghost use Rattle.net_turns.specs.Users.{IsNumbered, is_on_line, IsRefusedWith, IsOpened, IsCalledBy, IsServed, terminal_fault};
+ghost use Rattle.net_turns.specs.Users.{IsNumbered, is_on_line, IsRefusedWith, IsOpened, IsCalledBy, IsServed};
+ghost use Rattle.net_turns.specs.Users.{terminal_fault};
 ghost use Rattle.net_turns.specs.Users.{host_fault, user_fault};
 
 use crate::hosts::{MOST_TAKEN, ask_host};
@@ -87,11 +88,11 @@ fn call_at_line(
 {
     match event {
         LineEvent::Hears(octets) => {
-            node.hear(octets);
+            node.on_frame(octets);
             *outcome = Outcome::Delivered(true);
         }
         LineEvent::Expires(timer) => {
-            let _ = node.expire(*timer);
+            let _ = node.on_timer(*timer);
             *outcome = Outcome::Done;
         }
         LineEvent::Relinks => {

@@ -21,7 +21,7 @@ pub fn call_switch(switch: &mut Switch, event: &SwitchEvent<'_>) -> Option<NewJo
     ensures switch { switch.new ≡ switched (switch_event_of event.now) switch.old }
 {
     match event {
-        SwitchEvent::Hears(own, octets) => switch.receive(*own, octets),
+        SwitchEvent::Hears(own, octets) => switch.on_frame(*own, octets),
         SwitchEvent::Expires(own, timer) => {
             let _ = switch.on_timer(*own, *timer);
             None

@@ -10,7 +10,7 @@ use link_timers::{Role, TimerId};
 use packet_codec::PacketBuf;
 use packet_end::EndParams;
 use std::alloc::Global;
-use x25_switch::{LineConfig, NewJoin, Place, Switch, SwitchConfig};
+use x25_switch::{NewJoin, Switch, SwitchChannel, SwitchConfig, SwitchLineConfig};
 
 /// A step.
 #[derive(Clone, Copy)]
@@ -73,15 +73,15 @@ pub(crate) struct Bench {
     joined: Option<NewJoin>,
 }
 
-fn line_config(address: &[u8], k: u8) -> LineConfig {
-    LineConfig {
+fn line_config(address: &[u8], k: u8) -> SwitchLineConfig {
+    SwitchLineConfig {
         params: EndParams { k, ..LINE },
         address: address_of(address),
     }
 }
 
-fn place((line, channel): (usize, u8)) -> Place {
-    Place { line, channel }
+fn place((line, channel): (usize, u8)) -> SwitchChannel {
+    SwitchChannel { line, channel }
 }
 
 // Adds the routes to the lines. Whether all are added.
@@ -179,7 +179,7 @@ impl Bench {
     /// A frame arrives at the switch.
     pub(crate) fn arrive(&mut self, line: usize, octets: &[u8]) {
         if line < self.switch.lines() {
-            if let Some(join) = self.switch.receive(line, octets) {
+            if let Some(join) = self.switch.on_frame(line, octets) {
                 self.joined = Some(join);
             }
             self.collect();
@@ -280,7 +280,7 @@ impl Bench {
 
     /// Whether a channel is joined to this one, or to none.
     pub(crate) fn is_joined(&self, line: usize, channel: u8, other: Option<(usize, u8)>) -> bool {
-        self.switch.joins(Place { line, channel }) == other.map(place)
+        self.switch.joins(SwitchChannel { line, channel }) == other.map(place)
     }
 
     fn joins(&mut self, came_in: (usize, u8), placed: (usize, u8)) -> bool {

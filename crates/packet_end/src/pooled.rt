@@ -245,7 +245,7 @@ impl PooledEnd {
     pub fn is_at_rest(&self) -> bool
         ensures { result ≡ at_rest self.now.end }
     {
-        self.stack.line().at_rest() && self.stack.layer().is_at_rest()
+        self.stack.line().is_at_rest() && self.stack.layer().is_at_rest()
     }
 
     // What a note of the link is for the packet layer.

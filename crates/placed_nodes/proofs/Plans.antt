@@ -6,7 +6,7 @@ use Rattle.link_timers.specs.declared.role.Role.TheVariants.{Dte, Dce}
 use Rattle.packet_codec.specs.Address.{AreDigits}
 use Rattle.packet_end.specs.Params.{AreParams}
 use Rattle.switch_lines.specs.Making.{IsLineConfig}
-use Rattle.switch_lines.specs.declared.config.LineConfig.{LineConfig}
+use Rattle.switch_lines.specs.declared.config.SwitchLineConfig.{SwitchLineConfig}
 use Rattle.net_events.specs.Opening.{NewNode, NewSwitch, Planned, PlannedUser, PlannedSwitch, NewLine, NetPlan, IsNewDte, IsDcePlan, IsLinePlan, IsUserPlan, IsSwitchPlan, IsPlan}
 use Rattle.net_events.specs.Opening.{line_config, found_config, own_configs}
 use Rattle.net_events.proofs.Users.{UserLine, same_planned}
@@ -124,7 +124,7 @@ own_line_of plan place n is there at line own =
 
 -- ---- how they are made
 
-found_push : (o : Option NewLine) (xs ys : List LineConfig) → found_config o (xs ++ ys) ≡ found_config o xs ++ ys
+found_push : (o : Option NewLine) (xs ys : List SwitchLineConfig) → found_config o (xs ++ ys) ≡ found_config o xs ++ ys
 found_push None xs ys = refl
 found_push (Some l) xs ys = refl
 
@@ -179,11 +179,11 @@ can_make plan place n is there = record {
     count : length (own_configs n.lines plan.lines) ≡ length n.lines
     count = configs_count n.lines plan.lines (own_there plan place n is there)
 
-    each : (at : ℕ) (c : LineConfig) → slice_get (own_configs n.lines plan.lines) at ≡ Some c → IsLineConfig c
+    each : (at : ℕ) (c : SwitchLineConfig) → slice_get (own_configs n.lines plan.lines) at ≡ Some c → IsLineConfig c
     each at c e =
         let h = within (own_configs n.lines plan.lines) at c e in
         let k = at_index n.lines at (let same = count in omega (arith, h, same)) in
         let o = own_line_of plan place n is there at k.0 k.1 in
         let same : line_config o.line_is ≡ c
         = same_Some (line_config o.line_is) c (sym (config_at n.lines plan.lines (own_there plan place n is there) at k.0 o.line_is k.1 o.there) ∙ e) in
-        subst (λ (x : LineConfig). IsLineConfig x) same (record { params = o.params; not_standing = o.free })
+        subst (λ (x : SwitchLineConfig). IsLineConfig x) same (record { params = o.params; not_standing = o.free })

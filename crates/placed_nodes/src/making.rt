@@ -16,7 +16,7 @@ ghost use Rattle.placed_nodes.specs.Making.{AreNew, waiting_switch, IsNewNode, I
 ghost use Rattle.placed_nodes.specs.NodeView.{kind_of};
 ghost use Rattle.net_plans.specs.PlanView.{add_route, routes_value};
 
-use crate::node::{NetNode, NodeKind, network_line};
+use crate::node::{Equipment, NetNode, network_line};
 use address_routes::{RouteFault, Routes};
 use call_records::Register;
 use line_nodes::Node;
@@ -28,7 +28,7 @@ use packet_host::{Host, HostConfig};
 use std::alloc::Global;
 use x3_params::Params;
 use x25_pad::{Pad, PadConfig};
-use x25_switch::{LineConfig, Switch, SwitchConfig};
+use x25_switch::{Switch, SwitchConfig, SwitchLineConfig};
 
 fn new_host(alloc: Global, role: Role, line: EndParams) -> Result<Node, MakeFault>
     requires { AreParams line }
@@ -79,21 +79,25 @@ fn new_node(alloc: Global, node: &NewNode, line: EndParams) -> Result<Node, Make
 }
 
 /// A node with users, at its line.
-fn new_user(alloc: Global, plan: &NetPlan, node: &NewNode) -> Result<NodeKind, MakeFault>
+fn new_user(alloc: Global, plan: &NetPlan, node: &NewNode) -> Result<Equipment, MakeFault>
     requires plan { IsPlan plan.now }
     requires there { IsOfPlan plan.now (PlannedUser node.now) }
     ensures ok { IfOk result (λ kind. IsNewNode plan.now (PlannedUser node.now) (kind_of kind)) }
     ensures err { IfErr result (λ fault. fault ≡ make_fault_is.OutOfMemory) }
 {
     let line = &plan.lines[node.line];
-    Ok(NodeKind::User {
+    Ok(Equipment::User {
         line: node.line,
         node: new_node(alloc, node, line.params)?,
     })
 }
 
 /// How the own lines of a switch are made.
-fn own_configs(alloc: Global, own: &[usize], plan: &NetPlan) -> Result<Vec<LineConfig>, MakeFault>
+fn own_configs(
+    alloc: Global,
+    own: &[usize],
+    plan: &NetPlan,
+) -> Result<Vec<SwitchLineConfig>, MakeFault>
     requires { CanMakeLines own.now plan.now.lines }
     ensures ok { IfOk result (λ configs. configs.items ≡ own_configs own.now plan.now.lines) }
     ensures err { IfErr result (λ fault. fault ≡ make_fault_is.OutOfMemory) }
@@ -106,7 +110,7 @@ fn own_configs(alloc: Global, own: &[usize], plan: &NetPlan) -> Result<Vec<LineC
             unreachable!()
         };
         let params = line.params;
-        configs.push(LineConfig { params, address })?;
+        configs.push(SwitchLineConfig { params, address })?;
     }
     Ok(configs)
 }
@@ -137,7 +141,7 @@ fn new_routes(alloc: Global, routes: &[NewRoute]) -> Result<Routes, MakeFault>
 }
 
 /// A switch at its lines.
-fn new_switch(alloc: Global, plan: &NetPlan, switch: &NewSwitch) -> Result<NodeKind, MakeFault>
+fn new_switch(alloc: Global, plan: &NetPlan, switch: &NewSwitch) -> Result<Equipment, MakeFault>
     requires { CanMakeLines switch.now.lines plan.now.lines }
     ensures ok { IfOk result (λ kind. kind_of kind ≡ network.Switching (waiting_switch switch.now plan.now.lines)) }
     ensures err { IfErr result (λ fault. fault ≡ make_fault_is.OutOfMemory) }
@@ -150,14 +154,14 @@ fn new_switch(alloc: Global, plan: &NetPlan, switch: &NewSwitch) -> Result<NodeK
         routes,
     };
     match Switch::new(alloc, config) {
-        Ok(switch) => Ok(NodeKind::Switching { lines: own, switch }),
+        Ok(switch) => Ok(Equipment::Switching { lines: own, switch }),
         Err(EndFault::OutOfMemory) => Err(MakeFault::OutOfMemory),
         Err(EndFault::BadConfig) => unreachable!(),
     }
 }
 
 /// A node of the plan.
-fn new_kind(alloc: Global, plan: &NetPlan, node: &Planned) -> Result<NodeKind, MakeFault>
+fn new_kind(alloc: Global, plan: &NetPlan, node: &Planned) -> Result<Equipment, MakeFault>
     requires plan { IsPlan plan.now }
     requires there { IsOfPlan plan.now node.now }
     ensures ok { IfOk result (λ kind. IsNewNode plan.now node.now (kind_of kind)) }

@@ -16,7 +16,7 @@ use x25_switch::Switch;
 
 /// What a node is: one with users, at a line, or a switch, each of whose own lines is this line of the network.
 #[derive(Drop)]
-pub enum NodeKind {
+pub enum Equipment {
     User { line: usize, node: Node },
     Switching { lines: Vec<usize>, switch: Switch },
 }
@@ -24,7 +24,7 @@ pub enum NodeKind {
 /// A node of a network.
 #[derive(Drop)]
 pub struct NetNode {
-    pub kind: NodeKind,
+    pub kind: Equipment,
 }
 
 impl Model for NetNode {
@@ -47,8 +47,8 @@ impl NetNode {
         ensures { self.new ≡ elapsed_node ticks self.old }
     {
         match &mut self.kind {
-            NodeKind::User { node, .. } => node.elapse(ticks),
-            NodeKind::Switching { switch, .. } => switch.elapse(ticks),
+            Equipment::User { node, .. } => node.elapse(ticks),
+            Equipment::Switching { switch, .. } => switch.elapse(ticks),
         }
     }
 
@@ -56,8 +56,8 @@ impl NetNode {
         ensures { result ≡ rests self.now }
     {
         match &self.kind {
-            NodeKind::User { node, .. } => node.is_at_rest(),
-            NodeKind::Switching { switch, .. } => switch.is_at_rest(),
+            Equipment::User { node, .. } => node.is_at_rest(),
+            Equipment::Switching { switch, .. } => switch.is_at_rest(),
         }
     }
 
@@ -66,11 +66,11 @@ impl NetNode {
         ensures { result ≡ due_at self.now }
     {
         match &self.kind {
-            NodeKind::User { line, node } => match node.due() {
+            Equipment::User { line, node } => match node.due() {
                 Some(timer) => Some((*line, timer)),
                 None => None,
             },
-            NodeKind::Switching { lines, switch } => first_due(lines, switch),
+            Equipment::Switching { lines, switch } => first_due(lines, switch),
         }
     }
 
@@ -79,8 +79,8 @@ impl NetNode {
         ensures { result ≡ option_map (λ n. n.line) (user_of self.now) }
     {
         match &self.kind {
-            NodeKind::User { line, .. } => Some(*line),
-            NodeKind::Switching { .. } => None,
+            Equipment::User { line, .. } => Some(*line),
+            Equipment::Switching { .. } => None,
         }
     }
 
@@ -89,8 +89,8 @@ impl NetNode {
         ensures { result ≡ own_line line self.now }
     {
         match &self.kind {
-            NodeKind::User { .. } => None,
-            NodeKind::Switching { lines, .. } => find_own(lines, line),
+            Equipment::User { .. } => None,
+            Equipment::Switching { lines, .. } => find_own(lines, line),
         }
     }
 
@@ -98,8 +98,8 @@ impl NetNode {
         ensures { result ≡ is_none (user_of self.now) }
     {
         match &self.kind {
-            NodeKind::User { .. } => false,
-            NodeKind::Switching { .. } => true,
+            Equipment::User { .. } => false,
+            Equipment::Switching { .. } => true,
         }
     }
 
@@ -109,8 +109,8 @@ impl NetNode {
         ensures most { result ≤ 64 }
     {
         match &self.kind {
-            NodeKind::User { .. } => 0,
-            NodeKind::Switching { switch, .. } => switch.lines(),
+            Equipment::User { .. } => 0,
+            Equipment::Switching { switch, .. } => switch.lines(),
         }
     }
 
@@ -119,8 +119,8 @@ impl NetNode {
         ensures { result ≡ confirmed_by channel (user_of self.now) }
     {
         match &self.kind {
-            NodeKind::User { node, .. } => node.confirmed(channel),
-            NodeKind::Switching { .. } => false,
+            Equipment::User { node, .. } => node.confirmed(channel),
+            Equipment::Switching { .. } => false,
         }
     }
 }

@@ -1,7 +1,7 @@
 //! A network of two lines that is served, and networks like it that are not; networks with a switch that are served,
 //! and such that are not.
 use net_config::{
-    Config, LineConfig, MakeFault, NodeConfig, NodeKind, PadConfig, RouteConfig, is_served,
+    Config, LineConfig, MakeFault, NodeConfig, NodeKind, RouteConfig, TerminalsConfig, is_served,
 };
 use net_plans::{NetPlan, PlannedKind, plan_of};
 use std::alloc::{AllocError, Global};
@@ -251,8 +251,8 @@ fn kind_of(alloc: Global, kind: Kind) -> NodeKind {
     }
 }
 
-fn pad(alloc: Global) -> PadConfig {
-    PadConfig {
+fn pad(alloc: Global) -> TerminalsConfig {
+    TerminalsConfig {
         terminals: 2,
         profile: Profile::Simple,
         speed: 14,

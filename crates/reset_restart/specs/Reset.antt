@@ -17,29 +17,29 @@ use Rattle.reset_restart.specs.declared.reset.ResetNote.TheVariants.{Nothing, Re
 use Rattle.reset_restart.specs.declared.reset.ResetStep.{ResetStep}
 
 -- the states as one end sees them
-pub data Place : Type 0 where
-  Ready : Place
-  OwnReset : Place
+pub data EndState : Type 0 where
+  Ready : EndState
+  OwnReset : EndState
 
 abbrev pub own_reset : Role → ResetState
 own_reset Dte = states.DteReset
 own_reset Dce = states.DceReset
 
-abbrev pub state_of : Role → Place → ResetState
+abbrev pub state_of : Role → EndState → ResetState
 state_of role Ready = states.FlowControlReady
 state_of role OwnReset = own_reset role
 
 -- none where the other end resets: that state is left in the step that would enter it
-abbrev pub place_of : Role → ResetState → Option Place
-place_of role states.FlowControlReady = Some Ready
-place_of Dte states.DteReset = Some OwnReset
-place_of Dce states.DteReset = None
-place_of Dte states.DceReset = None
-place_of Dce states.DceReset = Some OwnReset
+abbrev pub end_state_of : Role → ResetState → Option EndState
+end_state_of role states.FlowControlReady = Some Ready
+end_state_of Dte states.DteReset = Some OwnReset
+end_state_of Dce states.DteReset = None
+end_state_of Dte states.DceReset = None
+end_state_of Dce states.DceReset = Some OwnReset
 
-abbrev pub place_number : Place → ℕ
-place_number Ready = 1
-place_number OwnReset = 2
+abbrev pub end_state_number : EndState → ℕ
+end_state_number Ready = 1
+end_state_number OwnReset = 2
 
 -- the events of a row: the user resets, packets of some types, or a packet that cannot be read
 pub data Events : Type 0 where
@@ -49,14 +49,14 @@ pub data Events : Type 0 where
 
 -- a row: state, events; new state, packet owed, note, and the diagnostic of a procedure error
 pub record Row : Type 0 where
-  pub state : Place
+  pub state : EndState
   pub events : Events
-  pub new : Place
+  pub new : EndState
   pub owed : Option PacketType
   pub note : ResetNote
   pub error : Option ℕ
 
-abbrev pub row : Place → Events → Place → Option PacketType → ResetNote → Option ℕ → Row
+abbrev pub row : EndState → Events → EndState → Option PacketType → ResetNote → Option ℕ → Row
 row state events new owed note error =
     record { state = state; events = events; new = new; owed = owed; note = note; error = error }
 
@@ -82,15 +82,15 @@ includes UnreadablePacket events.Unreadable = true
 includes _ _ = false
 
 -- the row that has the state and the event
-abbrev pub row_for : Place → ResetEvent → Option Row
-row_for place event = find (λ r. place_number r.state == place_number place && includes r.events event) table
+abbrev pub row_for : EndState → ResetEvent → Option Row
+row_for place event = find (λ r. end_state_number r.state == end_state_number place && includes r.events event) table
 
 abbrev pub done_by : Role → Row → ResetStep
 done_by role r = record { state = state_of role r.new; owed = r.owed; note = r.note; error = r.error }
 
-abbrev pub step_at : Role → Place → ResetEvent → Option ResetStep
+abbrev pub step_at : Role → EndState → ResetEvent → Option ResetStep
 step_at role place event = option_map (done_by role) (row_for place event)
 
 -- the step of the table for a role, a state and an event, if it has a row for them
 abbrev pub reset_step : Role → ResetState → ResetEvent → Option ResetStep
-reset_step role state event = option_and_then (λ place. step_at role place event) (place_of role state)
+reset_step role state event = option_and_then (λ place. step_at role place event) (end_state_of role state)

@@ -14,29 +14,29 @@ use Rattle.reset_restart.specs.declared.restart.RestartNote.TheVariants.{Nothing
 use Rattle.reset_restart.specs.declared.restart.RestartStep.{RestartStep}
 
 -- the states as one end sees them
-pub data Place : Type 0 where
-  Ready : Place
-  OwnRestart : Place
+pub data EndState : Type 0 where
+  Ready : EndState
+  OwnRestart : EndState
 
 abbrev pub own_restart : Role → RestartState
 own_restart Dte = states.DteRestart
 own_restart Dce = states.DceRestart
 
-abbrev pub state_of : Role → Place → RestartState
+abbrev pub state_of : Role → EndState → RestartState
 state_of role Ready = states.PacketLayerReady
 state_of role OwnRestart = own_restart role
 
 -- none where the other end restarts: that state is left in the step that would enter it
-abbrev pub place_of : Role → RestartState → Option Place
-place_of role states.PacketLayerReady = Some Ready
-place_of Dte states.DteRestart = Some OwnRestart
-place_of Dce states.DteRestart = None
-place_of Dte states.DceRestart = None
-place_of Dce states.DceRestart = Some OwnRestart
+abbrev pub end_state_of : Role → RestartState → Option EndState
+end_state_of role states.PacketLayerReady = Some Ready
+end_state_of Dte states.DteRestart = Some OwnRestart
+end_state_of Dce states.DteRestart = None
+end_state_of Dte states.DceRestart = None
+end_state_of Dce states.DceRestart = Some OwnRestart
 
-abbrev pub place_number : Place → ℕ
-place_number Ready = 1
-place_number OwnRestart = 2
+abbrev pub end_state_number : EndState → ℕ
+end_state_number Ready = 1
+end_state_number OwnRestart = 2
 
 -- the packets of a row: of some types, or any that no row above has
 pub data Packets : Type 0 where
@@ -45,14 +45,14 @@ pub data Packets : Type 0 where
 
 -- a row: state, packets; new state, packet owed, note, and the diagnostic of a procedure error
 pub record Row : Type 0 where
-  pub state : Place
+  pub state : EndState
   pub packets : Packets
-  pub new : Place
+  pub new : EndState
   pub owed : Option PacketType
   pub note : RestartNote
   pub error : Option ℕ
 
-abbrev pub row : Place → Packets → Place → Option PacketType → RestartNote → Option ℕ → Row
+abbrev pub row : EndState → Packets → EndState → Option PacketType → RestartNote → Option ℕ → Row
 row state packets new owed note error =
     record { state = state; packets = packets; new = new; owed = owed; note = note; error = error }
 
@@ -70,15 +70,15 @@ includes (Types kinds) kind = is_among kinds kind
 includes AnyOther kind = true
 
 -- the row that has the state and the type
-abbrev pub row_for : Place → PacketType → Option Row
-row_for place kind = find (λ r. place_number r.state == place_number place && includes r.packets kind) table
+abbrev pub row_for : EndState → PacketType → Option Row
+row_for place kind = find (λ r. end_state_number r.state == end_state_number place && includes r.packets kind) table
 
 abbrev pub done_by : Role → Row → RestartStep
 done_by role r = record { state = state_of role r.new; owed = r.owed; note = r.note; error = r.error }
 
-abbrev pub step_at : Role → Place → PacketType → Option RestartStep
+abbrev pub step_at : Role → EndState → PacketType → Option RestartStep
 step_at role place kind = option_map (done_by role) (row_for place kind)
 
 -- the step of the table for a role, a state and a type, if it has a row for them
 abbrev pub restart_step : Role → RestartState → PacketType → Option RestartStep
-restart_step role state kind = option_and_then (λ place. step_at role place kind) (place_of role state)
+restart_step role state kind = option_and_then (λ place. step_at role place kind) (end_state_of role state)

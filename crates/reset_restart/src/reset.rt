@@ -1,8 +1,8 @@
 //! The states of reset, within data transfer.
 
 ghost use Rattle.std.specs.Prelude.{◌≡◌, IsSome};
-ghost use Rattle.reset_restart.specs.Reset.{own_reset, place_of, reset_step, step_at};
-ghost use Rattle.reset_restart.specs.Reset.Place.{Ready, OwnReset};
+ghost use Rattle.reset_restart.specs.Reset.{own_reset, end_state_of, reset_step, step_at};
+ghost use Rattle.reset_restart.specs.Reset.EndState.{Ready, OwnReset};
 
 use link_timers::Role;
 use packet_codec::{PacketType, diagnostic};
@@ -70,7 +70,7 @@ impl ResetState {
         requires { IsSome (reset_step role state event) }
         ensures row { reset_step role state event ≡ Some result }
         // The state that the other end begins is never entered.
-        ensures kept { IsSome (place_of role result.state) }
+        ensures kept { IsSome (end_state_of role result.state) }
     {
         met(role, state, event)
     }

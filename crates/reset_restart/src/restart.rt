@@ -1,8 +1,8 @@
 //! The states of restart.
 
 ghost use Rattle.std.specs.Prelude.{◌≡◌, IsSome};
-ghost use Rattle.reset_restart.specs.Restart.{own_restart, place_of, restart_step, step_at};
-ghost use Rattle.reset_restart.specs.Restart.Place.{Ready, OwnRestart};
+ghost use Rattle.reset_restart.specs.Restart.{own_restart, end_state_of, restart_step, step_at};
+ghost use Rattle.reset_restart.specs.Restart.EndState.{Ready, OwnRestart};
 
 use link_timers::Role;
 use packet_codec::{PacketType, diagnostic};
@@ -59,7 +59,7 @@ impl RestartState {
         requires { IsSome (restart_step role state event) }
         ensures row { restart_step role state event ≡ Some result }
         // The state that the other end begins is never entered.
-        ensures kept { IsSome (place_of role result.state) }
+        ensures kept { IsSome (end_state_of role result.state) }
     {
         met(role, state, event)
     }

@@ -6,8 +6,8 @@ use Rattle.std.proofs.lemmas.Bool.{eqb-true}
 use Rattle.std.proofs.lemmas.Option.{none-some}
 use Rattle.link_timers.specs.declared.timers.TimerId.{TimerId}
 use Rattle.packet_end.specs.PacketEnd.{PacketEnd, received, after_timer, settled}
-use Rattle.switch_lines.specs.declared.place.Place.{Place}
-use Rattle.switch_lines.specs.declared.place.Joined.{Joined}
+use Rattle.switch_lines.specs.declared.channels.SwitchChannel.{SwitchChannel}
+use Rattle.switch_lines.specs.declared.channels.Joined.{Joined}
 use Rattle.switch_lines.specs.Lines.{SwitchLine, joined_at, places}
 use Rattle.switch_lines.specs.Relay.{relayed_from, places_of, both_legs, legs_at, legs_of, relayed_first}
 use Rattle.switch_lines.specs.Switch.{Switch, with_end, acted, all_begun, may_offer, offering_from, offered_from, lines_first, rounds, on_frame, on_expiry}
@@ -27,9 +27,9 @@ use Rattle.switch_laws.proofs.Finishing.{begun_right, came, ran, readable, offer
 
 -- ---- both legs of a join of these lines are among those that are relayed
 
-legs_both : (ps : List Place) (ls : List SwitchLine) (q : Place) (k : Joined) → joined_at ls q ≡ Some k → Among q ps → Among q (legs_at ps ls) × Among k.other (legs_at ps ls)
+legs_both : (ps : List SwitchChannel) (ls : List SwitchLine) (q : SwitchChannel) (k : Joined) → joined_at ls q ≡ Some k → Among q ps → Among q (legs_at ps ls) × Among k.other (legs_at ps ls)
 legs_both (x ∷ xs) ls q k e (first same) =
-    let there : joined_at ls x ≡ Some k = ap (λ (p : Place). joined_at ls p) (sym (place_is q x same)) ∙ e in (
+    let there : joined_at ls x ≡ Some k = ap (λ (p : SwitchChannel). joined_at ls p) (sym (place_is q x same)) ∙ e in (
       subst (λ (o : Option Joined). Among q (both_legs o x ++ legs_at xs ls)) (sym there) (first same),
       subst (λ (o : Option Joined). Among k.other (both_legs o x ++ legs_at xs ls)) (sym there) (later (among_here k.other k.other (legs_at xs ls) refl)),
     )
@@ -45,11 +45,11 @@ on_its_line (Some l) n c e = among_nth n c l.joined e
 second : (b c : Bool) → b ≡ false → (b || c) ≡ true → c ≡ true
 second b c f e = sym (ap (λ (x : Bool). x || c) f) ∙ e
 
-legs_lines : (ns : List ℕ) (ls : List SwitchLine) (q : Place) (k : Joined) → joined_at ls q ≡ Some k → is_one_of ns q.line ≡ true → Among q (legs_of ns ls) × Among k.other (legs_of ns ls)
+legs_lines : (ns : List ℕ) (ls : List SwitchLine) (q : SwitchChannel) (k : Joined) → joined_at ls q ≡ Some k → is_one_of ns q.line ≡ true → Among q (legs_of ns ls) × Among k.other (legs_of ns ls)
 legs_lines [] ls q k e t = absurd (true≢false (sym t))
 legs_lines (n ∷ ns) ls q k e t = by_line (decided (n == q.line)) (λ h. legs_lines ns ls q k e h)
   where
-    own : List Place
+    own : List SwitchChannel
     own = legs_at (places_of n (slice_get ls n)) ls
 
     by_line : ((n == q.line) ≡ true) ⊎ ((n == q.line) ≡ false) → (is_one_of ns q.line ≡ true → Among q (legs_of ns ls) × Among k.other (legs_of ns ls))
@@ -62,7 +62,7 @@ legs_lines (n ∷ ns) ls q k e t = by_line (decided (n == q.line)) (λ h. legs_l
         let both = more (second (n == q.line) (is_one_of ns q.line) f t) in
         (among_right q own (legs_of ns ls) both.0, among_right k.other own (legs_of ns ls) both.1)
 
-among_legs : (lines : List ℕ) (ls : List SwitchLine) (w : World) (p : Place) (j : Joined) → IsSwitch ls w → joined_at ls p ≡ Some j → is_concerned lines ls p ≡ true → Among p (legs_of lines ls)
+among_legs : (lines : List ℕ) (ls : List SwitchLine) (w : World) (p : SwitchChannel) (j : Joined) → IsSwitch ls w → joined_at ls p ≡ Some j → is_concerned lines ls p ≡ true → Among p (legs_of lines ls)
 among_legs lines ls w p j i e t = by_line (decided (is_one_of lines p.line))
   where
     by_line : (is_one_of lines p.line ≡ true) ⊎ (is_one_of lines p.line ≡ false) → Among p (legs_of lines ls)
@@ -70,7 +70,7 @@ among_legs lines ls w p j i e t = by_line (decided (is_one_of lines p.line))
     by_line (inr f) =
         let z = i.joined p j e in
         let other : is_one_of lines j.other.line ≡ true = ap (λ (o : Option Joined). joined_to lines o) (sym e) ∙ second (is_one_of lines p.line) (joined_to lines (joined_at ls p)) f t in
-        subst (λ (x : Place). Among x (legs_of lines ls)) z.back (legs_lines lines ls j.other z.other z.joined other).1
+        subst (λ (x : SwitchChannel). Among x (legs_of lines ls)) z.back (legs_lines lines ls j.other z.other z.joined other).1
 
 -- ---- once they are relayed nothing is left to relay
 
@@ -85,7 +85,7 @@ all_stuck lines ls w i but p j u e f = (relays_from (legs_of lines ls) ls w i).s
     by_join None g = inl (λ z u h k. absurd (none-some z (sym g ∙ h)))
     by_join (Some y) g = by_concern y g (decided (is_concerned lines ls p))
 
-none_moves : (ps : List Place) (ls : List SwitchLine) → HasRelayedAll ls → relayed_from ps ls ≡ ls
+none_moves : (ps : List SwitchChannel) (ls : List SwitchLine) → HasRelayedAll ls → relayed_from ps ls ≡ ls
 none_moves [] ls s = refl
 none_moves (x ∷ ps) ls s = ap (λ (ms : List SwitchLine). relayed_from ps ms) (stuck_stays x ls (λ j t e f. s x j t e f)) ∙ none_moves ps ls s
 

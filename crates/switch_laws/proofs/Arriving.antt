@@ -9,11 +9,11 @@ use Rattle.packet_layer.specs.Traffic.{Heard, hears as hears_in}
 use Rattle.packet_layer.specs.Traffic.Heard.{Keeps, Confirms, Wrong}
 use Rattle.packet_layer.specs.Channel.{CallState, Channel, Step, received, unreadable, had_call, after_heard}
 use Rattle.packet_layer.specs.Channel.CallState.{Ready, OwnWaiting, FarWaiting, Transfer, Collision, OwnClear}
-use Rattle.switch_lines.specs.declared.place.Place.{Place}
+use Rattle.switch_lines.specs.declared.channels.SwitchChannel.{SwitchChannel}
 use Rattle.switch_laws.proofs.Outcomes.{ch_in}
 
 -- one of them says that a call came in on the channel
-abbrev pub Arrives : (line : ℕ) → List Note → Place → Type 0
+abbrev pub Arrives : (line : ℕ) → List Note → SwitchChannel → Type 0
 Arrives n [] x = ⊥
 Arrives n (Incoming c parts ∷ ns) x = (x ≡ record { line = n; channel = c }) ⊎ Arrives n ns x
 Arrives n (note ∷ ns) x = Arrives n ns x

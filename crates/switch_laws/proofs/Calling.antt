@@ -14,8 +14,8 @@ use Rattle.packet_laws.proofs.Line.Lines.{nth_same}
 use Rattle.address_routes.specs.Routes.{RouteMap, line_for}
 use Rattle.switch_lines.specs.Direction.{Direction, new_direction, releasable, released}
 use Rattle.switch_lines.specs.Causes.{clear_cause, reset_cause, far_diagnostic}
-use Rattle.switch_lines.specs.declared.place.Place.{Place}
-use Rattle.switch_lines.specs.declared.place.Joined.{Joined}
+use Rattle.switch_lines.specs.declared.channels.SwitchChannel.{SwitchChannel}
+use Rattle.switch_lines.specs.declared.channels.Joined.{Joined}
 use Rattle.switch_lines.specs.Lines.{SwitchLine, same_place, changed, joined_at, with_joined, ask}
 use Rattle.switch_lines.specs.Relay.{freed, kept_anew, covered_on, told_joined, told_of}
 use Rattle.switch_lines.specs.Switch.{Answer, answer, answered, forwarded, place_call, has_any, heed, heed_all}
@@ -72,13 +72,13 @@ found_here : (l : Layer) (c : ℕ) (step : Channel → Step) (o : Option Channel
 found_here l c step None s got e = absurd (none-some s (sym (ap (λ (o : Option Channel). shown_as l o) got) ∙ e))
 found_here l c step (Some ch) s got e = (ch, (got, same_Some s _ (sym e ∙ ap (λ (o : Option Channel). shown_as l o) (nth_same l.channels c ch (owing (step ch)) got))))
 
-pub record AskedShown (q : Place) (r : Request) (ls : List SwitchLine) (s : Shown) : Type 0 where
+pub record AskedShown (q : SwitchChannel) (r : Request) (ls : List SwitchLine) (s : Shown) : Type 0 where
   pub layer : Layer
   pub old : Channel
   pub there : shown_at (layers_of ls) q ≡ Some (record { role = layer.role; window = layer.window; channel = old })
   pub is : s.channel ≡ owing (requested layer.role old r)
 
-asked_shown : (q : Place) (r : Request) (ls : List SwitchLine) (s : Shown) → shown_at (layers_of (ask q r ls)) q ≡ Some s → AskedShown q r ls s
+asked_shown : (q : SwitchChannel) (r : Request) (ls : List SwitchLine) (s : Shown) → shown_at (layers_of (ask q r ls)) q ≡ Some s → AskedShown q r ls s
 asked_shown q r ls s e =
     let a = shown_in (λ l. request l q.channel r) q.line q.channel (layers_of ls) s (sym (ap (λ (ys : List Layer). shown_at ys q) (layers_asked q r ls)) ∙ e) in
     let b = found_here a.0 q.channel (λ ch. requested a.0.role ch r) (channel_of a.0 q.channel) s refl a.1.0 in
@@ -89,35 +89,35 @@ asked_shown q r ls s e =
       is = ap (λ (t : Shown). t.channel) b.1.1;
     }
 
-pub asked_call : (q : Place) (r : Request) (ls : List SwitchLine) (x : Place) → HasCall (ask q r ls) x → HasCall ls x
+pub asked_call : (q : SwitchChannel) (r : Request) (ls : List SwitchLine) (x : SwitchChannel) → HasCall (ask q r ls) x → HasCall ls x
 asked_call q r ls x h = by_place (decided (same_place x q))
   where
     by_place : (same_place x q ≡ true) ⊎ (same_place x q ≡ false) → HasCall ls x
     by_place (inr f) = record { channel = h.channel; there = sym (asked_beside q r ls x f) ∙ h.there; call = h.call }
     by_place (inl t) =
         let is = place_is x q t in
-        let a = asked_shown q r ls h.channel (ap (λ (y : Place). shown_at (layers_of (ask q r ls)) y) (sym is) ∙ h.there) in
+        let a = asked_shown q r ls h.channel (ap (λ (y : SwitchChannel). shown_at (layers_of (ask q r ls)) y) (sym is) ∙ h.there) in
         record {
           channel = record { role = a.layer.role; window = a.layer.window; channel = a.old };
-          there = ap (λ (y : Place). shown_at (layers_of ls) y) is ∙ a.there;
+          there = ap (λ (y : SwitchChannel). shown_at (layers_of ls) y) is ∙ a.there;
           call = unless_call (refusal a.layer.role a.old r) a.layer.role r a.old refl (ap (λ (ch : Channel). had_call ch.state) (sym a.is) ∙ h.call);
         }
 
-pub cleared_none : (q : Place) (cause diagnostic : ℕ) (ls : List SwitchLine) → HasCall (ask q (Clearing cause diagnostic) ls) q → ⊥
+pub cleared_none : (q : SwitchChannel) (cause diagnostic : ℕ) (ls : List SwitchLine) → HasCall (ask q (Clearing cause diagnostic) ls) q → ⊥
 cleared_none q cause diagnostic ls h =
     let a = asked_shown q (Clearing cause diagnostic) ls h.channel h.there in
     true≢false (sym h.call ∙ (ap (λ (ch : Channel). had_call ch.state) a.is ∙ cleared_call (may_clear a.old.state) cause diagnostic a.old refl))
 
-joined_call : (q : Place) (o : Option Joined) (ls : List SwitchLine) (x : Place) → HasCall (with_joined q o ls) x → HasCall ls x
+joined_call : (q : SwitchChannel) (o : Option Joined) (ls : List SwitchLine) (x : SwitchChannel) → HasCall (with_joined q o ls) x → HasCall ls x
 joined_call q o ls x h = record { channel = h.channel; there = sym (joined_beside q o ls x) ∙ h.there; call = h.call }
 
 -- ---- what is told makes no call, and all but the end of a call keeps the joins
 
 pub record Keeps (ls ms : List SwitchLine) : Type 0 where
-  pub calls : (x : Place) → HasCall ms x → HasCall ls x
-  pub joins : (x : Place) → is_some (joined_at ls x) ≡ true → is_some (joined_at ms x) ≡ true
-  pub places : (x : Place) → has_place ms x ≡ has_place ls x
-  pub there : (x : Place) → is_some (shown_at (layers_of ms) x) ≡ is_some (shown_at (layers_of ls) x)
+  pub calls : (x : SwitchChannel) → HasCall ms x → HasCall ls x
+  pub joins : (x : SwitchChannel) → is_some (joined_at ls x) ≡ true → is_some (joined_at ms x) ≡ true
+  pub places : (x : SwitchChannel) → has_place ms x ≡ has_place ls x
+  pub there : (x : SwitchChannel) → is_some (shown_at (layers_of ms) x) ≡ is_some (shown_at (layers_of ls) x)
 
 pub keeps_same : (ls : List SwitchLine) → Keeps ls ls
 keeps_same ls = record { calls = λ x h. h; joins = λ x e. e; places = λ x. refl; there = λ x. refl }
@@ -125,7 +125,7 @@ keeps_same ls = record { calls = λ x h. h; joins = λ x e. e; places = λ x. re
 pub keeps_then : (ls ms xs : List SwitchLine) → Keeps ls ms → Keeps ms xs → Keeps ls xs
 keeps_then ls ms xs a b = record { calls = λ x h. a.calls x (b.calls x h); joins = λ x e. b.joins x (a.joins x e); places = λ x. b.places x ∙ a.places x; there = λ x. b.there x ∙ a.there x }
 
-pub keeps_asked : (q : Place) (r : Request) (ls : List SwitchLine) → Keeps ls (ask q r ls)
+pub keeps_asked : (q : SwitchChannel) (r : Request) (ls : List SwitchLine) → Keeps ls (ask q r ls)
 keeps_asked q r ls = record {
   calls = asked_call q r ls;
   joins = λ x e. ap (λ (o : Option Joined). is_some o) (joined_asked q r x ls) ∙ e;
@@ -133,7 +133,7 @@ keeps_asked q r ls = record {
   there = λ x. ap (λ (ys : List Layer). is_some (shown_at ys x)) (layers_asked q r ls) ∙ there_after (Asks q r) (layers_of ls) x;
 }
 
-pub keeps_joined : (q : Place) (j : Joined) (ls : List SwitchLine) → Keeps ls (with_joined q (Some j) ls)
+pub keeps_joined : (q : SwitchChannel) (j : Joined) (ls : List SwitchLine) → Keeps ls (with_joined q (Some j) ls)
 keeps_joined q j ls = record {
   calls = joined_call q (Some j) ls;
   joins = λ x e. by_place x e (decided (same_place x q));
@@ -141,21 +141,21 @@ keeps_joined q j ls = record {
   there = λ x. ap (λ (o : Option Shown). is_some o) (joined_beside q (Some j) ls x);
 }
   where
-    by_place : (x : Place) → is_some (joined_at ls x) ≡ true → (same_place x q ≡ true) ⊎ (same_place x q ≡ false) → is_some (joined_at (with_joined q (Some j) ls) x) ≡ true
+    by_place : (x : SwitchChannel) → is_some (joined_at ls x) ≡ true → (same_place x q ≡ true) ⊎ (same_place x q ≡ false) → is_some (joined_at (with_joined q (Some j) ls) x) ≡ true
     by_place x e (inr f) = ap (λ (o : Option Joined). is_some o) (joined_apart q (Some j) x ls f) ∙ e
     by_place x e (inl t) =
         let is = place_is x q t in
-        let k = some_there (joined_at ls q) (ap (λ (y : Place). is_some (joined_at ls y)) (sym is) ∙ e) in
-        ap (λ (y : Place). is_some (joined_at (with_joined q (Some j) ls) y)) is ∙ ap (λ (o : Option Joined). is_some o) (joined_here q (Some j) ls (joined_place ls q k.0 k.1))
+        let k = some_there (joined_at ls q) (ap (λ (y : SwitchChannel). is_some (joined_at ls y)) (sym is) ∙ e) in
+        ap (λ (y : SwitchChannel). is_some (joined_at (with_joined q (Some j) ls) y)) is ∙ ap (λ (o : Option Joined). is_some o) (joined_here q (Some j) ls (joined_place ls q k.0 k.1))
 
-pub keeps_freed : (q : Place) (k : Joined) (v : Direction) (ls : List SwitchLine) → Keeps ls (freed q k v ls)
+pub keeps_freed : (q : SwitchChannel) (k : Joined) (v : Direction) (ls : List SwitchLine) → Keeps ls (freed q k v ls)
 keeps_freed q k v ls = keeps_then ls (ask q (Releasing (releasable v.held)) ls) _ (keeps_asked q (Releasing (releasable v.held)) ls) (keeps_joined q (record k { kept = released v }) _)
 
-keeps_covered : (n : ℕ) (o : Option Joined) (q : Place) (ls : List SwitchLine) → Keeps ls (covered_on n o q ls)
+keeps_covered : (n : ℕ) (o : Option Joined) (q : SwitchChannel) (ls : List SwitchLine) → Keeps ls (covered_on n o q ls)
 keeps_covered n None q ls = keeps_same ls
 keeps_covered n (Some k) q ls = keeps_freed q k _ ls
 
-keeps_anew : (o : Option Joined) (q : Place) (ls : List SwitchLine) → Keeps ls (kept_anew o q ls)
+keeps_anew : (o : Option Joined) (q : SwitchChannel) (ls : List SwitchLine) → Keeps ls (kept_anew o q ls)
 keeps_anew None q ls = keeps_same ls
 keeps_anew (Some k) q ls = keeps_joined q (record k { kept = new_direction }) ls
 
@@ -163,7 +163,7 @@ abbrev pub IsNoEnd : Note → Type 0
 IsNoEnd (Closed c cause diagnostic reason) = ⊥
 IsNoEnd note = Unit {0}
 
-keeps_told : (note : Note) (p : Place) (i : Joined) (ls : List SwitchLine) → IsNoEnd note → Keeps ls (told_joined note p i ls)
+keeps_told : (note : Note) (p : SwitchChannel) (i : Joined) (ls : List SwitchLine) → IsNoEnd note → Keeps ls (told_joined note p i ls)
 keeps_told (Incoming c parts) p i ls e = keeps_same ls
 keeps_told (Connected c) p i ls e = keeps_asked i.other Accept ls
 keeps_told (Closed c cause diagnostic reason) p i ls e = absurd e
@@ -188,12 +188,12 @@ IncomingLast (Incoming c parts ∷ ns) = ns ≡ []
 IncomingLast (note ∷ ns) = IncomingLast ns
 
 pub record CallsBefore (n : ℕ) (ns : List Note) (ls : List SwitchLine) : Type 0 where
-  pub calls : (x : Place) → HasCall ls x → (is_some (joined_at ls x) ≡ true) ⊎ Arrives n ns x
+  pub calls : (x : SwitchChannel) → HasCall ls x → (is_some (joined_at ls x) ≡ true) ⊎ Arrives n ns x
   pub closing : Closing n ns ls
   pub last : IncomingLast ns
-  pub places : (x : Place) → is_some (shown_at (layers_of ls) x) ≡ true → has_place ls x ≡ true
+  pub places : (x : SwitchChannel) → is_some (shown_at (layers_of ls) x) ≡ true → has_place ls x ≡ true
 
-closing_kept : (n : ℕ) (ns : List Note) (ls ms : List SwitchLine) → ((x : Place) → HasCall ms x → HasCall ls x) → Closing n ns ls → Closing n ns ms
+closing_kept : (n : ℕ) (ns : List Note) (ls ms : List SwitchLine) → ((x : SwitchChannel) → HasCall ms x → HasCall ls x) → Closing n ns ls → Closing n ns ms
 closing_kept n [] ls ms f c = tt
 closing_kept n (Closed d cause diagnostic reason ∷ ns) ls ms f c = (λ h. c.0 (f (at n d) h), closing_kept n ns ls ms f c.1)
 closing_kept n (Incoming d parts ∷ ns) ls ms f c = closing_kept n ns ls ms f c
@@ -220,10 +220,10 @@ before_closed n c cause diagnostic reason ns i ls b = record {
   places = λ x e. (place_after q.line _ l2 x (λ l. refl) ∙ (place_joined q None l1 x ∙ place_joined p None ls x)) ∙ b.places x (sym (same x) ∙ e);
 }
   where
-    p : Place
+    p : SwitchChannel
     p = at n c
 
-    q : Place
+    q : SwitchChannel
     q = i.other
 
     r : Request
@@ -238,15 +238,15 @@ before_closed n c cause diagnostic reason ns i ls b = record {
     ms : List SwitchLine
     ms = ask q r l2
 
-    old : (x : Place) → HasCall ms x → HasCall ls x
+    old : (x : SwitchChannel) → HasCall ms x → HasCall ls x
     old x h = joined_call p None ls x (joined_call q None l1 x (asked_call q r l2 x h))
 
-    same : (x : Place) → is_some (shown_at (layers_of ms) x) ≡ is_some (shown_at (layers_of ls) x)
+    same : (x : SwitchChannel) → is_some (shown_at (layers_of ms) x) ≡ is_some (shown_at (layers_of ls) x)
     same x = (keeps_asked q r l2).there x ∙ (ap (λ (o : Option Shown). is_some o) (joined_beside q None l1 x) ∙ ap (λ (o : Option Shown). is_some o) (joined_beside p None ls x))
 
-    by_place : (x : Place) → HasCall ms x → (same_place x q ≡ true) ⊎ (same_place x q ≡ false) → (same_place x p ≡ true) ⊎ (same_place x p ≡ false) → (is_some (joined_at ms x) ≡ true) ⊎ Arrives n ns x
-    by_place x h (inl t) u = absurd (cleared_none q (clear_cause reason cause) (far_diagnostic reason diagnostic) l2 (subst (λ (y : Place). HasCall ms y) (place_is x q t) h))
-    by_place x h (inr f) (inl t) = let is = place_is x p t in inr (subst (λ (y : Place). Arrives n ns y) (sym is) (b.closing.0 (subst (λ (y : Place). HasCall ls y) is (old x h))))
+    by_place : (x : SwitchChannel) → HasCall ms x → (same_place x q ≡ true) ⊎ (same_place x q ≡ false) → (same_place x p ≡ true) ⊎ (same_place x p ≡ false) → (is_some (joined_at ms x) ≡ true) ⊎ Arrives n ns x
+    by_place x h (inl t) u = absurd (cleared_none q (clear_cause reason cause) (far_diagnostic reason diagnostic) l2 (subst (λ (y : SwitchChannel). HasCall ms y) (place_is x q t) h))
+    by_place x h (inr f) (inl t) = let is = place_is x p t in inr (subst (λ (y : SwitchChannel). Arrives n ns y) (sym is) (b.closing.0 (subst (λ (y : SwitchChannel). HasCall ls y) is (old x h))))
     by_place x h (inr f) (inr g) =
         elim (b.calls x (old x h)) [
           | inl e ↦ inl (ap (λ (o : Option Joined). is_some o) (joined_asked q r x l2 ∙ (joined_apart q None x l1 f ∙ joined_apart p None x ls g)) ∙ e)
@@ -264,7 +264,7 @@ before_over : (n c cause diagnostic : ℕ) (reason : Reason) (o : Option Joined)
 before_over n c cause diagnostic reason None ns ls b = record { calls = b.calls; closing = b.closing.1; last = b.last; places = b.places }
 before_over n c cause diagnostic reason (Some i) ns ls b = before_closed n c cause diagnostic reason ns i ls b
 
-placed_call : (q : Place) (parts : CallParts) (ls : List SwitchLine) → IsFreePlace ls q → (x : Place) → same_place x q ≡ false → HasCall (place_call q.line parts ls) x → HasCall ls x
+placed_call : (q : SwitchChannel) (parts : CallParts) (ls : List SwitchLine) → IsFreePlace ls q → (x : SwitchChannel) → same_place x q ≡ false → HasCall (place_call q.line parts ls) x → HasCall ls x
 placed_call q parts ls f x e h = record { channel = h.channel; there = sym same ∙ h.there; call = h.call }
   where
     same : shown_at (layers_of (place_call q.line parts ls)) x ≡ shown_at (layers_of ls) x
@@ -284,7 +284,7 @@ before_answered n c (Clears cause) parts ns ls f b = record {
   places = λ x e. (keeps_asked p r ls).places x ∙ b.places x (sym ((keeps_asked p r ls).there x) ∙ e);
 }
   where
-    p : Place
+    p : SwitchChannel
     p = at n c
 
     r : Request
@@ -293,8 +293,8 @@ before_answered n c (Clears cause) parts ns ls f b = record {
     ms : List SwitchLine
     ms = ask p r ls
 
-    by_place : (x : Place) → HasCall ms x → (same_place x p ≡ true) ⊎ (same_place x p ≡ false) → (is_some (joined_at ms x) ≡ true) ⊎ Arrives n ns x
-    by_place x h (inl t) = absurd (cleared_none p cause no_information ls (subst (λ (y : Place). HasCall ms y) (place_is x p t) h))
+    by_place : (x : SwitchChannel) → HasCall ms x → (same_place x p ≡ true) ⊎ (same_place x p ≡ false) → (is_some (joined_at ms x) ≡ true) ⊎ Arrives n ns x
+    by_place x h (inl t) = absurd (cleared_none p cause no_information ls (subst (λ (y : SwitchChannel). HasCall ms y) (place_is x p t) h))
     by_place x h (inr g) =
         elim (b.calls x (asked_call p r ls x h)) [
           | inl e ↦ inl ((keeps_asked p r ls).joins x e)
@@ -307,7 +307,7 @@ before_answered n c (Joins q) parts ns ls f b = record {
   places = λ x e. kept_place x ∙ b.places x (sym (same x) ∙ e);
 }
   where
-    p : Place
+    p : SwitchChannel
     p = at n c
 
     jp : Joined
@@ -325,30 +325,30 @@ before_answered n c (Joins q) parts ns ls f b = record {
     ms : List SwitchLine
     ms = with_joined q (Some jq) k2
 
-    place1 : (x : Place) → has_place k1 x ≡ has_place ls x
+    place1 : (x : SwitchChannel) → has_place k1 x ≡ has_place ls x
     place1 x = place_after q.line _ ls x (λ l. refl)
 
-    kept_place : (x : Place) → has_place ms x ≡ has_place ls x
+    kept_place : (x : SwitchChannel) → has_place ms x ≡ has_place ls x
     kept_place x = place_joined q (Some jq) k2 x ∙ (place_joined p (Some jp) k1 x ∙ place1 x)
 
-    same : (x : Place) → is_some (shown_at (layers_of ms) x) ≡ is_some (shown_at (layers_of ls) x)
+    same : (x : SwitchChannel) → is_some (shown_at (layers_of ms) x) ≡ is_some (shown_at (layers_of ls) x)
     same x =
         ap (λ (o : Option Shown). is_some o) (joined_beside q (Some jq) k2 x ∙ joined_beside p (Some jp) k1 x)
         ∙ (ap (λ (ys : List Layer). is_some (shown_at ys x)) (map_changed (λ l. l.end.layer) _ (λ l. call l (forwarded ls n parts)) q.line ls (λ l. refl)) ∙ there_after (Calls q.line (forwarded ls n parts)) (layers_of ls) x)
 
-    old : (x : Place) → same_place x q ≡ false → HasCall ms x → HasCall ls x
+    old : (x : SwitchChannel) → same_place x q ≡ false → HasCall ms x → HasCall ls x
     old x e h = placed_call q (forwarded ls n parts) ls f x e (joined_call p (Some jp) k1 x (joined_call q (Some jq) k2 x h))
 
     q_place : has_place k2 q ≡ true
     q_place = place_joined p (Some jp) k1 q ∙ (place1 q ∙ b.places q (ap (λ (o : Option Shown). is_some o) (free_shown ls q f).1.0))
 
-    by_place : (x : Place) → HasCall ms x → (same_place x q ≡ true) ⊎ (same_place x q ≡ false) → (same_place x p ≡ true) ⊎ (same_place x p ≡ false) → (is_some (joined_at ms x) ≡ true) ⊎ Arrives n ns x
-    by_place x h (inl t) u = inl (ap (λ (y : Place). is_some (joined_at ms y)) (place_is x q t) ∙ ap (λ (o : Option Joined). is_some o) (joined_here q (Some jq) k2 q_place))
+    by_place : (x : SwitchChannel) → HasCall ms x → (same_place x q ≡ true) ⊎ (same_place x q ≡ false) → (same_place x p ≡ true) ⊎ (same_place x p ≡ false) → (is_some (joined_at ms x) ≡ true) ⊎ Arrives n ns x
+    by_place x h (inl t) u = inl (ap (λ (y : SwitchChannel). is_some (joined_at ms y)) (place_is x q t) ∙ ap (λ (o : Option Joined). is_some o) (joined_here q (Some jq) k2 q_place))
     by_place x h (inr e) (inl t) =
         let is = place_is x p t in
         let o = old x e h in
-        let place : has_place k1 p ≡ true = place1 p ∙ b.places p (ap (λ (y : Place). is_some (shown_at (layers_of ls) y)) (sym is) ∙ ap (λ (y : Option Shown). is_some y) o.there) in
-        inl (ap (λ (y : Option Joined). is_some y) (joined_apart q (Some jq) x k2 e ∙ (ap (λ (y : Place). joined_at k2 y) is ∙ joined_here p (Some jp) k1 place)))
+        let place : has_place k1 p ≡ true = place1 p ∙ b.places p (ap (λ (y : SwitchChannel). is_some (shown_at (layers_of ls) y)) (sym is) ∙ ap (λ (y : Option Shown). is_some y) o.there) in
+        inl (ap (λ (y : Option Joined). is_some y) (joined_apart q (Some jq) x k2 e ∙ (ap (λ (y : SwitchChannel). joined_at k2 y) is ∙ joined_here p (Some jp) k1 place)))
     by_place x h (inr e) (inr g) =
         elim (b.calls x (old x e h)) [
           | inl j ↦ inl (ap (λ (y : Option Joined). is_some y) (joined_apart q (Some jq) x k2 e ∙ (joined_apart p (Some jp) x k1 g ∙ joined_kept q.line x.line x.channel _ ls (λ l. refl))) ∙ j)
@@ -356,7 +356,7 @@ before_answered n c (Joins q) parts ns ls f b = record {
         ]
 
 -- without the note, which says of no call that it came in or is over
-less : (n : ℕ) (note : Note) (ns : List Note) (ls : List SwitchLine) → ((x : Place) → Arrives n (note ∷ ns) x → Arrives n ns x) → (Closing n (note ∷ ns) ls → Closing n ns ls)
+less : (n : ℕ) (note : Note) (ns : List Note) (ls : List SwitchLine) → ((x : SwitchChannel) → Arrives n (note ∷ ns) x → Arrives n ns x) → (Closing n (note ∷ ns) ls → Closing n ns ls)
     → (IncomingLast (note ∷ ns) → IncomingLast ns) → CallsBefore n (note ∷ ns) ls → CallsBefore n ns ls
 less n note ns ls f g h b = record {
   calls = λ x c. elim (b.calls x c) [ inl e ↦ inl e | inr a ↦ inr (f x a) ];

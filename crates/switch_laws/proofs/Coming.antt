@@ -13,8 +13,8 @@ use Rattle.packet_laws.specs.History.{Epoch, empty_epoch}
 use Rattle.packet_laws.specs.Readable.{Every}
 use Rattle.address_routes.specs.Routes.{RouteMap}
 use Rattle.switch_lines.specs.Direction.{new_direction, Direction}
-use Rattle.switch_lines.specs.declared.place.Place.{Place}
-use Rattle.switch_lines.specs.declared.place.Joined.{Joined}
+use Rattle.switch_lines.specs.declared.channels.SwitchChannel.{SwitchChannel}
+use Rattle.switch_lines.specs.declared.channels.Joined.{Joined}
 use Rattle.switch_lines.specs.Lines.{SwitchLine, same_place, joined_at, ask}
 use Rattle.switch_lines.specs.Relay.{told, told_of}
 use Rattle.switch_lines.specs.Switch.{heed, heed_all}
@@ -43,7 +43,7 @@ use Rattle.switch_laws.proofs.Outcomes.{AreOf, Outcome}
 use Rattle.switch_laws.proofs.Outcomes.Outcome.{ends, connects, waits, goes_on}
 use Rattle.switch_laws.proofs.SettingUp.{incoming_right, pair_call}
 
-abbrev pub at : ℕ → ℕ → Place
+abbrev pub at : ℕ → ℕ → SwitchChannel
 at n c = record { line = n; channel = c }
 
 -- ---- notes of a channel that is not joined
@@ -59,7 +59,7 @@ always n ls w i = record {
 
 -- the same with other notes of which none says that a call is over
 abbrev SameOver : ℕ → List Note → List Note → Type 0
-SameOver n ns ms = (x : Place) → IsOver n ns x → IsOver n ms x
+SameOver n ns ms = (x : SwitchChannel) → IsOver n ns x → IsOver n ms x
 
 fewer : (n : ℕ) (ns ms : List Note) (ls : List SwitchLine) (w : World) → SameOver n ns ms → IsSwitchBefore n ns ls w → IsSwitchBefore n ms ls w
 fewer n ns ms ls w f i = record {
@@ -198,8 +198,8 @@ waits_again false g g' h i e f = record { can_accept = i.can_accept; waits = f }
 
 -- what came on the channel, before its notes are heeded
 pub record Came (acts : List Act) (n c : ℕ) (ls : List SwitchLine) (w : World) (st : Step) (e : Epoch) (ms : List SwitchLine) (v : World) : Type 0 where
-  pub touches : (q : Place) → Touches acts (at n c) q ls w ms v
-  pub joined : (x : Place) → joined_at ms x ≡ joined_at ls x
+  pub touches : (q : SwitchChannel) → Touches acts (at n c) q ls w ms v
+  pub joined : (x : SwitchChannel) → joined_at ms x ≡ joined_at ls x
   pub there : is_some (shown_at (layers_of ls) (at n c)) ≡ true
   pub leg : v (at n c) ≡ stepped st e (w (at n c))
   pub same_role : (v (at n c)).role ≡ (w (at n c)).role
@@ -250,10 +250,10 @@ comes_over {acts} routes n c cause diagnostic reason rest ls ms w v st e j k cam
     (reached_there ms over_ v ended.world ended.reached p ∙ (reached_there ls ms w v t.reached p ∙ s.p_there))
     (sym (ap (λ (g : Leg). g.role) ended.leg ∙ came.same_role)) (sym (ap (λ (g : Leg). g.channel.state) ended.leg ∙ came.state)))))
   where
-    p : Place
+    p : SwitchChannel
     p = at n c
 
-    q : Place
+    q : SwitchChannel
     q = j.other
 
     ns : List Note
@@ -283,9 +283,9 @@ comes_over {acts} routes n c cause diagnostic reason rest ls ms w v st e j k cam
         at_q : IsJoinedAt n ns ms v q k
         at_q = record {
           there = reached_there ls ms w v t.reached q ∙ s.q_there;
-          apart = subst (λ (y : Place). same_place q y ≡ false) (sym s.back) (apart_turned p q s.apart);
+          apart = subst (λ (y : SwitchChannel). same_place q y ≡ false) (sym s.back) (apart_turned p q s.apart);
           other = j;
-          joined = ap (λ (y : Place). joined_at ms y) s.back ∙ here;
+          joined = ap (λ (y : SwitchChannel). joined_at ms y) s.back ∙ here;
           back = refl;
           one_came_in = not_not k.came_in j.came_in s.one_came_in;
           pair = inr (inr (inl s.back));
@@ -306,10 +306,10 @@ comes_on {acts} routes n c ls ms w v st e j k came i s right state notes = recor
   right = pair_kept 0 0 [] [] ls ks w told_.world p j k after.back after.there i s all told_.stands.pair.here told_.stands.pair.there (connected joined) (λ x a b f. f);
 }
   where
-    p : Place
+    p : SwitchChannel
     p = at n c
 
-    q : Place
+    q : SwitchChannel
     q = j.other
 
     ks : List SwitchLine
@@ -365,10 +365,10 @@ comes_connected {acts} routes n c ls ms w v st e j k came i s new_here new_there
       right = pair_kept 0 0 [] [] ls ks w a.world p j k j.kept k.kept i s all a.here a.there (connected joined) (λ x b d f. f);
     }))
   where
-    p : Place
+    p : SwitchChannel
     p = at n c
 
-    q : Place
+    q : SwitchChannel
     q = j.other
 
     ks : List SwitchLine
@@ -448,10 +448,10 @@ comes_waiting {acts} routes n c ls ms w v st e j k came i s new_here new_there w
       right = pair_kept 0 0 [] [] ls ms w v p j k j.kept k.kept i s t (came.joined p ∙ s.here) (came.joined q ∙ s.there) (waiting new_here new_there now) (λ x b d f. f);
     })
   where
-    p : Place
+    p : SwitchChannel
     p = at n c
 
-    q : Place
+    q : SwitchChannel
     q = j.other
 
     t : Touches acts p q ls w ms v
@@ -498,6 +498,6 @@ comes routes n c ls ms w v st e ep came i = comes_by (joined_at ls (at n c)) rou
 
 -- ---- no joins yet
 
-pub begins_right : (ls : List SwitchLine) (w : World) → IsWorld (layers_of ls) w → ((x : Place) → is_some (shown_at (layers_of ls) x) ≡ true → has_place ls x ≡ true)
-    → ((x : Place) → joined_at ls x ≡ None) → IsSwitch ls w
+pub begins_right : (ls : List SwitchLine) (w : World) → IsWorld (layers_of ls) w → ((x : SwitchChannel) → is_some (shown_at (layers_of ls) x) ≡ true → has_place ls x ≡ true)
+    → ((x : SwitchChannel) → joined_at ls x ≡ None) → IsSwitch ls w
 begins_right ls w i places none = record { world = i; places = places; joined = λ x j e. absurd (none-some j (sym (none x) ∙ e)) }

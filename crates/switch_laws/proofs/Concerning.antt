@@ -12,8 +12,8 @@ use Rattle.packet_end.specs.PacketEnd.{PacketEnd, begun, received, after_timer, 
 use Rattle.packet_end.proofs.Offering.{no_room, no_packet}
 use Rattle.address_routes.specs.Routes.{RouteMap}
 use Rattle.switch_lines.specs.Direction.{request_for}
-use Rattle.switch_lines.specs.declared.place.Place.{Place}
-use Rattle.switch_lines.specs.declared.place.Joined.{Joined}
+use Rattle.switch_lines.specs.declared.channels.SwitchChannel.{SwitchChannel}
+use Rattle.switch_lines.specs.declared.channels.Joined.{Joined}
 use Rattle.switch_lines.specs.Lines.{SwitchLine, same_place, joined_on, joined_at, front_at, front_of_line, refusal_at, refusal_of_line, places}
 use Rattle.switch_lines.specs.Relay.{moved_joined, moved_front, moved_unless, relayed, relayed_from, all_relayed}
 use Rattle.switch_lines.specs.Switch.{Switch, acted, all_begun, may_offer, offering_from, offered_from, to_relink, relinked_at, all_relinked, relinks_of}
@@ -37,35 +37,35 @@ use Rattle.switch_laws.proofs.Finishing.{begun_right, came, ran, readable, none_
 
 -- ---- joins that are passed over
 
-unless_stuck : (r : Option Refusal) (t : Taken) (x : Place) (j : Joined) (ls : List SwitchLine) → is_some r ≡ true → moved_unless r t x j ls ≡ ls
+unless_stuck : (r : Option Refusal) (t : Taken) (x : SwitchChannel) (j : Joined) (ls : List SwitchLine) → is_some r ≡ true → moved_unless r t x j ls ≡ ls
 unless_stuck None t x j ls e = absurd (true≢false (sym e))
 unless_stuck (Some r) t x j ls e = refl
 
-front_stuck : (o : Option Taken) (x : Place) (j : Joined) (ls : List SwitchLine) → front_at ls x ≡ o → joined_at ls x ≡ Some j → StuckAt ls x → moved_front o x j ls ≡ ls
+front_stuck : (o : Option Taken) (x : SwitchChannel) (j : Joined) (ls : List SwitchLine) → front_at ls x ≡ o → joined_at ls x ≡ Some j → StuckAt ls x → moved_front o x j ls ≡ ls
 front_stuck None x j ls f e s = refl
 front_stuck (Some t) x j ls f e s = unless_stuck (refusal_at ls j.other (request_for t)) t x j ls (s j t e f)
 
-joined_stuck : (o : Option Joined) (x : Place) (ls : List SwitchLine) → joined_at ls x ≡ o → StuckAt ls x → moved_joined o x ls ≡ ls
+joined_stuck : (o : Option Joined) (x : SwitchChannel) (ls : List SwitchLine) → joined_at ls x ≡ o → StuckAt ls x → moved_joined o x ls ≡ ls
 joined_stuck None x ls e s = refl
 joined_stuck (Some j) x ls e s = front_stuck (front_at ls x) x j ls refl e s
 
-pub stuck_stays : (x : Place) (ls : List SwitchLine) → StuckAt ls x → relayed 8 x ls ≡ ls
+pub stuck_stays : (x : SwitchChannel) (ls : List SwitchLine) → StuckAt ls x → relayed 8 x ls ≡ ls
 stuck_stays x ls s = relayed_same 8 x ls (joined_stuck (joined_at ls x) x ls refl s)
 
-passes_over : (lines : List ℕ) (first : List SwitchLine) (ps : List Place) (ls : List SwitchLine) (w : World) → IsSwitch ls w → ((p : Place) → is_concerned lines first p ≡ false → StuckAt ls p)
+passes_over : (lines : List ℕ) (first : List SwitchLine) (ps : List SwitchChannel) (ls : List SwitchLine) (w : World) → IsSwitch ls w → ((p : SwitchChannel) → is_concerned lines first p ≡ false → StuckAt ls p)
     → relayed_from ps ls ≡ relayed_from (concerned lines first ps) ls
 passes_over lines first [] ls w i stuck = refl
 passes_over lines first (x ∷ ps) ls w i stuck = by_concern (decided (is_concerned lines first x)) (visited ls w x i) (λ ms v k s. passes_over lines first ps ms v k s)
   where
-    apart : (p : Place) → is_concerned lines first x ≡ true → is_concerned lines first p ≡ false → same_place p x ≡ false
+    apart : (p : SwitchChannel) → is_concerned lines first x ≡ true → is_concerned lines first p ≡ false → same_place p x ≡ false
     apart p t f = by_same (decided (same_place p x))
       where
         by_same : (same_place p x ≡ true) ⊎ (same_place p x ≡ false) → same_place p x ≡ false
-        by_same (inl e) = absurd (true≢false (sym t ∙ (ap (λ (y : Place). is_concerned lines first y) (sym (place_is p x e)) ∙ f)))
+        by_same (inl e) = absurd (true≢false (sym t ∙ (ap (λ (y : SwitchChannel). is_concerned lines first y) (sym (place_is p x e)) ∙ f)))
         by_same (inr e) = e
 
     by_concern : (is_concerned lines first x ≡ true) ⊎ (is_concerned lines first x ≡ false) → (a : VisitedBy (relayed_steps 8 x ls) ls w x (relayed 8 x ls))
-        → ((ms : List SwitchLine) (v : World) → IsSwitch ms v → ((p : Place) → is_concerned lines first p ≡ false → StuckAt ms p) → relayed_from ps ms ≡ relayed_from (concerned lines first ps) ms)
+        → ((ms : List SwitchLine) (v : World) → IsSwitch ms v → ((p : SwitchChannel) → is_concerned lines first p ≡ false → StuckAt ms p) → relayed_from ps ms ≡ relayed_from (concerned lines first ps) ms)
         → relayed_from ps (relayed 8 x ls) ≡ relayed_from (if is_concerned lines first x then x ∷ concerned lines first ps else concerned lines first ps) ls
     by_concern (inl t) a more =
         more (relayed 8 x ls) a.world a.switch (λ p f. a.stuck_elsewhere p (apart p t f) (stuck p f))
@@ -105,18 +105,18 @@ line_refusal [] n c q = refl
 line_refusal (l ∷ ls) zero c q = channel_refusal l.end.layer q (channel_of l.end.layer c)
 line_refusal (l ∷ ls) (suc n) c q = line_refusal ls n c q
 
-abbrev pub SameShown : (ls ms : List SwitchLine) → Place → Type 0
+abbrev pub SameShown : (ls ms : List SwitchLine) → SwitchChannel → Type 0
 SameShown ls ms p = shown_at (layers_of ms) p ≡ shown_at (layers_of ls) p
 
-pub same_front : (ls ms : List SwitchLine) (p : Place) → SameShown ls ms p → front_at ms p ≡ front_at ls p
+pub same_front : (ls ms : List SwitchLine) (p : SwitchChannel) → SameShown ls ms p → front_at ms p ≡ front_at ls p
 same_front ls ms p e = line_front ms p.line p.channel ∙ (ap (λ (o : Option Shown). front_shown o) e ∙ sym (line_front ls p.line p.channel))
 
-pub same_refusal : (ls ms : List SwitchLine) (p : Place) (q : Request) → SameShown ls ms p → refusal_at ms p q ≡ refusal_at ls p q
+pub same_refusal : (ls ms : List SwitchLine) (p : SwitchChannel) (q : Request) → SameShown ls ms p → refusal_at ms p q ≡ refusal_at ls p q
 same_refusal ls ms p q e = line_refusal ms p.line p.channel q ∙ (ap (λ (o : Option Shown). refusal_shown q o) e ∙ sym (line_refusal ls p.line p.channel q))
 
 -- ---- links that are set up anew
 
-pub relinks_beside : (most : ℕ) (o : Option ℕ) (routes : RouteMap) (ls : List SwitchLine) (w : World) → to_relink ls ≡ o → IsSwitch ls w → (p : Place) (j : Joined) → joined_at ls p ≡ Some j
+pub relinks_beside : (most : ℕ) (o : Option ℕ) (routes : RouteMap) (ls : List SwitchLine) (w : World) → to_relink ls ≡ o → IsSwitch ls w → (p : SwitchChannel) (j : Joined) → joined_at ls p ≡ Some j
     → IsNone p.line (relinks_of most o routes ls) → IsNone j.other.line (relinks_of most o routes ls) → SameShown ls (all_relinked most routes ls) p
 relinks_beside zero o routes ls w t i p j e a b = refl
 relinks_beside (suc most) None routes ls w t i p j e a b = ap (λ (ms : List SwitchLine). shown_at (layers_of ms) p) (none_relinks (suc most) routes ls t)
@@ -138,7 +138,7 @@ none_of (m ∷ ms) n e = let both = neither (m == n) (is_one_of ms n) e in ((λ 
     neither true b e = absurd (true≢false e)
     neither false b e = (refl, e)
 
-neither_one : (lines : List ℕ) (ls : List SwitchLine) (p : Place) (j : Joined) → joined_at ls p ≡ Some j → is_concerned lines ls p ≡ false → (is_one_of lines p.line ≡ false) × (is_one_of lines j.other.line ≡ false)
+neither_one : (lines : List ℕ) (ls : List SwitchLine) (p : SwitchChannel) (j : Joined) → joined_at ls p ≡ Some j → is_concerned lines ls p ≡ false → (is_one_of lines p.line ≡ false) × (is_one_of lines j.other.line ≡ false)
 neither_one lines ls p j e f =
     let both = neither (is_one_of lines p.line) (joined_to lines (joined_at ls p)) f in
     (both.0, ap (λ (o : Option Joined). joined_to lines o) (sym e) ∙ both.1)
@@ -147,7 +147,7 @@ neither_one lines ls p j e f =
     neither true b e = absurd (true≢false e)
     neither false b e = (refl, e)
 
-unconcerned : (lines : List ℕ) (ls : List SwitchLine) (p : Place) (j : Joined) → joined_at ls p ≡ Some j → is_concerned lines ls p ≡ false → IsNone p.line lines × IsNone j.other.line lines
+unconcerned : (lines : List ℕ) (ls : List SwitchLine) (p : SwitchChannel) (j : Joined) → joined_at ls p ≡ Some j → is_concerned lines ls p ≡ false → IsNone p.line lines × IsNone j.other.line lines
 unconcerned lines ls p j e f =
     let both = neither_one lines ls p j e f in
     (none_of lines p.line both.0, none_of lines j.other.line both.1)
@@ -155,9 +155,9 @@ unconcerned lines ls p j e f =
 -- ---- an event
 
 -- a join of two other lines was there before
-was_joined : (n : ℕ) (routes : RouteMap) (ls : List SwitchLine) (p : Place) (j : Joined) → (p.line ≡ n → ⊥) → (j.other.line ≡ n → ⊥) → {notes : List Note} → WasJoined ls p j ⊎ IsNewJoin routes n notes p j → WasJoined ls p j
+was_joined : (n : ℕ) (routes : RouteMap) (ls : List SwitchLine) (p : SwitchChannel) (j : Joined) → (p.line ≡ n → ⊥) → (j.other.line ≡ n → ⊥) → {notes : List Note} → WasJoined ls p j ⊎ IsNewJoin routes n notes p j → WasJoined ls p j
 was_joined n routes ls p j here there (inl a) = a
-was_joined n routes ls p j here there (inr h) = absurd (by_caller j.came_in (ap (λ (x : Place). x.line) h.came_on))
+was_joined n routes ls p j here there (inr h) = absurd (by_caller j.came_in (ap (λ (x : SwitchChannel). x.line) h.came_on))
   where
     by_caller : (b : Bool) → (if b then p else j.other).line ≡ n → ⊥
     by_caller true e = here e
@@ -172,11 +172,11 @@ event_but n f s w v i k all p j t away e g =
     let off = unconcerned (lines_of_event n f s) rs p j e away in
     let was = was_joined n s.routes s.lines p j off.0.0 off.1.0 (before_joins n f s p j e) in
     let old = was.old in
-    let there : IsNone old.other.line (lines_of_event n f s) = subst (λ (q : Place). IsNone q.line (lines_of_event n f s)) (sym was.other) off.1 in
+    let there : IsNone old.other.line (lines_of_event n f s) = subst (λ (q : SwitchChannel). IsNone q.line (lines_of_event n f s)) (sym was.other) off.1 in
     let joined_ : joined_at ls p ≡ Some old = joined_on_ends begun s.lines p.line p.channel ∙ was.joined in
     let pair = i.joined p old joined_ in
     let back = pair.other in
-    let to_p : IsNone back.other.line (lines_of_event n f s) = subst (λ (q : Place). IsNone q.line (lines_of_event n f s)) (sym pair.back) off.0 in
+    let to_p : IsNone back.other.line (lines_of_event n f s) = subst (λ (q : SwitchChannel). IsNone q.line (lines_of_event n f s)) (sym pair.back) off.0 in
     let beside = acted_beside s.routes n f ls w i in
     let one : IsOther n ls p old = record { joined = joined_; here = off.0.0; there = there.0 } in
     let two : IsOther n ls old.other back = record { joined = pair.joined; here = there.0; there = to_p.0 } in
@@ -187,7 +187,7 @@ event_but n f s w v i k all p j t away e g =
     let shown_q : SameShown s.lines rs old.other =
     relinks_beside (length ms) (to_relink ms) s.routes ms v refl k old.other back (beside.stays old.other back two) there.1 to_p.1
     ∙ (beside.shown old.other back two ∙ ap (λ (ys : List Layer). shown_at ys old.other) begun_) in
-    ap (λ (q : Place). is_some (refusal_at rs q (request_for t))) (sym was.other)
+    ap (λ (q : SwitchChannel). is_some (refusal_at rs q (request_for t))) (sym was.other)
     ∙ (ap (λ (o : Option Refusal). is_some o) (same_refusal s.lines rs old.other (request_for t) shown_q)
     ∙ all p old t was.joined (sym (same_front s.lines rs p shown_p) ∙ g))
 
@@ -240,7 +240,7 @@ not_offering m zero k (l ∷ ls) e f =
     ap Some (offers_nothing l (itself (may_offer l) m (offering_from (suc m) ls) (ap (λ (x : ℕ). is_one_of (offering_from m (l ∷ ls)) x) (sym same) ∙ f)))
 not_offering m (suc n) k (l ∷ ls) e f = not_offering (suc m) n k ls (omega (arith, e)) (not_first (may_offer l) m k (offering_from (suc m) ls) f)
 
-same_line : (ls ms : List SwitchLine) (p : Place) → slice_get ms p.line ≡ slice_get ls p.line → SameShown ls ms p
+same_line : (ls ms : List SwitchLine) (p : SwitchChannel) → slice_get ms p.line ≡ slice_get ls p.line → SameShown ls ms p
 same_line ls ms p e =
     ap (λ (o : Option Layer). shown_on o p.channel)
     (get_map (λ l. l.end.layer) ms p.line ∙ (ap (λ (o : Option SwitchLine). option_map (λ l. l.end.layer) o) e ∙ sym (get_map (λ l. l.end.layer) ls p.line)))

@@ -19,8 +19,8 @@ use Rattle.packet_layer.specs.Layer.Timer.{RestartTimer, CallTimer, ResetTimer, 
 use Rattle.packet_laws.specs.History.{Epoch}
 use Rattle.address_routes.specs.Routes.{RouteMap}
 use Rattle.switch_lines.specs.Direction.{Direction}
-use Rattle.switch_lines.specs.declared.place.Place.{Place}
-use Rattle.switch_lines.specs.declared.place.Joined.{Joined}
+use Rattle.switch_lines.specs.declared.channels.SwitchChannel.{SwitchChannel}
+use Rattle.switch_lines.specs.declared.channels.Joined.{Joined}
 use Rattle.switch_lines.specs.Lines.{SwitchLine, same_place, joined_at}
 use Rattle.switch_lines.specs.Switch.{heed}
 use Rattle.switch_laws.specs.Leg.{Leg, stepped, heard, misheard, heard_epoch}
@@ -206,8 +206,8 @@ effect a l m = absurd m
 
 -- ---- nothing happened at any joined channel
 
-pub steady : {acts : List Act} (ls ms : List SwitchLine) (w v : World) → IsSwitch ls w → Reached acts ls w ms v → ((x : Place) → joined_at ms x ≡ joined_at ls x) → ((x : Place) → has_place ms x ≡ has_place ls x)
-    → ((x : Place) → v x ≡ w x) → IsSwitch ms v
+pub steady : {acts : List Act} (ls ms : List SwitchLine) (w v : World) → IsSwitch ls w → Reached acts ls w ms v → ((x : SwitchChannel) → joined_at ms x ≡ joined_at ls x) → ((x : SwitchChannel) → has_place ms x ≡ has_place ls x)
+    → ((x : SwitchChannel) → v x ≡ w x) → IsSwitch ms v
 steady ls ms w v i r joined places legs = record {
   world = reached_world ls ms w v r i.world;
   places = λ x e. places x ∙ i.places x (sym (reached_there ls ms w v r x) ∙ e);
@@ -226,10 +226,10 @@ steady ls ms w v i r joined places legs = record {
 
 -- ---- the leg of a place after an act
 
-pub leg_elsewhere : (a : Act) (ys : List Layer) (w : World) (x : Place) → (x.line == line_of a) ≡ false → world_after a ys w x ≡ w x
+pub leg_elsewhere : (a : Act) (ys : List Layer) (w : World) (x : SwitchChannel) → (x.line == line_of a) ≡ false → world_after a ys w x ≡ w x
 leg_elsewhere a ys w x e = ap (λ (b : Bool). if b then leg_after a (slice_get ys x.line) x.channel (w x) else w x) e
 
-pub leg_on_line : (a : Act) (ys : List Layer) (w : World) (x : Place) (o : Option Layer) → (x.line == line_of a) ≡ true → slice_get ys (line_of a) ≡ o → world_after a ys w x ≡ leg_after a o x.channel (w x)
+pub leg_on_line : (a : Act) (ys : List Layer) (w : World) (x : SwitchChannel) (o : Option Layer) → (x.line == line_of a) ≡ true → slice_get ys (line_of a) ≡ o → world_after a ys w x ≡ leg_after a o x.channel (w x)
 leg_on_line a ys w x o t e =
     ap (λ (b : Bool). if b then leg_after a (slice_get ys x.line) x.channel (w x) else w x) t
     ∙ ap (λ (y : Option Layer). leg_after a y x.channel (w x)) (ap (λ (k : ℕ). slice_get ys k) (eqb-true x.line (line_of a) t) ∙ e)
@@ -278,10 +278,10 @@ channel_shown l (Some ch) s e = (ch, (refl, same_Some _ s e))
 -- what happened at line n, before its notes are heeded: its legs moved, and those of no other line
 pub record Happened (acts : List Act) (n : ℕ) (f : ℕ → Leg → Leg) (ls ms : List SwitchLine) (w v : World) : Type 0 where
   pub reached : Reached acts ls w ms v
-  pub joined : (x : Place) → joined_at ms x ≡ joined_at ls x
-  pub places : (x : Place) → has_place ms x ≡ has_place ls x
-  pub here : (x : Place) → (x.line == n) ≡ true → v x ≡ f x.channel (w x)
-  pub elsewhere : (x : Place) → (x.line == n) ≡ false → v x ≡ w x
+  pub joined : (x : SwitchChannel) → joined_at ms x ≡ joined_at ls x
+  pub places : (x : SwitchChannel) → has_place ms x ≡ has_place ls x
+  pub here : (x : SwitchChannel) → (x.line == n) ≡ true → v x ≡ f x.channel (w x)
+  pub elsewhere : (x : SwitchChannel) → (x.line == n) ≡ false → v x ≡ w x
 
 pub effect_right : {acts : List Act} (routes : RouteMap) (n : ℕ) (f : ℕ → Leg → Leg) (l : Layer) (ls ms : List SwitchLine) (w v : World) (notes : List Note) → Effect f l notes → slice_get (layers_of ls) n ≡ Some l
     → Happened acts n f ls ms w v → IsSwitch ls w → After acts routes n notes ls w ms
@@ -290,10 +290,10 @@ effect_right {acts} routes n f l ls ms w v notes eff got h i = by_effect eff
     reached : Reached acts ls w ms v
     reached = h.reached
 
-    here : (x : Place) → (x.line == n) ≡ true → v x ≡ f x.channel (w x)
+    here : (x : SwitchChannel) → (x.line == n) ≡ true → v x ≡ f x.channel (w x)
     here = h.here
 
-    shown_here : (x : Place) (s : Shown) → (x.line == n) ≡ true → shown_at (layers_of ls) x ≡ Some s → shown_as l (channel_of l x.channel) ≡ Some s
+    shown_here : (x : SwitchChannel) (s : Shown) → (x.line == n) ≡ true → shown_at (layers_of ls) x ≡ Some s → shown_as l (channel_of l x.channel) ≡ Some s
     shown_here x s t e = sym (ap (λ (o : Option Layer). shown_on o x.channel) (ap (λ (k : ℕ). slice_get (layers_of ls) k) (eqb-true x.line n t) ∙ got)) ∙ e
 
     all_close : (reason : Reason) → ((c : ℕ) (g : Leg) → f c g ≡ closed g) → IsSwitchBefore n (closing_notes 1 reason l.channels) ms v
@@ -316,14 +316,14 @@ effect_right {acts} routes n f l ls ms w v notes eff got h i = by_effect eff
           };
     }
       where
-        over : (x : Place) → is_some (shown_at (layers_of ls) x) ≡ true → had_call (w x).channel.state ≡ true → (x.line == n) ≡ true → IsOver n (closing_notes 1 reason l.channels) x
+        over : (x : SwitchChannel) → is_some (shown_at (layers_of ls) x) ≡ true → had_call (w x).channel.state ≡ true → (x.line == n) ≡ true → IsOver n (closing_notes 1 reason l.channels) x
         over x there call t =
             let s = some_there (shown_at (layers_of ls) x) there in
             let c = channel_shown l (channel_of l x.channel) s.0 (shown_here x s.0 t s.1) in
             let had : had_call c.0.state ≡ true = ap (λ (y : Shown). had_call y.channel.state) (c.1.1 ∙ (i.world x s.0 s.1).shown) ∙ call in
             subst (λ (k : ℕ). IsOver n (closing_notes 1 reason l.channels) (record { line = k; channel = x.channel })) (sym (eqb-true x.line n t)) (over_channel n x.channel reason l.channels c.0 c.1.0 had)
 
-        now : (x : Place) (j k : Joined) → IsPair (w x) (w j.other) j k → is_some (shown_at (layers_of ls) x) ≡ true → is_some (shown_at (layers_of ls) j.other) ≡ true → IsPair (w j.other) (w x) k j
+        now : (x : SwitchChannel) (j k : Joined) → IsPair (w x) (w j.other) j k → is_some (shown_at (layers_of ls) x) ≡ true → is_some (shown_at (layers_of ls) j.other) ≡ true → IsPair (w j.other) (w x) k j
             → ((x.line == n) ≡ true) ⊎ ((x.line == n) ≡ false) → ((j.other.line == n) ≡ true) ⊎ ((j.other.line == n) ≡ false)
             → IsPair (v x) (v j.other) j k ⊎ (IsOver n (closing_notes 1 reason l.channels) x ⊎ IsOver n (closing_notes 1 reason l.channels) j.other)
         now x j k p there other q (inl t) u = inr (inl (over x there (pair_call (w x) (w j.other) j k p) t))
@@ -331,7 +331,7 @@ effect_right {acts} routes n f l ls ms w v notes eff got h i = by_effect eff
         now x j k p there other q (inr no_) (inr nor) = inl (same_pair x j.other w v j k (h.elsewhere x no_) (h.elsewhere j.other nor) p)
 
     -- a step of one channel
-    touches : (d : ℕ) → ((c : ℕ) (g : Leg) → (c == d) ≡ false → f c g ≡ g) → (q : Place) → Touches acts (at n d) q ls w ms v
+    touches : (d : ℕ) → ((c : ℕ) (g : Leg) → (c == d) ≡ false → f c g ≡ g) → (q : SwitchChannel) → Touches acts (at n d) q ls w ms v
     touches d apart q = record {
       reached = reached;
       joined = λ x e f. h.joined x;
@@ -339,7 +339,7 @@ effect_right {acts} routes n f l ls ms w v notes eff got h i = by_effect eff
       places = h.places;
     }
       where
-        by_line : (x : Place) → same_place x (at n d) ≡ false → ((x.line == n) ≡ true) ⊎ ((x.line == n) ≡ false) → v x ≡ w x
+        by_line : (x : SwitchChannel) → same_place x (at n d) ≡ false → ((x.line == n) ≡ true) ⊎ ((x.line == n) ≡ false) → v x ≡ w x
         by_line x e (inl t) = here x t ∙ apart x.channel (w x) (sym (ap (λ (b : Bool). b && (x.channel == d)) t) ∙ e)
         by_line x e (inr no_) = h.elsewhere x no_
 
@@ -365,7 +365,7 @@ effect_right {acts} routes n f l ls ms w v notes eff got h i = by_effect eff
         subst (λ (ns : List Note). After acts routes n ns ls w ms) (sym (some ch refl ∙ ap (λ (s : Shown). (st s).notes) agree))
         (comes routes n d ls ms w v (st (shown_of (w (at n d)))) (e (w (at n d))) (is.epoch (w (at n d))) came i)
       where
-        p : Place
+        p : SwitchChannel
         p = at n d
 
         agree : seen l ch ≡ shown_of (w p)
@@ -399,7 +399,7 @@ effect_right {acts} routes n f l ls ms w v notes eff got h i = by_effect eff
           right = steady ls ms w v i reached h.joined h.places (λ x. by_line x (decided (x.line == n)));
         })
       where
-        by_line : (x : Place) → ((x.line == n) ≡ true) ⊎ ((x.line == n) ≡ false) → v x ≡ w x
+        by_line : (x : SwitchChannel) → ((x.line == n) ≡ true) ⊎ ((x.line == n) ≡ false) → v x ≡ w x
         by_line x (inl t) = here x t ∙ legs x.channel (w x)
         by_line x (inr no_) = h.elsewhere x no_
     by_effect (closes_all reason is legs) =

@@ -12,8 +12,8 @@ use Rattle.switch_lines.specs.Direction.{request_for}
 use Rattle.packet_layer.specs.Layer.{Layer, next_packet, channel_of, unread, link_down}
 use Rattle.packet_end.specs.PacketEnd.{PacketEnd, begun, received, after_timer, relinked, with_next, offered, all_offered, settled, elapsed}
 use Rattle.address_routes.specs.Routes.{RouteMap}
-use Rattle.switch_lines.specs.declared.place.Place.{Place}
-use Rattle.switch_lines.specs.declared.place.Joined.{Joined}
+use Rattle.switch_lines.specs.declared.channels.SwitchChannel.{SwitchChannel}
+use Rattle.switch_lines.specs.declared.channels.Joined.{Joined}
 use Rattle.switch_lines.specs.Lines.{SwitchLine, changed, flat, nth_joined, joined_on, front_of_line, refusal_of_line}
 use Rattle.switch_lines.specs.Relay.{relayed_first}
 use Rattle.switch_lines.specs.Switch.{Switch, with_end, acted, to_relink, relinked_at, all_relinked, relinks_of, all_offered_on, may_offer, offering_from, offered_from, lines_first, rounds, finished, all_begun, on_frame, on_expiry, restart, without_joins}
@@ -131,10 +131,10 @@ gives_line n line ls w got i = record {
       legs = refl;
     }
 
-    good : (x : Place) → is_some (shown_at (layers_of ls) x) ≡ true → IsCallLeg (w x)
+    good : (x : SwitchChannel) → is_some (shown_at (layers_of ls) x) ≡ true → IsCallLeg (w x)
     good x e = let s = some_there (shown_at (layers_of ls) x) e in (i.world x s.0 s.1).leg
 
-    gave_at : (x : Place) → Gave (w x) (v x)
+    gave_at : (x : SwitchChannel) → Gave (w x) (v x)
     gave_at x = by_line (decided (x.line == n))
       where
         by_line : ((x.line == n) ≡ true) ⊎ ((x.line == n) ≡ false) → Gave (w x) (v x)
@@ -426,7 +426,7 @@ none_relinks zero routes ls e = refl
 none_relinks (suc most) routes ls e =
     ap (λ (o : Option ℕ). all_relinked most routes (relinked_at o routes ls)) e ∙ none_relinks most routes ls e
 
-pub relinks_leave : (most : ℕ) (o : Option ℕ) (routes : RouteMap) (ls : List SwitchLine) (w : World) → to_relink ls ≡ o → IsSwitch ls w → (p : Place) (j : Joined) → joined_at ls p ≡ Some j
+pub relinks_leave : (most : ℕ) (o : Option ℕ) (routes : RouteMap) (ls : List SwitchLine) (w : World) → to_relink ls ≡ o → IsSwitch ls w → (p : SwitchChannel) (j : Joined) → joined_at ls p ≡ Some j
     → IsNone p.line (relinks_of most o routes ls) → IsNone j.other.line (relinks_of most o routes ls) → joined_at (all_relinked most routes ls) p ≡ Some j
 relinks_leave zero o routes ls w t i p j e a b = e
 relinks_leave (suc most) None routes ls w t i p j e a b = ap (λ (ms : List SwitchLine). joined_at ms p) (none_relinks (suc most) routes ls t) ∙ e
@@ -481,7 +481,7 @@ timer_calls n id s w i all =
     finished_calls s.routes n _ c.world c.right
     (acted_calls s.routes n (RunsOut id) (all_begun s.lines) b.world b.right (λ line e. timer_effect n id line.end) (ends_keep begun s.lines (λ e. refl) all))
 
-restart_calls : (s : Switch) (w : World) → IsSwitch s.lines w → (p : Place) → HasCall (restart s).lines p → ⊥
+restart_calls : (s : Switch) (w : World) → IsSwitch s.lines w → (p : SwitchChannel) → HasCall (restart s).lines p → ⊥
 restart_calls s w i p h =
     let a = (restart_right s w i).world p h.channel h.there in
     true≢false (sym h.call ∙ ap (λ (x : Shown). had_call x.channel.state) a.shown)

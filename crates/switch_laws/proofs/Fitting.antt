@@ -18,7 +18,7 @@ use Rattle.packet_layer.specs.Layer.{next_packet}
 use Rattle.packet_layer.specs.Events.{written_packet}
 use Rattle.packet_end.specs.PacketEnd.{PacketEnd, heeded, after_packet, expired, runs_at, offered, all_offered, with_next, begun, settled}
 use Rattle.address_routes.specs.Routes.{RouteMap}
-use Rattle.switch_lines.specs.declared.config.LineConfig.{LineConfig}
+use Rattle.switch_lines.specs.declared.config.SwitchLineConfig.{SwitchLineConfig}
 use Rattle.switch_lines.specs.Lines.{SwitchLine, changed}
 use Rattle.switch_lines.specs.Making.{made_line}
 use Rattle.switch_lines.specs.Relay.{relayed_first}
@@ -169,6 +169,6 @@ made_fits : (standing : Bool) (k n2 : ℕ) → Fits (line.made Dce k n2 standing
 made_fits true k n2 = omega arith
 made_fits false k n2 = none_kept _ (line.made Dce k n2 false).link.queue (made_queue Dce k n2)
 
-pub made_fit : (lines : List LineConfig) → AreFit (links_of (map made_line lines))
+pub made_fit : (lines : List SwitchLineConfig) → AreFit (links_of (map made_line lines))
 made_fit [] = tt
 made_fit (c ∷ cs) = (made_fits c.params.standing c.params.k c.params.n2, made_fit cs)

@@ -31,8 +31,8 @@ use Rattle.packet_laws.specs.Readable.{Every}
 use Rattle.packet_laws.proofs.Line.Lines.{nth_other}
 use Rattle.packet_end.specs.PacketEnd.{PacketEnd, heeded, after_packet, expired, runs_at, relinked, settled, offered, all_offered, with_next}
 use Rattle.address_routes.specs.Routes.{RouteMap}
-use Rattle.switch_lines.specs.declared.place.Place.{Place}
-use Rattle.switch_lines.specs.declared.place.Joined.{Joined}
+use Rattle.switch_lines.specs.declared.channels.SwitchChannel.{SwitchChannel}
+use Rattle.switch_lines.specs.declared.channels.Joined.{Joined}
 use Rattle.switch_lines.specs.Lines.{SwitchLine, changed, joined_at, front_at, refusal_at}
 use Rattle.switch_lines.specs.Direction.{request_for}
 use Rattle.switch_lines.specs.Relay.{moved, relayed, places_first, relayed_first}
@@ -107,23 +107,23 @@ asking_silent (Begins ∷ more) h = absurd h.0
 asking_silent (Settles ∷ more) h = absurd h.0
 asking_silent (Elapses ticks ∷ more) h = absurd h.0
 
-unless_silent : (r : Option channel.Refusal) (t : Taken) (p : Place) (j : Joined) → Every IsSilent (moved_unless_steps r t p j)
+unless_silent : (r : Option channel.Refusal) (t : Taken) (p : SwitchChannel) (j : Joined) → Every IsSilent (moved_unless_steps r t p j)
 unless_silent None t p j = (tt, (tt, (tt, (tt, tt))))
 unless_silent (Some r) t p j = tt
 
-front_silent : (o : Option Taken) (p : Place) (j : Joined) (ls : List SwitchLine) → Every IsSilent (moved_front_steps o p j ls)
+front_silent : (o : Option Taken) (p : SwitchChannel) (j : Joined) (ls : List SwitchLine) → Every IsSilent (moved_front_steps o p j ls)
 front_silent None p j ls = tt
 front_silent (Some t) p j ls = unless_silent (refusal_at ls j.other (request_for t)) t p j
 
-joined_silent : (o : Option Joined) (p : Place) (ls : List SwitchLine) → Every IsSilent (moved_joined_steps o p ls)
+joined_silent : (o : Option Joined) (p : SwitchChannel) (ls : List SwitchLine) → Every IsSilent (moved_joined_steps o p ls)
 joined_silent None p ls = tt
 joined_silent (Some j) p ls = front_silent (front_at ls p) p j ls
 
-relayed_silent : (most : ℕ) (p : Place) (ls : List SwitchLine) → Every IsSilent (relayed_steps most p ls)
+relayed_silent : (most : ℕ) (p : SwitchChannel) (ls : List SwitchLine) → Every IsSilent (relayed_steps most p ls)
 relayed_silent zero p ls = tt
 relayed_silent (suc most) p ls = silent_then (moved_joined_steps (joined_at ls p) p ls) _ (joined_silent (joined_at ls p) p ls) (relayed_silent most p (moved p ls))
 
-from_silent : (ps : List Place) (ls : List SwitchLine) → Every IsSilent (relayed_from_steps ps ls)
+from_silent : (ps : List SwitchChannel) (ls : List SwitchLine) → Every IsSilent (relayed_from_steps ps ls)
 from_silent [] ls = tt
 from_silent (p ∷ ps) ls = silent_then (relayed_steps 8 p ls) _ (relayed_silent 8 p ls) (from_silent ps (relayed 8 p ls))
 

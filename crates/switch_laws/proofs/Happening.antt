@@ -23,9 +23,9 @@ use Rattle.packet_end.specs.PacketEnd.{PacketEnd, HasOfferedAll, received, after
 use Rattle.packet_end.specs.PacketEnd.{without_first_frame}
 use Rattle.address_routes.specs.Routes.{RouteMap}
 use Rattle.switch_lines.specs.Direction.{request_for}
-use Rattle.switch_lines.specs.declared.place.Place.{Place}
-use Rattle.switch_lines.specs.declared.place.Joined.{Joined}
-use Rattle.switch_lines.specs.declared.config.LineConfig.{LineConfig}
+use Rattle.switch_lines.specs.declared.channels.SwitchChannel.{SwitchChannel}
+use Rattle.switch_lines.specs.declared.channels.Joined.{Joined}
+use Rattle.switch_lines.specs.declared.config.SwitchLineConfig.{SwitchLineConfig}
 use Rattle.switch_lines.specs.Lines.{SwitchLine, changed, flat, nth_joined, joined_on, joined_at}
 use Rattle.switch_lines.specs.Relay.{relayed_first}
 use Rattle.switch_lines.specs.Making.{IsConfig, IsLineConfig, made, made_line}
@@ -158,7 +158,7 @@ steady_calls n f ls same all x h =
 
 -- what waits and is taken is as before where the layers and the joins are
 still_relayed : (ls ms : List SwitchLine) → layers_of ms ≡ layers_of ls →
-    ((x : Place) → joined_at ms x ≡ joined_at ls x) → HasRelayedAll ls → HasRelayedAll ms
+    ((x : SwitchChannel) → joined_at ms x ≡ joined_at ls x) → HasRelayedAll ls → HasRelayedAll ms
 still_relayed ls ms same joined_ all p j t e f =
     ap (λ (o : Option Refusal). is_some o) (same_refusal ls ms j.other (request_for t)
     (ap (λ (ys : List Layer). shown_at ys j.other) same))
@@ -365,10 +365,10 @@ new_shown l (Some ch) s is e = sym (same_Some _ s e) ∙ ap (λ (x : Channel). r
   channel = x;
 }) (is ch refl)
 
-abbrev AreConfigs : List LineConfig → Type 0
-AreConfigs lines = (n : ℕ) (c : LineConfig) → slice_get lines n ≡ Some c → IsLineConfig c
+abbrev AreConfigs : List SwitchLineConfig → Type 0
+AreConfigs lines = (n : ℕ) (c : SwitchLineConfig) → slice_get lines n ≡ Some c → IsLineConfig c
 
-new_agrees : (lines : List LineConfig) (n c : ℕ) (s : Shown) → AreConfigs lines →
+new_agrees : (lines : List SwitchLineConfig) (n c : ℕ) (s : Shown) → AreConfigs lines →
     shown_on (slice_get (layers_of (map made_line lines)) n) c ≡ Some s →
     Agrees s (new_leg (window_of (slice_get lines n)))
 new_agrees [] n c s are e = absurd (none-some s e)
@@ -400,7 +400,7 @@ shown_is_some : (l : Layer) (o : Option Channel) → is_some (shown_as l o) ≡ 
 shown_is_some l None e = e
 shown_is_some l (Some ch) e = refl
 
-new_place : (lines : List LineConfig) (n c : ℕ) → AreConfigs lines → is_some
+new_place : (lines : List SwitchLineConfig) (n c : ℕ) → AreConfigs lines → is_some
     (shown_on (slice_get (layers_of (map made_line lines)) n) c) ≡ true →
     has_place_on (slice_get (map made_line lines) n) c ≡ true
 new_place [] n c are e = e
@@ -419,7 +419,7 @@ none_new : (n c : ℕ) → nth_joined (new_places n) c ≡ None
 none_new n zero = refl
 none_new n (suc i) = none_flat n i
 
-new_joined : (lines : List LineConfig) (n c : ℕ) → joined_on (slice_get (map made_line lines) n) c ≡ None
+new_joined : (lines : List SwitchLineConfig) (n c : ℕ) → joined_on (slice_get (map made_line lines) n) c ≡ None
 new_joined [] n c = refl
 new_joined (x ∷ xs) zero c = none_new x.params.channels c
 new_joined (x ∷ xs) (suc n) c = new_joined xs n c
@@ -428,7 +428,7 @@ new_k : (k n2 : ℕ) (standing : Bool) → (line.made Dce k n2 standing).link.k 
 new_k k n2 true = refl
 new_k k n2 false = relink_keeps_k (link.new Dce k n2 false)
 
-new_links : (lines : List LineConfig) → AreConfigs lines → HaveSmallLinks (map made_line lines)
+new_links : (lines : List SwitchLineConfig) → AreConfigs lines → HaveSmallLinks (map made_line lines)
 new_links [] are n l e = absurd (none-some l e)
 new_links (x ∷ xs) are zero l e =
     subst (λ (y : SwitchLine). y.end.line.link.k ≤ 7) (same_Some (made_line x) l e)
@@ -439,18 +439,18 @@ unready : (standing : Bool) (l : Layer) → standing ≡ false → (next_in (sta
 unready true l e = absurd (true≢false e)
 unready false l e = refl
 
-new_offer : (lines : List LineConfig) → AreConfigs lines → list_any may_offer (map made_line lines) ≡ false
+new_offer : (lines : List SwitchLineConfig) → AreConfigs lines → list_any may_offer (map made_line lines) ≡ false
 new_offer [] are = refl
 new_offer (x ∷ xs) are =
     ap (λ (b : Bool). b || list_any may_offer (map made_line xs))
     (keeps_none (made_line x) (inr (unready x.params.standing (made_line x).end.layer (are 0 x refl).not_standing)))
     ∙ new_offer xs (λ m y f. are (suc m) y f)
 
-new_end : (lines : List LineConfig) → to_relink (map made_line lines) ≡ None
+new_end : (lines : List SwitchLineConfig) → to_relink (map made_line lines) ≡ None
 new_end [] = refl
 new_end (x ∷ xs) = ap (λ (o : Option ℕ). raised o) (new_end xs)
 
-begins : (routes : RouteMap) (lines : List LineConfig) → IsConfig lines →
+begins : (routes : RouteMap) (lines : List SwitchLineConfig) → IsConfig lines →
     SwitchHolds (made routes lines) (new_legs lines)
 begins routes lines is = record {
   joins = begins_right (map made_line lines) (new_legs lines) (λ x s e. new_agrees lines x.line x.channel s is.each e)

@@ -17,8 +17,8 @@ use Rattle.packet_end.specs.End.{End}
 use Rattle.packet_end.specs.PacketEnd.{PacketEnd, offered, with_next, HasOfferedAll}
 use Rattle.packet_end.proofs.Offering.{no_room}
 use Rattle.switch_lines.specs.Direction.{releasable, released, carried_by, request_for}
-use Rattle.switch_lines.specs.declared.place.Place.{Place}
-use Rattle.switch_lines.specs.declared.place.Joined.{Joined}
+use Rattle.switch_lines.specs.declared.channels.SwitchChannel.{SwitchChannel}
+use Rattle.switch_lines.specs.declared.channels.Joined.{Joined}
 use Rattle.switch_lines.specs.Lines.{SwitchLine, same_place, joined_at, with_joined, ask, front_at, refusal_at}
 use Rattle.switch_lines.specs.Relay.{moved, moved_unless, moved_front, moved_joined, relayed, relayed_from, places_first, relayed_first}
 use Rattle.switch_lines.specs.Switch.{may_offer, to_relink, raised, offering_from, offered_from, rounds}
@@ -54,15 +54,15 @@ Mute link phase s = HasNoRoom link ⊎ (HasNoSession phase ⊎ HasNothing s)
 abbrev pub links_of : List SwitchLine → List Link
 links_of ls = map (λ l. l.end.line.link) ls
 
-abbrev pub IsMute : List SwitchLine → Place → Type 0
+abbrev pub IsMute : List SwitchLine → SwitchChannel → Type 0
 IsMute ls p = Mute (slice_get (links_of ls) p.line) (phase_of (slice_get (layers_of ls) p.line)) (shown_at (layers_of ls) p)
 
-pub record SameLine (ls ms : List SwitchLine) (p : Place) : Type 0 where
+pub record SameLine (ls ms : List SwitchLine) (p : SwitchChannel) : Type 0 where
   pub link : slice_get (links_of ms) p.line ≡ slice_get (links_of ls) p.line
   pub phase : phase_of (slice_get (layers_of ms) p.line) ≡ phase_of (slice_get (layers_of ls) p.line)
   pub shown : SameShown ls ms p
 
-pub still_mute : (ls ms : List SwitchLine) (p : Place) → SameLine ls ms p → IsMute ls p → IsMute ms p
+pub still_mute : (ls ms : List SwitchLine) (p : SwitchChannel) → SameLine ls ms p → IsMute ls p → IsMute ms p
 still_mute ls ms p same h =
     subst (λ (x : Option Link). Mute x (phase_of (slice_get (layers_of ms) p.line)) (shown_at (layers_of ms) p)) (sym same.link)
     (subst (λ (x : Option Phase). Mute (slice_get (links_of ls) p.line) x (shown_at (layers_of ms) p)) (sym same.phase)
@@ -165,31 +165,31 @@ same_links ls ms e = sym (fused ms) ∙ (ap (λ (es : List End). map (λ x. x.li
 abbrev pub phases_of : List SwitchLine → List Phase
 phases_of ls = map (λ l. l.end.layer.phase) ls
 
-asked_phases : (p : Place) (q : Request) (ls : List SwitchLine) → phases_of (ask p q ls) ≡ phases_of ls
+asked_phases : (p : SwitchChannel) (q : Request) (ls : List SwitchLine) → phases_of (ask p q ls) ≡ phases_of ls
 asked_phases p q ls = map_unchanged (λ l. l.end.layer.phase) _ p.line ls (λ l. found_phase l.end.layer p.channel (λ ch. requested l.end.layer.role ch q) (channel_of l.end.layer p.channel))
 
-joined_phases : (p : Place) (o : Option Joined) (ls : List SwitchLine) → phases_of (with_joined p o ls) ≡ phases_of ls
+joined_phases : (p : SwitchChannel) (o : Option Joined) (ls : List SwitchLine) → phases_of (with_joined p o ls) ≡ phases_of ls
 joined_phases p o ls = map_unchanged (λ l. l.end.layer.phase) _ p.line ls (λ l. refl)
 
 -- what is seen of the leg p, and its join
-pub record Before (p : Place) (ls ms : List SwitchLine) : Type 0 where
+pub record Before (p : SwitchChannel) (ls ms : List SwitchLine) : Type 0 where
   pub shown : SameShown ls ms p
   pub phases : phases_of ms ≡ phases_of ls
   pub joined : joined_at ms p ≡ joined_at ls p
 
-nothing_moved : (p : Place) (ls : List SwitchLine) → Before p ls ls
+nothing_moved : (p : SwitchChannel) (ls : List SwitchLine) → Before p ls ls
 nothing_moved p ls = record { shown = refl; phases = refl; joined = refl }
 
-before_then : (p : Place) (ls ms ks : List SwitchLine) → Before p ls ms → Before p ms ks → Before p ls ks
+before_then : (p : SwitchChannel) (ls ms ks : List SwitchLine) → Before p ls ms → Before p ms ks → Before p ls ks
 before_then p ls ms ks a b = record { shown = b.shown ∙ a.shown; phases = b.phases ∙ a.phases; joined = b.joined ∙ a.joined }
 
-asked_before : (p q : Place) (r : Request) (ls : List SwitchLine) → same_place p q ≡ false → Before p ls (ask q r ls)
+asked_before : (p q : SwitchChannel) (r : Request) (ls : List SwitchLine) → same_place p q ≡ false → Before p ls (ask q r ls)
 asked_before p q r ls e = record { shown = asked_beside q r ls p e; phases = asked_phases q r ls; joined = joined_asked q r p ls }
 
-joined_before : (p q : Place) (o : Option Joined) (ls : List SwitchLine) → same_place p q ≡ false → Before p ls (with_joined q o ls)
+joined_before : (p q : SwitchChannel) (o : Option Joined) (ls : List SwitchLine) → same_place p q ≡ false → Before p ls (with_joined q o ls)
 joined_before p q o ls e = record { shown = joined_beside q o ls p; phases = joined_phases q o ls; joined = joined_apart q o p ls e }
 
-unless_before : (p x : Place) (r : Option Refusal) (t : Taken) (i : Joined) (ls : List SwitchLine) → same_place p x ≡ false → same_place p i.other ≡ false → Before p ls (moved_unless r t x i ls)
+unless_before : (p x : SwitchChannel) (r : Option Refusal) (t : Taken) (i : Joined) (ls : List SwitchLine) → same_place p x ≡ false → same_place p i.other ≡ false → Before p ls (moved_unless r t x i ls)
 unless_before p x (Some r) t i ls here there = nothing_moved p ls
 unless_before p x None t i ls here there =
     let l1 = ask x Taking ls in
@@ -200,19 +200,19 @@ unless_before p x None t i ls here there =
     (before_then p l1 l2 _ (asked_before p i.other (request_for t) l1 there)
     (before_then p l2 l3 _ (asked_before p x (Releasing (releasable v.held)) l2 here) (joined_before p x (Some (record i { kept = released v })) l3 here)))
 
-front_before : (p x : Place) (o : Option Taken) (i : Joined) (ls : List SwitchLine) → same_place p x ≡ false → same_place p i.other ≡ false → Before p ls (moved_front o x i ls)
+front_before : (p x : SwitchChannel) (o : Option Taken) (i : Joined) (ls : List SwitchLine) → same_place p x ≡ false → same_place p i.other ≡ false → Before p ls (moved_front o x i ls)
 front_before p x None i ls here there = nothing_moved p ls
 front_before p x (Some t) i ls here there = unless_before p x (refusal_at ls i.other (request_for t)) t i ls here there
 
 -- the channel x is joined with none, or with another one than p
-abbrev Apart : Place → Place → List SwitchLine → Type 0
+abbrev Apart : SwitchChannel → SwitchChannel → List SwitchLine → Type 0
 Apart p x ls = (i : Joined) → joined_at ls x ≡ Some i → same_place p i.other ≡ false
 
-record MovedBefore (p x : Place) (ls ms : List SwitchLine) : Type 0 where
+record MovedBefore (p x : SwitchChannel) (ls ms : List SwitchLine) : Type 0 where
   before : Before p ls ms
   apart : Apart p x ms
 
-moved_before : (p x : Place) (o : Option Joined) (ls : List SwitchLine) → joined_at ls x ≡ o → same_place p x ≡ false → Apart p x ls → MovedBefore p x ls (moved_joined o x ls)
+moved_before : (p x : SwitchChannel) (o : Option Joined) (ls : List SwitchLine) → joined_at ls x ≡ o → same_place p x ≡ false → Apart p x ls → MovedBefore p x ls (moved_joined o x ls)
 moved_before p x None ls got here apart = record { before = nothing_moved p ls; apart = apart }
 moved_before p x (Some i) ls got here apart =
     let stay = stay_moved (Some i) x ls got x i got in
@@ -221,7 +221,7 @@ moved_before p x (Some i) ls got here apart =
       apart = λ k e. subst (λ (y : Joined). same_place p y.other ≡ false) (same_Some (record i { kept = stay.kept }) k (sym stay.joined ∙ e)) (apart i got);
     }
 
-relayed_before : (most : ℕ) (p x : Place) (ls : List SwitchLine) → same_place p x ≡ false → Apart p x ls → Before p ls (relayed most x ls)
+relayed_before : (most : ℕ) (p x : SwitchChannel) (ls : List SwitchLine) → same_place p x ≡ false → Apart p x ls → Before p ls (relayed most x ls)
 relayed_before zero p x ls here apart = nothing_moved p ls
 relayed_before (suc most) p x ls here apart =
     let m = moved_before p x (joined_at ls x) ls refl here apart in
@@ -230,14 +230,14 @@ relayed_before (suc most) p x ls here apart =
 -- ---- a join of which nothing can move on, over the rounds
 
 -- as it is in the lines ls, where nothing that waits on it is taken
-pub record Waits (ls : List SwitchLine) (p : Place) (j k : Joined) : Type 0 where
+pub record Waits (ls : List SwitchLine) (p : SwitchChannel) (j k : Joined) : Type 0 where
   pub here : joined_at ls p ≡ Some j
   pub there : joined_at ls j.other ≡ Some k
   pub back : k.other ≡ p
   pub stuck_here : StuckAt ls p
   pub stuck_there : StuckAt ls j.other
 
-pub record IsLeft (ls : List SwitchLine) (p : Place) (j k : Joined) (ms : List SwitchLine) : Type 0 where
+pub record IsLeft (ls : List SwitchLine) (p : SwitchChannel) (j k : Joined) (ms : List SwitchLine) : Type 0 where
   pub here : joined_at ms p ≡ Some j
   pub there : joined_at ms j.other ≡ Some k
   pub shown_here : SameShown ls ms p
@@ -245,39 +245,39 @@ pub record IsLeft (ls : List SwitchLine) (p : Place) (j k : Joined) (ms : List S
   pub mute_here : IsMute ms p
   pub mute_there : IsMute ms j.other
 
-same_stuck : (ls ms : List SwitchLine) (p : Place) (j : Joined) → joined_at ls p ≡ Some j → joined_at ms p ≡ Some j → SameShown ls ms p → SameShown ls ms j.other → StuckAt ls p → StuckAt ms p
+same_stuck : (ls ms : List SwitchLine) (p : SwitchChannel) (j : Joined) → joined_at ls p ≡ Some j → joined_at ms p ≡ Some j → SameShown ls ms p → SameShown ls ms j.other → StuckAt ls p → StuckAt ms p
 same_stuck ls ms p j old new here there s i t e f =
     let same : i ≡ j = same_Some i j (sym e ∙ new) in
     ap (λ (y : Joined). is_some (refusal_at ms y.other (request_for t))) same
     ∙ (ap (λ (o : Option Refusal). is_some o) (same_refusal ls ms j.other (request_for t) there)
     ∙ s j t old (sym (same_front ls ms p here) ∙ f))
 
-stuck_first : (ls ms : List SwitchLine) (p : Place) (j k : Joined) → Waits ls p j k → IsLeft ls p j k ms → StuckAt ms p
+stuck_first : (ls ms : List SwitchLine) (p : SwitchChannel) (j k : Joined) → Waits ls p j k → IsLeft ls p j k ms → StuckAt ms p
 stuck_first ls ms p j k u h = same_stuck ls ms p j u.here h.here h.shown_here h.shown_there u.stuck_here
 
-stuck_second : (ls ms : List SwitchLine) (p : Place) (j k : Joined) → Waits ls p j k → IsLeft ls p j k ms → StuckAt ms j.other
+stuck_second : (ls ms : List SwitchLine) (p : SwitchChannel) (j k : Joined) → Waits ls p j k → IsLeft ls p j k ms → StuckAt ms j.other
 stuck_second ls ms p j k u h =
-    same_stuck ls ms j.other k u.there h.there h.shown_there (subst (λ (x : Place). SameShown ls ms x) (sym u.back) h.shown_here) u.stuck_there
+    same_stuck ls ms j.other k u.there h.there h.shown_there (subst (λ (x : SwitchChannel). SameShown ls ms x) (sym u.back) h.shown_here) u.stuck_there
 
 -- a joined channel that is none of its two is joined with none of them
-other_apart : (ls ms : List SwitchLine) (w : World) (p x : Place) (j k : Joined) → IsSwitch ms w → joined_at ms p ≡ Some j → same_place x j.other ≡ false → Apart p x ms
+other_apart : (ls ms : List SwitchLine) (w : World) (p x : SwitchChannel) (j k : Joined) → IsSwitch ms w → joined_at ms p ≡ Some j → same_place x j.other ≡ false → Apart p x ms
 other_apart ls ms w p x j k i got ne y e = by_same (decided (same_place p y.other))
   where
     by_same : (same_place p y.other ≡ true) ⊎ (same_place p y.other ≡ false) → same_place p y.other ≡ false
     by_same (inr f) = f
     by_same (inl t) =
         let at_x = i.joined x y e in
-        let same : at_x.other ≡ j = same_Some at_x.other j (sym at_x.joined ∙ (ap (λ (z : Place). joined_at ms z) (sym (place_is p y.other t)) ∙ got)) in
+        let same : at_x.other ≡ j = same_Some at_x.other j (sym at_x.joined ∙ (ap (λ (z : SwitchChannel). joined_at ms z) (sym (place_is p y.other t)) ∙ got)) in
         absurd (true≢false (sym (same_as x j.other (sym at_x.back ∙ ap (λ (z : Joined). z.other) same)) ∙ ne))
 
-turned : (x p : Place) → same_place x p ≡ false → same_place p x ≡ false
+turned : (x p : SwitchChannel) → same_place x p ≡ false → same_place p x ≡ false
 turned x p f = by_same (decided (same_place p x))
   where
     by_same : (same_place p x ≡ true) ⊎ (same_place p x ≡ false) → same_place p x ≡ false
     by_same (inr e) = e
     by_same (inl t) = absurd (true≢false (sym (same_as x p (sym (place_is p x t))) ∙ f))
 
-same_line : (ms ks : List SwitchLine) (p : Place) → lines_of ks ≡ lines_of ms → Before p ms ks → SameLine ms ks p
+same_line : (ms ks : List SwitchLine) (p : SwitchChannel) → lines_of ks ≡ lines_of ms → Before p ms ks → SameLine ms ks p
 same_line ms ks p lines b = record {
   link = ap (λ (xs : List Link). slice_get xs p.line) (same_links ms ks lines);
   phase = phase_is ks p.line ∙ (ap (λ (xs : List Phase). slice_get xs p.line) b.phases ∙ sym (phase_is ms p.line));
@@ -290,11 +290,11 @@ same_line ms ks p lines b = record {
     phase_is (x ∷ xs) (suc n) = phase_is xs n
 
 -- one channel is relayed
-one_left : (ls ms : List SwitchLine) (w : World) (p : Place) (j k : Joined) (x : Place) → Waits ls p j k → IsSwitch ms w → IsLeft ls p j k ms → IsLeft ls p j k (relayed 8 x ms)
+one_left : (ls ms : List SwitchLine) (w : World) (p : SwitchChannel) (j k : Joined) (x : SwitchChannel) → Waits ls p j k → IsSwitch ms w → IsLeft ls p j k ms → IsLeft ls p j k (relayed 8 x ms)
 one_left ls ms w p j k x u i h = by_first (decided (same_place x p)) (decided (same_place x j.other))
   where
-    left_same : (y : Place) → x ≡ y → StuckAt ms y → IsLeft ls p j k (relayed 8 x ms)
-    left_same y e s = subst (λ (ks : List SwitchLine). IsLeft ls p j k ks) (sym (ap (λ (z : Place). relayed 8 z ms) e ∙ stuck_stays y ms s)) h
+    left_same : (y : SwitchChannel) → x ≡ y → StuckAt ms y → IsLeft ls p j k (relayed 8 x ms)
+    left_same y e s = subst (λ (ks : List SwitchLine). IsLeft ls p j k ks) (sym (ap (λ (z : SwitchChannel). relayed 8 z ms) e ∙ stuck_stays y ms s)) h
 
     by_first : (same_place x p ≡ true) ⊎ (same_place x p ≡ false) → (same_place x j.other ≡ true) ⊎ (same_place x j.other ≡ false) → IsLeft ls p j k (relayed 8 x ms)
     by_first (inl t) other = left_same p (place_is x p t) (stuck_first ls ms p j k u h)
@@ -304,7 +304,7 @@ one_left ls ms w p j k x u i h = by_first (decided (same_place x p)) (decided (s
         let lines = from_lines (x ∷ []) ms in
         let a = relayed_before 8 p x ms (turned x p f) (other_apart ls ms w p x j k i h.here g) in
         let b = relayed_before 8 j.other x ms (turned x j.other g)
-        (other_apart ls ms w j.other x k j i h.there (subst (λ (y : Place). same_place x y ≡ false) (sym u.back) f)) in
+        (other_apart ls ms w j.other x k j i h.there (subst (λ (y : SwitchChannel). same_place x y ≡ false) (sym u.back) f)) in
         record {
           here = a.joined ∙ h.here;
           there = b.joined ∙ h.there;
@@ -314,18 +314,18 @@ one_left ls ms w p j k x u i h = by_first (decided (same_place x p)) (decided (s
           mute_there = still_mute ms ks j.other (same_line ms ks j.other lines b) h.mute_there;
         }
 
-pub record LeftSwitch (ls : List SwitchLine) (p : Place) (j k : Joined) (ms : List SwitchLine) : Type 0 where
+pub record LeftSwitch (ls : List SwitchLine) (p : SwitchChannel) (j k : Joined) (ms : List SwitchLine) : Type 0 where
   pub world : World
   pub switch : IsSwitch ms world
   pub left : IsLeft ls p j k ms
 
-from_left : (ps : List Place) (ls ms : List SwitchLine) (w : World) (p : Place) (j k : Joined) → Waits ls p j k → IsSwitch ms w → IsLeft ls p j k ms → LeftSwitch ls p j k (relayed_from ps ms)
+from_left : (ps : List SwitchChannel) (ls ms : List SwitchLine) (w : World) (p : SwitchChannel) (j k : Joined) → Waits ls p j k → IsSwitch ms w → IsLeft ls p j k ms → LeftSwitch ls p j k (relayed_from ps ms)
 from_left [] ls ms w p j k u i h = record { world = w; switch = i; left = h }
 from_left (x ∷ ps) ls ms w p j k u i h =
     let v = visited ms w x i in from_left ps ls (relayed 8 x ms) v.world p j k u v.switch (one_left ls ms w p j k x u i h)
 
 -- packets are offered on all lines
-offers_left : (ls ms : List SwitchLine) (p : Place) (j k : Joined) → IsLeft ls p j k ms → IsLeft ls p j k (map offers_line ms)
+offers_left : (ls ms : List SwitchLine) (p : SwitchChannel) (j k : Joined) → IsLeft ls p j k ms → IsLeft ls p j k (map offers_line ms)
 offers_left ls ms p j k h =
     let a = lines_kept ms p.line p.channel h.mute_here in
     let b = lines_kept ms j.other.line j.other.channel h.mute_there in
@@ -338,7 +338,7 @@ offers_left ls ms p j k h =
       mute_there = b.mute;
     }
 
-pub rounds_left : (most : ℕ) (first : List ℕ) (ls ms : List SwitchLine) (w : World) (p : Place) (j k : Joined) → Waits ls p j k → IsSwitch ms w → IsLeft ls p j k ms → IsLeft ls p j k (rounds most first ms)
+pub rounds_left : (most : ℕ) (first : List ℕ) (ls ms : List SwitchLine) (w : World) (p : SwitchChannel) (j k : Joined) → Waits ls p j k → IsSwitch ms w → IsLeft ls p j k ms → IsLeft ls p j k (rounds most first ms)
 rounds_left zero first ls ms w p j k u i h = (from_left (places_first first ms) ls ms w p j k u i h).left
 rounds_left (suc most) first ls ms w p j k u i h = by_may (any_may ks) (λ xs v s t. rounds_left most (offering_from 0 ks) ls xs v p j k u s t)
   where
@@ -458,5 +458,5 @@ lines_mute [] n c all none = inl tt
 lines_mute (l ∷ ls) zero c all none = end_mute l.end c (all 0 l refl) (none_due l.end.layer.relink (to_relink ls) none).0
 lines_mute (l ∷ ls) (suc n) c all none = lines_mute ls n c (λ m x e. all (suc m) x e) (none_due l.end.layer.relink (to_relink ls) none).1
 
-pub all_mute : (ls : List SwitchLine) (p : Place) → list_any may_offer ls ≡ false → to_relink ls ≡ None → IsMute ls p
+pub all_mute : (ls : List SwitchLine) (p : SwitchChannel) → list_any may_offer ls ≡ false → to_relink ls ≡ None → IsMute ls p
 all_mute ls p offered_ none = lines_mute ls p.line p.channel (none_may ls offered_) none

@@ -11,8 +11,8 @@ use Rattle.packet_layer.specs.Channel.{CallState, Channel, Step, had_call}
 use Rattle.packet_layer.specs.Layer.{Layer, channel_of, closing_notes}
 use Rattle.packet_laws.specs.History.{Epoch}
 use Rattle.address_routes.specs.Routes.{RouteMap}
-use Rattle.switch_lines.specs.declared.place.Place.{Place}
-use Rattle.switch_lines.specs.declared.place.Joined.{Joined}
+use Rattle.switch_lines.specs.declared.channels.SwitchChannel.{SwitchChannel}
+use Rattle.switch_lines.specs.declared.channels.Joined.{Joined}
 use Rattle.switch_lines.specs.Lines.{SwitchLine, same_place, changed, joined_at}
 use Rattle.switch_lines.specs.Switch.{heed_all, with_end, notes_of, without_notes, quieted, acted}
 use Rattle.switch_laws.specs.Leg.{Leg, stepped}
@@ -78,26 +78,26 @@ calls_effect : {acts : List Act} (n : ℕ) (f : ℕ → Leg → Leg) (l : Layer)
     → IsSwitch ls w → CallsAreJoined ls → CallsBefore n notes ms
 calls_effect n f l ls ms w v notes eff got h i all = by_effect eff
   where
-    places : (x : Place) → is_some (shown_at (layers_of ms) x) ≡ true → has_place ms x ≡ true
+    places : (x : SwitchChannel) → is_some (shown_at (layers_of ms) x) ≡ true → has_place ms x ≡ true
     places x e = h.places x ∙ i.places x (sym (reached_there ls ms w v h.reached x) ∙ e)
 
-    now : (x : Place) → HasCall ms x → had_call (v x).channel.state ≡ true
+    now : (x : SwitchChannel) → HasCall ms x → had_call (v x).channel.state ≡ true
     now x c = ap (λ (s : Shown). had_call s.channel.state) (sym (reached_world ls ms w v h.reached i.world x c.channel c.there).shown) ∙ c.call
 
-    there : (x : Place) → HasCall ms x → is_some (shown_at (layers_of ls) x) ≡ true
+    there : (x : SwitchChannel) → HasCall ms x → is_some (shown_at (layers_of ls) x) ≡ true
     there x c = sym (reached_there ls ms w v h.reached x) ∙ ap (λ (o : Option Shown). is_some o) c.there
 
     -- one that had a call is joined
-    before : (x : Place) → HasCall ms x → had_call (w x).channel.state ≡ true → is_some (joined_at ms x) ≡ true
+    before : (x : SwitchChannel) → HasCall ms x → had_call (w x).channel.state ≡ true → is_some (joined_at ms x) ≡ true
     before x c e =
         let s = some_there (shown_at (layers_of ls) x) (there x c) in
         ap (λ (o : Option Joined). is_some o) (h.joined x)
         ∙ all x (record { channel = s.0; there = s.1; call = ap (λ (t : Shown). had_call t.channel.state) (i.world x s.0 s.1).shown ∙ e })
 
-    same : (x : Place) → HasCall ms x → v x ≡ w x → is_some (joined_at ms x) ≡ true
+    same : (x : SwitchChannel) → HasCall ms x → v x ≡ w x → is_some (joined_at ms x) ≡ true
     same x c e = before x c (ap (λ (g : Leg). had_call g.channel.state) (sym e) ∙ now x c)
 
-    apart_of : (d : ℕ) → ((c : ℕ) (g : Leg) → (c == d) ≡ false → f c g ≡ g) → (x : Place) → same_place x (at n d) ≡ false → v x ≡ w x
+    apart_of : (d : ℕ) → ((c : ℕ) (g : Leg) → (c == d) ≡ false → f c g ≡ g) → (x : SwitchChannel) → same_place x (at n d) ≡ false → v x ≡ w x
     apart_of d apart x e = by_line (decided (x.line == n))
       where
         by_line : ((x.line == n) ≡ true) ⊎ ((x.line == n) ≡ false) → v x ≡ w x
@@ -109,11 +109,11 @@ calls_effect n f l ls ms w v notes eff got h i all = by_effect eff
     one_step d st e is apart leg None fd empty some =
         subst (λ (ns : List Note). CallsBefore n ns ms) (sym (empty refl)) (record { calls = λ x c. inl (by_place x c (decided (same_place x (at n d)))); closing = tt; last = tt; places = places })
       where
-        by_place : (x : Place) → HasCall ms x → (same_place x (at n d) ≡ true) ⊎ (same_place x (at n d) ≡ false) → is_some (joined_at ms x) ≡ true
+        by_place : (x : SwitchChannel) → HasCall ms x → (same_place x (at n d) ≡ true) ⊎ (same_place x (at n d) ≡ false) → is_some (joined_at ms x) ≡ true
         by_place x c (inr g) = same x c (apart_of d apart x g)
         by_place x c (inl t) =
             let gone : shown_at (layers_of ls) (at n d) ≡ None = ap (λ (o : Option Layer). shown_on o d) got ∙ ap (λ (o : Option Channel). shown_as l o) fd in
-            absurd (true≢false (sym (there x c) ∙ ap (λ (o : Option Shown). is_some o) (ap (λ (y : Place). shown_at (layers_of ls) y) (place_is x (at n d) t) ∙ gone)))
+            absurd (true≢false (sym (there x c) ∙ ap (λ (o : Option Shown). is_some o) (ap (λ (y : SwitchChannel). shown_at (layers_of ls) y) (place_is x (at n d) t) ∙ gone)))
     one_step d st e is apart leg (Some ch) fd empty some =
         subst (λ (ns : List Note). CallsBefore n ns ms) (sym notes_are) (record {
           calls = λ x c. by_place x c (decided (same_place x p));
@@ -122,7 +122,7 @@ calls_effect n f l ls ms w v notes eff got h i all = by_effect eff
           places = places;
         })
       where
-        p : Place
+        p : SwitchChannel
         p = at n d
 
         shown_p : shown_at (layers_of ls) p ≡ Some (seen l ch)
@@ -143,17 +143,17 @@ calls_effect n f l ls ms w v notes eff got h i all = by_effect eff
         at_p : HasCall ms p → (is_some (joined_at ms p) ≡ true) ⊎ Arrives n (st (shown_of (w p))).notes p
         at_p c = elim ((is.calls n (shown_of (w p))).begins (stepped_call c)) [ inl old ↦ inl (before p c old) | inr a ↦ inr a ]
 
-        by_place : (x : Place) → HasCall ms x → (same_place x p ≡ true) ⊎ (same_place x p ≡ false) → (is_some (joined_at ms x) ≡ true) ⊎ Arrives n (st (shown_of (w p))).notes x
+        by_place : (x : SwitchChannel) → HasCall ms x → (same_place x p ≡ true) ⊎ (same_place x p ≡ false) → (is_some (joined_at ms x) ≡ true) ⊎ Arrives n (st (shown_of (w p))).notes x
         by_place x c (inr g) = inl (same x c (apart_of d apart x g))
         by_place x c (inl t) =
             let e = place_is x p t in
-            subst (λ (y : Place). (is_some (joined_at ms y) ≡ true) ⊎ Arrives n (st (shown_of (w p))).notes y) (sym e) (at_p (subst (λ (y : Place). HasCall ms y) e c))
+            subst (λ (y : SwitchChannel). (is_some (joined_at ms y) ≡ true) ⊎ Arrives n (st (shown_of (w p))).notes y) (sym e) (at_p (subst (λ (y : SwitchChannel). HasCall ms y) e c))
 
     by_effect : Effect f l notes → CallsBefore n notes ms
     by_effect (nothing none legs) =
         subst (λ (ns : List Note). CallsBefore n ns ms) (sym none) (record { calls = λ x c. inl (same x c (by_line x (decided (x.line == n)))); closing = tt; last = tt; places = places })
       where
-        by_line : (x : Place) → ((x.line == n) ≡ true) ⊎ ((x.line == n) ≡ false) → v x ≡ w x
+        by_line : (x : SwitchChannel) → ((x.line == n) ≡ true) ⊎ ((x.line == n) ≡ false) → v x ≡ w x
         by_line x (inl t) = h.here x t ∙ legs x.channel (w x)
         by_line x (inr g) = h.elsewhere x g
     by_effect (closes_all reason is legs) =
@@ -164,10 +164,10 @@ calls_effect n f l ls ms w v notes eff got h i all = by_effect eff
           places = places;
         })
       where
-        no_call : (x : Place) → HasCall ms x → (x.line == n) ≡ true → ⊥
+        no_call : (x : SwitchChannel) → HasCall ms x → (x.line == n) ≡ true → ⊥
         no_call x c t = true≢false (sym (now x c) ∙ ap (λ (g : Leg). had_call g.channel.state) (h.here x t ∙ legs x.channel (w x)))
 
-        by_line : (x : Place) → HasCall ms x → ((x.line == n) ≡ true) ⊎ ((x.line == n) ≡ false) → is_some (joined_at ms x) ≡ true
+        by_line : (x : SwitchChannel) → HasCall ms x → ((x.line == n) ≡ true) ⊎ ((x.line == n) ≡ false) → is_some (joined_at ms x) ≡ true
         by_line x c (inl t) = absurd (no_call x c t)
         by_line x c (inr g) = same x c (h.elsewhere x g)
     by_effect (on_one d st e is apart leg empty some) = one_step d st e is apart leg (channel_of l d) refl empty some

@@ -15,8 +15,8 @@ use Rattle.packet_laws.proofs.Line.Lines.{nth_same, nth_other}
 use Rattle.packet_end.specs.PacketEnd.{PacketEnd, relinked, with_next, offered, all_offered, settled}
 use Rattle.address_routes.specs.Routes.{RouteMap}
 use Rattle.switch_lines.specs.Direction.{carried_by, request_for}
-use Rattle.switch_lines.specs.declared.place.Place.{Place}
-use Rattle.switch_lines.specs.declared.place.Joined.{Joined}
+use Rattle.switch_lines.specs.declared.channels.SwitchChannel.{SwitchChannel}
+use Rattle.switch_lines.specs.declared.channels.Joined.{Joined}
 use Rattle.switch_lines.specs.Lines.{SwitchLine, changed, joined_on, joined_at, ask, front_at, refusal_at}
 use Rattle.switch_lines.specs.Relay.{moved, moved_unless, moved_front, moved_joined, relayed, relayed_from, places_first, relayed_first}
 use Rattle.switch_lines.specs.Switch.{with_end, acted, to_relink, relinked_at, all_relinked, may_offer, offering_from, offered_from, rounds, all_offered_on, lines_first, finished}
@@ -33,26 +33,26 @@ use Rattle.switch_laws.proofs.Joining.{acted_calls}
 
 -- ---- relays
 
-unless_keeps : (r : Option Refusal) (t : Taken) (q : Place) (k : Joined) (ls : List SwitchLine) → Keeps ls (moved_unless r t q k ls)
+unless_keeps : (r : Option Refusal) (t : Taken) (q : SwitchChannel) (k : Joined) (ls : List SwitchLine) → Keeps ls (moved_unless r t q k ls)
 unless_keeps (Some r) t q k ls = keeps_same ls
 unless_keeps None t q k ls =
     let l1 = ask q Taking ls in
     let l2 = ask k.other (request_for t) l1 in
     keeps_then ls l1 _ (keeps_asked q Taking ls) (keeps_then l1 l2 _ (keeps_asked k.other (request_for t) l1) (keeps_freed q k (carried_by t k.kept) l2))
 
-front_keeps : (o : Option Taken) (q : Place) (k : Joined) (ls : List SwitchLine) → Keeps ls (moved_front o q k ls)
+front_keeps : (o : Option Taken) (q : SwitchChannel) (k : Joined) (ls : List SwitchLine) → Keeps ls (moved_front o q k ls)
 front_keeps None q k ls = keeps_same ls
 front_keeps (Some t) q k ls = unless_keeps (refusal_at ls k.other (request_for t)) t q k ls
 
-moved_keeps : (o : Option Joined) (q : Place) (ls : List SwitchLine) → Keeps ls (moved_joined o q ls)
+moved_keeps : (o : Option Joined) (q : SwitchChannel) (ls : List SwitchLine) → Keeps ls (moved_joined o q ls)
 moved_keeps None q ls = keeps_same ls
 moved_keeps (Some k) q ls = front_keeps (front_at ls q) q k ls
 
-relayed_keeps : (most : ℕ) (q : Place) (ls : List SwitchLine) → Keeps ls (relayed most q ls)
+relayed_keeps : (most : ℕ) (q : SwitchChannel) (ls : List SwitchLine) → Keeps ls (relayed most q ls)
 relayed_keeps zero q ls = keeps_same ls
 relayed_keeps (suc most) q ls = keeps_then ls (moved q ls) _ (moved_keeps (joined_at ls q) q ls) (relayed_keeps most q (moved q ls))
 
-from_keeps : (qs : List Place) (ls : List SwitchLine) → Keeps ls (relayed_from qs ls)
+from_keeps : (qs : List SwitchChannel) (ls : List SwitchLine) → Keeps ls (relayed_from qs ls)
 from_keeps [] ls = keeps_same ls
 from_keeps (q ∷ qs) ls = keeps_then ls (relayed 8 q ls) _ (relayed_keeps 8 q ls) (from_keeps qs (relayed 8 q ls))
 
@@ -126,7 +126,7 @@ given_keeps n ls = record {
     layers : layers_of (changed n given ls) ≡ changed n (λ l. (next_packet l).layer) (layers_of ls)
     layers = map_changed (λ l. l.end.layer) given (λ l. (next_packet l).layer) n ls (λ l. refl)
 
-    by_line : (x : Place) → HasCall (changed n given ls) x → ((x.line == n) ≡ true) ⊎ ((x.line == n) ≡ false) → HasCall ls x
+    by_line : (x : SwitchChannel) → HasCall (changed n given ls) x → ((x.line == n) ≡ true) ⊎ ((x.line == n) ≡ false) → HasCall ls x
     by_line x h (inr f) = record {
       channel = h.channel;
       there = sym (ap (λ (o : Option Layer). shown_on o x.channel) (get_unchanged n x.line (λ l. (next_packet l).layer) (layers_of ls) (not_equal x.line n f))) ∙ (sym (ap (λ (ys : List Layer). shown_at ys x) layers) ∙ h.there);

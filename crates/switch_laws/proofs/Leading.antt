@@ -11,8 +11,8 @@ use Rattle.packet_layer.specs.Channel.Request.{Resetting}
 use Rattle.address_routes.specs.Routes.{RouteMap}
 use Rattle.switch_lines.specs.Direction.{request_for}
 use Rattle.switch_lines.specs.Causes.{reset_cause, far_diagnostic}
-use Rattle.switch_lines.specs.declared.place.Place.{Place}
-use Rattle.switch_lines.specs.declared.place.Joined.{Joined}
+use Rattle.switch_lines.specs.declared.channels.SwitchChannel.{SwitchChannel}
+use Rattle.switch_lines.specs.declared.channels.Joined.{Joined}
 use Rattle.switch_lines.specs.Lines.{SwitchLine, changed, joined_at, ask, front_at, refusal_at}
 use Rattle.switch_lines.specs.Relay.{moved, moved_unless, moved_front, moved_joined, relayed, relayed_from, places_first, relayed_first, told_joined, told_of, kept_anew, covered_on}
 use Rattle.switch_lines.specs.Switch.{Answer, answer, answered, heed, heed_all, notes_of, with_end, quieted, acted, to_relink, relinked_at, all_relinked, may_offer, offering_from, offered_from, rounds, lines_first, finished, all_begun}
@@ -40,23 +40,23 @@ acts_lead (a ∷ as_) bs ls ms e =
 
 -- ---- relay
 
-moved_unless_leads : (o : Option Refusal) (t : Taken) (p : Place) (j : Joined) (ls : List SwitchLine) → Leads (moved_unless_steps o t p j) ls (moved_unless o t p j ls)
+moved_unless_leads : (o : Option Refusal) (t : Taken) (p : SwitchChannel) (j : Joined) (ls : List SwitchLine) → Leads (moved_unless_steps o t p j) ls (moved_unless o t p j ls)
 moved_unless_leads None t p j ls = refl
 moved_unless_leads (Some r) t p j ls = refl
 
-moved_front_leads : (o : Option Taken) (p : Place) (j : Joined) (ls : List SwitchLine) → Leads (moved_front_steps o p j ls) ls (moved_front o p j ls)
+moved_front_leads : (o : Option Taken) (p : SwitchChannel) (j : Joined) (ls : List SwitchLine) → Leads (moved_front_steps o p j ls) ls (moved_front o p j ls)
 moved_front_leads None p j ls = refl
 moved_front_leads (Some t) p j ls = moved_unless_leads (refusal_at ls j.other (request_for t)) t p j ls
 
-pub moved_leads : (o : Option Joined) (p : Place) (ls : List SwitchLine) → Leads (moved_joined_steps o p ls) ls (moved_joined o p ls)
+pub moved_leads : (o : Option Joined) (p : SwitchChannel) (ls : List SwitchLine) → Leads (moved_joined_steps o p ls) ls (moved_joined o p ls)
 moved_leads None p ls = refl
 moved_leads (Some j) p ls = moved_front_leads (front_at ls p) p j ls
 
-pub relayed_leads : (most : ℕ) (p : Place) (ls : List SwitchLine) → Leads (relayed_steps most p ls) ls (relayed most p ls)
+pub relayed_leads : (most : ℕ) (p : SwitchChannel) (ls : List SwitchLine) → Leads (relayed_steps most p ls) ls (relayed most p ls)
 relayed_leads zero p ls = refl
 relayed_leads (suc most) p ls = leads_then (moved_joined_steps (joined_at ls p) p ls) (relayed_steps most p (moved p ls)) ls (moved p ls) _ (moved_leads (joined_at ls p) p ls) (relayed_leads most p (moved p ls))
 
-from_leads : (ps : List Place) (ls : List SwitchLine) → Leads (relayed_from_steps ps ls) ls (relayed_from ps ls)
+from_leads : (ps : List SwitchChannel) (ls : List SwitchLine) → Leads (relayed_from_steps ps ls) ls (relayed_from ps ls)
 from_leads [] ls = refl
 from_leads (p ∷ ps) ls = leads_then (relayed_steps 8 p ls) (relayed_from_steps ps (relayed 8 p ls)) ls (relayed 8 p ls) _ (relayed_leads 8 p ls) (from_leads ps (relayed 8 p ls))
 
@@ -65,15 +65,15 @@ relayed_first_leads first ls = from_leads (places_first first ls) ls
 
 -- ---- notes
 
-anew_leads : (o : Option Joined) (p : Place) (ls : List SwitchLine) → Leads (anew_steps o p) ls (kept_anew o p ls)
+anew_leads : (o : Option Joined) (p : SwitchChannel) (ls : List SwitchLine) → Leads (anew_steps o p) ls (kept_anew o p ls)
 anew_leads None p ls = refl
 anew_leads (Some j) p ls = refl
 
-covered_leads : (n : ℕ) (o : Option Joined) (p : Place) (ls : List SwitchLine) → Leads (covered_steps n o p) ls (covered_on n o p ls)
+covered_leads : (n : ℕ) (o : Option Joined) (p : SwitchChannel) (ls : List SwitchLine) → Leads (covered_steps n o p) ls (covered_on n o p ls)
 covered_leads n None p ls = refl
 covered_leads n (Some j) p ls = refl
 
-joined_leads : (note : Note) (p : Place) (j : Joined) (ls : List SwitchLine) → Leads (told_joined_steps note p j ls) ls (told_joined note p j ls)
+joined_leads : (note : Note) (p : SwitchChannel) (j : Joined) (ls : List SwitchLine) → Leads (told_joined_steps note p j ls) ls (told_joined note p j ls)
 joined_leads (Incoming c parts) p j ls = refl
 joined_leads (Connected c) p j ls = refl
 joined_leads (Closed c cause diagnostic reason) p j ls = refl
@@ -82,11 +82,11 @@ joined_leads (WasReset c cause diagnostic reason) p j ls =
 joined_leads (InterruptConfirmed c) p j ls = refl
 joined_leads (Covered c n) p j ls = covered_leads n (joined_at ls j.other) j.other ls
 
-pub told_leads : (o : Option Joined) (note : Note) (p : Place) (ls : List SwitchLine) → Leads (told_steps o note p ls) ls (told_of o note p ls)
+pub told_leads : (o : Option Joined) (note : Note) (p : SwitchChannel) (ls : List SwitchLine) → Leads (told_steps o note p ls) ls (told_of o note p ls)
 told_leads None note p ls = refl
 told_leads (Some j) note p ls = joined_leads note p j ls
 
-answered_leads : (a : Answer) (p : Place) (parts : CallParts) (ls : List SwitchLine) → Leads (answered_steps a p parts ls) ls (answered a p parts ls)
+answered_leads : (a : Answer) (p : SwitchChannel) (parts : CallParts) (ls : List SwitchLine) → Leads (answered_steps a p parts ls) ls (answered a p parts ls)
 answered_leads (Clears cause) p parts ls = refl
 answered_leads (Joins q) p parts ls = refl
 

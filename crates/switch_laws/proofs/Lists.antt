@@ -2,7 +2,7 @@
 use Rattle.std.proofs.Common.{◌≡◌, ℕ, zero, suc, ◌⊎◌, inl, inr, Bool, true, false, ◌&&◌, ◌==◌, List, [], ◌∷◌, map, refl, sym, ap, ap₂, subst, ◌∙◌, true≢false, option_map}
 use Rattle.std.specs.Prelude.{slice_get}
 use Rattle.std.proofs.lemmas.Bool.{eqb-true, eq-eqb}
-use Rattle.switch_lines.specs.declared.place.Place.{Place}
+use Rattle.switch_lines.specs.declared.channels.SwitchChannel.{SwitchChannel}
 use Rattle.switch_lines.specs.Lines.{same_place, changed}
 
 pub get_changed : {X : Type 0} (n : ℕ) (f : X → X) (xs : List X) → slice_get (changed n f xs) n ≡ option_map f (slice_get xs n)
@@ -46,19 +46,19 @@ not_equal a b f e = true≢false (sym (eq-eqb a b e) ∙ f)
 
 -- ---- places
 
-pub place_is : (p q : Place) → same_place p q ≡ true → p ≡ q
+pub place_is : (p q : SwitchChannel) → same_place p q ≡ true → p ≡ q
 place_is p q e =
     let b = and_both (p.line == q.line) (p.channel == q.channel) e in
     ap₂ (λ (l c : ℕ). record { line = l; channel = c }) (eqb-true p.line q.line b.0) (eqb-true p.channel q.channel b.1)
 
-pub same_as : (p q : Place) → p ≡ q → same_place p q ≡ true
-same_as p q e = subst (λ (r : Place). same_place p r ≡ true) e (itself p)
+pub same_as : (p q : SwitchChannel) → p ≡ q → same_place p q ≡ true
+same_as p q e = subst (λ (r : SwitchChannel). same_place p r ≡ true) e (itself p)
   where
-    itself : (p : Place) → same_place p p ≡ true
+    itself : (p : SwitchChannel) → same_place p p ≡ true
     itself p = ap₂ (λ (a b : Bool). a && b) (eq-eqb p.line p.line refl) (eq-eqb p.channel p.channel refl)
 
 -- two places differ by their line or by their channel
-pub apart_by : (p q : Place) → same_place p q ≡ false → (p.line ≡ q.line → ⊥) ⊎ ((p.line ≡ q.line) × (p.channel ≡ q.channel → ⊥))
+pub apart_by : (p q : SwitchChannel) → same_place p q ≡ false → (p.line ≡ q.line → ⊥) ⊎ ((p.line ≡ q.line) × (p.channel ≡ q.channel → ⊥))
 apart_by p q e = by_line (decided (p.line == q.line))
   where
     by_line : ((p.line == q.line) ≡ true) ⊎ ((p.line == q.line) ≡ false) → (p.line ≡ q.line → ⊥) ⊎ ((p.line ≡ q.line) × (p.channel ≡ q.channel → ⊥))

@@ -12,11 +12,11 @@ use Rattle.packet_layer.specs.Layer.{Layer, channel_of, closing_notes, unread}
 use Rattle.address_routes.specs.Routes.{RouteMap}
 use Rattle.lapb.specs.Machine.{Octets}
 use Rattle.lapb.specs.Octets as link_octets
-use Rattle.switch_lines.specs.declared.place.Place.{Place}
+use Rattle.switch_lines.specs.declared.channels.SwitchChannel.{SwitchChannel}
 use Rattle.switch_lines.specs.Lines.{SwitchLine, changed}
 use Rattle.switch_lines.specs.Switch.{Switch, Answer, answer, heed, notes_of, with_end, without_notes, quieted, all_begun}
 use Rattle.switch_lines.specs.Switch.Answer.{Clears, Joins}
-use Rattle.switch_lines.specs.declared.place.NewJoin.{NewJoin}
+use Rattle.switch_lines.specs.declared.channels.NewJoin.{NewJoin}
 use Rattle.switch_lines.specs.NewJoins.{join_of, joins_of_notes, new_joins}
 use Rattle.switch_laws.specs.Leg.{Leg}
 use Rattle.packet_laws.specs.Readable.{AreOctets}
@@ -34,7 +34,7 @@ use Rattle.switch_laws.proofs.Finishing.{begun_line, readable}
 abbrev Single : List NewJoin → Type 0
 Single js = option_to_list (slice_get js 0) ≡ js
 
-single_answer : (a : Answer) (p : Place) → Single (join_of a p ++ [])
+single_answer : (a : Answer) (p : SwitchChannel) → Single (join_of a p ++ [])
 single_answer (Clears cause) p = refl
 single_answer (Joins q) p = refl
 

@@ -17,8 +17,8 @@ use Rattle.packet_end.specs.PacketEnd.{PacketEnd, received, after_timer, relinke
 use Rattle.address_routes.specs.Routes.{RouteMap}
 use Rattle.switch_lines.specs.Direction.{Direction, new_direction, releasable, released, carried_by, covered_by, request_for}
 use Rattle.switch_lines.specs.Causes.{reset_cause, clear_cause, far_diagnostic}
-use Rattle.switch_lines.specs.declared.place.Place.{Place}
-use Rattle.switch_lines.specs.declared.place.Joined.{Joined}
+use Rattle.switch_lines.specs.declared.channels.SwitchChannel.{SwitchChannel}
+use Rattle.switch_lines.specs.declared.channels.Joined.{Joined}
 use Rattle.switch_lines.specs.Lines.{SwitchLine, changed, flat, nth_joined, joined_on, joined_at, with_nth_joined, with_joined, ask, front_at, refusal_at}
 use Rattle.switch_lines.specs.Relay.{with_kept, freed, moved, moved_unless, moved_front, moved_joined, relayed, relayed_from, places_first, relayed_first, kept_anew, covered_on, told_joined, told_of}
 use Rattle.switch_lines.specs.Switch.{Switch, Answer, answer, answered, forwarded, place_call, heed, heed_all, with_end, notes_of, without_notes, quieted, acted, to_relink, relinked_at, all_relinked, may_offer, offering_from, offered_from, rounds, lines_first, finished, all_begun, on_frame, on_expiry}
@@ -31,7 +31,7 @@ use Rattle.switch_laws.proofs.Keeping.{joined_on_ends}
 
 -- each join was there before
 abbrev From : (ls ms : List SwitchLine) → Type 0
-From ls ms = (p : Place) (j : Joined) → joined_at ms p ≡ Some j → WasJoined ls p j
+From ls ms = (p : SwitchChannel) (j : Joined) → joined_at ms p ≡ Some j → WasJoined ls p j
 
 from_same : (ls : List SwitchLine) → From ls ls
 from_same ls p j e = record { old = j; joined = e; other = refl; came_in = refl }
@@ -81,7 +81,7 @@ line_cases (l ∷ ls) (suc n) (suc m) c d o j e = next (line_cases ls n m c d o 
     next (inr h) = inr h
 
 -- a join at x after p is joined, or its join ended: it is that one, or was there
-place_cases : (p x : Place) (o : Option Joined) (ls : List SwitchLine) (j : Joined) → joined_at (with_joined p o ls) x ≡ Some j → ((x ≡ p) × (o ≡ Some j)) ⊎ (joined_at ls x ≡ Some j)
+place_cases : (p x : SwitchChannel) (o : Option Joined) (ls : List SwitchLine) (j : Joined) → joined_at (with_joined p o ls) x ≡ Some j → ((x ≡ p) × (o ≡ Some j)) ⊎ (joined_at ls x ≡ Some j)
 place_cases p x o ls j e = next (line_cases ls p.line x.line p.channel x.channel o j e)
   where
     next : ((x.line ≡ p.line) × ((x.channel ≡ p.channel) × (o ≡ Some j))) ⊎ (joined_at ls x ≡ Some j) → ((x ≡ p) × (o ≡ Some j)) ⊎ (joined_at ls x ≡ Some j)
@@ -90,29 +90,29 @@ place_cases p x o ls j e = next (line_cases ls p.line x.line p.channel x.channel
 
 -- ---- what leaves joins between the same channels
 
-from_ended : (p : Place) (ls ms : List SwitchLine) → From ls ms → From ls (with_joined p None ms)
+from_ended : (p : SwitchChannel) (ls ms : List SwitchLine) → From ls ms → From ls (with_joined p None ms)
 from_ended p ls ms f x j e = next (place_cases p x None ms j e)
   where
     next : ((x ≡ p) × (None ≡ Some j)) ⊎ (joined_at ms x ≡ Some j) → WasJoined ls x j
     next (inl h) = absurd (none-some j h.1)
     next (inr h) = f x j h
 
-from_kept : (p : Place) (k : Joined) (v : Direction) (ls ms : List SwitchLine) → joined_at ls p ≡ Some k → From ls ms → From ls (with_kept p k v ms)
+from_kept : (p : SwitchChannel) (k : Joined) (v : Direction) (ls ms : List SwitchLine) → joined_at ls p ≡ Some k → From ls ms → From ls (with_kept p k v ms)
 from_kept p k v ls ms at f x j e = next (place_cases p x (Some (record k { kept = v })) ms j e)
   where
     next : ((x ≡ p) × (Some (record k { kept = v }) ≡ Some j)) ⊎ (joined_at ms x ≡ Some j) → WasJoined ls x j
     next (inl h) =
         let is = same_Some _ j h.1 in
-        record { old = k; joined = ap (λ (y : Place). joined_at ls y) h.0 ∙ at; other = ap (λ (y : Joined). y.other) is; came_in = ap (λ (y : Joined). y.came_in) is }
+        record { old = k; joined = ap (λ (y : SwitchChannel). joined_at ls y) h.0 ∙ at; other = ap (λ (y : Joined). y.other) is; came_in = ap (λ (y : Joined). y.came_in) is }
     next (inr h) = f x j h
 
 from_changed : (n : ℕ) (g : SwitchLine → SwitchLine) (ls ms : List SwitchLine) → ((l : SwitchLine) → (g l).joined ≡ l.joined) → From ls ms → From ls (changed n g ms)
 from_changed n g ls ms same f x j e = f x j (sym (joined_kept n x.line x.channel g ms same) ∙ e)
 
-from_asked : (p : Place) (q : Request) (ls ms : List SwitchLine) → From ls ms → From ls (ask p q ms)
+from_asked : (p : SwitchChannel) (q : Request) (ls ms : List SwitchLine) → From ls ms → From ls (ask p q ms)
 from_asked p q ls ms f = from_changed p.line _ ls ms (λ l. refl) f
 
-from_freed : (p : Place) (k : Joined) (v : Direction) (ls ms : List SwitchLine) → joined_at ls p ≡ Some k → From ls ms → From ls (freed p k v ms)
+from_freed : (p : SwitchChannel) (k : Joined) (v : Direction) (ls ms : List SwitchLine) → joined_at ls p ≡ Some k → From ls ms → From ls (freed p k v ms)
 from_freed p k v ls ms at f = from_kept p k (released v) ls (ask p (Releasing (releasable v.held)) ms) at (from_asked p (Releasing (releasable v.held)) ls ms f)
 
 from_ends : (g : PacketEnd → PacketEnd) (ls ms : List SwitchLine) → From ls ms → From ls (map (with_end g) ms)
@@ -120,24 +120,24 @@ from_ends g ls ms f x j e = f x j (sym (joined_on_ends g ms x.line x.channel) �
 
 -- ---- relay and rounds
 
-from_unless : (r : Option Refusal) (t : Taken) (p : Place) (j : Joined) (ls : List SwitchLine) → joined_at ls p ≡ Some j → From ls (moved_unless r t p j ls)
+from_unless : (r : Option Refusal) (t : Taken) (p : SwitchChannel) (j : Joined) (ls : List SwitchLine) → joined_at ls p ≡ Some j → From ls (moved_unless r t p j ls)
 from_unless (Some r) t p j ls at = from_same ls
 from_unless None t p j ls at =
     from_freed p j (carried_by t j.kept) ls (ask j.other (request_for t) (ask p Taking ls)) at (from_asked j.other (request_for t) ls (ask p Taking ls) (from_asked p Taking ls ls (from_same ls)))
 
-from_front : (o : Option Taken) (p : Place) (j : Joined) (ls : List SwitchLine) → joined_at ls p ≡ Some j → From ls (moved_front o p j ls)
+from_front : (o : Option Taken) (p : SwitchChannel) (j : Joined) (ls : List SwitchLine) → joined_at ls p ≡ Some j → From ls (moved_front o p j ls)
 from_front None p j ls at = from_same ls
 from_front (Some t) p j ls at = from_unless (refusal_at ls j.other (request_for t)) t p j ls at
 
-from_moved : (o : Option Joined) (p : Place) (ls : List SwitchLine) → joined_at ls p ≡ o → From ls (moved_joined o p ls)
+from_moved : (o : Option Joined) (p : SwitchChannel) (ls : List SwitchLine) → joined_at ls p ≡ o → From ls (moved_joined o p ls)
 from_moved None p ls at = from_same ls
 from_moved (Some j) p ls at = from_front (front_at ls p) p j ls at
 
-from_relayed : (most : ℕ) (p : Place) (ls : List SwitchLine) → From ls (relayed most p ls)
+from_relayed : (most : ℕ) (p : SwitchChannel) (ls : List SwitchLine) → From ls (relayed most p ls)
 from_relayed zero p ls = from_same ls
 from_relayed (suc most) p ls = from_then ls (moved p ls) (relayed most p (moved p ls)) (from_moved (joined_at ls p) p ls refl) (from_relayed most p (moved p ls))
 
-from_places : (ps : List Place) (ls : List SwitchLine) → From ls (relayed_from ps ls)
+from_places : (ps : List SwitchChannel) (ls : List SwitchLine) → From ls (relayed_from ps ls)
 from_places [] ls = from_same ls
 from_places (p ∷ ps) ls = from_then ls (relayed 8 p ls) (relayed_from ps (relayed 8 p ls)) (from_relayed 8 p ls) (from_places ps (relayed 8 p ls))
 
@@ -162,15 +162,15 @@ from_rounds (suc most) first ls =
 
 -- ---- what is told
 
-from_anew : (o : Option Joined) (p : Place) (ls ms : List SwitchLine) → joined_at ls p ≡ o → From ls ms → From ls (kept_anew o p ms)
+from_anew : (o : Option Joined) (p : SwitchChannel) (ls ms : List SwitchLine) → joined_at ls p ≡ o → From ls ms → From ls (kept_anew o p ms)
 from_anew None p ls ms at f = f
 from_anew (Some j) p ls ms at f = from_kept p j new_direction ls ms at f
 
-from_covered : (n : ℕ) (o : Option Joined) (p : Place) (ls : List SwitchLine) → joined_at ls p ≡ o → From ls (covered_on n o p ls)
+from_covered : (n : ℕ) (o : Option Joined) (p : SwitchChannel) (ls : List SwitchLine) → joined_at ls p ≡ o → From ls (covered_on n o p ls)
 from_covered n None p ls at = from_same ls
 from_covered n (Some j) p ls at = from_freed p j (covered_by n j.kept) ls ls at (from_same ls)
 
-from_told : (note : Note) (p : Place) (j : Joined) (ls : List SwitchLine) → joined_at ls p ≡ Some j → From ls (told_joined note p j ls)
+from_told : (note : Note) (p : SwitchChannel) (j : Joined) (ls : List SwitchLine) → joined_at ls p ≡ Some j → From ls (told_joined note p j ls)
 from_told (Connected c) p j ls at = from_asked j.other Accept ls ls (from_same ls)
 from_told (Closed c cause diagnostic reason) p j ls at =
     from_asked j.other (Clearing (clear_cause reason cause) (far_diagnostic reason diagnostic)) ls (with_joined j.other None (with_joined p None ls))
@@ -182,13 +182,13 @@ from_told (InterruptConfirmed c) p j ls at = from_asked j.other Confirming ls ls
 from_told (Covered c n) p j ls at = from_covered n (joined_at ls j.other) j.other ls refl
 from_told (Incoming c parts) p j ls at = from_same ls
 
-from_told_of : (o : Option Joined) (note : Note) (p : Place) (ls : List SwitchLine) → joined_at ls p ≡ o → From ls (told_of o note p ls)
+from_told_of : (o : Option Joined) (note : Note) (p : SwitchChannel) (ls : List SwitchLine) → joined_at ls p ≡ o → From ls (told_of o note p ls)
 from_told_of None note p ls at = from_same ls
 from_told_of (Some j) note p ls at = from_told note p j ls at
 
 -- ---- a call that comes in
 
-abbrev at : (line channel : ℕ) → Place
+abbrev at : (line channel : ℕ) → SwitchChannel
 at n c = record { line = n; channel = c }
 
 answered_joins : (a : Answer) (routes : RouteMap) (n c : ℕ) (parts : CallParts) (ls : List SwitchLine) → answer routes ls parts ≡ a
@@ -196,7 +196,7 @@ answered_joins : (a : Answer) (routes : RouteMap) (n c : ℕ) (parts : CallParts
 answered_joins (Clears cause) routes n c parts ls is x j e = inl (from_asked (at n c) (Clearing cause no_information) ls ls (from_same ls) x j e)
 answered_joins (Joins q) routes n c parts ls is x j e = outer (place_cases q x _ _ j e)
   where
-    p : Place
+    p : SwitchChannel
     p = at n c
 
     placed : List SwitchLine
@@ -226,7 +226,7 @@ answered_joins (Joins q) routes n c parts ls is x j e = outer (place_cases q x _
           parts = parts;
           noted = inl refl;
           came_on = ap (λ (y : Joined). caller x y) (sym k);
-          route = joins_by_route routes ls parts q is ∙ ap (λ (y : Place). Some y.line) (sym h.0) ∙ ap (λ (y : Joined). Some (callee x y).line) k;
+          route = joins_by_route routes ls parts q is ∙ ap (λ (y : SwitchChannel). Some y.line) (sym h.0) ∙ ap (λ (y : Joined). Some (callee x y).line) k;
         })
     outer (inr h) = inner (place_cases p x there placed j h)
 
@@ -241,16 +241,16 @@ heed_joins routes n (Covered c k) ls x j e = inl (from_told_of (joined_at ls (at
 -- ---- all notes
 
 -- a new join as it is later
-later : (routes : RouteMap) (n : ℕ) (notes : List Note) (p : Place) (old j : Joined) → old.other ≡ j.other → old.came_in ≡ j.came_in → IsNewJoin routes n notes p old → IsNewJoin routes n notes p j
+later : (routes : RouteMap) (n : ℕ) (notes : List Note) (p : SwitchChannel) (old j : Joined) → old.other ≡ j.other → old.came_in ≡ j.came_in → IsNewJoin routes n notes p old → IsNewJoin routes n notes p j
 later routes n notes p old j other came_in h = record {
   channel = h.channel;
   parts = h.parts;
   noted = h.noted;
-  came_on = ap₂ (λ (b : Bool) (q : Place). if b then p else q) (sym came_in) (sym other) ∙ h.came_on;
-  route = h.route ∙ ap₂ (λ (b : Bool) (q : Place). Some (if b then q else p).line) came_in other;
+  came_on = ap₂ (λ (b : Bool) (q : SwitchChannel). if b then p else q) (sym came_in) (sym other) ∙ h.came_on;
+  route = h.route ∙ ap₂ (λ (b : Bool) (q : SwitchChannel). Some (if b then q else p).line) came_in other;
 }
 
-first_noted : (routes : RouteMap) (n : ℕ) (note : Note) (more : List Note) (p : Place) (j : Joined) → IsNewJoin routes n (note ∷ []) p j → IsNewJoin routes n (note ∷ more) p j
+first_noted : (routes : RouteMap) (n : ℕ) (note : Note) (more : List Note) (p : SwitchChannel) (j : Joined) → IsNewJoin routes n (note ∷ []) p j → IsNewJoin routes n (note ∷ more) p j
 first_noted routes n note more p j h = record { channel = h.channel; parts = h.parts; noted = first h.noted; came_on = h.came_on; route = h.route }
   where
     first : (note ≡ Incoming h.channel h.parts) ⊎ ⊥ → IsNoted (note ∷ more) h.channel h.parts

@@ -22,8 +22,8 @@ use Rattle.packet_end.specs.PacketEnd.{PacketEnd, received, heeded, after_packet
 use Rattle.packet_end.proofs.Offering.{silent_all_offered, settled_all_offered}
 use Rattle.address_routes.specs.Routes.{RouteMap}
 use Rattle.switch_lines.specs.Direction.{Direction, releasable}
-use Rattle.switch_lines.specs.declared.place.Place.{Place}
-use Rattle.switch_lines.specs.declared.place.Joined.{Joined}
+use Rattle.switch_lines.specs.declared.channels.SwitchChannel.{SwitchChannel}
+use Rattle.switch_lines.specs.declared.channels.Joined.{Joined}
 use Rattle.switch_lines.specs.Lines.{SwitchLine, changed, joined_at, with_joined}
 use Rattle.switch_lines.specs.Relay.{freed, kept_anew, covered_on, told_joined, told_of}
 use Rattle.switch_lines.specs.Switch.{Switch, Answer, answer, answered, forwarded, place_call, heed, heed_all, with_end, notes_of, without_notes, quieted, acted, to_relink, relinked_at, all_relinked, may_offer, all_offered_on, lines_first, finished, all_begun, on_frame, on_expiry}
@@ -35,18 +35,18 @@ use Rattle.switch_laws.proofs.Rounds.{lines_of, asked_lines, joined_lines, total
 
 -- ---- heeding changes no link
 
-freed_lines : (p : Place) (j : Joined) (v : Direction) (ls : List SwitchLine) → lines_of (freed p j v ls) ≡ lines_of ls
+freed_lines : (p : SwitchChannel) (j : Joined) (v : Direction) (ls : List SwitchLine) → lines_of (freed p j v ls) ≡ lines_of ls
 freed_lines p j v ls = joined_lines p _ _ ∙ asked_lines p (Releasing (releasable v.held)) ls
 
-anew_lines : (o : Option Joined) (p : Place) (ls : List SwitchLine) → lines_of (kept_anew o p ls) ≡ lines_of ls
+anew_lines : (o : Option Joined) (p : SwitchChannel) (ls : List SwitchLine) → lines_of (kept_anew o p ls) ≡ lines_of ls
 anew_lines None p ls = refl
 anew_lines (Some j) p ls = joined_lines p _ ls
 
-covered_lines : (n : ℕ) (o : Option Joined) (p : Place) (ls : List SwitchLine) → lines_of (covered_on n o p ls) ≡ lines_of ls
+covered_lines : (n : ℕ) (o : Option Joined) (p : SwitchChannel) (ls : List SwitchLine) → lines_of (covered_on n o p ls) ≡ lines_of ls
 covered_lines n None p ls = refl
 covered_lines n (Some j) p ls = freed_lines p j _ ls
 
-told_lines : (note : Note) (p : Place) (j : Joined) (ls : List SwitchLine) → lines_of (told_joined note p j ls) ≡ lines_of ls
+told_lines : (note : Note) (p : SwitchChannel) (j : Joined) (ls : List SwitchLine) → lines_of (told_joined note p j ls) ≡ lines_of ls
 told_lines (Connected c) p j ls = asked_lines j.other Accept ls
 told_lines (Closed c cause diagnostic reason) p j ls =
     asked_lines j.other (Clearing _ _) (with_joined j.other None (with_joined p None ls)) ∙ (joined_lines j.other None (with_joined p None ls) ∙ joined_lines p None ls)
@@ -55,11 +55,11 @@ told_lines (InterruptConfirmed c) p j ls = asked_lines j.other Confirming ls
 told_lines (Covered c n) p j ls = covered_lines n (joined_at ls j.other) j.other ls
 told_lines (Incoming c parts) p j ls = refl
 
-told_of_lines : (o : Option Joined) (note : Note) (p : Place) (ls : List SwitchLine) → lines_of (told_of o note p ls) ≡ lines_of ls
+told_of_lines : (o : Option Joined) (note : Note) (p : SwitchChannel) (ls : List SwitchLine) → lines_of (told_of o note p ls) ≡ lines_of ls
 told_of_lines None note p ls = refl
 told_of_lines (Some j) note p ls = told_lines note p j ls
 
-answered_lines : (a : Answer) (p : Place) (parts : CallParts) (ls : List SwitchLine) → lines_of (answered a p parts ls) ≡ lines_of ls
+answered_lines : (a : Answer) (p : SwitchChannel) (parts : CallParts) (ls : List SwitchLine) → lines_of (answered a p parts ls) ≡ lines_of ls
 answered_lines (Clears cause) p parts ls = asked_lines p (Clearing cause _) ls
 answered_lines (Joins q) p parts ls = joined_lines q _ _ ∙ (joined_lines p _ (place_call q.line (forwarded ls p.line parts) ls) ∙ map_unchanged (λ l. l.end.line) _ q.line ls (λ l. refl))
 

@@ -19,8 +19,8 @@ use Rattle.packet_layer.specs.Events.{timer_named}
 use Rattle.packet_laws.specs.Readable.{Every}
 use Rattle.packet_end.specs.PacketEnd.{PacketEnd, runs_at, relinked}
 use Rattle.address_routes.specs.Routes.{RouteMap}
-use Rattle.switch_lines.specs.declared.place.Place.{Place}
-use Rattle.switch_lines.specs.declared.place.Joined.{Joined}
+use Rattle.switch_lines.specs.declared.channels.SwitchChannel.{SwitchChannel}
+use Rattle.switch_lines.specs.declared.channels.Joined.{Joined}
 use Rattle.switch_lines.specs.Lines.{SwitchLine, changed, joined_at}
 use Rattle.switch_lines.specs.Switch.{Switch, Answer, answer, heed, notes_of, with_end, quieted, acted, all_begun, to_relink, raised, relinked_at, all_relinked, relinks_of, lines_first}
 use Rattle.switch_lines.specs.Switch.Answer.{Clears, Joins}
@@ -128,15 +128,15 @@ asking_mild m (Begins ∷ more) ls h = absurd h.0
 asking_mild m (Settles ∷ more) ls h = absurd h.0
 asking_mild m (Elapses ticks ∷ more) ls h = absurd h.0
 
-anew_asks : (o : Option Joined) (p : Place) → Every IsAsking (anew_steps o p)
+anew_asks : (o : Option Joined) (p : SwitchChannel) → Every IsAsking (anew_steps o p)
 anew_asks None p = tt
 anew_asks (Some j) p = (tt, tt)
 
-covered_asks : (n : ℕ) (o : Option Joined) (p : Place) → Every IsAsking (covered_steps n o p)
+covered_asks : (n : ℕ) (o : Option Joined) (p : SwitchChannel) → Every IsAsking (covered_steps n o p)
 covered_asks n None p = tt
 covered_asks n (Some j) p = (tt, (tt, tt))
 
-joined_asks : (note : Note) (p : Place) (j : Joined) (ls : List SwitchLine) → Every IsAsking (told_joined_steps note p j ls)
+joined_asks : (note : Note) (p : SwitchChannel) (j : Joined) (ls : List SwitchLine) → Every IsAsking (told_joined_steps note p j ls)
 joined_asks (Incoming c parts) p j ls = tt
 joined_asks (Connected c) p j ls = (tt, tt)
 joined_asks (Closed c cause diagnostic reason) p j ls = (tt, (tt, (tt, tt)))
@@ -145,11 +145,11 @@ joined_asks (WasReset c cause diagnostic reason) p j ls =
 joined_asks (InterruptConfirmed c) p j ls = (tt, tt)
 joined_asks (Covered c n) p j ls = covered_asks n (joined_at ls j.other) j.other
 
-told_asks : (o : Option Joined) (note : Note) (p : Place) (ls : List SwitchLine) → Every IsAsking (told_steps o note p ls)
+told_asks : (o : Option Joined) (note : Note) (p : SwitchChannel) (ls : List SwitchLine) → Every IsAsking (told_steps o note p ls)
 told_asks None note p ls = tt
 told_asks (Some j) note p ls = joined_asks note p j ls
 
-answered_asks : (a : Answer) (p : Place) (parts : CallParts) (ls : List SwitchLine) → Every IsAsking (answered_steps a p parts ls)
+answered_asks : (a : Answer) (p : SwitchChannel) (parts : CallParts) (ls : List SwitchLine) → Every IsAsking (answered_steps a p parts ls)
 answered_asks (Clears cause) p parts ls = (tt, tt)
 answered_asks (Joins q) p parts ls = (tt, (tt, (tt, tt)))
 

@@ -9,8 +9,8 @@ use Rattle.packet_layer.specs.Channel.CallState.{Ready, OwnWaiting, FarWaiting, 
 use Rattle.packet_layer.specs.Layer.{Layer, Phase, free_channel, channel_given}
 use Rattle.packet_layer.specs.Layer.Phase.{NoSession, OwnRestart, PacketReady}
 use Rattle.address_routes.specs.Routes.{RouteMap, line_for}
-use Rattle.switch_lines.specs.declared.place.Place.{Place}
-use Rattle.switch_lines.specs.declared.place.Joined.{Joined}
+use Rattle.switch_lines.specs.declared.channels.SwitchChannel.{SwitchChannel}
+use Rattle.switch_lines.specs.declared.channels.Joined.{Joined}
 use Rattle.switch_lines.specs.Lines.{SwitchLine, joined_at}
 use Rattle.switch_lines.specs.Switch.{answer, answer_by, answer_on, answer_free, has_any}
 use Rattle.switch_lines.specs.Switch.Answer.{Clears}
@@ -72,7 +72,7 @@ pair_call : (g h : Leg) (j k : Joined) → IsPair g h j k → had_call g.channel
 pair_call g h j k (connected i) = ap (λ (s : CallState). had_call s) i.there.holds.near_call
 pair_call g h j k (waiting a b i) = waiting_call j.came_in g h i
 
-paired : (g h : Leg) (j k : Joined) (p q : Place) → IsPair g h j k ⊎ (⊥ ⊎ ⊥) → IsPair g h j k
+paired : (g h : Leg) (j k : Joined) (p q : SwitchChannel) → IsPair g h j k ⊎ (⊥ ⊎ ⊥) → IsPair g h j k
 paired g h j k p q (inl i) = i
 paired g h j k p q (inr (inl never)) = absurd never
 paired g h j k p q (inr (inr never)) = absurd never
@@ -81,7 +81,7 @@ shown_there : (o : Option Shown) → is_some o ≡ true → (s : Shown) × (o �
 shown_there None e = absurd (true≢false (sym e))
 shown_there (Some s) e = (s, refl)
 
-has_call : (ls : List SwitchLine) (w : World) (p : Place) (j : Joined) → IsSwitch ls w → joined_at ls p ≡ Some j → HasCall ls p
+has_call : (ls : List SwitchLine) (w : World) (p : SwitchChannel) (j : Joined) → IsSwitch ls w → joined_at ls p ≡ Some j → HasCall ls p
 has_call ls w p j i e =
     let k = i.joined p j e in
     let s = shown_there (shown_at (layers_of ls) p) k.there in
@@ -91,14 +91,14 @@ has_call ls w p j i e =
       call = ap (λ (x : Shown). had_call x.channel.state) (i.world p s.0 s.1).shown ∙ pair_call (w p) (w j.other) j k.other (paired (w p) (w j.other) j k.other p j.other k.pair);
     }
 
-have_calls : (ls : List SwitchLine) (w : World) (p : Place) (j : Joined) → IsSwitch ls w → joined_at ls p ≡ Some j → HasCall ls p × HasCall ls j.other
+have_calls : (ls : List SwitchLine) (w : World) (p : SwitchChannel) (j : Joined) → IsSwitch ls w → joined_at ls p ≡ Some j → HasCall ls p × HasCall ls j.other
 have_calls ls w p j i e = let k = i.joined p j e in (has_call ls w p j i e, has_call ls w j.other k.other i k.joined)
 
 joined_there : (o : Option Joined) → is_some o ≡ true → (j : Joined) × (o ≡ Some j)
 joined_there None e = absurd (true≢false (sym e))
 joined_there (Some j) e = (j, refl)
 
-have_partners : (ls : List SwitchLine) (w : World) (p : Place) → IsSwitch ls w → CallsAreJoined ls → HasCall ls p → HasPartner ls p
+have_partners : (ls : List SwitchLine) (w : World) (p : SwitchChannel) → IsSwitch ls w → CallsAreJoined ls → HasCall ls p → HasPartner ls p
 have_partners ls w p i all h =
     let j = joined_there (joined_at ls p) (all p h) in
     let k = i.joined p j.0 j.1 in

@@ -13,8 +13,8 @@ use Rattle.packet_layer.specs.Layer.{Layer, Phase, Timer, Next, nth_channel, cha
 use Rattle.packet_layer.specs.Layer.Phase.{NoSession, OwnRestart, PacketReady}
 use Rattle.packet_layer.specs.Layer.Timer.{RestartTimer, CallTimer, ResetTimer, ClearTimer}
 use Rattle.packet_laws.proofs.Call.Saying.{by_cond}
-use Rattle.switch_lines.specs.declared.place.Place.{Place}
-use Rattle.switch_lines.specs.declared.place.Joined.{Joined}
+use Rattle.switch_lines.specs.declared.channels.SwitchChannel.{SwitchChannel}
+use Rattle.switch_lines.specs.declared.channels.Joined.{Joined}
 use Rattle.switch_lines.specs.Lines.{SwitchLine, same_place, changed, flat, nth_joined, joined_on, joined_at, with_nth_joined, with_joined, ask, front_of_line, refusal_of_line}
 use Rattle.switch_laws.specs.Leg.{asked}
 use Rattle.switch_laws.specs.World.{World, Shown, shown_as, shown_on, shown_at, layers_of, Act, after_act, world_after, layer_after, leg_after, line_of}
@@ -32,7 +32,7 @@ joined_kept zero (suc m) c f (l ∷ ls) same = refl
 joined_kept (suc n) zero c f (l ∷ ls) same = refl
 joined_kept (suc n) (suc m) c f (l ∷ ls) same = joined_kept n m c f ls same
 
-pub joined_asked : (p : Place) (q : Request) (x : Place) (ls : List SwitchLine) → joined_at (ask p q ls) x ≡ joined_at ls x
+pub joined_asked : (p : SwitchChannel) (q : Request) (x : SwitchChannel) (ls : List SwitchLine) → joined_at (ask p q ls) x ≡ joined_at ls x
 joined_asked p q x ls = joined_kept p.line x.line x.channel _ ls (λ l. refl)
 
 set_here : (js : List (Option Joined)) (i : ℕ) (o : Option Joined) → is_some (slice_get js i) ≡ true → flat (slice_get (set js i o) i) ≡ o
@@ -50,7 +50,7 @@ line_here n c o [] e = absurd (true≢false (sym e))
 line_here zero c o (l ∷ ls) e = nth_set_here l.joined c o e
 line_here (suc n) c o (l ∷ ls) e = line_here n c o ls e
 
-pub joined_here : (p : Place) (o : Option Joined) (ls : List SwitchLine) → has_place ls p ≡ true → joined_at (with_joined p o ls) p ≡ o
+pub joined_here : (p : SwitchChannel) (o : Option Joined) (ls : List SwitchLine) → has_place ls p ≡ true → joined_at (with_joined p o ls) p ≡ o
 joined_here p o ls e = line_here p.line p.channel o ls e
 
 set_apart : (js : List (Option Joined)) (i k : ℕ) (o : Option Joined) → (k ≡ i → ⊥) → slice_get (set js i o) k ≡ slice_get js k
@@ -71,7 +71,7 @@ line_apart n c d o [] ne = refl
 line_apart zero c d o (l ∷ ls) ne = nth_apart l.joined c d o ne
 line_apart (suc n) c d o (l ∷ ls) ne = line_apart n c d o ls ne
 
-pub joined_apart : (p : Place) (o : Option Joined) (x : Place) (ls : List SwitchLine) → same_place x p ≡ false → joined_at (with_joined p o ls) x ≡ joined_at ls x
+pub joined_apart : (p : SwitchChannel) (o : Option Joined) (x : SwitchChannel) (ls : List SwitchLine) → same_place x p ≡ false → joined_at (with_joined p o ls) x ≡ joined_at ls x
 joined_apart p o x ls e = by_place (apart_by x p e)
   where
     by_place : (x.line ≡ p.line → ⊥) ⊎ ((x.line ≡ p.line) × (x.channel ≡ p.channel → ⊥)) → joined_at (with_joined p o ls) x ≡ joined_at ls x
@@ -88,7 +88,7 @@ nth_place js (suc i) j e = by_slot (slice_get js i) e
     by_slot None e = absurd (none-some j e)
     by_slot (Some o) e = refl
 
-pub joined_place : (ls : List SwitchLine) (p : Place) (j : Joined) → joined_at ls p ≡ Some j → has_place ls p ≡ true
+pub joined_place : (ls : List SwitchLine) (p : SwitchChannel) (j : Joined) → joined_at ls p ≡ Some j → has_place ls p ≡ true
 joined_place ls p j e = by_line (slice_get ls p.line) e
   where
     by_line : (o : Option SwitchLine) → joined_on o p.channel ≡ Some j → has_place_on o p.channel ≡ true
@@ -104,7 +104,7 @@ place_kept zero (suc m) c f (l ∷ ls) same = refl
 place_kept (suc n) zero c f (l ∷ ls) same = refl
 place_kept (suc n) (suc m) c f (l ∷ ls) same = place_kept n m c f ls same
 
-pub place_after : (n : ℕ) (f : SwitchLine → SwitchLine) (ls : List SwitchLine) (x : Place) → ((l : SwitchLine) → (f l).joined ≡ l.joined) → has_place (changed n f ls) x ≡ has_place ls x
+pub place_after : (n : ℕ) (f : SwitchLine → SwitchLine) (ls : List SwitchLine) (x : SwitchChannel) → ((l : SwitchLine) → (f l).joined ≡ l.joined) → has_place (changed n f ls) x ≡ has_place ls x
 place_after n f ls x same = place_kept n x.line x.channel f ls (λ l. ap (λ js. has_nth js x.channel) (same l))
 
 set_there : {X : Type 0} (xs : List X) (i k : ℕ) (y : X) → is_some (slice_get (set xs i y) k) ≡ is_some (slice_get xs k)
@@ -119,15 +119,15 @@ nth_there js zero d o = refl
 nth_there js (suc i) zero o = refl
 nth_there js (suc i) (suc k) o = set_there js i k o
 
-pub place_joined : (p : Place) (o : Option Joined) (ls : List SwitchLine) (x : Place) → has_place (with_joined p o ls) x ≡ has_place ls x
+pub place_joined : (p : SwitchChannel) (o : Option Joined) (ls : List SwitchLine) (x : SwitchChannel) → has_place (with_joined p o ls) x ≡ has_place ls x
 place_joined p o ls x = place_kept p.line x.line x.channel _ ls (λ l. nth_there l.joined p.channel x.channel o)
 
 -- ---- layers
 
-pub layers_asked : (p : Place) (q : Request) (ls : List SwitchLine) → layers_of (ask p q ls) ≡ after_act (Asks p q) (layers_of ls)
+pub layers_asked : (p : SwitchChannel) (q : Request) (ls : List SwitchLine) → layers_of (ask p q ls) ≡ after_act (Asks p q) (layers_of ls)
 layers_asked p q ls = map_changed (λ l. l.end.layer) _ _ p.line ls (λ l. refl)
 
-pub layers_joined : (p : Place) (o : Option Joined) (ls : List SwitchLine) → layers_of (with_joined p o ls) ≡ layers_of ls
+pub layers_joined : (p : SwitchChannel) (o : Option Joined) (ls : List SwitchLine) → layers_of (with_joined p o ls) ≡ layers_of ls
 layers_joined p o ls = map_unchanged (λ l. l.end.layer) _ p.line ls (λ l. refl)
 
 pub front_is : (ls : List SwitchLine) (n c : ℕ) (s : Shown) → shown_on (slice_get (layers_of ls) n) c ≡ Some s → front_of_line (slice_get ls n) c ≡ front s.channel.traffic
@@ -154,7 +154,7 @@ pub some_there : {X : Type 0} (o : Option X) → is_some o ≡ true → (x : X) 
 some_there None e = absurd (true≢false (sym e))
 some_there (Some x) e = (x, refl)
 
-pub leg_asked : (p : Place) (q : Request) (ys : List Layer) (w : World) → is_some (shown_at ys p) ≡ true → world_after (Asks p q) ys w p ≡ asked q (w p)
+pub leg_asked : (p : SwitchChannel) (q : Request) (ys : List Layer) (w : World) → is_some (shown_at ys p) ≡ true → world_after (Asks p q) ys w p ≡ asked q (w p)
 leg_asked p q ys w e =
     ap (λ (b : Bool). if b then leg_after (Asks p q) (slice_get ys p.line) p.channel (w p) else w p) (eq-eqb p.line p.line refl) ∙ by_layer (slice_get ys p.line) e
   where
@@ -162,7 +162,7 @@ leg_asked p q ys w e =
     by_layer None e = absurd (true≢false (sym e))
     by_layer (Some l) e = ap (λ (b : Bool). if b then asked q (w p) else w p) (eq-eqb p.channel p.channel refl)
 
-pub leg_apart : (p : Place) (q : Request) (ys : List Layer) (w : World) (x : Place) → same_place x p ≡ false → world_after (Asks p q) ys w x ≡ w x
+pub leg_apart : (p : SwitchChannel) (q : Request) (ys : List Layer) (w : World) (x : SwitchChannel) → same_place x p ≡ false → world_after (Asks p q) ys w x ≡ w x
 leg_apart p q ys w x e = by_line (decided (x.line == p.line))
   where
     by_layer : (o : Option Layer) → (x.channel == p.channel) ≡ false → leg_after (Asks p q) o x.channel (w x) ≡ w x
@@ -264,5 +264,5 @@ lines_there a zero (suc m) c (l ∷ ys) = refl
 lines_there a (suc n) zero c (l ∷ ys) = refl
 lines_there a (suc n) (suc m) c (l ∷ ys) = lines_there a n m c ys
 
-pub there_after : (a : Act) (ys : List Layer) (x : Place) → is_some (shown_at (after_act a ys) x) ≡ is_some (shown_at ys x)
+pub there_after : (a : Act) (ys : List Layer) (x : SwitchChannel) → is_some (shown_at (after_act a ys) x) ≡ is_some (shown_at ys x)
 there_after a ys x = lines_there a (line_of a) x.line x.channel ys

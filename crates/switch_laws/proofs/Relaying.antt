@@ -10,8 +10,8 @@ use Rattle.packet_layer.specs.Channel.{CallState, Request, Refusal, refusal, in_
 use Rattle.packet_layer.specs.Channel.CallState.{Ready, OwnWaiting, FarWaiting, Transfer, Collision, OwnClear}
 use Rattle.packet_layer.specs.Channel.Request.{Taking, Releasing}
 use Rattle.switch_lines.specs.Direction.{Direction, releasable, released, carried_by, request_for}
-use Rattle.switch_lines.specs.declared.place.Place.{Place}
-use Rattle.switch_lines.specs.declared.place.Joined.{Joined}
+use Rattle.switch_lines.specs.declared.channels.SwitchChannel.{SwitchChannel}
+use Rattle.switch_lines.specs.declared.channels.Joined.{Joined}
 use Rattle.switch_lines.specs.Lines.{SwitchLine, same_place, joined_at, ask, front_at, refusal_at, places, places_on, places_from}
 use Rattle.switch_lines.specs.Relay.{moved, moved_joined, moved_front, moved_unless, relayed, relayed_from, all_relayed, legs_of, places_first, relayed_first}
 use Rattle.switch_laws.specs.Leg.{Leg, asked}
@@ -34,12 +34,12 @@ use Rattle.switch_laws.proofs.Frame.{Touches, touches_none, touches_then, touche
 
 -- ---- what is seen at the lines is the legs
 
-pub front_of_leg : (ls : List SwitchLine) (w : World) (p : Place) → IsWorld (layers_of ls) w → is_some (shown_at (layers_of ls) p) ≡ true → front_at ls p ≡ front (w p).channel.traffic
+pub front_of_leg : (ls : List SwitchLine) (w : World) (p : SwitchChannel) → IsWorld (layers_of ls) w → is_some (shown_at (layers_of ls) p) ≡ true → front_at ls p ≡ front (w p).channel.traffic
 front_of_leg ls w p i e =
     let s = some_there (shown_at (layers_of ls) p) e in
     front_is ls p.line p.channel s.0 s.1 ∙ ap (λ (t : Shown). front t.channel.traffic) (i p s.0 s.1).shown
 
-pub refusal_of_leg : (ls : List SwitchLine) (w : World) (p : Place) (q : Request) → IsWorld (layers_of ls) w → is_some (shown_at (layers_of ls) p) ≡ true
+pub refusal_of_leg : (ls : List SwitchLine) (w : World) (p : SwitchChannel) (q : Request) → IsWorld (layers_of ls) w → is_some (shown_at (layers_of ls) p) ≡ true
     → refusal_at ls p q ≡ refusal (w p).role (w p).channel q
 refusal_of_leg ls w p q i e =
     let s = some_there (shown_at (layers_of ls) p) e in
@@ -48,10 +48,10 @@ refusal_of_leg ls w p q i e =
 -- ---- one move
 
 -- the way from p
-abbrev pub way_at : World → Place → Place → Direction → Way
+abbrev pub way_at : World → SwitchChannel → SwitchChannel → Direction → Way
 way_at w p q d = record { near = w p; far = w q; kept = d }
 
-pub record Moved (acts : List Act) (ls : List SwitchLine) (w : World) (p : Place) (j k : Joined) (ms : List SwitchLine) (to : Way) : Type 0 where
+pub record Moved (acts : List Act) (ls : List SwitchLine) (w : World) (p : SwitchChannel) (j k : Joined) (ms : List SwitchLine) (to : Way) : Type 0 where
   pub world : World
   pub touches : Touches acts p j.other ls w ms world
   pub switch : IsSwitch ms world
@@ -64,14 +64,14 @@ pub may_ask : (t : Taken) → MayAsk (request_for t)
 may_ask (TakenInterrupt octets) = tt
 may_ask (TakenPacket d) = tt
 
-stays : (ls : List SwitchLine) (w : World) (p : Place) (j k : Joined) → IsSwitch ls w → Pairing ls p j k → Moved [] ls w p j k ls (way_at w p j.other j.kept)
+stays : (ls : List SwitchLine) (w : World) (p : SwitchChannel) (j k : Joined) → IsSwitch ls w → Pairing ls p j k → Moved [] ls w p j k ls (way_at w p j.other j.kept)
 stays ls w p j k i s = record { world = w; touches = touches_none p j.other ls w; switch = i; kept = j.kept; here = s.here; there = s.there; is = refl }
 
 same_way : (g h : Leg) (g' h' : Leg) (d : Direction) → g ≡ g' → h ≡ h' → ◌≡◌ {A = Way} (record { near = g; far = h; kept = d }) (record { near = g'; far = h'; kept = d })
 same_way g h g' h' d a b = ap₂ (λ (x y : Leg). record { near = x; far = y; kept = d }) a b
 
 -- the request is not refused
-moves_on : (t : Taken) (ls : List SwitchLine) (w : World) (p : Place) (j k : Joined) → IsSwitch ls w → Pairing ls p j k
+moves_on : (t : Taken) (ls : List SwitchLine) (w : World) (p : SwitchChannel) (j k : Joined) → IsSwitch ls w → Pairing ls p j k
     → IsJoin (record { a = w p; b = w j.other; there = j.kept; back = k.kept }) → way.moved (way_at w p j.other j.kept) ≡ way.moved_unless None t (way_at w p j.other j.kept)
     → Moved (acts_of_all (moved_unless_steps None t p j) ls) ls w p j k (moved_unless None t p j ls) (way.moved_unless None t (way_at w p j.other j.kept))
 moves_on t ls w p j k i s c e = record {
@@ -84,7 +84,7 @@ moves_on t ls w p j k i s c e = record {
   is = is;
 }
   where
-    q : Place
+    q : SwitchChannel
     q = j.other
 
     r : Request
@@ -156,13 +156,13 @@ moves_on t ls w p j k i s c e = record {
         subst (λ (x : Way). IsJoin (record { a = x.near; b = x.far; there = x.kept; back = k.kept })) (e ∙ sym is)
         (there_right 1 (record { a = w p; b = w q; there = j.kept; back = k.kept }) c)
 
-by_refusal : (r : Option Refusal) (t : Taken) (ls : List SwitchLine) (w : World) (p : Place) (j k : Joined) → IsSwitch ls w → Pairing ls p j k
+by_refusal : (r : Option Refusal) (t : Taken) (ls : List SwitchLine) (w : World) (p : SwitchChannel) (j k : Joined) → IsSwitch ls w → Pairing ls p j k
     → IsJoin (record { a = w p; b = w j.other; there = j.kept; back = k.kept }) → way.moved (way_at w p j.other j.kept) ≡ way.moved_unless r t (way_at w p j.other j.kept)
     → Moved (acts_of_all (moved_unless_steps r t p j) ls) ls w p j k (moved_unless r t p j ls) (way.moved_unless r t (way_at w p j.other j.kept))
 by_refusal (Some r) t ls w p j k i s c e = stays ls w p j k i s
 by_refusal None t ls w p j k i s c e = moves_on t ls w p j k i s c e
 
-by_front : (o : Option Taken) (ls : List SwitchLine) (w : World) (p : Place) (j k : Joined) → IsSwitch ls w → Pairing ls p j k
+by_front : (o : Option Taken) (ls : List SwitchLine) (w : World) (p : SwitchChannel) (j k : Joined) → IsSwitch ls w → Pairing ls p j k
     → IsJoin (record { a = w p; b = w j.other; there = j.kept; back = k.kept }) → way.moved (way_at w p j.other j.kept) ≡ way.moved_front o (way_at w p j.other j.kept)
     → Moved (acts_of_all (moved_front_steps o p j ls) ls) ls w p j k (moved_front o p j ls) (way.moved_front o (way_at w p j.other j.kept))
 by_front None ls w p j k i s c e = stays ls w p j k i s
@@ -170,7 +170,7 @@ by_front (Some t) ls w p j k i s c e =
     subst (λ (r : Option Refusal). Moved (acts_of_all (moved_unless_steps r t p j) ls) ls w p j k (moved_unless r t p j ls) (way.moved_front (Some t) (way_at w p j.other j.kept)))
     (sym (refusal_of_leg ls w j.other (request_for t) i.world s.q_there)) (by_refusal _ t ls w p j k i s c e)
 
-pub moves : (ls : List SwitchLine) (w : World) (p : Place) (j k : Joined) → IsSwitch ls w → Pairing ls p j k → IsJoin (record { a = w p; b = w j.other; there = j.kept; back = k.kept })
+pub moves : (ls : List SwitchLine) (w : World) (p : SwitchChannel) (j k : Joined) → IsSwitch ls w → Pairing ls p j k → IsJoin (record { a = w p; b = w j.other; there = j.kept; back = k.kept })
     → Moved (acts_of_all (moved_joined_steps (joined_at ls p) p ls) ls) ls w p j k (moved p ls) (way.moved (way_at w p j.other j.kept))
 moves ls w p j k i s c =
     subst (λ (o : Option Joined). Moved (acts_of_all (moved_joined_steps o p ls) ls) ls w p j k (moved_joined o p ls) (way.moved (way_at w p j.other j.kept))) (sym s.here)
@@ -179,13 +179,13 @@ moves ls w p j k i s c =
 
 -- ---- several moves
 
-moved_join : {acts : List Act} (ls ms : List SwitchLine) (w : World) (p : Place) (j k : Joined) → IsJoin (record { a = w p; b = w j.other; there = j.kept; back = k.kept })
+moved_join : {acts : List Act} (ls ms : List SwitchLine) (w : World) (p : SwitchChannel) (j k : Joined) → IsJoin (record { a = w p; b = w j.other; there = j.kept; back = k.kept })
     → (m : Moved acts ls w p j k ms (way.moved (way_at w p j.other j.kept))) → IsJoin (record { a = m.world p; b = m.world j.other; there = m.kept; back = k.kept })
 moved_join ls ms w p j k c m =
     subst (λ (x : Way). IsJoin (record { a = x.near; b = x.far; there = x.kept; back = k.kept })) (sym m.is)
     (there_right 1 (record { a = w p; b = w j.other; there = j.kept; back = k.kept }) c)
 
-moved_pairing : {acts : List Act} (ls ms : List SwitchLine) (w : World) (p : Place) (j k : Joined) (to : Way) → Pairing ls p j k → (m : Moved acts ls w p j k ms to) → Pairing ms p (record j { kept = m.kept }) k
+moved_pairing : {acts : List Act} (ls ms : List SwitchLine) (w : World) (p : SwitchChannel) (j k : Joined) (to : Way) → Pairing ls p j k → (m : Moved acts ls w p j k ms to) → Pairing ms p (record j { kept = m.kept }) k
 moved_pairing ls ms w p j k to s m = record {
   here = m.here;
   there = m.there;
@@ -196,7 +196,7 @@ moved_pairing ls ms w p j k to s m = record {
   q_there = reached_there ls ms w m.world m.touches.reached j.other ∙ s.q_there;
 }
 
-pub relays : (most : ℕ) (ls : List SwitchLine) (w : World) (p : Place) (j k : Joined) → IsSwitch ls w → Pairing ls p j k → IsJoin (record { a = w p; b = w j.other; there = j.kept; back = k.kept })
+pub relays : (most : ℕ) (ls : List SwitchLine) (w : World) (p : SwitchChannel) (j k : Joined) → IsSwitch ls w → Pairing ls p j k → IsJoin (record { a = w p; b = w j.other; there = j.kept; back = k.kept })
     → Moved (acts_of_all (relayed_steps most p ls) ls) ls w p j k (relayed most p ls) (way.relayed most (way_at w p j.other j.kept))
 relays zero ls w p j k i s c = stays ls w p j k i s
 relays (suc most) ls w p j k i s c =
@@ -216,30 +216,30 @@ relays (suc most) ls w p j k i s c =
 
 -- ---- each channel is visited
 
-abbrev pub StuckAt : List SwitchLine → Place → Type 0
+abbrev pub StuckAt : List SwitchLine → SwitchChannel → Type 0
 StuckAt ls p = (j : Joined) (t : Taken) → joined_at ls p ≡ Some j → front_at ls p ≡ Some t → is_some (refusal_at ls j.other (request_for t)) ≡ true
 
-pub record Visited (acts : List Act) (ls : List SwitchLine) (w : World) (x : Place) (ms : List SwitchLine) : Type 0 where
+pub record Visited (acts : List Act) (ls : List SwitchLine) (w : World) (x : SwitchChannel) (ms : List SwitchLine) : Type 0 where
   pub world : World
   pub reached : Reached acts ls w ms world
   pub switch : IsSwitch ms world
-  pub places : (y : Place) → has_place ms y ≡ has_place ls y
+  pub places : (y : SwitchChannel) → has_place ms y ≡ has_place ls y
   pub stuck_here : StuckAt ms x
-  pub stuck_elsewhere : (p : Place) → same_place p x ≡ false → StuckAt ls p → StuckAt ms p
+  pub stuck_elsewhere : (p : SwitchChannel) → same_place p x ≡ false → StuckAt ls p → StuckAt ms p
 
-pub relayed_same : (most : ℕ) (p : Place) (ls : List SwitchLine) → moved p ls ≡ ls → relayed most p ls ≡ ls
+pub relayed_same : (most : ℕ) (p : SwitchChannel) (ls : List SwitchLine) → moved p ls ≡ ls → relayed most p ls ≡ ls
 relayed_same zero p ls e = refl
 relayed_same (suc most) p ls e = ap (λ (ms : List SwitchLine). relayed most p ms) e ∙ relayed_same most p ls e
 
-relayed_no_steps : (most : ℕ) (p : Place) (ls : List SwitchLine) → moved p ls ≡ ls → moved_joined_steps (joined_at ls p) p ls ≡ [] → relayed_steps most p ls ≡ []
+relayed_no_steps : (most : ℕ) (p : SwitchChannel) (ls : List SwitchLine) → moved p ls ≡ ls → moved_joined_steps (joined_at ls p) p ls ≡ [] → relayed_steps most p ls ≡ []
 relayed_no_steps zero p ls e f = refl
 relayed_no_steps (suc most) p ls e f =
     ap (λ (ss : List Step). ss ++ relayed_steps most p (moved p ls)) f ∙ (ap (λ (ms : List SwitchLine). relayed_steps most p ms) e ∙ relayed_no_steps most p ls e f)
 
-abbrev pub VisitedBy : List Step → List SwitchLine → World → Place → List SwitchLine → Type 0
+abbrev pub VisitedBy : List Step → List SwitchLine → World → SwitchChannel → List SwitchLine → Type 0
 VisitedBy ss ls w x ms = Visited (acts_of_all ss ls) ls w x ms
 
-visited_same : (ss : List Step) (ls ms : List SwitchLine) (w : World) (x : Place) → ss ≡ [] → ms ≡ ls → IsSwitch ls w → StuckAt ls x → VisitedBy ss ls w x ms
+visited_same : (ss : List Step) (ls ms : List SwitchLine) (w : World) (x : SwitchChannel) → ss ≡ [] → ms ≡ ls → IsSwitch ls w → StuckAt ls x → VisitedBy ss ls w x ms
 visited_same ss ls ms w x f e i s = subst (λ (us : List Step). VisitedBy us ls w x ms) (sym f) (subst (λ (ks : List SwitchLine). VisitedBy [] ls w x ks) (sym e) (record {
   world = w;
   reached = reached_none ls w;
@@ -262,7 +262,7 @@ pub waits_before : (b : Bool) (g h : Leg) → WaitsFor b g h → (in_transfer g.
 waits_before true g h i = (accepts_before g.role g.channel.state i.can_accept, waiting_before h.role h.channel.state i.waits)
 waits_before false g h i = (waiting_before g.role g.channel.state i.waits, accepts_before h.role h.channel.state i.can_accept)
 
-visited_pair : (ls : List SwitchLine) (w : World) (x : Place) (j k : Joined) → IsSwitch ls w → Pairing ls x j k → IsPair (w x) (w j.other) j k → VisitedBy (relayed_steps 8 x ls) ls w x (relayed 8 x ls)
+visited_pair : (ls : List SwitchLine) (w : World) (x : SwitchChannel) (j k : Joined) → IsSwitch ls w → Pairing ls x j k → IsPair (w x) (w j.other) j k → VisitedBy (relayed_steps 8 x ls) ls w x (relayed 8 x ls)
 visited_pair ls w x j k i s (waiting a b c) =
     visited_same (relayed_steps 8 x ls) ls (relayed 8 x ls) w x (relayed_no_steps 8 x ls nothing no_steps) (relayed_same 8 x ls nothing) i (λ y t e f. absurd (none-some t (sym front_none ∙ f)))
   where
@@ -308,7 +308,7 @@ visited_pair ls w x j k i s (connected c) = record {
     stuck_here y t e f =
         let stuck : way.IsStuck (way_at v x j.other m.kept) = subst (λ (u : Way). way.IsStuck u) (sym m.is) (relayed_stuck from c.there) in
         let same : y.other ≡ j.other = ap (λ (z : Joined). z.other) (same_Some y _ (sym e ∙ m.here)) in
-        ap (λ (z : Place). is_some (refusal_at ms z (request_for t))) same
+        ap (λ (z : SwitchChannel). is_some (refusal_at ms z (request_for t))) same
         ∙ (ap (λ (o : Option Refusal). is_some o) (refusal_of_leg ms v j.other (request_for t) m.switch.world q_there)
         ∙ stuck t (sym (front_of_leg ms v x m.switch.world x_there) ∙ f))
 
@@ -326,12 +326,12 @@ visited_pair ls w x j k i s (connected c) = record {
         let old = h k t s.there old_front in
         let refused : refusal (v x).role (v x).channel (request_for t) ≡ refusal (w x).role (w x).channel (request_for t) =
         ap (λ (u : Way). refusal u.near.role u.near.channel (request_for t)) m.is ∙ same_refusal t (w x) (way.relayed 8 from).near beside.near.open_ in
-        ap (λ (z : Place). is_some (refusal_at ms z (request_for t))) to_x
+        ap (λ (z : SwitchChannel). is_some (refusal_at ms z (request_for t))) to_x
         ∙ (ap (λ (o : Option Refusal). is_some o) (refusal_of_leg ms v x (request_for t) m.switch.world x_there ∙ (refused ∙ sym (refusal_of_leg ls w x (request_for t) i.world s.p_there)))
-        ∙ (ap (λ (z : Place). is_some (refusal_at ls z (request_for t))) (sym s.back) ∙ old))
+        ∙ (ap (λ (z : SwitchChannel). is_some (refusal_at ls z (request_for t))) (sym s.back) ∙ old))
 
     -- of another join
-    stuck_apart : (p : Place) → same_place p x ≡ false → same_place p j.other ≡ false → StuckAt ls p → StuckAt ms p
+    stuck_apart : (p : SwitchChannel) → same_place p x ≡ false → same_place p j.other ≡ false → StuckAt ls p → StuckAt ms p
     stuck_apart p a b h y t e f =
         let e' : joined_at ls p ≡ Some y = sym (m.touches.joined p a b) ∙ e in
         let z = i.joined p y e' in
@@ -346,14 +346,14 @@ visited_pair ls w x j k i s (connected c) = record {
         ∙ (ap (λ (g : Leg). refusal g.role g.channel (request_for t)) (m.touches.legs y.other d d') ∙ sym (refusal_of_leg ls w y.other (request_for t) i.world o_there)) in
         ap (λ (o : Option Refusal). is_some o) refusal_same ∙ h y t e' (front_same ∙ f)
 
-    stuck_elsewhere : (p : Place) → same_place p x ≡ false → StuckAt ls p → StuckAt ms p
+    stuck_elsewhere : (p : SwitchChannel) → same_place p x ≡ false → StuckAt ls p → StuckAt ms p
     stuck_elsewhere p a h = by_other (decided (same_place p j.other))
       where
         by_other : (same_place p j.other ≡ true) ⊎ (same_place p j.other ≡ false) → StuckAt ms p
-        by_other (inl t) = let is = place_is p j.other t in subst (λ (z : Place). StuckAt ms z) (sym is) (stuck_other (subst (λ (z : Place). StuckAt ls z) is h))
+        by_other (inl t) = let is = place_is p j.other t in subst (λ (z : SwitchChannel). StuckAt ms z) (sym is) (stuck_other (subst (λ (z : SwitchChannel). StuckAt ls z) is h))
         by_other (inr f) = stuck_apart p a f h
 
-visited_joined : (o : Option Joined) (ls : List SwitchLine) (w : World) (x : Place) → joined_at ls x ≡ o → IsSwitch ls w → VisitedBy (relayed_steps 8 x ls) ls w x (relayed 8 x ls)
+visited_joined : (o : Option Joined) (ls : List SwitchLine) (w : World) (x : SwitchChannel) → joined_at ls x ≡ o → IsSwitch ls w → VisitedBy (relayed_steps 8 x ls) ls w x (relayed 8 x ls)
 visited_joined None ls w x e i =
     visited_same (relayed_steps 8 x ls) ls (relayed 8 x ls) w x (relayed_no_steps 8 x ls (ap (λ (o : Option Joined). moved_joined o x ls) e) (ap (λ (o : Option Joined). moved_joined_steps o x ls) e))
     (relayed_same 8 x ls (ap (λ (o : Option Joined). moved_joined o x ls) e)) i (λ y t f g. absurd (none-some y (sym e ∙ f)))
@@ -364,26 +364,26 @@ visited_joined (Some j) ls w x e i =
       | inr h ↦ elim h [ inl z ↦ absurd z | inr z ↦ absurd z ]
     ]
 
-pub visited : (ls : List SwitchLine) (w : World) (x : Place) → IsSwitch ls w → VisitedBy (relayed_steps 8 x ls) ls w x (relayed 8 x ls)
+pub visited : (ls : List SwitchLine) (w : World) (x : SwitchChannel) → IsSwitch ls w → VisitedBy (relayed_steps 8 x ls) ls w x (relayed 8 x ls)
 visited ls w x i = visited_joined (joined_at ls x) ls w x refl i
 
 -- ---- all channels
 
-pub data Among (p : Place) : List Place → Type 0 where
-  first : {x : Place} {xs : List Place} → same_place p x ≡ true → Among p (x ∷ xs)
-  later : {x : Place} {xs : List Place} → Among p xs → Among p (x ∷ xs)
+pub data Among (p : SwitchChannel) : List SwitchChannel → Type 0 where
+  first : {x : SwitchChannel} {xs : List SwitchChannel} → same_place p x ≡ true → Among p (x ∷ xs)
+  later : {x : SwitchChannel} {xs : List SwitchChannel} → Among p xs → Among p (x ∷ xs)
 
-pub record RelayedFrom (acts : List Act) (ls : List SwitchLine) (w : World) (ps : List Place) (ms : List SwitchLine) : Type 0 where
+pub record RelayedFrom (acts : List Act) (ls : List SwitchLine) (w : World) (ps : List SwitchChannel) (ms : List SwitchLine) : Type 0 where
   pub world : World
   pub reached : Reached acts ls w ms world
   pub switch : IsSwitch ms world
-  pub places : (y : Place) → has_place ms y ≡ has_place ls y
-  pub stuck : (p : Place) → StuckAt ls p ⊎ Among p ps → StuckAt ms p
+  pub places : (y : SwitchChannel) → has_place ms y ≡ has_place ls y
+  pub stuck : (p : SwitchChannel) → StuckAt ls p ⊎ Among p ps → StuckAt ms p
 
-pub relays_from : (ps : List Place) (ls : List SwitchLine) (w : World) → IsSwitch ls w → RelayedFrom (acts_of_all (relayed_from_steps ps ls) ls) ls w ps (relayed_from ps ls)
+pub relays_from : (ps : List SwitchChannel) (ls : List SwitchLine) (w : World) → IsSwitch ls w → RelayedFrom (acts_of_all (relayed_from_steps ps ls) ls) ls w ps (relayed_from ps ls)
 relays_from [] ls w i = record { world = w; reached = reached_none ls w; switch = i; places = λ y. refl; stuck = λ p h. none p h }
   where
-    none : (p : Place) → StuckAt ls p ⊎ Among p [] → StuckAt ls p
+    none : (p : SwitchChannel) → StuckAt ls p ⊎ Among p [] → StuckAt ls p
     none p (inl h) = h
     none p (inr h) = elim h [ ]
 relays_from (x ∷ ps) ls w i = then_ (visited ls w x i) (relays_from ps (relayed 8 x ls) (visited ls w x i).world (visited ls w x i).switch)
@@ -402,16 +402,16 @@ relays_from (x ∷ ps) ls w i = then_ (visited ls w x i) (relays_from ps (relaye
       stuck = λ p h. by_here p (decided (same_place p x)) h;
     }
       where
-        onward : (p : Place) → same_place p x ≡ false → StuckAt ls p ⊎ Among p (x ∷ ps) → StuckAt (relayed 8 x ls) p ⊎ Among p ps
+        onward : (p : SwitchChannel) → same_place p x ≡ false → StuckAt ls p ⊎ Among p (x ∷ ps) → StuckAt (relayed 8 x ls) p ⊎ Among p ps
         onward p f (inl h) = inl (a.stuck_elsewhere p f h)
         onward p f (inr (first e)) = absurd (true≢false (sym e ∙ f))
         onward p f (inr (later h)) = inr h
 
-        by_here : (p : Place) → (same_place p x ≡ true) ⊎ (same_place p x ≡ false) → StuckAt ls p ⊎ Among p (x ∷ ps) → StuckAt (relayed_from ps (relayed 8 x ls)) p
-        by_here p (inl t) h = b.stuck p (inl (subst (λ (z : Place). StuckAt (relayed 8 x ls) z) (sym (place_is p x t)) a.stuck_here))
+        by_here : (p : SwitchChannel) → (same_place p x ≡ true) ⊎ (same_place p x ≡ false) → StuckAt ls p ⊎ Among p (x ∷ ps) → StuckAt (relayed_from ps (relayed 8 x ls)) p
+        by_here p (inl t) h = b.stuck p (inl (subst (λ (z : SwitchChannel). StuckAt (relayed 8 x ls) z) (sym (place_is p x t)) a.stuck_here))
         by_here p (inr f) h = b.stuck p (onward p f h)
 
-pub among_here : (p x : Place) (xs : List Place) → p ≡ x → Among p (x ∷ xs)
+pub among_here : (p x : SwitchChannel) (xs : List SwitchChannel) → p ≡ x → Among p (x ∷ xs)
 among_here p x xs e = first (same_as p x e)
 
 among_on : (n c i : ℕ) (js : List (Option Joined)) → is_some (slice_get js i) ≡ true → Among (record { line = n; channel = c + i }) (places_on n c js)
@@ -421,12 +421,12 @@ among_on n c (suc i) (j ∷ js) e =
     let same : suc c + i ≡ c + suc i = omega arith in
     later (subst (λ (k : ℕ). Among (record { line = n; channel = k }) (places_on n (suc c) js)) same (among_on n (suc c) i js e))
 
-pub among_left : (p : Place) (xs ys : List Place) → Among p xs → Among p (xs ++ ys)
+pub among_left : (p : SwitchChannel) (xs ys : List SwitchChannel) → Among p xs → Among p (xs ++ ys)
 among_left p (x ∷ xs) ys (first e) = first e
 among_left p (x ∷ xs) ys (later h) = later (among_left p xs ys h)
 among_left p [] ys h = elim h [ ]
 
-pub among_right : (p : Place) (xs ys : List Place) → Among p ys → Among p (xs ++ ys)
+pub among_right : (p : SwitchChannel) (xs ys : List SwitchChannel) → Among p ys → Among p (xs ++ ys)
 among_right p [] ys h = h
 among_right p (x ∷ xs) ys h = later (among_right p xs ys h)
 
@@ -443,7 +443,7 @@ among_from n (suc m) c (l ∷ ls) e =
     let same : suc n + m ≡ n + suc m = omega arith in
     among_right _ (places_on n 1 l.joined) (places_from (suc n) ls) (subst (λ (k : ℕ). Among (record { line = k; channel = c }) (places_from (suc n) ls)) same (among_from (suc n) m c ls e))
 
-among_places : (p : Place) (ls : List SwitchLine) → has_place ls p ≡ true → Among p (places ls)
+among_places : (p : SwitchChannel) (ls : List SwitchLine) → has_place ls p ≡ true → Among p (places ls)
 among_places p ls e = let same : 0 + p.line ≡ p.line = omega arith in subst (λ (k : ℕ). Among (record { line = k; channel = p.channel }) (places ls)) same (among_from 0 p.line p.channel ls e)
 
 pub relayed_first_right : (first_ : List ℕ) (ls : List SwitchLine) (w : World) → IsSwitch ls w → Becomes (acts_of_all (relayed_first_steps first_ ls) ls) ls w (relayed_first first_ ls)

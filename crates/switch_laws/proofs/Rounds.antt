@@ -12,8 +12,8 @@ use Rattle.packet_layer.specs.Events.{written_packet}
 use Rattle.packet_end.specs.PacketEnd.{PacketEnd, offered, all_offered, with_next}
 use Rattle.packet_end.proofs.Offering.{takes_none, longer, one_offered}
 use Rattle.switch_lines.specs.Direction.{releasable, carried_by, request_for}
-use Rattle.switch_lines.specs.declared.place.Place.{Place}
-use Rattle.switch_lines.specs.declared.place.Joined.{Joined}
+use Rattle.switch_lines.specs.declared.channels.SwitchChannel.{SwitchChannel}
+use Rattle.switch_lines.specs.declared.channels.Joined.{Joined}
 use Rattle.switch_lines.specs.Lines.{SwitchLine, changed, joined_at, with_joined, ask, front_at, refusal_at}
 use Rattle.switch_lines.specs.Relay.{moved, moved_unless, moved_front, moved_joined, relayed, relayed_from, places_first, relayed_first}
 use Rattle.switch_lines.specs.Switch.{with_end, may_offer, offering_from, offered_from, rounds}
@@ -24,30 +24,30 @@ use Rattle.switch_laws.proofs.Lists.{map_unchanged, and_both, decided}
 abbrev pub lines_of : List SwitchLine → List End
 lines_of ls = map (λ l. l.end.line) ls
 
-pub asked_lines : (p : Place) (q : Request) (ls : List SwitchLine) → lines_of (ask p q ls) ≡ lines_of ls
+pub asked_lines : (p : SwitchChannel) (q : Request) (ls : List SwitchLine) → lines_of (ask p q ls) ≡ lines_of ls
 asked_lines p q ls = map_unchanged (λ l. l.end.line) _ p.line ls (λ l. refl)
 
-pub joined_lines : (p : Place) (o : Option Joined) (ls : List SwitchLine) → lines_of (with_joined p o ls) ≡ lines_of ls
+pub joined_lines : (p : SwitchChannel) (o : Option Joined) (ls : List SwitchLine) → lines_of (with_joined p o ls) ≡ lines_of ls
 joined_lines p o ls = map_unchanged (λ l. l.end.line) _ p.line ls (λ l. refl)
 
-unless_lines : (r : Option Refusal) (t : Taken) (p : Place) (j : Joined) (ls : List SwitchLine) → lines_of (moved_unless r t p j ls) ≡ lines_of ls
+unless_lines : (r : Option Refusal) (t : Taken) (p : SwitchChannel) (j : Joined) (ls : List SwitchLine) → lines_of (moved_unless r t p j ls) ≡ lines_of ls
 unless_lines (Some r) t p j ls = refl
 unless_lines None t p j ls =
     joined_lines p _ _ ∙ (asked_lines p (Releasing (releasable (carried_by t j.kept).held)) (ask j.other (request_for t) (ask p Taking ls)) ∙ (asked_lines j.other (request_for t) (ask p Taking ls) ∙ asked_lines p Taking ls))
 
-front_lines : (o : Option Taken) (p : Place) (j : Joined) (ls : List SwitchLine) → lines_of (moved_front o p j ls) ≡ lines_of ls
+front_lines : (o : Option Taken) (p : SwitchChannel) (j : Joined) (ls : List SwitchLine) → lines_of (moved_front o p j ls) ≡ lines_of ls
 front_lines None p j ls = refl
 front_lines (Some t) p j ls = unless_lines (refusal_at ls j.other (request_for t)) t p j ls
 
-moved_lines : (o : Option Joined) (p : Place) (ls : List SwitchLine) → lines_of (moved_joined o p ls) ≡ lines_of ls
+moved_lines : (o : Option Joined) (p : SwitchChannel) (ls : List SwitchLine) → lines_of (moved_joined o p ls) ≡ lines_of ls
 moved_lines None p ls = refl
 moved_lines (Some j) p ls = front_lines (front_at ls p) p j ls
 
-relayed_lines : (most : ℕ) (p : Place) (ls : List SwitchLine) → lines_of (relayed most p ls) ≡ lines_of ls
+relayed_lines : (most : ℕ) (p : SwitchChannel) (ls : List SwitchLine) → lines_of (relayed most p ls) ≡ lines_of ls
 relayed_lines zero p ls = refl
 relayed_lines (suc most) p ls = relayed_lines most p (moved p ls) ∙ moved_lines (joined_at ls p) p ls
 
-pub from_lines : (ps : List Place) (ls : List SwitchLine) → lines_of (relayed_from ps ls) ≡ lines_of ls
+pub from_lines : (ps : List SwitchChannel) (ls : List SwitchLine) → lines_of (relayed_from ps ls) ≡ lines_of ls
 from_lines [] ls = refl
 from_lines (p ∷ ps) ls = from_lines ps (relayed 8 p ls) ∙ relayed_lines 8 p ls
 

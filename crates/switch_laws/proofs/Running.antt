@@ -10,10 +10,10 @@ use Rattle.packet_end.specs.PacketEnd as offers
 use Rattle.std.specs.List.{list_all}
 use Rattle.std.specs.Prelude.{slice_get}
 use Rattle.std.proofs.lemmas.Bool.{ltb-true}
-use Rattle.switch_lines.specs.declared.config.LineConfig.{LineConfig}
-use Rattle.switch_lines.specs.declared.place.Place.{Place}
+use Rattle.switch_lines.specs.declared.config.SwitchLineConfig.{SwitchLineConfig}
+use Rattle.switch_lines.specs.declared.channels.SwitchChannel.{SwitchChannel}
 use Rattle.switch_lines.specs.Making.{IsConfig, IsLineConfig}
-use Rattle.switch_lines.specs.declared.place.Joined.{Joined}
+use Rattle.switch_lines.specs.declared.channels.Joined.{Joined}
 use Rattle.switch_lines.specs.Lines.{joined_at}
 use Rattle.switch_laws.specs.Join.{IsJoin, turned, hears, gives}
 use Rattle.switch_laws.specs.World.{Shown, Agrees, shown_at, shown_of, layers_of}
@@ -52,7 +52,7 @@ confirmed_right =
 reset_right_ : IsJoin reset
 reset_right_ = hears_right 1 (Reset 0 0) confirmed tt refl confirmed_right
 
-closed_agrees : (x : Place) (s : Shown) → Some (shown_of (no_calls x)) ≡ Some s → Agrees s (no_calls x)
+closed_agrees : (x : SwitchChannel) (s : Shown) → Some (shown_of (no_calls x)) ≡ Some s → Agrees s (no_calls x)
 closed_agrees x s e = record {
   shown = sym (same_Some _ s e);
   leg = start_good (no_calls x) seven (record { not_resetting = refl; traffic = refl; before = refl; epoch = refl });
@@ -107,9 +107,9 @@ parameters_right = record {
 config_right : (address : List ℕ) → IsLineConfig (config address)
 config_right address = record { params = parameters_right; not_standing = refl }
 
-each_config : (n : ℕ) (c : LineConfig) → slice_get configs n ≡ Some c → IsLineConfig c
-each_config zero c e = subst (λ (x : LineConfig). IsLineConfig x) (same_Some _ c e) (config_right (1 ∷ []))
-each_config (suc zero) c e = subst (λ (x : LineConfig). IsLineConfig x) (same_Some _ c e) (config_right (2 ∷ []))
+each_config : (n : ℕ) (c : SwitchLineConfig) → slice_get configs n ≡ Some c → IsLineConfig c
+each_config zero c e = subst (λ (x : SwitchLineConfig). IsLineConfig x) (same_Some _ c e) (config_right (1 ∷ []))
+each_config (suc zero) c e = subst (λ (x : SwitchLineConfig). IsLineConfig x) (same_Some _ c e) (config_right (2 ∷ []))
 each_config (suc (suc n)) c e = absurd (none-some c e)
 
 pub configs_right : IsConfig configs

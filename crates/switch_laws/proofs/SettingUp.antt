@@ -16,8 +16,8 @@ use Rattle.packet_laws.proofs.Call.Saying.{and_parts}
 use Rattle.packet_laws.proofs.Line.Outcomes.{free_is, given_ready}
 use Rattle.address_routes.specs.Routes.{RouteMap, line_for}
 use Rattle.switch_lines.specs.Direction.{new_direction}
-use Rattle.switch_lines.specs.declared.place.Place.{Place}
-use Rattle.switch_lines.specs.declared.place.Joined.{Joined}
+use Rattle.switch_lines.specs.declared.channels.SwitchChannel.{SwitchChannel}
+use Rattle.switch_lines.specs.declared.channels.Joined.{Joined}
 use Rattle.switch_lines.specs.Lines.{SwitchLine, same_place, joined_at, with_joined, ask}
 use Rattle.switch_lines.specs.Switch.{Answer, answer, answer_by, answer_on, answer_free, answered, forwarded, place_call, with_join, heed, has_any}
 use Rattle.switch_lines.specs.Switch.Answer.{Clears, Joins}
@@ -71,7 +71,7 @@ ready_no_call Collision r e = true≢false (sym r)
 ready_no_call OwnClear r e = true≢false (sym r)
 
 -- a channel in p1 is not joined
-pub ready_not_joined : (ls : List SwitchLine) (w : World) (x : Place) → IsSwitch ls w → is_ready (w x).channel.state ≡ true → joined_at ls x ≡ None
+pub ready_not_joined : (ls : List SwitchLine) (w : World) (x : SwitchChannel) → IsSwitch ls w → is_ready (w x).channel.state ≡ true → joined_at ls x ≡ None
 ready_not_joined ls w x i r = by_joined (joined_at ls x) refl
   where
     by_joined : (o : Option Joined) → joined_at ls x ≡ o → joined_at ls x ≡ None
@@ -85,7 +85,7 @@ ready_not_joined ls w x i r = by_joined (joined_at ls x) refl
 
 -- ---- cleared
 
-pub clears_call : (cause : ℕ) (p : Place) (ls : List SwitchLine) (w : World) → IsSwitch ls w → joined_at ls p ≡ None → Becomes (Asks p (Clearing cause no_information) ∷ []) ls w (ask p (Clearing cause no_information) ls)
+pub clears_call : (cause : ℕ) (p : SwitchChannel) (ls : List SwitchLine) (w : World) → IsSwitch ls w → joined_at ls p ≡ None → Becomes (Asks p (Clearing cause no_information) ∷ []) ls w (ask p (Clearing cause no_information) ls)
 clears_call cause p ls w i none =
     let r = Clearing cause no_information in
     let t = touches_asked p p r ls w tt in
@@ -100,15 +100,15 @@ clears_call cause p ls w i none =
 
 -- ---- placed
 
-pub record IsFreePlace (ls : List SwitchLine) (q : Place) : Type 0 where
+pub record IsFreePlace (ls : List SwitchLine) (q : SwitchChannel) : Type 0 where
   pub line : SwitchLine
   pub there : slice_get ls q.line ≡ Some line
   pub given : channel_given line.end.layer line.end.layer.phase ≡ Some q.channel
 
-pub layer_there : (ls : List SwitchLine) (q : Place) (f : IsFreePlace ls q) → slice_get (layers_of ls) q.line ≡ Some f.line.end.layer
+pub layer_there : (ls : List SwitchLine) (q : SwitchChannel) (f : IsFreePlace ls q) → slice_get (layers_of ls) q.line ≡ Some f.line.end.layer
 layer_there ls q f = get_map (λ l. l.end.layer) ls q.line ∙ ap (λ (o : Option SwitchLine). option_map (λ l. l.end.layer) o) f.there
 
-placed_leg : (q : Place) (parts : CallParts) (ls : List SwitchLine) (w : World) → IsFreePlace ls q
+placed_leg : (q : SwitchChannel) (parts : CallParts) (ls : List SwitchLine) (w : World) → IsFreePlace ls q
     → world_after (Calls q.line parts) (layers_of ls) w q ≡ stepped (placing parts (w q).channel) (w q).epoch (w q)
 placed_leg q parts ls w f =
     ap (λ (b : Bool). if b then leg_after (Calls q.line parts) (slice_get (layers_of ls) q.line) q.channel (w q) else w q) (eq-eqb q.line q.line refl)
@@ -116,7 +116,7 @@ placed_leg q parts ls w f =
     ∙ (ap (λ (o : Option ℕ). placed_if (is_channel o q.channel) parts (w q)) f.given
     ∙ ap (λ (b : Bool). placed_if b parts (w q)) (eq-eqb q.channel q.channel refl)))
 
-placed_apart : (q : Place) (parts : CallParts) (ls : List SwitchLine) (w : World) → IsFreePlace ls q → (x : Place) → same_place x q ≡ false
+placed_apart : (q : SwitchChannel) (parts : CallParts) (ls : List SwitchLine) (w : World) → IsFreePlace ls q → (x : SwitchChannel) → same_place x q ≡ false
     → world_after (Calls q.line parts) (layers_of ls) w x ≡ w x
 placed_apart q parts ls w f x e = by_line (decided (x.line == q.line))
   where
@@ -130,7 +130,7 @@ placed_apart q parts ls w f x e = by_line (decided (x.line == q.line))
         ∙ ap (λ (b : Bool). placed_if b parts (w x)) other)))
     by_line (inr t) = ap (λ (b : Bool). if b then leg_after (Calls q.line parts) (slice_get (layers_of ls) x.line) x.channel (w x) else w x) t
 
-pub joins_call : (p q : Place) (parts : CallParts) (ls : List SwitchLine) (w : World) → IsSwitch ls w → joined_at ls p ≡ None → is_some (shown_at (layers_of ls) p) ≡ true
+pub joins_call : (p q : SwitchChannel) (parts : CallParts) (ls : List SwitchLine) (w : World) → IsSwitch ls w → joined_at ls p ≡ None → is_some (shown_at (layers_of ls) p) ≡ true
     → may_accept (w p).role (w p).channel.state ≡ true → IsFreePlace ls q → Becomes (Calls q.line parts ∷ []) ls w (with_join p q (place_call q.line parts ls))
 joins_call p q parts ls w i none p_there accepts f = record {
   world = v;
@@ -170,7 +170,7 @@ joins_call p q parts ls w i none p_there accepts f = record {
       where
         by_same : (same_place p q ≡ true) ⊎ (same_place p q ≡ false) → same_place p q ≡ false
         by_same (inl t) =
-            absurd (ready_no_call (w p).channel.state (ap (λ (x : Place). is_ready (w x).channel.state) (place_is p q t) ∙ q_ready) (accepts_call (w p).role (w p).channel.state accepts))
+            absurd (ready_no_call (w p).channel.state (ap (λ (x : SwitchChannel). is_ready (w x).channel.state) (place_is p q t) ∙ q_ready) (accepts_call (w p).role (w p).channel.state accepts))
         by_same (inr e) = e
 
     l1 : List SwitchLine
@@ -247,7 +247,7 @@ pub answer_if : (b : Bool) (ls : List SwitchLine) (cause : ℕ) (a : Answer) →
 answer_if true ls cause a i = tt
 answer_if false ls cause a i = i
 
-answers : (a : Answer) (p : Place) (parts : CallParts) (ls : List SwitchLine) (w : World) → IsAnswer ls a → IsSwitch ls w → joined_at ls p ≡ None → is_some (shown_at (layers_of ls) p) ≡ true
+answers : (a : Answer) (p : SwitchChannel) (parts : CallParts) (ls : List SwitchLine) (w : World) → IsAnswer ls a → IsSwitch ls w → joined_at ls p ≡ None → is_some (shown_at (layers_of ls) p) ≡ true
     → may_accept (w p).role (w p).channel.state ≡ true → Becomes (acts_of_all (answered_steps a p parts ls) ls) ls w (answered a p parts ls)
 answers (Clears cause) p parts ls w f i none there accepts = clears_call cause p ls w i none
 answers (Joins q) p parts ls w f i none there accepts = joins_call p q (forwarded ls p.line parts) ls w i none there accepts f
@@ -260,24 +260,24 @@ incoming_right routes n c parts ls w i none there accepts =
 
 -- ---- by the routes
 
-joins_same : (q r : Place) → ◌≡◌ {A = Answer} (Joins q) (Joins r) → q ≡ r
+joins_same : (q r : SwitchChannel) → ◌≡◌ {A = Answer} (Joins q) (Joins r) → q ≡ r
 joins_same q r e = cc
 
-free_line : (n : ℕ) (phase : Phase) (o : Option ℕ) (q : Place) → answer_free n phase o ≡ Joins q → n ≡ q.line
+free_line : (n : ℕ) (phase : Phase) (o : Option ℕ) (q : SwitchChannel) → answer_free n phase o ≡ Joins q → n ≡ q.line
 free_line n phase None q e = absurd cc
-free_line n phase (Some c) q e = ap (λ (x : Place). x.line) (joins_same _ q e)
+free_line n phase (Some c) q e = ap (λ (x : SwitchChannel). x.line) (joins_same _ q e)
 
-on_line : (n : ℕ) (o : Option SwitchLine) (q : Place) → answer_on n o ≡ Joins q → n ≡ q.line
+on_line : (n : ℕ) (o : Option SwitchLine) (q : SwitchChannel) → answer_on n o ≡ Joins q → n ≡ q.line
 on_line n None q e = absurd cc
 on_line n (Some l) q e = free_line n l.end.layer.phase (channel_given l.end.layer l.end.layer.phase) q e
 
-by_line : (ls : List SwitchLine) (o : Option ℕ) (q : Place) → answer_by ls o ≡ Joins q → o ≡ Some q.line
+by_line : (ls : List SwitchLine) (o : Option ℕ) (q : SwitchChannel) → answer_by ls o ≡ Joins q → o ≡ Some q.line
 by_line ls None q e = absurd cc
 by_line ls (Some n) q e = ap (λ (k : ℕ). Some k) (on_line n (slice_get ls n) q e)
 
-with_facility : (b : Bool) (cause : ℕ) (ls : List SwitchLine) (o : Option ℕ) (q : Place) → (if b then Clears cause else answer_by ls o) ≡ Joins q → o ≡ Some q.line
+with_facility : (b : Bool) (cause : ℕ) (ls : List SwitchLine) (o : Option ℕ) (q : SwitchChannel) → (if b then Clears cause else answer_by ls o) ≡ Joins q → o ≡ Some q.line
 with_facility true cause ls o q e = absurd cc
 with_facility false cause ls o q e = by_line ls o q e
 
-pub joins_by_route : (routes : RouteMap) (ls : List SwitchLine) (parts : CallParts) (q : Place) → answer routes ls parts ≡ Joins q → line_for routes parts.called ≡ Some q.line
+pub joins_by_route : (routes : RouteMap) (ls : List SwitchLine) (parts : CallParts) (q : SwitchChannel) → answer routes ls parts ≡ Joins q → line_for routes parts.called ≡ Some q.line
 joins_by_route routes ls parts q e = with_facility (has_any parts.facilities) _ ls (line_for routes parts.called) q e

@@ -16,8 +16,8 @@ use Rattle.packet_end.specs.PacketEnd.{PacketEnd, all_offered}
 use Rattle.address_routes.specs.Routes.{RouteMap, line_for}
 use Rattle.switch_lines.specs.Direction.{Direction, new_direction, releasable, released, carried_by, request_for}
 use Rattle.switch_lines.specs.Causes.{clear_cause, reset_cause, far_diagnostic}
-use Rattle.switch_lines.specs.declared.place.Place.{Place}
-use Rattle.switch_lines.specs.declared.place.Joined.{Joined}
+use Rattle.switch_lines.specs.declared.channels.SwitchChannel.{SwitchChannel}
+use Rattle.switch_lines.specs.declared.channels.Joined.{Joined}
 use Rattle.switch_lines.specs.Lines.{SwitchLine, same_place, changed, joined_at, with_joined, ask, front_at, refusal_at}
 use Rattle.switch_lines.specs.Relay.{freed, kept_anew, covered_on, told_joined, told_of, moved, moved_unless, moved_front, moved_joined, relayed, relayed_from, places_first, relayed_first}
 use Rattle.switch_lines.specs.Switch.{Answer, answer, answered, forwarded, place_call, has_any, heed, heed_all, with_end, notes_of, without_notes, quieted, acted, may_offer, offering_from, offered_from, rounds}
@@ -50,45 +50,45 @@ line_beside f zero (suc m) c (y ∷ ys) same = refl
 line_beside f (suc n) zero c (y ∷ ys) same = refl
 line_beside f (suc n) (suc m) c (y ∷ ys) same = line_beside f n m c ys (λ l e g. same l (ap (λ (k : ℕ). suc k) e) g)
 
-pub differ : (x q : Place) → same_place x q ≡ false → x.line ≡ q.line → x.channel ≡ q.channel → ⊥
+pub differ : (x q : SwitchChannel) → same_place x q ≡ false → x.line ≡ q.line → x.channel ≡ q.channel → ⊥
 differ x q e l c = by_place (apart_by x q e)
   where
     by_place : (x.line ≡ q.line → ⊥) ⊎ ((x.line ≡ q.line) × (x.channel ≡ q.channel → ⊥)) → ⊥
     by_place (inl ne) = ne l
     by_place (inr h) = h.1 c
 
-pub asked_beside : (q : Place) (r : Request) (ls : List SwitchLine) (x : Place) → same_place x q ≡ false → shown_at (layers_of (ask q r ls)) x ≡ shown_at (layers_of ls) x
+pub asked_beside : (q : SwitchChannel) (r : Request) (ls : List SwitchLine) (x : SwitchChannel) → same_place x q ≡ false → shown_at (layers_of (ask q r ls)) x ≡ shown_at (layers_of ls) x
 asked_beside q r ls x e =
     ap (λ (ys : List Layer). shown_at ys x) (layers_asked q r ls)
     ∙ line_beside (λ l. request l q.channel r) q.line x.line x.channel (layers_of ls)
     (λ l same got. found_beside l q.channel x.channel (λ ch. requested l.role ch r) (channel_of l q.channel) (differ x q e same))
 
-pub joined_beside : (q : Place) (o : Option Joined) (ls : List SwitchLine) (x : Place) → shown_at (layers_of (with_joined q o ls)) x ≡ shown_at (layers_of ls) x
+pub joined_beside : (q : SwitchChannel) (o : Option Joined) (ls : List SwitchLine) (x : SwitchChannel) → shown_at (layers_of (with_joined q o ls)) x ≡ shown_at (layers_of ls) x
 joined_beside q o ls x = ap (λ (ys : List Layer). shown_at ys x) (layers_joined q o ls)
 
 -- ---- the joins of two other lines, while the notes of line n are heeded
 
 -- p is a channel of such a join; as it was in the beginning
-pub record IsOther (n : ℕ) (ls : List SwitchLine) (p : Place) (j : Joined) : Type 0 where
+pub record IsOther (n : ℕ) (ls : List SwitchLine) (p : SwitchChannel) (j : Joined) : Type 0 where
   pub joined : joined_at ls p ≡ Some j
   pub here : p.line ≡ n → ⊥
   pub there : j.other.line ≡ n → ⊥
 
 -- it is joined as before, its channel is as it was, and no channel of line n is joined with it
 pub record Beside (n : ℕ) (ls ms : List SwitchLine) : Type 0 where
-  pub stays : (p : Place) (j : Joined) → IsOther n ls p j → joined_at ms p ≡ Some j
-  pub shown : (p : Place) (j : Joined) → IsOther n ls p j → shown_at (layers_of ms) p ≡ shown_at (layers_of ls) p
-  pub apart : (p : Place) (j : Joined) (x : Place) (i : Joined) → IsOther n ls p j → x.line ≡ n → joined_at ms x ≡ Some i → same_place p i.other ≡ false
+  pub stays : (p : SwitchChannel) (j : Joined) → IsOther n ls p j → joined_at ms p ≡ Some j
+  pub shown : (p : SwitchChannel) (j : Joined) → IsOther n ls p j → shown_at (layers_of ms) p ≡ shown_at (layers_of ls) p
+  pub apart : (p : SwitchChannel) (j : Joined) (x : SwitchChannel) (i : Joined) → IsOther n ls p j → x.line ≡ n → joined_at ms x ≡ Some i → same_place p i.other ≡ false
 
-other_line : (n : ℕ) (p x : Place) → (p.line ≡ n → ⊥) → x.line ≡ n → same_place p x ≡ false
+other_line : (n : ℕ) (p x : SwitchChannel) → (p.line ≡ n → ⊥) → x.line ≡ n → same_place p x ≡ false
 other_line n p x ne e = by_same (decided (same_place p x))
   where
     by_same : (same_place p x ≡ true) ⊎ (same_place p x ≡ false) → same_place p x ≡ false
-    by_same (inl t) = absurd (ne (ap (λ (y : Place). y.line) (place_is p x t) ∙ e))
+    by_same (inl t) = absurd (ne (ap (λ (y : SwitchChannel). y.line) (place_is p x t) ∙ e))
     by_same (inr f) = f
 
 -- a request at a place that is none of theirs
-beside_asked : (n : ℕ) (ls ms : List SwitchLine) (q : Place) (r : Request) → ((p : Place) (j : Joined) → IsOther n ls p j → same_place p q ≡ false) → Beside n ls ms → Beside n ls (ask q r ms)
+beside_asked : (n : ℕ) (ls ms : List SwitchLine) (q : SwitchChannel) (r : Request) → ((p : SwitchChannel) (j : Joined) → IsOther n ls p j → same_place p q ≡ false) → Beside n ls ms → Beside n ls (ask q r ms)
 beside_asked n ls ms q r none b = record {
   stays = λ p j o. joined_asked q r p ms ∙ b.stays p j o;
   shown = λ p j o. asked_beside q r ms p (none p j o) ∙ b.shown p j o;
@@ -96,8 +96,8 @@ beside_asked n ls ms q r none b = record {
 }
 
 -- a channel gets another direction, another join or none
-beside_joined : (n : ℕ) (ls ms : List SwitchLine) (q : Place) (new : Option Joined) → ((p : Place) (j : Joined) → IsOther n ls p j → same_place p q ≡ false)
-    → ((i : Joined) → new ≡ Some i → q.line ≡ n → (p : Place) (j : Joined) → IsOther n ls p j → same_place p i.other ≡ false) → Beside n ls ms → Beside n ls (with_joined q new ms)
+beside_joined : (n : ℕ) (ls ms : List SwitchLine) (q : SwitchChannel) (new : Option Joined) → ((p : SwitchChannel) (j : Joined) → IsOther n ls p j → same_place p q ≡ false)
+    → ((i : Joined) → new ≡ Some i → q.line ≡ n → (p : SwitchChannel) (j : Joined) → IsOther n ls p j → same_place p i.other ≡ false) → Beside n ls ms → Beside n ls (with_joined q new ms)
 beside_joined n ls ms q new none other b = record {
   stays = λ p j o. joined_apart q new p ms (none p j o) ∙ b.stays p j o;
   shown = λ p j o. joined_beside q new ms p ∙ b.shown p j o;
@@ -111,37 +111,37 @@ beside_joined n ls ms q new none other b = record {
         by_there (inl h) = sym (joined_here q new ms h) ∙ g
         by_there (inr f) = absurd (true≢false (sym (joined_place (with_joined q new ms) q i g) ∙ (place_joined q new ms q ∙ f)))
 
-    by_place : (p : Place) (j : Joined) (x : Place) (i : Joined) → IsOther n ls p j → x.line ≡ n → joined_at (with_joined q new ms) x ≡ Some i → (same_place x q ≡ true) ⊎ (same_place x q ≡ false)
+    by_place : (p : SwitchChannel) (j : Joined) (x : SwitchChannel) (i : Joined) → IsOther n ls p j → x.line ≡ n → joined_at (with_joined q new ms) x ≡ Some i → (same_place x q ≡ true) ⊎ (same_place x q ≡ false)
         → same_place p i.other ≡ false
     by_place p j x i o e g (inl t) =
         let is = place_is x q t in
-        other i (at_q i (ap (λ (y : Place). joined_at (with_joined q new ms) y) (sym is) ∙ g)) (ap (λ (y : Place). y.line) (sym is) ∙ e) p j o
+        other i (at_q i (ap (λ (y : SwitchChannel). joined_at (with_joined q new ms) y) (sym is) ∙ g)) (ap (λ (y : SwitchChannel). y.line) (sym is) ∙ e) p j o
     by_place p j x i o e g (inr f) = b.apart p j x i o e (sym (joined_apart q new x ms f) ∙ g)
 
 -- ---- a note
 
 -- what a channel is joined with, if it is one of line n, is none of theirs
-kept_other : (n : ℕ) (ls ms ks : List SwitchLine) (q : Place) (k : Joined) (v : Direction) → joined_at ms q ≡ Some k → Beside n ls ms
-    → (i : Joined) → Some (record k { kept = v }) ≡ Some i → q.line ≡ n → (p : Place) (j : Joined) → IsOther n ls p j → same_place p i.other ≡ false
+kept_other : (n : ℕ) (ls ms ks : List SwitchLine) (q : SwitchChannel) (k : Joined) (v : Direction) → joined_at ms q ≡ Some k → Beside n ls ms
+    → (i : Joined) → Some (record k { kept = v }) ≡ Some i → q.line ≡ n → (p : SwitchChannel) (j : Joined) → IsOther n ls p j → same_place p i.other ≡ false
 kept_other n ls ms ks q k v got b i e on p j o =
     subst (λ (y : Joined). same_place p y.other ≡ false) (same_Some (record k { kept = v }) i e) (b.apart p j q k o on got)
 
-no_join : (n : ℕ) (ls : List SwitchLine) (q : Place) (i : Joined) → None ≡ Some i → q.line ≡ n → (p : Place) (j : Joined) → IsOther n ls p j → same_place p i.other ≡ false
+no_join : (n : ℕ) (ls : List SwitchLine) (q : SwitchChannel) (i : Joined) → None ≡ Some i → q.line ≡ n → (p : SwitchChannel) (j : Joined) → IsOther n ls p j → same_place p i.other ≡ false
 no_join n ls q i e on p j o = absurd (none-some i e)
 
-beside_freed : (n : ℕ) (ls ms : List SwitchLine) (q : Place) (k : Joined) (v : Direction) → joined_at ms q ≡ Some k → ((p : Place) (j : Joined) → IsOther n ls p j → same_place p q ≡ false) → Beside n ls ms
+beside_freed : (n : ℕ) (ls ms : List SwitchLine) (q : SwitchChannel) (k : Joined) (v : Direction) → joined_at ms q ≡ Some k → ((p : SwitchChannel) (j : Joined) → IsOther n ls p j → same_place p q ≡ false) → Beside n ls ms
     → Beside n ls (freed q k v ms)
 beside_freed n ls ms q k v got none b =
     let r = Releasing (releasable v.held) in
     let c = beside_asked n ls ms q r none b in
     beside_joined n ls (ask q r ms) q (Some (record k { kept = released v })) none (kept_other n ls (ask q r ms) ms q k (released v) (joined_asked q r q ms ∙ got) c) c
 
-beside_covered : (n m : ℕ) (o : Option Joined) (ls ms : List SwitchLine) (q : Place) → joined_at ms q ≡ o → ((p : Place) (j : Joined) → IsOther n ls p j → same_place p q ≡ false) → Beside n ls ms
+beside_covered : (n m : ℕ) (o : Option Joined) (ls ms : List SwitchLine) (q : SwitchChannel) → joined_at ms q ≡ o → ((p : SwitchChannel) (j : Joined) → IsOther n ls p j → same_place p q ≡ false) → Beside n ls ms
     → Beside n ls (covered_on m o q ms)
 beside_covered n m None ls ms q got none b = b
 beside_covered n m (Some k) ls ms q got none b = beside_freed n ls ms q k _ got none b
 
-beside_anew : (n : ℕ) (o : Option Joined) (ls ms : List SwitchLine) (q : Place) → joined_at ms q ≡ o → ((p : Place) (j : Joined) → IsOther n ls p j → same_place p q ≡ false) → Beside n ls ms
+beside_anew : (n : ℕ) (o : Option Joined) (ls ms : List SwitchLine) (q : SwitchChannel) → joined_at ms q ≡ o → ((p : SwitchChannel) (j : Joined) → IsOther n ls p j → same_place p q ≡ false) → Beside n ls ms
     → Beside n ls (kept_anew o q ms)
 beside_anew n None ls ms q got none b = b
 beside_anew n (Some k) ls ms q got none b = beside_joined n ls ms q (Some (record k { kept = new_direction })) none (kept_other n ls ms ms q k new_direction got b) b
@@ -149,16 +149,16 @@ beside_anew n (Some k) ls ms q got none b = beside_joined n ls ms q (Some (recor
 beside_told : (n c : ℕ) (note : Note) (i : Joined) (ls ms : List SwitchLine) → joined_at ms (at n c) ≡ Some i → Beside n ls ms → Beside n ls (told_joined note (at n c) i ms)
 beside_told n c note i ls ms got b = by_note note
   where
-    p0 : Place
+    p0 : SwitchChannel
     p0 = at n c
 
-    q : Place
+    q : SwitchChannel
     q = i.other
 
-    here : (p : Place) (j : Joined) → IsOther n ls p j → same_place p p0 ≡ false
+    here : (p : SwitchChannel) (j : Joined) → IsOther n ls p j → same_place p p0 ≡ false
     here p j o = other_line n p p0 o.here refl
 
-    there : (p : Place) (j : Joined) → IsOther n ls p j → same_place p q ≡ false
+    there : (p : SwitchChannel) (j : Joined) → IsOther n ls p j → same_place p q ≡ false
     there p j o = b.apart p j p0 i o refl got
 
     closed_ : (r : Request) → Beside n ls (ask q r (with_joined q None (with_joined p0 None ms)))
@@ -190,9 +190,9 @@ beside_told_of n c note (Some i) ls ms got b = beside_told n c note i ls ms got 
 
 -- the channels of these joins have calls
 abbrev HaveCalls : ℕ → List SwitchLine → Type 0
-HaveCalls n ls = (p : Place) (j : Joined) → IsOther n ls p j → (s : Shown) × ((shown_at (layers_of ls) p ≡ Some s) × (had_call s.channel.state ≡ true))
+HaveCalls n ls = (p : SwitchChannel) (j : Joined) → IsOther n ls p j → (s : Shown) × ((shown_at (layers_of ls) p ≡ Some s) × (had_call s.channel.state ≡ true))
 
-pub free_shown : (ms : List SwitchLine) (q : Place) (f : IsFreePlace ms q) → (ch : Channel) × ((shown_at (layers_of ms) q ≡ Some (record { role = f.line.end.layer.role; window = f.line.end.layer.window; channel = ch })) × (is_ready ch.state ≡ true))
+pub free_shown : (ms : List SwitchLine) (q : SwitchChannel) (f : IsFreePlace ms q) → (ch : Channel) × ((shown_at (layers_of ms) q ≡ Some (record { role = f.line.end.layer.role; window = f.line.end.layer.window; channel = ch })) × (is_ready ch.state ≡ true))
 free_shown ms q f =
     let l = f.line.end.layer in
     let free = free_is l.role l.channels q.channel (given_ready l l.phase q.channel f.given).1 in (
@@ -204,7 +204,7 @@ free_shown ms q f =
     )
 
 -- a free channel is none of them
-free_apart : (n : ℕ) (ls ms : List SwitchLine) (q : Place) → HaveCalls n ls → IsFreePlace ms q → Beside n ls ms → (p : Place) (j : Joined) → IsOther n ls p j → same_place p q ≡ false
+free_apart : (n : ℕ) (ls ms : List SwitchLine) (q : SwitchChannel) → HaveCalls n ls → IsFreePlace ms q → Beside n ls ms → (p : SwitchChannel) (j : Joined) → IsOther n ls p j → same_place p q ≡ false
 free_apart n ls ms q calls f b p j o = by_same (decided (same_place p q))
   where
     by_same : (same_place p q ≡ true) ⊎ (same_place p q ≡ false) → same_place p q ≡ false
@@ -213,10 +213,10 @@ free_apart n ls ms q calls f b p j o = by_same (decided (same_place p q))
         let s = calls p j o in
         let r = free_shown ms q f in
         let same : Some s.0 ≡ Some (record { role = f.line.end.layer.role; window = f.line.end.layer.window; channel = r.0 }) =
-        sym s.1.0 ∙ (sym (b.shown p j o) ∙ (ap (λ (y : Place). shown_at (layers_of ms) y) (place_is p q t) ∙ r.1.0)) in
+        sym s.1.0 ∙ (sym (b.shown p j o) ∙ (ap (λ (y : SwitchChannel). shown_at (layers_of ms) y) (place_is p q t) ∙ r.1.0)) in
         absurd (ready_no_call r.0.state r.1.1 (sym (ap (λ (y : Shown). had_call y.channel.state) (same_Some s.0 _ same)) ∙ s.1.1))
 
-beside_placed : (n : ℕ) (ls ms : List SwitchLine) (q : Place) (parts : CallParts) → IsFreePlace ms q → ((p : Place) (j : Joined) → IsOther n ls p j → same_place p q ≡ false) → Beside n ls ms
+beside_placed : (n : ℕ) (ls ms : List SwitchLine) (q : SwitchChannel) (parts : CallParts) → IsFreePlace ms q → ((p : SwitchChannel) (j : Joined) → IsOther n ls p j → same_place p q ≡ false) → Beside n ls ms
     → Beside n ls (place_call q.line parts ms)
 beside_placed n ls ms q parts f none b = record {
   stays = λ p j o. joined_kept q.line p.line p.channel _ ms (λ l. refl) ∙ b.stays p j o;
@@ -224,7 +224,7 @@ beside_placed n ls ms q parts f none b = record {
   apart = λ p j x i o e g. b.apart p j x i o e (sym (joined_kept q.line x.line x.channel _ ms (λ l. refl)) ∙ g);
 }
   where
-    beside : (p : Place) → same_place p q ≡ false → shown_at (layers_of (place_call q.line parts ms)) p ≡ shown_at (layers_of ms) p
+    beside : (p : SwitchChannel) → same_place p q ≡ false → shown_at (layers_of (place_call q.line parts ms)) p ≡ shown_at (layers_of ms) p
     beside p e =
         ap (λ (ys : List Layer). shown_at ys p) (map_changed (λ l. l.end.layer) _ (λ l. call l parts) q.line ms (λ l. refl))
         ∙ line_beside (λ l. call l parts) q.line p.line p.channel (layers_of ms)
@@ -236,7 +236,7 @@ beside_placed n ls ms q parts f none b = record {
 beside_answered : (n c : ℕ) (a : Answer) (parts : CallParts) (ls ms : List SwitchLine) → HaveCalls n ls → IsAnswer ms a → Beside n ls ms → Beside n ls (answered a (at n c) parts ms)
 beside_answered n c (Clears cause) parts ls ms calls f b = beside_asked n ls ms (at n c) (Clearing cause _) (λ p j o. other_line n p (at n c) o.here refl) b
 beside_answered n c (Joins q) parts ls ms calls f b =
-    let here = λ (p : Place) (j : Joined) (o : IsOther n ls p j). other_line n p (at n c) o.here refl in
+    let here = λ (p : SwitchChannel) (j : Joined) (o : IsOther n ls p j). other_line n p (at n c) o.here refl in
     let there = free_apart n ls ms q calls f b in
     let k1 = place_call q.line (forwarded ms n parts) ms in
     let b1 = beside_placed n ls ms q (forwarded ms n parts) f there b in
@@ -276,7 +276,7 @@ have_calls n ls w i p j o =
       ),
     )
 
-changed_beside : (n : ℕ) (g : SwitchLine → SwitchLine) (ls : List SwitchLine) (p : Place) → (p.line ≡ n → ⊥) → shown_at (layers_of (changed n g ls)) p ≡ shown_at (layers_of ls) p
+changed_beside : (n : ℕ) (g : SwitchLine → SwitchLine) (ls : List SwitchLine) (p : SwitchChannel) → (p.line ≡ n → ⊥) → shown_at (layers_of (changed n g ls)) p ≡ shown_at (layers_of ls) p
 changed_beside n g ls p ne =
     ap (λ (o : Option Layer). shown_on o p.channel)
     (get_map (λ l. l.end.layer) (changed n g ls) p.line ∙ (ap (λ (o : Option SwitchLine). option_map (λ l. l.end.layer) o) (get_unchanged n p.line g ls ne) ∙ sym (get_map (λ l. l.end.layer) ls p.line)))
@@ -288,13 +288,13 @@ begins_beside n g ls w same i = record {
   apart = λ p j x k o e got. by_same p j x k o e (sym (joined_kept n x.line x.channel g ls same) ∙ got) (decided (same_place p k.other));
 }
   where
-    by_same : (p : Place) (j : Joined) (x : Place) (k : Joined) → IsOther n ls p j → x.line ≡ n → joined_at ls x ≡ Some k → (same_place p k.other ≡ true) ⊎ (same_place p k.other ≡ false) → same_place p k.other ≡ false
+    by_same : (p : SwitchChannel) (j : Joined) (x : SwitchChannel) (k : Joined) → IsOther n ls p j → x.line ≡ n → joined_at ls x ≡ Some k → (same_place p k.other ≡ true) ⊎ (same_place p k.other ≡ false) → same_place p k.other ≡ false
     by_same p j x k o e got (inr f) = f
     by_same p j x k o e got (inl t) =
         let is = place_is p k.other t in
         let at_x = i.joined x k got in
-        let same_join : j ≡ at_x.other = same_Some j at_x.other (sym o.joined ∙ (ap (λ (y : Place). joined_at ls y) is ∙ at_x.joined)) in
-        absurd (o.there (ap (λ (y : Joined). y.other.line) same_join ∙ (ap (λ (y : Place). y.line) at_x.back ∙ e)))
+        let same_join : j ≡ at_x.other = same_Some j at_x.other (sym o.joined ∙ (ap (λ (y : SwitchChannel). joined_at ls y) is ∙ at_x.joined)) in
+        absurd (o.there (ap (λ (y : Joined). y.other.line) same_join ∙ (ap (λ (y : SwitchChannel). y.line) at_x.back ∙ e)))
 
 pub acted_beside : (routes : RouteMap) (n : ℕ) (f : PacketEnd → PacketEnd) (ls : List SwitchLine) (w : World) → IsSwitch ls w → Beside n ls (acted routes n f ls)
 acted_beside routes n f ls w i =
@@ -304,15 +304,15 @@ acted_beside routes n f ls w i =
     let b = begins_beside n (λ l. with_end without_notes (g l)) ls w (λ l. refl) i in
     beside_all routes n (notes_of (slice_get l1 n)) ls (changed n (with_end without_notes) l1) (have_calls n ls w i) (subst (λ (ms : List SwitchLine). Beside n ls ms) (sym twice) b)
 
-pub acted_stays : (routes : RouteMap) (n : ℕ) (f : PacketEnd → PacketEnd) (ls : List SwitchLine) (w : World) → IsSwitch ls w → (p : Place) (j : Joined) → IsOther n ls p j → joined_at (acted routes n f ls) p ≡ Some j
+pub acted_stays : (routes : RouteMap) (n : ℕ) (f : PacketEnd → PacketEnd) (ls : List SwitchLine) (w : World) → IsSwitch ls w → (p : SwitchChannel) (j : Joined) → IsOther n ls p j → joined_at (acted routes n f ls) p ≡ Some j
 acted_stays routes n f ls w i p j o = (acted_beside routes n f ls w i).stays p j o
 
 -- ---- relays and offers keep all joins
 
 abbrev pub AllStay : List SwitchLine → List SwitchLine → Type 0
-AllStay ls ms = (p : Place) (j : Joined) → joined_at ls p ≡ Some j → Stay j p ms
+AllStay ls ms = (p : SwitchChannel) (j : Joined) → joined_at ls p ≡ Some j → Stay j p ms
 
-stay_same : (ls ms : List SwitchLine) → ((p : Place) → joined_at ms p ≡ joined_at ls p) → AllStay ls ms
+stay_same : (ls ms : List SwitchLine) → ((p : SwitchChannel) → joined_at ms p ≡ joined_at ls p) → AllStay ls ms
 stay_same ls ms same p j e = record { kept = j.kept; joined = same p ∙ e }
 
 stay_then : (ls ms xs : List SwitchLine) → AllStay ls ms → AllStay ms xs → AllStay ls xs
@@ -322,42 +322,42 @@ stay_then ls ms xs a b p j e =
     record { kept = y.kept; joined = y.joined }
 
 -- a joined channel gets another direction
-stay_kept : (ls : List SwitchLine) (q : Place) (k : Joined) (v : Direction) → joined_at ls q ≡ Some k → AllStay ls (with_joined q (Some (record k { kept = v })) ls)
+stay_kept : (ls : List SwitchLine) (q : SwitchChannel) (k : Joined) (v : Direction) → joined_at ls q ≡ Some k → AllStay ls (with_joined q (Some (record k { kept = v })) ls)
 stay_kept ls q k v got p j e = by_place (decided (same_place p q))
   where
     by_place : (same_place p q ≡ true) ⊎ (same_place p q ≡ false) → Stay j p (with_joined q (Some (record k { kept = v })) ls)
     by_place (inl t) =
         let is = place_is p q t in
-        let same : k ≡ j = same_Some k j (sym got ∙ (ap (λ (y : Place). joined_at ls y) (sym is) ∙ e)) in
+        let same : k ≡ j = same_Some k j (sym got ∙ (ap (λ (y : SwitchChannel). joined_at ls y) (sym is) ∙ e)) in
         record {
           kept = v;
-          joined = ap (λ (y : Place). joined_at (with_joined q (Some (record k { kept = v })) ls) y) is ∙ (joined_here q (Some (record k { kept = v })) ls (joined_place ls q k got) ∙ ap (λ (y : Joined). Some (record y { kept = v })) same);
+          joined = ap (λ (y : SwitchChannel). joined_at (with_joined q (Some (record k { kept = v })) ls) y) is ∙ (joined_here q (Some (record k { kept = v })) ls (joined_place ls q k got) ∙ ap (λ (y : Joined). Some (record y { kept = v })) same);
         }
     by_place (inr f) = record { kept = j.kept; joined = joined_apart q (Some (record k { kept = v })) p ls f ∙ e }
 
-stay_unless : (r : Option Refusal) (t : Taken) (q : Place) (k : Joined) (ls : List SwitchLine) → joined_at ls q ≡ Some k → AllStay ls (moved_unless r t q k ls)
+stay_unless : (r : Option Refusal) (t : Taken) (q : SwitchChannel) (k : Joined) (ls : List SwitchLine) → joined_at ls q ≡ Some k → AllStay ls (moved_unless r t q k ls)
 stay_unless (Some r) t q k ls got = stay_same ls ls (λ p. refl)
 stay_unless None t q k ls got =
     let l1 = ask q Taking ls in
     let l2 = ask k.other (request_for t) l1 in
     let r = Releasing (releasable (carried_by t k.kept).held) in
     let l3 = ask q r l2 in
-    let same : (p : Place) → joined_at l3 p ≡ joined_at ls p = λ p. joined_asked q r p l2 ∙ (joined_asked k.other (request_for t) p l1 ∙ joined_asked q Taking p ls) in
+    let same : (p : SwitchChannel) → joined_at l3 p ≡ joined_at ls p = λ p. joined_asked q r p l2 ∙ (joined_asked k.other (request_for t) p l1 ∙ joined_asked q Taking p ls) in
     stay_then ls l3 (moved_unless None t q k ls) (stay_same ls l3 same) (stay_kept l3 q k (released (carried_by t k.kept)) (same q ∙ got))
 
-stay_front : (o : Option Taken) (q : Place) (k : Joined) (ls : List SwitchLine) → joined_at ls q ≡ Some k → AllStay ls (moved_front o q k ls)
+stay_front : (o : Option Taken) (q : SwitchChannel) (k : Joined) (ls : List SwitchLine) → joined_at ls q ≡ Some k → AllStay ls (moved_front o q k ls)
 stay_front None q k ls got = stay_same ls ls (λ p. refl)
 stay_front (Some t) q k ls got = stay_unless (refusal_at ls k.other (request_for t)) t q k ls got
 
-pub stay_moved : (o : Option Joined) (q : Place) (ls : List SwitchLine) → joined_at ls q ≡ o → AllStay ls (moved_joined o q ls)
+pub stay_moved : (o : Option Joined) (q : SwitchChannel) (ls : List SwitchLine) → joined_at ls q ≡ o → AllStay ls (moved_joined o q ls)
 stay_moved None q ls got = stay_same ls ls (λ p. refl)
 stay_moved (Some k) q ls got = stay_front (front_at ls q) q k ls got
 
-stay_relayed : (most : ℕ) (q : Place) (ls : List SwitchLine) → AllStay ls (relayed most q ls)
+stay_relayed : (most : ℕ) (q : SwitchChannel) (ls : List SwitchLine) → AllStay ls (relayed most q ls)
 stay_relayed zero q ls = stay_same ls ls (λ p. refl)
 stay_relayed (suc most) q ls = stay_then ls (moved q ls) (relayed most q (moved q ls)) (stay_moved (joined_at ls q) q ls refl) (stay_relayed most q (moved q ls))
 
-stay_from : (qs : List Place) (ls : List SwitchLine) → AllStay ls (relayed_from qs ls)
+stay_from : (qs : List SwitchChannel) (ls : List SwitchLine) → AllStay ls (relayed_from qs ls)
 stay_from [] ls = stay_same ls ls (λ p. refl)
 stay_from (q ∷ qs) ls = stay_then ls (relayed 8 q ls) (relayed_from qs (relayed 8 q ls)) (stay_relayed 8 q ls) (stay_from qs (relayed 8 q ls))
 

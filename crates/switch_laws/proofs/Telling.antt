@@ -7,8 +7,8 @@ use Rattle.packet_layer.specs.Channel.{Request}
 use Rattle.packet_layer.specs.Channel.Request.{Clearing, Resetting, Releasing, Confirming}
 use Rattle.switch_lines.specs.Direction.{Direction, new_direction, releasable, released, covered_by}
 use Rattle.switch_lines.specs.Causes.{reset_cause, clear_cause, far_diagnostic}
-use Rattle.switch_lines.specs.declared.place.Place.{Place}
-use Rattle.switch_lines.specs.declared.place.Joined.{Joined}
+use Rattle.switch_lines.specs.declared.channels.SwitchChannel.{SwitchChannel}
+use Rattle.switch_lines.specs.declared.channels.Joined.{Joined}
 use Rattle.switch_lines.specs.Lines.{SwitchLine, same_place, joined_at, with_joined, ask}
 use Rattle.switch_lines.specs.Relay.{told, told_of, told_joined, covered_on, kept_anew}
 use Rattle.switch_laws.specs.Leg.{Leg, asked}
@@ -26,7 +26,7 @@ use Rattle.switch_laws.proofs.Frame.{Touches, touches_none, touches_then, touche
 -- ---- asked at the other leg
 
 -- a request at the other leg
-pub record Asked (r : Request) (ls : List SwitchLine) (w : World) (p : Place) (j k : Joined) (ms : List SwitchLine) : Type 0 where
+pub record Asked (r : Request) (ls : List SwitchLine) (w : World) (p : SwitchChannel) (j k : Joined) (ms : List SwitchLine) : Type 0 where
   pub world : World
   pub touches : Touches (Asks j.other r ∷ []) p j.other ls w ms world
   pub here : joined_at ms p ≡ Some j
@@ -34,7 +34,7 @@ pub record Asked (r : Request) (ls : List SwitchLine) (w : World) (p : Place) (j
   pub near : world p ≡ w p
   pub far : world j.other ≡ asked r (w j.other)
 
-pub asks_other : (r : Request) (ls : List SwitchLine) (w : World) (p : Place) (j k : Joined) → MayAsk r → Pairing ls p j k → Asked r ls w p j k (ask j.other r ls)
+pub asks_other : (r : Request) (ls : List SwitchLine) (w : World) (p : SwitchChannel) (j k : Joined) → MayAsk r → Pairing ls p j k → Asked r ls w p j k (ask j.other r ls)
 asks_other r ls w p j k m s = record {
   world = world_after (Asks j.other r) (layers_of ls) w;
   touches = touches_turned j.other p ls (ask j.other r ls) w _ (touches_asked j.other p r ls w m);
@@ -47,12 +47,12 @@ asks_other r ls w p j k m s = record {
 -- ---- notes of a call that goes on
 
 -- the two legs, as a join whose leg b is that of p
-pub record Stands (ls : List SwitchLine) (w : World) (p : Place) (j k : Joined) (i : Join) : Type 0 where
+pub record Stands (ls : List SwitchLine) (w : World) (p : SwitchChannel) (j k : Joined) (i : Join) : Type 0 where
   pub pair : Pairing ls p (record j { kept = i.back }) (record k { kept = i.there })
   pub near : w p ≡ i.b
   pub far : w j.other ≡ i.a
 
-pub record Told (acts : List Act) (ls : List SwitchLine) (w : World) (p : Place) (j k : Joined) (ms : List SwitchLine) (i : Join) : Type 0 where
+pub record Told (acts : List Act) (ls : List SwitchLine) (w : World) (p : SwitchChannel) (j k : Joined) (ms : List SwitchLine) (i : Join) : Type 0 where
   pub world : World
   pub touches : Touches acts p j.other ls w ms world
   pub stands : Stands ms world p j k i
@@ -63,7 +63,7 @@ GoesOn c (InterruptConfirmed d) = d ≡ c
 GoesOn c (Covered d n) = d ≡ c
 GoesOn c n = ⊥
 
-new_pairing : {acts : List Act} (ls ms : List SwitchLine) (w v : World) (p : Place) (j k : Joined) (a b : Direction) → Pairing ls p j k → Touches acts p j.other ls w ms v
+new_pairing : {acts : List Act} (ls ms : List SwitchLine) (w v : World) (p : SwitchChannel) (j k : Joined) (a b : Direction) → Pairing ls p j k → Touches acts p j.other ls w ms v
     → joined_at ms p ≡ Some (record j { kept = a }) → joined_at ms j.other ≡ Some (record k { kept = b }) → Pairing ms p (record j { kept = a }) (record k { kept = b })
 new_pairing ls ms w v p j k a b s t here there = record {
   here = here;
@@ -76,16 +76,16 @@ new_pairing ls ms w v p j k a b s t here there = record {
 }
 
 -- the acts by which a note of p is told
-abbrev pub told_acts : Note → Place → List SwitchLine → List Act
+abbrev pub told_acts : Note → SwitchChannel → List SwitchLine → List Act
 told_acts n p ls = acts_of_all (told_steps (joined_at ls p) n p ls) ls
 
 -- P(R) covered some: the other leg is released
-tells_covered : (c n : ℕ) (ls : List SwitchLine) (w : World) (p : Place) (j k : Joined) (i : Join) → Stands ls w p j k i → Told (told_acts (Covered c n) p ls) ls w p j k (told (Covered c n) p ls) (join.told (Covered c n) i)
+tells_covered : (c n : ℕ) (ls : List SwitchLine) (w : World) (p : SwitchChannel) (j k : Joined) (i : Join) → Stands ls w p j k i → Told (told_acts (Covered c n) p ls) ls w p j k (told (Covered c n) p ls) (join.told (Covered c n) i)
 tells_covered c n ls w p j k i s =
     subst (λ (acts : List Act). Told acts ls w p j k (told (Covered c n) p ls) (join.told (Covered c n) i)) (sym acts_are)
     (subst (λ (ms : List SwitchLine). Told (Asks q (Releasing (releasable d.held)) ∷ []) ls w p j k ms (join.told (Covered c n) i)) (sym is) done)
   where
-    q : Place
+    q : SwitchChannel
     q = j.other
 
     d : Direction
@@ -127,7 +127,7 @@ tells_covered c n ls w p j k i s =
       };
     }
 
-tells_confirmed : (c : ℕ) (ls : List SwitchLine) (w : World) (p : Place) (j k : Joined) (i : Join) → Stands ls w p j k i
+tells_confirmed : (c : ℕ) (ls : List SwitchLine) (w : World) (p : SwitchChannel) (j k : Joined) (i : Join) → Stands ls w p j k i
     → Told (told_acts (InterruptConfirmed c) p ls) ls w p j k (told (InterruptConfirmed c) p ls) (join.told (InterruptConfirmed c) i)
 tells_confirmed c ls w p j k i s =
     subst (λ (o : Option Joined). Told (acts_of_all (told_steps o (InterruptConfirmed c) p ls) ls) ls w p j k (told_of o (InterruptConfirmed c) p ls) (join.told (InterruptConfirmed c) i)) (sym s.pair.here)
@@ -142,13 +142,13 @@ tells_confirmed c ls w p j k i s =
       };
     })
 
-tells_reset : (c cause diagnostic : ℕ) (reason : Reason) (ls : List SwitchLine) (w : World) (p : Place) (j k : Joined) (i : Join) → Stands ls w p j k i
+tells_reset : (c cause diagnostic : ℕ) (reason : Reason) (ls : List SwitchLine) (w : World) (p : SwitchChannel) (j k : Joined) (i : Join) → Stands ls w p j k i
     → Told (told_acts (WasReset c cause diagnostic reason) p ls) ls w p j k (told (WasReset c cause diagnostic reason) p ls) (join.told (WasReset c cause diagnostic reason) i)
 tells_reset c cause diagnostic reason ls w p j k i s =
     subst (λ (acts : List Act). Told acts ls w p j k (told (WasReset c cause diagnostic reason) p ls) (join.told (WasReset c cause diagnostic reason) i)) (sym acts_are)
     (subst (λ (ms : List SwitchLine). Told (Asks q r ∷ []) ls w p j k ms (join.told (WasReset c cause diagnostic reason) i)) (sym is) done)
   where
-    q : Place
+    q : SwitchChannel
     q = j.other
 
     r : Request
@@ -199,7 +199,7 @@ tells_reset c cause diagnostic reason ls w p j k i s =
       };
     }
 
-pub tells : (c : ℕ) (n : Note) (ls : List SwitchLine) (w : World) (p : Place) (j k : Joined) (i : Join) → GoesOn c n → Stands ls w p j k i → Told (told_acts n p ls) ls w p j k (told n p ls) (join.told n i)
+pub tells : (c : ℕ) (n : Note) (ls : List SwitchLine) (w : World) (p : SwitchChannel) (j k : Joined) (i : Join) → GoesOn c n → Stands ls w p j k i → Told (told_acts n p ls) ls w p j k (told n p ls) (join.told n i)
 tells c (Incoming d parts) ls w p j k i e s = absurd e
 tells c (Connected d) ls w p j k i e s = absurd e
 tells c (Closed d cause diagnostic reason) ls w p j k i e s = absurd e
@@ -209,7 +209,7 @@ tells c (Covered d n) ls w p j k i e s = tells_covered d n ls w p j k i s
 
 -- ---- the call is over
 
-pub record Ended (acts : List Act) (n : ℕ) (ns : List Note) (ls : List SwitchLine) (w : World) (ms : List SwitchLine) (p : Place) : Type 0 where
+pub record Ended (acts : List Act) (n : ℕ) (ns : List Note) (ls : List SwitchLine) (w : World) (ms : List SwitchLine) (p : SwitchChannel) : Type 0 where
   pub world : World
   -- the channel itself is as it was, and not joined
   pub leg : world p ≡ w p
@@ -228,10 +228,10 @@ closes_joined n c cause diagnostic reason ns ls w j k i s = record {
   right = pair_ended n n (Closed c cause diagnostic reason ∷ ns) ns ls ms w v p j k i s t here there over;
 }
   where
-    p : Place
+    p : SwitchChannel
     p = record { line = n; channel = c }
 
-    q : Place
+    q : SwitchChannel
     q = j.other
 
     r : Request
@@ -261,7 +261,7 @@ closes_joined n c cause diagnostic reason ns ls w j k i s = record {
     there : joined_at ms q ≡ None
     there = joined_asked q r q l2 ∙ joined_here q None l1 ((touches_joined p q None ls w).places q ∙ joined_place ls q k s.there)
 
-    over : (x : Place) → same_place x p ≡ false → same_place x q ≡ false → IsOver n (Closed c cause diagnostic reason ∷ ns) x → IsOver n ns x
+    over : (x : SwitchChannel) → same_place x p ≡ false → same_place x q ≡ false → IsOver n (Closed c cause diagnostic reason ∷ ns) x → IsOver n ns x
     over x a b (inl e) = absurd (true≢false (sym (same_as x p e) ∙ a))
     over x a b (inr h) = h
 
@@ -286,8 +286,8 @@ closes_none n c cause diagnostic reason ns ls w none i = record {
       };
 }
   where
-    not_here : (x : Place) (j : Joined) → joined_at ls x ≡ Some j → (x ≡ record { line = n; channel = c }) ⊎ IsOver n ns x → IsOver n ns x
-    not_here x j e (inl is) = absurd (none-some j (sym none ∙ (ap (λ (y : Place). joined_at ls y) (sym is) ∙ e)))
+    not_here : (x : SwitchChannel) (j : Joined) → joined_at ls x ≡ Some j → (x ≡ record { line = n; channel = c }) ⊎ IsOver n ns x → IsOver n ns x
+    not_here x j e (inl is) = absurd (none-some j (sym none ∙ (ap (λ (y : SwitchChannel). joined_at ls y) (sym is) ∙ e)))
     not_here x j e (inr h) = h
 
 closes_by : (o : Option Joined) (n c cause diagnostic : ℕ) (reason : Reason) (ns : List Note) (ls : List SwitchLine) (w : World) → joined_at ls (record { line = n; channel = c }) ≡ o

@@ -26,7 +26,7 @@ use Rattle.switch_laws.specs.EventSteps.{heed_all_steps, acted_steps}
 use Rattle.switch_laws.proofs.Lists.{decided, get_map}
 use Rattle.packet_end.specs.PacketEnd.{PacketEnd, heeded, after_packet, expired, runs_at}
 use Rattle.address_routes.specs.Routes.{RouteMap}
-use Rattle.switch_lines.specs.declared.place.Place.{Place}
+use Rattle.switch_lines.specs.declared.channels.SwitchChannel.{SwitchChannel}
 use Rattle.switch_lines.specs.Lines.{SwitchLine, changed, joined_at}
 use Rattle.switch_lines.specs.Switch.{heed_all, with_end, notes_of, without_notes, notes_heeded, quieted, acted}
 use Rattle.switch_laws.specs.Leg.{Leg}
@@ -83,8 +83,8 @@ pub record LineEffect (acts : List Act) (n : ℕ) (l after : Layer) (notes : Lis
   pub effect : Effect moves l notes
   pub may : Every MayHappen acts
   pub layers : (ys : List Layer) → slice_get ys n ≡ Some l → after_acts acts ys ≡ changed n (λ y. after) ys
-  pub here : (ys : List Layer) (w : World) (x : Place) → slice_get ys n ≡ Some l → (x.line == n) ≡ true → world_after_all acts ys w x ≡ moves x.channel (w x)
-  pub elsewhere : (ys : List Layer) (w : World) (x : Place) → (x.line == n) ≡ false → world_after_all acts ys w x ≡ w x
+  pub here : (ys : List Layer) (w : World) (x : SwitchChannel) → slice_get ys n ≡ Some l → (x.line == n) ≡ true → world_after_all acts ys w x ≡ moves x.channel (w x)
+  pub elsewhere : (ys : List Layer) (w : World) (x : SwitchChannel) → (x.line == n) ≡ false → world_after_all acts ys w x ≡ w x
 
 no_effect : (n : ℕ) (l : Layer) → LineEffect [] n l l []
 no_effect n l = record {
@@ -146,7 +146,7 @@ with_notes {acts} n l after ns ms e i = subst (λ (xs : List Note). LineEffect a
 -- ---- heeded
 
 heeds_effect : {acts : List Act} (routes : RouteMap) (n : ℕ) (line : SwitchLine) (after : Layer) (notes : List Note) (ls ms : List SwitchLine) (w : World) → slice_get ls n ≡ Some line
-    → layers_of ms ≡ changed n (λ y. after) (layers_of ls) → ((x : Place) → joined_at ms x ≡ joined_at ls x) → ((x : Place) → has_place ms x ≡ has_place ls x) → LineEffect acts n line.end.layer after notes
+    → layers_of ms ≡ changed n (λ y. after) (layers_of ls) → ((x : SwitchChannel) → joined_at ms x ≡ joined_at ls x) → ((x : SwitchChannel) → has_place ms x ≡ has_place ls x) → LineEffect acts n line.end.layer after notes
     → IsSwitch ls w → After acts routes n notes ls w ms
 heeds_effect {acts} routes n line after notes ls ms w got layers joined places e i =
     effect_right routes n e.moves line.end.layer ls ms w (world_after_all acts (layers_of ls) w) notes e.effect (layer_got n ls line got) (record {
@@ -181,7 +181,7 @@ reads_none n ls w e i =
     still None c g = refl
     still (Some l) c g = refl
 
-    reads_leg : (x : Place) → ((x.line == n) ≡ true) ⊎ ((x.line == n) ≡ false) → world_after (Reads n) (layers_of ls) w x ≡ w x
+    reads_leg : (x : SwitchChannel) → ((x.line == n) ≡ true) ⊎ ((x.line == n) ≡ false) → world_after (Reads n) (layers_of ls) w x ≡ w x
     reads_leg x (inl t) = leg_on_line (Reads n) (layers_of ls) w x (slice_get (layers_of ls) n) t refl ∙ still (slice_get (layers_of ls) n) x.channel (w x)
     reads_leg x (inr f) = leg_elsewhere (Reads n) (layers_of ls) w x f
 

@@ -6,8 +6,8 @@ use Rattle.lapb.specs.Machine.{Link}
 use Rattle.packet_layer.specs.Layer.{Layer}
 use Rattle.packet_end.specs.PacketEnd.{PacketEnd, begun, relinked, settled}
 use Rattle.address_routes.specs.Routes.{RouteMap}
-use Rattle.switch_lines.specs.declared.place.Place.{Place}
-use Rattle.switch_lines.specs.declared.place.Joined.{Joined}
+use Rattle.switch_lines.specs.declared.channels.SwitchChannel.{SwitchChannel}
+use Rattle.switch_lines.specs.declared.channels.Joined.{Joined}
 use Rattle.switch_lines.specs.Lines.{SwitchLine, changed, joined_at}
 use Rattle.switch_lines.specs.Switch.{Switch, with_end, without_notes, notes_of, quieted, acted, all_begun, to_relink, relinked_at, all_relinked, relinks_of, lines_first, rounds, finished, timer_runs, on_expiry}
 use Rattle.switch_laws.specs.World.{World, layers_of, shown_at}
@@ -85,11 +85,11 @@ relinks_end (suc most) (Some k) routes ls w m t i none =
 
 -- ---- a join of two lines on which nothing happened, up to the relays
 
-record ComesTo (ls ms : List SwitchLine) (p : Place) (j : Joined) : Type 0 where
+record ComesTo (ls ms : List SwitchLine) (p : SwitchChannel) (j : Joined) : Type 0 where
   joined : joined_at ms p ≡ Some j
   line : SameLine ls ms p
 
-comes_to : (n : ℕ) (what : Happening) (s : Switch) (w : World) (b : ActsOn n what s w) → IsSwitch s.lines w → (p : Place) (j : Joined) → joined_at s.lines p ≡ Some j
+comes_to : (n : ℕ) (what : Happening) (s : Switch) (w : World) (b : ActsOn n what s w) → IsSwitch s.lines w → (p : SwitchChannel) (j : Joined) → joined_at s.lines p ≡ Some j
     → IsNone p.line (lines_of_event n (does what) s) → IsNone j.other.line (lines_of_event n (does what) s)
     → ComesTo s.lines (all_relinked (length (Acted n what s)) s.routes (Acted n what s)) p j
 comes_to n what s w b i p j e here there =
@@ -114,7 +114,7 @@ comes_to n what s w b i p j e here there =
 
 -- ---- and over the rest of the event
 
-untouched : (n : ℕ) (what : Happening) (s : Switch) (w : World) (b : ActsOn n what s w) → SwitchHolds s w → (p : Place) (j : Joined) → joined_at s.lines p ≡ Some j
+untouched : (n : ℕ) (what : Happening) (s : Switch) (w : World) (b : ActsOn n what s w) → SwitchHolds s w → (p : SwitchChannel) (j : Joined) → joined_at s.lines p ≡ Some j
     → IsNone p.line (lines_of_event n (does what) s) → IsNone j.other.line (lines_of_event n (does what) s) → IsUntouched p j s.lines (finished s.routes n (Acted n what s))
 untouched n what s w b h p j e here there =
     let ls = s.lines in
@@ -124,7 +124,7 @@ untouched n what s w b h p j e here there =
     let ks = rounds (7 * length rs) first rs in
     let pair = h.joins.joined p j e in
     let k = pair.other in
-    let to_p : IsNone k.other.line (lines_of_event n (does what) s) = subst (λ (q : Place). IsNone q.line (lines_of_event n (does what) s)) (sym pair.back) here in
+    let to_p : IsNone k.other.line (lines_of_event n (does what) s) = subst (λ (q : SwitchChannel). IsNone q.line (lines_of_event n (does what) s)) (sym pair.back) here in
     let a = comes_to n what s w b h.joins p j e here there in
     let c = comes_to n what s w b h.joins j.other k pair.joined there to_p in
     let r = before_right n (does what) s b.world b.right in

@@ -7,8 +7,8 @@ use Rattle.packet_layer.specs.Traffic.{Taken}
 use Rattle.packet_end.specs.PacketEnd as end
 use Rattle.packet_end.specs.PacketEnd.{PacketEnd}
 use Rattle.switch_lines.specs.Direction.{request_for}
-use Rattle.switch_lines.specs.declared.place.Place.{Place}
-use Rattle.switch_lines.specs.declared.place.Joined.{Joined}
+use Rattle.switch_lines.specs.declared.channels.SwitchChannel.{SwitchChannel}
+use Rattle.switch_lines.specs.declared.channels.Joined.{Joined}
 use Rattle.switch_lines.specs.Lines.{SwitchLine, joined_at, front_at, refusal_at, places}
 use Rattle.switch_lines.specs.Relay.{relayed_from, all_relayed}
 use Rattle.switch_lines.specs.Switch.{Switch, acted, all_begun, all_relinked, offered_from, offering_from, on_frame}
@@ -27,10 +27,10 @@ joined_to lines None = false
 joined_to lines (Some j) = is_one_of lines j.other.line
 
 -- the channel is on one of the lines, or joined to one that is
-abbrev pub is_concerned : List ℕ → List SwitchLine → Place → Bool
+abbrev pub is_concerned : List ℕ → List SwitchLine → SwitchChannel → Bool
 is_concerned lines ls p = is_one_of lines p.line || joined_to lines (joined_at ls p)
 
-abbrev pub concerned : List ℕ → List SwitchLine → List Place → List Place
+abbrev pub concerned : List ℕ → List SwitchLine → List SwitchChannel → List SwitchChannel
 concerned lines ls [] = []
 concerned lines ls (p ∷ ps) = if is_concerned lines ls p then p ∷ concerned lines ls ps else concerned lines ls ps
 
@@ -40,7 +40,7 @@ relayed_on lines ls = relayed_from (concerned lines ls (places ls)) ls
 
 -- on no other channel anything waits that the other leg takes
 abbrev pub HasRelayedBut : List ℕ → List SwitchLine → Type 0
-HasRelayedBut lines ls = (p : Place) (j : Joined) (t : Taken) → is_concerned lines ls p ≡ false
+HasRelayedBut lines ls = (p : SwitchChannel) (j : Joined) (t : Taken) → is_concerned lines ls p ≡ false
     → joined_at ls p ≡ Some j → front_at ls p ≡ Some t → is_some (refusal_at ls j.other (request_for t)) ≡ true
 
 -- ---- the lines on which something happened in an event of line n, and the switch before its relay

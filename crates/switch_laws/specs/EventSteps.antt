@@ -13,8 +13,8 @@ use Rattle.address_routes.specs.Routes.{RouteMap}
 use Rattle.switch_lines.specs.Direction.{Direction, new_direction, releasable, released, covered_by, carried_by}
 use Rattle.switch_lines.specs.Direction.{request_for}
 use Rattle.switch_lines.specs.Causes.{reset_cause, clear_cause, far_diagnostic}
-use Rattle.switch_lines.specs.declared.place.Place.{Place}
-use Rattle.switch_lines.specs.declared.place.Joined.{Joined}
+use Rattle.switch_lines.specs.declared.channels.SwitchChannel.{SwitchChannel}
+use Rattle.switch_lines.specs.declared.channels.Joined.{Joined}
 use Rattle.switch_lines.specs.Lines.{SwitchLine, changed, joined_at, places, front_at, refusal_at}
 use Rattle.switch_lines.specs.Relay.{moved, relayed, places_first, relayed_first}
 use Rattle.switch_lines.specs.Switch.{Answer, answer, forwarded, heed, notes_of, with_end, quieted, acted, to_relink}
@@ -28,26 +28,26 @@ use Rattle.switch_laws.specs.Steps.Step.{Asks, Places, Keeps, Happens, Offers, B
 
 -- ---- relay
 
-abbrev pub freed_steps : Place → Joined → Direction → List Step
+abbrev pub freed_steps : SwitchChannel → Joined → Direction → List Step
 freed_steps p j v = Asks p (Releasing (releasable v.held)) ∷ Keeps p (Some (record j { kept = released v })) ∷ []
 
-abbrev pub moved_unless_steps : Option Refusal → Taken → Place → Joined → List Step
+abbrev pub moved_unless_steps : Option Refusal → Taken → SwitchChannel → Joined → List Step
 moved_unless_steps None t p j = Asks p Taking ∷ Asks j.other (request_for t) ∷ freed_steps p j (carried_by t j.kept)
 moved_unless_steps (Some r) t p j = []
 
-abbrev pub moved_front_steps : Option Taken → Place → Joined → List SwitchLine → List Step
+abbrev pub moved_front_steps : Option Taken → SwitchChannel → Joined → List SwitchLine → List Step
 moved_front_steps None p j ls = []
 moved_front_steps (Some t) p j ls = moved_unless_steps (refusal_at ls j.other (request_for t)) t p j
 
-abbrev pub moved_joined_steps : Option Joined → Place → List SwitchLine → List Step
+abbrev pub moved_joined_steps : Option Joined → SwitchChannel → List SwitchLine → List Step
 moved_joined_steps None p ls = []
 moved_joined_steps (Some j) p ls = moved_front_steps (front_at ls p) p j ls
 
-abbrev pub relayed_steps : (most : ℕ) → Place → List SwitchLine → List Step
+abbrev pub relayed_steps : (most : ℕ) → SwitchChannel → List SwitchLine → List Step
 relayed_steps zero p ls = []
 relayed_steps (suc most) p ls = moved_joined_steps (joined_at ls p) p ls ++ relayed_steps most p (moved p ls)
 
-abbrev pub relayed_from_steps : List Place → List SwitchLine → List Step
+abbrev pub relayed_from_steps : List SwitchChannel → List SwitchLine → List Step
 relayed_from_steps [] ls = []
 relayed_from_steps (p ∷ ps) ls = relayed_steps 8 p ls ++ relayed_from_steps ps (relayed 8 p ls)
 
@@ -59,15 +59,15 @@ relayed_first_steps first ls = relayed_from_steps (places_first first ls) ls
 
 -- ---- notes
 
-abbrev pub anew_steps : Option Joined → Place → List Step
+abbrev pub anew_steps : Option Joined → SwitchChannel → List Step
 anew_steps None p = []
 anew_steps (Some j) p = Keeps p (Some (record j { kept = new_direction })) ∷ []
 
-abbrev pub covered_steps : ℕ → Option Joined → Place → List Step
+abbrev pub covered_steps : ℕ → Option Joined → SwitchChannel → List Step
 covered_steps n None p = []
 covered_steps n (Some j) p = freed_steps p j (covered_by n j.kept)
 
-abbrev pub told_joined_steps : Note → Place → Joined → List SwitchLine → List Step
+abbrev pub told_joined_steps : Note → SwitchChannel → Joined → List SwitchLine → List Step
 told_joined_steps (Connected c) p j ls = Asks j.other Accept ∷ []
 told_joined_steps (Closed c cause diagnostic reason) p j ls =
     Keeps p None ∷ Keeps j.other None
@@ -79,11 +79,11 @@ told_joined_steps (InterruptConfirmed c) p j ls = Asks j.other Confirming ∷ []
 told_joined_steps (Covered c n) p j ls = covered_steps n (joined_at ls j.other) j.other
 told_joined_steps _ p j ls = []
 
-abbrev pub told_steps : Option Joined → Note → Place → List SwitchLine → List Step
+abbrev pub told_steps : Option Joined → Note → SwitchChannel → List SwitchLine → List Step
 told_steps None n p ls = []
 told_steps (Some j) n p ls = told_joined_steps n p j ls
 
-abbrev pub answered_steps : Answer → Place → CallParts → List SwitchLine → List Step
+abbrev pub answered_steps : Answer → SwitchChannel → CallParts → List SwitchLine → List Step
 answered_steps (Clears cause) p parts ls = Asks p (Clearing cause no_information) ∷ []
 answered_steps (Joins q) p parts ls =
     Places q.line (forwarded ls p.line parts)

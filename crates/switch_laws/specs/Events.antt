@@ -7,7 +7,7 @@ use Rattle.packet_layer.specs.Channel.{closed_channel}
 use Rattle.packet_laws.specs.History.{empty_epoch}
 use Rattle.packet_laws.specs.Readable.{Every, AreOctets}
 use Rattle.address_routes.specs.Routes.{RouteMap}
-use Rattle.switch_lines.specs.declared.config.LineConfig.{LineConfig}
+use Rattle.switch_lines.specs.declared.config.SwitchLineConfig.{SwitchLineConfig}
 use Rattle.switch_lines.specs.Lines.{SwitchLine}
 use Rattle.switch_lines.specs.Making.{IsConfig, made}
 use Rattle.switch_lines.specs.Switch.{Switch, on_frame, timer_runs, on_expiry, on_timer, restart, elapse, without_frame}
@@ -106,11 +106,11 @@ pub data HoldsOn : List Event → Switch → World → Type 0 where
 
 -- ---- the legs of a switch as it is made
 
-abbrev pub window_of : Option LineConfig → ℕ
+abbrev pub window_of : Option SwitchLineConfig → ℕ
 window_of None = 0
 window_of (Some c) = c.params.window
 
-abbrev pub new_legs : List LineConfig → World
+abbrev pub new_legs : List SwitchLineConfig → World
 new_legs lines = λ x. record {
   role = Dce;
   window = window_of (slice_get lines x.line);
@@ -121,7 +121,7 @@ new_legs lines = λ x. record {
 
 -- a switch as it is made is one of which the laws speak, each event leaves it one, and so does any list of events
 pub record EventLaw : Type 0 where
-  pub begins : (routes : RouteMap) (lines : List LineConfig) → IsConfig lines
+  pub begins : (routes : RouteMap) (lines : List SwitchLineConfig) → IsConfig lines
       → SwitchHolds (made routes lines) (new_legs lines)
   pub stays : (event : Event) (s : Switch) (w : World) → MayCome event → SwitchHolds s w → AfterEvent event s w
   pub holds_on : (events : List Event) (s : Switch) (w : World) → Every MayCome events → SwitchHolds s w

@@ -6,8 +6,8 @@ use Rattle.packet_layer.specs.Packets.{CallParts}
 use Rattle.packet_layer.specs.Channel.{Channel, Step, requested, placing}
 use Rattle.packet_layer.specs.Layer.{Layer, channel_of, channel_given}
 use Rattle.packet_laws.specs.Readable.{AreOctets}
-use Rattle.switch_lines.specs.declared.place.Place.{Place}
-use Rattle.switch_lines.specs.declared.place.Joined.{Joined}
+use Rattle.switch_lines.specs.declared.channels.SwitchChannel.{SwitchChannel}
+use Rattle.switch_lines.specs.declared.channels.Joined.{Joined}
 use Rattle.switch_lines.specs.Lines.{SwitchLine, joined_at}
 use Rattle.switch_lines.specs.Switch.{Switch, on_frame, on_timer}
 use Rattle.switch_laws.specs.World.{World, Act, line_of, after_act, layers_of, shown_at}
@@ -20,7 +20,7 @@ use Rattle.switch_laws.specs.Concern.{is_one_of}
 use Rattle.switch_laws.specs.Events.{SwitchHolds}
 
 -- the join is as it was, with what the switch keeps for it, and so are the channels of both its legs
-pub record IsUntouched (p : Place) (j : Joined) (ls ms : List SwitchLine) : Type 0 where
+pub record IsUntouched (p : SwitchChannel) (j : Joined) (ls ms : List SwitchLine) : Type 0 where
   pub joined : joined_at ms p ≡ Some j
   pub here : shown_at (layers_of ms) p ≡ shown_at (layers_of ls) p
   pub there : shown_at (layers_of ms) j.other ≡ shown_at (layers_of ls) j.other
@@ -61,7 +61,7 @@ pub record WasTooMuch (n : ℕ) (what : Happening) (s : Switch) (m : ℕ) : Type
 
 -- each join of two other lines is untouched, or too much was owed on one of the two
 abbrev pub LeavesOthers : (line : ℕ) → Happening → (old new : Switch) → Type 0
-LeavesOthers n what old new = (p : Place) (j : Joined) → joined_at old.lines p ≡ Some j → (p.line ≡ n → ⊥)
+LeavesOthers n what old new = (p : SwitchChannel) (j : Joined) → joined_at old.lines p ≡ Some j → (p.line ≡ n → ⊥)
     → (j.other.line ≡ n → ⊥)
     → IsUntouched p j old.lines new.lines ⊎ (WasTooMuch n what old p.line ⊎ WasTooMuch n what old j.other.line)
 

@@ -6,8 +6,8 @@ use Rattle.packet_layer.specs.Packets.Note.{Closed}
 use Rattle.packet_layer.specs.Traffic.{Taken}
 use Rattle.packet_layer.specs.Channel.{may_accept, waits_for_call}
 use Rattle.switch_lines.specs.Direction.{new_direction, request_for}
-use Rattle.switch_lines.specs.declared.place.Place.{Place}
-use Rattle.switch_lines.specs.declared.place.Joined.{Joined}
+use Rattle.switch_lines.specs.declared.channels.SwitchChannel.{SwitchChannel}
+use Rattle.switch_lines.specs.declared.channels.Joined.{Joined}
 use Rattle.switch_lines.specs.Lines.{SwitchLine, same_place, joined_at, front_at, refusal_at}
 use Rattle.switch_laws.specs.Leg.{Leg}
 use Rattle.switch_laws.specs.Join.{IsJoin}
@@ -36,14 +36,14 @@ pub data IsPair (g h : Leg) (j k : Joined) : Type 0 where
 -- ---- all joins
 
 -- of these notes of the line, still to be told, one says that the call on the channel is over
-abbrev pub IsOver : (line : ℕ) → List Note → Place → Type 0
+abbrev pub IsOver : (line : ℕ) → List Note → SwitchChannel → Type 0
 IsOver n [] x = ⊥
 IsOver n (Closed c cause diagnostic reason ∷ ns) x = (x ≡ record { line = n; channel = c }) ⊎ IsOver n ns x
 IsOver n (note ∷ ns) x = IsOver n ns x
 
 -- the channel p is joined with another one, and that one with p; the call came in on one of them; and they are a pair
 -- as above, but where the switch still has to be told that one of the two calls is over
-pub record IsJoinedAt (n : ℕ) (ns : List Note) (ls : List SwitchLine) (w : World) (p : Place) (j : Joined)
+pub record IsJoinedAt (n : ℕ) (ns : List Note) (ls : List SwitchLine) (w : World) (p : SwitchChannel) (j : Joined)
     : Type 0 where
   pub there : is_some (shown_at (layers_of ls) p) ≡ true
   pub apart : same_place p j.other ≡ false
@@ -62,14 +62,14 @@ abbrev pub has_place_on : Option SwitchLine → (channel : ℕ) → Bool
 has_place_on None c = false
 has_place_on (Some l) c = has_nth l.joined c
 
-abbrev pub has_place : List SwitchLine → Place → Bool
+abbrev pub has_place : List SwitchLine → SwitchChannel → Bool
 has_place ls p = has_place_on (slice_get ls p.line) p.channel
 
 -- so it is while these notes of a line are still to be told
 pub record IsSwitchBefore (n : ℕ) (ns : List Note) (ls : List SwitchLine) (w : World) : Type 0 where
   pub world : IsWorld (layers_of ls) w
-  pub places : (x : Place) → is_some (shown_at (layers_of ls) x) ≡ true → has_place ls x ≡ true
-  pub joined : (p : Place) (j : Joined) → joined_at ls p ≡ Some j → IsJoinedAt n ns ls w p j
+  pub places : (x : SwitchChannel) → is_some (shown_at (layers_of ls) x) ≡ true → has_place ls x ≡ true
+  pub joined : (p : SwitchChannel) (j : Joined) → joined_at ls p ≡ Some j → IsJoinedAt n ns ls w p j
 
 -- and always
 abbrev pub IsSwitch : List SwitchLine → World → Type 0
@@ -77,7 +77,7 @@ IsSwitch ls w = IsSwitchBefore 0 [] ls w
 
 -- nothing waits on a joined channel that the other leg takes
 abbrev pub HasRelayedAll : List SwitchLine → Type 0
-HasRelayedAll ls = (p : Place) (j : Joined) (t : Taken) → joined_at ls p ≡ Some j → front_at ls p ≡ Some t
+HasRelayedAll ls = (p : SwitchChannel) (j : Joined) (t : Taken) → joined_at ls p ≡ Some j → front_at ls p ≡ Some t
     → is_some (refusal_at ls j.other (request_for t)) ≡ true
 
 -- the packet layers and the legs of one switch are reached from those of another one by these acts
@@ -105,8 +105,8 @@ notes_made act o = []
 -- it changes no joins
 pub record HasActed (act : Act) (ls ms : List SwitchLine) : Type 0 where
   pub layers : layers_of ms ≡ after_act act (layers_of ls)
-  pub joined : (x : Place) → joined_at ms x ≡ joined_at ls x
-  pub places : (x : Place) → has_place ms x ≡ has_place ls x
+  pub joined : (x : SwitchChannel) → joined_at ms x ≡ joined_at ls x
+  pub places : (x : SwitchChannel) → has_place ms x ≡ has_place ls x
 
 -- what a layer is told by its line
 abbrev pub IsTold : Act → Type 0

@@ -9,7 +9,7 @@ use Rattle.packet_layer.specs.Layer.{Layer}
 use Rattle.packet_laws.specs.Counts.{IsNumbered}
 use Rattle.address_routes.specs.Routes.{RouteMap, line_for}
 use Rattle.switch_lines.specs.Direction.{new_direction}
-use Rattle.switch_lines.specs.declared.place.Place.{Place}
+use Rattle.switch_lines.specs.declared.channels.SwitchChannel.{SwitchChannel}
 use Rattle.switch_lines.specs.Lines.{SwitchLine, joined_at}
 use Rattle.switch_lines.specs.Relay.{all_relayed}
 use Rattle.switch_lines.specs.Switch.{Switch, answer, heed_all, on_frame, on_expiry, restart, elapse}
@@ -60,8 +60,8 @@ pub record JoinLaw : Type 0 where
 -- that comes in goes on to the line of the longest prefix of its called address
 pub record SwitchLaw : Type 0 where
   pub begins : (ls : List SwitchLine) (w : World) → IsWorld (layers_of ls) w
-      → ((x : Place) → is_some (shown_at (layers_of ls) x) ≡ true → has_place ls x ≡ true)
-      → ((x : Place) → joined_at ls x ≡ None) → IsSwitch ls w
+      → ((x : SwitchChannel) → is_some (shown_at (layers_of ls) x) ≡ true → has_place ls x ≡ true)
+      → ((x : SwitchChannel) → joined_at ls x ≡ None) → IsSwitch ls w
   pub relays : (ls : List SwitchLine) (w : World) → IsSwitch ls w
       → Becomes (acts_of_all (all_relayed_steps ls) ls) ls w (all_relayed ls)
   pub keeps_nothing_back : (ls : List SwitchLine) (w : World) → IsSwitch ls w → HasRelayedAll (all_relayed ls)
@@ -69,7 +69,7 @@ pub record SwitchLaw : Type 0 where
       → slice_get (layers_of ls) (line_of act) ≡ Some l → HasActed act ls ms → IsSwitch ls w
       → Becomes (act ∷ acts_of_all (heed_all_steps routes (line_of act) (notes_made act (Some l)) ms) ms) ls w
       (heed_all routes (line_of act) (notes_made act (Some l)) ms)
-  pub routes : (routes : RouteMap) (ls : List SwitchLine) (parts : CallParts) (q : Place)
+  pub routes : (routes : RouteMap) (ls : List SwitchLine) (parts : CallParts) (q : SwitchChannel)
       → answer routes ls parts ≡ Joins q → line_for routes parts.called ≡ Some q.line
 
 -- whole events: after each of them, by the acts that it is, all joins hold, and nothing is kept back, on legs, in
@@ -97,6 +97,7 @@ pub record TurnLaw : Type 0 where
   pub timer_leaves_others : (n : ℕ) (id : TimerId) (s : Switch) (w : World) → IsSwitch s.lines w
       → OthersStay (n ∷ relinked_in n (λ e. end.after_timer e id) s) s.lines (on_expiry n id s).lines
   pub restarts : (s : Switch) (w : World) → IsSwitch s.lines w → IsSwitch (restart s).lines (λ x. closed (w x))
-  pub restart_ends_calls : (s : Switch) (w : World) → IsSwitch s.lines w → (p : Place) → HasCall (restart s).lines p → ⊥
+  pub restart_ends_calls : (s : Switch) (w : World) → IsSwitch s.lines w → (p : SwitchChannel)
+      → HasCall (restart s).lines p → ⊥
   pub elapses : (ticks : ℕ) (s : Switch) (w : World) → IsSwitch s.lines w
       → Becomes [] s.lines w (elapse ticks s).lines

@@ -9,8 +9,8 @@ use Rattle.packet_layer.specs.Layer.Phase.{PacketReady}
 use Rattle.packet_end.specs.PacketEnd as end
 use Rattle.packet_end.specs.PacketEnd.{PacketEnd}
 use Rattle.address_routes.specs.Routes.{RouteMap, line_for}
-use Rattle.switch_lines.specs.declared.place.Place.{Place}
-use Rattle.switch_lines.specs.declared.place.Joined.{Joined}
+use Rattle.switch_lines.specs.declared.channels.SwitchChannel.{SwitchChannel}
+use Rattle.switch_lines.specs.declared.channels.Joined.{Joined}
 use Rattle.switch_lines.specs.Lines.{SwitchLine, changed, joined_at}
 use Rattle.switch_lines.specs.Switch.{Switch, answer, has_any, on_frame, on_expiry, all_begun, with_end, quieted}
 use Rattle.switch_lines.specs.Switch.{notes_of}
@@ -20,7 +20,7 @@ use Rattle.switch_laws.specs.Joined.{IsSwitch}
 use Rattle.switch_laws.specs.Calls.{CallsAreJoined, HasCall}
 
 -- the call of the channel p is joined to that of another one, which is joined to p and has its call
-pub record HasPartner (ls : List SwitchLine) (p : Place) : Type 0 where
+pub record HasPartner (ls : List SwitchLine) (p : SwitchChannel) : Type 0 where
   pub join : Joined
   pub joined : joined_at ls p ≡ Some join
   pub other : Joined
@@ -31,10 +31,10 @@ pub record HasPartner (ls : List SwitchLine) (p : Place) : Type 0 where
 -- ---- joins that are new after an event
 
 -- the channel where the call of a join came in, and the one where it goes on
-abbrev pub caller : Place → Joined → Place
+abbrev pub caller : SwitchChannel → Joined → SwitchChannel
 caller p j = if j.came_in then p else j.other
 
-abbrev pub callee : Place → Joined → Place
+abbrev pub callee : SwitchChannel → Joined → SwitchChannel
 callee p j = if j.came_in then j.other else p
 
 -- one of these notes says that a call came in on the channel, with these parts
@@ -43,14 +43,14 @@ IsNoted [] c parts = ⊥
 IsNoted (note ∷ more) c parts = (note ≡ Incoming c parts) ⊎ IsNoted more c parts
 
 -- the join was there before
-pub record WasJoined (ls : List SwitchLine) (p : Place) (j : Joined) : Type 0 where
+pub record WasJoined (ls : List SwitchLine) (p : SwitchChannel) (j : Joined) : Type 0 where
   pub old : Joined
   pub joined : joined_at ls p ≡ Some old
   pub other : old.other ≡ j.other
   pub came_in : old.came_in ≡ j.came_in
 
 -- or it is that of a call that came in on the line, and goes on on the line of the longest prefix of its address
-pub record IsNewJoin (routes : RouteMap) (n : ℕ) (notes : List Note) (p : Place) (j : Joined) : Type 0 where
+pub record IsNewJoin (routes : RouteMap) (n : ℕ) (notes : List Note) (p : SwitchChannel) (j : Joined) : Type 0 where
   pub channel : ℕ
   pub parts : CallParts
   pub noted : IsNoted notes channel parts
@@ -58,7 +58,7 @@ pub record IsNewJoin (routes : RouteMap) (n : ℕ) (notes : List Note) (p : Plac
   pub route : line_for routes parts.called ≡ Some (callee p j).line
 
 abbrev pub JoinsByRoute : RouteMap → (line : ℕ) → List Note → (ls ms : List SwitchLine) → Type 0
-JoinsByRoute routes n notes ls ms = (p : Place) (j : Joined) → joined_at ms p ≡ Some j
+JoinsByRoute routes n notes ls ms = (p : SwitchChannel) (j : Joined) → joined_at ms p ≡ Some j
     → WasJoined ls p j ⊎ IsNewJoin routes n notes p j
 
 -- what the packet layer of line n notes in an event there
@@ -95,7 +95,7 @@ pub record PairLaw : Type 0 where
       → JoinsByRoute s.routes n (noted_in n (λ e. end.received e octets) s) s.lines (on_frame n octets s).lines
   pub timer_joins : (n : ℕ) (id : TimerId) (s : Switch)
       → JoinsByRoute s.routes n (noted_in n (λ e. end.after_timer e id) s) s.lines (on_expiry n id s).lines
-  pub have_calls : (ls : List SwitchLine) (w : World) (p : Place) (j : Joined) → IsSwitch ls w
+  pub have_calls : (ls : List SwitchLine) (w : World) (p : SwitchChannel) (j : Joined) → IsSwitch ls w
       → joined_at ls p ≡ Some j → HasCall ls p × HasCall ls j.other
-  pub have_partners : (ls : List SwitchLine) (w : World) (p : Place) → IsSwitch ls w → CallsAreJoined ls
+  pub have_partners : (ls : List SwitchLine) (w : World) (p : SwitchChannel) → IsSwitch ls w → CallsAreJoined ls
       → HasCall ls p → HasPartner ls p

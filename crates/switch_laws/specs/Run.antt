@@ -10,7 +10,7 @@ use Rattle.std.specs.FinMap.{empty}
 use Rattle.packet_end.specs.PacketEnd.{made}
 use Rattle.packet_end.specs.declared.params.EndParams.{EndParams}
 use Rattle.switch_lines.specs.Direction.{new_direction}
-use Rattle.switch_lines.specs.declared.config.LineConfig.{LineConfig}
+use Rattle.switch_lines.specs.declared.config.SwitchLineConfig.{SwitchLineConfig}
 use Rattle.switch_lines.specs.Lines.{SwitchLine}
 use Rattle.switch_lines.specs.Making.{IsConfig, made as made_switch}
 use Rattle.switch_lines.specs.Switch.{Switch, frames_on}
@@ -65,10 +65,10 @@ no_calls = λ x. record { role = Dce; window = 2; channel = closed_channel; befo
 
 -- ---- the same two lines as they are made, and a call with a facility that comes on line 0
 
-abbrev pub config : (address : List ℕ) → LineConfig
+abbrev pub config : (address : List ℕ) → SwitchLineConfig
 config address = record { params = parameters; address = address }
 
-abbrev pub configs : List LineConfig
+abbrev pub configs : List SwitchLineConfig
 configs = config (1 ∷ []) ∷ config (2 ∷ []) ∷ []
 
 abbrev pub new_switch : Switch

@@ -14,8 +14,8 @@ use Rattle.packet_layer.specs.Layer.{Timer, next_packet}
 use Rattle.packet_layer.specs.Events.{timer_named}
 use Rattle.packet_end.specs.PacketEnd as end
 use Rattle.packet_end.specs.PacketEnd.{PacketEnd, runs_at, with_next, all_offered, begun, settled, elapsed}
-use Rattle.switch_lines.specs.declared.place.Place.{Place}
-use Rattle.switch_lines.specs.declared.place.Joined.{Joined}
+use Rattle.switch_lines.specs.declared.channels.SwitchChannel.{SwitchChannel}
+use Rattle.switch_lines.specs.declared.channels.Joined.{Joined}
 use Rattle.switch_lines.specs.Lines.{SwitchLine, changed, with_joined, ask}
 use Rattle.switch_lines.specs.Switch.{with_end, quieted, without_notes, place_call}
 use Rattle.switch_laws.specs.World.{Act}
@@ -36,9 +36,9 @@ does Relinks e = end.relinked e
 
 pub data Step : Type 0 where
   -- a request on a channel; a call is placed on a line; what is kept of a joined channel changes
-  Asks : Place → Request → Step
+  Asks : SwitchChannel → Request → Step
   Places : (line : ℕ) → CallParts → Step
-  Keeps : Place → Option Joined → Step
+  Keeps : SwitchChannel → Option Joined → Step
   -- something happens at the end of a line, and the notes of it are taken
   Happens : (line : ℕ) → Happening → Step
   -- packets of a line go to its link

@@ -15,12 +15,12 @@ use Rattle.packet_layer.specs.Layer.Phase.{PacketReady}
 use Rattle.packet_layer.specs.Layer.Timer.{RestartTimer, CallTimer, ResetTimer, ClearTimer}
 use Rattle.packet_laws.specs.History.{empty_epoch}
 use Rattle.packet_laws.specs.Counts.{IsNumbered}
-use Rattle.switch_lines.specs.declared.place.Place.{Place}
+use Rattle.switch_lines.specs.declared.channels.SwitchChannel.{SwitchChannel}
 use Rattle.switch_lines.specs.Lines.{SwitchLine, changed}
 use Rattle.switch_laws.specs.Leg.{Leg, IsLeg, asked, stepped, heard, misheard, gave}
 
 abbrev pub World : Type 0
-World = Place → Leg
+World = SwitchChannel → Leg
 
 -- ---- the channels and the legs
 
@@ -41,7 +41,7 @@ abbrev pub shown_on : Option Layer → (channel : ℕ) → Option Shown
 shown_on None c = None
 shown_on (Some l) c = shown_as l (channel_of l c)
 
-abbrev pub shown_at : List Layer → Place → Option Shown
+abbrev pub shown_at : List Layer → SwitchChannel → Option Shown
 shown_at ys x = shown_on (slice_get ys x.line) x.channel
 
 abbrev pub layers_of : List SwitchLine → List Layer
@@ -65,13 +65,13 @@ pub record Agrees (s : Shown) (g : Leg) : Type 0 where
   pub leg : IsCallLeg g
 
 abbrev pub IsWorld : List Layer → World → Type 0
-IsWorld ys w = (x : Place) (s : Shown) → shown_at ys x ≡ Some s → Agrees s (w x)
+IsWorld ys w = (x : SwitchChannel) (s : Shown) → shown_at ys x ≡ Some s → Agrees s (w x)
 
 -- ---- what happens at the packet layers: a request on a channel; a packet comes, a timer of the layer runs out, a
 -- session of the link begins or ends; a call is placed; a packet goes to the link; its notes are read
 
 pub data Act : Type 0 where
-  Asks : Place → Request → Act
+  Asks : SwitchChannel → Request → Act
   Comes : (line : ℕ) → Received → Act
   Expires : (line : ℕ) → Timer → Act
   GoesUp : (line : ℕ) → Act

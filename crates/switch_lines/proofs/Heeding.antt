@@ -13,7 +13,7 @@ use Rattle.packet_end.specs.PacketEnd.{PacketEnd, without_first_note}
 use Rattle.address_routes.specs.Routes.{RouteMap, line_for}
 use Rattle.switch_lines.specs.Direction.{Direction, new_direction, releasable, released, covered_by}
 use Rattle.switch_lines.specs.Causes.{reset_cause, clear_cause, far_diagnostic}
-use Rattle.switch_lines.specs.Lines.{Place, Joined, SwitchLine, changed, joined_at, with_joined, ask}
+use Rattle.switch_lines.specs.Lines.{SwitchChannel, Joined, SwitchLine, changed, joined_at, with_joined, ask}
 use Rattle.switch_lines.specs.Relay.{told_joined, told_of, with_kept, freed, kept_anew, covered_on}
 use Rattle.switch_lines.specs.Switch.{Answer, answer, answer_by, answer_on, has_any, forwarded, address_of, place_call, with_join, answered, heed, heed_all, with_end, without_notes, notes_of, notes_heeded, acted, all_begun, quieted}
 use Rattle.switch_lines.specs.Switch.Answer.{Clears, Joins}
@@ -78,34 +78,34 @@ calm_by read t same calm = record {
   lengths = λ ls. (calm (read ls)).lengths ls;
 }
 
-calm_ask : (p : Place) (q : Request) → Calm (λ ls. ask p q ls)
+calm_ask : (p : SwitchChannel) (q : Request) → Calm (λ ls. ask p q ls)
 calm_ask p q = calm_changed p.line _ (λ l. refl) (λ l. refl)
 
-calm_joined : (p : Place) (o : Option Joined) → Calm (λ ls. with_joined p o ls)
+calm_joined : (p : SwitchChannel) (o : Option Joined) → Calm (λ ls. with_joined p o ls)
 calm_joined p o = calm_changed p.line _ (λ l. refl) (λ l. refl)
 
 calm_call : (n : ℕ) (parts : CallParts) → Calm (λ ls. place_call n parts ls)
 calm_call n parts = calm_changed n _ (λ l. refl) (λ l. refl)
 
-calm_freed : (p : Place) (j : Joined) (v : Direction) → Calm (λ ls. freed p j v ls)
+calm_freed : (p : SwitchChannel) (j : Joined) (v : Direction) → Calm (λ ls. freed p j v ls)
 calm_freed p j v =
     calm_then (λ ls. with_kept p j (released v) ls) (λ ls. ask p (Releasing (releasable v.held)) ls)
     (calm_joined p (Some (record j { kept = released v }))) (calm_ask p (Releasing (releasable v.held)))
 
 -- ---- what is told
 
-joins_unnoted : (p : Place) (n : ℕ) (ls : List SwitchLine) → joined_at (unnoted n ls) p ≡ joined_at ls p
+joins_unnoted : (p : SwitchChannel) (n : ℕ) (ls : List SwitchLine) → joined_at (unnoted n ls) p ≡ joined_at ls p
 joins_unnoted p n ls = joined_after n (with_end without_notes) p ls (λ l. refl)
 
-calm_anew : (o : Option Joined) (p : Place) → Calm (λ ls. kept_anew o p ls)
+calm_anew : (o : Option Joined) (p : SwitchChannel) → Calm (λ ls. kept_anew o p ls)
 calm_anew None p = calm_same
 calm_anew (Some j) p = calm_joined p (Some (record j { kept = new_direction }))
 
-calm_covered : (n : ℕ) (o : Option Joined) (p : Place) → Calm (λ ls. covered_on n o p ls)
+calm_covered : (n : ℕ) (o : Option Joined) (p : SwitchChannel) → Calm (λ ls. covered_on n o p ls)
 calm_covered n None p = calm_same
 calm_covered n (Some j) p = calm_freed p j (covered_by n j.kept)
 
-calm_told : (x : Note) (p : Place) (j : Joined) → Calm (λ ls. told_joined x p j ls)
+calm_told : (x : Note) (p : SwitchChannel) (j : Joined) → Calm (λ ls. told_joined x p j ls)
 calm_told (Connected c) p j = calm_ask j.other Accept
 calm_told (Closed c cause diagnostic reason) p j =
     calm_then (λ ls. ask j.other (Clearing (clear_cause reason cause) (far_diagnostic reason diagnostic)) ls) (λ ls. with_joined j.other None (with_joined p None ls))
@@ -121,11 +121,11 @@ calm_told (Covered c n) p j =
     calm_by (λ ls. joined_at ls j.other) (λ o ls. covered_on n o j.other ls) (λ m ls. joins_unnoted j.other m ls) (λ o. calm_covered n o j.other)
 calm_told (Incoming c parts) p j = calm_same
 
-calm_told_of : (o : Option Joined) (x : Note) (p : Place) → Calm (λ ls. told_of o x p ls)
+calm_told_of : (o : Option Joined) (x : Note) (p : SwitchChannel) → Calm (λ ls. told_of o x p ls)
 calm_told_of None x p = calm_same
 calm_told_of (Some j) x p = calm_told x p j
 
-calm_tell : (x : Note) (p : Place) → Calm (λ ls. told_of (joined_at ls p) x p ls)
+calm_tell : (x : Note) (p : SwitchChannel) → Calm (λ ls. told_of (joined_at ls p) x p ls)
 calm_tell x p = calm_by (λ ls. joined_at ls p) (λ o ls. told_of o x p ls) (λ n ls. joins_unnoted p n ls) (λ o. calm_told_of o x p)
 
 -- ---- a call that comes in
@@ -155,14 +155,14 @@ addresses_unnoted (suc m) (suc n) (l ∷ ls) = addresses_unnoted m n ls
 forwarded_unnoted : (m : ℕ) (parts : CallParts) (n : ℕ) (ls : List SwitchLine) → forwarded (unnoted n ls) m parts ≡ forwarded ls m parts
 forwarded_unnoted m parts n ls = ap (λ (calling : List ℕ). record parts { calling = calling; facilities = [] }) (addresses_unnoted m n ls)
 
-calm_join : (p q : Place) → Calm (λ ls. with_join p q ls)
+calm_join : (p q : SwitchChannel) → Calm (λ ls. with_join p q ls)
 calm_join p q =
     calm_then (λ ls. with_joined q (Some (record { other = p; came_in = false; kept = new_direction })) ls)
     (λ ls. with_joined p (Some (record { other = q; came_in = true; kept = new_direction })) ls)
     (calm_joined q (Some (record { other = p; came_in = false; kept = new_direction })))
     (calm_joined p (Some (record { other = q; came_in = true; kept = new_direction })))
 
-calm_answered : (a : Answer) (p : Place) (parts : CallParts) → Calm (λ ls. answered a p parts ls)
+calm_answered : (a : Answer) (p : SwitchChannel) (parts : CallParts) → Calm (λ ls. answered a p parts ls)
 calm_answered (Clears cause) p parts = calm_ask p (Clearing cause no_information)
 calm_answered (Joins q) p parts =
     calm_then (λ ls. with_join p q ls) (λ ls. place_call q.line (forwarded ls p.line parts) ls) (calm_join p q)

@@ -3,32 +3,32 @@ use Rattle.std.proofs.Common.{◌≡◌, ℕ, zero, suc, ◌+◌, ◌*◌, ◌�
 use Rattle.flow_window.specs.Pool.{Pool, Buffer, weight, pooled}
 use Rattle.frame_codec.specs.Spelling.{most_information}
 use Rattle.packet_end.specs.Pooled.{share_with}
-use Rattle.switch_lines.specs.declared.config.LineConfig.{LineConfig}
+use Rattle.switch_lines.specs.declared.config.SwitchLineConfig.{SwitchLineConfig}
 use Rattle.switch_lines.specs.Making.{IsConfig, made_line, shares_with}
 use Rattle.switch_lines.proofs.Changing.{there}
 use Rattle.switch_lines.specs.Pooled.{PooledLine, plain, buffers, shares, KeepWithin, ArePooled}
 
 -- a line as it is made
-abbrev pub made_pooled : LineConfig → PooledLine
+abbrev pub made_pooled : SwitchLineConfig → PooledLine
 made_pooled c = record { line = made_line c; held = []; share = share_with c.params }
 
-pub plain_made : (cs : List LineConfig) → plain (map made_pooled cs) ≡ map made_line cs
+pub plain_made : (cs : List SwitchLineConfig) → plain (map made_pooled cs) ≡ map made_line cs
 plain_made [] = refl
 plain_made (c ∷ cs) = ap (λ ls. made_line c ∷ ls) (plain_made cs)
 
-no_buffers : (cs : List LineConfig) → buffers (map made_pooled cs) ≡ []
+no_buffers : (cs : List SwitchLineConfig) → buffers (map made_pooled cs) ≡ []
 no_buffers [] = refl
 no_buffers (c ∷ cs) = no_buffers cs
 
-all_shares : (cs : List LineConfig) → shares (map made_pooled cs) ≡ shares_with cs
+all_shares : (cs : List SwitchLineConfig) → shares (map made_pooled cs) ≡ shares_with cs
 all_shares [] = refl
 all_shares (c ∷ cs) = ap (λ n. share_with c.params + n) (all_shares cs)
 
-all_within : (cs : List LineConfig) → KeepWithin (map made_pooled cs)
+all_within : (cs : List SwitchLineConfig) → KeepWithin (map made_pooled cs)
 all_within [] = tt
 all_within (c ∷ cs) = (omega arith, all_within cs)
 
-pub pooled_made : (pool : Pool) (cs : List LineConfig) (ps : List PooledLine) → ps ≡ map made_pooled cs →
+pub pooled_made : (pool : Pool) (cs : List SwitchLineConfig) (ps : List PooledLine) → ps ≡ map made_pooled cs →
     pool.size ≡ most_information → length pool.places ≡ shares_with cs → ((w : Buffer → ℕ) → pooled w pool ≡ 0) →
     ArePooled pool ps
 pooled_made pool cs ps is size places none = subst (λ (zs : List PooledLine). ArePooled pool zs) (sym is) (record {
@@ -49,22 +49,22 @@ small k channels window a b d =
     times zero n few = omega arith
     times (suc m) n few = let rest = times m n few in omega (arith, rest, few)
 
-pub one_share : (cs : List LineConfig) (i : ℕ) (c : LineConfig) → IsConfig cs → i < length cs → c ≡ get_or cs i c →
+pub one_share : (cs : List SwitchLineConfig) (i : ℕ) (c : SwitchLineConfig) → IsConfig cs → i < length cs → c ≡ get_or cs i c →
     share_with c.params ≤ 488
 one_share cs i c are less is =
     let p = (are.each i c (there cs i c less is)).params in
     small c.params.k c.params.channels c.params.window p.link.k_most p.layer.channels_most p.layer.window_most
 
-pub one_share_more : (cs : List LineConfig) (i : ℕ) (c : LineConfig) → i < length cs → c ≡ get_or cs i c →
+pub one_share_more : (cs : List SwitchLineConfig) (i : ℕ) (c : SwitchLineConfig) → i < length cs → c ≡ get_or cs i c →
     shares_with (take (i + 1) cs) ≡ shares_with (take i cs) + share_with c.params
 one_share_more [] i c less is = absurd (omega (arith, less))
-one_share_more (x ∷ xs) zero c less is = ap (λ (c : LineConfig). share_with c.params + 0) (sym is) ∙ omega arith
+one_share_more (x ∷ xs) zero c less is = ap (λ (c : SwitchLineConfig). share_with c.params + 0) (sym is) ∙ omega arith
 one_share_more (x ∷ xs) (suc i) c less is =
     let rest = one_share_more xs i c (omega (arith, less)) is in
     let next : suc i + 1 ≡ suc (i + 1) = omega arith in
     ap (λ n. shares_with (take n (x ∷ xs))) next ∙ omega (arith, rest)
 
-pub all_taken : (cs : List LineConfig) (i : ℕ) → length cs ≤ i → take i cs ≡ cs
+pub all_taken : (cs : List SwitchLineConfig) (i : ℕ) → length cs ≤ i → take i cs ≡ cs
 all_taken [] zero beyond = refl
 all_taken [] (suc i) beyond = refl
 all_taken (c ∷ cs) zero beyond = absurd (omega (arith, beyond))

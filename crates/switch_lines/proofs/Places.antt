@@ -7,7 +7,7 @@ use Rattle.packet_layer.specs.Channel.{Request}
 use Rattle.packet_layer.specs.Channel.Request.{Releasing}
 use Rattle.packet_end.specs.PacketEnd.{asked}
 use Rattle.switch_lines.specs.Direction.{Direction, releasable, released}
-use Rattle.switch_lines.specs.Lines.{Place, Joined, SwitchLine, same_place, changed, flat, nth_joined, joined_on, joined_at, with_nth_joined, with_joined, ask}
+use Rattle.switch_lines.specs.Lines.{SwitchChannel, Joined, SwitchLine, same_place, changed, flat, nth_joined, joined_on, joined_at, with_nth_joined, with_joined, ask}
 use Rattle.switch_lines.specs.Relay.{with_kept, freed}
 use Rattle.switch_lines.specs.OfLine.{joined_with, kept_on, kept_at, released_if, freed_on, freed_at}
 
@@ -48,11 +48,11 @@ joined_kept zero (suc m) c f (l ∷ ls) same = refl
 joined_kept (suc n) zero c f (l ∷ ls) same = refl
 joined_kept (suc n) (suc m) c f (l ∷ ls) same = joined_kept n m c f ls same
 
-pub joined_after : (n : ℕ) (f : SwitchLine → SwitchLine) (x : Place) (ls : List SwitchLine) → ((l : SwitchLine) → (f l).joined ≡ l.joined)
+pub joined_after : (n : ℕ) (f : SwitchLine → SwitchLine) (x : SwitchChannel) (ls : List SwitchLine) → ((l : SwitchLine) → (f l).joined ≡ l.joined)
     → joined_at (changed n f ls) x ≡ joined_at ls x
 joined_after n f x ls same = joined_kept n x.line x.channel f ls same
 
-pub joined_asked : (p : Place) (q : Request) (x : Place) (ls : List SwitchLine) → joined_at (ask p q ls) x ≡ joined_at ls x
+pub joined_asked : (p : SwitchChannel) (q : Request) (x : SwitchChannel) (ls : List SwitchLine) → joined_at (ask p q ls) x ≡ joined_at ls x
 joined_asked p q x ls = joined_after p.line _ x ls (λ l. refl)
 
 slot_here : (js : List (Option Joined)) (i : ℕ) (j : Joined) (o : Option Joined) → flat (slice_get js i) ≡ Some j → flat (slice_get (set js i o) i) ≡ o
@@ -70,29 +70,29 @@ line_here n c j o [] e = absurd (none-some j e)
 line_here zero c j o (l ∷ ls) e = nth_here l.joined c j o e
 line_here (suc n) c j o (l ∷ ls) e = line_here n c j o ls e
 
-pub joined_here : (p : Place) (j : Joined) (o : Option Joined) (ls : List SwitchLine) → joined_at ls p ≡ Some j → joined_at (with_joined p o ls) p ≡ o
+pub joined_here : (p : SwitchChannel) (j : Joined) (o : Option Joined) (ls : List SwitchLine) → joined_at ls p ≡ Some j → joined_at (with_joined p o ls) p ≡ o
 joined_here p j o ls e = line_here p.line p.channel j o ls e
 
 -- what the line of a joined channel has there
-joined_line : (ls : List SwitchLine) (p : Place) (j : Joined) (l : SwitchLine) → joined_at ls p ≡ Some j → slice_get ls p.line ≡ Some l
+joined_line : (ls : List SwitchLine) (p : SwitchChannel) (j : Joined) (l : SwitchLine) → joined_at ls p ≡ Some j → slice_get ls p.line ≡ Some l
     → nth_joined l.joined p.channel ≡ Some j
 joined_line ls p j l e at = ap (λ (o : Option SwitchLine). joined_on o p.channel) (sym at) ∙ e
 
 -- ---- directions
 
-pub kept_joined : (f : Direction → Direction) (p : Place) (j : Joined) (ls : List SwitchLine) → joined_at ls p ≡ Some j
+pub kept_joined : (f : Direction → Direction) (p : SwitchChannel) (j : Joined) (ls : List SwitchLine) → joined_at ls p ≡ Some j
     → kept_at p f ls ≡ with_kept p j (f j.kept) ls
 kept_joined f p j ls e =
     same_there (kept_on p.channel f) (λ l. record l { joined = with_nth_joined l.joined p.channel (Some (record j { kept = f j.kept })) }) p.line ls
     (λ l at. rw (joined_line ls p j l e at) refl)
 
-pub freed_joined : (p : Place) (j : Joined) (ls : List SwitchLine) → joined_at ls p ≡ Some j → freed_at p ls ≡ freed p j j.kept ls
+pub freed_joined : (p : SwitchChannel) (j : Joined) (ls : List SwitchLine) → joined_at ls p ≡ Some j → freed_at p ls ≡ freed p j j.kept ls
 freed_joined p j ls e =
     same_there (freed_on p.channel) _ p.line ls (λ l at. rw (joined_line ls p j l e at) refl)
     ∙ sym (fused (λ l. record l { joined = with_nth_joined l.joined p.channel (Some (record j { kept = released j.kept })) }) _ p.line ls)
 
 -- what was kept before does not matter
-pub freed_kept : (p : Place) (j : Joined) (v : Direction) (ls : List SwitchLine) → freed p (record j { kept = v }) v (with_kept p j v ls) ≡ freed p j v ls
+pub freed_kept : (p : SwitchChannel) (j : Joined) (v : Direction) (ls : List SwitchLine) → freed p (record j { kept = v }) v (with_kept p j v ls) ≡ freed p j v ls
 freed_kept p j v ls =
     again (λ l. record l { joined = with_nth_joined l.joined p.channel (Some (record j { kept = released v })) })
     (λ l. record l { end = asked l.end p.channel (Releasing (releasable v.held)) })
@@ -122,15 +122,15 @@ same_all n [] = refl
 same_all zero (x ∷ xs) = refl
 same_all (suc n) (x ∷ xs) = ap (λ ys. x ∷ ys) (same_all n xs)
 
-none_line : (ls : List SwitchLine) (p : Place) (l : SwitchLine) → joined_at ls p ≡ None → slice_get ls p.line ≡ Some l
+none_line : (ls : List SwitchLine) (p : SwitchChannel) (l : SwitchLine) → joined_at ls p ≡ None → slice_get ls p.line ≡ Some l
     → nth_joined l.joined p.channel ≡ None
 none_line ls p l e at = ap (λ (o : Option SwitchLine). joined_on o p.channel) (sym at) ∙ e
 
-pub kept_none : (f : Direction → Direction) (p : Place) (ls : List SwitchLine) → joined_at ls p ≡ None → kept_at p f ls ≡ ls
+pub kept_none : (f : Direction → Direction) (p : SwitchChannel) (ls : List SwitchLine) → joined_at ls p ≡ None → kept_at p f ls ≡ ls
 kept_none f p ls e =
     same_there (kept_on p.channel f) (λ l. l) p.line ls (λ l at. kept_on_none f p.channel l (none_line ls p l e at)) ∙ same_all p.line ls
 
-pub freed_none : (p : Place) (ls : List SwitchLine) → joined_at ls p ≡ None → freed_at p ls ≡ ls
+pub freed_none : (p : SwitchChannel) (ls : List SwitchLine) → joined_at ls p ≡ None → freed_at p ls ≡ ls
 freed_none p ls e =
     same_there (freed_on p.channel) (λ l. l) p.line ls
     (λ l at. let none = none_line ls p l e at in
@@ -147,12 +147,12 @@ and_both : (a b : Bool) → (a && b) ≡ true → (a ≡ true) × (b ≡ true)
 and_both true b e = (refl, e)
 and_both false b e = absurd (true≢false (sym e))
 
-pub place_is : (p q : Place) → same_place p q ≡ true → p ≡ q
+pub place_is : (p q : SwitchChannel) → same_place p q ≡ true → p ≡ q
 place_is p q e =
     let b = and_both (p.line == q.line) (p.channel == q.channel) e in
     ap₂ (λ (l c : ℕ). record { line = l; channel = c }) (eqb-true p.line q.line b.0) (eqb-true p.channel q.channel b.1)
 
-apart_by : (p q : Place) → same_place p q ≡ false → (p.line ≡ q.line → ⊥) ⊎ ((p.line ≡ q.line) × (p.channel ≡ q.channel → ⊥))
+apart_by : (p q : SwitchChannel) → same_place p q ≡ false → (p.line ≡ q.line → ⊥) ⊎ ((p.line ≡ q.line) × (p.channel ≡ q.channel → ⊥))
 apart_by p q e = by_line (decided (p.line == q.line))
   where
     by_line : ((p.line == q.line) ≡ true) ⊎ ((p.line == q.line) ≡ false) → (p.line ≡ q.line → ⊥) ⊎ ((p.line ≡ q.line) × (p.channel ≡ q.channel → ⊥))
@@ -184,7 +184,7 @@ line_apart n c d o [] ne = refl
 line_apart zero c d o (l ∷ ls) ne = nth_apart l.joined c d o ne
 line_apart (suc n) c d o (l ∷ ls) ne = line_apart n c d o ls ne
 
-pub joined_apart : (p : Place) (o : Option Joined) (x : Place) (ls : List SwitchLine) → same_place x p ≡ false → joined_at (with_joined p o ls) x ≡ joined_at ls x
+pub joined_apart : (p : SwitchChannel) (o : Option Joined) (x : SwitchChannel) (ls : List SwitchLine) → same_place x p ≡ false → joined_at (with_joined p o ls) x ≡ joined_at ls x
 joined_apart p o x ls e = by_place (apart_by x p e)
   where
     by_place : (x.line ≡ p.line → ⊥) ⊎ ((x.line ≡ p.line) × (x.channel ≡ p.channel → ⊥)) → joined_at (with_joined p o ls) x ≡ joined_at ls x

@@ -14,7 +14,7 @@ use Rattle.packet_layer.specs.TakenView.{shown_front, maybe_front}
 use Rattle.packet_channel.specs.declared.taken.Front.{Front}
 use Rattle.packet_channel.specs.declared.taken.Front.TheVariants as front
 use Rattle.switch_lines.specs.Direction.{request_for, carried, carried_by}
-use Rattle.switch_lines.specs.Lines.{Place, Joined, SwitchLine, joined_at, ask, front_at, front_of_line, refusal_at, refusal_of_line}
+use Rattle.switch_lines.specs.Lines.{SwitchChannel, Joined, SwitchLine, joined_at, ask, front_at, front_of_line, refusal_at, refusal_of_line}
 use Rattle.switch_lines.specs.Relay.{moved, moved_joined, moved_front, moved_unless, freed, with_kept, relayed}
 use Rattle.switch_lines.specs.OfLine.{is_taken, taken_on, freed_at, Fits, sent_on, MovesFront}
 use Rattle.switch_lines.proofs.Places.{joined_asked, joined_here, kept_joined, freed_joined, freed_kept}
@@ -115,7 +115,7 @@ shown_is : (o : Option Taken) (t : Taken) (f : Front) → Some t ≡ o → Some 
 shown_is None t f at is = absurd (none-some t (sym at))
 shown_is (Some u) t f at is = same_Some f (shown_front u) is ∙ ap shown_front (sym (same_Some t u at))
 
-pub joined_by : (o : Option Joined) (q : Place) → Some q ≡ option_map (λ j. j.other) o → (j : Joined) × (o ≡ Some j) × (j.other ≡ q)
+pub joined_by : (o : Option Joined) (q : SwitchChannel) → Some q ≡ option_map (λ j. j.other) o → (j : Joined) × (o ≡ Some j) × (j.other ≡ q)
 joined_by None q e = absurd (none-some q (sym e))
 joined_by (Some j) q e = (j, refl, sym (same_Some q j.other e))
 
@@ -127,34 +127,34 @@ nothing_shown : (o : Option Taken) → None ≡ maybe_front o → o ≡ None
 nothing_shown None e = refl
 nothing_shown (Some t) e = absurd (none-some (shown_front t) e)
 
-pub moves_unjoined : (ls : List SwitchLine) (p : Place) → None ≡ option_map (λ j. j.other) (joined_at ls p) → ls ≡ moved p ls
+pub moves_unjoined : (ls : List SwitchLine) (p : SwitchChannel) → None ≡ option_map (λ j. j.other) (joined_at ls p) → ls ≡ moved p ls
 moves_unjoined ls p none = sym (ap (λ o. moved_joined o p ls) (not_joined (joined_at ls p) none))
 
-empty_joined : (o : Option Joined) (p : Place) (ls : List SwitchLine) → front_at ls p ≡ None → moved_joined o p ls ≡ ls
+empty_joined : (o : Option Joined) (p : SwitchChannel) (ls : List SwitchLine) → front_at ls p ≡ None → moved_joined o p ls ≡ ls
 empty_joined None p ls e = refl
 empty_joined (Some j) p ls e = ap (λ o. moved_front o p j ls) e
 
-pub moves_nothing : (ls : List SwitchLine) (p : Place) → None ≡ maybe_front (front_at ls p) → ls ≡ moved p ls
+pub moves_nothing : (ls : List SwitchLine) (p : SwitchChannel) → None ≡ maybe_front (front_at ls p) → ls ≡ moved p ls
 moves_nothing ls p none = sym (empty_joined (joined_at ls p) p ls (nothing_shown (front_at ls p) none))
 
-unless_refused : (o : Option Refusal) (t : Taken) (p : Place) (j : Joined) (ls : List SwitchLine) → is_some o ≡ true → moved_unless o t p j ls ≡ ls
+unless_refused : (o : Option Refusal) (t : Taken) (p : SwitchChannel) (j : Joined) (ls : List SwitchLine) → is_some o ≡ true → moved_unless o t p j ls ≡ ls
 unless_refused None t p j ls h = absurd (true≢false (sym h))
 unless_refused (Some r) t p j ls h = refl
 
-front_refused : (o : Option Taken) (f : Front) (p : Place) (j : Joined) (ls : List SwitchLine) → Some f ≡ maybe_front o → is_taken ls j.other f ≡ false → moved_front o p j ls ≡ ls
+front_refused : (o : Option Taken) (f : Front) (p : SwitchChannel) (j : Joined) (ls : List SwitchLine) → Some f ≡ maybe_front o → is_taken ls j.other f ≡ false → moved_front o p j ls ≡ ls
 front_refused None f p j ls is h = absurd (none-some f (sym is))
 front_refused (Some t) f p j ls is h =
     unless_refused (refusal_at ls j.other (request_for t)) t p j ls
     (line_refused t (slice_get ls j.other.line) j.other.channel (ap (λ (x : Front). is_taken ls j.other x) (sym (same_Some f (shown_front t) is)) ∙ h))
 
-pub moves_refused : (ls : List SwitchLine) (p q : Place) (f : Front) → Some q ≡ option_map (λ j. j.other) (joined_at ls p) →
+pub moves_refused : (ls : List SwitchLine) (p q : SwitchChannel) (f : Front) → Some q ≡ option_map (λ j. j.other) (joined_at ls p) →
     Some f ≡ maybe_front (front_at ls p) → is_taken ls q f ≡ false → ls ≡ moved p ls
 moves_refused ls p q f joined shown h =
     let found = joined_by (joined_at ls p) q joined in
     sym (ap (λ o. moved_joined o p ls) found.1
-    ∙ front_refused (front_at ls p) f p found.0 ls shown (ap (λ (x : Place). is_taken ls x f) found.2 ∙ h))
+    ∙ front_refused (front_at ls p) f p found.0 ls shown (ap (λ (x : SwitchChannel). is_taken ls x f) found.2 ∙ h))
 
-moved_as : (ls : List SwitchLine) (p : Place) (j : Joined) (t : Taken) (f : Front) → joined_at ls p ≡ Some j → Some t ≡ front_at ls p →
+moved_as : (ls : List SwitchLine) (p : SwitchChannel) (j : Joined) (t : Taken) (f : Front) → joined_at ls p ≡ Some j → Some t ≡ front_at ls p →
     Some f ≡ maybe_front (front_at ls p) → is_taken ls j.other f ≡ true → Fits t →
     moved p ls ≡ freed p j (carried_by t j.kept) (ask j.other (request_for t) (ask p Taking ls))
 moved_as ls p j t f joined front shown h fits =
@@ -164,10 +164,10 @@ moved_as ls p j t f joined front shown h fits =
     ap (λ o. moved_joined o p ls) joined ∙ ap (λ o. moved_front o p j ls) (sym front)
     ∙ ap (λ o. moved_unless o t p j ls) open_to
 
-still_joined : (ls : List SwitchLine) (p : Place) (j : Joined) (r : Request) → joined_at ls p ≡ Some j → joined_at (ask j.other r (ask p Taking ls)) p ≡ Some j
+still_joined : (ls : List SwitchLine) (p : SwitchChannel) (j : Joined) (r : Request) → joined_at ls p ≡ Some j → joined_at (ask j.other r (ask p Taking ls)) p ≡ Some j
 still_joined ls p j r e = joined_asked j.other r p (ask p Taking ls) ∙ joined_asked p Taking p ls ∙ e
 
-sent_as : (t : Taken) (ls : List SwitchLine) (p : Place) (j : Joined) → joined_at ls p ≡ Some j →
+sent_as : (t : Taken) (ls : List SwitchLine) (p : SwitchChannel) (j : Joined) → joined_at ls p ≡ Some j →
     sent_on t p j.other (ask p Taking ls) ≡ freed p j (carried_by t j.kept) (ask j.other (request_for t) (ask p Taking ls))
 sent_as (TakenInterrupt octets) ls p j e =
     freed_joined p j (ask j.other (Interrupting octets) (ask p Taking ls)) (still_joined ls p j (Interrupting octets) e)
@@ -179,20 +179,20 @@ sent_as (TakenPacket d) ls p j e =
     ∙ freed_joined p (record j { kept = v }) (with_kept p j v ms) (joined_here p j (Some (record j { kept = v })) ms still)
     ∙ freed_kept p j v ms
 
-pub moves : (ls : List SwitchLine) (p q : Place) (f : Front) (t : Taken) → Some q ≡ option_map (λ j. j.other) (joined_at ls p) →
+pub moves : (ls : List SwitchLine) (p q : SwitchChannel) (f : Front) (t : Taken) → Some q ≡ option_map (λ j. j.other) (joined_at ls p) →
     Some f ≡ maybe_front (front_at ls p) → is_taken ls q f ≡ true → Some t ≡ front_at ls p → Fits t →
     sent_on t p q (ask p Taking ls) ≡ moved p ls
 moves ls p q f t joined shown h front fits =
     let found = joined_by (joined_at ls p) q joined in
-    ap (λ (x : Place). sent_on t p x (ask p Taking ls)) (sym found.2) ∙ sent_as t ls p found.0 found.1
-    ∙ sym (moved_as ls p found.0 t f found.1 front shown (ap (λ (x : Place). is_taken ls x f) found.2 ∙ h) fits)
+    ap (λ (x : SwitchChannel). sent_on t p x (ask p Taking ls)) (sym found.2) ∙ sent_as t ls p found.0 found.1
+    ∙ sym (moved_as ls p found.0 t f found.1 front shown (ap (λ (x : SwitchChannel). is_taken ls x f) found.2 ∙ h) fits)
 
 -- where something is shown, something is taken
 pub shown_taken : (o : Option Taken) (f : Front) → None ≡ o → Some f ≡ maybe_front o → ⊥
 shown_taken None f none shown = none-some f (sym shown)
 shown_taken (Some t) f none shown = none-some t none
 
-pub moves_front : (ls new : List SwitchLine) (p q : Place) (f : Front) (o : Option Taken) → o ≡ front_at ls p →
+pub moves_front : (ls new : List SwitchLine) (p q : SwitchChannel) (f : Front) (o : Option Taken) → o ≡ front_at ls p →
     Some q ≡ option_map (λ j. j.other) (joined_at ls p) → Some f ≡ maybe_front (front_at ls p) → is_taken ls q f ≡ true →
     MovesFront o p q ls new → freed_at p new ≡ moved p ls
 moves_front ls new p q f None at joined shown h moved_on = absurd (shown_taken (front_at ls p) f at shown)
@@ -205,7 +205,7 @@ front_within [] n c f shown = absurd (none-some f (sym shown))
 front_within (l ∷ ls) zero c f shown = omega arith
 front_within (l ∷ ls) (suc n) c f shown = let more = front_within ls n c f shown in omega (arith, more)
 
-pub front_there : (ls : List SwitchLine) (p : Place) (f : Front) → Some f ≡ maybe_front (front_at ls p) →
+pub front_there : (ls : List SwitchLine) (p : SwitchChannel) (f : Front) → Some f ≡ maybe_front (front_at ls p) →
     p.line < length ls
 front_there ls p f shown = front_within ls p.line p.channel f shown
 
@@ -214,15 +214,15 @@ taken_within [] n c f h = absurd (true≢false (sym h))
 taken_within (l ∷ ls) zero c f h = omega arith
 taken_within (l ∷ ls) (suc n) c f h = let more = taken_within ls n c f h in omega (arith, more)
 
-pub taken_there : (ls : List SwitchLine) (q : Place) (f : Front) → is_taken ls q f ≡ true → q.line < length ls
+pub taken_there : (ls : List SwitchLine) (q : SwitchChannel) (f : Front) → is_taken ls q f ≡ true → q.line < length ls
 taken_there ls q f h = taken_within ls q.line q.channel f h
 
 -- ---- several moves
 
-one_more : (n m : ℕ) (p : Place) (ls : List SwitchLine) → n ≡ suc m → relayed n p ls ≡ relayed m p (moved p ls)
+one_more : (n m : ℕ) (p : SwitchChannel) (ls : List SwitchLine) → n ≡ suc m → relayed n p ls ≡ relayed m p (moved p ls)
 one_more zero m p ls e = absurd (omega arith)
 one_more (suc n) m p ls e = let same : n ≡ m = omega arith in ap (λ k. relayed k p (moved p ls)) same
 
-pub one_moved : (most count : ℕ) (p : Place) (ls : List SwitchLine) → count < most →
+pub one_moved : (most count : ℕ) (p : SwitchChannel) (ls : List SwitchLine) → count < most →
     relayed (most - (count + 1)) p (moved p ls) ≡ relayed (most - count) p ls
 one_moved most count p ls within = sym (one_more (most - count) (most - (count + 1)) p ls (omega arith))

@@ -23,8 +23,8 @@ use Rattle.packet_end.specs.PacketEnd.{PacketEnd, relinked, offered, all_offered
 use Rattle.address_routes.specs.Routes.{RouteMap}
 use Rattle.switch_lines.specs.Direction.{Direction, releasable, carried_by, request_for}
 use Rattle.switch_lines.specs.Causes.{reset_cause, clear_cause, far_diagnostic}
-use Rattle.switch_lines.specs.declared.place.Place.{Place}
-use Rattle.switch_lines.specs.declared.place.Joined.{Joined}
+use Rattle.switch_lines.specs.declared.channels.SwitchChannel.{SwitchChannel}
+use Rattle.switch_lines.specs.declared.channels.Joined.{Joined}
 use Rattle.switch_lines.specs.Lines.{SwitchLine, changed, joined_at, with_joined, ask, front_at, refusal_at}
 use Rattle.switch_lines.specs.Relay.{freed, kept_anew, covered_on, told_joined, told_of, moved, moved_unless}
 use Rattle.switch_lines.specs.Relay.{moved_front, moved_joined, relayed, relayed_from}
@@ -130,10 +130,10 @@ marks_down n f (b ∷ bs) [] down m = absurd m
 marks_down zero f (b ∷ bs) (l ∷ ls) down m = ((λ e. down l), m.1)
 marks_down (suc n) f (b ∷ bs) (l ∷ ls) down m = (m.0, marks_down n f bs ls down m.1)
 
-marks_asked : (p : Place) (q : Request) (bs : List Bool) (ls : List SwitchLine) → Marks bs ls → Marks bs (ask p q ls)
+marks_asked : (p : SwitchChannel) (q : Request) (bs : List Bool) (ls : List SwitchLine) → Marks bs ls → Marks bs (ask p q ls)
 marks_asked p q bs ls m = marks_changed p.line _ bs ls (λ l d. down_asked l.end.layer p.channel q d) m
 
-marks_joined : (p : Place) (o : Option Joined) (bs : List Bool) (ls : List SwitchLine) → Marks bs ls →
+marks_joined : (p : SwitchChannel) (o : Option Joined) (bs : List Bool) (ls : List SwitchLine) → Marks bs ls →
     Marks bs (with_joined p o ls)
 marks_joined p o bs ls m = marks_changed p.line _ bs ls (λ l d. d) m
 
@@ -141,21 +141,21 @@ marks_called : (n : ℕ) (parts : CallParts) (bs : List Bool) (ls : List SwitchL
     Marks bs (place_call n parts ls)
 marks_called n parts bs ls m = marks_changed n _ bs ls (λ l d. down_called l.end.layer parts d) m
 
-marks_freed : (p : Place) (j : Joined) (v : Direction) (bs : List Bool) (ls : List SwitchLine) → Marks bs ls →
+marks_freed : (p : SwitchChannel) (j : Joined) (v : Direction) (bs : List Bool) (ls : List SwitchLine) → Marks bs ls →
     Marks bs (freed p j v ls)
 marks_freed p j v bs ls m = marks_joined p _ bs _ (marks_asked p (Releasing (releasable v.held)) bs ls m)
 
-marks_anew : (o : Option Joined) (p : Place) (bs : List Bool) (ls : List SwitchLine) → Marks bs ls →
+marks_anew : (o : Option Joined) (p : SwitchChannel) (bs : List Bool) (ls : List SwitchLine) → Marks bs ls →
     Marks bs (kept_anew o p ls)
 marks_anew None p bs ls m = m
 marks_anew (Some j) p bs ls m = marks_joined p _ bs ls m
 
-marks_covered : (n : ℕ) (o : Option Joined) (p : Place) (bs : List Bool) (ls : List SwitchLine) → Marks bs ls →
+marks_covered : (n : ℕ) (o : Option Joined) (p : SwitchChannel) (bs : List Bool) (ls : List SwitchLine) → Marks bs ls →
     Marks bs (covered_on n o p ls)
 marks_covered n None p bs ls m = m
 marks_covered n (Some j) p bs ls m = marks_freed p j _ bs ls m
 
-marks_told : (note : Note) (p : Place) (j : Joined) (bs : List Bool) (ls : List SwitchLine) → Marks bs ls →
+marks_told : (note : Note) (p : SwitchChannel) (j : Joined) (bs : List Bool) (ls : List SwitchLine) → Marks bs ls →
     Marks bs (told_joined note p j ls)
 marks_told (Connected c) p j bs ls m = marks_asked j.other Accept bs ls m
 marks_told (Closed c cause diagnostic reason) p j bs ls m =
@@ -169,12 +169,12 @@ marks_told (InterruptConfirmed c) p j bs ls m = marks_asked j.other Confirming b
 marks_told (Covered c n) p j bs ls m = marks_covered n (joined_at ls j.other) j.other bs ls m
 marks_told (Incoming c parts) p j bs ls m = m
 
-marks_told_of : (o : Option Joined) (note : Note) (p : Place) (bs : List Bool) (ls : List SwitchLine) → Marks bs ls →
+marks_told_of : (o : Option Joined) (note : Note) (p : SwitchChannel) (bs : List Bool) (ls : List SwitchLine) → Marks bs ls →
     Marks bs (told_of o note p ls)
 marks_told_of None note p bs ls m = m
 marks_told_of (Some j) note p bs ls m = marks_told note p j bs ls m
 
-marks_answered : (a : Answer) (p : Place) (parts : CallParts) (bs : List Bool) (ls : List SwitchLine) → Marks bs ls →
+marks_answered : (a : Answer) (p : SwitchChannel) (parts : CallParts) (bs : List Bool) (ls : List SwitchLine) → Marks bs ls →
     Marks bs (answered a p parts ls)
 marks_answered (Clears cause) p parts bs ls m = marks_asked p (Clearing cause _) bs ls m
 marks_answered (Joins q) p parts bs ls m = marks_joined q _ bs _ (marks_joined p _ bs _
@@ -320,18 +320,18 @@ request_asks l c q (Some ch) plain =
     ap (λ (b : Option Body). set_if (passes_limit (requested l.role ch q).channel.owed b) l.relink)
     (unless_owes (refusal l.role ch q) (carried_out ch q) ch (plain ch))
 
-asked_asks : (p : Place) (q : Request) (ls : List SwitchLine) → OwesNothing q → asks (ask p q ls) ≡ asks ls
+asked_asks : (p : SwitchChannel) (q : Request) (ls : List SwitchLine) → OwesNothing q → asks (ask p q ls) ≡ asks ls
 asked_asks p q ls plain = map_unchanged (λ l. l.end.layer.relink) _ p.line ls
     (λ l. request_asks l.end.layer p.channel q (channel_of l.end.layer p.channel) plain)
 
-joined_asks : (p : Place) (o : Option Joined) (ls : List SwitchLine) → asks (with_joined p o ls) ≡ asks ls
+joined_asks : (p : SwitchChannel) (o : Option Joined) (ls : List SwitchLine) → asks (with_joined p o ls) ≡ asks ls
 joined_asks p o ls = map_unchanged (λ l. l.end.layer.relink) _ p.line ls (λ l. refl)
 
 sending_owes : (t : Taken) → OwesNothing (request_for t)
 sending_owes (TakenInterrupt octets) ch = refl
 sending_owes (TakenPacket d) ch = refl
 
-unless_asks : (r : Option Refusal) (t : Taken) (p : Place) (j : Joined) (ls : List SwitchLine) →
+unless_asks : (r : Option Refusal) (t : Taken) (p : SwitchChannel) (j : Joined) (ls : List SwitchLine) →
     asks (moved_unless r t p j ls) ≡ asks ls
 unless_asks (Some r) t p j ls = refl
 unless_asks None t p j ls =
@@ -339,19 +339,19 @@ unless_asks None t p j ls =
     (ask j.other (request_for t) (ask p Taking ls)) (λ ch. refl)
     ∙ (asked_asks j.other (request_for t) (ask p Taking ls) (sending_owes t) ∙ asked_asks p Taking ls (λ ch. refl)))
 
-front_asks : (o : Option Taken) (p : Place) (j : Joined) (ls : List SwitchLine) → asks (moved_front o p j ls) ≡ asks ls
+front_asks : (o : Option Taken) (p : SwitchChannel) (j : Joined) (ls : List SwitchLine) → asks (moved_front o p j ls) ≡ asks ls
 front_asks None p j ls = refl
 front_asks (Some t) p j ls = unless_asks (refusal_at ls j.other (request_for t)) t p j ls
 
-moved_asks : (o : Option Joined) (p : Place) (ls : List SwitchLine) → asks (moved_joined o p ls) ≡ asks ls
+moved_asks : (o : Option Joined) (p : SwitchChannel) (ls : List SwitchLine) → asks (moved_joined o p ls) ≡ asks ls
 moved_asks None p ls = refl
 moved_asks (Some j) p ls = front_asks (front_at ls p) p j ls
 
-relayed_asks : (most : ℕ) (p : Place) (ls : List SwitchLine) → asks (relayed most p ls) ≡ asks ls
+relayed_asks : (most : ℕ) (p : SwitchChannel) (ls : List SwitchLine) → asks (relayed most p ls) ≡ asks ls
 relayed_asks zero p ls = refl
 relayed_asks (suc most) p ls = relayed_asks most p (moved p ls) ∙ moved_asks (joined_at ls p) p ls
 
-pub from_asks : (ps : List Place) (ls : List SwitchLine) → asks (relayed_from ps ls) ≡ asks ls
+pub from_asks : (ps : List SwitchChannel) (ls : List SwitchLine) → asks (relayed_from ps ls) ≡ asks ls
 from_asks [] ls = refl
 from_asks (p ∷ ps) ls = from_asks ps (relayed 8 p ls) ∙ relayed_asks 8 p ls
 

@@ -5,7 +5,7 @@ use Rattle.packet_layer.specs.Traffic.{Taken}
 use Rattle.packet_layer.specs.Channel.{Refusal, Request}
 use Rattle.packet_layer.specs.Channel.Request.{Taking, Releasing}
 use Rattle.switch_lines.specs.Direction.{releasable, carried_by, request_for}
-use Rattle.switch_lines.specs.Lines.{Place, Joined, SwitchLine, changed, joined_at, with_nth_joined, with_joined, ask, front_at, refusal_at, places_on, places_from}
+use Rattle.switch_lines.specs.Lines.{SwitchChannel, Joined, SwitchLine, changed, joined_at, with_nth_joined, with_joined, ask, front_at, refusal_at, places_on, places_from}
 pub use Rattle.switch_lines.specs.OfLine.{places_by}
 use Rattle.switch_lines.specs.Relay.{moved, moved_joined, moved_front, moved_unless, relayed, relayed_from, all_relayed}
 
@@ -14,7 +14,7 @@ abbrev pub counts : List SwitchLine → List ℕ
 counts ls = map (λ l. length l.joined) ls
 
 -- the channels of lines that have so many, from this line on
-abbrev pub places_by_counts : (line : ℕ) → List ℕ → List Place
+abbrev pub places_by_counts : (line : ℕ) → List ℕ → List SwitchChannel
 places_by_counts n [] = []
 places_by_counts n (k ∷ ks) = places_by n 1 k ++ places_by_counts (suc n) ks
 
@@ -24,7 +24,7 @@ on_line n c (o ∷ os) = ap (λ ps. record { line = n; channel = c } ∷ ps) (on
 
 from_line : (n : ℕ) (ls : List SwitchLine) → places_from n ls ≡ places_by_counts n (counts ls)
 from_line n [] = refl
-from_line n (l ∷ ls) = ap₂ (λ (ps qs : List Place). ps ++ qs) (on_line n 1 l.joined) (from_line (suc n) ls)
+from_line n (l ∷ ls) = ap₂ (λ (ps qs : List SwitchChannel). ps ++ qs) (on_line n 1 l.joined) (from_line (suc n) ls)
 
 pub all_places : (ls : List SwitchLine) → relayed_from (places_by_counts 0 (counts ls)) ls ≡ all_relayed ls
 all_places ls = ap (λ ps. relayed_from ps ls) (sym (from_line 0 ls))
@@ -65,36 +65,36 @@ set_length : (js : List (Option Joined)) (c : ℕ) (o : Option Joined) → lengt
 set_length js zero o = refl
 set_length js (suc i) o = length-set js i o
 
-pub counts_asked : (p : Place) (q : Request) (ls : List SwitchLine) → counts (ask p q ls) ≡ counts ls
+pub counts_asked : (p : SwitchChannel) (q : Request) (ls : List SwitchLine) → counts (ask p q ls) ≡ counts ls
 counts_asked p q ls = counts_changed p.line _ ls (λ l. refl)
 
-pub counts_joined : (p : Place) (o : Option Joined) (ls : List SwitchLine) → counts (with_joined p o ls) ≡ counts ls
+pub counts_joined : (p : SwitchChannel) (o : Option Joined) (ls : List SwitchLine) → counts (with_joined p o ls) ≡ counts ls
 counts_joined p o ls = counts_changed p.line _ ls (λ l. set_length l.joined p.channel o)
 
-counts_unless : (r : Option Refusal) (t : Taken) (p : Place) (j : Joined) (ls : List SwitchLine) → counts (moved_unless r t p j ls) ≡ counts ls
+counts_unless : (r : Option Refusal) (t : Taken) (p : SwitchChannel) (j : Joined) (ls : List SwitchLine) → counts (moved_unless r t p j ls) ≡ counts ls
 counts_unless (Some r) t p j ls = refl
 counts_unless None t p j ls =
     counts_joined p _ _ ∙ (counts_asked p (Releasing (releasable (carried_by t j.kept).held)) (ask j.other (request_for t) (ask p Taking ls)) ∙ (counts_asked j.other (request_for t) (ask p Taking ls) ∙ counts_asked p Taking ls))
 
-counts_front : (o : Option Taken) (p : Place) (j : Joined) (ls : List SwitchLine) → counts (moved_front o p j ls) ≡ counts ls
+counts_front : (o : Option Taken) (p : SwitchChannel) (j : Joined) (ls : List SwitchLine) → counts (moved_front o p j ls) ≡ counts ls
 counts_front None p j ls = refl
 counts_front (Some t) p j ls = counts_unless (refusal_at ls j.other (request_for t)) t p j ls
 
-counts_moved : (o : Option Joined) (p : Place) (ls : List SwitchLine) → counts (moved_joined o p ls) ≡ counts ls
+counts_moved : (o : Option Joined) (p : SwitchChannel) (ls : List SwitchLine) → counts (moved_joined o p ls) ≡ counts ls
 counts_moved None p ls = refl
 counts_moved (Some j) p ls = counts_front (front_at ls p) p j ls
 
-counts_relayed : (most : ℕ) (p : Place) (ls : List SwitchLine) → counts (relayed most p ls) ≡ counts ls
+counts_relayed : (most : ℕ) (p : SwitchChannel) (ls : List SwitchLine) → counts (relayed most p ls) ≡ counts ls
 counts_relayed zero p ls = refl
 counts_relayed (suc most) p ls = counts_relayed most p (moved p ls) ∙ counts_moved (joined_at ls p) p ls
 
-pub counts_from : (ps : List Place) (ls : List SwitchLine) → counts (relayed_from ps ls) ≡ counts ls
+pub counts_from : (ps : List SwitchChannel) (ls : List SwitchLine) → counts (relayed_from ps ls) ≡ counts ls
 counts_from [] ls = refl
 counts_from (p ∷ ps) ls = counts_from ps (relayed 8 p ls) ∙ counts_relayed 8 p ls
 
 -- ---- one line more
 
-pub from_both : (ps qs : List Place) (ls : List SwitchLine) → relayed_from (ps ++ qs) ls ≡ relayed_from qs (relayed_from ps ls)
+pub from_both : (ps qs : List SwitchChannel) (ls : List SwitchLine) → relayed_from (ps ++ qs) ls ≡ relayed_from qs (relayed_from ps ls)
 from_both [] qs ls = refl
 from_both (p ∷ ps) qs ls = from_both ps qs (relayed 8 p ls)
 

@@ -5,12 +5,12 @@ use Rattle.packet_layer.specs.Channel.{Request, Refusal}
 use Rattle.packet_layer.specs.Layer.{front_on, request_refusal}
 use Rattle.packet_end.specs.PacketEnd.{PacketEnd, asked}
 -- a logical channel of a line; lines are numbered from 0, channels from 1
-pub use Rattle.switch_lines.specs.declared.place.Place.{Place}
+pub use Rattle.switch_lines.specs.declared.channels.SwitchChannel.{SwitchChannel}
 -- what a channel has whose call is joined to another one: that one, whether the call came in here, and the direction
 -- from here to there
-pub use Rattle.switch_lines.specs.declared.place.Joined.{Joined}
+pub use Rattle.switch_lines.specs.declared.channels.Joined.{Joined}
 
-abbrev pub same_place : Place → Place → Bool
+abbrev pub same_place : SwitchChannel → SwitchChannel → Bool
 same_place p q = (p.line == q.line) && (p.channel == q.channel)
 
 -- a line: its end, the address that calls from it get as their calling address, and of its channels 1, 2 and so on
@@ -40,32 +40,32 @@ abbrev pub joined_on : Option SwitchLine → (channel : ℕ) → Option Joined
 joined_on None c = None
 joined_on (Some l) c = nth_joined l.joined c
 
-abbrev pub joined_at : List SwitchLine → Place → Option Joined
+abbrev pub joined_at : List SwitchLine → SwitchChannel → Option Joined
 joined_at ls p = joined_on (slice_get ls p.line) p.channel
 
 abbrev pub with_nth_joined : List (Option Joined) → (channel : ℕ) → Option Joined → List (Option Joined)
 with_nth_joined js zero o = js
 with_nth_joined js (suc i) o = set js i o
 
-abbrev pub with_joined : Place → Option Joined → List SwitchLine → List SwitchLine
+abbrev pub with_joined : SwitchChannel → Option Joined → List SwitchLine → List SwitchLine
 with_joined p o ls = changed p.line (λ l. record l { joined = with_nth_joined l.joined p.channel o }) ls
 
 -- all channels of the lines, in order
-abbrev pub places_on : (line channel : ℕ) → List (Option Joined) → List Place
+abbrev pub places_on : (line channel : ℕ) → List (Option Joined) → List SwitchChannel
 places_on n c [] = []
 places_on n c (o ∷ os) = record { line = n; channel = c } ∷ places_on n (suc c) os
 
-abbrev pub places_from : (line : ℕ) → List SwitchLine → List Place
+abbrev pub places_from : (line : ℕ) → List SwitchLine → List SwitchChannel
 places_from n [] = []
 places_from n (l ∷ ls) = places_on n 1 l.joined ++ places_from (suc n) ls
 
-abbrev pub places : List SwitchLine → List Place
+abbrev pub places : List SwitchLine → List SwitchChannel
 places ls = places_from 0 ls
 
 -- ---- packet layers
 
 -- a request on a channel; a refused one changes nothing
-abbrev pub ask : Place → Request → List SwitchLine → List SwitchLine
+abbrev pub ask : SwitchChannel → Request → List SwitchLine → List SwitchLine
 ask p q ls = changed p.line (λ l. record l { end = asked l.end p.channel q }) ls
 
 -- what `take` gives there, if anything
@@ -73,7 +73,7 @@ abbrev pub front_of_line : Option SwitchLine → (channel : ℕ) → Option Take
 front_of_line None c = None
 front_of_line (Some l) c = front_on l.end.layer c
 
-abbrev pub front_at : List SwitchLine → Place → Option Taken
+abbrev pub front_at : List SwitchLine → SwitchChannel → Option Taken
 front_at ls p = front_of_line (slice_get ls p.line) p.channel
 
 -- why a request is refused there, if it is
@@ -81,5 +81,5 @@ abbrev pub refusal_of_line : Option SwitchLine → (channel : ℕ) → Request �
 refusal_of_line None c q = Some Refusal.NoCall
 refusal_of_line (Some l) c q = request_refusal l.end.layer c q
 
-abbrev pub refusal_at : List SwitchLine → Place → Request → Option Refusal
+abbrev pub refusal_at : List SwitchLine → SwitchChannel → Request → Option Refusal
 refusal_at ls p q = refusal_of_line (slice_get ls p.line) p.channel q

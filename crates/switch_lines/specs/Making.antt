@@ -7,33 +7,33 @@ use Rattle.packet_end.specs.Pooled.{share_with}
 use Rattle.packet_end.specs.declared.fault.EndFault.{EndFault}
 use Rattle.packet_end.specs.declared.fault.EndFault.TheVariants.{BadConfig, OutOfMemory}
 use Rattle.address_routes.specs.Routes.{RouteMap}
-use Rattle.switch_lines.specs.declared.config.LineConfig.{LineConfig}
+use Rattle.switch_lines.specs.declared.config.SwitchLineConfig.{SwitchLineConfig}
 use Rattle.switch_lines.specs.Lines.{SwitchLine}
 use Rattle.switch_lines.specs.Switch.{Switch}
 
 -- the parameters are in their ranges, and the line does not stand
-pub record IsLineConfig (c : LineConfig) : Type 0 where
+pub record IsLineConfig (c : SwitchLineConfig) : Type 0 where
   pub params : AreParams c.params
   pub not_standing : c.params.standing ≡ false
 
 -- 1 to 64 lines
-pub record IsConfig (lines : List LineConfig) : Type 0 where
+pub record IsConfig (lines : List SwitchLineConfig) : Type 0 where
   pub least : 1 ≤ length lines
   pub most : length lines ≤ 64
-  pub each : (n : ℕ) → (c : LineConfig) → slice_get lines n ≡ Some c → IsLineConfig c
+  pub each : (n : ℕ) → (c : SwitchLineConfig) → slice_get lines n ≡ Some c → IsLineConfig c
 
-abbrev pub MadeNot : List LineConfig → EndFault → Type 0
+abbrev pub MadeNot : List SwitchLineConfig → EndFault → Type 0
 MadeNot lines BadConfig = IsConfig lines → ⊥
 MadeNot lines OutOfMemory = IsConfig lines
 
 -- a line without joins, of which the switch is the DCE
-abbrev pub made_line : LineConfig → SwitchLine
+abbrev pub made_line : SwitchLineConfig → SwitchLine
 made_line c = record { end = end.made Dce c.params; address = c.address; joined = replicate c.params.channels None }
 
 -- the shares that lines have of the switch's pool, together
-abbrev pub shares_with : List LineConfig → ℕ
+abbrev pub shares_with : List SwitchLineConfig → ℕ
 shares_with [] = 0
 shares_with (c ∷ cs) = share_with c.params + shares_with cs
 
-abbrev pub made : RouteMap → List LineConfig → Switch
+abbrev pub made : RouteMap → List SwitchLineConfig → Switch
 made routes lines = record { routes = routes; lines = map made_line lines }

@@ -5,15 +5,15 @@ use Rattle.packet_layer.specs.Packets.{Note}
 use Rattle.packet_layer.specs.Packets.Note.{Incoming}
 use Rattle.packet_end.specs.PacketEnd.{PacketEnd, received}
 use Rattle.address_routes.specs.Routes.{RouteMap}
-use Rattle.switch_lines.specs.Lines.{Place, SwitchLine, changed}
+use Rattle.switch_lines.specs.Lines.{SwitchChannel, SwitchLine, changed}
 use Rattle.switch_lines.specs.Switch.{Switch, Answer, answer, heed, notes_of, with_end, without_notes, quieted}
 use Rattle.switch_lines.specs.Switch.{all_begun}
 use Rattle.switch_lines.specs.Switch.Answer.{Clears, Joins}
 -- a call that was joined: the channel on which it came in, and the one on which it goes on
-pub use Rattle.switch_lines.specs.declared.place.NewJoin.{NewJoin}
+pub use Rattle.switch_lines.specs.declared.channels.NewJoin.{NewJoin}
 
 -- a call that came in on p is joined where its answer is a channel
-abbrev pub join_of : Answer → Place → List NewJoin
+abbrev pub join_of : Answer → SwitchChannel → List NewJoin
 join_of (Clears cause) p = []
 join_of (Joins q) p = record { came_in = p; placed = q } ∷ []
 

@@ -11,7 +11,7 @@ use Rattle.packet_layer.specs.Traffic.Taken.{TakenInterrupt, TakenPacket}
 use Rattle.packet_layer.specs.Channel.Request.{Releasing, Interrupting, Sending, Taking}
 use Rattle.packet_end.specs.PacketEnd.{asked}
 use Rattle.switch_lines.specs.Direction.{Direction, releasable, released, carried}
-use Rattle.switch_lines.specs.Lines.{Place, Joined, SwitchLine, nth_joined, with_nth_joined, changed, ask}
+use Rattle.switch_lines.specs.Lines.{SwitchChannel, Joined, SwitchLine, nth_joined, with_nth_joined, changed, ask}
 use Rattle.switch_lines.specs.Switch.{notes_of}
 
 -- a join with the direction from its channel changed
@@ -32,10 +32,10 @@ freed_on c l = released_if (nth_joined l.joined c) c (kept_on c released l)
 
 -- ---- by place
 
-abbrev pub kept_at : Place → (Direction → Direction) → List SwitchLine → List SwitchLine
+abbrev pub kept_at : SwitchChannel → (Direction → Direction) → List SwitchLine → List SwitchLine
 kept_at p f ls = changed p.line (kept_on p.channel f) ls
 
-abbrev pub freed_at : Place → List SwitchLine → List SwitchLine
+abbrev pub freed_at : SwitchChannel → List SwitchLine → List SwitchLine
 freed_at p ls = changed p.line (freed_on p.channel) ls
 
 -- whether what waits first on another channel would be taken to be sent on this one, if it is not too long
@@ -47,7 +47,7 @@ abbrev pub taken_on : Option SwitchLine → (channel : ℕ) → Front → Bool
 taken_on None c f = false
 taken_on (Some l) c f = taken_on_line f c l
 
-abbrev pub is_taken : List SwitchLine → Place → Front → Bool
+abbrev pub is_taken : List SwitchLine → SwitchChannel → Front → Bool
 is_taken ls p f = taken_on (slice_get ls p.line) p.channel f
 
 -- ---- what is taken on a joined channel
@@ -58,21 +58,21 @@ Fits (TakenInterrupt octets) = (1 ≤ length octets) × (length octets ≤ 32)
 Fits (TakenPacket d) = length d.octets ≤ 128
 
 -- it is asked of the other leg, and what may be released is
-abbrev pub passed_on : Taken → (p q : Place) → List SwitchLine → List SwitchLine
+abbrev pub passed_on : Taken → (p q : SwitchChannel) → List SwitchLine → List SwitchLine
 passed_on (TakenInterrupt octets) p q ls = ask q (Interrupting octets) ls
 passed_on (TakenPacket d) p q ls = kept_at p (carried d.delivery) (ask q (Sending d) ls)
 
-abbrev pub sent_on : Taken → (p q : Place) → List SwitchLine → List SwitchLine
+abbrev pub sent_on : Taken → (p q : SwitchChannel) → List SwitchLine → List SwitchLine
 sent_on t p q ls = freed_at p (passed_on t p q ls)
 
 -- what waits first on a leg is taken there and asked of the other leg
-abbrev pub MovesFront : Option Taken → (p q : Place) → List SwitchLine → List SwitchLine → Type 0
+abbrev pub MovesFront : Option Taken → (p q : SwitchChannel) → List SwitchLine → List SwitchLine → Type 0
 MovesFront None p q old new = Unit {0}
 MovesFront (Some t) p q old new = (new ≡ passed_on t p q (ask p Taking old)) × Fits t
 
 -- ---- the channels of a line, from this one on, so many
 
-abbrev pub places_by : (line channel count : ℕ) → List Place
+abbrev pub places_by : (line channel count : ℕ) → List SwitchChannel
 places_by n c zero = []
 places_by n c (suc count) = record { line = n; channel = c } ∷ places_by n (suc c) count
 

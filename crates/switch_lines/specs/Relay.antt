@@ -8,40 +8,40 @@ use Rattle.packet_layer.specs.Channel.Request.{Accept, Clearing, Resetting, Taki
 use Rattle.switch_lines.specs.Direction.{Direction, new_direction, releasable, released, covered_by, carried_by}
 use Rattle.switch_lines.specs.Direction.{request_for}
 use Rattle.switch_lines.specs.Causes.{reset_cause, clear_cause, far_diagnostic}
-use Rattle.switch_lines.specs.Lines.{Place, Joined, SwitchLine, joined_at, with_joined, places, places_on, ask}
+use Rattle.switch_lines.specs.Lines.{SwitchChannel, Joined, SwitchLine, joined_at, with_joined, places, places_on, ask}
 use Rattle.switch_lines.specs.Lines.{front_at, refusal_at}
 
 -- the joined channel p with this direction to the other leg
-abbrev pub with_kept : Place → Joined → Direction → List SwitchLine → List SwitchLine
+abbrev pub with_kept : SwitchChannel → Joined → Direction → List SwitchLine → List SwitchLine
 with_kept p j v ls = with_joined p (Some (record j { kept = v })) ls
 
 -- what may be released on p is
-abbrev pub freed : Place → Joined → Direction → List SwitchLine → List SwitchLine
+abbrev pub freed : SwitchChannel → Joined → Direction → List SwitchLine → List SwitchLine
 freed p j v ls = with_kept p j (released v) (ask p (Releasing (releasable v.held)) ls)
 
 -- ---- relay, from p to the other leg: what waits first is taken there and sent here, unless that is refused
 
-abbrev pub moved_unless : Option Refusal → Taken → Place → Joined → List SwitchLine → List SwitchLine
+abbrev pub moved_unless : Option Refusal → Taken → SwitchChannel → Joined → List SwitchLine → List SwitchLine
 moved_unless None t p j ls = freed p j (carried_by t j.kept) (ask j.other (request_for t) (ask p Taking ls))
 moved_unless (Some r) t p j ls = ls
 
-abbrev pub moved_front : Option Taken → Place → Joined → List SwitchLine → List SwitchLine
+abbrev pub moved_front : Option Taken → SwitchChannel → Joined → List SwitchLine → List SwitchLine
 moved_front None p j ls = ls
 moved_front (Some t) p j ls = moved_unless (refusal_at ls j.other (request_for t)) t p j ls
 
-abbrev pub moved_joined : Option Joined → Place → List SwitchLine → List SwitchLine
+abbrev pub moved_joined : Option Joined → SwitchChannel → List SwitchLine → List SwitchLine
 moved_joined None p ls = ls
 moved_joined (Some j) p ls = moved_front (front_at ls p) p j ls
 
-abbrev pub moved : Place → List SwitchLine → List SwitchLine
+abbrev pub moved : SwitchChannel → List SwitchLine → List SwitchLine
 moved p ls = moved_joined (joined_at ls p) p ls
 
-abbrev pub relayed : (most : ℕ) → Place → List SwitchLine → List SwitchLine
+abbrev pub relayed : (most : ℕ) → SwitchChannel → List SwitchLine → List SwitchLine
 relayed zero p ls = ls
 relayed (suc most) p ls = relayed most p (moved p ls)
 
 -- from each of these; no more than 7 packets and an interrupt wait on a leg
-abbrev pub relayed_from : List Place → List SwitchLine → List SwitchLine
+abbrev pub relayed_from : List SwitchChannel → List SwitchLine → List SwitchLine
 relayed_from [] ls = ls
 relayed_from (p ∷ ps) ls = relayed_from ps (relayed 8 p ls)
 
@@ -49,24 +49,24 @@ abbrev pub all_relayed : List SwitchLine → List SwitchLine
 all_relayed ls = relayed_from (places ls) ls
 
 -- the channels of a line, a joined channel and the one that it is joined to, and so of all joined channels of lines
-abbrev pub places_of : (line : ℕ) → Option SwitchLine → List Place
+abbrev pub places_of : (line : ℕ) → Option SwitchLine → List SwitchChannel
 places_of n None = []
 places_of n (Some l) = places_on n 1 l.joined
 
-abbrev pub both_legs : Option Joined → Place → List Place
+abbrev pub both_legs : Option Joined → SwitchChannel → List SwitchChannel
 both_legs None p = []
 both_legs (Some j) p = p ∷ j.other ∷ []
 
-abbrev pub legs_at : List Place → List SwitchLine → List Place
+abbrev pub legs_at : List SwitchChannel → List SwitchLine → List SwitchChannel
 legs_at [] ls = []
 legs_at (p ∷ ps) ls = both_legs (joined_at ls p) p ++ legs_at ps ls
 
-abbrev pub legs_of : (lines : List ℕ) → List SwitchLine → List Place
+abbrev pub legs_of : (lines : List ℕ) → List SwitchLine → List SwitchChannel
 legs_of [] ls = []
 legs_of (n ∷ ns) ls = legs_at (places_of n (slice_get ls n)) ls ++ legs_of ns ls
 
 -- all that waits is relayed, on the joins of these lines first
-abbrev pub places_first : (lines : List ℕ) → List SwitchLine → List Place
+abbrev pub places_first : (lines : List ℕ) → List SwitchLine → List SwitchChannel
 places_first lines ls = legs_of lines ls ++ places ls
 
 abbrev pub relayed_first : (lines : List ℕ) → List SwitchLine → List SwitchLine
@@ -75,16 +75,16 @@ relayed_first lines ls = relayed_from (places_first lines ls) ls
 -- ---- a note of the joined channel p is told
 
 -- the other leg gets new directions both ways
-abbrev pub kept_anew : Option Joined → Place → List SwitchLine → List SwitchLine
+abbrev pub kept_anew : Option Joined → SwitchChannel → List SwitchLine → List SwitchLine
 kept_anew None p ls = ls
 kept_anew (Some j) p ls = with_kept p j new_direction ls
 
 -- P(R) covered n more packets of p: the direction from the other leg learns it
-abbrev pub covered_on : ℕ → Option Joined → Place → List SwitchLine → List SwitchLine
+abbrev pub covered_on : ℕ → Option Joined → SwitchChannel → List SwitchLine → List SwitchLine
 covered_on n None p ls = ls
 covered_on n (Some j) p ls = freed p j (covered_by n j.kept) ls
 
-abbrev pub told_joined : Note → Place → Joined → List SwitchLine → List SwitchLine
+abbrev pub told_joined : Note → SwitchChannel → Joined → List SwitchLine → List SwitchLine
 told_joined (Connected c) p j ls = ask j.other Accept ls
 told_joined (Closed c cause diagnostic reason) p j ls =
     ask j.other (Clearing (clear_cause reason cause) (far_diagnostic reason diagnostic))
@@ -97,9 +97,9 @@ told_joined (Covered c n) p j ls = covered_on n (joined_at ls j.other) j.other l
 told_joined _ p j ls = ls
 
 -- a channel that is not joined has nothing to be told
-abbrev pub told_of : Option Joined → Note → Place → List SwitchLine → List SwitchLine
+abbrev pub told_of : Option Joined → Note → SwitchChannel → List SwitchLine → List SwitchLine
 told_of None n p ls = ls
 told_of (Some j) n p ls = told_joined n p j ls
 
-abbrev pub told : Note → Place → List SwitchLine → List SwitchLine
+abbrev pub told : Note → SwitchChannel → List SwitchLine → List SwitchLine
 told n p ls = told_of (joined_at ls p) n p ls

@@ -17,7 +17,7 @@ use Rattle.packet_end.specs.PacketEnd.{all_offered}
 use Rattle.packet_end.specs.PacketEnd.{settled, elapsed, runs_at, due, without_first_frame, at_rest}
 use Rattle.address_routes.specs.Routes.{RouteMap, line_for}
 use Rattle.switch_lines.specs.Direction.{new_direction}
-use Rattle.switch_lines.specs.Lines.{Place, SwitchLine, changed, with_joined, ask}
+use Rattle.switch_lines.specs.Lines.{SwitchChannel, SwitchLine, changed, with_joined, ask}
 use Rattle.switch_lines.specs.Relay.{told, relayed_first}
 
 pub record Switch : Type 0 where
@@ -29,7 +29,7 @@ pub record Switch : Type 0 where
 -- it is cleared with a cause, or goes on from a channel of another line
 pub data Answer : Type 0 where
   Clears : (cause : ℕ) → Answer
-  Joins : Place → Answer
+  Joins : SwitchChannel → Answer
 
 -- the packet layer of the line is not in r1, or no channel is free
 abbrev pub no_channel_cause : Phase → ℕ
@@ -74,12 +74,12 @@ abbrev pub place_call : (line : ℕ) → CallParts → List SwitchLine → List 
 place_call n parts ls = changed n (λ l. record l { end = called l.end parts }) ls
 
 -- the calls on p, where it came in, and on q are joined
-abbrev pub with_join : (p q : Place) → List SwitchLine → List SwitchLine
+abbrev pub with_join : (p q : SwitchChannel) → List SwitchLine → List SwitchLine
 with_join p q ls =
     with_joined q (Some (record { other = p; came_in = false; kept = new_direction }))
     (with_joined p (Some (record { other = q; came_in = true; kept = new_direction })) ls)
 
-abbrev pub answered : Answer → Place → CallParts → List SwitchLine → List SwitchLine
+abbrev pub answered : Answer → SwitchChannel → CallParts → List SwitchLine → List SwitchLine
 answered (Clears cause) p parts ls = ask p (Clearing cause no_information) ls
 answered (Joins q) p parts ls = with_join p q (place_call q.line (forwarded ls p.line parts) ls)
 

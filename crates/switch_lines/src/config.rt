@@ -12,7 +12,7 @@ pub const MOST_LINES: usize = 64;
 
 /// How a line of a switch is to be made.
 #[derive(Clone, Copy, PartialEq, Eq)]
-pub struct LineConfig {
+pub struct SwitchLineConfig {
     /// The parameters of the line, which does not stand.
     pub params: EndParams,
     /// The address that calls from the line get as their calling address.
@@ -23,12 +23,12 @@ pub struct LineConfig {
 #[derive(Drop)]
 pub struct SwitchConfig<'a> {
     /// The lines, 1 to 64: they are numbered from 0.
-    pub lines: &'a [LineConfig],
+    pub lines: &'a [SwitchLineConfig],
     /// Which line the calls to an address go to.
     pub routes: Routes,
 }
 
-impl LineConfig {
+impl SwitchLineConfig {
     // `BadConfig` comes where a parameter is out of its range, or the line stands.
     fn check(&self) -> Result<(), EndFault>
         ensures { MatchResult result
@@ -44,7 +44,7 @@ impl LineConfig {
 }
 
 /// `BadConfig` comes where there is no line or more than 64, or one stands or has a parameter out of its range.
-pub fn check_lines(lines: &[LineConfig]) -> Result<(), EndFault>
+pub fn check_lines(lines: &[SwitchLineConfig]) -> Result<(), EndFault>
     ensures { MatchResult result
         (λ _. IsConfig lines.now)
         (λ fault. (fault ≡ fault_is.BadConfig) × (IsConfig lines.now → ⊥)) }

@@ -2,13 +2,13 @@
 #![tactic(auto)]
 
 mod causes;
+mod channels;
 mod config;
 mod direction;
 mod line;
 mod lines;
-mod place;
 
-pub use config::{LineConfig, MOST_LINES, SwitchConfig, check_lines};
+pub use channels::{NewJoin, SwitchChannel};
+pub use config::{MOST_LINES, SwitchConfig, SwitchLineConfig, check_lines};
 pub use lines::Lines;
 pub use packet_end::MOST_FRAMES;
-pub use place::{NewJoin, Place};

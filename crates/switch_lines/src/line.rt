@@ -24,8 +24,8 @@ ghost use Rattle.switch_lines.specs.Switch.{with_end, quieted, may_offer, withou
 
 mod joins;
 
-use crate::config::LineConfig;
-use crate::place::JoinPlace;
+use crate::channels::ChannelJoin;
+use crate::config::SwitchLineConfig;
 use flow_window::pool::Pool;
 use frame_codec::FrameBuf;
 use link_timers::{Role, TimerId};
@@ -41,7 +41,7 @@ use std::marker::Model;
 pub struct SwitchLine {
     end: PooledEnd,
     address: Address,
-    joined: Vec<JoinPlace>,
+    joined: Vec<ChannelJoin>,
 }
 
 impl Model for SwitchLine {
@@ -57,12 +57,12 @@ impl Model for SwitchLine {
 }
 
 // So many places without a join.
-fn new_places(alloc: Global, count: u8) -> Result<Vec<JoinPlace>, AllocError>
+fn new_places(alloc: Global, count: u8) -> Result<Vec<ChannelJoin>, AllocError>
     ensures { IfOk result (λ places. places.items ≡ replicate count None) }
 {
     let mut places = Vec::new(alloc);
     for _ in 0..count {
-        places.push(JoinPlace::new())?;
+        places.push(ChannelJoin::new())?;
     }
     Ok(places)
 }
@@ -71,7 +71,7 @@ impl SwitchLine {
     /// The DCE's end of a line, without joins. `OutOfMemory` comes for want of memory.
     pub(crate) fn new(
         alloc: Global,
-        config: LineConfig,
+        config: SwitchLineConfig,
         pool: &mut Pool,
     ) -> Result<SwitchLine, EndFault>
         requires { AreParams config.params }
@@ -111,7 +111,7 @@ impl SwitchLine {
     }
 
     /// Takes the octets of a frame.
-    pub(crate) fn receive(&mut self, octets: &[u8], pool: &mut Pool)
+    pub(crate) fn on_frame(&mut self, octets: &[u8], pool: &mut Pool)
         requires read { self.old.line.end.notes ≡ [] }
         requires pool { Serves pool.old self.old.held self.old.share }
         ensures line { self.new.line ≡ with_end (λ e. end.received (quieted e) octets.now) self.old.line }
@@ -131,7 +131,7 @@ impl SwitchLine {
     }
 
     /// Takes an expiry of a timer.
-    pub(crate) fn expire(&mut self, id: TimerId, pool: &mut Pool)
+    pub(crate) fn on_timer(&mut self, id: TimerId, pool: &mut Pool)
         requires read { self.old.line.end.notes ≡ [] }
         requires pool { Serves pool.old self.old.held self.old.share }
         ensures line { self.new.line ≡ with_end (λ e. end.after_timer (quieted e) id) self.old.line }
@@ -171,7 +171,7 @@ impl SwitchLine {
     }
 
     /// Takes the next note, if there is one.
-    pub(crate) fn next_note(&mut self) -> Option<LayerNote>
+    pub(crate) fn notes(&mut self) -> Option<LayerNote>
         ensures note { maybe_note result ≡ slice_get self.old.line.end.notes 0 }
         ensures line { self.new ≡ on_line (with_end end.without_first_note) self.old }
     {

@@ -21,10 +21,10 @@ mod relaying;
 mod telling;
 mod touched;
 
-use crate::config::LineConfig;
+use crate::channels::{Joined, SwitchChannel};
+use crate::config::SwitchLineConfig;
 use crate::direction::Change;
 use crate::line::SwitchLine;
-use crate::place::{Joined, Place};
 use arrayvec::ArrayVec;
 use flow_window::pool::Pool;
 use frame_codec::{FrameBuf, MAX_INFORMATION};
@@ -64,7 +64,7 @@ impl Model for Lines {
 }
 
 // How many buffers lines need together.
-fn buffers_for(lines: &[LineConfig]) -> usize
+fn buffers_for(lines: &[SwitchLineConfig]) -> usize
     requires { IsConfig lines.now }
     ensures { result ≡ shares_with lines.now }
 {
@@ -84,7 +84,7 @@ fn rest(lines: &[SwitchLine]) -> bool
 
 impl Lines {
     /// The lines, each as `SwitchLine::new` makes it. `OutOfMemory` comes for want of memory.
-    pub fn new(alloc: Global, lines: &[LineConfig]) -> Result<Lines, EndFault>
+    pub fn new(alloc: Global, lines: &[SwitchLineConfig]) -> Result<Lines, EndFault>
         requires { IsConfig lines.now }
         ensures { MatchResult result (λ made. made ≡ map made_line lines.now) (λ fault. fault ≡ fault_is.OutOfMemory) }
     {
@@ -168,14 +168,14 @@ impl Lines {
     }
 
     /// The channel that a channel is joined to, if it is.
-    pub fn other(&self, place: Place) -> Option<Place>
+    pub fn other(&self, place: SwitchChannel) -> Option<SwitchChannel>
         ensures { result ≡ option_map (λ j. j.other) (joined_at self.now place) }
     {
         self.lines.get(place.line)?.other(place.channel)
     }
 
     // Joins a channel, or ends its join.
-    fn set_joined(&mut self, place: Place, joined: Option<Joined>)
+    fn set_joined(&mut self, place: SwitchChannel, joined: Option<Joined>)
         ensures { self.new ≡ with_joined place joined self.old }
     {
         if place.line < self.lines.len() {
@@ -184,7 +184,7 @@ impl Lines {
     }
 
     // Asks something of a call. What is refused changes nothing.
-    fn ask(&mut self, place: Place, request: &Request<'_>)
+    fn ask(&mut self, place: SwitchChannel, request: &Request<'_>)
         ensures { self.new ≡ ask place (request_of request.now) self.old }
     {
         if place.line < self.lines.len() {
@@ -194,7 +194,7 @@ impl Lines {
     }
 
     // What `take` would give.
-    fn front(&self, place: Place) -> Option<Front>
+    fn front(&self, place: SwitchChannel) -> Option<Front>
         ensures { result ≡ maybe_front (front_at self.now place) }
     {
         if place.line < self.lines.len() {
@@ -205,7 +205,7 @@ impl Lines {
     }
 
     // Whether what waits first on another channel would be taken to be sent on this one.
-    fn may_take(&self, place: Place, front: Front) -> bool
+    fn may_take(&self, place: SwitchChannel, front: Front) -> bool
         ensures { result ≡ is_taken self.now place front }
     {
         let Some(line) = self.lines.get(place.line) else {
@@ -218,7 +218,7 @@ impl Lines {
     }
 
     // Changes what is kept of the direction from a joined channel.
-    fn change(&mut self, place: Place, change: Change)
+    fn change(&mut self, place: SwitchChannel, change: Change)
         ensures { self.new ≡ kept_at place (after change) self.old }
     {
         if place.line < self.lines.len() {
@@ -227,7 +227,7 @@ impl Lines {
     }
 
     // Releases what may be released of the packets taken on a joined channel.
-    fn release(&mut self, place: Place)
+    fn release(&mut self, place: SwitchChannel)
         ensures { self.new ≡ freed_at place self.old }
     {
         if place.line < self.lines.len() {

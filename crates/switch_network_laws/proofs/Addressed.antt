@@ -13,7 +13,7 @@ use Rattle.call_records.specs.Writes.Write.{Placed}
 use Rattle.call_records.specs.Register.{Register, LinePlan, free_ends, book_at, with_book, all_written_at, handed_on, no_parts}
 use Rattle.call_records.specs.Register.{with_standing_call, with_free_line, with_line, with_lines, made_register}
 use Rattle.call_records.specs.Register.{empty_register}
-use Rattle.switch_lines.specs.declared.place.NewJoin.{NewJoin}
+use Rattle.switch_lines.specs.declared.channels.NewJoin.{NewJoin}
 use Rattle.call_path_laws.specs.OwnAddresses.{HaveOwnAddresses}
 use Rattle.call_path_laws.proofs.OwnAddresses.{made_owns, written_owns, handed_owns}
 use Rattle.network_laws.specs.NodeEvents.{NodeEvent, turn_of}

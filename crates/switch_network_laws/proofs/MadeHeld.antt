@@ -16,7 +16,7 @@ use Rattle.book_laws.proofs.Basics.{get_there}
 use Rattle.line_record_laws.specs.Kept.{Kept}
 use Rattle.network_laws.specs.Node.{NodeState, end_of, drained}
 use Rattle.memory_line.specs.Lines.{Flights, LineService}
-use Rattle.switch_lines.specs.declared.config.LineConfig.{LineConfig}
+use Rattle.switch_lines.specs.declared.config.SwitchLineConfig.{SwitchLineConfig}
 use Rattle.switch_lines.specs.Lines.{SwitchLine}
 use Rattle.switch_lines.specs.Making.{made_line, made}
 use Rattle.switch_lines.specs.Switch.{Switch}
@@ -92,7 +92,7 @@ planned plan place n is at = record {
   address = λ own l got.
       let x = unmapped made_line (own_configs n.lines plan.lines) own l got in
       let b = c.back own x.0 x.1 in
-      ap (λ (y : SwitchLine). y.address) x.2 ∙ ap (λ (y : LineConfig). y.address) b.3
+      ap (λ (y : SwitchLine). y.address) x.2 ∙ ap (λ (y : SwitchLineConfig). y.address) b.3
       ∙ ap address_on (sym b.1.there ∙ ap (λ k. slice_get plan.lines k) (sym (line_named n.lines own b.0 b.2)));
   addressed = λ own less none.
       let o = line_at own less in
@@ -170,7 +170,7 @@ tied L plan s is m place n at ps each =
     (λ own l got.
     let x = unmapped made_line (own_configs n.lines plan.lines) own l got in
     let b = c.back own x.0 x.1 in
-    let address : l.address ≡ b.1.l.address = ap (λ (y : SwitchLine). y.address) x.2 ∙ ap (λ (y : LineConfig). y.address) b.3 in
+    let address : l.address ≡ b.1.l.address = ap (λ (y : SwitchLine). y.address) x.2 ∙ ap (λ (y : SwitchLineConfig). y.address) b.3 in
     subst (λ (xs : List ℕ). MayBeDigits xs) (sym address) (b.1.digits.1, b.1.digits.2))
     (λ own l got.
     let x = unmapped made_line (own_configs n.lines plan.lines) own l got in

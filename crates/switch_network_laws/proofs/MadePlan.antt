@@ -8,7 +8,7 @@ use Rattle.packet_codec.specs.Address.{AreDigits}
 use Rattle.address_routes.specs.Routes.{line_for}
 use Rattle.call_records.specs.Book.{address_of}
 use Rattle.book_laws.proofs.Basics.{get_there}
-use Rattle.switch_lines.specs.declared.config.LineConfig.{LineConfig}
+use Rattle.switch_lines.specs.declared.config.SwitchLineConfig.{SwitchLineConfig}
 use Rattle.switch_lines.specs.Making.{IsConfig, IsLineConfig}
 use Rattle.call_path_laws.specs.World.{Plan, AreBetween}
 use Rattle.network_laws.specs.Opening.{NewNode, NewSwitch, Planned, PlannedUser, PlannedSwitch, NewLine, NetPlan, IsDcePlan, IsLinePlan, HasDceAt, IsSwitchPlan, IsPlan, AreUsers}
@@ -115,7 +115,7 @@ configs_count (x ∷ own) lines all =
 pub record Configs (plan : NetPlan) (place : ℕ) (n : NewSwitch) : Type 0 where
   pub count : length (own_configs n.lines plan.lines) ≡ length n.lines
   pub each : (own line : ℕ) (at : slice_get n.lines own ≡ Some line) → (o : OwnLine plan place line) × (slice_get (own_configs n.lines plan.lines) own ≡ Some (line_config o.l))
-  pub back : (own : ℕ) (c : LineConfig) → slice_get (own_configs n.lines plan.lines) own ≡ Some c
+  pub back : (own : ℕ) (c : SwitchLineConfig) → slice_get (own_configs n.lines plan.lines) own ≡ Some c
       → (line : ℕ) × (o : OwnLine plan place line) × (slice_get n.lines own ≡ Some line) × (c ≡ line_config o.l)
 
 pub configs : (plan : NetPlan) (place : ℕ) (n : NewSwitch) → IsPlan plan → slice_get plan.nodes place ≡ Some (PlannedSwitch n) → Configs plan place n

@@ -24,11 +24,11 @@ use Rattle.switch_network_laws.proofs.UsersAny.{event_any}
 use Rattle.switch_network_laws.proofs.SwitchEvents.{switch_event_holds}
 use Rattle.switch_network_laws.proofs.RestAny.{rest_any}
 use Rattle.switch_lines.specs.Lines.{SwitchLine, changed}
-use Rattle.switch_lines.specs.declared.place.Place.{Place}
+use Rattle.switch_lines.specs.declared.channels.SwitchChannel.{SwitchChannel}
 use Rattle.switch_lines.specs.Switch.{Answer, answer, answer_by, answered, has_any, heed_all, notes_of, without_notes, quieted, with_end, all_begun, finished}
 use Rattle.switch_lines.specs.Switch.Answer.{Clears}
 use Rattle.switch_lines.specs.NewJoins.{join_of, joins_of_notes}
-use Rattle.switch_lines.specs.declared.place.NewJoin.{NewJoin}
+use Rattle.switch_lines.specs.declared.channels.NewJoin.{NewJoin}
 use Rattle.packet_end.specs.PacketEnd.{received}
 use Rattle.packet_layer.specs.Packets.{CallParts, Note}
 use Rattle.packet_layer.specs.Packets.Note.{Incoming}
@@ -370,7 +370,7 @@ heard_lines octets t = changed 0 (with_end (λ e. received (quieted e) octets)) 
 abbrev noted_lines : List ℕ → TwoHosts → List SwitchLine
 noted_lines octets t = changed 0 (with_end without_notes) (heard_lines octets t)
 
-abbrev its_place : Place
+abbrev its_place : SwitchChannel
 its_place = record { line = 0; channel = 1 }
 
 abbrev answered_with : List ℕ → CallParts → Option ℕ → TwoHosts → TwoHosts

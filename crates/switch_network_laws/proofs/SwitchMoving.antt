@@ -4,7 +4,7 @@ use Rattle.std.specs.Prelude.{slice_get, unwrap_or}
 use Rattle.link_timers.specs.declared.timers.TimerId.{TimerId}
 use Rattle.call_records.specs.Book.{Book}
 use Rattle.call_records.specs.Register.{Register, LineEnds, found_ends, book_at, handed_on}
-use Rattle.switch_lines.specs.declared.place.NewJoin.{NewJoin}
+use Rattle.switch_lines.specs.declared.channels.NewJoin.{NewJoin}
 use Rattle.switch_lines.specs.Switch.{Switch, on_frame, timer_runs, on_expiry}
 use Rattle.switch_laws.specs.Steps.Happening.{Brings, RunsOut}
 use Rattle.switch_laws.specs.Steps.Step.{Happens}

@@ -23,7 +23,7 @@ use Rattle.memory_line.specs.Lines.{Flights, lossless_service, no_flights, flyin
 use Rattle.address_routes.specs.Routes.{RouteMap}
 use Rattle.switch_lines.specs.Making.{made as made_switch}
 use Rattle.switch_lines.specs.Switch.{Switch, switch_rests}
-use Rattle.switch_lines.specs.declared.place.NewJoin.{NewJoin}
+use Rattle.switch_lines.specs.declared.channels.NewJoin.{NewJoin}
 use Rattle.network_laws.specs.NodeEvents.{NodeEvent, Hears, Calls, Asks, Says, Takes, turn_of}
 use Rattle.network_laws.specs.AtSwitch.{SwitchEvent, SwitchHappened, switched, switch_drained, waiting_on}
 use Rattle.network_laws.specs.AtSwitch.{joins_of, all_handed}

@@ -24,8 +24,8 @@ use Rattle.register_laws.proofs.Seeing.{came_seen}
 use Rattle.register_laws.proofs.Steps.{same_place}
 use Rattle.line_record_laws.specs.Kept.{Setting, Kept, end_at}
 use Rattle.line_record_laws.proofs.Missing.{rest_kept}
-use Rattle.switch_lines.specs.declared.place.Place.{Place}
-use Rattle.switch_lines.specs.declared.place.Joined.{Joined}
+use Rattle.switch_lines.specs.declared.channels.SwitchChannel.{SwitchChannel}
+use Rattle.switch_lines.specs.declared.channels.Joined.{Joined}
 use Rattle.switch_lines.specs.Lines.{SwitchLine}
 use Rattle.switch_lines.specs.Switch.{Switch}
 use Rattle.switch_laws.specs.Leg.{Leg}
@@ -98,16 +98,16 @@ module _ (plan : Plan) (at : List ℕ) (s : Switch) (h : Histories) (cs : List J
   layer_there : (n : ℕ) (l : SwitchLine) → slice_get s.lines n ≡ Some l → slice_get (layers_of s.lines) n ≡ Some l.end.layer
   layer_there n l e = get_map (λ (y : SwitchLine). y.end.layer) s.lines n ∙ ap (λ (o : Option SwitchLine). option_map (λ (y : SwitchLine). y.end.layer) o) e
 
-  shown_there : (x : Place) (l : SwitchLine) → slice_get s.lines x.line ≡ Some l → shown_at (layers_of s.lines) x ≡ shown_as l.end.layer (channel_of l.end.layer x.channel)
+  shown_there : (x : SwitchChannel) (l : SwitchLine) → slice_get s.lines x.line ≡ Some l → shown_at (layers_of s.lines) x ≡ shown_as l.end.layer (channel_of l.end.layer x.channel)
   shown_there x l e = ap (λ (o : Option Layer). shown_on o x.channel) (layer_there x.line l e)
 
-  leg_of : (x : Place) (l : SwitchLine) → slice_get s.lines x.line ≡ Some l → (ch : Channel) → channel_of l.end.layer x.channel ≡ Some ch → (h.legs x).channel ≡ ch
+  leg_of : (x : SwitchChannel) (l : SwitchLine) → slice_get s.lines x.line ≡ Some l → (ch : Channel) → channel_of l.end.layer x.channel ≡ Some ch → (h.legs x).channel ≡ ch
   leg_of x l e ch there =
       let seen : Shown = record { role = l.end.layer.role; window = l.end.layer.window; channel = ch } in
       let a : Agrees seen (h.legs x) = i.tied.holds.joins.world x seen (shown_there x l e ∙ ap (λ (o : Option Channel). shown_as l.end.layer o) there) in
       ap (λ (y : Shown). y.channel) (sym a.shown)
 
-  leg_record : (x : Place) (l : SwitchLine) → slice_get s.lines x.line ≡ Some l → (ch : Channel) → channel_of l.end.layer x.channel ≡ Some ch → ch.state ≡ Transfer
+  leg_record : (x : SwitchChannel) (l : SwitchLine) → slice_get s.lines x.line ≡ Some l → (ch : Channel) → channel_of l.end.layer x.channel ≡ Some ch → ch.state ≡ Transfer
       → HasRecord Dce x.channel (h.legs x) (h.books x.line)
   leg_record x l e ch there in_call =
       subst (λ (v : Bool). Has Dce x.channel (leg_if v (h.legs x)) (h.books x.line)) (ap had_call in_call)
@@ -175,8 +175,8 @@ module _ (plan : Plan) (at : List ℕ) (s : Switch) (h : Histories) (cs : List J
       let g : IsJoinedAt 0 [] s.lines h.legs c.near stands.join = i.tied.holds.joins.joined c.near stands.join stands.joined in
       let far_call : (h.legs c.far).channel.state ≡ Transfer = ap (λ (y : Channel). y.state) (leg_of c.far l got t.its_channel there) ∙ t.in_call in
       let legs : AreConnected (h.legs c.near) (h.legs c.far) = elim g.pair [
-        | inl p ↦ subst (λ (q : Place). AreConnected (h.legs c.near) (h.legs q)) stands.other
-            (are_connected (h.legs c.near) (h.legs stands.join.other) stands.join g.other p stands.came_in_here (ap (λ (q : Place). (h.legs q).channel.state) stands.other ∙ far_call))
+        | inl p ↦ subst (λ (q : SwitchChannel). AreConnected (h.legs c.near) (h.legs q)) stands.other
+            (are_connected (h.legs c.near) (h.legs stands.join.other) stands.join g.other p stands.came_in_here (ap (λ (q : SwitchChannel). (h.legs q).channel.state) stands.other ∙ far_call))
         | inr over ↦ absurd (none_over over)
       ] in
       let ln = its_line c.near.line near_less in

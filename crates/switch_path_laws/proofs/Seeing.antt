@@ -21,8 +21,8 @@ use Rattle.register_laws.specs.Seen.{positions, IsNumbered, LineIsSeen, renumber
 use Rattle.book_laws.specs.Headline.{IsIn}
 use Rattle.register_laws.proofs.Positions.{is_place, one_here}
 use Rattle.register_laws.proofs.Steps.{same_place}
-use Rattle.switch_lines.specs.declared.place.Place.{Place}
-use Rattle.switch_lines.specs.declared.place.Joined.{Joined}
+use Rattle.switch_lines.specs.declared.channels.SwitchChannel.{SwitchChannel}
+use Rattle.switch_lines.specs.declared.channels.Joined.{Joined}
 use Rattle.switch_lines.specs.Lines.{SwitchLine, joined_at}
 use Rattle.switch_lines.specs.Switch.{forwarded}
 use Rattle.switch_lines.specs.Switch as switch
@@ -61,7 +61,7 @@ line_there plan at n bs cs books w traces h i = subst (λ (k : ℕ). network_lin
 pub own_trace : (books : List Book) (line : ℕ) (b : Book) (g : Register) (origins : List Origin) (traces : List (List Origin)) → slice_get books line ≡ Some b → LinesSeen g origins books traces → (own : List Origin) × (slice_get traces line ≡ Some own)
 own_trace books line b g origins traces e i = get_there traces line (subst (λ (k : ℕ). line < k) (sym i.count) (slice_get_within books line b e))
 
-abbrev place_at : (at : List ℕ) → Place → path.Place
+abbrev place_at : (at : List ℕ) → SwitchChannel → path.ChannelEnd
 place_at at p = record { line = network_line at p.line; role = Dce; channel = p.channel }
 
 pub line_seen : (plan : Plan) (at : List ℕ) (n : ℕ) (bs : Books) (cs : List JoinedCall) (books : List Book) (w : World) (traces : List (List Origin)) → n < length at → (i : IsSeen plan at bs cs books w traces)
@@ -325,7 +325,7 @@ module _ (plan : Plan) (at : List ℕ) (apart : AreApart at) (switch_end : (n : 
           elim k.1.1 [ inl x ↦ inr (g ∙ ap (λ (n : ℕ). Some n) (sym x.0)) | inr x ↦ inl (k.1.0 ∙ ap (λ (y : RecordValue). Some y) (sym x)) ]
 
   -- the present record of a joined channel is of a join
-  joined_in : (p : Place) (j : Joined) (ls : List SwitchLine) (bs : Books) (cs : List JoinedCall) (books : List Book) (w : World) (traces : List (List Origin)) (a : ℕ) → p.line < length at → Mutual ls → AreCalls ls bs cs → joined_at ls p ≡ Some j → IsSeen plan at bs cs books w traces
+  joined_in : (p : SwitchChannel) (j : Joined) (ls : List SwitchLine) (bs : Books) (cs : List JoinedCall) (books : List Book) (w : World) (traces : List (List Origin)) (a : ℕ) → p.line < length at → Mutual ls → AreCalls ls bs cs → joined_at ls p ≡ Some j → IsSeen plan at bs cs books w traces
       → (slot_at Dce p.channel (book_at (network_line at p.line) w.whole)).present ≡ Some a → IsInJoin w.joins a
   joined_in p j ls bs cs books w traces a h m calls e i present = by_side j.came_in refl
     where
@@ -344,16 +344,16 @@ module _ (plan : Plan) (at : List ℕ) (apart : AreApart at) (switch_end : (n : 
       by_side true f =
           let c = calls.all p j e f in
           let x = join_at at w.origins cs w.joins c.0 c.1 i.joins c.2 in
-          let near : present_at p bs ≡ Some c.1.came_in = ap (λ (y : Place). present_at y bs) (sym c.4) ∙ c.3.near_present in
-          let same : x.0.came_in ≡ a = same_Some x.0.came_in a (sym x.1.1.near.1 ∙ (ap (λ (y : Place). slice_get (positions (network_line at y.line) (lines_of w.origins)) c.1.came_in) c.4 ∙ number c.1.came_in near)) in
+          let near : present_at p bs ≡ Some c.1.came_in = ap (λ (y : SwitchChannel). present_at y bs) (sym c.4) ∙ c.3.near_present in
+          let same : x.0.came_in ≡ a = same_Some x.0.came_in a (sym x.1.1.near.1 ∙ (ap (λ (y : SwitchChannel). slice_get (positions (network_line at y.line) (lines_of w.origins)) c.1.came_in) c.4 ∙ number c.1.came_in near)) in
           inl (x.0.placed, record { place = c.0; there = x.1.0 ∙ ap (λ (n : ℕ). Some (record { came_in = n; placed = x.0.placed })) same })
       by_side false f =
           let c = calls.all j.other k.far k.joined (k.one_came_in ∙ ap not f) in
-          let is : c.3.join ≡ k.far = same_Some c.3.join k.far (sym c.3.joined ∙ (ap (λ (y : Place). joined_at ls y) c.4 ∙ k.joined)) in
+          let is : c.3.join ≡ k.far = same_Some c.3.join k.far (sym c.3.joined ∙ (ap (λ (y : SwitchChannel). joined_at ls y) c.4 ∙ k.joined)) in
           let far : c.1.far ≡ p = sym c.3.other ∙ (ap (λ (y : Joined). y.other) is ∙ k.back) in
           let x = join_at at w.origins cs w.joins c.0 c.1 i.joins c.2 in
-          let there : present_at p bs ≡ Some c.1.placed = ap (λ (y : Place). present_at y bs) (sym far) ∙ c.3.far_present in
-          let same : x.0.placed ≡ a = same_Some x.0.placed a (sym x.1.1.far.1 ∙ (ap (λ (y : Place). slice_get (positions (network_line at y.line) (lines_of w.origins)) c.1.placed) far ∙ number c.1.placed there)) in
+          let there : present_at p bs ≡ Some c.1.placed = ap (λ (y : SwitchChannel). present_at y bs) (sym far) ∙ c.3.far_present in
+          let same : x.0.placed ≡ a = same_Some x.0.placed a (sym x.1.1.far.1 ∙ (ap (λ (y : SwitchChannel). slice_get (positions (network_line at y.line) (lines_of w.origins)) c.1.placed) far ∙ number c.1.placed there)) in
           inr (x.0.came_in, record { place = c.0; there = x.1.0 ∙ ap (λ (n : ℕ). Some (record { came_in = x.0.came_in; placed = n })) same })
 
   -- and the pairs are the same
@@ -366,7 +366,7 @@ module _ (plan : Plan) (at : List ℕ) (apart : AreApart at) (switch_end : (n : 
       by_present (Some m) = refl
 
   -- a packet or an interrupt that is sent
-  sent_so : (p : Place) (j : Joined) (ls : List SwitchLine) (bs : Books) (cs : List JoinedCall) (books : List Book) (w : World) (traces : List (List Origin)) (o : Option Refusal) (q : Request) (x : Option Taken) (f : RecordValue → RecordValue) → p.line < length at → Mutual ls → AreCalls ls bs cs → joined_at ls p ≡ Some j
+  sent_so : (p : SwitchChannel) (j : Joined) (ls : List SwitchLine) (bs : Books) (cs : List JoinedCall) (books : List Book) (w : World) (traces : List (List Origin)) (o : Option Refusal) (q : Request) (x : Option Taken) (f : RecordValue → RecordValue) → p.line < length at → Mutual ls → AreCalls ls bs cs → joined_at ls p ≡ Some j
       → IsSeen plan at bs cs books w traces → ((b : Book) → carried Dce p.channel q x b ≡ changed Dce p.channel f b) → WritesSo (network_line at p.line) (Asked o p.channel q x ∷ []) w
   sent_so p j ls bs cs books w traces o q x f h m calls e i is =
       let line = network_line at p.line in
@@ -383,7 +383,7 @@ module _ (plan : Plan) (at : List ℕ) (apart : AreApart at) (switch_end : (n : 
 
   -- ---- a request
 
-  asks : (old : List JoinedCall) (old_books : List Book) (old_traces : List (List Origin)) (g : Register) (p : Place) (r : Request) (ls : List SwitchLine) (bs : Books) (cs : List JoinedCall) (b : Beyond old old_books old_traces g bs cs)
+  asks : (old : List JoinedCall) (old_books : List Book) (old_traces : List (List Origin)) (g : Register) (p : SwitchChannel) (r : Request) (ls : List SwitchLine) (bs : Books) (cs : List JoinedCall) (b : Beyond old old_books old_traces g bs cs)
       → ((l : Layer) → slice_get (layers_of ls) p.line ≡ Some l → p.line < length at → AllPlaceNone (asked_writes p.channel r l) × WritesSo (network_line at p.line) (asked_writes p.channel r l) b.moved.world) → Beyond old old_books old_traces g (books_by (Asks p r) ls bs) cs
   asks old old_books old_traces g p r ls bs cs b so =
       let x = act_moves (Act.Asks p r) (layers_of ls) bs cs b.moved.books b.moved.world b.moved.traces so b.moved.is in
@@ -407,9 +407,9 @@ module _ (plan : Plan) (at : List ℕ) (apart : AreApart at) (switch_end : (n : 
 
   -- ---- a call is accepted where the one with which it goes on was
 
-  module _ (p : Place) (j : Joined) (ls : List SwitchLine) (bs : Books) (cs : List JoinedCall) (c : Connecting p j ls bs cs) (books : List Book) (w : World) (traces : List (List Origin)) (i : IsSeen plan at bs cs books w traces) where
+  module _ (p : SwitchChannel) (j : Joined) (ls : List SwitchLine) (bs : Books) (cs : List JoinedCall) (c : Connecting p j ls bs cs) (books : List Book) (w : World) (traces : List (List Origin)) (i : IsSeen plan at bs cs books w traces) where
     -- the channel where the call came in
-    abbrev came : Place
+    abbrev came : SwitchChannel
     came = j.other
 
     accepted_goes_on : (a : ℕ) → came.line < length at → (slot_at Dce came.channel (book_at (network_line at came.line) w.whole)).present ≡ Some a → GoesOnAccepted w a
@@ -426,7 +426,7 @@ module _ (plan : Plan) (at : List ℕ) (apart : AreApart at) (switch_end : (n : 
 
         far : d.1.far ≡ p
         far =
-            let is : d.3.join ≡ k.far = same_Some d.3.join k.far (sym d.3.joined ∙ (ap (λ (y : Place). joined_at ls y) d.4 ∙ k.joined)) in
+            let is : d.3.join ≡ k.far = same_Some d.3.join k.far (sym d.3.joined ∙ (ap (λ (y : SwitchChannel). joined_at ls y) d.4 ∙ k.joined)) in
             sym d.3.other ∙ (ap (λ (y : Joined). y.other) is ∙ k.back)
 
         seen : LineIsSeen (positions (network_line at came.line) (lines_of w.origins)) (positions (network_line at came.line) i.lines.seen.pair_owners) (bs came.line) (book_at (network_line at came.line) w.whole)
@@ -434,9 +434,9 @@ module _ (plan : Plan) (at : List ℕ) (apart : AreApart at) (switch_end : (n : 
 
         came_is : x.0.came_in ≡ a
         came_is =
-            let near : present_at came bs ≡ Some d.1.came_in = ap (λ (y : Place). present_at y bs) (sym d.4) ∙ d.3.near_present in
+            let near : present_at came bs ≡ Some d.1.came_in = ap (λ (y : SwitchChannel). present_at y bs) (sym d.4) ∙ d.3.near_present in
             let n = numbered (positions (network_line at came.line) (lines_of w.origins)) (slot_at Dce came.channel (bs came.line)).present (slot_at Dce came.channel (book_at (network_line at came.line) w.whole)).present d.1.came_in ((seen.sides Dce).slot came.channel).present near in
-            same_Some x.0.came_in a (sym x.1.1.near.1 ∙ (ap (λ (y : Place). slice_get (positions (network_line at y.line) (lines_of w.origins)) d.1.came_in) d.4 ∙ (n.1.1 ∙ (sym n.1.0 ∙ present))))
+            same_Some x.0.came_in a (sym x.1.1.near.1 ∙ (ap (λ (y : SwitchChannel). slice_get (positions (network_line at y.line) (lines_of w.origins)) d.1.came_in) d.4 ∙ (n.1.1 ∙ (sym n.1.0 ∙ present))))
 
         joined : IsJoined w.joins a x.0.placed
         joined = record { place = d.0; there = x.1.0 ∙ ap (λ (n : ℕ). Some (record { came_in = n; placed = x.0.placed })) came_is }
@@ -446,13 +446,13 @@ module _ (plan : Plan) (at : List ℕ) (apart : AreApart at) (switch_end : (n : 
         pl = network_line at p.line
 
         number_is : c.number ≡ d.1.placed
-        number_is = same_Some c.number d.1.placed (sym c.present ∙ (ap (λ (y : Place). present_at y bs) (sym far) ∙ d.3.far_present))
+        number_is = same_Some c.number d.1.placed (sym c.present ∙ (ap (λ (y : SwitchChannel). present_at y bs) (sym far) ∙ d.3.far_present))
 
         placed_at : slice_get (positions pl (lines_of w.origins)) c.number ≡ Some x.0.placed
-        placed_at = ap₂ (λ (y : Place) (n : ℕ). slice_get (positions (network_line at y.line) (lines_of w.origins)) n) (sym far) number_is ∙ x.1.1.far.1
+        placed_at = ap₂ (λ (y : SwitchChannel) (n : ℕ). slice_get (positions (network_line at y.line) (lines_of w.origins)) n) (sym far) number_is ∙ x.1.1.far.1
 
         far_seen : LineIsSeen (positions pl (lines_of w.origins)) (positions pl i.lines.seen.pair_owners) (bs p.line) (book_at pl w.whole)
-        far_seen = line_seen plan at p.line bs cs books w traces (subst (λ (y : Place). y.line < length at) far x.1.1.far.0) i
+        far_seen = line_seen plan at p.line bs cs books w traces (subst (λ (y : SwitchChannel). y.line < length at) far x.1.1.far.0) i
 
         whole_place : (n : ℕ) × (slice_get (positions pl i.lines.seen.pair_owners) c.answered.place ≡ Some n)
         whole_place = get_there (positions pl i.lines.seen.pair_owners) c.answered.place (subst (λ (n : ℕ). c.answered.place < n) far_seen.pair_count (slice_get_within (bs p.line).pairs c.answered.place c.answered.pair c.answered.there))
@@ -506,7 +506,7 @@ module _ (plan : Plan) (at : List ℕ) (apart : AreApart at) (switch_end : (n : 
   module _ (routes : RouteMap) (given : List (List ℕ)) (lines_given : length at ≡ length given) (one_switch : (m n : ℕ) → m < length at → n < length at → plan.node (network_line at m) Dce ≡ plan.node (network_line at n) Dce)
       (address : (n : ℕ) (a : List ℕ) → slice_get given n ≡ Some a → a ≡ plan.address (network_line at n)) (addressed : (n : ℕ) → n < length at → plan.address (network_line at n) ≡ [] → ⊥)
       (route : (called : List ℕ) (n : ℕ) → n < length at → line_for routes called ≡ Some n → plan.route (plan.node (network_line at n) Dce) (address_of called) ≡ Some (network_line at n)) where
-    module _ (p q : Place) (parts : CallParts) (ls : List SwitchLine) (bs : Books) (cs : List JoinedCall) (j : Joining routes given p q parts ls bs cs) (books : List Book) (w : World) (traces : List (List Origin)) (i : IsSeen plan at bs cs books w traces) where
+    module _ (p q : SwitchChannel) (parts : CallParts) (ls : List SwitchLine) (bs : Books) (cs : List JoinedCall) (j : Joining routes given p q parts ls bs cs) (books : List Book) (w : World) (traces : List (List Origin)) (i : IsSeen plan at bs cs books w traces) where
       -- the lines of the network
       abbrev pl : ℕ
       pl = network_line at p.line

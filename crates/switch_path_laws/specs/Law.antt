@@ -15,7 +15,7 @@ use Rattle.book_laws.specs.Rest.{NothingMissing}
 use Rattle.line_laws.specs.Line.{Line}
 use Rattle.line_laws.specs.Rest.{AreAtRest}
 use Rattle.line_record_laws.specs.Kept.{Setting, Kept}
-use Rattle.switch_lines.specs.declared.config.LineConfig.{LineConfig}
+use Rattle.switch_lines.specs.declared.config.SwitchLineConfig.{SwitchLineConfig}
 use Rattle.switch_lines.specs.Lines.{SwitchLine}
 use Rattle.switch_lines.specs.Making.{IsConfig, made}
 use Rattle.switch_lines.specs.Switch.{Switch, on_frame, on_expiry, elapse, restart}
@@ -37,7 +37,7 @@ use Rattle.switch_path_laws.specs.Network.{network_line, IsOther, AreAmong, IsPl
 
 -- of a switch as it is made on free lines the register has nothing yet
 abbrev pub BeginLaw : Type 0
-BeginLaw = (plan : Plan) (at : List ℕ) (routes : RouteMap) (configs : List LineConfig) (plans : List LinePlan)
+BeginLaw = (plan : Plan) (at : List ℕ) (routes : RouteMap) (configs : List SwitchLineConfig) (plans : List LinePlan)
     (h : Histories) → IsConfig configs → IsPlanned plan (length plans) at (made routes configs)
     → AreBetween plan 0 plans → AreAmong at h.books (map free_book plans) → IsTied (made routes configs) h
     → IsNetwork plan at (made routes configs) h [] (map free_book plans) (made_world plans) (map (λ line. []) plans)

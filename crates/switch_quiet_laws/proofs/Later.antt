@@ -7,8 +7,8 @@ use Rattle.packet_layer.specs.Traffic.{Taken}
 use Rattle.packet_layer.specs.Channel.{Refusal}
 use Rattle.address_routes.specs.Routes.{RouteMap}
 use Rattle.switch_lines.specs.Direction.{request_for}
-use Rattle.switch_lines.specs.declared.place.Place.{Place}
-use Rattle.switch_lines.specs.declared.place.Joined.{Joined}
+use Rattle.switch_lines.specs.declared.channels.SwitchChannel.{SwitchChannel}
+use Rattle.switch_lines.specs.declared.channels.Joined.{Joined}
 use Rattle.switch_lines.specs.Lines.{SwitchLine, changed, joined_at, front_at, refusal_at}
 use Rattle.switch_lines.specs.Relay.{moved, relayed, places_first, relayed_first}
 use Rattle.switch_lines.specs.Switch.{Answer, answer, heed, notes_of, with_end, quieted, to_relink, relinked_at, all_relinked, may_offer, offering_from, offered_from, lines_first}
@@ -34,37 +34,37 @@ later-then (a ∷ as_) bs p q = (p.0, later-then as_ bs p.1 q)
 
 -- ---- relay
 
-unless-later : (o : Option Refusal) (t : Taken) (p : Place) (j : Joined) → AreLater (moved_unless_steps o t p j)
+unless-later : (o : Option Refusal) (t : Taken) (p : SwitchChannel) (j : Joined) → AreLater (moved_unless_steps o t p j)
 unless-later None t p j = (tt, (tt, (tt, (tt, tt))))
 unless-later (Some r) t p j = tt
 
-front-later : (o : Option Taken) (p : Place) (j : Joined) (ls : List SwitchLine) → AreLater (moved_front_steps o p j ls)
+front-later : (o : Option Taken) (p : SwitchChannel) (j : Joined) (ls : List SwitchLine) → AreLater (moved_front_steps o p j ls)
 front-later None p j ls = tt
 front-later (Some t) p j ls = unless-later (refusal_at ls j.other (request_for t)) t p j
 
-moved-later : (o : Option Joined) (p : Place) (ls : List SwitchLine) → AreLater (moved_joined_steps o p ls)
+moved-later : (o : Option Joined) (p : SwitchChannel) (ls : List SwitchLine) → AreLater (moved_joined_steps o p ls)
 moved-later None p ls = tt
 moved-later (Some j) p ls = front-later (front_at ls p) p j ls
 
-relayed-later : (most : ℕ) (p : Place) (ls : List SwitchLine) → AreLater (relayed_steps most p ls)
+relayed-later : (most : ℕ) (p : SwitchChannel) (ls : List SwitchLine) → AreLater (relayed_steps most p ls)
 relayed-later zero p ls = tt
 relayed-later (suc most) p ls = later-then (moved_joined_steps (joined_at ls p) p ls) (relayed_steps most p (moved p ls)) (moved-later (joined_at ls p) p ls) (relayed-later most p (moved p ls))
 
-from-later : (ps : List Place) (ls : List SwitchLine) → AreLater (relayed_from_steps ps ls)
+from-later : (ps : List SwitchChannel) (ls : List SwitchLine) → AreLater (relayed_from_steps ps ls)
 from-later [] ls = tt
 from-later (p ∷ ps) ls = later-then (relayed_steps 8 p ls) (relayed_from_steps ps (relayed 8 p ls)) (relayed-later 8 p ls) (from-later ps (relayed 8 p ls))
 
 -- ---- notes
 
-anew-later : (o : Option Joined) (p : Place) → AreLater (anew_steps o p)
+anew-later : (o : Option Joined) (p : SwitchChannel) → AreLater (anew_steps o p)
 anew-later None p = tt
 anew-later (Some j) p = (tt, tt)
 
-covered-later : (n : ℕ) (o : Option Joined) (p : Place) → AreLater (covered_steps n o p)
+covered-later : (n : ℕ) (o : Option Joined) (p : SwitchChannel) → AreLater (covered_steps n o p)
 covered-later n None p = tt
 covered-later n (Some j) p = (tt, (tt, tt))
 
-joined-later : (note : Note) (p : Place) (j : Joined) (ls : List SwitchLine) → AreLater (told_joined_steps note p j ls)
+joined-later : (note : Note) (p : SwitchChannel) (j : Joined) (ls : List SwitchLine) → AreLater (told_joined_steps note p j ls)
 joined-later (Incoming c parts) p j ls = tt
 joined-later (Connected c) p j ls = (tt, tt)
 joined-later (Closed c cause diagnostic reason) p j ls = (tt, (tt, (tt, tt)))
@@ -72,11 +72,11 @@ joined-later (WasReset c cause diagnostic reason) p j ls = (tt, later-then (anew
 joined-later (InterruptConfirmed c) p j ls = (tt, tt)
 joined-later (Covered c n) p j ls = covered-later n (joined_at ls j.other) j.other
 
-told-later : (o : Option Joined) (note : Note) (p : Place) (ls : List SwitchLine) → AreLater (told_steps o note p ls)
+told-later : (o : Option Joined) (note : Note) (p : SwitchChannel) (ls : List SwitchLine) → AreLater (told_steps o note p ls)
 told-later None note p ls = tt
 told-later (Some j) note p ls = joined-later note p j ls
 
-answered-later : (a : Answer) (p : Place) (parts : CallParts) (ls : List SwitchLine) → AreLater (answered_steps a p parts ls)
+answered-later : (a : Answer) (p : SwitchChannel) (parts : CallParts) (ls : List SwitchLine) → AreLater (answered_steps a p parts ls)
 answered-later (Clears cause) p parts ls = (tt, tt)
 answered-later (Joins q) p parts ls = (tt, (tt, (tt, tt)))
 

@@ -5,7 +5,7 @@ use Rattle.lapb.specs.Machine.{Octets}
 use Rattle.address_routes.specs.Routes.{RouteMap}
 use Rattle.node_laws.specs.Node.{Host}
 use Rattle.node_laws.specs.Quiet.{IsQuiet}
-use Rattle.switch_lines.specs.declared.config.LineConfig.{LineConfig}
+use Rattle.switch_lines.specs.declared.config.SwitchLineConfig.{SwitchLineConfig}
 use Rattle.switch_lines.specs.Lines.{SwitchLine}
 use Rattle.switch_lines.specs.Making.{made}
 use Rattle.switch_lines.specs.Switch.{Switch, on_frame, on_timer, restart, elapse, without_frame}
@@ -57,4 +57,4 @@ OutQuietLaw = (n : ℕ) (s : Switch) → IsQuietSwitch s → IsQuietSwitch (with
 -- ---- the making, of any lines
 
 abbrev pub MakingQuietLaw : Type 0
-MakingQuietLaw = (routes : RouteMap) (lines : List LineConfig) → IsQuietSwitch (drained (made routes lines))
+MakingQuietLaw = (routes : RouteMap) (lines : List SwitchLineConfig) → IsQuietSwitch (drained (made routes lines))

@@ -5,7 +5,7 @@ use Rattle.std.proofs.lemmas.Option.{none-some, same_Some}
 use Rattle.std.proofs.lemmas.Bool.{eqb-true}
 use Rattle.link_timers.specs.declared.role.Role.TheVariants.{Dce}
 use Rattle.packet_layer.specs.Layer.{Layer}
-use Rattle.switch_lines.specs.declared.place.Place.{Place}
+use Rattle.switch_lines.specs.declared.channels.SwitchChannel.{SwitchChannel}
 use Rattle.switch_laws.specs.Leg.{Leg}
 use Rattle.switch_laws.specs.World.{World, IsWorld, shown_on, Act, MayHappen, line_of, after_act, world_after, layer_after, leg_after}
 use Rattle.switch_laws.proofs.Lists.{get_changed, get_unchanged, decided, not_equal}
@@ -15,7 +15,7 @@ use Rattle.switch_record_laws.specs.Written.{Books, writes_at, books_after, Have
 use Rattle.switch_record_laws.specs.Law.{ActsLaw}
 use Rattle.switch_record_laws.proofs.Lines.{line_writes}
 
-abbrev at : ℕ → ℕ → Place
+abbrev at : ℕ → ℕ → SwitchChannel
 at n c = record { line = n; channel = c }
 
 agrees : (n : ℕ) (l : Layer) (ys : List Layer) (w : World) → slice_get ys n ≡ Some l → IsWorld ys w → (c : ℕ) → LineAgrees l c (w (at n c))

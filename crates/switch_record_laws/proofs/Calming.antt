@@ -13,8 +13,8 @@ use Rattle.packet_laws.specs.Readable.{CanBePlaced}
 use Rattle.address_routes.specs.Routes.{RouteMap}
 use Rattle.packet_end.specs.PacketEnd.{PacketEnd}
 use Rattle.switch_lines.specs.Direction.{request_for}
-use Rattle.switch_lines.specs.declared.place.Place.{Place}
-use Rattle.switch_lines.specs.declared.place.Joined.{Joined}
+use Rattle.switch_lines.specs.declared.channels.SwitchChannel.{SwitchChannel}
+use Rattle.switch_lines.specs.declared.channels.Joined.{Joined}
 use Rattle.switch_lines.specs.Lines.{SwitchLine, changed, joined_at, front_at, refusal_at}
 use Rattle.switch_lines.specs.Relay.{moved, relayed, places_first, relayed_first}
 use Rattle.switch_lines.specs.Switch.{Answer, answer, address_of, heed, notes_of, with_end, quieted, acted, to_relink, relinked_at, all_relinked, may_offer, offering_from, offered_from, lines_first}
@@ -122,37 +122,37 @@ line_address ls n h = by (slice_get ls n) refl
 
 -- ---- relay
 
-unless_calm : (o : Option Refusal) (t : Taken) (p : Place) (j : Joined) → AreCalm (moved_unless_steps o t p j)
+unless_calm : (o : Option Refusal) (t : Taken) (p : SwitchChannel) (j : Joined) → AreCalm (moved_unless_steps o t p j)
 unless_calm None t p j = (tt, (may_ask t, (tt, (tt, tt))))
 unless_calm (Some r) t p j = tt
 
-front_calm : (o : Option Taken) (p : Place) (j : Joined) (ls : List SwitchLine) → AreCalm (moved_front_steps o p j ls)
+front_calm : (o : Option Taken) (p : SwitchChannel) (j : Joined) (ls : List SwitchLine) → AreCalm (moved_front_steps o p j ls)
 front_calm None p j ls = tt
 front_calm (Some t) p j ls = unless_calm (refusal_at ls j.other (request_for t)) t p j
 
-moved_calm : (o : Option Joined) (p : Place) (ls : List SwitchLine) → AreCalm (moved_joined_steps o p ls)
+moved_calm : (o : Option Joined) (p : SwitchChannel) (ls : List SwitchLine) → AreCalm (moved_joined_steps o p ls)
 moved_calm None p ls = tt
 moved_calm (Some j) p ls = front_calm (front_at ls p) p j ls
 
-relayed_calm : (most : ℕ) (p : Place) (ls : List SwitchLine) → AreCalm (relayed_steps most p ls)
+relayed_calm : (most : ℕ) (p : SwitchChannel) (ls : List SwitchLine) → AreCalm (relayed_steps most p ls)
 relayed_calm zero p ls = tt
 relayed_calm (suc most) p ls = calm_then (moved_joined_steps (joined_at ls p) p ls) (relayed_steps most p (moved p ls)) (moved_calm (joined_at ls p) p ls) (relayed_calm most p (moved p ls))
 
-from_calm : (ps : List Place) (ls : List SwitchLine) → AreCalm (relayed_from_steps ps ls)
+from_calm : (ps : List SwitchChannel) (ls : List SwitchLine) → AreCalm (relayed_from_steps ps ls)
 from_calm [] ls = tt
 from_calm (p ∷ ps) ls = calm_then (relayed_steps 8 p ls) (relayed_from_steps ps (relayed 8 p ls)) (relayed_calm 8 p ls) (from_calm ps (relayed 8 p ls))
 
 -- ---- notes
 
-anew_calm : (o : Option Joined) (p : Place) → AreCalm (anew_steps o p)
+anew_calm : (o : Option Joined) (p : SwitchChannel) → AreCalm (anew_steps o p)
 anew_calm None p = tt
 anew_calm (Some j) p = (tt, tt)
 
-covered_calm : (n : ℕ) (o : Option Joined) (p : Place) → AreCalm (covered_steps n o p)
+covered_calm : (n : ℕ) (o : Option Joined) (p : SwitchChannel) → AreCalm (covered_steps n o p)
 covered_calm n None p = tt
 covered_calm n (Some j) p = (tt, (tt, tt))
 
-joined_calm : (note : Note) (p : Place) (j : Joined) (ls : List SwitchLine) → AreCalm (told_joined_steps note p j ls)
+joined_calm : (note : Note) (p : SwitchChannel) (j : Joined) (ls : List SwitchLine) → AreCalm (told_joined_steps note p j ls)
 joined_calm (Incoming c parts) p j ls = tt
 joined_calm (Connected c) p j ls = (tt, tt)
 joined_calm (Closed c cause diagnostic reason) p j ls = (tt, (tt, (tt, tt)))
@@ -160,11 +160,11 @@ joined_calm (WasReset c cause diagnostic reason) p j ls = (tt, calm_then (anew_s
 joined_calm (InterruptConfirmed c) p j ls = (tt, tt)
 joined_calm (Covered c n) p j ls = covered_calm n (joined_at ls j.other) j.other
 
-told_calm : (o : Option Joined) (note : Note) (p : Place) (ls : List SwitchLine) → AreCalm (told_steps o note p ls)
+told_calm : (o : Option Joined) (note : Note) (p : SwitchChannel) (ls : List SwitchLine) → AreCalm (told_steps o note p ls)
 told_calm None note p ls = tt
 told_calm (Some j) note p ls = joined_calm note p j ls
 
-answered_calm : (a : Answer) (p : Place) (parts : CallParts) (ls : List SwitchLine) → Addressed ls → CanBePlaced parts → AreCalm (answered_steps a p parts ls)
+answered_calm : (a : Answer) (p : SwitchChannel) (parts : CallParts) (ls : List SwitchLine) → Addressed ls → CanBePlaced parts → AreCalm (answered_steps a p parts ls)
 answered_calm (Clears cause) p parts ls h fits = (tt, tt)
 answered_calm (Joins q) p parts ls h fits =
     (record { called = fits.called; calling = line_address ls p.line h; facilities = omega arith; user_data = fits.user_data }, (tt, (tt, tt)))

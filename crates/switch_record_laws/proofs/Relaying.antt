@@ -12,8 +12,8 @@ use Rattle.packet_layer.specs.Channel.CallState.{Ready, OwnWaiting, FarWaiting, 
 use Rattle.packet_layer.specs.Layer.{Layer, channel_of}
 use Rattle.packet_laws.specs.History.{Epoch, empty_epoch}
 use Rattle.call_records.specs.Records.{RecordValue}
-use Rattle.switch_lines.specs.declared.place.Place.{Place}
-use Rattle.switch_lines.specs.declared.place.Joined.{Joined}
+use Rattle.switch_lines.specs.declared.channels.SwitchChannel.{SwitchChannel}
+use Rattle.switch_lines.specs.declared.channels.Joined.{Joined}
 use Rattle.switch_lines.specs.Lines.{SwitchLine}
 use Rattle.switch_laws.specs.Leg.{Leg}
 use Rattle.switch_laws.specs.Clause.{Carries, Passed, AreCovered, taken_part, sent_part}
@@ -136,15 +136,15 @@ pair_call g h j k (connected c) = (ap (λ (s : CallState). had_call s) c.there.h
 pair_call g h j k (waiting p q w) = waits_call j.came_in g h w
 
 -- the record of a channel that has a call
-record OfLeg (bs : Books) (x : Place) (g : Leg) : Type 0 where
+record OfLeg (bs : Books) (x : SwitchChannel) (g : Leg) : Type 0 where
   it : RecordValue
   there : IsPresent x.channel it (bs x.line)
   is_of : IsRecordOf g it
 
-of_record : (bs : Books) (x : Place) (g : Leg) → HasRecord Dce x.channel g (bs x.line) → OfLeg bs x g
+of_record : (bs : Books) (x : SwitchChannel) (g : Leg) → HasRecord Dce x.channel g (bs x.line) → OfLeg bs x g
 of_record bs x g h = record { it = h.it; there = record { number = h.number; present = h.present; there = h.there; is_open = h.is_of.open_ }; is_of = h.is_of }
 
-found : (ls : List SwitchLine) (w : World) (bs : Books) (x : Place) → IsWorld (layers_of ls) w → HaveRecords (layers_of ls) w bs → is_some (shown_at (layers_of ls) x) ≡ true → had_call (w x).channel.state ≡ true
+found : (ls : List SwitchLine) (w : World) (bs : Books) (x : SwitchChannel) → IsWorld (layers_of ls) w → HaveRecords (layers_of ls) w bs → is_some (shown_at (layers_of ls) x) ≡ true → had_call (w x).channel.state ≡ true
     → OfLeg bs x (w x)
 found ls w bs x i h there call = by_layer (slice_get (layers_of ls) x.line) refl
   where
@@ -168,7 +168,7 @@ joins_relay ls w bs i h p j e = by_pair k.pair
     q_there : is_some (shown_at (layers_of ls) j.other) ≡ true
     q_there = (i.joined j.other k.other k.joined).there
 
-    leg : (x : Place) → is_some (shown_at (layers_of ls) x) ≡ true → IsCallLeg (w x)
+    leg : (x : SwitchChannel) → is_some (shown_at (layers_of ls) x) ≡ true → IsCallLeg (w x)
     leg x t = let s = some_there (shown_at (layers_of ls) x) t in (i.world x s.0 s.1).leg
 
     of_pair : IsPair (w p) (w j.other) j k.other → JoinsRecords bs p j.other

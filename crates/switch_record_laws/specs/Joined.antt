@@ -3,7 +3,7 @@ use Rattle.std.specs.Prelude.{◌≡◌, ℕ, false, slice_get, Some}
 use Rattle.link_timers.specs.declared.role.Role.TheVariants.{Dce}
 use Rattle.call_records.specs.Records.{RecordValue}
 use Rattle.call_records.specs.Book.{Book, slot_at}
-use Rattle.switch_lines.specs.declared.place.Place.{Place}
+use Rattle.switch_lines.specs.declared.channels.SwitchChannel.{SwitchChannel}
 use Rattle.switch_record_laws.specs.Written.{Books}
 use Rattle.switch_record_laws.specs.Relayed.{AreRelayed}
 
@@ -15,7 +15,7 @@ pub record IsPresent (channel : ℕ) (r : RecordValue) (b : Book) : Type 0 where
   pub is_open : r.closed ≡ false
 
 -- each of the two channels has one, and what each sent is what the other one took
-pub record JoinsRecords (bs : Books) (p q : Place) : Type 0 where
+pub record JoinsRecords (bs : Books) (p q : SwitchChannel) : Type 0 where
   pub near : RecordValue
   pub far : RecordValue
   pub near_there : IsPresent p.channel near (bs p.line)

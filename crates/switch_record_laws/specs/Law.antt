@@ -11,8 +11,8 @@ use Rattle.packet_laws.specs.Readable.{Every, AreOctets}
 use Rattle.call_records.specs.Records.{RecordValue}
 use Rattle.call_records.specs.Book.{Book, made_book}
 use Rattle.call_records.specs.Writes.{Write, all_written}
-use Rattle.switch_lines.specs.declared.place.Place.{Place}
-use Rattle.switch_lines.specs.declared.place.Joined.{Joined}
+use Rattle.switch_lines.specs.declared.channels.SwitchChannel.{SwitchChannel}
+use Rattle.switch_lines.specs.declared.channels.Joined.{Joined}
 use Rattle.switch_lines.specs.Lines.{SwitchLine, joined_at}
 use Rattle.switch_lines.specs.Switch.{Switch, on_frame, on_expiry, restart, elapse}
 use Rattle.switch_laws.specs.Leg.{Leg}
@@ -64,7 +64,7 @@ RestsLaw = (acts : List Act) (ys : List Layer) (bs : Books) (line n : ℕ) (r : 
 
 abbrev pub JoinsLaw : Type 0
 JoinsLaw = (ls : List SwitchLine) (w : World) (bs : Books) → IsSwitch ls w → HaveRecords (layers_of ls) w bs
-    → (p : Place) (j : Joined) → joined_at ls p ≡ Some j → JoinsRecords bs p j.other
+    → (p : SwitchChannel) (j : Joined) → joined_at ls p ≡ Some j → JoinsRecords bs p j.other
 
 -- what was handed on matches what was taken
 abbrev pub MatchLaw : Type 0

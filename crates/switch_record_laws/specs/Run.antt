@@ -12,7 +12,7 @@ use Rattle.lapb.specs.Machine.{Octets}
 use Rattle.link_timers.specs.declared.role.Role.TheVariants.{Dte}
 use Rattle.call_records.specs.Records.{RecordValue}
 use Rattle.call_records.specs.Book.{made_book}
-use Rattle.switch_lines.specs.declared.place.Place.{Place}
+use Rattle.switch_lines.specs.declared.channels.SwitchChannel.{SwitchChannel}
 use Rattle.switch_laws.specs.World.{Act, MayHappen, layers_of}
 use Rattle.switch_laws.specs.World.Act.{Asks, Comes, GoesUp, Calls, Gives}
 use Rattle.switch_laws.specs.Run.{letter, parameters, two_lines, no_calls, configs, new_switch, sabm}
@@ -25,10 +25,10 @@ use Rattle.switch_record_laws.specs.Written.{Books, books_after_all, HaveRecords
 use Rattle.switch_record_laws.specs.Relayed.{AreRelayed}
 
 -- channel 2 of line 0 and channel 1 of line 1
-abbrev pub near : Place
+abbrev pub near : SwitchChannel
 near = record { line = 0; channel = 2 }
 
-abbrev pub far : Place
+abbrev pub far : SwitchChannel
 far = record { line = 1; channel = 1 }
 
 abbrev pub comes : (line channel : ℕ) → Body → Act

@@ -4,9 +4,9 @@ use Rattle.std.specs.Prelude.{◌≡◌, ℕ, Bool, List, slice_get, Some}
 use Rattle.link_timers.specs.declared.timers.TimerId.{TimerId}
 use Rattle.lapb.specs.Machine.{Octets}
 use Rattle.address_routes.specs.Routes.{RouteMap}
-use Rattle.switch_lines.specs.declared.config.LineConfig.{LineConfig}
-use Rattle.switch_lines.specs.declared.place.Place.{Place}
-use Rattle.switch_lines.specs.declared.place.Joined.{Joined}
+use Rattle.switch_lines.specs.declared.config.SwitchLineConfig.{SwitchLineConfig}
+use Rattle.switch_lines.specs.declared.channels.SwitchChannel.{SwitchChannel}
+use Rattle.switch_lines.specs.declared.channels.Joined.{Joined}
 use Rattle.switch_lines.specs.Lines.{SwitchLine, joined_at, changed}
 use Rattle.switch_lines.specs.Making.{IsConfig, made}
 use Rattle.switch_lines.specs.Switch.{Switch, on_frame, on_expiry, elapse, restart}
@@ -61,7 +61,7 @@ sent_out n l kept h = record h { partners = with_sent n l kept h.partners }
 -- ---- the law
 
 abbrev pub BeginTied : Type 0
-BeginTied = (routes : RouteMap) (lines : List LineConfig) (books : Books) (partners : Partners) → IsConfig lines
+BeginTied = (routes : RouteMap) (lines : List SwitchLineConfig) (books : Books) (partners : Partners) → IsConfig lines
     → HaveAddresses (made routes lines).lines → AreKept partners books (made routes lines).lines
     → HaveRecords (layers_of (made routes lines).lines) (new_legs lines) books
     → IsTied (made routes lines) (record { legs = new_legs lines; books = books; partners = partners })
@@ -86,7 +86,7 @@ OutTied = (n : ℕ) (l : SwitchLine) (kept : List Bool) (s : Switch) (h : Histor
 
 -- so the present records of the two legs of each join are those of which the relay's clause holds
 abbrev pub JoinsTied : Type 0
-JoinsTied = (s : Switch) (h : Histories) (p : Place) (j : Joined) → IsTied s h → joined_at s.lines p ≡ Some j
+JoinsTied = (s : Switch) (h : Histories) (p : SwitchChannel) (j : Joined) → IsTied s h → joined_at s.lines p ≡ Some j
     → JoinsRecords h.books p j.other
 
 pub record TiedLaw : Type 0 where

@@ -3,7 +3,7 @@ use Rattle.std.specs.Prelude.{ℕ, Bool, true, false, Option, Some, None}
 use Rattle.link_timers.specs.declared.role.Role.{Role}
 use Rattle.packet_codec.specs.declared.packet_type.PacketType.{PacketType}
 use Rattle.packet_codec.specs.PacketType.{content_type}
-use Rattle.call_states.specs.Places as places
+use Rattle.call_states.specs.EndStates as places
 use Rattle.call_states.specs.declared.state.CallState.{CallState}
 use Rattle.call_states.specs.declared.table.UserAct.{UserAct}
 use Rattle.call_states.specs.declared.table.UserAct.TheVariants as acts
@@ -22,17 +22,17 @@ use Rattle.packet_layer.specs.Layer.{Phase}
 
 -- ---- states
 
-abbrev pub place_of : channel.CallState → places.Place
-place_of channel.CallState.Ready = places.Place.Ready
-place_of channel.CallState.OwnWaiting = places.Place.OwnWaiting
-place_of channel.CallState.FarWaiting = places.Place.FarWaiting
-place_of channel.CallState.Transfer = places.Place.DataTransfer
-place_of channel.CallState.Collision = places.Place.CallCollision
-place_of channel.CallState.OwnClear = places.Place.OwnClear
+abbrev pub end_state_of : channel.CallState → places.EndState
+end_state_of channel.CallState.Ready = places.EndState.Ready
+end_state_of channel.CallState.OwnWaiting = places.EndState.OwnWaiting
+end_state_of channel.CallState.FarWaiting = places.EndState.FarWaiting
+end_state_of channel.CallState.Transfer = places.EndState.DataTransfer
+end_state_of channel.CallState.Collision = places.EndState.CallCollision
+end_state_of channel.CallState.OwnClear = places.EndState.OwnClear
 
 -- p1 to p7
 abbrev pub call_state : Role → channel.CallState → CallState
-call_state role s = places.state_of role (place_of s)
+call_state role s = places.state_of role (end_state_of s)
 
 -- d1, or the own one of d2 and d3
 abbrev pub reset_state : Role → Bool → ResetState

@@ -4,4 +4,4 @@
 mod switch;
 
 pub use switch::Switch;
-pub use switch_lines::{LineConfig, MOST_LINES, NewJoin, Place, SwitchConfig};
+pub use switch_lines::{MOST_LINES, NewJoin, SwitchChannel, SwitchConfig, SwitchLineConfig};

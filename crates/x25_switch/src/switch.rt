@@ -25,7 +25,7 @@ use number_set::NumberSet;
 use packet_end::EndFault;
 use std::alloc::Global;
 use std::marker::Model;
-use switch_lines::{Lines, MOST_FRAMES, NewJoin, Place, SwitchConfig, check_lines};
+use switch_lines::{Lines, MOST_FRAMES, NewJoin, SwitchChannel, SwitchConfig, check_lines};
 
 /// A switch: the DCE on up to 64 lines, of which it joins calls (X.25 3 to 5). A call that comes in on one line goes on
 /// to the line of its route, and all that happens on the one is relayed to the other.
@@ -80,28 +80,13 @@ impl Switch {
         self.lines.len()
     }
 
-    /// Takes the octets of a frame that a line brings, as [`Switch::receive`] does.
-    pub fn on_frame(&mut self, line: usize, octets: &[u8])
-        requires { line < length self.old.lines }
-        ensures switch { self.new ≡ on_frame line octets.now self.old }
-        ensures others { LeavesOthers line (Brings octets.now) self.old self.new }
-        ensures relayed { HasRelayedAll self.new.lines }
-        ensures nothing_kept_back { EndsKeepNothingBack self.new.lines }
-        ensures routes { JoinsByRoute self.old.routes line (noted_in line (λ e. received e octets.now) self.old)
-            self.old.lines self.new.lines }
-        ensures legs { KeepsLegs (Arrives line octets.now) self.old self.new }
-        ensures frames { AreAllSent line (Brings octets.now) self.old self.new }
-    {
-        let _ = self.receive(line, octets);
-    }
-
     /// Takes the octets of a frame that a line brings, and answers the call that it joined, if it did. A frame joins no
     /// more than one.
     ///
     /// Each join of two other lines is as it was, unless one of the two was set up anew, since a fifth packet came to be
     /// owed there. After it nothing waits that the other leg or the link takes, each new join is by its route, and a
     /// packet with D = 1 was released only if it was covered on the other leg. On each line all frames of the event wait.
-    pub fn receive(&mut self, line: usize, octets: &[u8]) -> Option<NewJoin>
+    pub fn on_frame(&mut self, line: usize, octets: &[u8]) -> Option<NewJoin>
         requires { line < length self.old.lines }
         ensures join { option_to_list result ≡ new_joins line octets.now self.old }
         ensures switch { self.new ≡ on_frame line octets.now self.old }
@@ -114,7 +99,7 @@ impl Switch {
         ensures frames { AreAllSent line (Brings octets.now) self.old self.new }
     {
         self.lines.begin();
-        let joined = self.lines.receive(&self.routes, line, octets);
+        let joined = self.lines.on_frame(&self.routes, line, octets);
         self.lines.finish(&self.routes, line);
         joined
     }
@@ -138,7 +123,7 @@ impl Switch {
             return false;
         }
         self.lines.begin();
-        self.lines.expire(&self.routes, line, id);
+        self.lines.on_timer(&self.routes, line, id);
         self.lines.finish(&self.routes, line);
         true
     }
@@ -203,7 +188,7 @@ impl Switch {
     }
 
     /// The channel to which the call on a channel is joined, if there is a call.
-    pub fn joins(&self, place: Place) -> Option<Place>
+    pub fn joins(&self, place: SwitchChannel) -> Option<SwitchChannel>
         ensures { result ≡ option_map (λ j. j.other) (joined_at self.now.lines place) }
     {
         self.lines.other(place)

@@ -18,7 +18,7 @@ use net_config::MakeFault;
 use net_events::Put;
 use net_plans::{NetPlan, NewLine};
 use net_turns::put_frames;
-use placed_nodes::{NetNode, NodeKind, new_nodes, new_register, switch_place};
+use placed_nodes::{Equipment, NetNode, new_nodes, new_register, switch_place};
 use std::alloc::{AllocError, Global};
 
 /// Puts all frames that wait at a node with users on its line; those of a switch wait.
@@ -37,8 +37,8 @@ fn put_user_frames<L: Line>(
         → (node.new ≡ node.old) × (L.flights line.new ≡ L.flights line.old) }
 {
     match &mut node.kind {
-        NodeKind::User { node, .. } => put_frames(node, number, line, direction, puts),
-        NodeKind::Switching { .. } => {}
+        Equipment::User { node, .. } => put_frames(node, number, line, direction, puts),
+        Equipment::Switching { .. } => {}
     }
 }
 
@@ -122,8 +122,8 @@ fn begin_switch<L: Line>(
     ensures err { IfErr result (λ fault. fault ≡ make_fault_is.OutOfMemory) }
 {
     match &mut node.kind {
-        NodeKind::User { .. } => {}
-        NodeKind::Switching {
+        Equipment::User { .. } => {}
+        Equipment::Switching {
             lines: own,
             switch,
             ..

@@ -11,7 +11,7 @@ ghost use Rattle.net_nodes.specs.Happening.{Happens};
 ghost use Rattle.net_nodes.specs.Steps.{hearer};
 
 use crate::nodes::turn::serve_at;
-use crate::nodes::{LineEnd, Nodes};
+use crate::nodes::{LineSide, Nodes};
 use frame_codec::FrameBuf;
 use link_timers::{Role, TimerId};
 use memory_line::{Direction, Line};
@@ -85,7 +85,7 @@ impl<L: Line> Nodes<L> {
             answer.outcome = Outcome::Delivered(false);
             return Ok(());
         }
-        let end = LineEnd {
+        let end = LineSide {
             line,
             role: hearer(direction),
         };
@@ -167,7 +167,7 @@ impl<L: Line> Nodes<L> {
         if line >= self.lines.len() {
             return Err(StepFault::NoSuchNode);
         }
-        let end = LineEnd {
+        let end = LineSide {
             line,
             role: Role::Dte,
         };

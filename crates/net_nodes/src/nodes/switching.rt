@@ -17,7 +17,7 @@ use line_end::MOST_FRAMES;
 use memory_line::Line;
 use net_events::{Answer, Outcome, Put, StepFault, SwitchEvent};
 use net_turns::{call_switch, make_frame_room, put_switch_frames};
-use placed_nodes::{NetNode, NodeKind, network_line};
+use placed_nodes::{Equipment, NetNode, network_line};
 use std::alloc::AllocError;
 use x25_switch::{NewJoin, Switch};
 
@@ -121,8 +121,8 @@ pub(super) fn serve_switch<L: Line>(
         (register_of register.old) node.new lines.new.items (register_of register.new) puts.new.items) (λ _. ⊥) }
 {
     match &mut node.kind {
-        NodeKind::User { .. } => Err(StepFault::NoSuchNode),
-        NodeKind::Switching { lines: own, switch } => {
+        Equipment::User { .. } => Err(StepFault::NoSuchNode),
+        Equipment::Switching { lines: own, switch } => {
             let joined = call_switch(switch, event);
             hand_on(register, own, joined);
             put_lines(switch, own, lines, is_anew(event), puts);

@@ -11,17 +11,17 @@ ghost use Rattle.net_turns.specs.Users.{IsRefusedWith, user_fault};
 ghost use Rattle.net_nodes.specs.Turns.{LineServed, UserServed, CanServe, CanServeUser, HadTurn, CanAct, LeavesLine};
 ghost use Rattle.net_nodes.specs.Turns.{Acts, IsWhole, UserActs};
 
-use crate::nodes::{LineEnd, NetLine, Nodes};
+use crate::nodes::{LineSide, NetLine, Nodes};
 use call_records::{Book, Register};
 use line_nodes::Attachment;
 use link_timers::Role;
 use memory_line::Line;
 use net_events::{Answer, LineEvent, StepFault, UserEvent};
 use net_turns::{MOST_WRITES, make_room, serve_line, serve_user};
-use placed_nodes::{NetNode, NodeKind};
+use placed_nodes::{Equipment, NetNode};
 
 /// Where the node at an end of a line is attached.
-fn attachment<L: Line>(end: LineEnd, net_line: &NetLine<L>) -> Attachment
+fn attachment<L: Line>(end: LineSide, net_line: &NetLine<L>) -> Attachment
     ensures { result ≡ record { line = end.line; role = end.role; node = network.place_at end.role net_line.now } }
 {
     let node = match end.role {
@@ -58,11 +58,11 @@ fn serve_line_of<L: Line>(
         (λ fault. ⊥) }
 {
     match &mut node.kind {
-        NodeKind::User { node, .. } => {
+        Equipment::User { node, .. } => {
             serve_line(node, at, event, line, book, answer);
             Ok(())
         }
-        NodeKind::Switching { .. } => Err(StepFault::NoSuchNode),
+        Equipment::Switching { .. } => Err(StepFault::NoSuchNode),
     }
 }
 
@@ -72,7 +72,7 @@ pub(super) fn serve_at<L: Line>(
     nodes: &mut Vec<NetNode>,
     net_line: &mut NetLine<L>,
     register: &mut Register,
-    end: LineEnd,
+    end: LineSide,
     event: &LineEvent<'_>,
     answer: &mut Answer,
 ) -> Result<(), StepFault>
@@ -115,7 +115,7 @@ fn serve_user_of<L: Line>(
         net_line.new.flights (register_of register.new) }
 {
     match &mut node.kind {
-        NodeKind::User { node, .. } => serve_user(
+        Equipment::User { node, .. } => serve_user(
             node,
             at,
             net_line.channels,
@@ -124,7 +124,7 @@ fn serve_user_of<L: Line>(
             register,
             answer,
         ),
-        NodeKind::Switching { .. } => Err(StepFault::NoSuchNode),
+        Equipment::Switching { .. } => Err(StepFault::NoSuchNode),
     }
 }
 
@@ -133,7 +133,7 @@ fn serve_user_at<L: Line>(
     nodes: &mut Vec<NetNode>,
     net_line: &mut NetLine<L>,
     register: &mut Register,
-    end: LineEnd,
+    end: LineSide,
     event: &UserEvent<'_>,
     answer: &mut Answer,
 ) -> Result<(), StepFault>
@@ -156,7 +156,7 @@ impl<L: Line> Nodes<L> {
     /// Something comes to the node at an end of a line; it is not that a frame arrives or that the node restarts.
     pub(super) fn act(
         &mut self,
-        end: LineEnd,
+        end: LineSide,
         event: &LineEvent<'_>,
         answer: &mut Answer,
     ) -> Result<(), StepFault>
@@ -180,7 +180,7 @@ impl<L: Line> Nodes<L> {
     /// A user does something at the node at an end of a line.
     pub(super) fn user_acts(
         &mut self,
-        end: LineEnd,
+        end: LineSide,
         event: &UserEvent<'_>,
         answer: &mut Answer,
     ) -> Result<(), StepFault>

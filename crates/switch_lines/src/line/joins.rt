@@ -8,15 +8,15 @@ ghost use Rattle.switch_lines.specs.Pooled.{on_line};
 ghost use Rattle.switch_lines.specs.Lines.{Joined as JoinedValue, nth_joined, with_nth_joined};
 ghost use Rattle.switch_lines.specs.OfLine.{kept_on, freed_on};
 
+use crate::channels::{Joined, SwitchChannel};
 use crate::direction::Change;
 use crate::line::SwitchLine;
-use crate::place::{Joined, Place};
 use flow_window::pool::Pool;
 use packet_layer::Request;
 
 impl SwitchLine {
     /// The channel that a channel is joined to, if it is.
-    pub(crate) fn other(&self, channel: u8) -> Option<Place>
+    pub(crate) fn other(&self, channel: u8) -> Option<SwitchChannel>
         ensures { result ≡ option_map (λ j. j.other) (nth_joined self.now.line.joined channel) }
     {
         let place = self.place(channel)?;

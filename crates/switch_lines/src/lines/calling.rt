@@ -8,9 +8,9 @@ ghost use Rattle.switch_lines.specs.Calling.{answer_of};
 ghost use Rattle.switch_lines.specs.NewJoins.{join_of};
 ghost use Rattle.switch_lines.specs.Switch.{answer, answer_on, answered, forwarded, place_call, with_join};
 
+use crate::channels::{Joined, NewJoin, SwitchChannel};
 use crate::direction::Direction;
 use crate::lines::Lines;
-use crate::place::{Joined, NewJoin, Place};
 use address_routes::Routes;
 use packet_codec::{CallData, clear_cause, diagnostic};
 use packet_layer::{CallFault, Request};
@@ -20,7 +20,7 @@ impl Lines {
     pub(super) fn answer(
         &mut self,
         routes: &Routes,
-        place: Place,
+        place: SwitchChannel,
         call: &CallData<'_>,
     ) -> Option<NewJoin>
         requires { IsCallValue (call_view call.now) }
@@ -50,7 +50,12 @@ impl Lines {
 
     // Lets a call that came on a line go on to the line of its route, and answers the channel there or the cause for
     // which it cannot.
-    fn forward(&mut self, routes: &Routes, line: usize, call: &CallData<'_>) -> Result<Place, u8>
+    fn forward(
+        &mut self,
+        routes: &Routes,
+        line: usize,
+        call: &CallData<'_>,
+    ) -> Result<SwitchChannel, u8>
         requires { IsCallValue (call_view call.now) }
         ensures answer { answer routes.now self.old (parts_of (call_view call.now)) ≡ answer_of result }
         ensures ok { IfOk result (λ q. self.new
@@ -87,7 +92,7 @@ impl Lines {
     }
 
     // Places a call on a line, and answers its channel there or the cause for which there is none.
-    fn call(&mut self, line: usize, call: &CallData<'_>) -> Result<Place, u8>
+    fn call(&mut self, line: usize, call: &CallData<'_>) -> Result<SwitchChannel, u8>
         requires { IsCallValue (call_view call.now) }
         ensures answer { answer_on line (slice_get self.old line) ≡ answer_of result }
         ensures line { IfOk result (λ q. q.line ≡ line) }
@@ -99,14 +104,14 @@ impl Lines {
         }
         self.touched.insert(line);
         match self.lines[line].call(call) {
-            Ok(channel) => Ok(Place { line, channel }),
+            Ok(channel) => Ok(SwitchChannel { line, channel }),
             Err(CallFault::NotReady) => Err(clear_cause::OUT_OF_ORDER),
             Err(CallFault::NoChannel) => Err(clear_cause::NUMBER_BUSY),
         }
     }
 
     // The calls on two channels are joined. On the first one it came in.
-    fn join(&mut self, caller: Place, callee: Place)
+    fn join(&mut self, caller: SwitchChannel, callee: SwitchChannel)
         ensures { self.new ≡ with_join caller callee self.old }
     {
         let there = Joined {

@@ -9,11 +9,11 @@ ghost use Rattle.switch_lines.specs.Alone.{finished_alone, offered_alone};
 ghost use Rattle.switch_lines.specs.Switch.{acted, all_begun, all_relinked, relinks_of, to_relink, offering_from};
 ghost use Rattle.switch_lines.specs.Switch.{may_offer, with_end, without_joins};
 
+use crate::channels::NewJoin;
 use crate::lines::touched::{
     begin_lines, first_to_relink, offer_lines, restart_lines, settle_lines,
 };
 use crate::lines::{LineList, Lines};
-use crate::place::NewJoin;
 use address_routes::Routes;
 use arrayvec::ArrayVec;
 use link_timers::TimerId;
@@ -33,25 +33,25 @@ impl Lines {
 
     /// Takes the octets of a frame on a line, and heeds what it tells. Answers the first call that is joined then, if
     /// one is.
-    pub fn receive(&mut self, routes: &Routes, line: usize, octets: &[u8]) -> Option<NewJoin>
+    pub fn on_frame(&mut self, routes: &Routes, line: usize, octets: &[u8]) -> Option<NewJoin>
         requires there { line < length self.old }
         requires read { AreRead self.old }
         ensures join { result ≡ slice_get (joins_acted routes.now line (λ e. end.received e octets.now) self.old) 0 }
         ensures lines { self.new ≡ acted routes.now line (λ e. end.received e octets.now) self.old }
     {
         self.touched.insert(line);
-        self.lines[line].receive(octets, &mut self.pool);
+        self.lines[line].on_frame(octets, &mut self.pool);
         self.heed_line(routes, line)
     }
 
     /// Takes an expiry of a timer of a line, and heeds what it tells.
-    pub fn expire(&mut self, routes: &Routes, line: usize, id: TimerId)
+    pub fn on_timer(&mut self, routes: &Routes, line: usize, id: TimerId)
         requires there { line < length self.old }
         requires read { AreRead self.old }
         ensures { self.new ≡ acted routes.now line (λ e. end.after_timer e id) self.old }
     {
         self.touched.insert(line);
-        self.lines[line].expire(id, &mut self.pool);
+        self.lines[line].on_timer(id, &mut self.pool);
         let _ = self.heed_line(routes, line);
     }
 

@@ -8,8 +8,8 @@ ghost use Rattle.switch_lines.specs.NewJoins.{joins_of_note, joins_heeded};
 ghost use Rattle.switch_lines.specs.OfLine.{notes_on};
 ghost use Rattle.switch_lines.specs.Switch.{heed, notes_heeded, with_end};
 
+use crate::channels::{NewJoin, SwitchChannel};
 use crate::lines::Lines;
-use crate::place::{NewJoin, Place};
 use address_routes::Routes;
 use packet_layer::LayerNote;
 
@@ -21,7 +21,7 @@ impl Lines {
     {
         let mut joined = None;
         for _ in 0..self.waiting_notes(line) {
-            if let Some(note) = self.next_note(line) {
+            if let Some(note) = self.notes(line) {
                 let join = self.heed(routes, line, note);
                 joined = joined.or(join);
             }
@@ -36,24 +36,27 @@ impl Lines {
     {
         match note {
             LayerNote::Incoming(channel, call) => {
-                return self.answer(routes, Place { line, channel }, &call.data());
+                return self.answer(routes, SwitchChannel { line, channel }, &call.data());
             }
-            LayerNote::Connected(channel) => self.tell_connected(Place { line, channel }),
+            LayerNote::Connected(channel) => self.tell_connected(SwitchChannel { line, channel }),
             LayerNote::Closed {
                 channel,
                 cause,
                 diagnostic,
                 reason,
-            } => self.tell_closed(Place { line, channel }, cause, diagnostic, reason),
+            } => self.tell_closed(SwitchChannel { line, channel }, cause, diagnostic, reason),
             LayerNote::Reset {
                 channel,
                 cause,
                 diagnostic,
                 reason,
-            } => self.tell_reset(Place { line, channel }, cause, diagnostic, reason),
-            LayerNote::InterruptConfirmed(channel) => self.tell_confirmed(Place { line, channel }),
+            } => self.tell_reset(SwitchChannel { line, channel }, cause, diagnostic, reason),
+            LayerNote::InterruptConfirmed(channel) => self.tell_confirmed(SwitchChannel {
+                line,
+                channel,
+            }),
             LayerNote::Covered { channel, count } => {
-                self.tell_covered(Place { line, channel }, count);
+                self.tell_covered(SwitchChannel { line, channel }, count);
             }
         }
         None
@@ -71,12 +74,12 @@ impl Lines {
     }
 
     // Takes the next note of a line, if there is one.
-    fn next_note(&mut self, line: usize) -> Option<LayerNote>
+    fn notes(&mut self, line: usize) -> Option<LayerNote>
         ensures note { maybe_note result ≡ slice_get (notes_on self.old line) 0 }
         ensures lines { self.new ≡ changed line (with_end without_first_note) self.old }
     {
         if line < self.lines.len() {
-            self.lines[line].next_note()
+            self.lines[line].notes()
         } else {
             None
         }

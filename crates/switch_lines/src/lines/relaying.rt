@@ -5,9 +5,9 @@ ghost use Rattle.switch_lines.specs.Alone.{relayed_alone};
 ghost use Rattle.switch_lines.specs.Lines.{joined_at, front_at};
 ghost use Rattle.switch_lines.specs.Relay.{moved, relayed, relayed_from, both_legs, legs_at, places_of};
 
+use crate::channels::SwitchChannel;
 use crate::direction::Change;
 use crate::lines::Lines;
-use crate::place::Place;
 use packet_layer::{Request, TakenBuf};
 
 /// The most that waits on a leg: seven packets and an interrupt.
@@ -15,7 +15,7 @@ const MOST_WAITING: usize = 8;
 
 impl Lines {
     // What waits first on a joined channel is taken there and sent on the other leg, unless that one would refuse it.
-    fn relay_one(&mut self, place: Place)
+    fn relay_one(&mut self, place: SwitchChannel)
         ensures { self.new ≡ moved place self.old }
     {
         let Some(other) = self.other(place) else {
@@ -32,7 +32,7 @@ impl Lines {
     }
 
     // What waits first on a joined channel is taken there and goes to the other leg, a packet in its buffer.
-    fn move_front(&mut self, place: Place, other: Place)
+    fn move_front(&mut self, place: SwitchChannel, other: SwitchChannel)
         requires there { place.line < length self.old }
         requires other { other.line < length self.old }
         ensures { MovesFront (front_at self.old place) place other self.old self.new }
@@ -53,7 +53,7 @@ impl Lines {
     }
 
     // All that waits on a channel goes to the other leg of its join, as far as that one takes it.
-    fn relay_channel(&mut self, place: Place)
+    fn relay_channel(&mut self, place: SwitchChannel)
         ensures { self.new ≡ relayed 8 place self.old }
     {
         for _ in 0..MOST_WAITING {
@@ -62,7 +62,7 @@ impl Lines {
     }
 
     // All that waits on a joined channel and on the other leg of its join goes on.
-    fn relay_join(&mut self, place: Place)
+    fn relay_join(&mut self, place: SwitchChannel)
         ensures { self.new ≡ relayed_from (both_legs (joined_at self.old place) place) self.old }
     {
         if let Some(other) = self.other(place) {
@@ -78,7 +78,7 @@ impl Lines {
         if line < self.lines.len() {
             for place in 0..self.lines[line].channels() {
                 let channel = place + 1;
-                self.relay_join(Place { line, channel });
+                self.relay_join(SwitchChannel { line, channel });
             }
         }
     }

@@ -5,15 +5,15 @@ ghost use Rattle.packet_layer.specs.Packets.{Note as note};
 ghost use Rattle.switch_lines.specs.Relay.{told};
 
 use crate::causes::{far_clear_cause, far_diagnostic, far_reset_cause};
+use crate::channels::SwitchChannel;
 use crate::direction::Change;
 use crate::lines::Lines;
-use crate::place::Place;
 use packet_layer::{Reason, Request};
 
 impl Lines {
     // The call on a channel was accepted there.
     #[tactic(auto, using(crate::proofs::Telling::tells_connected, crate::proofs::Telling::tells_no_one))]
-    pub(super) fn tell_connected(&mut self, place: Place)
+    pub(super) fn tell_connected(&mut self, place: SwitchChannel)
         ensures { self.new ≡ told (note.Connected place.channel) place self.old }
     {
         if let Some(other) = self.other(place) {
@@ -23,7 +23,13 @@ impl Lines {
 
     // The call on a channel is over: so is the join, and the call on the other leg.
     #[tactic(auto, using(crate::proofs::Telling::tells_closed, crate::proofs::Telling::tells_no_one))]
-    pub(super) fn tell_closed(&mut self, place: Place, cause: u8, diagnostic: u8, reason: Reason)
+    pub(super) fn tell_closed(
+        &mut self,
+        place: SwitchChannel,
+        cause: u8,
+        diagnostic: u8,
+        reason: Reason,
+    )
         ensures { self.new
             ≡ told (note.Closed place.channel cause diagnostic (reason_of reason)) place self.old }
     {
@@ -41,7 +47,13 @@ impl Lines {
 
     // The call on a channel was reset: so is the other leg, unless its own reset is unconfirmed.
     #[tactic(auto, using(crate::proofs::Telling::tells_reset, crate::proofs::Telling::tells_no_one))]
-    pub(super) fn tell_reset(&mut self, place: Place, cause: u8, diagnostic: u8, reason: Reason)
+    pub(super) fn tell_reset(
+        &mut self,
+        place: SwitchChannel,
+        cause: u8,
+        diagnostic: u8,
+        reason: Reason,
+    )
         ensures { self.new
             ≡ told (note.WasReset place.channel cause diagnostic (reason_of reason)) place self.old }
     {
@@ -59,7 +71,7 @@ impl Lines {
 
     // The interrupt that was sent on a channel is confirmed there: so is the one that was taken on the other leg.
     #[tactic(auto, using(crate::proofs::Telling::tells_confirmed, crate::proofs::Telling::tells_no_one))]
-    pub(super) fn tell_confirmed(&mut self, place: Place)
+    pub(super) fn tell_confirmed(&mut self, place: SwitchChannel)
         ensures { self.new ≡ told (note.InterruptConfirmed place.channel) place self.old }
     {
         if let Some(other) = self.other(place) {
@@ -70,7 +82,7 @@ impl Lines {
     // A P(R) newly covered so many packets that were sent on a channel: what waited for that is released on the other
     // leg.
     #[tactic(auto, using(crate::proofs::Telling::tells_covered, crate::proofs::Telling::tells_no_one))]
-    pub(super) fn tell_covered(&mut self, place: Place, count: u8)
+    pub(super) fn tell_covered(&mut self, place: SwitchChannel, count: u8)
         ensures { self.new ≡ told (note.Covered place.channel count) place self.old }
     {
         if let Some(other) = self.other(place) {

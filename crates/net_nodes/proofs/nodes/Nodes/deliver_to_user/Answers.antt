@@ -6,7 +6,7 @@ use Rattle.call_records.specs.RegisterView.{register_of}
 use Rattle.net_events.specs.NodeEvents.{Hears}
 use Rattle.net_events.specs.declared.node_event.LineEvent.TheVariants as line_event
 use Rattle.net_events.specs.Network.{NetLine}
-use Rattle.net_nodes.specs.declared.nodes.LineEnd.{LineEnd}
+use Rattle.net_nodes.specs.declared.nodes.LineSide.{LineSide}
 use Rattle.net_nodes.specs.Faults.{where_there_is}
 use Rattle.net_nodes.specs.Places.{HearsAt}
 use Rattle.net_nodes.specs.Steps.{hearer}
@@ -46,7 +46,7 @@ returns-then-not-take g c =
 pub serve_at-requires : goal.serve_at-requires
 serve_at-requires g c =
     let lines = c.self.inside.lines.items in
-    let end : LineEnd = record { line = c.args.line; role = c.hearer.result } in
+    let end : LineSide = record { line = c.args.line; role = c.hearer.result } in
     let st = subst (HearsAt c.args.line (hearer c.args.direction)) (sym c.self.view_is) c.requires in
     let h : c.args.line < length lines = within lines c.args.line st.line_is st.line_there in
     let here = there lines c.args.line _ c.index_mut-net_line.result.now h c.index_mut-net_line.ensures.value ∙ ap Some (sym c.net_line.view_is) in
@@ -59,7 +59,7 @@ pub returns : goal.returns
 returns g c =
     let L = g.L.Line.service in
     let lines = c.self.inside.lines.items in
-    let end : LineEnd = record { line = c.args.line; role = c.hearer.result } in
+    let end : LineSide = record { line = c.args.line; role = c.hearer.result } in
     let event = line_event.Hears c.as_slice.result in
     let st = subst (HearsAt c.args.line (hearer c.args.direction)) (sym c.self.view_is) c.requires in
     let h : c.args.line < length lines = within lines c.args.line st.line_is st.line_there in

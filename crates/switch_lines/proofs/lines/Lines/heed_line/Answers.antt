@@ -17,10 +17,10 @@ pub loop-preserved : goal.loop-preserved
 loop-preserved c =
     let routes = c.args.routes.now in
     let n = c.args.line in
-    elim c.match-next_note.branch [
+    elim c.match-notes.branch [
       | in-Some w ↦
           let x = note_of w.in-Some.note in
-          let taken = c.next_note.ensures.lines in
+          let taken = c.notes.ensures.lines in
           let now = w.self-is ∙ w.heed-join.ensures.lines ∙ ap (λ (ls : List SwitchLine). heed routes n x ls) taken in
           let left = ap (λ (ls : List SwitchLine). length (notes_on ls n)) now ∙ ap (λ (xs : List Note). length xs) (notes_left routes n x c.loop.self) in
           record {

@@ -8,13 +8,13 @@ use Rattle.switch_lines.specs.Touched.{IsSettled, IsTaken}
 use Rattle.switch_lines.specs.Pooled.{PooledLine}
 use Rattle.switch_lines.proofs.Pooled.{one_changed, none_changed, one_stays, one_seen, pooled_same}
 use Rattle.switch_lines.proofs.Touched.{count_kept}
-use Rattle.switch_lines.proofs.lines.Lines.next_note.Goals as goal
+use Rattle.switch_lines.proofs.lines.Lines.notes.Goals as goal
 
 pub returns-then-line-len-clause-lines : goal.returns-then-line-len-clause-lines
 returns-then-line-len-clause-lines c =
     one_changed (with_end without_first_note) c.self.inside.lines.items c.args.self.now c.args.line
-    c.index_mut.result.now c.next_note.new.self c.self.view_is (omega arith) c.index_mut.ensures.value
-    (ap (λ (p : PooledLine). p.line) c.next_note.ensures.line)
+    c.index_mut.result.now c.notes.new.self c.self.view_is (omega arith) c.index_mut.ensures.value
+    (ap (λ (p : PooledLine). p.line) c.notes.ensures.line)
 
 pub returns-else-line-len-clause-lines : goal.returns-else-line-len-clause-lines
 returns-else-line-len-clause-lines c =
@@ -25,23 +25,23 @@ pub invariant_of-self : goal.invariant_of-self
 invariant_of-self c =
     let xs = c.self.inside.lines.items in
     let n = c.args.line in
-    let new = c.next_note.new.self in
+    let new = c.notes.new.self in
     record {
       most = count_kept xs n 64 new c.self.invariant.most;
       rest = one_stays c.self.inside.touched c.self.inside.untaken xs n c.index_mut.result.now new (omega arith)
           c.index_mut.ensures.value
-          (λ h. subst (λ (l : SwitchLine). IsSettled l) (sym (ap (λ (p : PooledLine). p.line) c.next_note.ensures.line))
+          (λ h. subst (λ (l : SwitchLine). IsSettled l) (sym (ap (λ (p : PooledLine). p.line) c.notes.ensures.line))
           (record { timers = h.timers; sent = h.sent; offered = h.offered; no_relink = h.no_relink }))
-          (λ h. subst (λ (l : SwitchLine). IsTaken l) (sym (ap (λ (p : PooledLine). p.line) c.next_note.ensures.line))
+          (λ h. subst (λ (l : SwitchLine). IsTaken l) (sym (ap (λ (p : PooledLine). p.line) c.notes.ensures.line))
           (record { frames = h.frames; notes = ap (λ (notes : List Note). drop 1 notes) h.notes }))
           c.self.invariant.rest;
-      pooled = pooled_same c.self.inside.pool (with_end without_first_note) c.self.inside.lines.items c.args.line c.index_mut.result.now c.next_note.new.self
-          c.self.invariant.pooled (omega arith) c.index_mut.ensures.value c.next_note.ensures.line;
+      pooled = pooled_same c.self.inside.pool (with_end without_first_note) c.self.inside.lines.items c.args.line c.index_mut.result.now c.notes.new.self
+          c.self.invariant.pooled (omega arith) c.index_mut.ensures.value c.notes.ensures.line;
     }
 
 pub returns-then-line-len-clause-note : goal.returns-then-line-len-clause-note
 returns-then-line-len-clause-note c =
-    c.next_note.ensures.note
+    c.notes.ensures.note
     ∙ ap (λ (o : Option SwitchLine). slice_get (notes_of o) 0)
     (one_seen c.self.inside.lines.items c.args.self.now c.args.line c.index_mut.result.now c.self.view_is (omega arith)
     c.index_mut.ensures.value)

@@ -6,7 +6,7 @@ use Rattle.switch_lines.specs.NewJoins.{joins_heeded}
 use Rattle.switch_lines.specs.Switch.{notes_heeded, notes_of, with_end, quieted}
 use Rattle.switch_lines.proofs.Pooled.{one_changed, one_seen, one_touched, plain_length, pooled_set, serves_one}
 use Rattle.switch_lines.proofs.Touched.{count_kept}
-use Rattle.switch_lines.proofs.lines.Lines.receive.Goals as goal
+use Rattle.switch_lines.proofs.lines.Lines.on_frame.Goals as goal
 
 pub returns-clause-lines : goal.returns-clause-lines
 returns-clause-lines c =
@@ -17,7 +17,7 @@ returns-clause-lines c =
     ∙ ap (λ (ls : List SwitchLine). notes_heeded c.args.routes.now c.args.line ls)
     (one_changed (with_end (λ e. end.received (quieted e) c.args.octets.now)) c.self.inside.lines.items
     c.args.self.now c.args.line c.index_mut.result.now
-    c.receive.new.self c.self.view_is within c.index_mut.ensures.value c.receive.ensures.line)
+    c.on_frame.new.self c.self.view_is within c.index_mut.ensures.value c.on_frame.ensures.line)
 
 pub returns-clause-join : goal.returns-clause-join
 returns-clause-join c =
@@ -28,7 +28,7 @@ returns-clause-join c =
     ∙ ap (λ (ls : List SwitchLine). slice_get (joins_heeded c.args.routes.now c.args.line ls) 0)
     (one_changed (with_end (λ e. end.received (quieted e) c.args.octets.now)) c.self.inside.lines.items
     c.args.self.now c.args.line c.index_mut.result.now
-    c.receive.new.self c.self.view_is within c.index_mut.ensures.value c.receive.ensures.line)
+    c.on_frame.new.self c.self.view_is within c.index_mut.ensures.value c.on_frame.ensures.line)
 
 pub invariant_of-self : goal.invariant_of-self
 invariant_of-self c =
@@ -36,23 +36,23 @@ invariant_of-self c =
     let long = plain_length c.self.inside.lines.items in
     let xs = c.self.inside.lines.items in
     record {
-      most = count_kept xs c.args.line 64 c.receive.new.self c.self.invariant.most;
+      most = count_kept xs c.args.line 64 c.on_frame.new.self c.self.invariant.most;
       rest = one_touched c.self.inside.touched c.insert.new.self c.self.inside.untaken xs c.args.line
-          c.receive.new.self (omega (arith, same, long, c.requires.there)) c.insert.ensures c.self.invariant.rest;
-      pooled = pooled_set c.self.inside.pool c.receive.new.pool c.self.inside.lines.items c.args.line c.index_mut.result.now c.receive.new.self
-          c.self.invariant.pooled (omega (arith, same, long, c.requires.there)) c.index_mut.ensures.value c.receive.ensures.pool c.receive.ensures.share
-          c.receive.ensures.within;
+          c.on_frame.new.self (omega (arith, same, long, c.requires.there)) c.insert.ensures c.self.invariant.rest;
+      pooled = pooled_set c.self.inside.pool c.on_frame.new.pool c.self.inside.lines.items c.args.line c.index_mut.result.now c.on_frame.new.self
+          c.self.invariant.pooled (omega (arith, same, long, c.requires.there)) c.index_mut.ensures.value c.on_frame.ensures.pool c.on_frame.ensures.share
+          c.on_frame.ensures.within;
     }
 
-pub receive-requires-clause-pool : goal.receive-requires-clause-pool
-receive-requires-clause-pool c =
+pub on_frame-requires-clause-pool : goal.on_frame-requires-clause-pool
+on_frame-requires-clause-pool c =
     let same = ap (λ (ls : List SwitchLine). length ls) c.self.view_is in
     let long = plain_length c.self.inside.lines.items in
     serves_one c.self.inside.pool c.self.inside.lines.items c.args.line c.index_mut.result.now c.self.invariant.pooled (omega (arith, same, long, c.requires.there))
     c.index_mut.ensures.value
 
-pub receive-requires-clause-read : goal.receive-requires-clause-read
-receive-requires-clause-read c =
+pub on_frame-requires-clause-read : goal.on_frame-requires-clause-read
+on_frame-requires-clause-read c =
     let same = ap (λ (ls : List SwitchLine). length ls) c.self.view_is in
     let long = plain_length c.self.inside.lines.items in
     ap (λ (o : Option SwitchLine). notes_of o)

@@ -10,71 +10,71 @@ use Rattle.switch_laws.specs.Events.Event.{Arrives}
 use Rattle.x25_switch.specs.SwitchView.{switch_of}
 use Rattle.x25_switch.proofs.Holding.{octets, of_lines, holds_after, frame_is, frame_kept}
 use Rattle.switch_laws.proofs.NewJoins.{one_told}
-use Rattle.x25_switch.proofs.switch.Switch.receive.Goals as goal
+use Rattle.x25_switch.proofs.switch.Switch.on_frame.Goals as goal
 
-pub receive-joined-requires-clause-read : goal.receive-joined-requires-clause-read
-receive-joined-requires-clause-read c =
+pub on_frame-joined-requires-clause-read : goal.on_frame-joined-requires-clause-read
+on_frame-joined-requires-clause-read c =
     subst (λ (ls : List SwitchLine). AreRead ls) (sym c.begin.ensures) (begun_read c.self.inside.lines)
 
 pub finish-requires : goal.finish-requires
 finish-requires c =
     let read : AreRead c.begin.new.self = subst (λ (ls : List SwitchLine). AreRead ls) (sym c.begin.ensures) (begun_read c.self.inside.lines) in
-    subst (λ (ls : List SwitchLine). AreRead ls) (sym c.receive-joined.ensures.lines)
+    subst (λ (ls : List SwitchLine). AreRead ls) (sym c.on_frame-joined.ensures.lines)
     (acted_read c.self.inside.routes c.args.line (λ e. end.received e c.args.octets.now) c.begin.new.self read)
 
 pub invariant_of-self : goal.invariant_of-self
 invariant_of-self c =
-    let is = frame_is c.args.line c.args.octets.now c.self.inside.routes c.self.inside.lines c.begin.new.self c.receive-joined.new.self c.finish.new.self c.self.invariant.legs (octets c.args.octets.now (λ i. omega (arith, c.type_inv.octets i))) c.self.invariant.holds
-    c.begin.ensures c.receive-joined.ensures.lines c.finish.ensures in
+    let is = frame_is c.args.line c.args.octets.now c.self.inside.routes c.self.inside.lines c.begin.new.self c.on_frame-joined.new.self c.finish.new.self c.self.invariant.legs (octets c.args.octets.now (λ i. omega (arith, c.type_inv.octets i))) c.self.invariant.holds
+    c.begin.ensures c.on_frame-joined.ensures.lines c.finish.ensures in
     let h = holds_after (Arrives c.args.line c.args.octets.now) (switch_of c.self.inside) (of_lines c.self.inside.routes c.finish.new.self) c.self.invariant.legs (octets c.args.octets.now (λ i. omega (arith, c.type_inv.octets i))) c.self.invariant.holds is in
     record { legs = h.legs; holds = h.holds }
 
 pub returns-clause-switch : goal.returns-clause-switch
 returns-clause-switch c =
-    frame_is c.args.line c.args.octets.now c.self.inside.routes c.self.inside.lines c.begin.new.self c.receive-joined.new.self c.finish.new.self c.self.invariant.legs (octets c.args.octets.now (λ i. omega (arith, c.type_inv.octets i))) c.self.invariant.holds
-    c.begin.ensures c.receive-joined.ensures.lines c.finish.ensures
+    frame_is c.args.line c.args.octets.now c.self.inside.routes c.self.inside.lines c.begin.new.self c.on_frame-joined.new.self c.finish.new.self c.self.invariant.legs (octets c.args.octets.now (λ i. omega (arith, c.type_inv.octets i))) c.self.invariant.holds
+    c.begin.ensures c.on_frame-joined.ensures.lines c.finish.ensures
     ∙ ap (λ (s : Switch). on_frame c.args.line c.args.octets.now s) c.self.view_is
 
 pub returns-clause-join : goal.returns-clause-join
 returns-clause-join c =
     one_told c.args.line c.args.octets.now (switch_of c.self.inside)
-    (octets c.args.octets.now (λ i. omega (arith, c.type_inv.octets i))) c.receive-joined.result
-    (c.receive-joined.ensures.join
+    (octets c.args.octets.now (λ i. omega (arith, c.type_inv.octets i))) c.on_frame-joined.result
+    (c.on_frame-joined.ensures.join
     ∙ ap (λ (ls : List SwitchLine). slice_get (joins_acted c.self.inside.routes c.args.line (λ e. end.received e c.args.octets.now) ls) 0) c.begin.ensures)
     ∙ ap (λ (s : Switch). new_joins c.args.line c.args.octets.now s) c.self.view_is
 
 pub returns-clause-others : goal.returns-clause-others
 returns-clause-others c =
     (frame_kept c.args.line c.args.octets.now (switch_of c.self.inside) (of_lines c.self.inside.routes c.finish.new.self) _ c.self.invariant.legs (octets c.args.octets.now (λ i. omega (arith, c.type_inv.octets i))) c.self.invariant.holds
-    (frame_is c.args.line c.args.octets.now c.self.inside.routes c.self.inside.lines c.begin.new.self c.receive-joined.new.self c.finish.new.self c.self.invariant.legs (octets c.args.octets.now (λ i. omega (arith, c.type_inv.octets i))) c.self.invariant.holds
-    c.begin.ensures c.receive-joined.ensures.lines c.finish.ensures) c.self.view_is).others
+    (frame_is c.args.line c.args.octets.now c.self.inside.routes c.self.inside.lines c.begin.new.self c.on_frame-joined.new.self c.finish.new.self c.self.invariant.legs (octets c.args.octets.now (λ i. omega (arith, c.type_inv.octets i))) c.self.invariant.holds
+    c.begin.ensures c.on_frame-joined.ensures.lines c.finish.ensures) c.self.view_is).others
 
 pub returns-clause-relayed : goal.returns-clause-relayed
 returns-clause-relayed c =
     (frame_kept c.args.line c.args.octets.now (switch_of c.self.inside) (of_lines c.self.inside.routes c.finish.new.self) _ c.self.invariant.legs (octets c.args.octets.now (λ i. omega (arith, c.type_inv.octets i))) c.self.invariant.holds
-    (frame_is c.args.line c.args.octets.now c.self.inside.routes c.self.inside.lines c.begin.new.self c.receive-joined.new.self c.finish.new.self c.self.invariant.legs (octets c.args.octets.now (λ i. omega (arith, c.type_inv.octets i))) c.self.invariant.holds
-    c.begin.ensures c.receive-joined.ensures.lines c.finish.ensures) c.self.view_is).relayed
+    (frame_is c.args.line c.args.octets.now c.self.inside.routes c.self.inside.lines c.begin.new.self c.on_frame-joined.new.self c.finish.new.self c.self.invariant.legs (octets c.args.octets.now (λ i. omega (arith, c.type_inv.octets i))) c.self.invariant.holds
+    c.begin.ensures c.on_frame-joined.ensures.lines c.finish.ensures) c.self.view_is).relayed
 
 pub returns-clause-nothing_kept_back : goal.returns-clause-nothing_kept_back
 returns-clause-nothing_kept_back c =
     (frame_kept c.args.line c.args.octets.now (switch_of c.self.inside) (of_lines c.self.inside.routes c.finish.new.self) _ c.self.invariant.legs (octets c.args.octets.now (λ i. omega (arith, c.type_inv.octets i))) c.self.invariant.holds
-    (frame_is c.args.line c.args.octets.now c.self.inside.routes c.self.inside.lines c.begin.new.self c.receive-joined.new.self c.finish.new.self c.self.invariant.legs (octets c.args.octets.now (λ i. omega (arith, c.type_inv.octets i))) c.self.invariant.holds
-    c.begin.ensures c.receive-joined.ensures.lines c.finish.ensures) c.self.view_is).nothing_kept_back
+    (frame_is c.args.line c.args.octets.now c.self.inside.routes c.self.inside.lines c.begin.new.self c.on_frame-joined.new.self c.finish.new.self c.self.invariant.legs (octets c.args.octets.now (λ i. omega (arith, c.type_inv.octets i))) c.self.invariant.holds
+    c.begin.ensures c.on_frame-joined.ensures.lines c.finish.ensures) c.self.view_is).nothing_kept_back
 
 pub returns-clause-routes : goal.returns-clause-routes
 returns-clause-routes c =
     (frame_kept c.args.line c.args.octets.now (switch_of c.self.inside) (of_lines c.self.inside.routes c.finish.new.self) _ c.self.invariant.legs (octets c.args.octets.now (λ i. omega (arith, c.type_inv.octets i))) c.self.invariant.holds
-    (frame_is c.args.line c.args.octets.now c.self.inside.routes c.self.inside.lines c.begin.new.self c.receive-joined.new.self c.finish.new.self c.self.invariant.legs (octets c.args.octets.now (λ i. omega (arith, c.type_inv.octets i))) c.self.invariant.holds
-    c.begin.ensures c.receive-joined.ensures.lines c.finish.ensures) c.self.view_is).routes
+    (frame_is c.args.line c.args.octets.now c.self.inside.routes c.self.inside.lines c.begin.new.self c.on_frame-joined.new.self c.finish.new.self c.self.invariant.legs (octets c.args.octets.now (λ i. omega (arith, c.type_inv.octets i))) c.self.invariant.holds
+    c.begin.ensures c.on_frame-joined.ensures.lines c.finish.ensures) c.self.view_is).routes
 
 pub returns-clause-legs : goal.returns-clause-legs
 returns-clause-legs c =
     (frame_kept c.args.line c.args.octets.now (switch_of c.self.inside) (of_lines c.self.inside.routes c.finish.new.self) _ c.self.invariant.legs (octets c.args.octets.now (λ i. omega (arith, c.type_inv.octets i))) c.self.invariant.holds
-    (frame_is c.args.line c.args.octets.now c.self.inside.routes c.self.inside.lines c.begin.new.self c.receive-joined.new.self c.finish.new.self c.self.invariant.legs (octets c.args.octets.now (λ i. omega (arith, c.type_inv.octets i))) c.self.invariant.holds
-    c.begin.ensures c.receive-joined.ensures.lines c.finish.ensures) c.self.view_is).legs
+    (frame_is c.args.line c.args.octets.now c.self.inside.routes c.self.inside.lines c.begin.new.self c.on_frame-joined.new.self c.finish.new.self c.self.invariant.legs (octets c.args.octets.now (λ i. omega (arith, c.type_inv.octets i))) c.self.invariant.holds
+    c.begin.ensures c.on_frame-joined.ensures.lines c.finish.ensures) c.self.view_is).legs
 
 pub returns-clause-frames : goal.returns-clause-frames
 returns-clause-frames c =
     (frame_kept c.args.line c.args.octets.now (switch_of c.self.inside) (of_lines c.self.inside.routes c.finish.new.self) _ c.self.invariant.legs (octets c.args.octets.now (λ i. omega (arith, c.type_inv.octets i))) c.self.invariant.holds
-    (frame_is c.args.line c.args.octets.now c.self.inside.routes c.self.inside.lines c.begin.new.self c.receive-joined.new.self c.finish.new.self c.self.invariant.legs (octets c.args.octets.now (λ i. omega (arith, c.type_inv.octets i))) c.self.invariant.holds
-    c.begin.ensures c.receive-joined.ensures.lines c.finish.ensures) c.self.view_is).frames
+    (frame_is c.args.line c.args.octets.now c.self.inside.routes c.self.inside.lines c.begin.new.self c.on_frame-joined.new.self c.finish.new.self c.self.invariant.legs (octets c.args.octets.now (λ i. omega (arith, c.type_inv.octets i))) c.self.invariant.holds
+    c.begin.ensures c.on_frame-joined.ensures.lines c.finish.ensures) c.self.view_is).frames

@@ -9,7 +9,7 @@ use std::marker::Model;
 
 /// A logical channel of a line of a switch. Lines are numbered from 0, channels from 1.
 #[derive(Clone, Copy, PartialEq, Eq)]
-pub struct Place {
+pub struct SwitchChannel {
     pub line: usize,
     pub channel: u8,
 }
@@ -17,26 +17,26 @@ pub struct Place {
 /// A call that was joined: the channel on which it came in, and the one on which it goes on.
 #[derive(Clone, Copy, PartialEq, Eq)]
 pub struct NewJoin {
-    pub came_in: Place,
-    pub placed: Place,
+    pub came_in: SwitchChannel,
+    pub placed: SwitchChannel,
 }
 
 /// What a channel has whose call is joined to another one: that one, whether the call came in here, and the direction
 /// from here to there.
 #[derive(Drop)]
 pub struct Joined {
-    pub(crate) other: Place,
+    pub(crate) other: SwitchChannel,
     pub(crate) came_in: bool,
     pub(crate) kept: Direction,
 }
 
 /// The place for a join that each channel has.
 #[derive(Drop)]
-pub struct JoinPlace {
+pub struct ChannelJoin {
     joined: Option<Joined>,
 }
 
-impl Model for JoinPlace {
+impl Model for ChannelJoin {
     ghost use Rattle.std.specs.Prelude.{Option};
     ghost use Rattle.switch_lines.specs.Lines.{Joined as JoinedValue};
 
@@ -45,16 +45,16 @@ impl Model for JoinPlace {
     ghost view = { λ p. p.joined };
 }
 
-impl JoinPlace {
+impl ChannelJoin {
     /// Without a join.
     pub(crate) fn new() -> Self
         ensures { result ≡ None }
     {
-        JoinPlace { joined: None }
+        ChannelJoin { joined: None }
     }
 
     /// The channel that is joined to this one, if one is.
-    pub(crate) fn other(&self) -> Option<Place>
+    pub(crate) fn other(&self) -> Option<SwitchChannel>
         ensures { result ≡ option_map (λ j. j.other) self.now }
     {
         match &self.joined {

@@ -4,7 +4,7 @@ use Rattle.switch_lines.specs.Lines.{SwitchLine}
 use Rattle.switch_lines.specs.Switch.{notes_heeded, notes_of, with_end, quieted}
 use Rattle.switch_lines.proofs.Pooled.{one_changed, one_seen, one_touched, plain_length, pooled_set, serves_one}
 use Rattle.switch_lines.proofs.Touched.{count_kept}
-use Rattle.switch_lines.proofs.lines.Lines.expire.Goals as goal
+use Rattle.switch_lines.proofs.lines.Lines.on_timer.Goals as goal
 
 pub returns : goal.returns
 returns c =
@@ -15,7 +15,7 @@ returns c =
     ∙ ap (λ (ls : List SwitchLine). notes_heeded c.args.routes.now c.args.line ls)
     (one_changed (with_end (λ e. end.after_timer (quieted e) c.args.id)) c.self.inside.lines.items c.args.self.now
     c.args.line c.index_mut.result.now
-    c.expire.new.self c.self.view_is within c.index_mut.ensures.value c.expire.ensures.line)
+    c.on_timer.new.self c.self.view_is within c.index_mut.ensures.value c.on_timer.ensures.line)
 
 pub invariant_of-self : goal.invariant_of-self
 invariant_of-self c =
@@ -23,23 +23,23 @@ invariant_of-self c =
     let long = plain_length c.self.inside.lines.items in
     let xs = c.self.inside.lines.items in
     record {
-      most = count_kept xs c.args.line 64 c.expire.new.self c.self.invariant.most;
-      rest = one_touched c.self.inside.touched c.insert.new.self c.self.inside.untaken xs c.args.line c.expire.new.self
+      most = count_kept xs c.args.line 64 c.on_timer.new.self c.self.invariant.most;
+      rest = one_touched c.self.inside.touched c.insert.new.self c.self.inside.untaken xs c.args.line c.on_timer.new.self
           (omega (arith, same, long, c.requires.there)) c.insert.ensures c.self.invariant.rest;
-      pooled = pooled_set c.self.inside.pool c.expire.new.pool c.self.inside.lines.items c.args.line c.index_mut.result.now c.expire.new.self
-          c.self.invariant.pooled (omega (arith, same, long, c.requires.there)) c.index_mut.ensures.value c.expire.ensures.pool c.expire.ensures.share
-          c.expire.ensures.within;
+      pooled = pooled_set c.self.inside.pool c.on_timer.new.pool c.self.inside.lines.items c.args.line c.index_mut.result.now c.on_timer.new.self
+          c.self.invariant.pooled (omega (arith, same, long, c.requires.there)) c.index_mut.ensures.value c.on_timer.ensures.pool c.on_timer.ensures.share
+          c.on_timer.ensures.within;
     }
 
-pub expire-requires-clause-pool : goal.expire-requires-clause-pool
-expire-requires-clause-pool c =
+pub on_timer-requires-clause-pool : goal.on_timer-requires-clause-pool
+on_timer-requires-clause-pool c =
     let same = ap (λ (ls : List SwitchLine). length ls) c.self.view_is in
     let long = plain_length c.self.inside.lines.items in
     serves_one c.self.inside.pool c.self.inside.lines.items c.args.line c.index_mut.result.now c.self.invariant.pooled (omega (arith, same, long, c.requires.there))
     c.index_mut.ensures.value
 
-pub expire-requires-clause-read : goal.expire-requires-clause-read
-expire-requires-clause-read c =
+pub on_timer-requires-clause-read : goal.on_timer-requires-clause-read
+on_timer-requires-clause-read c =
     let same = ap (λ (ls : List SwitchLine). length ls) c.self.view_is in
     let long = plain_length c.self.inside.lines.items in
     ap (λ (o : Option SwitchLine). notes_of o)
