@@ -81,7 +81,7 @@ settled_once l frames =
 
 -- ---- an event ends again
 
-offers_none : (e : PacketEnd) → HasOfferedAll e → all_offered e ≡ e
+pub offers_none : (e : PacketEnd) → HasOfferedAll e → all_offered e ≡ e
 unfolding all_offered
 offers_none e (inl room) = no_room 7 e room
 offers_none e (inr silent) = no_packet 7 e (ap (λ (packet : Option Packet). is_some packet) silent)

@@ -6,3 +6,4 @@ pub mod Waits
 pub mod Owned
 pub mod Lent
 pub mod Ended
+pub mod Sending

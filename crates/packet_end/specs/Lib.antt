@@ -9,3 +9,4 @@ pub mod StackView
 pub mod NoteQueueView
 pub mod PooledView
 pub mod EndView
+pub mod Sending

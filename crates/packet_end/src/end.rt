@@ -1,7 +1,7 @@
 //! One end of a line with its packet layer.
 ghost use Rattle.std.specs.Prelude.{◌≡◌, ◌≤◌, ◌+◌, ◌&&◌, [], ◌∷◌, length, is_some, MatchResult, slice_get};
 ghost use Rattle.std.specs.Bool.{OnTrue, OnFalse};
-ghost use Rattle.lapb.specs.Machine.{can_offer};
+ghost use Rattle.lapb.specs.Machine.{can_offer, settle};
 ghost use Rattle.lapb.specs.Unsent.{HasSentAll};
 ghost use Rattle.packet_layer.specs.Layer.{next_packet};
 ghost use Rattle.packet_end.specs.Params.{AreParams, MadeNot};
@@ -9,6 +9,7 @@ ghost use Rattle.packet_end.specs.Timing.{TimersAgree};
 ghost use Rattle.packet_end.specs.PacketEnd.{made, begun, received, runs_at, after_timer, relinked};
 ghost use Rattle.packet_end.specs.PacketEnd.{relinked_if_due, restarted, KeepsNothingBack, settled, finished};
 ghost use Rattle.packet_end.specs.PacketEnd.{all_offered, HasOfferedAll, SettlesOnce};
+ghost use Rattle.packet_end.specs.Sending.{EndsWhole};
 ghost use Rattle.packet_end.specs.PacketEnd.{elapsed, due, at_rest, without_first_frame, without_first_note};
 
 mod asking;
@@ -150,6 +151,7 @@ impl PacketEnd {
 
         // No packet that the link holds and may send stays unsent.
         ensures all_sent { HasSentAll self.new.line.link }
+        ensures few { length (settle self.old.line.link).frames ≤ 7 }
         ensures timers { TimersAgree self.new.layer self.new.timers }
     {
         self.is_finished = false;
@@ -169,12 +171,14 @@ impl PacketEnd {
         self.end.offer_packets(&mut self.pool)
     }
 
-    /// Ends an event of a node with one line: a relink where it is due, all packets that may go, and `settle`.
+    /// Ends an event of a node with one line: a relink where it is due, all packets that may go, and `settle`. No frame
+    /// of the event is lost.
     pub fn finish(&mut self)
         requires { length self.old.notes ≤ 64 }
         ensures end { self.new ≡ finished self.old }
         ensures notes { length self.new.notes ≤ length self.old.notes + 32 }
         ensures nothing_kept_back { KeepsNothingBack self.new }
+        ensures frames { EndsWhole self.old self.new }
         ensures timers { TimersAgree self.new.layer self.new.timers }
     {
         if self.is_finished {
@@ -190,6 +194,7 @@ impl PacketEnd {
         ensures end { self.new ≡ finished self.old }
         ensures notes { length self.new.notes ≤ length self.old.notes + 32 }
         ensures nothing_kept_back { KeepsNothingBack self.new }
+        ensures frames { EndsWhole self.old self.new }
         ensures timers { TimersAgree self.new.layer self.new.timers }
         ensures line { SettlesOnce self.new.line }
     {

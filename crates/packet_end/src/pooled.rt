@@ -2,6 +2,7 @@
 ghost use Rattle.std.specs.Prelude.{◌≡◌, ◌≤◌, ◌<◌, ◌+◌, [], ◌∷◌, length, MatchResult, slice_get};
 ghost use Rattle.std.specs.Bool.{OnTrue, OnFalse};
 ghost use Rattle.flow_window.specs.Pool.{Balances};
+ghost use Rattle.lapb.specs.Machine.{settle};
 ghost use Rattle.lapb.specs.Unsent.{HasSentAll};
 ghost use Rattle.packet_end.specs.Params.{AreParams};
 ghost use Rattle.packet_end.specs.Pooled.{Serves, share_with};
@@ -180,6 +181,7 @@ impl PooledEnd {
 
         // No packet that the link holds and may send stays unsent.
         ensures all_sent { HasSentAll self.new.end.line.link }
+        ensures few { length (settle self.old.end.line.link).frames ≤ 7 }
         ensures timers { TimersAgree self.new.end.layer self.new.end.timers }
         ensures pool { pool.new ≡ pool.old }
     {

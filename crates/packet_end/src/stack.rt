@@ -1,8 +1,9 @@
 //! The link and the packet layer of one line, whose packets lie in one pool.
-ghost use Rattle.std.specs.Prelude.{◌≡◌, ◌<◌, [], ◌∷◌, length, MatchResult, Some, None, drop, is_some};
+ghost use Rattle.std.specs.Prelude.{◌≡◌, ◌<◌, ◌≤◌, [], ◌∷◌, length, MatchResult, Some, None, drop, is_some};
 ghost use Rattle.std.specs.Prelude.{option_copied, slice_get};
 ghost use Rattle.std.specs.Bool.{OnTrue, OnFalse};
 ghost use Rattle.flow_window.specs.Pool.{IsIn, Holds, Balances};
+ghost use Rattle.lapb.specs.Machine.{settle};
 ghost use Rattle.lapb.specs.Octets as link_octets;
 ghost use Rattle.lapb.specs.Unsent.{HasSentAll};
 ghost use Rattle.line_end.specs.End as line;
@@ -176,6 +177,7 @@ impl Stack {
         requires { Serves pool.old self.old.held self.old.share }
         ensures stack { self.new ≡ record self.old { line = line.settled self.old.line } }
         ensures all_sent { HasSentAll self.new.line.link }
+        ensures few { length (settle self.old.line.link).frames ≤ 7 }
         ensures pool { pool.new ≡ pool.old }
     {
         self.line.settle(pool);

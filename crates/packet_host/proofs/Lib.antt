@@ -1,3 +1,4 @@
 pub mod Refused
 pub mod Saying
 pub mod Taken
+pub mod Frames

@@ -9,6 +9,7 @@ ghost use Rattle.packet_layer.specs.RequestView.{request_of, refusal_of, call_re
 ghost use Rattle.packet_layer.specs.TakenView.{maybe_taken};
 ghost use Rattle.packet_end.specs.Params.{AreParams, MadeNot};
 ghost use Rattle.packet_end.specs.PacketEnd as end;
+ghost use Rattle.packet_end.specs.Sending.{ending_frames};
 ghost use Rattle.packet_end.specs.Timing.{TimersAgree};
 ghost use Rattle.packet_host.specs.Host.{ended, call_parts, after_call, after_request, refuse_refusal, after_refuse};
 ghost use Rattle.packet_host.specs.Host.{after_take};
@@ -237,6 +238,7 @@ impl Host {
     fn end_event(&mut self)
         ensures host { self.new ≡ ended self.old }
         ensures nothing_kept_back { end.KeepsNothingBack self.new }
+        ensures frames { self.new.line.frames ≡ ending_frames (end.begun self.old) }
         ensures timers { TimersAgree self.new.layer self.new.timers }
     {
         self.end.begin();

@@ -1,5 +1,5 @@
 -- What waits on a line of a switch after an event is the frames of its steps, all of them.
-use Rattle.std.proofs.Common.{◌≡◌, ℕ, zero, suc, ◌*◌, ◌≤◌, arith, ◌⊎◌, inl, inr, Bool, true, false, cond, ◌==◌, if◌then◌else◌, List, [], ◌∷◌, ◌++◌, map, length, set, Option, Some, None, is_some, refl, sym, ap, subst, ◌∙◌, true≢false, append_assoc, append-nil, length-append, option_map}
+use Rattle.std.proofs.Common.{◌≡◌, ℕ, zero, suc, ◌*◌, ◌≤◌, arith, ◌⊎◌, inl, inr, Bool, true, false, cond, ◌==◌, if◌then◌else◌, List, [], ◌∷◌, ◌++◌, map, length, set, Option, Some, None, refl, sym, ap, subst, ◌∙◌, true≢false, append_assoc, append-nil, length-append, option_map}
 use Rattle.std.specs.Prelude.{slice_get}
 use Rattle.std.specs.List.{list_any}
 use Rattle.std.proofs.lemmas.Bool.{eqb-true}
@@ -13,11 +13,11 @@ use Rattle.frame_codec.specs.Spelling.{spelling}
 use Rattle.lapb.specs.declared.note.Note as link_note
 use Rattle.lapb.specs.declared.note.Note.TheVariants.{Nothing, Up, Down}
 use Rattle.lapb.specs.Machine as link
-use Rattle.lapb.specs.Machine.{Octets, Link}
+use Rattle.lapb.specs.Machine.{Octets}
 use Rattle.lapb.specs.Octets as link_octets
 use Rattle.lapb.specs.Out.{with_frames}
 use Rattle.line_end.proofs.Frames.{with_frames-fit}
-use Rattle.line_end.proofs.Steps.{sends_on_octets, sends_relink, sends_on_t1, settles}
+use Rattle.line_end.proofs.Steps.{settles}
 use Rattle.packet_end.specs.End as line
 use Rattle.packet_end.specs.End.{End}
 use Rattle.packet_layer.specs.Packets.{CallParts}
@@ -25,11 +25,11 @@ use Rattle.packet_layer.specs.Traffic.{Taken}
 use Rattle.packet_layer.specs.Channel as channel
 use Rattle.packet_layer.specs.Channel.{Channel, Request, closed_channel, quiet, requested}
 use Rattle.packet_layer.specs.Channel.Request.{Accept, Clearing, Resetting, Sending, Interrupting, Stopping, Taking, Releasing, Confirming}
-use Rattle.packet_layer.specs.Layer.{Layer, Phase, channel_of, nth_channel, with_nth, channel_given, after_step, on_found, placed_on, link_down, unread, next_packet}
+use Rattle.packet_layer.specs.Layer.{Layer, Phase, channel_of, nth_channel, with_nth, channel_given, after_step, on_found, placed_on, link_down, unread}
 use Rattle.packet_layer.specs.Layer.Phase.{NoSession, OwnRestart, PacketReady}
 use Rattle.packet_laws.specs.Readable.{Every}
 use Rattle.packet_laws.proofs.Line.Lines.{nth_other}
-use Rattle.packet_end.specs.PacketEnd.{PacketEnd, heeded, after_packet, expired, runs_at, relinked, settled, offered, all_offered, with_next}
+use Rattle.packet_end.specs.PacketEnd.{PacketEnd, heeded, after_packet, expired, runs_at, relinked, settled, all_offered}
 use Rattle.address_routes.specs.Routes.{RouteMap}
 use Rattle.switch_lines.specs.declared.channels.SwitchChannel.{SwitchChannel}
 use Rattle.switch_lines.specs.declared.channels.Joined.{Joined}
@@ -45,7 +45,9 @@ use Rattle.switch_laws.specs.Steps.{Happening, does, Step, lines_after, on_line,
 use Rattle.switch_laws.specs.Steps.Happening.{Brings, RunsOut, Relinks}
 use Rattle.switch_laws.specs.Steps.Step.{Asks, Places, Keeps, Happens, Offers, Begins, Settles, Elapses}
 use Rattle.switch_laws.specs.EventSteps.{moved_unless_steps, moved_front_steps, moved_joined_steps, relayed_steps, relayed_from_steps, relayed_first_steps, heed_all_steps, acted_steps, relinked_steps, all_relinked_steps, offered_steps, rounds_steps, finished_steps, event_steps}
-use Rattle.switch_laws.specs.Sent.{sent_by, expiry_frames, happening_frames, last_frames, frames_at, step_frames, all_frames, AreAllSent, SentLaw}
+use Rattle.packet_end.specs.Sending.{answer_frames, expiry_frames, relink_frames, last_frames}
+use Rattle.packet_end.proofs.Sending.{answer_few, expiry_few, timer_few, relink_few, all_offered_frames}
+use Rattle.switch_laws.specs.Sent.{happening_frames, frames_at, step_frames, all_frames, AreAllSent, SentLaw}
 use Rattle.switch_laws.proofs.Lists.{decided, not_equal, get_changed, get_unchanged, get_map, map_unchanged}
 use Rattle.switch_laws.proofs.Frame.{acts_then}
 use Rattle.switch_laws.proofs.Rounds.{lines_of, first_lines}
@@ -152,21 +154,10 @@ frames_lead m (a ∷ as_) bs ls ms e =
 
 -- ---- what happens at an end
 
-few_by : (role : Role) (l : Link) (step : link.Step) → length step.frames ≤ 1 → length (sent_by l step) ≤ 1
-few_by role l step few = omega (arith, few, length-map step.frames (spelling l.role))
-
-expiry_few : (id : TimerId) (e : PacketEnd) → length (expiry_frames id e) ≤ 1
-expiry_few T1 e = few_by e.line.link.role e.line.link (link.on_t1 e.line.link) (sends_on_t1 e.line.link).few
-expiry_few id e = omega arith
-
-if_few : (b : Bool) (fs : List Octets) → length fs ≤ 1 → length (if b then fs else []) ≤ 1
-if_few true fs few = few
-if_few false fs few = omega arith
-
 happening_few : (what : Happening) (e : PacketEnd) → length (happening_frames what e) ≤ 1
-happening_few (Brings octets) e = few_by e.line.link.role e.line.link (link_octets.on_octets e.line.link octets) (sends_on_octets e.line.link octets).few
-happening_few (RunsOut id) e = if_few (runs_at e id) (expiry_frames id e) (expiry_few id e)
-happening_few Relinks e = few_by e.line.link.role e.line.link (link.relink e.line.link) (sends_relink e.line.link).few
+happening_few (Brings octets) e = answer_few e octets
+happening_few (RunsOut id) e = timer_few e id
+happening_few Relinks e = relink_few e
 
 brought_line : (note : link_note.Note) (o : Option Octets) (e : PacketEnd) → (after_packet o (heeded note e)).line.frames ≡ e.line.frames
 brought_line Nothing None e = refl
@@ -182,7 +173,7 @@ fit_one old new room few = with_frames-fit old new (omega (arith, room, few))
 expired_line : (id : TimerId) (e : PacketEnd) → length e.line.frames ≤ 8 → (expired id (quieted e)).line.frames ≡ e.line.frames ++ expiry_frames id e
 expired_line T1 e room =
     brought_line (link.on_t1 e.line.link).note None (record (quieted e) { line = line.expired T1 e.line })
-    ∙ fit_one e.line.frames (sent_by e.line.link (link.on_t1 e.line.link)) room (expiry_few T1 e)
+    ∙ fit_one e.line.frames (expiry_frames T1 e) room (expiry_few T1 e)
 expired_line id e room = sym (append-nil e.line.frames)
 
 either_line : (b : Bool) (id : TimerId) (e : PacketEnd) → length e.line.frames ≤ 8 → (cond b (expired id (quieted e)) (quieted e)).line.frames ≡ e.line.frames ++ (if b then expiry_frames id e else [])
@@ -192,9 +183,9 @@ either_line false id e room = sym (append-nil e.line.frames)
 does_line : (what : Happening) (e : PacketEnd) → length e.line.frames ≤ 8 → (does what (quieted e)).line.frames ≡ e.line.frames ++ happening_frames what e
 does_line (Brings octets) e room =
     brought_line (link_octets.on_octets e.line.link octets).note (link_octets.on_octets e.line.link octets).accepted (record (quieted e) { line = line.received e.line octets })
-    ∙ fit_one e.line.frames (sent_by e.line.link (link_octets.on_octets e.line.link octets)) room (happening_few (Brings octets) e)
+    ∙ fit_one e.line.frames (answer_frames e octets) room (happening_few (Brings octets) e)
 does_line (RunsOut id) e room = either_line (runs_at e id) id e room
-does_line Relinks e room = fit_one e.line.frames (sent_by e.line.link (link.relink e.line.link)) room (happening_few Relinks e)
+does_line Relinks e room = fit_one e.line.frames (relink_frames e) room (happening_few Relinks e)
 
 at_few : (what : Happening) (o : Option SwitchLine) → length (frames_at (λ e. happening_frames what e) o) ≤ 1
 at_few what None = omega arith
@@ -502,20 +493,6 @@ all_waits ls ms m e = at_frames ms m ∙ (ap (λ (xs : List (List Octets)). of_f
     at_frames [] n = refl
     at_frames (x ∷ xs) zero = refl
     at_frames (x ∷ xs) (suc n) = at_frames xs n
-
-either_frames : {X : Type 0} (P : X → Type 0) (b : Bool) (x y : X) → P x → P y → P (cond b x y)
-either_frames P true x y f g = f
-either_frames P false x y f g = g
-
-offered_frames : (most : ℕ) (e : PacketEnd) → (offered most e).line.frames ≡ e.line.frames
-offered_frames zero e = refl
-offered_frames (suc most) e =
-    either_frames (λ (x : PacketEnd). x.line.frames ≡ e.line.frames) (link.can_offer e.line.link) _ _
-    (either_frames (λ (x : PacketEnd). x.line.frames ≡ e.line.frames) (is_some (next_packet e.layer).packet) _ _ (offered_frames most (with_next e (next_packet e.layer))) refl) refl
-
-all_offered_frames : (e : PacketEnd) → (all_offered e).line.frames ≡ e.line.frames
-unfolding all_offered
-all_offered_frames e = offered_frames 7 e
 
 offers_frames : (count n : ℕ) (ls : List SwitchLine) → frames_of (offered_from count n ls) ≡ frames_of ls
 offers_frames zero n ls = refl

@@ -1,14 +1,11 @@
 -- What an event of a switch sends on each of its lines: the frames of its steps, of which none is lost.
-use Rattle.std.specs.Prelude.{◌≡◌, ℕ, ◌≤◌, true, ◌==◌, if◌then◌else◌, List, [], ◌∷◌, ◌++◌, map, length, slice_get}
+use Rattle.std.specs.Prelude.{◌≡◌, ℕ, ◌≤◌, true, ◌==◌, if◌then◌else◌, List, [], ◌∷◌, ◌++◌, length, slice_get}
 use Rattle.std.specs.Prelude.{Option, Some, None}
 use Rattle.link_timers.specs.declared.timers.TimerId.{TimerId}
-use Rattle.link_timers.specs.declared.timers.TimerId.TheVariants.{T1}
-use Rattle.frame_codec.specs.Spelling.{spelling}
-use Rattle.lapb.specs.Machine as link
-use Rattle.lapb.specs.Machine.{Octets, Link, on_t1, settle}
-use Rattle.lapb.specs.Octets.{on_octets}
+use Rattle.lapb.specs.Machine.{Octets}
 use Rattle.packet_laws.specs.Readable.{AreOctets}
-use Rattle.packet_end.specs.PacketEnd.{PacketEnd, runs_at}
+use Rattle.packet_end.specs.PacketEnd.{PacketEnd}
+use Rattle.packet_end.specs.Sending.{answer_frames, timer_frames, relink_frames, last_frames}
 use Rattle.switch_lines.specs.Lines.{SwitchLine}
 use Rattle.switch_lines.specs.Switch.{Switch, frames_on, timer_runs, on_frame, on_timer}
 use Rattle.switch_laws.specs.Steps.{Happening, Step, lines_after}
@@ -18,23 +15,11 @@ use Rattle.switch_laws.specs.EventSteps.{event_steps}
 use Rattle.switch_laws.specs.World.{World}
 use Rattle.switch_laws.specs.Events.{SwitchHolds}
 
--- the octets of the frames that a link sends in one step of it
-abbrev pub sent_by : Link → link.Step → List Octets
-sent_by l step = map (spelling l.role) step.frames
-
--- what is sent where a frame comes, a timer that runs expires, or the link is set up anew
-abbrev pub expiry_frames : TimerId → PacketEnd → List Octets
-expiry_frames T1 e = sent_by e.line.link (on_t1 e.line.link)
-expiry_frames id e = []
-
+-- what is sent where a frame comes, a timer expires, or the link is set up anew
 abbrev pub happening_frames : Happening → PacketEnd → List Octets
-happening_frames (Brings octets) e = sent_by e.line.link (on_octets e.line.link octets)
-happening_frames (RunsOut id) e = if runs_at e id then expiry_frames id e else []
-happening_frames Relinks e = sent_by e.line.link (link.relink e.line.link)
-
--- what is sent at the end of the event: the I frames that may go, or the acknowledgement that is owed
-abbrev pub last_frames : PacketEnd → List Octets
-last_frames e = sent_by e.line.link (settle e.line.link)
+happening_frames (Brings octets) e = answer_frames e octets
+happening_frames (RunsOut id) e = timer_frames e id
+happening_frames Relinks e = relink_frames e
 
 abbrev pub frames_at : (PacketEnd → List Octets) → Option SwitchLine → List Octets
 frames_at f None = []

@@ -1,7 +1,8 @@
 //! What comes from the line and what goes to it.
-ghost use Rattle.std.specs.Prelude.{◌≡◌, ◌≤◌, ◌∷◌, [], length};
+ghost use Rattle.std.specs.Prelude.{◌≡◌, ◌≤◌, ◌∷◌, [], ◌++◌, length};
 ghost use Rattle.std.specs.Bool.{OnTrue, OnFalse};
 ghost use Rattle.packet_end.specs.PacketEnd as end;
+ghost use Rattle.packet_end.specs.Sending.{answer_frames, expiry_frames, relink_frames, ending_frames};
 ghost use Rattle.packet_end.specs.Timing.{TimersAgree};
 ghost use Rattle.packet_host.specs.Host.{after_frame, after_expiry, after_relink};
 
@@ -10,10 +11,13 @@ use link_timers::TimerId;
 use packet_end::{FrameBuf, MOST_FRAMES, MOST_NOTES};
 
 impl Host {
-    /// Takes the octets of a received frame (X.25 2.4, 3 to 5).
+    /// Takes the octets of a received frame (X.25 2.4, 3 to 5). All frames of the event wait then: the answer and those
+    /// of its end.
     pub fn on_frame(&mut self, octets: &[u8])
         ensures host { self.new ≡ after_frame self.old octets.now }
         ensures nothing_kept_back { end.KeepsNothingBack self.new }
+        ensures frames { self.new.line.frames ≡ answer_frames self.old octets.now
+            ++ ending_frames (end.received (end.begun self.old) octets.now) }
         ensures timers { TimersAgree self.new.layer self.new.timers }
     {
         self.end.begin();
@@ -26,6 +30,8 @@ impl Host {
         ensures ran { result ≡ end.runs_at self.old id }
         ensures host { self.new ≡ after_expiry self.old id }
         ensures nothing_kept_back { OnTrue result (end.KeepsNothingBack self.new) }
+        ensures frames { OnTrue result (self.new.line.frames ≡ expiry_frames id self.old
+            ++ ending_frames (end.after_timer (end.begun self.old) id)) }
     {
         if !self.end.is_running(id) {
             return false;
@@ -40,6 +46,7 @@ impl Host {
     pub fn relink(&mut self)
         ensures host { self.new ≡ after_relink self.old }
         ensures nothing_kept_back { end.KeepsNothingBack self.new }
+        ensures frames { self.new.line.frames ≡ relink_frames self.old ++ ending_frames (end.relinked (end.begun self.old)) }
         ensures timers { TimersAgree self.new.layer self.new.timers }
     {
         self.end.begin();

@@ -1,7 +1,10 @@
-use Rattle.std.proofs.Common.{◌∙◌, ap}
-use Rattle.packet_end.specs.PacketEnd.{PacketEnd, settled, all_offered, finished}
+use Rattle.std.proofs.Common.{◌≡◌, ◌≤◌, ◌∙◌, ap, sym, subst, length}
+use Rattle.lapb.specs.Machine.{settle}
+use Rattle.packet_end.specs.PacketEnd.{PacketEnd, relinked_if_due, settled, all_offered, finished}
+use Rattle.packet_end.specs.Sending.{EndsWhole}
 use Rattle.packet_end.proofs.Offering.{settled_all_offered}
 use Rattle.packet_end.proofs.Ended.{settles_once}
+use Rattle.packet_end.proofs.Sending.{ends_whole}
 use Rattle.packet_end.proofs.end.PacketEnd.finish_anew.Goals as goal
 
 pub returns-clause-end : goal.returns-clause-end
@@ -18,3 +21,11 @@ returns-clause-nothing_kept_back c = record {
 
 pub returns-clause-line : goal.returns-clause-line
 returns-clause-line c = settles_once c.offer_packets.new.self c.settle.new.self c.settle.ensures.end
+
+pub returns-clause-frames : goal.returns-clause-frames
+unfolding finished
+returns-clause-frames c =
+    let offered : c.offer_packets.new.self ≡ all_offered (relinked_if_due c.args.self.now) =
+    c.offer_packets.ensures.end ∙ ap (λ (e : PacketEnd). all_offered e) c.relink_if_due.ensures.end in
+    subst (λ (e : PacketEnd). EndsWhole c.args.self.now e) (sym (c.settle.ensures.end ∙ ap (λ (e : PacketEnd). settled e) offered))
+    (ends_whole c.args.self.now (subst (λ (e : PacketEnd). length (settle e.line.link).frames ≤ 7) offered c.settle.ensures.few))
