@@ -1,4 +1,4 @@
--- The records beside what the packet layers of their ends counted: epoch by epoch, of a call that is over too, the
+-- What records count and what the packet layers of their ends counted: epoch by epoch, of a call that is over too, the
 -- packets and interrupts that passed, how many of the packets sent a P(R) covered, and how many of those taken were
 -- released.
 use Rattle.std.specs.Prelude.{◌≡◌, ℕ, ◌≤◌, ◌⊎◌, Bool, List, [], ◌∷◌, ◌++◌, length, map, slice_get, Some}

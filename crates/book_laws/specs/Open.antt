@@ -1,4 +1,4 @@
--- The records of open calls beside the two packet layers: the last epochs of such a record are the present ones of its
+-- The records of open calls and the two packet layers: the last epochs of such a record are the present ones of its
 -- channel.
 use Rattle.std.specs.Prelude.{◌≡◌, ℕ, ◌≤◌, Bool, false, List, map, slice_get, Some}
 use Rattle.link_timers.specs.declared.role.Role.{Role}

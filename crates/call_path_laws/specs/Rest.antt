@@ -1,5 +1,5 @@
--- Where nothing is missing on the lines of a network with switches, and each join handed on all that it took, nothing
--- is missing in its register, over paths of any length.
+-- Nothing is missing in the register of a network with switches, over paths of any length, if nothing is missing on its
+-- lines and each join handed on all that it took.
 use Rattle.std.specs.Prelude.{◌≡◌, ℕ, false, slice_get, Some}
 use Rattle.call_records.specs.Records.{RecordValue, PairValue}
 use Rattle.book_laws.specs.Rest.{NothingMissing}

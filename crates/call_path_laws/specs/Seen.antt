@@ -1,4 +1,5 @@
--- When the register of a network with switches has what the whole register has of the ends with users.
+-- The register of a network with switches and the whole register: when the one has what the other has of the ends with
+-- users.
 use Rattle.std.specs.Prelude.{◌≡◌, ℕ, ◌<◌, Bool, true, false, if◌then◌else◌, List, [], length, map, slice_get}
 use Rattle.std.specs.Prelude.{Option, Some, None}
 use Rattle.link_timers.specs.declared.role.Role.{Role}

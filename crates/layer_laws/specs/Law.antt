@@ -1,4 +1,5 @@
--- What holds of the numbers on all channels of a packet layer, whatever is called and whatever its partner does.
+-- The law of the numbers of a packet layer: what holds on all its channels, whatever is called and whatever its partner
+-- does.
 use Rattle.std.specs.Prelude.{◌≡◌, ℕ, ◌≤◌, ◌⊎◌, Bool, false, List, Some}
 use Rattle.link_timers.specs.declared.role.Role.{Role}
 use Rattle.packet_layer.specs.Channel.{Channel, in_transfer}

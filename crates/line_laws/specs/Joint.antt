@@ -1,5 +1,5 @@
--- What ties the two ends of a line to a world of two links, which has the sessions and their lists, and to a line of
--- two packet layers.
+-- How a line with both its ends is tied to its two models: a world of two links, with the sessions and their lists, and
+-- a line of two packet layers.
 use Rattle.std.specs.Prelude.{◌≡◌, ℕ, Bool, true, false, List, [], ◌∷◌, ◌++◌, length, Option, Some, None}
 use Rattle.link_timers.specs.declared.role.Role.{Role}
 use Rattle.link_timers.specs.declared.role.Role.TheVariants.{Dte, Dce}

@@ -1,4 +1,4 @@
--- A line with both its ends, each a link with its packet layer, the octets on the way, and what may happen on it.
+-- A line with both its ends: each a link with its packet layer, the octets on the way, and what may happen on it.
 use Rattle.std.specs.Prelude.{◌≡◌, ℕ, Bool, List, [], ◌∷◌, ◌++◌, drop}
 use Rattle.link_timers.specs.declared.role.Role.{Role}
 use Rattle.link_timers.specs.declared.role.Role.TheVariants.{Dte, Dce}

@@ -1,5 +1,5 @@
--- Where both ends of a line are at rest, nothing is missing: all that one end sent in the present epoch of a call the
--- other end took.
+-- Nothing is missing if both ends of a line are at rest: the other end took all that one end sent in the present epoch
+-- of a call.
 use Rattle.std.specs.Prelude.{◌≡◌, ℕ, true, false, List, Some}
 use Rattle.link_timers.specs.declared.role.Role.TheVariants.{Dte}
 use Rattle.lapb.specs.Machine.{Octets}

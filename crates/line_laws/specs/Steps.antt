@@ -1,4 +1,4 @@
--- What an act at an end of a line makes of the world of its links and of the line of its layers.
+-- The steps of an act at an end of a line: what it makes of the world of its links and of the line of its layers.
 use Rattle.std.specs.Prelude.{◌≡◌, ℕ, ◌≤◌, List, [], ◌∷◌, ◌++◌}
 use Rattle.link_timers.specs.declared.role.Role.{Role}
 use Rattle.link_timers.specs.Role.{other_of}

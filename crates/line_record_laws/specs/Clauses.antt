@@ -1,4 +1,5 @@
--- What each thing that may happen on a line makes of what is kept of it and of its book.
+-- The clauses of a line with its book: what each thing that may happen on a line makes of what is kept of it and of its
+-- book.
 use Rattle.std.specs.Prelude.{◌≡◌, ℕ, true, List, ◌++◌, length, Option, Some, None, is_some}
 use Rattle.link_timers.specs.declared.role.Role.{Role}
 use Rattle.pad_editing.specs.Edited.{Step}

@@ -1,4 +1,4 @@
--- What the records of a line count, beside its packet layers: nothing that these let pass is cut or left out.
+-- What the records of a line count and what its packet layers count: nothing that these let pass is cut or left out.
 use Rattle.std.specs.Prelude.{◌≡◌, ℕ, ◌+◌, true, List, length, slice_get, Some}
 use Rattle.link_timers.specs.declared.role.Role.{Role}
 use Rattle.packet_layer.specs.Traffic.{in_flight, unreleased}

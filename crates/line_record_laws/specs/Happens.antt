@@ -1,5 +1,5 @@
--- What a whole event of a node makes of what is kept of its line and of the book: from what comes to the node, or is
--- asked at it, to the frames that go onto the line.
+-- The whole events of a node: what they make of what is kept of its line and of the book, from what comes to the node,
+-- or is asked at it, to the frames that go onto the line.
 use Rattle.std.specs.Prelude.{◌≡◌, ℕ, Bool, List, [], ◌∷◌, ◌++◌}
 use Rattle.link_timers.specs.declared.role.Role.{Role}
 use Rattle.link_timers.specs.declared.role.Role.TheVariants.{Dte, Dce}

@@ -1,5 +1,5 @@
--- What each event of a host makes of what is kept of its line and of the book: what was asked is written where it was
--- not refused, and what is told. What is refused changes nothing.
+-- The events of a host: what each makes of what is kept of its line and of the book. What was asked is written if it
+-- was not refused, and so is what is told. What is refused changes nothing.
 use Rattle.std.specs.Prelude.{◌≡◌, ℕ, Bool, List, [], ◌∷◌, Option, Some, None}
 use Rattle.link_timers.specs.declared.role.Role.{Role}
 use Rattle.link_timers.specs.declared.timers.TimerId.{TimerId}

@@ -1,5 +1,5 @@
--- What a network keeps of a line with both its ends and of the book of its calls, between the events of its nodes and
--- during one.
+-- What a network keeps of a line: both its ends and the book of its calls, between the events of its nodes and during
+-- one.
 use Rattle.std.specs.Prelude.{◌≡◌, ℕ, ◌≤◌, List, ◌++◌}
 use Rattle.link_timers.specs.declared.role.Role.{Role}
 use Rattle.link_timers.specs.declared.role.Role.TheVariants.{Dte, Dce}

@@ -1,4 +1,4 @@
--- Where a script stops before its end: memory is wanted, or the output refuses a text.
+-- When a script stops before its end: memory is wanted, or the output refuses a text.
 use Rattle.std.specs.Prelude.{◌≡◌, ◌≢◌, ◌⊎◌, ℕ, ◌<◌, Bool, false, List, [], ◌++◌, Some, Result, Err}
 use Rattle.memory_line.specs.Lines.{LineService}
 use Rattle.net_events.specs.declared.event.Event.{Event}

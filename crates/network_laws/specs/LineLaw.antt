@@ -1,4 +1,4 @@
--- What holds of a line of a network holds from the making on, whatever happens at its nodes and on it.
+-- The law of a line of a network: it holds from the making on, whatever happens at its nodes and on it.
 use Rattle.std.specs.Prelude.{◌≡◌, ◌≢◌, ℕ, true, slice_get, Some}
 use Rattle.link_timers.specs.declared.role.Role.{Role}
 use Rattle.packet_end.specs.Params.{AreParams}

@@ -1,4 +1,5 @@
--- What holds of a network of nodes with users holds from the making on, whatever happens at its nodes and on its lines.
+-- The law of a network of nodes with users: it holds from the making on, whatever happens at its nodes and on its
+-- lines.
 use Rattle.std.specs.Prelude.{ℕ}
 use Rattle.link_timers.specs.declared.role.Role.{Role}
 use Rattle.memory_line.specs.declared.line.Direction.{Direction}

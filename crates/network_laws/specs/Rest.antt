@@ -1,4 +1,4 @@
--- Where a network is at rest nothing is missing, and where a host says that delivery is confirmed it is.
+-- Rest and delivery: if a network is at rest nothing is missing, and if a host says that delivery is confirmed it is.
 use Rattle.std.specs.Prelude.{◌≡◌, ℕ, true, List, slice_get, Some}
 use Rattle.link_timers.specs.declared.role.Role.{Role}
 use Rattle.packet_layer.specs.Layer.{confirmed}

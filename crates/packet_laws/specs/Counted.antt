@@ -1,4 +1,5 @@
--- On a line the numbers of each channel in data transfer name the counts of the present epoch in its end's history.
+-- Numbers and counts on a line: the numbers of each channel in data transfer name the counts of the present epoch in
+-- its end's history.
 use Rattle.std.specs.Prelude.{◌≡◌, ℕ, ◌≤◌, Bool, true, List, Some}
 use Rattle.packet_layer.specs.Channel.{Channel, in_transfer}
 use Rattle.packet_layer.specs.Layer.{channel_of}

@@ -1,4 +1,4 @@
--- What the two ends of a line did on a channel, epoch by epoch, which no node stores: the laws speak of it.
+-- The history of a channel at the two ends of a line, epoch by epoch. No node stores it: the laws speak of it.
 use Rattle.std.specs.Prelude.{ℕ, ◌+◌, Bool, true, false, if◌then◌else◌, ◌&&◌, ◌==◌, List, [], ◌∷◌, ◌++◌, Option, Some}
 use Rattle.std.specs.Prelude.{None}
 use Rattle.link_timers.specs.declared.role.Role.{Role}

@@ -1,4 +1,4 @@
--- A packet layer all of whose packets read back at the other end of the line.
+-- A packet layer whose packets can all be read at the other end of the line.
 use Rattle.std.specs.Prelude.{ℕ, ◌<◌, ◌≤◌, List, [], ◌∷◌, length, Option, Some, None}
 use Rattle.packet_codec.specs.Packet.{PacketValue, IsLogicalChannel, IsCallValue, IsContentOn}
 use Rattle.packet_layer.specs.Packets.{CallParts, Datum, Body, Packet}

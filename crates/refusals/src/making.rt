@@ -10,7 +10,7 @@ use packet_layer::{Layer, LayerParams, MakeFault};
 use std::alloc::Global;
 use x3_params::{Params, Profile};
 use x25_pad::{Pad, PadConfig};
-use x25_switch::{LineConfig, Switch, SwitchConfig};
+use x25_switch::{Switch, SwitchConfig, SwitchLineConfig};
 
 /// The parameters of a line.
 const LINE: EndParams = EndParams {
@@ -107,11 +107,11 @@ fn made<T: Drop>(node: Result<T, EndFault>) -> Came {
 pub(crate) fn switch_new(alloc: Global, blocks: u32) -> Result<Came, Came> {
     let routes = small_routes(alloc)?;
     let lines = [
-        LineConfig {
+        SwitchLineConfig {
             params: LINE,
             address: address(b"1001")?,
         },
-        LineConfig {
+        SwitchLineConfig {
             params: LINE,
             address: address(b"2001")?,
         },

@@ -1,4 +1,4 @@
--- Where nothing is missing in the books of a network's lines, nothing is missing in its register.
+-- Nothing is missing in the register of a network if nothing is missing in the books of its lines.
 use Rattle.std.specs.Prelude.{◌≡◌, ℕ, List, slice_get, Some}
 use Rattle.call_records.specs.Book.{Book}
 use Rattle.call_records.specs.Register.{Register}

@@ -1,5 +1,5 @@
--- When the register of a network has what the books of its lines have, each line's book being of this line alone and
--- its records and pairs numbered by the line.
+-- The register of a network and the books of its lines: it has what they have, each book being of one line alone, with
+-- records and pairs numbered by the line.
 use Rattle.std.specs.Prelude.{◌≡◌, ℕ, suc, ◌<◌, if◌then◌else◌, ◌==◌, List, [], ◌∷◌, length, slice_get}
 use Rattle.std.specs.Prelude.{Option, Some, None}
 use Rattle.link_timers.specs.declared.role.Role.{Role}

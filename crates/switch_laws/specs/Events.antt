@@ -1,4 +1,4 @@
--- A switch as it is made, and whatever happens to it then: it stays one of which the laws speak.
+-- The events of a switch: from its making on, whatever happens, the laws speak of it.
 use Rattle.std.specs.Prelude.{◌≡◌, ℕ, true, false, if◌then◌else◌, List, [], ◌∷◌, slice_get, Option, Some, None}
 use Rattle.std.specs.List.{list_any}
 use Rattle.link_timers.specs.declared.role.Role.TheVariants.{Dce}

@@ -1,4 +1,4 @@
--- An event of a switch as steps at the ends of its lines, and the acts of their packet layers that each step is.
+-- The steps of an event of a switch at the ends of its lines, and the acts of their packet layers that each step is.
 use Rattle.std.specs.Prelude.{ℕ, zero, suc, if◌then◌else◌, List, [], ◌∷◌, ◌++◌, map, slice_get, Option, Some, None}
 use Rattle.std.specs.Prelude.{is_some}
 use Rattle.link_timers.specs.declared.timers.TimerId.{TimerId}

@@ -44,9 +44,9 @@ pub struct Lines {
     lines: Vec<SwitchLine>,
     /// The packets of all lines lie here.
     pool: Pool,
-    /// Those on which something happened since they were settled. On the others nothing is left to do.
+    /// The lines at which something happened since they were settled. On the others nothing is left to do.
     touched: NumberSet,
-    /// Those on which frames of the last event may be left, beside these.
+    /// The lines besides these at which frames of the last event may be left.
     untaken: NumberSet,
 }
 

@@ -1,4 +1,4 @@
--- What holds of a network holds from the making on, whatever happens at its nodes and on its lines.
+-- The laws of a network: they hold from the making on, whatever happens at its nodes and on its lines.
 use Rattle.std.specs.Prelude.{◌≡◌, ℕ, ◌<◌, true, slice_get, Some}
 use Rattle.link_timers.specs.declared.role.Role.{Role}
 use Rattle.link_timers.specs.declared.timers.TimerId.{TimerId}

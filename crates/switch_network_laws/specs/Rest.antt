@@ -1,4 +1,4 @@
--- Where a network is at rest, with a switch or without one.
+-- When a network is at rest, with a switch or without one.
 use Rattle.std.specs.Prelude.{◌≡◌, ℕ, true, List, slice_get, Some}
 use Rattle.switch_lines.specs.Switch.{switch_rests}
 use Rattle.network_laws.specs.Network.{PlacedSwitch, NetNode, Switching}

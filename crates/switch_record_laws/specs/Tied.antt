@@ -1,5 +1,5 @@
--- A switch with the legs of its channels, and with the books of its lines and what is at the other ends of them: all of
--- them move by one list of acts, so what is promised of joins and of lines is promised of the same epochs.
+-- One list of acts moves the legs of a switch's channels, the books of its lines, and what is at the other ends of
+-- them. So what is promised of joins and of lines is promised of the same epochs.
 use Rattle.std.specs.Prelude.{◌≡◌, ℕ, Bool, List, slice_get, Some}
 use Rattle.link_timers.specs.declared.timers.TimerId.{TimerId}
 use Rattle.lapb.specs.Machine.{Octets}

@@ -98,7 +98,7 @@ fn failing_line<N: Net>(
 /// A line that is typed and goes to the host, which takes it.
 const SCRIPT: &[u8] = b"key pad 0 HEX\\7FLLO\\0D\nflow\ntake host 1\nflow\n";
 
-/// The same, with an expiry of T1 before anything flows.
+/// A line that is typed and goes to the host, with an expiry of T1 before anything flows.
 const SCRIPT_WITH_EXPIRY: &[u8] =
     b"key pad 0 HEX\\7FLLO\\0D\nexpire pad 0 T1\nflow\ntake host 1\nflow\n";
 
