@@ -36,7 +36,7 @@ line_event_of line_event_is.Relinks = law.Relinks
 line_event_of line_event_is.Restarts = law.Restarts
 
 abbrev pub host_event_of : HostEvent → law.NodeEvent
-host_event_of (host_event_is.Calls address user_data) = law.Calls address user_data.now.items
+host_event_of (host_event_is.Calls address user_data) = law.Calls address user_data.now
 host_event_of (host_event_is.Asks channel request) = request_event channel request.now
 host_event_of (host_event_is.Takes channel) = law.Takes channel
 

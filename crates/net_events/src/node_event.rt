@@ -1,5 +1,4 @@
 //! What may happen at a node with users.
-use arrayvec::ArrayVec;
 use line_nodes::TerminalEvent;
 use link_timers::TimerId;
 use packet_codec::Address;
@@ -21,8 +20,8 @@ pub enum LineEvent<'a> {
 /// What a user asks of a host.
 #[derive(Clone, Copy)]
 pub enum HostEvent<'a> {
-    /// The host calls an address, with these octets of user data.
-    Calls(Address, &'a ArrayVec<u8, 16>),
+    /// The host calls an address, with at most 16 octets of user data.
+    Calls(Address, &'a [u8]),
     /// The host is asked something of the call on a channel.
     Asks(u16, &'a HostRequest),
     /// The host takes what waits on a channel.

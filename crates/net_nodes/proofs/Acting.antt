@@ -30,11 +30,11 @@ use Rattle.net_events.specs.declared.node_event.HostEvent.TheVariants as host_ev
 use Rattle.net_events.specs.declared.node_event.UserEvent.{UserEvent}
 use Rattle.net_events.specs.declared.node_event.UserEvent.TheVariants as user_event
 use Rattle.net_turns.specs.Served.{IsEmpty}
-use Rattle.net_turns.specs.Users.{IsRefusedWith, user_fault}
+use Rattle.net_turns.specs.Users.{IsWhole, IsRefusedWith, user_fault}
 use Rattle.net_events.specs.declared.event.StepFault.{StepFault}
 use Rattle.net_events.specs.declared.event.StepFault.TheVariants.{NoSuchTerminal}
 use Rattle.net_nodes.specs.declared.nodes.LineSide.{LineSide}
-use Rattle.net_nodes.specs.Turns.{CanServe, CanServeUser, HadTurn, AtEnd, ActsSo, LeavesLine, IsWhole, UserActsSo, its_turn}
+use Rattle.net_nodes.specs.Turns.{CanServe, CanServeUser, HadTurn, AtEnd, ActsSo, LeavesLine, UserActsSo, its_turn}
 use Rattle.net_nodes.proofs.Serving.{set_there}
 
 -- ---- before the turn

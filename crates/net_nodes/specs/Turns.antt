@@ -1,7 +1,6 @@
 -- What an event does at the node with users at an end of a line.
 use Rattle.std.specs.Prelude.{◌≡◌, ◌≤◌, ◌<◌, List, [], length, set, slice_get, Option, Some, None}
 use Rattle.std.specs.Prelude.{Result, Ok, Err}
-use Rattle.packet_codec.specs.Address.{AreDigits}
 use Rattle.call_records.specs.Book.{Book}
 use Rattle.call_records.specs.Register as spec
 use Rattle.call_records.specs.Register.{book_at, with_book}
@@ -20,9 +19,7 @@ use Rattle.net_events.specs.Network.{PlacedNode, NetNode, User, NetLine, Network
 use Rattle.net_events.specs.declared.answer.Answer.{Answer}
 use Rattle.net_events.specs.declared.node_event.LineEvent.{LineEvent}
 use Rattle.net_events.specs.declared.node_event.LineEvent.TheVariants.{Hears, Restarts}
-use Rattle.net_events.specs.declared.node_event.HostEvent.TheVariants.{Calls}
 use Rattle.net_events.specs.declared.node_event.UserEvent.{UserEvent}
-use Rattle.net_events.specs.declared.node_event.UserEvent.TheVariants.{AtHost}
 use Rattle.net_turns.specs.Outcomes.{IsOutcome, text_of}
 use Rattle.net_turns.specs.Sends.{ArePutsOf, Sends}
 use Rattle.net_turns.specs.Served.{Served, IsEmpty}
@@ -124,11 +121,6 @@ LeavesLine _ = Unit {0}
 abbrev pub Acts : LineService → LineSide → NodeEvent → Network → Result Answer StepFault → Network → Type 0
 Acts L end event s r t = (l : NetLine) (n : PlacedNode) → slice_get s.lines end.line ≡ Some l
     → slice_get s.nodes (place_at end.role l) ≡ Some (User n) → ActsSo L end event s r t
-
--- an address has 1 to 15 digits, and a call at most 16 octets of user data
-abbrev pub IsWhole : UserEvent → Type 0
-IsWhole (AtHost (Calls address user_data)) = AreDigits address × (length user_data.now.items ≤ 16)
-IsWhole event = Unit {0}
 
 abbrev pub UserActsSo : LineService → LineSide → UserEvent → NetLine → PlacedNode → Network → Result Answer StepFault
     → Network → Type 0

@@ -1,6 +1,7 @@
 -- What a user does at a node: when it is refused, and what it makes of the node, the line and the register.
 use Rattle.std.specs.Prelude.{◌≡◌, ◌<◌, ◌≤◌, ◌⊎◌, ◌==◌, ◌&&◌, ℕ, Bool, true, not, nat_lt, if◌then◌else◌, length, List}
 use Rattle.std.specs.Prelude.{Option, Some, None, Result, Ok, Err}
+use Rattle.packet_codec.specs.Address.{AreDigits}
 use Rattle.packet_end.specs.PacketEnd.{PacketEnd}
 use Rattle.x25_pad.specs.Pad.{PadState}
 use Rattle.call_records.specs.Book.{Book}
@@ -41,6 +42,15 @@ abbrev pub IsNumbered : HostEvent → Type 0
 IsNumbered (Calls address user_data) = Unit {0}
 IsNumbered (Asks channel request) = channel < 256
 IsNumbered (Takes channel) = channel < 256
+
+-- an address has 1 to 15 digits, and a call at most 16 octets of user data
+abbrev pub IsWholeCall : HostEvent → Type 0
+IsWholeCall (Calls address user_data) = AreDigits address × (length user_data.now ≤ 16)
+IsWholeCall event = Unit {0}
+
+abbrev pub IsWhole : UserEvent → Type 0
+IsWhole (AtHost event) = IsWholeCall event
+IsWhole (AtTerminal terminal event) = Unit {0}
 
 -- what the node refuses
 abbrev pub refused : Option NodeFault → Option StepFault

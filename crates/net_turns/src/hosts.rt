@@ -9,7 +9,7 @@ ghost use Rattle.node_laws.specs.Quiet.{IsQuiet};
 ghost use Rattle.net_events.specs.EventView.{host_event_of};
 ghost use Rattle.net_turns.specs.Outcomes.{IsAnswered, taken_octets, text_of};
 ghost use Rattle.net_turns.specs.Served.{IsCalled, taken_written};
-ghost use Rattle.net_turns.specs.Users.{IsNumbered};
+ghost use Rattle.net_turns.specs.Users.{IsNumbered, IsWholeCall};
 
 use crate::serving::MOST_WRITES;
 use call_records::Book;
@@ -83,6 +83,7 @@ pub(crate) fn ask_host(
     text: &mut Vec<u8>,
     outcome: &mut Outcome,
 ) -> Result<(), NodeFault>
+    requires whole { IsWholeCall event.now }
     requires numbered { IsNumbered event.now }
     requires room { MOST_WRITES ≤ book.old.room }
     requires quiet { IsQuiet (HostNode host.old) }
@@ -96,7 +97,7 @@ pub(crate) fn ask_host(
 {
     match event {
         HostEvent::Calls(address, user_data) => {
-            let channel = host.call(*address, user_data.as_slice())?;
+            let channel = host.call(*address, user_data)?;
             book.place(role, channel, address);
             *outcome = Outcome::Called { channel };
             Ok(())

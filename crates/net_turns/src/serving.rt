@@ -13,8 +13,8 @@ ghost use Rattle.net_events.specs.OneLine.{direction_of};
 ghost use Rattle.net_events.specs.EventView.{line_event_of, host_event_of, user_event_of};
 ghost use Rattle.net_turns.specs.Outcomes.{IsOutcome};
 ghost use Rattle.net_turns.specs.Served.{IsCalled, Served, IsEmpty, IsReady};
-ghost use Rattle.net_turns.specs.Users.{IsNumbered, is_on_line, IsRefusedWith, IsOpened, IsCalledBy, IsServed};
-ghost use Rattle.net_turns.specs.Users.{terminal_fault};
+ghost use Rattle.net_turns.specs.Users.{IsWhole, IsWholeCall, IsNumbered, is_on_line, IsRefusedWith, IsOpened};
+ghost use Rattle.net_turns.specs.Users.{IsCalledBy, IsServed, terminal_fault};
 ghost use Rattle.net_turns.specs.Users.{host_fault, user_fault};
 
 use crate::hosts::{MOST_TAKEN, ask_host};
@@ -152,6 +152,7 @@ fn open_turn(
 }
 
 /// Calls a PAD with what happens at a terminal. The PAD refuses nothing but a terminal that it does not have.
+#[inline(always)]
 fn call_pad(
     pad: &mut Pad,
     at: Attachment,
@@ -204,6 +205,7 @@ fn call_host(
     answer: &mut Answer,
 ) -> Result<(), StepFault>
     requires there { at.line < length register.old.lines.items }
+    requires whole { IsWholeCall event.now }
     requires quiet { IsQuiet (HostNode host.old) }
     ensures { MatchResult result
         (λ _. (host_fault channels event.now host.old ≡ None) × IsCalledBy at (host_event_of event.now)
@@ -227,6 +229,7 @@ fn call_host(
 }
 
 /// Calls a node with what a user does: a PAD has terminals, and a host is asked.
+#[inline(always)]
 fn call_user(
     node: &mut Node,
     at: Attachment,
@@ -236,6 +239,7 @@ fn call_user(
     answer: &mut Answer,
 ) -> Result<(), StepFault>
     requires there { at.line < length register.old.lines.items }
+    requires whole { IsWhole event.now }
     requires quiet { IsQuiet (node_of node.old) }
     ensures { MatchResult result
         (λ _. (user_fault channels event.now (node_of node.old) ≡ None) × IsCalledBy at (user_event_of event.now)
@@ -259,6 +263,7 @@ fn call_user(
 
 /// Serves what a user does at a node, whose line has so many channels, and writes the answer. What is refused changes
 /// nothing.
+#[inline(always)]
 pub fn serve_user<L: Line>(
     node: &mut Node,
     at: Attachment,
@@ -269,6 +274,7 @@ pub fn serve_user<L: Line>(
     answer: &mut Answer,
 ) -> Result<(), StepFault>
     requires there { at.line < length register.old.lines.items }
+    requires whole { IsWhole event.now }
     requires quiet { IsQuiet (node_of node.old) }
     ensures { IsServed L.service at (user_event_of event.now) (user_fault channels event.now (node_of node.old))
         (record { node = node_of node.old; flights = L.flights line.old; register = register_of register.old })

@@ -43,7 +43,7 @@ impl<L: Line> Nodes<L> {
             (result_and result (Ok answer.new)) self.new }
     {
         let end = self.end_of(node)?;
-        let event = UserEvent::AtHost(HostEvent::Calls(address, user_data));
+        let event = UserEvent::AtHost(HostEvent::Calls(address, user_data.as_slice()));
         self.user_acts(end, &event, answer)
     }
 

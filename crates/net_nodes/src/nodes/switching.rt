@@ -120,15 +120,13 @@ pub(super) fn serve_switch<L: Line>(
         → MatchResult result (λ _. SwitchServed L.service (switch_event_of event.now) n lines.old.items
         (register_of register.old) node.new lines.new.items (register_of register.new) puts.new.items) (λ _. ⊥) }
 {
-    match &mut node.kind {
-        Equipment::User { .. } => Err(StepFault::NoSuchNode),
-        Equipment::Switching { lines: own, switch } => {
-            let joined = call_switch(switch, event);
-            hand_on(register, own, joined);
-            put_lines(switch, own, lines, is_anew(event), puts);
-            Ok(())
-        }
-    }
+    let Equipment::Switching { lines: own, switch } = &mut node.kind else {
+        return Err(StepFault::NoSuchNode);
+    };
+    let joined = call_switch(switch, event);
+    hand_on(register, own, joined);
+    put_lines(switch, own, lines, is_anew(event), puts);
+    Ok(())
 }
 
 /// What the event gives besides frames.

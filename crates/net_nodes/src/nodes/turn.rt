@@ -7,9 +7,9 @@ ghost use Rattle.net_events.specs.Network as network;
 ghost use Rattle.net_events.specs.NodeEvents.{turn_of};
 ghost use Rattle.net_turns.specs.Quiet.{IsQuiet};
 ghost use Rattle.net_turns.specs.Served.{IsEmpty};
-ghost use Rattle.net_turns.specs.Users.{IsRefusedWith, user_fault};
+ghost use Rattle.net_turns.specs.Users.{IsWhole, IsRefusedWith, user_fault};
 ghost use Rattle.net_nodes.specs.Turns.{LineServed, UserServed, CanServe, CanServeUser, HadTurn, CanAct, LeavesLine};
-ghost use Rattle.net_nodes.specs.Turns.{Acts, IsWhole, UserActs};
+ghost use Rattle.net_nodes.specs.Turns.{Acts, UserActs};
 
 use crate::nodes::{LineSide, NetLine, Nodes};
 use call_records::{Book, Register};
@@ -57,13 +57,11 @@ fn serve_line_of<L: Line>(
         (L.flights line.new) book.new.book)
         (λ fault. ⊥) }
 {
-    match &mut node.kind {
-        Equipment::User { node, .. } => {
-            serve_line(node, at, event, line, book, answer);
-            Ok(())
-        }
-        Equipment::Switching { .. } => Err(StepFault::NoSuchNode),
-    }
+    let Equipment::User { node, .. } = &mut node.kind else {
+        return Err(StepFault::NoSuchNode);
+    };
+    serve_line(node, at, event, line, book, answer);
+    Ok(())
 }
 
 /// Serves what comes at the node at an end of a line, at which the register is open, and writes the answer.
@@ -98,6 +96,7 @@ pub(super) fn serve_at<L: Line>(
 // ---- what users do
 
 /// Serves what a user does at a node.
+#[inline(always)]
 fn serve_user_of<L: Line>(
     node: &mut NetNode,
     at: Attachment,
@@ -107,6 +106,7 @@ fn serve_user_of<L: Line>(
     answer: &mut Answer,
 ) -> Result<(), StepFault>
     requires there { at.line < length register.old.lines.items }
+    requires whole { IsWhole event.now }
     requires quiet { (n : network.PlacedNode) → node.old ≡ network.User n → IsQuiet n.node }
     ensures line { net_line.new ≡ record net_line.old { flights = net_line.new.flights } }
     ensures served { (n : network.PlacedNode) → node.old ≡ network.User n
@@ -114,21 +114,22 @@ fn serve_user_of<L: Line>(
         net_line.old.flights (register_of register.old) (result_and result (Ok answer.new)) node.new
         net_line.new.flights (register_of register.new) }
 {
-    match &mut node.kind {
-        Equipment::User { node, .. } => serve_user(
-            node,
-            at,
-            net_line.channels,
-            event,
-            &mut net_line.line,
-            register,
-            answer,
-        ),
-        Equipment::Switching { .. } => Err(StepFault::NoSuchNode),
-    }
+    let Equipment::User { node, .. } = &mut node.kind else {
+        return Err(StepFault::NoSuchNode);
+    };
+    serve_user(
+        node,
+        at,
+        net_line.channels,
+        event,
+        &mut net_line.line,
+        register,
+        answer,
+    )
 }
 
 /// Serves what a user does at the node at an end of a line, and writes the answer.
+#[inline(always)]
 fn serve_user_at<L: Line>(
     nodes: &mut Vec<NetNode>,
     net_line: &mut NetLine<L>,
@@ -137,7 +138,8 @@ fn serve_user_at<L: Line>(
     event: &UserEvent<'_>,
     answer: &mut Answer,
 ) -> Result<(), StepFault>
-    requires { CanServeUser end nodes.old.items net_line.old register.old }
+    requires can { CanServeUser end nodes.old.items net_line.old register.old }
+    requires whole { IsWhole event.now }
     ensures { (n : network.PlacedNode)
         → slice_get nodes.old.items (network.place_at end.role net_line.old) ≡ Some (network.User n)
         → MatchResult (result_and result (Ok answer.new))

@@ -3,8 +3,8 @@ use Rattle.net_turns.proofs.hosts.ask_host.Goals as goal
 
 pub returns-in_ok-channel-in-Calls-clause-ok : goal.returns-in_ok-channel-in-Calls-clause-ok
 returns-in_ok-channel-in-Calls-clause-ok c =
-    rw (c.in-Calls.is, c.call.ensures.host, c.as_slice.ensures.value, c.place.ensures)
-    (called_calls c.args.role c.args.host.now c.in-Calls.address c.in-Calls.user_data.now.items c.in_ok-channel-in-Calls.channel c.args.book.now.book 0 c.args.book.now.pairs c.requires.quiet c.in_ok-channel-in-Calls.ensures.answer)
+    rw (c.in-Calls.is, c.call.ensures.host, c.place.ensures)
+    (called_calls c.args.role c.args.host.now c.in-Calls.address c.in-Calls.user_data.now c.in_ok-channel-in-Calls.channel c.args.book.now.book 0 c.args.book.now.pairs c.requires.quiet c.in_ok-channel-in-Calls.ensures.answer)
 
 pub returns-in_ok-ask-in-Asks-clause-ok : goal.returns-in_ok-ask-in-Asks-clause-ok
 returns-in_ok-ask-in-Asks-clause-ok c =

@@ -3,6 +3,7 @@ use Rattle.std.specs.Prelude.{is_some}
 use Rattle.std.proofs.lemmas.Bool.{OnTrue_at, OnFalse_at}
 use Rattle.book_laws.proofs.Basics.{length_set}
 use Rattle.net_events.specs.AtSwitch.{Hears, HasOwnLine}
+use Rattle.call_records.specs.RegisterView.{register_of}
 use Rattle.net_events.specs.Network.{Network}
 use Rattle.net_nodes.specs.Faults.{where_there_is}
 use Rattle.net_nodes.specs.Places.{IsStanding}
@@ -62,6 +63,7 @@ switch_acts-requires-clause-can g c =
 pub returns : goal.returns
 returns g c =
     let L = g.L.Line.service in
+    let s : Network = record { nodes = c.self.inside.nodes.items; lines = c.self.inside.lines.items; register = register_of c.self.inside.register } in
     let lines = c.self.inside.lines.items in
     let o = c.requires.switch in
     let st = subst IsStanding (sym c.self.view_is) c.requires.standing in
@@ -69,7 +71,7 @@ returns g c =
     let h : c.args.line < length lines = within lines c.args.line o.line_is (ap (λ (s : Network). slice_get s.lines c.args.line) c.self.view_is ∙ o.line_there) in
     let here = there lines c.args.line _ c.index_mut.result.now h c.index_mut.ensures.value ∙ ap Some (sym c.behind-self.view_is) in
     rw (← c.self.view_is)
-    (answered c.switch_acts.result c.switch_acts.new.answer (λ x. Happens L (Deliver c.args.line FromDte) _ x c.switch_acts.new.self) (c.switch_acts.ensures o.node node_there)
+    (answered c.switch_acts.result c.switch_acts.new.answer (λ x. Happens L (Deliver c.args.line FromDte) s x c.switch_acts.new.self) (c.switch_acts.ensures o.node node_there)
     (λ w. heard L c.args.place c.args.line c.args.own c.as_slice.result.now o.node _ (g.L.Line.flights c.take.new.self) _ c.switch_acts.new.answer c.switch_acts.new.self st node_there o.own_line here
     (λ f. (OnTrue_at c.if-not-take.false (c.take.ensures.taken f) ∙ ap Some (sym c.as_slice.ensures.value), c.take.ensures.others f))
     c.frame_heard-event.ensures.octets

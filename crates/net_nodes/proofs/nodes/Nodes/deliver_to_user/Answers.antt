@@ -27,8 +27,8 @@ returns-then-not-take g c =
       ap (λ o. where_there_is (is_some o)) here,
       inl (record {
         nothing = record {
-          frames = c.in_ok-make_room.ensures.empty.frames;
-          notes = c.in_ok-make_room.ensures.empty.notes;
+          frames = c.in_ok-make_room.ensures.empty.ready.frames;
+          notes = c.in_ok-make_room.ensures.empty.ready.notes;
           text = c.in_ok-make_room.ensures.empty.text;
           answered = refl;
           lost = record {

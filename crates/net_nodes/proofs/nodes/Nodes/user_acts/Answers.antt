@@ -10,8 +10,8 @@ use Rattle.placed_nodes.proofs.Lists.{found, within}
 use Rattle.net_nodes.proofs.Acting.{can_serve_user, user_acts}
 use Rattle.net_nodes.proofs.nodes.Nodes.user_acts.Goals as goal
 
-pub serve_user_at-requires : goal.serve_user_at-requires
-serve_user_at-requires g c =
+pub serve_user_at-requires-clause-can : goal.serve_user_at-requires-clause-can
+serve_user_at-requires-clause-can g c =
     let end = c.args.end in
     let lines = c.self.inside.lines.items in
     let can = subst (CanAct end) (sym c.self.view_is) c.requires.can in

@@ -24,18 +24,13 @@ put_lines-requires g c =
     let p : PlacedSwitch = record { lines = c.in-Switching.own.items; switch = c.in-Switching.switch } in
     let same : p ≡ c.requires.switch = switch_is p c.requires.switch (ap kind_of (sym c.in-Switching.is) ∙ c.node.view_is ∙ c.requires.is) in
     let can = subst (λ (x : PlacedSwitch). CanPut x.lines x.switch.lines c.args.lines.now.items c.args.puts.now.items (vec_capacity c.args.puts.now)) (sym same) c.requires.can_put in
-    can_put_then (switch_event_of c.args.event.now) p c.deref-in-Switching.result.now c.call_switch-joined.new.switch c.args.lines.now.items c.args.puts.now.items (vec_capacity c.args.puts.now)
-    c.deref-in-Switching.ensures.value c.call_switch-joined.ensures.switch can
+    can_put_then (switch_event_of c.args.event.now) p c.deref-2.result.now c.call_switch-joined.new.switch c.args.lines.now.items c.args.puts.now.items (vec_capacity c.args.puts.now)
+    c.deref-2.ensures.value c.call_switch-joined.ensures.switch can
 
-pub returns-in-Switching : goal.returns-in-Switching
-returns-in-Switching g c = λ n is.
+pub returns : goal.returns
+returns g c = λ n is.
     let p : PlacedSwitch = record { lines = c.in-Switching.own.items; switch = c.in-Switching.switch } in
     let same : p ≡ n = switch_is p n (ap kind_of (sym c.in-Switching.is) ∙ c.node.view_is ∙ is) in
-    served_so g.L.Line.service (switch_event_of c.args.event.now) p n c.deref.result.now c.deref-in-Switching.result.now (option_to_list c.call_switch-joined.result) c.is_anew.result c.call_switch-joined.new.switch c.put_lines.new.switch
+    served_so g.L.Line.service (switch_event_of c.args.event.now) p n c.deref.result.now c.deref-2.result.now (option_to_list c.call_switch-joined.result) c.is_anew.result c.call_switch-joined.new.switch c.put_lines.new.switch
     c.args.lines.now.items c.put_lines.new.lines.items _ _ c.put_lines.new.puts.items
-    same c.deref.ensures.value c.deref-in-Switching.ensures.value c.call_switch-joined.ensures.join c.call_switch-joined.ensures.switch c.is_anew.ensures c.hand_on.ensures c.put_lines.ensures.switch c.put_lines.ensures.lines c.put_lines.ensures.puts
-
-pub returns-in-User : goal.returns-in-User
-returns-in-User g c = λ n is.
-    let p : PlacedNode = record { line = c.in-User.line; node = node_of c.in-User.node } in
-    absurd (not_both p n (ap Some (sym (ap kind_of (sym c.in-User.is) ∙ c.node.view_is) ∙ is)))
+    same c.deref.ensures.value c.deref-2.ensures.value c.call_switch-joined.ensures.join c.call_switch-joined.ensures.switch c.is_anew.ensures c.hand_on.ensures c.put_lines.ensures.switch c.put_lines.ensures.lines c.put_lines.ensures.puts

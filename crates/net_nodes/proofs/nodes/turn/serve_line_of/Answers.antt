@@ -11,14 +11,9 @@ pub serve_line-requires-clause-quiet : goal.serve_line-requires-clause-quiet
 serve_line-requires-clause-quiet g c =
     c.requires.quiet (record { line = c.in-User.line; node = node_of c.in-User.node }) (sym (ap kind_of (sym c.in-User.is) ∙ c.node.view_is))
 
-pub returns-in-User : goal.returns-in-User
-returns-in-User g c = λ n is.
+pub returns : goal.returns
+returns g c = λ n is.
     let p : PlacedNode = record { line = c.in-User.line; node = node_of c.in-User.node } in
     let same : p ≡ n = user_is p n (ap kind_of (sym c.in-User.is) ∙ c.node.view_is ∙ is) in
     line_served g.L.Line.service c.args.at (line_event_of c.args.event.now) p n (g.L.Line.flights c.args.line.now) c.args.book.now.book c.serve_line.new.answer
     (node_of c.serve_line.new.node) (g.L.Line.flights c.serve_line.new.line) c.serve_line.new.book.book same c.serve_line.ensures.answer c.serve_line.ensures.text c.serve_line.ensures.served
-
-pub returns-in-Switching : goal.returns-in-Switching
-returns-in-Switching g c = λ n is.
-    let m : PlacedSwitch = record { lines = c.in-Switching.lines.items; switch = c.in-Switching.switch } in
-    absurd (not_both n m (ap Some (sym is ∙ sym (ap kind_of (sym c.in-Switching.is) ∙ c.node.view_is))))

@@ -11,16 +11,16 @@ use Rattle.net_nodes.proofs.nodes.turn.serve_user_at.Goals as goal
 
 pub serve_user_of-requires-clause-there : goal.serve_user_of-requires-clause-there
 serve_user_of-requires-clause-there g c =
-    subst (λ (x : Attachment). x.line < length c.args.register.now.lines.items) (sym c.attachment-at.ensures) c.requires.line
+    subst (λ (x : Attachment). x.line < length c.args.register.now.lines.items) (sym c.attachment-at.ensures) c.requires.can.line
 
 pub serve_user_of-requires-clause-quiet : goal.serve_user_of-requires-clause-quiet
 serve_user_of-requires-clause-quiet g c = λ n is.
     let nodes = c.args.nodes.now.items in
     let at = c.attachment-at.result in
     let place : at.node ≡ place_at c.args.end.role c.args.net_line.now = ap (λ (x : Attachment). x.node) c.attachment-at.ensures in
-    let here = ap (λ i. slice_get nodes i) place ∙ c.requires.there in
-    quiet_of c.requires.node n c.index_mut.result.now
-    (found nodes at.node _ c.index_mut.result.now (User c.requires.node) (within nodes at.node (User c.requires.node) here) c.index_mut.ensures.value here) is c.requires.quiet
+    let here = ap (λ i. slice_get nodes i) place ∙ c.requires.can.there in
+    quiet_of c.requires.can.node n c.index_mut.result.now
+    (found nodes at.node _ c.index_mut.result.now (User c.requires.can.node) (within nodes at.node (User c.requires.can.node) here) c.index_mut.ensures.value here) is c.requires.can.quiet
 
 pub returns : goal.returns
 returns g c = λ n there.
