@@ -23,7 +23,7 @@ use Rattle.net_events.specs.declared.event.StepFault.{StepFault}
 use Rattle.net_events.specs.declared.event.StepFault.TheVariants.{OutOfMemory}
 use Rattle.net_nodes.specs.Due.{expiry_of, net_due}
 use Rattle.net_nodes.specs.Faults.{step_fault, has_line, stands_at, where_there_is, MayWant}
-use Rattle.net_nodes.specs.Node.{is_line}
+use Rattle.net_plans.specs.Plan.{is_line}
 use Rattle.net_nodes.specs.Steps.{ExpireStep}
 use Rattle.net_nodes.specs.Happening.{Happens}
 use Rattle.switch_network_laws.proofs.FewerAny.{fewer_any, fewer_at_switch}

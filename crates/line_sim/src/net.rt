@@ -103,7 +103,7 @@ impl<L: Line> Net<L> {
         ensures exact { IsTrue result ↔ AllMatch self.now.register.records self.now.register.pairs }
         ensures faithful { L.service.faithful → result ≡ true }
     {
-        all_match(self.records(), self.pairs())
+        all_match(self.nodes.records(), self.nodes.pairs())
     }
 
     /// Whether nothing is in flight, unacknowledged, owed, or waits to be sent, carried on or taken. What waits at a
