@@ -2,6 +2,7 @@ mod Registered
 mod Standing
 mod Events
 mod FewerDue
+mod IdleTimers
 mod Refusals
 mod RunsMore
 mod Stepped

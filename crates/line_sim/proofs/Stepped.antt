@@ -12,6 +12,7 @@ use Rattle.line_sim.specs.Between.{IsBetweenEvents}
 use Rattle.line_sim.specs.Stepping.{HasStepped}
 use Rattle.line_sim.proofs.Events.{happens}
 use Rattle.line_sim.proofs.FewerDue.{fewer_due}
+use Rattle.line_sim.proofs.IdleTimers.{idle}
 
 unchanged : (L : LineService) (e : Event) (s : Network) (r : Result Answer StepFault) (t : Network) → Happens L e s r t
     → OnErr r (t ≡ s)
@@ -24,5 +25,6 @@ stepped L e s r t b h = record {
   happens = h;
   err = unchanged L e s r t h;
   fewer_due = fewer_due L e s r t b h;
+  idle = idle L e s r t b h;
   headline = promise_any L t (happens L e s r t b h).any;
 }

@@ -10,7 +10,7 @@ use Rattle.net_events.specs.declared.event.StepFault.{StepFault}
 use Rattle.net_events.specs.Network.{Network}
 use Rattle.net_nodes.specs.Happening.{Happens, SaysNoneArrived}
 use Rattle.switch_network_laws.specs.Promise.{NetworkPromise}
-use Rattle.line_sim.specs.Expiries.{FewerDue}
+use Rattle.line_sim.specs.Expiries.{FewerDue, IdleExpiry}
 
 -- the answer that is lent
 abbrev pub lent : Result (Bor Answer) StepFault → Result Answer StepFault
@@ -18,12 +18,13 @@ lent (Ok answer) = Ok answer.now
 lent (Err fault) = Err fault
 
 -- the event is answered or refused so, which leaves this network: refused, it is as before; what is due comes to an
--- end, on any line; and on faithful lines the promise holds
+-- end, on any line; a timer that does not run changes nothing; and on faithful lines the promise holds
 pub record HasStepped (L : LineService) (e : Event) (s : Network) (r : Result Answer StepFault)
     (t : Network) : Type 0 where
   pub happens : Happens L e s r t
   pub err : OnErr r (t ≡ s)
   pub fewer_due : FewerDue e s r t
+  pub idle : IdleExpiry L e s t
   pub headline : L.faithful → NetworkPromise t
 
 -- a delivery on a line in a direction is answered that no frame arrived, and changes nothing
