@@ -88,7 +88,8 @@ const NO_HOST_COMMANDS: &[&[u8]] = &[
     b"expire host 0 T22 x",
     b"expire host 0 t11 1",
     b"expire host 0 T14 1",
-    b"check",
+    b"check 0",
+    b"checks",
 ];
 
 /// Lines with the words of terminals that are no commands.
@@ -165,6 +166,7 @@ const COMMANDS: [(&[u8], &str); 35] = [
     (b"relink 3", "Event(Relink { line: 3 })"),
     (b"restart host", "Event(Restart { node: 1 })"),
     (b"flow", "Flow"),
+    (b"check", "Check"),
     (b"trace on", "Trace(true)"),
     (b"trace off", "Trace(false)"),
     (b"tick 65535", "Tick(65535)"),
