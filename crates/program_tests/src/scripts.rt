@@ -132,7 +132,7 @@ fn is_refused(alloc: Global, line: &[u8], config: &Config) -> bool {
 }
 
 /// Lines, and the commands that they are.
-const COMMANDS: [(&[u8], &str); 35] = [
+const COMMANDS: [(&[u8], &str); 36] = [
     (
         b"key host 65535 \\\\\\0d",
         "Keys(Keys { node: 1, terminal: 65535, octets: [92, 13] })",
