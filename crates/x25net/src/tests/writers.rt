@@ -68,7 +68,7 @@ fn play_first<W: Write>(alloc: Global, out: &mut W) -> Result<(), ProgFault> {
 fn writes_of_all(alloc: Global) -> Option<u32> {
     let mut out = Refusing::new(alloc, u32::MAX);
     match play_first(alloc, &mut out) {
-        Ok(()) if out.text.as_slice() == PRINTED => Some(u32::MAX - out.left),
+        Ok(()) if out.text.as_slice() == PRINTED => Some(u32::MAX.saturating_sub(out.left)),
         _ => None,
     }
 }
