@@ -45,12 +45,12 @@ returns-in_err-tick-in-Tick-clause-stops g c =
 pub returns-in_ok-write-in-Check-clause-writes : goal.returns-in_ok-write-in-Check-clause-writes
 returns-in_ok-write-in-Check-clause-writes g c =
     rw c.in-Check.is (writes_known _
-    (rw c.check_line-in-Check.ensures (check (record { exact = c.all_match-in-Check.ensures.exact; faithful = c.all_match-in-Check.ensures.faithful })))
+    (rw c.check_line.ensures (check (record { exact = c.all_match.ensures.exact; faithful = c.all_match.ensures.faithful })))
     c.in_ok-write-in-Check.ensures.writes)
 
 pub returns-in_err-write-in-Check-clause-stops : goal.returns-in_err-write-in-Check-clause-stops
 returns-in_err-write-in-Check-clause-stops g c =
     let p = err_from_is_err_and c.from_residual-in_err-write-in-Check.result c.from_residual-in_err-write-in-Check.ensures.1 in
-    let checked = record { exact = c.all_match-in-Check.ensures.exact; faithful = c.all_match-in-Check.ensures.faithful } in
-    rw (p.1, p.2, c.in-Check.is) (writes_as (λ part told. in_check checked c.in_err-write-in-Check.ensures.fault told)
-    (rw c.check_line-in-Check.ensures at c.in_err-write-in-Check.ensures.refused))
+    rw (p.1, p.2, c.in-Check.is) (writes_as (λ part told. in_check
+    (record { exact = c.all_match.ensures.exact; faithful = c.all_match.ensures.faithful }) c.in_err-write-in-Check.ensures.fault told)
+    (rw c.check_line.ensures at c.in_err-write-in-Check.ensures.refused))
