@@ -1,12 +1,12 @@
 -- Nothing is missing: of each call that is open at both ends, each end took all that the other one sent since the last
 -- reset.
 use Rattle.std.specs.Prelude.{◌≡◌, ℕ, false, List, slice_get, Some}
+use Rattle.epochs.specs.Epoch.{sent_epoch, taken_epoch}
 use Rattle.call_records.specs.Records.{RecordValue, PairValue}
 
--- the last epoch that the one end took is the last that the other one sent: packets (with M, Q and D) and interrupts
-pub record TookAll (sender taker : RecordValue) : Type 0 where
-  pub packets : taker.taken.packets ≡ sender.sent.packets
-  pub interrupts : taker.taken.interrupts ≡ sender.sent.interrupts
+-- the last epoch that the one end took is the last that the other one sent: items and interrupts
+abbrev pub TookAll : (sender taker : RecordValue) → Type 0
+TookAll sender taker = taken_epoch taker.taken ≡ sent_epoch sender.sent
 
 -- so it is both ways in each pair of which both records are open
 abbrev pub NothingMissing : List RecordValue → List PairValue → Type 0

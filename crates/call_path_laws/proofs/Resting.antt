@@ -2,13 +2,14 @@
 use Rattle.std.proofs.Common.{◌≡◌, ℕ, ◌<◌, false, length, Some, refl, sym, ap, subst, ◌∙◌}
 use Rattle.std.specs.Prelude.{slice_get}
 use Rattle.std.proofs.lemmas.Option.{same_Some, slice_get_within}
+use Rattle.epochs.specs.Epoch.{sent_epoch, taken_epoch}
 use Rattle.call_records.specs.Records.{RecordValue, PairValue}
 use Rattle.book_laws.specs.Rest.{TookAll, NothingMissing}
 use Rattle.book_laws.proofs.Basics.{get_there}
 use Rattle.register_laws.specs.Seen.{positions}
 use Rattle.call_path_laws.specs.World.{Origin, World, Plan}
 use Rattle.call_path_laws.specs.Seen.{CameFrom, Way, shown, RecordIsShown, PairIsSeen, PairCame, Seen}
-use Rattle.call_path_laws.specs.Rest.{HasHandedAll, HaveHandedAll, RestLaw}
+use Rattle.call_path_laws.specs.Rest.{HandedAll, HasHandedAll, HaveHandedAll, RestLaw}
 use Rattle.call_path_laws.proofs.Ways.{along}
 
 module _ (plan : Plan) (w : World) (s : Seen plan w) (lines : NothingMissing w.whole.records w.whole.pairs) (joins : HaveHandedAll w) where
@@ -18,12 +19,9 @@ module _ (plan : Plan) (w : World) (s : Seen plan w) (lines : NothingMissing w.w
       → slice_get w.whole.records x ≡ Some first → slice_get w.whole.records pair.callee ≡ Some last → first.closed ≡ false → last.closed ≡ false
       → TookAll first last × TookAll last first
 
-  over_join : (first from to last : RecordValue) → TookAll first from × TookAll from first → from.taken.packets ≡ to.sent.packets → from.taken.interrupts ≡ to.sent.interrupts
-      → to.taken.packets ≡ from.sent.packets → to.taken.interrupts ≡ from.sent.interrupts → TookAll to last × TookAll last to → TookAll first last × TookAll last first
-  over_join first from to last near onward onward_too backward backward_too far = (
-    record { packets = far.0.packets ∙ sym onward ∙ near.0.packets; interrupts = far.0.interrupts ∙ sym onward_too ∙ near.0.interrupts },
-    record { packets = near.1.packets ∙ sym backward ∙ far.1.packets; interrupts = near.1.interrupts ∙ sym backward_too ∙ far.1.interrupts },
-  )
+  over_join : (first from to last : RecordValue) → TookAll first from × TookAll from first → HandedAll from to → HandedAll to from
+      → TookAll to last × TookAll last to → TookAll first last × TookAll last first
+  over_join first from to last near onward backward far = (far.0 ∙ onward ∙ near.0, near.1 ∙ backward ∙ far.1)
 
   came_of : (a y i : ℕ) (pair : PairValue) → CameFrom w.origins a y → slice_get w.whole.pairs i ≡ Some pair → pair.callee ≡ a → pair.caller ≡ y
   came_of a y i pair came at callee =
@@ -40,22 +38,14 @@ module _ (plan : Plan) (w : World) (s : Seen plan w) (lines : NothingMissing w.w
       over_join first j.from j.to last
       (before j.place j.pair first j.from j.there (came_of a y j.place j.pair came j.there j.accepted) first_there
       (ap (λ (k : ℕ). slice_get w.whole.records k) j.accepted ∙ j.from_there) open_first j.from_open)
-      (sym j.onward.packets) (sym j.onward.interrupts) (sym j.backward.packets) (sym j.backward.interrupts)
+      j.onward j.backward
       (lines i pair j.to last at (ap (λ (k : ℕ). slice_get w.whole.records k) caller ∙ j.to_there) last_there j.to_open open_last))
 
   -- what the register has of a record was sent and taken by that of the whole one
   as_whole : (first last caller callee : RecordValue) → TookAll first last × TookAll last first
       → caller.sent ≡ first.sent → caller.taken ≡ first.taken → callee.sent ≡ last.sent → callee.taken ≡ last.taken → TookAll caller callee × TookAll callee caller
-  as_whole first last caller callee h cs ct ds dt = (
-    record {
-      packets = ap (λ e. e.packets) dt ∙ h.0.packets ∙ sym (ap (λ e. e.packets) cs);
-      interrupts = ap (λ e. e.interrupts) dt ∙ h.0.interrupts ∙ sym (ap (λ e. e.interrupts) cs);
-    },
-    record {
-      packets = ap (λ e. e.packets) ct ∙ h.1.packets ∙ sym (ap (λ e. e.packets) ds);
-      interrupts = ap (λ e. e.interrupts) ct ∙ h.1.interrupts ∙ sym (ap (λ e. e.interrupts) ds);
-    },
-  )
+  as_whole first last caller callee h cs ct ds dt =
+      (ap taken_epoch dt ∙ h.0 ∙ sym (ap sent_epoch cs), ap taken_epoch ct ∙ h.1 ∙ sym (ap sent_epoch ds))
 
   none_missing : NothingMissing w.register.records w.register.pairs
   none_missing q pair caller callee at caller_there callee_there open_caller open_callee =

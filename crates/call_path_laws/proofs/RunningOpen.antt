@@ -42,8 +42,8 @@ took n m r q here there both caller callee at far =
 missing : NothingMissing still_open.whole.records still_open.whole.pairs
 missing i pair caller callee at here there caller_open callee_open =
     each (λ i (p : PairValue). TookBoth p) still_open.whole.pairs (
-      took 2 3 _ _ refl refl (record { packets = refl; interrupts = refl }, record { packets = refl; interrupts = refl }),
-      (took 0 1 _ _ refl refl (record { packets = refl; interrupts = refl }, record { packets = refl; interrupts = refl }), tt),
+      took 2 3 _ _ refl refl (refl, refl),
+      (took 0 1 _ _ refl refl (refl, refl), tt),
     )
     i pair at caller callee here there
 
@@ -57,8 +57,8 @@ handed_on = record {
   to_there = refl;
   from_open = refl;
   to_open = refl;
-  onward = record { packets = refl; interrupts = refl };
-  backward = record { packets = refl; interrupts = refl };
+  onward = refl;
+  backward = refl;
   place = 1;
   pair = record { caller = 0; callee = 1 };
   there = refl;

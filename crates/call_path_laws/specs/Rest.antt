@@ -1,16 +1,15 @@
 -- Nothing is missing in the register of a network with switches, over paths of any length, if nothing is missing on its
 -- lines and each join handed on all that it took.
 use Rattle.std.specs.Prelude.{◌≡◌, ℕ, false, slice_get, Some}
+use Rattle.epochs.specs.Epoch.{sent_epoch, taken_epoch}
 use Rattle.call_records.specs.Records.{RecordValue, PairValue}
 use Rattle.book_laws.specs.Rest.{NothingMissing}
 use Rattle.call_path_laws.specs.World.{World, Plan}
 use Rattle.call_path_laws.specs.Seen.{CameFrom, IsJoined, Seen}
 
--- what was sent on the one leg since the last reset is what was taken on the other one: packets (with M, Q and D) and
--- interrupts
-pub record HandedAll (taker sender : RecordValue) : Type 0 where
-  pub packets : sender.sent.packets ≡ taker.taken.packets
-  pub interrupts : sender.sent.interrupts ≡ taker.taken.interrupts
+-- what was sent on the one leg since the last reset is what was taken on the other one: items and interrupts
+abbrev pub HandedAll : (taker sender : RecordValue) → Type 0
+HandedAll taker sender = sent_epoch sender.sent ≡ taken_epoch taker.taken
 
 -- both records of a join are open, the call that came in is accepted, and all is handed on, both ways
 pub record HasHandedAll (w : World) (a b : ℕ) : Type 0 where

@@ -1,7 +1,6 @@
 pub use Rattle.switch_record_laws.proofs.Cells
 pub use Rattle.switch_record_laws.proofs.Notes
 pub use Rattle.switch_record_laws.proofs.Partner
-pub use Rattle.switch_record_laws.proofs.Confirming
 pub use Rattle.switch_record_laws.proofs.Resting
 pub use Rattle.switch_record_laws.proofs.Making
 pub use Rattle.switch_record_laws.proofs.Calming

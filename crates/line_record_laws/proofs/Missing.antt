@@ -1,10 +1,11 @@
 -- Where both ends of a line are at rest, the book has nothing missing.
 use Rattle.std.specs.Prelude.{◌≡◌, ℕ, true, List, map, is_some, Option, Some, None}
-use Rattle.std.proofs.Common.{refl, sym, ap, subst, ◌∙◌, true≢false}
+use Rattle.std.proofs.Common.{refl, sym, ap, ap₂, subst, ◌∙◌, true≢false}
 use Rattle.std.proofs.lemmas.Option.{same_Some}
 use Rattle.link_timers.specs.declared.role.Role.{Role}
 use Rattle.link_timers.specs.declared.role.Role.TheVariants.{Dte, Dce}
 use Rattle.link_timers.specs.Role.{other_of}
+use Rattle.epochs.specs.Item.{DataPacket, all_items}
 use Rattle.packet_layer.specs.Packets.{Datum}
 use Rattle.packet_layer.specs.Channel.{Channel}
 use Rattle.packet_layer.specs.Layer.{channel_of}
@@ -26,10 +27,9 @@ use Rattle.line_record_laws.proofs.Keeping.{present_kept}
 
 -- what the one end sent and the other one took in an epoch, in their records
 took_all : (sender taker : RecordValue) (e f : Epoch) → HasLast sender e → HasLast taker f → HasAll e f → TookAll sender taker
-took_all sender taker e f mine yours h = record {
-  packets = yours.taken ∙ ap (λ (ds : List Datum). map packet_of ds) h.packets ∙ sym mine.sent;
-  interrupts = yours.interrupts_taken ∙ h.interrupts ∙ sym mine.interrupts_sent;
-}
+took_all sender taker e f mine yours h =
+    ap₂ (λ (ps : List DataPacket) (is : List (List ℕ)). record { items = all_items ps; interrupts = is }) (yours.taken ∙ ap (λ (ds : List Datum). map packet_of ds) h.packets ∙ sym mine.sent)
+    (yours.interrupts_taken ∙ h.interrupts ∙ sym mine.interrupts_sent)
 
 both_took : (mine yours : RecordValue) (e f : Epoch) → HasLast mine e → HasLast yours f → HasAll e f → HasAll f e → TookAll mine yours × TookAll yours mine
 both_took mine yours e f m y forth back = (took_all mine yours e f m y forth, took_all yours mine f e y m back)

@@ -1,6 +1,7 @@
 -- Where nothing is missing in the lines' books, nothing is missing in the register.
 use Rattle.std.proofs.Common.{◌≡◌, ℕ, Option, sym, ap, ◌∙◌}
 use Rattle.std.proofs.lemmas.Option.{same_Some}
+use Rattle.epochs.specs.Epoch.{sent_epoch, taken_epoch}
 use Rattle.call_records.specs.Records.{RecordValue}
 use Rattle.book_laws.specs.Rest.{TookAll}
 use Rattle.register_laws.specs.Seen.{positions, renumbered, RecordIsSeen}
@@ -9,10 +10,8 @@ use Rattle.register_laws.proofs.Promising.{PairOfLine, pair_of}
 
 -- records of the register and those of the book of their line
 took_seen : (m n : ℕ) (o p : Option ℕ) (a b x y : RecordValue) → a ≡ renumbered m o x → b ≡ renumbered n p y → TookAll x y → TookAll a b
-took_seen m n o p a b x y mine yours h = record {
-  packets = ap (λ (r : RecordValue). r.taken.packets) yours ∙ h.packets ∙ ap (λ (r : RecordValue). r.sent.packets) (sym mine);
-  interrupts = ap (λ (r : RecordValue). r.taken.interrupts) yours ∙ h.interrupts ∙ ap (λ (r : RecordValue). r.sent.interrupts) (sym mine);
-}
+took_seen m n o p a b x y mine yours h =
+    ap (λ (r : RecordValue). taken_epoch r.taken) yours ∙ h ∙ ap (λ (r : RecordValue). sent_epoch r.sent) (sym mine)
 
 pub rest_seen : RestLaw
 rest_seen g books w none i pair caller callee at caller_there callee_there caller_open callee_open =

@@ -33,7 +33,6 @@ use Rattle.joined_call_laws.specs.Written.{Books, restart_writes}
 use Rattle.joined_call_laws.specs.Kept.{Partner, IsFit, ReadsOctets, line_with, all_frames_out}
 use Rattle.joined_call_laws.specs.Tied.{Histories, IsTied, happened, restarted, gone_out}
 use Rattle.joined_call_laws.proofs.Calming.{addresses}
-use Rattle.joined_call_laws.proofs.Confirming.{relayed_confirm}
 use Rattle.joined_call_laws.proofs.Partner.{partner_leaves}
 use Rattle.joined_call_laws.proofs.Tying.{tied_holds}
 use Rattle.joined_call_laws.specs.Calls.{JoinedCall}
@@ -395,8 +394,8 @@ relays plan at s h cs books w traces i a b j =
       to = renumbered b far.0 f.holds.far_record;
       from_there = near.1;
       to_there = far.1;
-      onward = relayed_confirm _ _ f.holds.relayed.there;
-      backward = relayed_confirm _ _ f.holds.relayed.back;
+      onward = f.holds.relayed.there;
+      backward = f.holds.relayed.back;
     }
   where
     whole_record : (n k m : ℕ) (r : RecordValue) → HasNumber at w.origins n k m → slice_get (h.books n).records k ≡ Some r → (c : Option ℕ) × (slice_get w.whole.records m ≡ Some (renumbered m c r))

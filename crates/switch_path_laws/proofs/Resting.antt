@@ -8,6 +8,9 @@ use Rattle.link_timers.specs.Role.{other_of}
 use Rattle.packet_layer.specs.Channel.{CallState, Channel, had_call, in_transfer, waits_for_call}
 use Rattle.packet_layer.specs.Channel.CallState.{Transfer}
 use Rattle.packet_layer.specs.Layer.{Layer, channel_of}
+use Rattle.epochs.specs.Item.{DataPacket, all_items}
+use Rattle.epochs.specs.Epoch.{sent_epoch, taken_epoch}
+use Rattle.packet_laws.specs.History.{Epoch}
 use Rattle.line_laws.specs.Line.{Line}
 use Rattle.call_records.specs.Records.{RecordValue, PairValue}
 use Rattle.call_records.specs.Book.{Book, slot_at}
@@ -29,11 +32,12 @@ use Rattle.switch_lines.specs.declared.channels.Joined.{Joined}
 use Rattle.switch_lines.specs.Lines.{SwitchLine}
 use Rattle.switch_lines.specs.Switch.{Switch}
 use Rattle.switch_laws.specs.Leg.{Leg}
+use Rattle.switch_laws.specs.Clause.{Carries, taken_part, sent_part}
 use Rattle.switch_laws.specs.Joined.{WaitsFor, IsPair, IsJoinedAt}
 use Rattle.switch_laws.specs.Joined.IsPair.{connected, waiting}
 use Rattle.switch_laws.specs.World.{Shown, shown_at, shown_on, shown_as, Agrees, layers_of}
 use Rattle.switch_laws.proofs.Lists.{get_map}
-use Rattle.joined_call_laws.specs.Records.{HasRecord, Has, call_on, leg_if}
+use Rattle.joined_call_laws.specs.Records.{HasRecord, Has, call_on, leg_if, sent_of, taken_of}
 use Rattle.joined_call_laws.specs.Kept.{line_with}
 use Rattle.joined_call_laws.specs.Tied.{Histories}
 use Rattle.joined_call_laws.specs.Calls.{JoinedCall, StandsOrEnded, Stands}
@@ -53,22 +57,22 @@ use Rattle.switch_path_laws.proofs.Transferring.{BothInTransfer, in_transfer_at_
 -- both legs are in data transfer, and what was sent on each since the last reset is what was taken on the other one
 record AreConnected (g h : Leg) : Type 0 where
   pub near_call : g.channel.state ≡ Transfer
-  pub onward : h.epoch.sent ≡ g.epoch.taken
-  pub onward_interrupts : h.epoch.interrupts_sent ≡ g.epoch.interrupts_taken
-  pub backward : g.epoch.sent ≡ h.epoch.taken
-  pub backward_interrupts : g.epoch.interrupts_sent ≡ h.epoch.interrupts_taken
+  pub onward : sent_epoch (sent_of h.epoch) ≡ taken_epoch (taken_of g.epoch)
+  pub backward : sent_epoch (sent_of g.epoch) ≡ taken_epoch (taken_of h.epoch)
 
 no_wait : (role : Role) (state : CallState) → waits_for_call role state ≡ true → state ≡ Transfer → ⊥
 no_wait Dte state h e = true≢false (sym h ∙ ap (λ (x : CallState). waits_for_call Dte x) e)
 no_wait Dce state h e = true≢false (sym h ∙ ap (λ (x : CallState). waits_for_call Dce x) e)
 
+-- the epochs that carry each other are one
+same_epoch : (n f : Epoch) → Carries (taken_part n) (sent_part f) → sent_epoch (sent_of f) ≡ taken_epoch (taken_of n)
+same_epoch n f c = ap₂ (λ (ps : List DataPacket) (is : List (List ℕ)). record { items = all_items ps; interrupts = is }) c.packets c.interrupts
+
 are_connected : (g h : Leg) (j k : Joined) → IsPair g h j k → j.came_in ≡ true → h.channel.state ≡ Transfer → AreConnected g h
 are_connected g h j k (connected c) came in_call = record {
   near_call = c.there.holds.near_call;
-  onward = c.there.holds.direction.carries.packets;
-  onward_interrupts = c.there.holds.direction.carries.interrupts;
-  backward = c.back.holds.direction.carries.packets;
-  backward_interrupts = c.back.holds.direction.carries.interrupts;
+  onward = same_epoch g.epoch h.epoch c.there.holds.direction.carries;
+  backward = same_epoch h.epoch g.epoch c.back.holds.direction.carries;
 }
 are_connected g h j k (waiting there back w) came in_call =
     absurd (no_wait h.role h.channel.state (subst (λ (v : Bool). WaitsFor v g h) came w).waits in_call)
@@ -232,18 +236,10 @@ module _ (plan : Plan) (at : List ℕ) (s : Switch) (h : Histories) (cs : List J
         to_there = v.seen_there;
         from_open = ap (λ (r : RecordValue). r.closed) from ∙ k.near.is_of.open_;
         to_open = ap (λ (r : RecordValue). r.closed) to ∙ k.far.is_of.open_;
-        onward = record {
-          packets = ap (λ (r : RecordValue). r.sent.packets) to ∙ ap (λ e. e.packets) k.far.is_of.sent ∙ k.legs.onward
-              ∙ sym (ap (λ (r : RecordValue). r.taken.packets) from ∙ ap (λ e. e.packets) k.near.is_of.taken);
-          interrupts = ap (λ (r : RecordValue). r.sent.interrupts) to ∙ ap (λ e. e.interrupts) k.far.is_of.sent ∙ k.legs.onward_interrupts
-              ∙ sym (ap (λ (r : RecordValue). r.taken.interrupts) from ∙ ap (λ e. e.interrupts) k.near.is_of.taken);
-        };
-        backward = record {
-          packets = ap (λ (r : RecordValue). r.sent.packets) from ∙ ap (λ e. e.packets) k.near.is_of.sent ∙ k.legs.backward
-              ∙ sym (ap (λ (r : RecordValue). r.taken.packets) to ∙ ap (λ e. e.packets) k.far.is_of.taken);
-          interrupts = ap (λ (r : RecordValue). r.sent.interrupts) from ∙ ap (λ e. e.interrupts) k.near.is_of.sent ∙ k.legs.backward_interrupts
-              ∙ sym (ap (λ (r : RecordValue). r.taken.interrupts) to ∙ ap (λ e. e.interrupts) k.far.is_of.taken);
-        };
+        onward = ap (λ (r : RecordValue). sent_epoch r.sent) to ∙ ap sent_epoch k.far.is_of.sent ∙ k.legs.onward
+            ∙ sym (ap (λ (r : RecordValue). taken_epoch r.taken) from ∙ ap taken_epoch k.near.is_of.taken);
+        backward = ap (λ (r : RecordValue). sent_epoch r.sent) from ∙ ap sent_epoch k.near.is_of.sent ∙ k.legs.backward
+            ∙ sym (ap (λ (r : RecordValue). taken_epoch r.taken) to ∙ ap taken_epoch k.far.is_of.taken);
         place = p.0;
         pair = p.1;
         there = p.2;

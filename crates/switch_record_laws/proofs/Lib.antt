@@ -8,7 +8,6 @@ pub mod Lines
 pub mod Acts
 pub mod Partner
 pub mod Relaying
-pub mod Confirming
 pub mod Resting
 pub mod Heads
 pub mod Making

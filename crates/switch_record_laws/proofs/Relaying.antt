@@ -1,11 +1,16 @@
 -- The records of a join, from the clause of the relay.
-use Rattle.std.specs.Prelude.{◌≡◌, ℕ, suc, ◌⊎◌, Bool, true, false, List, [], ◌∷◌, ◌++◌, length, take, slice_get, Option, Some, None, is_some}
-use Rattle.std.proofs.Common.{inl, inr, refl, sym, ap, ap₂, subst, ◌∙◌, true≢false, append-nil}
+use Rattle.std.specs.Prelude.{◌≡◌, ℕ, zero, suc, ◌+◌, ◌<◌, ◌≤◌, ◌⊎◌, Bool, true, false, List, [], ◌∷◌, ◌++◌, map, length, slice_get, Option, Some, None, is_some}
+use Rattle.std.proofs.Common.{inl, inr, refl, sym, ap, ap₂, subst, ◌∙◌, true≢false, append-nil, arith}
+use Rattle.std.proofs.lemmas.List.{map-append}
+use Rattle.std.proofs.lemmas.Option.{same_Some}
 use Rattle.link_timers.specs.declared.role.Role.{Role}
 use Rattle.link_timers.specs.declared.role.Role.TheVariants.{Dte, Dce}
 use Rattle.epochs.specs.Item.{DataPacket, all_items}
-use Rattle.epochs.specs.Epoch.{SentEpoch, TakenEpoch, sent_epoch, taken_epoch, IsPrefixOf}
-use Rattle.epochs.specs.Match.{Match}
+use Rattle.epochs.specs.Epoch.{SentEpoch, TakenEpoch}
+use Rattle.epochs.specs.Confirmed as confirmed
+use Rattle.epochs.specs.Confirmed.{Confirmed, Confirms, confirmed_from, sent_confirmed, taken_confirmed}
+use Rattle.epochs.proofs.Confirming.{relay_confirms}
+use Rattle.epochs.proofs.Confirms.{confirms_itself, confirms_in_turn}
 use Rattle.packet_layer.specs.Packets.{Datum}
 use Rattle.packet_layer.specs.Channel.{CallState, Channel, had_call, may_accept, waits_for_call}
 use Rattle.packet_layer.specs.Channel.CallState.{Ready, OwnWaiting, FarWaiting, Transfer, Collision, OwnClear}
@@ -25,57 +30,59 @@ use Rattle.switch_laws.proofs.Places.{some_there}
 use Rattle.switch_laws.proofs.Relaying.{waits_before}
 use Rattle.switch_record_laws.specs.Records.{sent_of, taken_of, all_sent, all_taken, IsRecordOf, HasRecord, leg_if, call_on, Has}
 use Rattle.switch_record_laws.specs.Written.{Books, HaveRecords}
-use Rattle.switch_record_laws.specs.Relayed.{AreDelivered, IsHandedOn, RelayedTo, AreRelayed}
-use Rattle.switch_record_laws.specs.Relayed.RelayedTo.{none, both, taken_alone, sent_alone}
+use Rattle.switch_record_laws.specs.Relayed.{RelayedTo, AreRelayed}
 use Rattle.switch_record_laws.specs.Joined.{IsPresent, JoinsRecords}
-use Rattle.switch_record_laws.specs.Law.{JoinsLaw, MatchLaw}
+use Rattle.switch_record_laws.specs.Law.{JoinsLaw}
 
 -- ---- one epoch
 
-take_first : {X : Type 0} (xs ys : List X) → take (length xs) (xs ++ ys) ≡ xs
-take_first [] [] = refl
-take_first [] (y ∷ ys) = refl
-take_first (x ∷ xs) ys = ap (λ zs. x ∷ zs) (take_first xs ys)
+covered_at : (count place : ℕ) (out kept : List Datum) → AreCovered count place out → (i : ℕ) (d : Datum) → slice_get (out ++ kept) i ≡ Some d → d.delivery ≡ true → i < length out → place + i < count
+covered_at count place [] kept c i d there e less = absurd (omega arith)
+covered_at count place (x ∷ out) kept c zero d there e less = let before = c.0 (ap (λ (y : Datum). y.delivery) (same_Some x d there) ∙ e) in omega arith
+covered_at count place (x ∷ out) kept c (suc i) d there e less = let before = covered_at count (suc place) out kept c.1 i d there e (omega arith) in omega arith
 
-delivered : (count place : ℕ) (ds : List Datum) → AreCovered count place ds → AreDelivered count place ds
-delivered count place [] c = tt
-delivered count place (d ∷ ds) c = (c.0, delivered count (suc place) ds c.1)
+covered : (n f : Epoch) → (c : Carries (taken_part n) (sent_part f)) → (i : ℕ) (d : Datum) → slice_get n.taken i ≡ Some d → d.delivery ≡ true → i < n.released → i < f.covered
+covered n f c i d there e less =
+    let out = c.released in
+    let before = covered_at f.covered 0 c.out c.kept c.covered i d (ap (λ (ds : List Datum). slice_get ds i) c.parts ∙ there) e (omega arith) in
+    omega arith
 
-handed_on : (n f : Epoch) → Carries (taken_part n) (sent_part f) → IsHandedOn (taken_of n) (sent_of f)
-handed_on n f c = record {
-  packets = c.packets;
-  interrupts = c.interrupts;
-  delivered =
-      subst (λ (ds : List Datum). AreDelivered f.covered 0 ds)
-      (sym (take_first c.out c.kept) ∙ ap₂ (λ (k : ℕ) (ds : List Datum). take k ds) (sym c.released) c.parts)
-      (delivered f.covered 0 c.out c.covered);
+has_of : (n f : Epoch) → Carries (taken_part n) (sent_part f) → confirmed.Has (sent_confirmed (sent_of f)) (taken_confirmed (taken_of n))
+has_of n f c = record {
+  begins = record {
+    items = record { rest = []; whole = append-nil (all_items f.sent) ∙ ap (λ (ps : List DataPacket). all_items ps) c.packets };
+    interrupts = record { rest = []; whole = append-nil f.interrupts_sent ∙ c.interrupts };
+  };
+  confirmed =
+      subst (λ (ps : List DataPacket). confirmed_from 0 0 n.released n.taken ≤ confirmed_from 0 0 f.covered ps) (sym c.packets)
+      (relay_confirms n.released f.covered n.taken (covered n f c));
 }
 
 -- ---- lists
 
-both_later : (ts : List TakenEpoch) (ss : List SentEpoch) (t : TakenEpoch) (s : SentEpoch) → IsHandedOn t s → RelayedTo ts ss → RelayedTo (ts ++ t ∷ []) (ss ++ s ∷ [])
-both_later ts ss t s h none = both h none
-both_later ts ss t s h (both i r) = both i (both_later _ _ t s h r)
-both_later ts ss t s h (taken_alone p q r) = taken_alone p q (both_later _ _ t s h r)
-both_later ts ss t s h (sent_alone p q r) = sent_alone p q (both_later _ _ t s h r)
+in_turn : (ts : List TakenEpoch) (ss : List SentEpoch) (us : List TakenEpoch) (vs : List SentEpoch) → RelayedTo ts ss → RelayedTo us vs → RelayedTo (ts ++ us) (ss ++ vs)
+in_turn ts ss us vs r q =
+    subst (λ (cs : List Confirmed). Confirms cs (map taken_confirmed (ts ++ us))) (sym (map-append sent_confirmed ss vs))
+    (subst (λ (cs : List Confirmed). Confirms (map sent_confirmed ss ++ map sent_confirmed vs) cs) (sym (map-append taken_confirmed ts us))
+    (confirms_in_turn (map sent_confirmed ss) (map taken_confirmed ts) (map sent_confirmed vs) (map taken_confirmed us) r q))
 
-taken_later : (ts : List TakenEpoch) (ss : List SentEpoch) (t : TakenEpoch) → t.packets ≡ [] → t.interrupts ≡ [] → RelayedTo ts ss → RelayedTo (ts ++ t ∷ []) ss
-taken_later ts ss t p q none = taken_alone p q none
-taken_later ts ss t p q (both i r) = both i (taken_later _ _ t p q r)
-taken_later ts ss t p q (taken_alone a b r) = taken_alone a b (taken_later _ _ t p q r)
-taken_later ts ss t p q (sent_alone a b r) = sent_alone a b (taken_later _ _ t p q r)
+later : (ts : List TakenEpoch) (ss : List SentEpoch) (n f : Epoch) → Carries (taken_part n) (sent_part f) → RelayedTo ts ss → RelayedTo (ts ++ taken_of n ∷ []) (ss ++ sent_of f ∷ [])
+later ts ss n f c r = in_turn ts ss (taken_of n ∷ []) (sent_of f ∷ []) r (Confirms.join (has_of n f c) Confirms.nothing)
 
-sent_later : (ts : List TakenEpoch) (ss : List SentEpoch) (s : SentEpoch) → s.packets ≡ [] → s.interrupts ≡ [] → RelayedTo ts ss → RelayedTo ts (ss ++ s ∷ [])
-sent_later ts ss s p q none = sent_alone p q none
-sent_later ts ss s p q (both i r) = both i (sent_later _ _ s p q r)
-sent_later ts ss s p q (taken_alone a b r) = taken_alone a b (sent_later _ _ s p q r)
-sent_later ts ss s p q (sent_alone a b r) = sent_alone a b (sent_later _ _ s p q r)
+nothing_confirmed : (count : ℕ) (ps : List DataPacket) → ps ≡ [] → confirmed_from 0 0 count ps ≡ 0
+nothing_confirmed zero ps e = refl
+nothing_confirmed (suc count) ps e = ap (λ (qs : List DataPacket). confirmed_from 0 0 (suc count) qs) e
 
 passed : (ns fs : List Epoch) → Passed ns fs → RelayedTo (all_taken ns) (all_sent fs)
-passed [] [] Passed.none = none
-passed (n ∷ ns) (f ∷ fs) (Passed.both c p) = both_later (all_taken ns) (all_sent fs) (taken_of n) (sent_of f) (handed_on n f c) (passed ns fs p)
-passed (n ∷ ns) fs (Passed.near_alone a b p) = taken_later (all_taken ns) (all_sent fs) (taken_of n) a b (passed ns fs p)
-passed ns (f ∷ fs) (Passed.far_alone a b p) = sent_later (all_taken ns) (all_sent fs) (sent_of f) a b (passed ns fs p)
+passed [] [] Passed.none = Confirms.nothing
+passed (n ∷ ns) (f ∷ fs) (Passed.both c p) = later (all_taken ns) (all_sent fs) n f c (passed ns fs p)
+passed (n ∷ ns) fs (Passed.near_alone a b p) =
+    subst (λ (ss : List SentEpoch). RelayedTo (all_taken ns ++ taken_of n ∷ []) ss) (append-nil (all_sent fs))
+    (in_turn (all_taken ns) (all_sent fs) (taken_of n ∷ []) [] (passed ns fs p) (Confirms.skip (nothing_confirmed n.released n.taken a) Confirms.nothing))
+passed ns (f ∷ fs) (Passed.far_alone a b p) =
+    subst (λ (ts : List TakenEpoch). RelayedTo ts (all_sent fs ++ sent_of f ∷ [])) (append-nil (all_taken ns))
+    (in_turn (all_taken ns) (all_sent fs) [] (sent_of f ∷ []) (passed ns fs p)
+    (Confirms.drop_empty (record { items = ap (λ (ps : List DataPacket). all_items ps) a; interrupts = b }) Confirms.nothing))
 
 -- ---- a way
 
@@ -83,10 +90,7 @@ way_relayed : (w : Way) (a b : RecordValue) → Holds w → IsRecordOf w.near a 
 way_relayed w a b h i k =
     subst (λ (ts : List TakenEpoch). RelayedTo ts (b.sent_before ++ b.sent ∷ [])) (sym (ap₂ (λ (ts : List TakenEpoch) (t : TakenEpoch). ts ++ t ∷ []) i.taken_before i.taken))
     (subst (λ (ss : List SentEpoch). RelayedTo (all_taken w.near.before ++ taken_of w.near.epoch ∷ []) ss) (sym (ap₂ (λ (ss : List SentEpoch) (s : SentEpoch). ss ++ s ∷ []) k.sent_before k.sent))
-    (both_later (all_taken w.near.before) (all_sent w.far.before) (taken_of w.near.epoch) (sent_of w.far.epoch) (handed_on w.near.epoch w.far.epoch h.direction.carries) (passed w.near.before w.far.before h.passed)))
-
-nothing_on : IsHandedOn (taken_of empty_epoch) (sent_of empty_epoch)
-nothing_on = record { packets = refl; interrupts = refl; delivered = tt }
+    (later (all_taken w.near.before) (all_sent w.far.before) w.near.epoch w.far.epoch h.direction.carries (passed w.near.before w.far.before h.passed)))
 
 start_relayed : (g h : Leg) (a b : RecordValue) → IsAtStart g → IsAtStart h → IsRecordOf g a → IsRecordOf h b → RelayedTo (a.taken_before ++ a.taken ∷ []) (b.sent_before ++ b.sent ∷ [])
 start_relayed g h a b s t i k =
@@ -94,7 +98,7 @@ start_relayed g h a b s t i k =
     (sym (ap₂ (λ (ts : List TakenEpoch) (x : TakenEpoch). ts ++ x ∷ []) (i.taken_before ∙ ap (λ (es : List Epoch). all_taken es) s.before) (i.taken ∙ ap (λ (e : Epoch). taken_of e) s.epoch)))
     (subst (λ (ss : List SentEpoch). RelayedTo (taken_of empty_epoch ∷ []) ss)
     (sym (ap₂ (λ (ss : List SentEpoch) (x : SentEpoch). ss ++ x ∷ []) (k.sent_before ∙ ap (λ (es : List Epoch). all_sent es) t.before) (k.sent ∙ ap (λ (e : Epoch). sent_of e) t.epoch)))
-    (both nothing_on none))
+    (confirms_itself (taken_confirmed (taken_of empty_epoch) ∷ [])))
 
 -- ---- a join
 
@@ -181,17 +185,3 @@ joins_relay ls w bs i h p j e = by_pair k.pair
     by_pair : IsPair (w p) (w j.other) j k.other ⊎ (⊥ ⊎ ⊥) → JoinsRecords bs p j.other
     by_pair (inl c) = of_pair c
     by_pair (inr z) = elim z [ inl y ↦ absurd y | inr y ↦ absurd y ]
-
--- ---- matching
-
-pub same_prefix : (t : TakenEpoch) (s : SentEpoch) → IsHandedOn t s → IsPrefixOf (sent_epoch s) (taken_epoch t)
-same_prefix t s h = record {
-  items = record { rest = []; whole = append-nil (all_items s.packets) ∙ ap (λ (ps : List DataPacket). all_items ps) h.packets };
-  interrupts = record { rest = []; whole = append-nil s.interrupts ∙ h.interrupts };
-}
-
-pub relayed_match : MatchLaw
-relayed_match [] [] none = Match.nothing
-relayed_match (t ∷ ts) (s ∷ ss) (both h r) = Match.join (same_prefix t s h) (relayed_match ts ss r)
-relayed_match (t ∷ ts) ss (taken_alone p q r) = Match.skip (relayed_match ts ss r)
-relayed_match ts (s ∷ ss) (sent_alone p q r) = Match.drop_empty (record { items = ap (λ (ps : List DataPacket). all_items ps) p; interrupts = q }) (relayed_match ts ss r)

@@ -3,15 +3,13 @@ use Rattle.std.specs.Prelude.{◌≡◌, ℕ, zero, suc, false, [], ◌∷◌, s
 use Rattle.std.proofs.Common.{refl, subst, arith}
 use Rattle.std.proofs.lemmas.Option.{none-some, same_Some}
 use Rattle.link_timers.specs.declared.role.Role.TheVariants.{Dte, Dce}
-use Rattle.epochs.specs.Epoch.{nothing_sent, nothing_taken}
+use Rattle.epochs.proofs.Confirms.{confirms_itself}
 use Rattle.packet_layer.specs.Layer.{Layer}
 use Rattle.call_records.specs.Book.{made_book}
 use Rattle.switch_lines.specs.Lines.{SwitchLine}
 use Rattle.switch_laws.specs.World.{layers_of}
-use Rattle.switch_laws.specs.Run.{letter, parameters, two_lines, no_calls, configs, new_switch, sabm}
+use Rattle.switch_laws.specs.Run.{parameters, two_lines, no_calls, configs, new_switch, sabm}
 use Rattle.switch_record_laws.specs.Records.{AreRecords}
-use Rattle.switch_record_laws.specs.Relayed.{IsHandedOn}
-use Rattle.switch_record_laws.specs.Relayed.RelayedTo.{none, both}
 use Rattle.switch_record_laws.specs.Run.{books, partners, histories, RunLaw}
 use Rattle.switch_record_laws.specs.Kept.{line_with}
 use Rattle.packet_codec.specs.Address.{MayBeDigits}
@@ -36,12 +34,6 @@ run_begins : (n : ℕ) (l : Layer) → slice_get (layers_of two_lines) n ≡ Som
 run_begins zero l e = subst (λ (y : Layer). AreRecords Dce y (λ c. no_calls (record { line = 0; channel = c })) (books 0)) (same_Some _ _ e) (made_records Dce 2 2 3 9 (λ c. no_calls (record { line = 0; channel = c })))
 run_begins (suc zero) l e = subst (λ (y : Layer). AreRecords Dce y (λ c. no_calls (record { line = 1; channel = c })) (books 1)) (same_Some _ _ e) (made_records Dce 2 2 4 9 (λ c. no_calls (record { line = 1; channel = c })))
 run_begins (suc (suc n)) l e = absurd (none-some l e)
-
-handed : IsHandedOn (record { packets = letter ∷ []; interrupts = []; released = 1 }) (record { packets = letter ∷ []; interrupts = []; covered = 1 })
-handed = record { packets = refl; interrupts = refl; delivered = (λ e. omega arith, tt) }
-
-nothing_handed : IsHandedOn nothing_taken nothing_sent
-nothing_handed = record { packets = refl; interrupts = refl; delivered = tt }
 
 are_params : AreParams parameters
 are_params = record {
@@ -83,5 +75,5 @@ run_holds = record {
   may = (tt, (tt, (tt, (tt, (tt, (tt, (tt, (tt, (tt, (tt, (tt, (tt, (omega arith, (tt, (tt, (tt, (omega arith, (tt, (tt, (tt, tt))))))))))))))))))));
   near_book = refl;
   far_book = refl;
-  relayed = record { there = both handed (both nothing_handed none); back = both nothing_handed (both nothing_handed none) };
+  relayed = record { there = confirms_itself _; back = confirms_itself _ };
 }

@@ -1,11 +1,8 @@
 -- What holds of the books of a switch's lines, whatever its partners send.
-use Rattle.std.specs.Prelude.{◌≡◌, ℕ, false, List, [], map, Some}
+use Rattle.std.specs.Prelude.{◌≡◌, ℕ, false, List, [], Some}
 use Rattle.link_timers.specs.declared.role.Role.{Role}
 use Rattle.link_timers.specs.Role.{other_of}
 use Rattle.link_timers.specs.declared.timers.TimerId.{TimerId}
-use Rattle.epochs.specs.Epoch.{sent_epoch, taken_epoch, SentEpoch, TakenEpoch}
-use Rattle.epochs.specs.Match.{Match}
-use Rattle.epochs.specs.Confirmed.{Confirms, sent_confirmed, taken_confirmed}
 use Rattle.packet_layer.specs.Layer.{Layer, made}
 use Rattle.packet_laws.specs.Readable.{Every, AreOctets}
 use Rattle.call_records.specs.Records.{RecordValue}
@@ -22,7 +19,6 @@ use Rattle.switch_laws.specs.EventSteps.{event_acts}
 use Rattle.switch_laws.specs.Joined.{IsSwitch, Reached}
 use Rattle.switch_record_laws.specs.Records.{AreRecords}
 use Rattle.switch_record_laws.specs.Written.{Books, writes, act_writes, books_after_all, HaveRecords, restarted_books}
-use Rattle.switch_record_laws.specs.Relayed.{RelayedTo}
 use Rattle.switch_record_laws.specs.Rests.{Rests}
 use Rattle.switch_record_laws.specs.Joined.{JoinsRecords}
 
@@ -65,16 +61,6 @@ RestsLaw = (acts : List Act) (ys : List Layer) (bs : Books) (line n : ℕ) (r : 
 abbrev pub JoinsLaw : Type 0
 JoinsLaw = (ls : List SwitchLine) (w : World) (bs : Books) → IsSwitch ls w → HaveRecords (layers_of ls) w bs
     → (p : SwitchChannel) (j : Joined) → joined_at ls p ≡ Some j → JoinsRecords bs p j.other
-
--- what was handed on matches what was taken
-abbrev pub MatchLaw : Type 0
-MatchLaw = (taken : List TakenEpoch) (sent : List SentEpoch) → RelayedTo taken sent
-    → Match (map sent_epoch sent) (map taken_epoch taken)
-
--- and by one such matching what is confirmed on the leg where packets are taken is on the one where they are sent
-abbrev pub ConfirmsLaw : Type 0
-ConfirmsLaw = (taken : List TakenEpoch) (sent : List SentEpoch) → RelayedTo taken sent
-    → Confirms (map sent_confirmed sent) (map taken_confirmed taken)
 
 -- ---- events of a switch
 

