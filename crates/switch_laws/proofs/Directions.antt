@@ -1,38 +1,98 @@
 -- What the switch keeps of a direction stays right when a packet is sent on, covered, released.
-use Rattle.std.proofs.Common.{◌≡◌, ℕ, zero, suc, ◌+◌, ◌-◌, ◌<◌, ◌≤◌, Bool, true, false, if◌then◌else◌, List, [], ◌∷◌, ◌++◌, length, map, take, refl, sym, ap, ap₂, subst, ◌∙◌, append_assoc, length-append, arith, true≢false}
+use Rattle.std.proofs.Common.{◌≡◌, ℕ, zero, suc, ◌+◌, ◌-◌, ◌<◌, ◌≤◌, Bool, true, false, if◌then◌else◌, List, [], ◌∷◌, ◌++◌, length, map, take, refl, sym, ap, ap₂, subst, ◌∙◌, append_assoc, append-nil, length-append, arith, true≢false}
+use Rattle.epochs.specs.Item.{Item, items_of, all_items}
+use Rattle.epochs.proofs.Prefixes.{all_items-append}
 use Rattle.packet_layer.specs.Packets.{Datum}
 use Rattle.switch_lines.specs.Direction.{Direction, new_direction, one_more, carried, covered_by, releasable, unreleasable, released}
-use Rattle.switch_laws.specs.Clause.{TakenPart, SentPart, AreCovered, needs, IsDirection}
+use Rattle.switch_laws.specs.Clause.{Handled, packets_of, made_of, Turned, AreTurned, TakenPart, SentPart, Carries, AreCovered, needs, IsDirection}
 
-needs_append : (c i : ℕ) (xs ys : List Datum) → needs c i (xs ++ ys) ≡ needs c i xs ++ needs c (i + length xs) ys
+-- ---- packets that were handled
+
+pub packets_append : (xs ys : List Handled) → packets_of (xs ++ ys) ≡ packets_of xs ++ packets_of ys
+packets_append [] ys = refl
+packets_append (x ∷ xs) ys = ap (λ ds. x.packet ∷ ds) (packets_append xs ys)
+
+packets_length : (hs : List Handled) → length (packets_of hs) ≡ length hs
+packets_length [] = refl
+packets_length (h ∷ hs) = ap (λ (n : ℕ). suc n) (packets_length hs)
+
+pub made_append : (xs ys : List Handled) → made_of (xs ++ ys) ≡ made_of xs ++ made_of ys
+made_append [] ys = refl
+made_append (x ∷ xs) ys = ap (λ ds. x.made ++ ds) (made_append xs ys) ∙ sym (append_assoc x.made (made_of xs) (made_of ys))
+
+made_length : (xs ys : List Handled) → length (made_of (xs ++ ys)) ≡ length (made_of xs) + length (made_of ys)
+made_length xs ys = ap (λ (ds : List Datum). length ds) (made_append xs ys) ∙ length-append (made_of xs) (made_of ys)
+
+-- no item is lost, and none is made
+turned_items : (before : List Item) (hs : List Handled) (after : List Item) → AreTurned before hs after → before ++ all_items (packets_of hs) ≡ all_items (made_of hs) ++ after
+turned_items before [] after t = append-nil before ∙ t
+turned_items before (h ∷ hs) after t =
+    sym (append_assoc before (items_of h.packet) (all_items (packets_of hs))) ∙ ap (λ is. is ++ all_items (packets_of hs)) t.1.items
+    ∙ append_assoc (all_items h.made) t.0 (all_items (packets_of hs)) ∙ ap (λ is. all_items h.made ++ is) (turned_items t.0 hs after t.2)
+    ∙ sym (append_assoc (all_items h.made) (all_items (made_of hs)) after) ∙ ap (λ is. is ++ after) (sym (all_items-append h.made (made_of hs)))
+
+pub carried_items : (n : TakenPart) (f : SentPart) (left : List Item) → Carries n f left → all_items n.packets ≡ all_items f.packets ++ left
+carried_items n f left c =
+    ap (λ (ds : List Datum). all_items ds) (sym c.taken) ∙ turned_items [] (c.out ++ c.kept) left c.turned ∙ ap (λ (ds : List Datum). all_items ds ++ left) c.made
+
+turned_more : (before : List Item) (hs : List Handled) (h : Handled) (between after : List Item) → AreTurned before hs between → Turned between h after → AreTurned before (hs ++ h ∷ []) after
+turned_more before [] h between after e t = (after, subst (λ (is : List Item). Turned is h after) (sym e) t, refl)
+turned_more before (x ∷ hs) h between after e t = (e.0, e.1, turned_more e.0 hs h between after e.2 t)
+
+itself : (d : Datum) → Turned [] (record { packet = d; made = d ∷ [] }) []
+itself d = record {
+  items = sym (append-nil (items_of d)) ∙ sym (append-nil (items_of d ++ []));
+  delivery = λ e. (refl, record { front = []; last = d; parts = refl; delivery = e });
+}
+
+taken_length : (n : TakenPart) (f : SentPart) (left : List Item) → (c : Carries n f left) → length c.out + length c.kept ≡ length n.packets
+taken_length n f left c = sym (length-append c.out c.kept) ∙ sym (packets_length (c.out ++ c.kept)) ∙ ap (λ (l : List Datum). length l) c.taken
+
+-- nothing that was taken makes nothing due
+pub none_made : (n : TakenPart) (f : SentPart) (left : List Item) → Carries n f left → n.packets ≡ [] → f.packets ≡ []
+none_made n f left c none = sym c.made ∙ ap made_of (nothing (c.out ++ c.kept) (c.taken ∙ none))
+  where
+    nothing : (hs : List Handled) → packets_of hs ≡ [] → hs ≡ []
+    nothing [] e = refl
+    nothing (h ∷ hs) e = cc
+
+-- ---- what is to be covered
+
+needs_append : (c i : ℕ) (xs ys : List Handled) → needs c i (xs ++ ys) ≡ needs c i xs ++ needs c (i + length (made_of xs)) ys
 needs_append c i [] ys = let same : i ≡ i + 0 = omega arith in ap (λ (k : ℕ). needs c k ys) same
 needs_append c i (x ∷ xs) ys =
-    let same : suc i + length xs ≡ i + suc (length xs) = omega arith in
-    ap (λ l. (if x.delivery then suc i - c else 0) ∷ l) (needs_append c (suc i) xs ys ∙ ap (λ k. needs c (suc i) xs ++ needs c k ys) same)
+    let size = length-append x.made (made_of xs) in
+    let same : i + length x.made + length (made_of xs) ≡ i + length (x.made ++ made_of xs) = omega arith in
+    ap (λ l. (if x.packet.delivery then i + length x.made - c else 0) ∷ l) (needs_append c (i + length x.made) xs ys ∙ ap (λ k. needs c (i + length x.made) xs ++ needs c k ys) same)
 
-less_again : (b : Bool) (i c n : ℕ) → (if b then suc i - c else 0) - n ≡ (if b then suc i - (c + n) else 0)
-less_again true i c n = omega arith
-less_again false i c n = omega arith
+needs_length : (c i : ℕ) (hs : List Handled) → length (needs c i hs) ≡ length hs
+needs_length c i [] = refl
+needs_length c i (h ∷ hs) = ap (λ (n : ℕ). suc n) (needs_length c (i + length h.made) hs)
 
-needs_covered : (n c i : ℕ) (xs : List Datum) → map (λ h. h - n) (needs c i xs) ≡ needs (c + n) i xs
+less_again : (b : Bool) (p c n : ℕ) → (if b then p - c else 0) - n ≡ (if b then p - (c + n) else 0)
+less_again true p c n = omega arith
+less_again false p c n = omega arith
+
+needs_covered : (n c i : ℕ) (xs : List Handled) → map (λ h. h - n) (needs c i xs) ≡ needs (c + n) i xs
 needs_covered n c i [] = refl
-needs_covered n c i (x ∷ xs) = ap₂ (λ (h : ℕ) (l : List ℕ). h ∷ l) (less_again x.delivery i c n) (needs_covered n c (suc i) xs)
+needs_covered n c i (x ∷ xs) = ap₂ (λ (h : ℕ) (l : List ℕ). h ∷ l) (less_again x.packet.delivery (i + length x.made) c n) (needs_covered n c (i + length x.made) xs)
 
-covered_more : (n c i : ℕ) (xs : List Datum) → AreCovered c i xs → AreCovered (c + n) i xs
+covered_more : (n c i : ℕ) (xs : List Handled) → AreCovered c i xs → AreCovered (c + n) i xs
 covered_more n c i [] a = tt
-covered_more n c i (x ∷ xs) a = (λ m. let lt = a.0 m in omega arith, covered_more n c (suc i) xs a.1)
+covered_more n c i (x ∷ xs) a = (λ m. let le = a.0 m in omega arith, covered_more n c (i + length x.made) xs a.1)
 
-covered_append : (c i : ℕ) (xs ys : List Datum) → AreCovered c i xs → AreCovered c (i + length xs) ys → AreCovered c i (xs ++ ys)
+covered_append : (c i : ℕ) (xs ys : List Handled) → AreCovered c i xs → AreCovered c (i + length (made_of xs)) ys → AreCovered c i (xs ++ ys)
 covered_append c i [] ys a b = let same : i + 0 ≡ i = omega arith in subst (λ (k : ℕ). AreCovered c k ys) same b
 covered_append c i (x ∷ xs) ys a b =
-    let same : i + suc (length xs) ≡ suc i + length xs = omega arith in
-    (a.0, covered_append c (suc i) xs ys a.1 (subst (λ (k : ℕ). AreCovered c k ys) same b))
+    let size = length-append x.made (made_of xs) in
+    let same : i + length (x.made ++ made_of xs) ≡ i + length x.made + length (made_of xs) = omega arith in
+    (a.0, covered_append c (i + length x.made) xs ys a.1 (subst (λ (k : ℕ). AreCovered c k ys) same b))
 
 -- ---- nothing yet
 
 pub direction_begins : IsDirection new_direction (record { packets = []; interrupts = []; released = 0 }) (record { packets = []; interrupts = []; covered = 0 })
 direction_begins = record {
-  carries = record { packets = refl; interrupts = refl; out = []; kept = []; parts = refl; released = refl; covered = tt };
+  carries = record { out = []; kept = []; taken = refl; made = refl; turned = refl; interrupts = refl; released = refl; covered = tt; packets = refl };
   outstanding = refl;
   held = refl;
 }
@@ -44,7 +104,7 @@ pub direction_interrupts : (octets : List ℕ) (v : Direction) (n : TakenPart) (
 direction_interrupts octets v n f i =
     let k = i.carries in
     record {
-      carries = record { packets = k.packets; interrupts = ap (λ (l : List (List ℕ)). l ++ octets ∷ []) k.interrupts; out = k.out; kept = k.kept; parts = k.parts; released = k.released; covered = k.covered };
+      carries = record { out = k.out; kept = k.kept; taken = k.taken; made = k.made; turned = k.turned; interrupts = ap (λ (l : List (List ℕ)). l ++ octets ∷ []) k.interrupts; released = k.released; covered = k.covered; packets = k.packets };
       outstanding = i.outstanding;
       held = i.held;
     }
@@ -55,10 +115,6 @@ kept_whole zero [] le = refl
 kept_whole zero (h ∷ hs) le = absurd (omega arith)
 kept_whole (suc n) [] le = refl
 kept_whole (suc n) (h ∷ hs) le = ap (λ ks. h ∷ ks) (kept_whole n hs (omega arith))
-
-needs_length : (c i : ℕ) (ds : List Datum) → length (needs c i ds) ≡ length ds
-needs_length c i [] = refl
-needs_length c i (d ∷ ds) = ap (λ (n : ℕ). suc n) (needs_length c (suc i) ds)
 
 carried_whole : (delivery : Bool) (v : Direction) → length v.held < 7 → v.outstanding < 255 →
     carried delivery v ≡ record { held = v.held ++ (if delivery then v.outstanding + 1 else 0) ∷ []; outstanding = v.outstanding + 1 }
@@ -74,25 +130,34 @@ carries_more : (d : Datum) (v : Direction) (n : TakenPart) (f : SentPart) → Is
     (record n { packets = n.packets ++ d ∷ [] }) (record f { packets = f.packets ++ d ∷ [] })
 carries_more d v n f i =
     let k = i.carries in
+    let h : Handled = record { packet = d; made = d ∷ [] } in
     let more = length-append f.packets (d ∷ []) in
-    let whole : length k.out + length k.kept ≡ length n.packets = sym (length-append k.out k.kept) ∙ ap (λ (l : List Datum). length l) k.parts in
-    let sent : length f.packets ≡ length n.packets = ap (λ (l : List Datum). length l) k.packets in
-    let out = k.released in
+    let sent : length (made_of k.out) + length (made_of k.kept) ≡ length f.packets = sym (made_length k.out k.kept) ∙ ap (λ (l : List Datum). length l) k.made in
     let left = i.outstanding in
-    let place : v.outstanding + 1 ≡ suc (n.released + length k.kept) - f.covered = omega arith in
+    let place : v.outstanding + 1 ≡ length (made_of k.out) + length (made_of k.kept) + 1 - f.covered = omega arith in
+    let whole : (k.out ++ k.kept) ++ h ∷ [] ≡ k.out ++ (k.kept ++ h ∷ []) = append_assoc k.out k.kept (h ∷ []) in
     record {
-      carries = record { packets = ap (λ (l : List Datum). l ++ d ∷ []) k.packets; interrupts = k.interrupts; out = k.out; kept = k.kept ++ d ∷ []; parts = sym (append_assoc k.out k.kept (d ∷ [])) ∙ ap (λ (l : List Datum). l ++ d ∷ []) k.parts; released = k.released; covered = k.covered };
+      carries = record {
+        out = k.out;
+        kept = k.kept ++ h ∷ [];
+        taken = ap packets_of (sym whole) ∙ packets_append (k.out ++ k.kept) (h ∷ []) ∙ ap (λ (l : List Datum). l ++ d ∷ []) k.taken;
+        made = ap made_of (sym whole) ∙ made_append (k.out ++ k.kept) (h ∷ []) ∙ ap (λ (l : List Datum). l ++ d ∷ []) k.made;
+        turned = subst (λ (hs : List Handled). AreTurned [] hs []) whole (turned_more [] (k.out ++ k.kept) h [] [] k.turned (itself d));
+        interrupts = k.interrupts;
+        released = k.released;
+        covered = k.covered;
+        packets = ap (λ (l : List Datum). l ++ d ∷ []) k.packets;
+      };
       outstanding = omega arith;
-      held = ap₂ (λ (hs : List ℕ) (p : ℕ). hs ++ (if d.delivery then p else 0) ∷ []) i.held place ∙ sym (needs_append f.covered n.released k.kept (d ∷ []));
+      held = ap₂ (λ (hs : List ℕ) (p : ℕ). hs ++ (if d.delivery then p else 0) ∷ []) i.held place ∙ sym (needs_append f.covered (length (made_of k.out)) k.kept (h ∷ []));
     }
 
 pub direction_carries : (d : Datum) (v : Direction) (n : TakenPart) (f : SentPart) → length n.packets < n.released + 7
     → length f.packets < f.covered + 255 → IsDirection v n f
     → IsDirection (carried d.delivery v) (record n { packets = n.packets ++ d ∷ [] }) (record f { packets = f.packets ++ d ∷ [] })
 direction_carries d v n f few less i =
-    let size : length v.held ≡ length i.carries.kept = ap (λ (hs : List ℕ). length hs) i.held ∙ needs_length f.covered n.released i.carries.kept in
-    let whole : length i.carries.out + length i.carries.kept ≡ length n.packets =
-    sym (length-append i.carries.out i.carries.kept) ∙ ap (λ (l : List Datum). length l) i.carries.parts in
+    let size : length v.held ≡ length i.carries.kept = ap (λ (hs : List ℕ). length hs) i.held ∙ needs_length f.covered (length (made_of i.carries.out)) i.carries.kept in
+    let whole = taken_length n f [] i.carries in
     let out = i.carries.released in
     let left = i.outstanding in
     subst (λ (w : Direction). IsDirection w (record n { packets = n.packets ++ d ∷ [] }) (record f { packets = f.packets ++ d ∷ [] }))
@@ -106,74 +171,81 @@ direction_covered more v n f le i =
     let k = i.carries in
     let left = i.outstanding in
     record {
-      carries = record { packets = k.packets; interrupts = k.interrupts; out = k.out; kept = k.kept; parts = k.parts; released = k.released; covered = covered_more more f.covered 0 k.out k.covered };
+      carries = record { out = k.out; kept = k.kept; taken = k.taken; made = k.made; turned = k.turned; interrupts = k.interrupts; released = k.released; covered = covered_more more f.covered 0 k.out k.covered; packets = k.packets };
       outstanding = omega arith;
-      held = ap (λ (l : List ℕ). map (λ h. h - more) l) i.held ∙ needs_covered more f.covered n.released k.kept;
+      held = ap (λ (l : List ℕ). map (λ h. h - more) l) i.held ∙ needs_covered more f.covered (length (made_of k.out)) k.kept;
     }
 
 -- ---- released
 
 -- the first packets of those kept, which may be released, and the others
-record Split (c i : ℕ) (kept : List Datum) (hs : List ℕ) : Type 0 where
-  first : List Datum
-  rest : List Datum
+record Split (c i : ℕ) (kept : List Handled) (hs : List ℕ) : Type 0 where
+  first : List Handled
+  rest : List Handled
   parts : first ++ rest ≡ kept
   count : releasable hs ≡ length first
   covered : AreCovered c i first
-  left : unreleasable hs ≡ needs c (i + length first) rest
+  left : unreleasable hs ≡ needs c (i + length (made_of first)) rest
 
-due : (b : Bool) (i c : ℕ) → (if b then suc i - c else 0) ≡ 0 → b ≡ true → i < c
-due true i c e m = omega arith
-due false i c e m = absurd (true≢false (sym m))
+due : (b : Bool) (p c : ℕ) → (if b then p - c else 0) ≡ 0 → b ≡ true → p ≤ c
+due true p c e m = omega arith
+due false p c e m = absurd (true≢false (sym m))
 
-split_head : (c i : ℕ) (d : Datum) (ds : List Datum) (h : ℕ) → (if d.delivery then suc i - c else 0) ≡ h → Split c (suc i) ds (needs c (suc i) ds)
-    → Split c i (d ∷ ds) (h ∷ needs c (suc i) ds)
-split_head c i d ds zero e s =
-    let same : suc i + length s.first ≡ i + suc (length s.first) = omega arith in
+split_head : (c i : ℕ) (x : Handled) (xs : List Handled) (h : ℕ) → (if x.packet.delivery then i + length x.made - c else 0) ≡ h → Split c (i + length x.made) xs (needs c (i + length x.made) xs)
+    → Split c i (x ∷ xs) (h ∷ needs c (i + length x.made) xs)
+split_head c i x xs zero e s =
+    let size = length-append x.made (made_of s.first) in
+    let same : i + length x.made + length (made_of s.first) ≡ i + length (x.made ++ made_of s.first) = omega arith in
     record {
-      first = d ∷ s.first;
+      first = x ∷ s.first;
       rest = s.rest;
-      parts = ap (λ (l : List Datum). d ∷ l) s.parts;
+      parts = ap (λ (l : List Handled). x ∷ l) s.parts;
       count = ap (λ (k : ℕ). suc k) s.count;
-      covered = (due d.delivery i c e, s.covered);
+      covered = (due x.packet.delivery (i + length x.made) c e, s.covered);
       left = s.left ∙ ap (λ (k : ℕ). needs c k s.rest) same;
     }
-split_head c i d ds (suc h) e s =
+split_head c i x xs (suc h) e s =
     let same : i ≡ i + 0 = omega arith in
     record {
       first = [];
-      rest = d ∷ ds;
+      rest = x ∷ xs;
       parts = refl;
       count = refl;
       covered = tt;
-      left = ap (λ (k : ℕ). k ∷ needs c (suc i) ds) (sym e) ∙ ap (λ (k : ℕ). needs c k (d ∷ ds)) same;
+      left = ap (λ (k : ℕ). k ∷ needs c (i + length x.made) xs) (sym e) ∙ ap (λ (k : ℕ). needs c k (x ∷ xs)) same;
     }
 
-split : (c i : ℕ) (ds : List Datum) → Split c i ds (needs c i ds)
+split : (c i : ℕ) (hs : List Handled) → Split c i hs (needs c i hs)
 split c i [] = record { first = []; rest = []; parts = refl; count = refl; covered = tt; left = refl }
-split c i (d ∷ ds) = split_head c i d ds _ refl (split c (suc i) ds)
+split c i (x ∷ xs) = split_head c i x xs _ refl (split c (i + length x.made) xs)
 
 pub direction_released : (v : Direction) (n : TakenPart) (f : SentPart) → IsDirection v n f
     → IsDirection (released v) (record n { released = n.released + releasable v.held }) f
 direction_released v n f i =
     let k = i.carries in
-    let s : Split f.covered n.released k.kept v.held = subst (λ (hs : List ℕ). Split f.covered n.released k.kept hs) (sym i.held) (split f.covered n.released k.kept) in
+    let place = length (made_of k.out) in
+    let s : Split f.covered place k.kept v.held = subst (λ (hs : List ℕ). Split f.covered place k.kept hs) (sym i.held) (split f.covered place k.kept) in
     let some = s.count in
     let out = k.released in
     let more = length-append k.out s.first in
-    let same : n.released + length s.first ≡ n.released + releasable v.held = omega arith in
+    let size = made_length k.out s.first in
+    let first : place ≡ 0 + place = omega arith in
+    let next : place + length (made_of s.first) ≡ length (made_of (k.out ++ s.first)) = omega arith in
+    let whole : (k.out ++ s.first) ++ s.rest ≡ k.out ++ k.kept = append_assoc k.out s.first s.rest ∙ ap (λ (l : List Handled). k.out ++ l) s.parts in
     record {
       carries = record {
-        packets = k.packets;
-        interrupts = k.interrupts;
         out = k.out ++ s.first;
         kept = s.rest;
-        parts = append_assoc k.out s.first s.rest ∙ (ap (λ (l : List Datum). k.out ++ l) s.parts ∙ k.parts);
+        taken = ap packets_of whole ∙ k.taken;
+        made = ap made_of whole ∙ k.made;
+        turned = subst (λ (hs : List Handled). AreTurned [] hs []) (sym whole) k.turned;
+        interrupts = k.interrupts;
         released = omega arith;
-        covered = covered_append f.covered 0 k.out s.first k.covered (subst (λ (j : ℕ). AreCovered f.covered j s.first) (out ∙ omega arith) s.covered);
+        covered = covered_append f.covered 0 k.out s.first k.covered (subst (λ (j : ℕ). AreCovered f.covered j s.first) first s.covered);
+        packets = k.packets;
       };
       outstanding = i.outstanding;
-      held = s.left ∙ ap (λ (j : ℕ). needs f.covered j s.rest) same;
+      held = s.left ∙ ap (λ (j : ℕ). needs f.covered j s.rest) next;
     }
 
 -- no more may be released than was taken and is not released
@@ -181,7 +253,7 @@ pub releasable_within : (v : Direction) (n : TakenPart) (f : SentPart) → IsDir
 releasable_within v n f i =
     let k = (direction_released v n f i).carries in
     let out : n.released + releasable v.held ≡ length k.out = k.released in
-    let whole : length k.out + length k.kept ≡ length n.packets = sym (length-append k.out k.kept) ∙ ap (λ (l : List Datum). length l) k.parts in
+    let whole = taken_length (record n { released = n.released + releasable v.held }) f [] k in
     omega arith
 
 pub releasable_none : (hs : List ℕ) → releasable (unreleasable hs) ≡ 0

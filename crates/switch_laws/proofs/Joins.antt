@@ -1,5 +1,5 @@
 -- Both directions of a join: what is relayed, asked and given on one leg keeps both clauses.
-use Rattle.std.proofs.Common.{◌≡◌, ℕ, ◌≤◌, Bool, true, false, List, Option, None, refl, sym, ap, subst, ◌∙◌, is_some, not}
+use Rattle.std.proofs.Common.{◌≡◌, ℕ, ◌≤◌, Bool, true, false, List, [], Option, None, refl, sym, ap, subst, ◌∙◌, is_some, not}
 use Rattle.link_timers.specs.declared.role.Role.{Role}
 use Rattle.packet_layer.specs.Packets.{Body}
 use Rattle.packet_layer.specs.Traffic.{Traffic, front, fresh, interrupt_pending}
@@ -8,10 +8,10 @@ use Rattle.packet_layer.specs.Channel.Request.{Resetting}
 use Rattle.packet_laws.specs.History.{Epoch, empty_epoch}
 use Rattle.switch_lines.specs.Direction.{new_direction}
 use Rattle.switch_laws.specs.Leg.{Leg, asked, asked_unless, connected, gave}
-use Rattle.switch_laws.specs.Clause.{Passed, IsDirection, taken_part, sent_part}
+use Rattle.switch_laws.specs.Clause.{Carries, Passed, IsDirection, taken_part, sent_part}
 use Rattle.switch_laws.specs.Way.{Way, IsRight, IsStuck, relayed}
 use Rattle.switch_laws.specs.Join.{Join, IsJoin, IsAtRest, turned, way, relayed_there, relayed_both, gives}
-use Rattle.switch_laws.proofs.Directions.{direction_begins}
+use Rattle.switch_laws.proofs.Directions.{direction_begins, none_made}
 use Rattle.switch_laws.proofs.Legs.{Gives, leg_gave, leg_anew, leg_connected, anew}
 use Rattle.switch_laws.proofs.Ways.{near_seen, far_seen, right_beside, relayed_right, relayed_beside, relayed_stuck, same_refusal, KeepsFar}
 
@@ -91,8 +91,6 @@ alone r owed j e i =
     let leg = leg_anew r owed j.b i.there.holds.far in
     let none_taken = ap (λ (x : Epoch). x.taken) epoch in
     let no_interrupts_taken = ap (λ (x : Epoch). x.interrupts_taken) epoch in
-    let none_sent = ap (λ (x : Epoch). x.sent) epoch in
-    let no_interrupts_sent = ap (λ (x : Epoch). x.interrupts_sent) epoch in
     let there = i.there.holds.direction.carries in
     let back = i.back.holds.direction.carries in
     record {
@@ -102,7 +100,7 @@ alone r owed j e i =
           far = leg;
           near_call = i.there.holds.near_call;
           far_call = i.there.holds.far_call;
-          passed = Passed.far_alone (there.packets ∙ none_taken) (there.interrupts ∙ no_interrupts_taken) i.there.holds.passed;
+          passed = Passed.far_alone (none_made (taken_part a.epoch) (sent_part j.b.epoch) [] there none_taken) (there.interrupts ∙ no_interrupts_taken) i.there.holds.passed;
           direction = subst (λ (x : Epoch). IsDirection new_direction (taken_part x) (sent_part empty_epoch)) (sym epoch) direction_begins;
           interrupted = ap (λ (t : Traffic). t.interrupt_taken) traffic;
         };
@@ -114,7 +112,7 @@ alone r owed j e i =
           far = ia;
           near_call = i.there.holds.far_call;
           far_call = i.there.holds.near_call;
-          passed = Passed.near_alone (sym back.packets ∙ none_sent) (sym back.interrupts ∙ no_interrupts_sent) i.back.holds.passed;
+          passed = Passed.near_alone (subst (λ (x : Epoch). Carries (taken_part j.b.epoch) (sent_part x) []) epoch back) i.back.holds.passed;
           direction = subst (λ (x : Epoch). IsDirection new_direction (taken_part empty_epoch) (sent_part x)) (sym epoch) direction_begins;
           interrupted = sym (ap (λ (t : Traffic). interrupt_pending t) traffic);
         };

@@ -1,8 +1,9 @@
 -- One direction of a join: the clause stays over all that the switch relays and releases, and 8 moves leave nothing.
-use Rattle.std.proofs.Common.{◌≡◌, ℕ, zero, suc, ◌+◌, ◌≤◌, ◌<◌, Bool, true, false, cond, if◌then◌else◌, not, List, [], ◌∷◌, length, length-append, Option, Some, None, is_some, refl, sym, ap, subst, ◌∙◌, arith, true≢false, nat_le, nat_lt, ◌||◌, ◌==◌}
+use Rattle.std.proofs.Common.{◌≡◌, ℕ, zero, suc, ◌+◌, ◌≤◌, ◌<◌, Bool, true, false, cond, if◌then◌else◌, not, List, [], ◌∷◌, ◌++◌, length, length-append, append-nil, Option, Some, None, is_some, refl, sym, ap, subst, ◌∙◌, arith, true≢false, nat_le, nat_lt, ◌||◌, ◌==◌}
 use Rattle.std.proofs.lemmas.Bool.{leb-false}
 use Rattle.std.proofs.lemmas.Option.{none-some, same_Some}
 use Rattle.link_timers.specs.declared.role.Role.{Role}
+use Rattle.epochs.specs.Item.{all_items}
 use Rattle.packet_layer.specs.Packets.{Datum}
 use Rattle.packet_layer.specs.Traffic.{Taken, front, front_of, may_release, releasing, interrupt_pending}
 use Rattle.packet_layer.specs.Traffic.Taken.{TakenInterrupt, TakenPacket}
@@ -14,7 +15,7 @@ use Rattle.switch_lines.specs.Direction.{Direction, releasable, released, carrie
 use Rattle.switch_laws.specs.Leg.{Leg, IsLeg, asked, asked_unless}
 use Rattle.switch_laws.specs.Clause.{TakenPart, SentPart, taken_part, sent_part, Passed, IsDirection}
 use Rattle.switch_laws.specs.Way.{Way, Holds, IsRight, IsStuck, freed, moved, moved_front, moved_unless, relayed}
-use Rattle.switch_laws.proofs.Directions.{direction_interrupts, direction_carries, direction_released, releasable_within, releasable_none}
+use Rattle.switch_laws.proofs.Directions.{carried_items, direction_interrupts, direction_carries, direction_released, releasable_within, releasable_none}
 use Rattle.switch_laws.proofs.Legs.{not_refused, none_of_or, asked_as, taking_allowed, releasing_allowed, release_allowed, arrived_within, leg_taken, leg_released, leg_sent, leg_interrupted}
 
 -- ---- what a direction sees of its two legs
@@ -58,6 +59,11 @@ holds_beside g h w ig ih n f l =
 
 pub right_beside : (g h : Leg) (w : Way) → IsLeg g → IsLeg h → near_seen g ≡ near_seen w.near → far_seen h ≡ far_seen w.far → IsRight w → IsRight (record w { near = g; far = h })
 right_beside g h w ig ih n f r = record { holds = holds_beside g h w ig ih n f r.holds; all_released = r.all_released }
+
+-- ---- what was sent is what was taken
+
+pub same_items : (w : Way) → Holds w → all_items w.far.epoch.sent ≡ all_items w.near.epoch.taken
+same_items w h = sym (carried_items (taken_part w.near.epoch) (sent_part w.far.epoch) [] h.direction.carries ∙ append-nil (all_items w.far.epoch.sent))
 
 -- ---- released
 

@@ -1,9 +1,45 @@
--- The clause of the relay: what a switch sent on one leg is what it took on the other one, and nothing that was to be
--- delivered is released before it was.
-use Rattle.std.specs.Prelude.{◌≡◌, ℕ, suc, ◌+◌, ◌-◌, ◌<◌, true, if◌then◌else◌, List, [], ◌∷◌, ◌++◌, length}
+-- The clause of the relay: what a switch sent on one leg comes, item by item, of what it took on the other one, and
+-- nothing that was to be delivered is released before it was.
+use Rattle.std.specs.Prelude.{◌≡◌, ℕ, ◌+◌, ◌-◌, ◌≤◌, true, if◌then◌else◌, List, [], ◌∷◌, ◌++◌, length}
+use Rattle.epochs.specs.Item.{Item, items_of, all_items}
 use Rattle.packet_layer.specs.Packets.{Datum}
 use Rattle.packet_laws.specs.History.{Epoch}
 use Rattle.switch_lines.specs.Direction.{Direction}
+
+-- ---- a packet, and what it made due
+
+-- a packet that was taken on the near leg, and the packets that it made due on the far leg
+pub record Handled : Type 0 where
+  pub packet : Datum
+  pub made : List Datum
+
+abbrev pub packets_of : List Handled → List Datum
+packets_of [] = []
+packets_of (h ∷ hs) = h.packet ∷ packets_of hs
+
+abbrev pub made_of : List Handled → List Datum
+made_of [] = []
+made_of (h ∷ hs) = h.made ++ made_of hs
+
+-- the last of these packets has D = 1
+pub record EndsWithDelivery (ds : List Datum) : Type 0 where
+  pub front : List Datum
+  pub last : Datum
+  pub parts : front ++ last ∷ [] ≡ ds
+  pub delivery : last.delivery ≡ true
+
+-- the items that were left over before, and those of the packet, are in the packets that it made due or left over after
+-- it; if it has D = 1, none is left over, and the last packet that it made due has D = 1
+pub record Turned (before : List Item) (h : Handled) (after : List Item) : Type 0 where
+  pub items : before ++ items_of h.packet ≡ all_items h.made ++ after
+  pub delivery : h.packet.delivery ≡ true → (after ≡ []) × EndsWithDelivery h.made
+
+-- so it is of each of these packets, in turn
+abbrev pub AreTurned : (before : List Item) → List Handled → (after : List Item) → Type 0
+AreTurned before [] after = before ≡ after
+AreTurned before (h ∷ hs) after = (between : List Item) × Turned before h between × AreTurned between hs after
+
+-- ---- epochs
 
 -- what was taken in an epoch, and how many of the packets were released
 pub record TakenPart : Type 0 where
@@ -17,45 +53,55 @@ pub record SentPart : Type 0 where
   pub interrupts : List (List ℕ)
   pub covered : ℕ
 
+abbrev pub nothing_sent : SentPart
+nothing_sent = record { packets = []; interrupts = []; covered = 0 }
+
 abbrev pub taken_part : Epoch → TakenPart
 taken_part e = record { packets = e.taken; interrupts = e.interrupts_taken; released = e.released }
 
 abbrev pub sent_part : Epoch → SentPart
 sent_part e = record { packets = e.sent; interrupts = e.interrupts_sent; covered = e.covered }
 
--- each packet with D = 1 is among the first `count`; the first one of the list has this place
-abbrev pub AreCovered : (count place : ℕ) → List Datum → Type 0
-AreCovered count place [] = Unit {0}
-AreCovered count place (d ∷ ds) = (d.delivery ≡ true → place < count) × AreCovered count (suc place) ds
+-- what each packet with D = 1 made due is among the first `count`; `before` packets stand before what the first one
+-- made due
+abbrev pub AreCovered : (count before : ℕ) → List Handled → Type 0
+AreCovered count before [] = Unit {0}
+AreCovered count before (h ∷ hs) =
+    (h.packet.delivery ≡ true → before + length h.made ≤ count) × AreCovered count (before + length h.made) hs
 
--- packets (with M, Q and D) and interrupts are the same; those released are the first ones, and each of them with D = 1
--- was covered on the far leg
-pub record Carries (near : TakenPart) (far : SentPart) : Type 0 where
-  pub packets : far.packets ≡ near.packets
+-- what was taken made due what was sent, and these items are left over; the packets released are the first ones, and
+-- what each of them with D = 1 made due was covered on the far leg; interrupts are the same
+pub record Carries (near : TakenPart) (far : SentPart) (left : List Item) : Type 0 where
+  pub out : List Handled
+  pub kept : List Handled
+  pub taken : packets_of (out ++ kept) ≡ near.packets
+  pub made : made_of (out ++ kept) ≡ far.packets
+  pub turned : AreTurned [] (out ++ kept) left
   pub interrupts : far.interrupts ≡ near.interrupts
-  pub out : List Datum
-  pub kept : List Datum
-  pub parts : out ++ kept ≡ near.packets
   pub released : near.released ≡ length out
   pub covered : AreCovered far.covered 0 out
+  -- lines have one size: each packet makes itself due, with M, Q and D
+  pub packets : far.packets ≡ near.packets
 
--- past epochs of the two legs, the latest first: they carry each other in pairs, and one without a partner has nothing
+-- past epochs of the two legs, the latest first: they carry each other in pairs, whatever is left over; nothing was
+-- sent of a near one without a partner, and a far one without a partner has nothing
 pub data Passed : (near far : List Epoch) → Type 0 where
   none : Passed [] []
-  both : {n f : Epoch} {ns fs : List Epoch} → Carries (taken_part n) (sent_part f) → Passed ns fs
-      → Passed (n ∷ ns) (f ∷ fs)
-  near_alone : {n : Epoch} {ns fs : List Epoch} → n.taken ≡ [] → n.interrupts_taken ≡ [] → Passed ns fs
-      → Passed (n ∷ ns) fs
+  both : {n f : Epoch} {ns fs : List Epoch} {left : List Item} → Carries (taken_part n) (sent_part f) left
+      → Passed ns fs → Passed (n ∷ ns) (f ∷ fs)
+  near_alone : {n : Epoch} {ns fs : List Epoch} {left : List Item} → Carries (taken_part n) nothing_sent left
+      → Passed ns fs → Passed (n ∷ ns) fs
   far_alone : {f : Epoch} {ns fs : List Epoch} → f.sent ≡ [] → f.interrupts_sent ≡ [] → Passed ns fs
       → Passed ns (f ∷ fs)
 
--- how many more packets have to be covered until each of these is, where it has D = 1
-abbrev pub needs : (covered place : ℕ) → List Datum → List ℕ
-needs c i [] = []
-needs c i (d ∷ ds) = (if d.delivery then suc i - c else 0) ∷ needs c (suc i) ds
+-- how many more packets have to be covered until what each of these made due is, where it has D = 1
+abbrev pub needs : (covered before : ℕ) → List Handled → List ℕ
+needs c before [] = []
+needs c before (h ∷ hs) =
+    (if h.packet.delivery then before + length h.made - c else 0) ∷ needs c (before + length h.made) hs
 
--- what the switch keeps of a direction says what is to be covered
+-- what the switch keeps of a direction says what is to be covered; no item is left over
 pub record IsDirection (v : Direction) (near : TakenPart) (far : SentPart) : Type 0 where
-  pub carries : Carries near far
+  pub carries : Carries near far []
   pub outstanding : v.outstanding + far.covered ≡ length far.packets
-  pub held : v.held ≡ needs far.covered near.released carries.kept
+  pub held : v.held ≡ needs far.covered (length (made_of carries.out)) carries.kept

@@ -2,6 +2,7 @@
 use Rattle.std.specs.Prelude.{◌≡◌, ℕ, ◌≤◌, Bool, true, List, [], ◌∷◌, slice_get, Some, None, is_some}
 use Rattle.link_timers.specs.declared.role.Role.{Role}
 use Rattle.link_timers.specs.declared.timers.TimerId.{TimerId}
+use Rattle.epochs.specs.Item.{all_items}
 use Rattle.packet_layer.specs.Packets.{Body, CallParts}
 use Rattle.packet_layer.specs.Channel.{received, unreadable}
 use Rattle.packet_layer.specs.Channel.CallState.{Transfer}
@@ -28,9 +29,12 @@ use Rattle.switch_laws.specs.Steps.Happening.{Brings, RunsOut}
 use Rattle.switch_laws.specs.EventSteps.{all_relayed_steps, heed_all_steps, event_acts}
 use Rattle.switch_laws.specs.Joined.{IsSwitch, Becomes, HasRelayedAll, HasActed, IsTold, notes_made, has_place}
 
--- one direction: releasing what may be released and relaying keep the clause, and after 8 of them nothing waits that
--- the far leg takes, since no more than 7 packets and an interrupt can wait on the near leg
+-- one direction: item by item what was sent is what was taken, and on lines of one size packet by packet, with M, Q
+-- and D. Releasing what may be released and relaying keep the clause, and after 8 of them nothing waits that the far
+-- leg takes, since no more than 7 packets and an interrupt can wait on the near leg
 pub record RelayLaw : Type 0 where
+  pub items : (w : Way) → Holds w → all_items w.far.epoch.sent ≡ all_items w.near.epoch.taken
+  pub packets : (w : Way) → Holds w → w.far.epoch.sent ≡ w.near.epoch.taken
   pub frees : (w : Way) → Holds w → IsRight (freed w)
   pub moves : (w : Way) → IsRight w → IsRight (moved w)
   pub relays : (most : ℕ) (w : Way) → IsRight w → IsRight (relayed most w)

@@ -1,6 +1,6 @@
 -- Where all lines of a network with one switch are at rest, nothing is missing in its register.
 use Rattle.std.specs.Prelude.{◌≡◌, ℕ, ◌<◌, ◌⊎◌, Bool, true, false, is_some, List, [], length, slice_get, Option, Some, None}
-use Rattle.std.proofs.Common.{inl, inr, refl, sym, ap, ap₂, subst, ◌∙◌, true≢false, option_map}
+use Rattle.std.proofs.Common.{inl, inr, refl, sym, ap, ap₂, subst, ◌∙◌, true≢false, append-nil, option_map}
 use Rattle.std.proofs.lemmas.Option.{same_Some}
 use Rattle.link_timers.specs.declared.role.Role.{Role}
 use Rattle.link_timers.specs.declared.role.Role.TheVariants.{Dte, Dce}
@@ -8,7 +8,7 @@ use Rattle.link_timers.specs.Role.{other_of}
 use Rattle.packet_layer.specs.Channel.{CallState, Channel, had_call, in_transfer, waits_for_call}
 use Rattle.packet_layer.specs.Channel.CallState.{Transfer}
 use Rattle.packet_layer.specs.Layer.{Layer, channel_of}
-use Rattle.epochs.specs.Item.{DataPacket, all_items}
+use Rattle.epochs.specs.Item.{Item, all_items}
 use Rattle.epochs.specs.Epoch.{sent_epoch, taken_epoch}
 use Rattle.packet_laws.specs.History.{Epoch}
 use Rattle.line_laws.specs.Line.{Line}
@@ -36,6 +36,7 @@ use Rattle.switch_laws.specs.Clause.{Carries, taken_part, sent_part}
 use Rattle.switch_laws.specs.Joined.{WaitsFor, IsPair, IsJoinedAt}
 use Rattle.switch_laws.specs.Joined.IsPair.{connected, waiting}
 use Rattle.switch_laws.specs.World.{Shown, shown_at, shown_on, shown_as, Agrees, layers_of}
+use Rattle.switch_laws.proofs.Directions.{carried_items}
 use Rattle.switch_laws.proofs.Lists.{get_map}
 use Rattle.joined_call_laws.specs.Records.{HasRecord, Has, call_on, leg_if, sent_of, taken_of}
 use Rattle.joined_call_laws.specs.Kept.{line_with}
@@ -64,9 +65,10 @@ no_wait : (role : Role) (state : CallState) → waits_for_call role state ≡ tr
 no_wait Dte state h e = true≢false (sym h ∙ ap (λ (x : CallState). waits_for_call Dte x) e)
 no_wait Dce state h e = true≢false (sym h ∙ ap (λ (x : CallState). waits_for_call Dce x) e)
 
--- the epochs that carry each other are one
-same_epoch : (n f : Epoch) → Carries (taken_part n) (sent_part f) → sent_epoch (sent_of f) ≡ taken_epoch (taken_of n)
-same_epoch n f c = ap₂ (λ (ps : List DataPacket) (is : List (List ℕ)). record { items = all_items ps; interrupts = is }) c.packets c.interrupts
+-- the epochs that carry each other are one where nothing is left over
+same_epoch : (n f : Epoch) → Carries (taken_part n) (sent_part f) [] → sent_epoch (sent_of f) ≡ taken_epoch (taken_of n)
+same_epoch n f c =
+    ap₂ (λ (is : List Item) (os : List (List ℕ)). record { items = is; interrupts = os }) (sym (append-nil (all_items f.sent)) ∙ sym (carried_items (taken_part n) (sent_part f) [] c)) c.interrupts
 
 are_connected : (g h : Leg) (j k : Joined) → IsPair g h j k → j.came_in ≡ true → h.channel.state ≡ Transfer → AreConnected g h
 are_connected g h j k (connected c) came in_call = record {

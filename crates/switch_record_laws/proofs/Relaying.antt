@@ -1,15 +1,12 @@
 -- The records of a join, from the clause of the relay.
-use Rattle.std.specs.Prelude.{◌≡◌, ℕ, zero, suc, ◌+◌, ◌<◌, ◌≤◌, ◌⊎◌, Bool, true, false, List, [], ◌∷◌, ◌++◌, map, length, slice_get, Option, Some, None, is_some}
-use Rattle.std.proofs.Common.{inl, inr, refl, sym, ap, ap₂, subst, ◌∙◌, true≢false, append-nil, arith}
+use Rattle.std.specs.Prelude.{◌≡◌, ℕ, ◌⊎◌, Bool, true, false, List, [], ◌∷◌, ◌++◌, map, slice_get, Option, Some, None, is_some}
+use Rattle.std.proofs.Common.{inl, inr, refl, sym, ap, ap₂, subst, ◌∙◌, true≢false, append-nil}
 use Rattle.std.proofs.lemmas.List.{map-append}
-use Rattle.std.proofs.lemmas.Option.{same_Some}
 use Rattle.link_timers.specs.declared.role.Role.{Role}
 use Rattle.link_timers.specs.declared.role.Role.TheVariants.{Dte, Dce}
-use Rattle.epochs.specs.Item.{DataPacket, all_items}
+use Rattle.epochs.specs.Item.{Item, DataPacket, all_items}
 use Rattle.epochs.specs.Epoch.{SentEpoch, TakenEpoch}
-use Rattle.epochs.specs.Confirmed as confirmed
-use Rattle.epochs.specs.Confirmed.{Confirmed, Confirms, confirmed_from, sent_confirmed, taken_confirmed}
-use Rattle.epochs.proofs.Confirming.{relay_confirms}
+use Rattle.epochs.specs.Confirmed.{Confirmed, Confirms, sent_confirmed, taken_confirmed}
 use Rattle.epochs.proofs.Confirms.{confirms_itself, confirms_in_turn}
 use Rattle.packet_layer.specs.Packets.{Datum}
 use Rattle.packet_layer.specs.Channel.{CallState, Channel, had_call, may_accept, waits_for_call}
@@ -21,7 +18,7 @@ use Rattle.switch_lines.specs.declared.channels.SwitchChannel.{SwitchChannel}
 use Rattle.switch_lines.specs.declared.channels.Joined.{Joined}
 use Rattle.switch_lines.specs.Lines.{SwitchLine}
 use Rattle.switch_laws.specs.Leg.{Leg}
-use Rattle.switch_laws.specs.Clause.{Carries, Passed, AreCovered, taken_part, sent_part}
+use Rattle.switch_laws.specs.Clause.{Carries, Passed, taken_part, sent_part}
 use Rattle.switch_laws.specs.Way.{Way, Holds}
 use Rattle.switch_laws.specs.World.{World, Shown, shown_as, shown_on, shown_at, layers_of, IsWorld, IsAtStart, IsCallLeg}
 use Rattle.switch_laws.specs.Joined.{IsPair, IsJoinedAt, WaitsFor}
@@ -33,30 +30,7 @@ use Rattle.switch_record_laws.specs.Written.{Books, HaveRecords}
 use Rattle.switch_record_laws.specs.Relayed.{RelayedTo, AreRelayed}
 use Rattle.switch_record_laws.specs.Joined.{IsPresent, JoinsRecords}
 use Rattle.switch_record_laws.specs.Law.{JoinsLaw}
-
--- ---- one epoch
-
-covered_at : (count place : ℕ) (out kept : List Datum) → AreCovered count place out → (i : ℕ) (d : Datum) → slice_get (out ++ kept) i ≡ Some d → d.delivery ≡ true → i < length out → place + i < count
-covered_at count place [] kept c i d there e less = absurd (omega arith)
-covered_at count place (x ∷ out) kept c zero d there e less = let before = c.0 (ap (λ (y : Datum). y.delivery) (same_Some x d there) ∙ e) in omega arith
-covered_at count place (x ∷ out) kept c (suc i) d there e less = let before = covered_at count (suc place) out kept c.1 i d there e (omega arith) in omega arith
-
-covered : (n f : Epoch) → (c : Carries (taken_part n) (sent_part f)) → (i : ℕ) (d : Datum) → slice_get n.taken i ≡ Some d → d.delivery ≡ true → i < n.released → i < f.covered
-covered n f c i d there e less =
-    let out = c.released in
-    let before = covered_at f.covered 0 c.out c.kept c.covered i d (ap (λ (ds : List Datum). slice_get ds i) c.parts ∙ there) e (omega arith) in
-    omega arith
-
-has_of : (n f : Epoch) → Carries (taken_part n) (sent_part f) → confirmed.Has (sent_confirmed (sent_of f)) (taken_confirmed (taken_of n))
-has_of n f c = record {
-  begins = record {
-    items = record { rest = []; whole = append-nil (all_items f.sent) ∙ ap (λ (ps : List DataPacket). all_items ps) c.packets };
-    interrupts = record { rest = []; whole = append-nil f.interrupts_sent ∙ c.interrupts };
-  };
-  confirmed =
-      subst (λ (ps : List DataPacket). confirmed_from 0 0 n.released n.taken ≤ confirmed_from 0 0 f.covered ps) (sym c.packets)
-      (relay_confirms n.released f.covered n.taken (covered n f c));
-}
+use Rattle.switch_record_laws.proofs.Confirming.{carries_has, none_confirmed}
 
 -- ---- lists
 
@@ -66,19 +40,15 @@ in_turn ts ss us vs r q =
     (subst (λ (cs : List Confirmed). Confirms (map sent_confirmed ss ++ map sent_confirmed vs) cs) (sym (map-append taken_confirmed ts us))
     (confirms_in_turn (map sent_confirmed ss) (map taken_confirmed ts) (map sent_confirmed vs) (map taken_confirmed us) r q))
 
-later : (ts : List TakenEpoch) (ss : List SentEpoch) (n f : Epoch) → Carries (taken_part n) (sent_part f) → RelayedTo ts ss → RelayedTo (ts ++ taken_of n ∷ []) (ss ++ sent_of f ∷ [])
-later ts ss n f c r = in_turn ts ss (taken_of n ∷ []) (sent_of f ∷ []) r (Confirms.join (has_of n f c) Confirms.nothing)
-
-nothing_confirmed : (count : ℕ) (ps : List DataPacket) → ps ≡ [] → confirmed_from 0 0 count ps ≡ 0
-nothing_confirmed zero ps e = refl
-nothing_confirmed (suc count) ps e = ap (λ (qs : List DataPacket). confirmed_from 0 0 (suc count) qs) e
+later : (ts : List TakenEpoch) (ss : List SentEpoch) (n f : Epoch) (left : List Item) → Carries (taken_part n) (sent_part f) left → RelayedTo ts ss → RelayedTo (ts ++ taken_of n ∷ []) (ss ++ sent_of f ∷ [])
+later ts ss n f left c r = in_turn ts ss (taken_of n ∷ []) (sent_of f ∷ []) r (Confirms.join (carries_has n f left c) Confirms.nothing)
 
 passed : (ns fs : List Epoch) → Passed ns fs → RelayedTo (all_taken ns) (all_sent fs)
 passed [] [] Passed.none = Confirms.nothing
-passed (n ∷ ns) (f ∷ fs) (Passed.both c p) = later (all_taken ns) (all_sent fs) n f c (passed ns fs p)
-passed (n ∷ ns) fs (Passed.near_alone a b p) =
+passed (n ∷ ns) (f ∷ fs) (Passed.both {left = left} c p) = later (all_taken ns) (all_sent fs) n f left c (passed ns fs p)
+passed (n ∷ ns) fs (Passed.near_alone {left = left} c p) =
     subst (λ (ss : List SentEpoch). RelayedTo (all_taken ns ++ taken_of n ∷ []) ss) (append-nil (all_sent fs))
-    (in_turn (all_taken ns) (all_sent fs) (taken_of n ∷ []) [] (passed ns fs p) (Confirms.skip (nothing_confirmed n.released n.taken a) Confirms.nothing))
+    (in_turn (all_taken ns) (all_sent fs) (taken_of n ∷ []) [] (passed ns fs p) (Confirms.skip (none_confirmed n left c) Confirms.nothing))
 passed ns (f ∷ fs) (Passed.far_alone a b p) =
     subst (λ (ts : List TakenEpoch). RelayedTo ts (all_sent fs ++ sent_of f ∷ [])) (append-nil (all_taken ns))
     (in_turn (all_taken ns) (all_sent fs) [] (sent_of f ∷ []) (passed ns fs p)
@@ -90,7 +60,7 @@ way_relayed : (w : Way) (a b : RecordValue) → Holds w → IsRecordOf w.near a 
 way_relayed w a b h i k =
     subst (λ (ts : List TakenEpoch). RelayedTo ts (b.sent_before ++ b.sent ∷ [])) (sym (ap₂ (λ (ts : List TakenEpoch) (t : TakenEpoch). ts ++ t ∷ []) i.taken_before i.taken))
     (subst (λ (ss : List SentEpoch). RelayedTo (all_taken w.near.before ++ taken_of w.near.epoch ∷ []) ss) (sym (ap₂ (λ (ss : List SentEpoch) (s : SentEpoch). ss ++ s ∷ []) k.sent_before k.sent))
-    (later (all_taken w.near.before) (all_sent w.far.before) w.near.epoch w.far.epoch h.direction.carries (passed w.near.before w.far.before h.passed)))
+    (later (all_taken w.near.before) (all_sent w.far.before) w.near.epoch w.far.epoch [] h.direction.carries (passed w.near.before w.far.before h.passed)))
 
 start_relayed : (g h : Leg) (a b : RecordValue) → IsAtStart g → IsAtStart h → IsRecordOf g a → IsRecordOf h b → RelayedTo (a.taken_before ++ a.taken ∷ []) (b.sent_before ++ b.sent ∷ [])
 start_relayed g h a b s t i k =
