@@ -13,7 +13,6 @@ mod EndSteps
 mod Histories
 mod Steps
 mod Meetings
-pub mod Numbers
 mod Outcomes
 mod Moving
 pub mod Layers

@@ -19,6 +19,7 @@ use Rattle.packet_layer.specs.Channel.CallState.{Ready, OwnWaiting, FarWaiting, 
 use Rattle.packet_laws.specs.History.{Epoch, History, opened, heard_history, received_history, grown, logged, logged_heard, with_taken, call_accepted, next_use_of, next_epoch_of}
 use Rattle.packet_laws.specs.Counts.{NamesCounts}
 use Rattle.packet_laws.specs.Law.{epoch_now}
+use Rattle.packet_laws.proofs.Numbers.{covered_is_sent, released_is_taken, beyond_taken}
 use Rattle.call_records.specs.Records.{RecordValue, counted, with_sent, with_interrupt_sent, with_interrupt_taken, with_released, with_covered, with_epoch, changed_at}
 use Rattle.call_records.specs.Records as records
 use Rattle.call_records.specs.Book.{Book, slot_at, with_change, changed, answers, closes, packet_of, all_told}
@@ -35,7 +36,6 @@ use Rattle.book_laws.proofs.EndSteps.{status_of, HistoryGrows}
 use Rattle.book_laws.proofs.Steps.{SameHistory, history_refl}
 use Rattle.book_laws.proofs.Histories.{grown_cases, grown_keeps}
 use Rattle.book_laws.proofs.Basics.{length_pushed}
-use Rattle.book_laws.proofs.Numbers.{covered_is_sent, released_is_taken, beyond_taken}
 
 -- ---- what a step comes to
 

@@ -13,13 +13,13 @@ use Rattle.packet_laws.specs.Line.{End}
 use Rattle.packet_laws.specs.Counts.{NamesCounts}
 use Rattle.packet_laws.specs.Counted.{IsCounted}
 use Rattle.packet_laws.specs.Law.{epoch_now}
+use Rattle.packet_laws.proofs.Numbers.{uncovered_is, unreleased_is}
 use Rattle.line_laws.specs.Line.{Line}
 use Rattle.call_records.specs.Records.{RecordValue}
 use Rattle.call_records.specs.Book.{Book, packet_of, slot_at, side_of}
 use Rattle.book_laws.specs.Told.{World, after_all}
 use Rattle.book_laws.specs.Open.{HasLast, layers_at}
 use Rattle.book_laws.specs.Counts.{HasEpochs, HasCounted, IsCountedAt}
-use Rattle.book_laws.proofs.Numbers.{flight_is, unreleased_is}
 use Rattle.book_laws.proofs.OpenPairs.{opened, counted_there}
 use Rattle.book_laws.proofs.Counting.{records_counted}
 use Rattle.line_record_laws.specs.Kept.{Setting, Kept, beginning, end_at}
@@ -29,7 +29,7 @@ shows : (window : ℕ) → window ≤ 7 → (l : Layer) (channel : ℕ) (r : Rec
     → ((ch : Channel) → channel_of l channel ≡ Some ch → in_transfer ch.state ≡ true → NamesCounts window ch.traffic e) → ShowsCounts l channel r
 shows window small l channel r e h counts = record {
   covered = λ ch found flows.
-      let flight = flight_is window ch.traffic e small (counts ch found flows) in
+      let flight = uncovered_is window ch.traffic e small (counts ch found flows) in
       let many = ap (λ (ps : List DataPacket). length ps) h.sent in
       let same = length-map e.sent packet_of in
       let count = h.covered in

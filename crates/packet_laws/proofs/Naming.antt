@@ -9,16 +9,9 @@ use Rattle.packet_layer.specs.Channel.{Request, traffic_after}
 use Rattle.packet_layer.specs.Channel.Request.{Sending, Interrupting, Stopping, Taking, Releasing, Confirming}
 use Rattle.packet_laws.specs.History.{Epoch, logged, with_taken}
 use Rattle.packet_laws.specs.Counts.{NamesCounts, NamesPlace, NamesAfter, NamesNext, IsNumbered, AreDelivered, CountsLaw, or_first, through_delivery}
-use Rattle.packet_laws.proofs.Call.Pipes.{more_mod}
+use Rattle.packet_laws.proofs.Numbers.{more_mod, named_mod, flight_is, unreleased_is, uncovered_is}
 use Rattle.packet_laws.proofs.Call.Saying.{by_cond, and_parts}
 use Rattle.packet_laws.proofs.Call.Asking.{same_length}
-
-named_mod : (c r : ℕ) → r < 8 → r ≡ (c + distance (c % 8) r) % 8
-named_mod c r lt = omega arith
-
--- the distance of two numbers is that of the counts that they name, within seven
-apart_by : (low high window : ℕ) → low ≤ high → high ≤ low + window → window ≤ 7 → distance (low % 8) (high % 8) ≡ high - low
-apart_by low high window le within seven = omega arith
 
 -- ---- up to the last packet with D = 1
 
@@ -125,18 +118,6 @@ back window t e k = record {
   undelivered = k.undelivered_is;
 }
 
-flight_is : (window : ℕ) (t : Traffic) (e : Epoch) → window ≤ 7 → (k : Of window t e) → in_flight t ≡ length k.gone - e.covered
-flight_is window t e seven k =
-    ap (λ (a : ℕ). distance a t.send_number) k.covered_is
-    ∙ (ap (λ (b : ℕ). distance (e.covered % 8) b) k.send_is ∙ apart_by e.covered (length k.gone) window k.covered_went k.went_within seven)
-
-unreleased_is : (window : ℕ) (t : Traffic) (e : Epoch) → window ≤ 7 → Of window t e → unreleased t ≡ (length e.taken + length t.arrived) - e.released
-unreleased_is window t e seven k =
-    let taken = k.released_taken in
-    let le : e.released ≤ length e.taken + length t.arrived = omega arith in
-    ap (λ (a : ℕ). distance a t.receive_number) k.released_is
-    ∙ (ap (λ (b : ℕ). distance (e.released % 8) b) k.expected_is ∙ apart_by e.released (length e.taken + length t.arrived) window le k.came_within seven)
-
 -- ---- asked
 
 asked_take : (window : ℕ) (a : Option (List ℕ)) (ds : List Datum) (t : Traffic) (e : Epoch) → Of window (record t { interrupt_arrived = a; arrived = ds }) e
@@ -169,7 +150,7 @@ asked_release window n t e seven k = by_test (may_release n t) (λ may. leb-true
     by_test : (b : Bool) → (b ≡ true → n + length t.arrived ≤ unreleased t) → Of window (cond b (releasing n t) t) (cond b (record e { released = e.released + n }) e)
     by_test true room =
         let some = room refl in
-        let count = unreleased_is window t e seven k in
+        let count = unreleased_is window t e seven (back window t e k) in
         let taken = k.released_taken in
         let within = k.came_within in
         record {
@@ -193,9 +174,7 @@ asked_confirm window false t e k = k
 
 asked_send : (window : ℕ) (d : Datum) (t : Traffic) (e : Epoch) → window ≤ 7 → Of window t e → Of window (queue d t) (record e { sent = e.sent ++ d ∷ [] })
 asked_send window d t e seven k =
-    let flight = flight_is window t e seven k in
-    let whole : length k.gone + length t.waiting ≡ length e.sent = sym (length-append k.gone t.waiting) ∙ ap (λ (l : List Datum). length l) k.sent_is in
-    let went = k.covered_went in
+    let flight = uncovered_is window t e seven (back window t e k) in
     let left = k.undelivered_is in
     let more = through_more e.sent d in
     record {
@@ -246,7 +225,7 @@ named_datum window d ds t e seven may w k =
     let len = length-append k.gone (d ∷ []) in
     let number = k.send_is in
     let went = k.covered_went in
-    let flight = flight_is window t e seven k in
+    let flight = flight_is window t e seven (back window t e k) in
     let room : in_flight t < window = ltb-true (in_flight t) window (and_parts (nat_lt (in_flight t) window) _ may).0 in (
       record {
         gone = k.gone ++ d ∷ [];
@@ -287,15 +266,14 @@ heard_cover : (window r : ℕ) (t : Traffic) (e : Epoch) → window ≤ 7 → r 
     → Of window (record t { covered = r; undelivered = t.undelivered - distance t.covered r }) (record e { covered = e.covered + distance t.covered r })
 heard_cover window r t e seven lt valid k =
     let le : distance t.covered r ≤ in_flight t = leb-true (distance t.covered r) (in_flight t) valid in
-    let flight = flight_is window t e seven k in
-    let went = k.covered_went in
+    let flight = flight_is window t e seven (back window t e k) in
     let within = k.went_within in
     let left = k.undelivered_is in
     record {
       gone = k.gone;
       sent_is = k.sent_is;
       send_is = k.send_is;
-      covered_is = named_mod e.covered r lt ∙ ap (λ (c : ℕ). (e.covered + distance c r) % 8) (sym k.covered_is);
+      covered_is = named_mod t.covered e.covered r k.covered_is lt;
       covered_went = omega arith;
       went_within = omega arith;
       expected_is = k.expected_is;
@@ -319,7 +297,7 @@ heard_datum window s r d t e seven lt number room k =
     let c = heard_cover window r t e seven lt h k in
     let len = length-append t.arrived (d ∷ []) in
     let expected = k.expected_is in
-    let count = unreleased_is window t e seven k in
+    let count = unreleased_is window t e seven (back window t e k) in
     let taken = k.released_taken in (
       back window _ _ (record {
         gone = c.gone;

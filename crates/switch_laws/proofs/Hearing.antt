@@ -12,13 +12,14 @@ use Rattle.packet_layer.specs.Channel.Request.{Confirming}
 use Rattle.packet_laws.specs.History.{logged_heard}
 use Rattle.packet_laws.specs.Counts.{NamesAfter, NamesCounts, IsNumbered}
 use Rattle.packet_laws.proofs.Naming.{counts_hold}
+use Rattle.packet_laws.proofs.Numbers.{covered_within}
 use Rattle.switch_lines.specs.Direction.{covered_by}
 use Rattle.switch_laws.specs.Leg.{Leg, IsLeg, asked, asked_unless, stepped}
 use Rattle.switch_laws.specs.Clause.{taken_part, sent_part}
 use Rattle.switch_laws.specs.Way.{Way, Holds, IsRight, freed}
 use Rattle.switch_laws.specs.Join.{Join, IsJoin, turned, way, all_told, hears, mishears}
 use Rattle.switch_laws.proofs.Directions.{direction_covered}
-use Rattle.switch_laws.proofs.Legs.{Flags, HearsFlags, hears_flags, covered_within, asked_as, confirming_allowed, leg_confirmed}
+use Rattle.switch_laws.proofs.Legs.{Flags, HearsFlags, hears_flags, asked_as, confirming_allowed, leg_confirmed}
 use Rattle.switch_laws.proofs.Ways.{Near, near_seen, far_seen, right_beside, freed_right, asked_releasing_keeps, Linked, holds_of}
 use Rattle.switch_laws.proofs.Joins.{reset_right}
 

@@ -12,6 +12,7 @@ use Rattle.packet_layer.specs.Channel.CallState.{Transfer}
 use Rattle.packet_layer.specs.Channel.Request.{Sending, Interrupting, Taking, Releasing, Confirming}
 use Rattle.packet_laws.specs.History.{Epoch, empty_epoch, logged}
 use Rattle.packet_laws.specs.Counts.{NamesCounts}
+use Rattle.packet_laws.proofs.Numbers.{unreleased_is}
 use Rattle.packet_laws.proofs.Naming.{counts_hold}
 use Rattle.packet_laws.proofs.Call.Saying.{by_cond, and_parts}
 use Rattle.switch_laws.specs.Leg.{Leg, IsLeg, asked, asked_unless, gave, connected}
@@ -51,24 +52,11 @@ confirming_allowed g e = ap (λ (s : CallState). refused_if (not (in_transfer s)
 
 -- ---- counts
 
-apart_by : (low high window : ℕ) → low ≤ high → high ≤ low + window → window ≤ 7 → distance (low % 8) (high % 8) ≡ high - low
-apart_by low high window le within seven = omega arith
-
 pub release_allowed : (n : ℕ) (g : Leg) → IsLeg g → g.epoch.released + n ≤ length g.epoch.taken → may_release n g.channel.traffic ≡ true
 release_allowed n g i le =
-    let t = g.channel.traffic in let e = g.epoch in let k = i.counts in
-    let within = k.came_within in let taken = k.released_taken in
-    let least : e.released ≤ length e.taken + length t.arrived = omega arith in
-    let count : unreleased t ≡ (length e.taken + length t.arrived) - e.released =
-    ap (λ (a : ℕ). distance a t.receive_number) k.released ∙ (ap (λ (b : ℕ). distance (e.released % 8) b) k.expected
-    ∙ apart_by e.released (length e.taken + length t.arrived) g.window least within i.window) in
+    let t = g.channel.traffic in
+    let count = unreleased_is g.window t g.epoch i.window i.counts in
     le-leb (n + length t.arrived) (unreleased t) (omega arith)
-
-pub covered_within : (window : ℕ) (t : Traffic) (e : Epoch) → NamesCounts window t e → e.covered ≤ length e.sent
-covered_within window t e k =
-    let whole : length k.gone + length t.waiting ≡ length e.sent = sym (length-append k.gone t.waiting) ∙ ap (λ (l : List Datum). length l) k.sent in
-    let went = k.covered_went in
-    omega arith
 
 pub arrived_within : (g : Leg) → IsLeg g → length g.channel.traffic.arrived ≤ 7
 arrived_within g i =

@@ -11,6 +11,7 @@ use Rattle.packet_layer.specs.Channel.{CallState, Refusal, refusal, refused_if, 
 use Rattle.packet_layer.specs.Channel.CallState.{Transfer}
 use Rattle.packet_layer.specs.Channel.Request.{Sending, Interrupting, Taking, Releasing}
 use Rattle.packet_laws.specs.History.{Epoch}
+use Rattle.packet_laws.proofs.Numbers.{gone_is}
 use Rattle.switch_lines.specs.Direction.{Direction, releasable, released, carried_by, request_for}
 use Rattle.switch_laws.specs.Leg.{Leg, IsLeg, asked, asked_unless}
 use Rattle.switch_laws.specs.Clause.{TakenPart, SentPart, taken_part, sent_part, Passed, IsDirection}
@@ -144,8 +145,7 @@ packet_holds d ds w h r =
     let few : length g.epoch.taken < g.epoch.released + 7 = omega (arith, came, near_window) in
     let far_window = h.far.window in
     let went = h.far.counts.went_within in
-    let sent : length h.far.counts.gone + length w.far.channel.traffic.waiting ≡ length w.far.epoch.sent =
-    sym (length-append h.far.counts.gone w.far.channel.traffic.waiting) ∙ ap (λ (l : List Datum). length l) h.far.counts.sent in
+    let sent = gone_is w.far.window w.far.channel.traffic w.far.epoch h.far.counts in
     let less : length w.far.epoch.sent < w.far.epoch.covered + 255 = omega (arith, sent, went, far_window, room) in
     done_on (TakenPacket d) (at_front None (d ∷ ds) w) (taking_allowed g h.near_call) r (record {
       near = leg_taken g h.near;

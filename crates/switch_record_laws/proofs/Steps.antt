@@ -17,6 +17,7 @@ use Rattle.packet_layer.specs.Channel.Request.{Accept, Clearing, Resetting, Send
 use Rattle.packet_laws.specs.History.{Epoch, empty_epoch, logged_heard, with_taken as epoch_with_taken}
 use Rattle.packet_laws.specs.Counts.{NamesCounts, NamesAfter, IsNumbered}
 use Rattle.packet_laws.proofs.Naming.{counts_hold}
+use Rattle.packet_laws.proofs.Numbers.{covered_within}
 use Rattle.call_records.specs.Records.{RecordValue, counted, with_sent, with_interrupt_sent, with_taken, with_interrupt_taken, with_released, with_covered, with_epoch, new_record}
 use Rattle.call_records.specs.Book.{Book, Slot, side_of, with_slot, with_record, changed, closes, renews, comes, places_from, answers, takes, releases, all_told}
 use Rattle.call_records.specs.Carried.{unless_refused}
@@ -123,11 +124,7 @@ covered_written x d n u true b g g' z k p q h =
 covered_written x d n u false b g g' z k p q h = changed_written x d (with_covered n) b g g' grows h
   where
     within : g.epoch.covered + n ≤ length g.epoch.sent
-    within =
-        let went = k.covered_went in
-        let all = ap (λ (ds : List Datum). length ds) k.sent in
-        let sum = length-append k.gone u.waiting in
-        omega arith
+    within = covered_within g.window u (record g.epoch { covered = g.epoch.covered + n }) k
 
     grows : (r : RecordValue) → IsRecordOf g r → IsRecordOf g' (with_covered n r)
     grows r i = record {

@@ -2,14 +2,15 @@
 use Rattle.std.proofs.Common.{◌≡◌, ℕ, suc, ◌+◌, ◌%◌, ◌≤◌, Bool, true, false, cond, ◌||◌, List, [], ◌∷◌, ◌++◌, length, Option, Some, None, is_some, refl, sym, ap, subst, ◌∙◌, append_assoc, length-append, arith, true≢false}
 use Rattle.std.proofs.lemmas.Bool.{leb-true}
 use Rattle.packet_layer.specs.Packets.{Datum, Body}
-use Rattle.packet_layer.specs.Traffic.{distance, taking_of, front_of, may_release, releasing, confirming, unreleased}
+use Rattle.packet_layer.specs.Traffic.{taking_of, front_of, may_release, releasing, confirming, unreleased}
 use Rattle.packet_layer.specs.Channel.{Request}
 use Rattle.packet_layer.specs.Channel.Request.{Sending, Interrupting, Stopping, Taking, Releasing, Confirming}
 use Rattle.packet_laws.specs.History.{with_taken}
 use Rattle.packet_laws.proofs.Handshakes.Handshake.{Two}
 use Rattle.packet_laws.proofs.Call.OneEpoch.{Inner, datas, interrupts, Numbers, one, Epochs_agree, inner_after, Askable}
 use Rattle.packet_laws.specs.Law.{listed}
-use Rattle.packet_laws.proofs.Call.Pipes.{apart, more_mod, acks_le, acks_more}
+use Rattle.packet_laws.proofs.Numbers.{apart, more_mod}
+use Rattle.packet_laws.proofs.Call.Pipes.{acks_le, acks_more}
 
 abbrev pub pair_of : Inner → Inner → List Body → List Body → Two Inner
 pair_of x y o b = record { me = x; you = y; out = o; back = b }
@@ -125,9 +126,8 @@ asks_release window n true x y o b e i =
     let covered_le = acks_le o y.epoch.covered x.epoch.released k.acks in
     let got : ℕ = length x.epoch.taken + length x.traffic.arrived in
     let w = k.in_window in let sm = i.small in let rt = k.released_taken in
-    let far : x.epoch.released + distance (x.epoch.released % 8) (got % 8) ≡ got = apart x.epoch.released got (omega arith) (omega arith) in
-    let near : unreleased x.traffic ≡ distance (x.epoch.released % 8) (got % 8) =
-    ap (λ (r : ℕ). distance r x.traffic.receive_number) k.released_is ∙ ap (λ (r : ℕ). distance (x.epoch.released % 8) r) s.expected in
+    let rest : x.epoch.released + unreleased x.traffic ≡ got =
+    apart x.traffic.released x.traffic.receive_number x.epoch.released got k.released_is s.expected (omega arith) (omega arith) in
     record {
       small = i.small;
       forth = record { stream = i.forth.stream; acking = i.forth.acking; urgent = i.forth.urgent };

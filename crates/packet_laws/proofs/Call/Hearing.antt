@@ -8,7 +8,8 @@ use Rattle.packet_layer.specs.Traffic.Heard.{Keeps, Confirms, Wrong}
 use Rattle.packet_laws.proofs.Handshakes.Handshake.{Two, does}
 use Rattle.packet_laws.proofs.Call.OneEpoch.{Inner, datas, interrupts, confirmations, Numbers, Acks, one, Waits, wire, Epochs_agree, heard_inner, NotWrong, inner_hears, inner_ok}
 use Rattle.packet_laws.specs.Law.{listed}
-use Rattle.packet_laws.proofs.Call.Pipes.{apart, acks_le}
+use Rattle.packet_laws.proofs.Numbers.{apart}
+use Rattle.packet_laws.proofs.Call.Pipes.{acks_le}
 use Rattle.packet_laws.proofs.Call.Asking.{pair_of}
 
 -- a P(R) that names a count from the one covered to what was released is valid, and covers up to it
@@ -18,12 +19,11 @@ covers_is window n r x y o b i is lo hi =
     let s = i.forth.stream in let a = i.forth.acking in
     let rt = a.released_taken in let sm = i.small in let iw = a.in_window in
     let sum : ℕ = wire y.epoch.taken y.traffic.arrived o in
-    let far : x.epoch.covered + distance (x.epoch.covered % 8) (sum % 8) ≡ sum = apart x.epoch.covered sum (omega arith) (omega arith) in
-    let far_n : x.epoch.covered + distance (x.epoch.covered % 8) (n % 8) ≡ n = apart x.epoch.covered n lo (omega arith) in
-    let near : in_flight x.traffic ≡ distance (x.epoch.covered % 8) (sum % 8) = ap (λ (q : ℕ). distance q x.traffic.send_number) a.covered_is ∙ ap (λ (q : ℕ). distance (x.epoch.covered % 8) q) s.next in
-    let near_n : distance x.traffic.covered r ≡ distance (x.epoch.covered % 8) (n % 8) = ap (λ (q : ℕ). distance q r) a.covered_is ∙ ap (λ (q : ℕ). distance (x.epoch.covered % 8) q) is in (
+    let flight : x.epoch.covered + in_flight x.traffic ≡ sum =
+    apart x.traffic.covered x.traffic.send_number x.epoch.covered sum a.covered_is s.next (omega arith) (omega arith) in
+    let newly : x.epoch.covered + distance x.traffic.covered r ≡ n = apart x.traffic.covered r x.epoch.covered n a.covered_is is lo (omega arith) in (
       ap (λ (c : Bool). cond c (Keeps (distance x.traffic.covered r) (record x.traffic { covered = r; undelivered = x.traffic.undelivered - distance x.traffic.covered r })) (Wrong 2)) (le-leb (distance x.traffic.covered r) (in_flight x.traffic) (omega arith)),
-      omega arith,
+      newly,
     )
 
 abbrev Result : ℕ → Inner → Inner → List Body → List Body → Heard → Type 0
@@ -109,8 +109,8 @@ hears_datum window n s r d x y o ts s_is nums is lo acks i =
     let got : ℕ = length x.epoch.taken + length x.traffic.arrived in
     let rt = k.released_taken in let sm = i.small in let iw = k.in_window in
     let le = acks_le o y.epoch.covered x.epoch.released k.acks in
-    let far : x.epoch.released + distance (x.epoch.released % 8) (got % 8) ≡ got = apart x.epoch.released got (omega arith) (omega arith) in
-    let near : unreleased x.traffic ≡ distance (x.epoch.released % 8) (got % 8) = ap (λ (q : ℕ). distance q x.traffic.receive_number) k.released_is ∙ ap (λ (q : ℕ). distance (x.epoch.released % 8) q) st.expected in
+    let rest : x.epoch.released + unreleased x.traffic ≡ got =
+    apart x.traffic.released x.traffic.receive_number x.epoch.released got k.released_is st.expected (omega arith) (omega arith) in
     let lt : unreleased x.traffic < window = omega arith in
     let test : ((s == x.traffic.receive_number) && nat_lt (unreleased x.traffic) window) ≡ true =
     ap (λ (q : Bool). q && nat_lt (unreleased x.traffic) window) (eq-eqb s x.traffic.receive_number (s_is ∙ sym st.expected)) ∙ lt-ltb (unreleased x.traffic) window lt in

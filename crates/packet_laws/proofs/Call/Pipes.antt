@@ -1,19 +1,8 @@
 -- Numbers, P(R) and interrupts in a pipe when a packet is put in or taken off.
-use Rattle.std.proofs.Common.{◌≡◌, ℕ, suc, ◌+◌, ◌%◌, ◌≤◌, List, [], ◌∷◌, ◌++◌, length, refl, sym, ap, subst, ◌∙◌, append_assoc, length-append, arith}
+use Rattle.std.proofs.Common.{◌≡◌, ℕ, suc, ◌+◌, ◌≤◌, List, [], ◌∷◌, ◌++◌, length, refl, sym, ap, subst, ◌∙◌, append_assoc, length-append, arith}
 use Rattle.packet_layer.specs.Packets.{Datum, Body}
 use Rattle.packet_layer.specs.Packets.Body.{Data, Interrupt, InterruptConfirmation, ReceiveReady, ReceiveNotReady}
-use Rattle.packet_layer.specs.Traffic.{distance}
 use Rattle.packet_laws.proofs.Call.OneEpoch.{data_of, datas, interrupt_of, interrupts, confirmations, NumberOf, Numbers, AckOf, Acks}
-
--- what two numbers modulo 8 are apart is what their counts are
-pub apart : (a n : ℕ) → a ≤ n → n ≤ a + 7 → a + distance (a % 8) (n % 8) ≡ n
-apart a n lo hi = omega arith
-
-pub next_mod : (k : ℕ) → (k % 8 + 1) % 8 ≡ (k + 1) % 8
-next_mod k = omega arith
-
-pub more_mod : (k n : ℕ) → (k % 8 + n) % 8 ≡ (k + n) % 8
-more_mod k n = omega arith
 
 pub datas_append : (xs ys : List Body) → datas (xs ++ ys) ≡ datas xs ++ datas ys
 datas_append [] ys = refl

@@ -3,11 +3,12 @@ use Rattle.std.proofs.Common.{◌≡◌, ℕ, ◌+◌, ◌%◌, ◌<◌, ◌≤�
 use Rattle.std.proofs.lemmas.Bool.{ltb-true}
 use Rattle.packet_layer.specs.Packets.{Datum, Body}
 use Rattle.packet_layer.specs.Packets.Body.{Data, Interrupt, InterruptConfirmation, ReceiveReady, ReceiveNotReady}
-use Rattle.packet_layer.specs.Traffic.{Said, distance, in_flight, window_open, flow_told, ready_or_not, says_interrupt, says_data, says_flow}
+use Rattle.packet_layer.specs.Traffic.{Said, in_flight, window_open, flow_told, ready_or_not, says_interrupt, says_data, says_flow}
 use Rattle.packet_laws.proofs.Handshakes.Handshake.{said}
 use Rattle.packet_laws.proofs.Call.OneEpoch.{Inner, datas, interrupts, confirmations, NumberOf, one, Waits, Way, Epochs_agree, inner_says}
 use Rattle.packet_laws.specs.Law.{listed}
-use Rattle.packet_laws.proofs.Call.Pipes.{apart, datas_append, interrupts_append, confirmations_append, numbers_push, acks_le, acks_push}
+use Rattle.packet_laws.proofs.Numbers.{apart}
+use Rattle.packet_laws.proofs.Call.Pipes.{datas_append, interrupts_append, confirmations_append, numbers_push, acks_le, acks_push}
 use Rattle.packet_laws.proofs.Call.Asking.{pair_of}
 
 pub by_cond : {X : Type 0} (P : X → Type 0) (b : Bool) (x y : X) → (b ≡ true → P x) → (b ≡ false → P y) → P (cond b x y)
@@ -158,9 +159,8 @@ says_a_datum window d ds x y o b w is_open i =
     let lt : in_flight x.traffic < window = ltb-true (in_flight x.traffic) window (and_parts (nat_lt (in_flight x.traffic) window) (not x.traffic.partner_busy) is_open).0 in
     let covered_le = acks_le b x.epoch.covered y.epoch.released a.acks in
     let rt = a.released_taken in let sm = i.small in let iw = a.in_window in
-    let far : x.epoch.covered + distance (x.epoch.covered % 8) (sum % 8) ≡ sum = apart x.epoch.covered sum (omega arith) (omega arith) in
-    let near : in_flight x.traffic ≡ distance (x.epoch.covered % 8) (sum % 8) =
-    ap (λ (r : ℕ). distance r x.traffic.send_number) a.covered_is ∙ ap (λ (r : ℕ). distance (x.epoch.covered % 8) r) s.next in
+    let flight : x.epoch.covered + in_flight x.traffic ≡ sum =
+    apart x.traffic.covered x.traffic.send_number x.epoch.covered sum a.covered_is s.next (omega arith) (omega arith) in
     let len : length (datas (o ++ t ∷ [])) ≡ length (datas o) + 1 = ap (λ (l : List Datum). length l) dq ∙ length-append (datas o) (d ∷ []) in
     record {
       small = i.small;
