@@ -1,7 +1,7 @@
 -- An end at which an event ended stays as it is when one ends again.
 use Rattle.std.proofs.Common.{◌≡◌, ◌∙◌, refl, sym, ap, subst, Bool, true, false, List, [], ◌∷◌, length, drop, inl, inr}
 use Rattle.std.proofs.Common.{set-set}
-use Rattle.std.specs.Prelude.{Option, None, is_some, not, ◌&&◌, cond, if◌then◌else◌}
+use Rattle.std.specs.Prelude.{◌⊎◌, Option, None, is_some, not, ◌&&◌, cond, if◌then◌else◌}
 use Rattle.link_timers.specs.declared.timers.TimerId.TheVariants.{T1}
 use Rattle.link_timers.specs.Timers.{Places, place_of}
 use Rattle.lapb.specs.declared.phase.Phase.{Phase}
@@ -12,8 +12,11 @@ use Rattle.line_end.specs.End as line
 use Rattle.packet_layer.specs.Packets.{Packet}
 use Rattle.packet_end.specs.PacketEnd.{PacketEnd, SettlesOnce, IsFinished, HasOfferedAll}
 use Rattle.packet_end.specs.PacketEnd.{relinked, all_offered, settled, finished}
+use Rattle.packet_end.specs.Touched.{IsTouched}
+use Rattle.packet_end.specs.declared.touched.Touched.{Touched}
+use Rattle.packet_end.specs.declared.touched.Touched.TheVariants.{Nothing}
 use Rattle.packet_end.proofs.Offering.{no_room, no_packet}
-use Rattle.packet_end.proofs.Untouched.{nothing_touched}
+use Rattle.packet_end.proofs.Untouched.{none_touched}
 
 -- ---- the link settles once
 
@@ -89,7 +92,7 @@ offers_none e (inr silent) = no_packet 7 e (ap (λ (packet : Option Packet). is_
 settles_none : (e : PacketEnd) → IsFinished e → settled e ≡ e
 settles_none e is =
     ap (λ (t : Places). record e { timers = t; line = line.settled e.line })
-    (nothing_touched e.layer e.timers (λ id is_id none. is.timers id is_id))
+    (none_touched e.layer e.timers is.timers)
     ∙ ap (λ (l : End). record e { line = l }) (is.settled e.line.frames)
 
 pub finished_once : (e : PacketEnd) → IsFinished e → finished e ≡ e
@@ -103,3 +106,8 @@ finished_once e is =
 pub settles_once : (offered now : PacketEnd) → now ≡ settled offered → SettlesOnce now.line
 settles_once offered now same =
     subst (λ (e : PacketEnd). SettlesOnce e.line) (sym same) (settled_once offered.line)
+
+-- nothing happened since an event ended
+pub ended : (touched : Touched) (e : PacketEnd) → touched ≡ Nothing → IsTouched touched ⊎ IsFinished e → IsFinished e
+ended touched e nothing (inl something) = absurd (subst IsTouched nothing something)
+ended touched e nothing (inr is) = is

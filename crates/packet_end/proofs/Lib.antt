@@ -4,6 +4,5 @@ pub mod Wanted
 pub mod Untouched
 pub mod Waits
 pub mod Owned
-pub mod Lent
 pub mod Ended
 pub mod Sending

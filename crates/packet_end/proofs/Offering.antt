@@ -9,7 +9,7 @@ use Rattle.packet_layer.specs.Channel.{Channel}
 use Rattle.packet_layer.specs.Layer.{Layer, Next, channel_of, next_of, next_number, serve, serve_found, served, next_restart, next_in, next_packet}
 use Rattle.packet_layer.specs.Layer as machine
 use Rattle.packet_layer.specs.Events.{written_packet}
-use Rattle.packet_end.specs.PacketEnd.{PacketEnd, offered, all_offered, with_next, settled, HasOfferedAll}
+use Rattle.packet_end.specs.PacketEnd.{PacketEnd, offered, all_offered, with_next, settled, relinked, relinked_if_due, HasOfferedAll}
 
 -- ---- a layer that has no packet stays as it is
 
@@ -44,6 +44,35 @@ in_none machine.Phase.PacketReady false l silent = restart_none l.owed l silent
 
 pub next_none : (l : Layer) → is_some (next_packet l).packet ≡ false → (next_packet l).layer ≡ l
 next_none l silent = in_none l.phase l.relink l silent
+
+-- ---- whether a relink is asked for stays
+
+served_relink : (l : Layer) (c : ℕ) (ch : Channel) (b : Option Body) (others : Next) → others.layer.relink ≡ l.relink →
+    (served l c (record { channel = ch; body = b }) others).layer.relink ≡ l.relink
+served_relink l c ch None others rest = rest
+served_relink l c ch (Some b) others rest = refl
+
+found_relink : (l : Layer) (c : ℕ) (found : Option Channel) (others : Next) → others.layer.relink ≡ l.relink →
+    (serve_found l c found others).layer.relink ≡ l.relink
+found_relink l c None others rest = rest
+found_relink l c (Some ch) others rest =
+    served_relink l c (next_of l.window ch).channel (next_of l.window ch).body others rest
+
+serve_relink : (count : ℕ) (l : Layer) (c : ℕ) → (serve count l c).layer.relink ≡ l.relink
+serve_relink zero l c = refl
+serve_relink (suc count) l c =
+    found_relink l c (channel_of l c) (serve count l (next_number l c)) (serve_relink count l (next_number l c))
+
+restart_relink : (owed : List Body) (l : Layer) → (next_restart owed l).layer.relink ≡ l.relink
+restart_relink (b ∷ bs) l = refl
+restart_relink [] l = serve_relink (length l.channels) l (next_number l l.served_last)
+
+in_relink : (phase : machine.Phase) (relink : Bool) (l : Layer) → (next_in phase relink l).layer.relink ≡ l.relink
+in_relink machine.Phase.NoSession relink l = refl
+in_relink machine.Phase.OwnRestart true l = refl
+in_relink machine.Phase.OwnRestart false l = restart_relink l.owed l
+in_relink machine.Phase.PacketReady true l = refl
+in_relink machine.Phase.PacketReady false l = restart_relink l.owed l
 
 -- ---- one packet more
 
@@ -81,6 +110,47 @@ pub one_offered : (most count : ℕ) (e : PacketEnd) → count < most → can_of
     offered (most - (count + 1)) (with_next e (next_packet e.layer)) ≡ offered (most - count) e
 one_offered most count e within room says = sym (one_more (most - count) (most - (count + 1)) e (omega arith) room says)
 
+-- ---- whether any packet is offered
+
+abbrev pub may_offer : PacketEnd → Bool
+may_offer e = can_offer e.line.link && is_some (next_packet e.layer).packet
+
+both_true : (a b : Bool) → (a && b) ≡ true → (a ≡ true) × (b ≡ true)
+both_true true true h = (refl, refl)
+both_true true false h = absurd (cc)
+both_true false b h = absurd (cc)
+
+neither : (room says : Bool) (next e : PacketEnd) → (room && says) ≡ false → cond room (cond says next e) e ≡ e
+neither true true next e h = absurd (cc)
+neither true false next e h = refl
+neither false says next e h = refl
+
+pub none_offered : (most : ℕ) (e : PacketEnd) → may_offer e ≡ false → offered most e ≡ e
+none_offered zero e none = refl
+none_offered (suc most) e none =
+    neither (can_offer e.line.link) (is_some (next_packet e.layer).packet) (offered most (with_next e (next_packet e.layer))) e none
+
+next_offered : (e : PacketEnd) → may_offer e ≡ true → offered 1 e ≡ with_next e (next_packet e.layer)
+next_offered e may =
+    let h = both_true (can_offer e.line.link) (is_some (next_packet e.layer).packet) may in
+    both (can_offer e.line.link) (is_some (next_packet e.layer).packet) (with_next e (next_packet e.layer)) e h.0 h.1
+
+pub offered_notes : (e : PacketEnd) → (offered 1 e).notes ≡ e.notes
+offered_notes e = go (can_offer e.line.link) (is_some (next_packet e.layer).packet)
+  where
+    go : (room says : Bool) → (cond room (cond says (with_next e (next_packet e.layer)) e) e).notes ≡ e.notes
+    go true true = refl
+    go true false = refl
+    go false says = refl
+
+pub may_before : (count : ℕ) (e old : PacketEnd) → (count ≡ 0 → e ≡ old) → (1 ≤ count → may_offer old ≡ true) → may_offer e ≡ true → may_offer old ≡ true
+may_before zero e old begins some may = sym (ap may_offer (begins refl)) ∙ may
+may_before (suc count) e old begins some may = some (omega arith)
+
+pub may_counted : (count : ℕ) (e old : PacketEnd) → (count ≡ 0 → e ≡ old) → (1 ≤ count → may_offer old ≡ true) → may_offer e ≡ false → nat_lt 0 count ≡ may_offer old
+may_counted zero e old begins some may = sym (sym (ap may_offer (begins refl)) ∙ may)
+may_counted (suc count) e old begins some may = lt-ltb 0 (suc count) (omega arith) ∙ sym (some (omega arith))
+
 -- ---- what is left of the packets that are offered at most, once so many were
 
 pub left_after : (count : ℕ) → PacketEnd → PacketEnd
@@ -90,18 +160,15 @@ pub left_at_first : (e : PacketEnd) → left_after 0 e ≡ all_offered e
 unfolding left_after all_offered
 left_at_first e = refl
 
-pub left_one : (count : ℕ) (e : PacketEnd) → count < 7 → can_offer e.line.link ≡ true → is_some (next_packet e.layer).packet ≡ true →
-    left_after (count + 1) (with_next e (next_packet e.layer)) ≡ left_after count e
+pub left_more : (count : ℕ) (e : PacketEnd) → count < 7 → may_offer e ≡ true → left_after (count + 1) (offered 1 e) ≡ left_after count e
 unfolding left_after
-left_one count e h room says = one_offered 7 count e h room says
+left_more count e h may =
+    let is = both_true (can_offer e.line.link) (is_some (next_packet e.layer).packet) may in
+    ap (λ (x : PacketEnd). offered (7 - (count + 1)) x) (next_offered e may) ∙ one_offered 7 count e h is.0 is.1
 
-pub left_no_room : (count : ℕ) (e : PacketEnd) → can_offer e.line.link ≡ false → left_after count e ≡ e
+pub left_none : (count : ℕ) (e : PacketEnd) → may_offer e ≡ false → left_after count e ≡ e
 unfolding left_after
-left_no_room count e room = no_room (7 - count) e room
-
-pub left_no_packet : (count : ℕ) (e : PacketEnd) → is_some (next_packet e.layer).packet ≡ false → left_after count e ≡ e
-unfolding left_after
-left_no_packet count e silent = no_packet (7 - count) e silent
+left_none count e none = none_offered (7 - count) e none
 
 pub left_over : (count : ℕ) (e : PacketEnd) → 7 ≤ count → left_after count e ≡ e
 unfolding left_after
@@ -143,24 +210,37 @@ pub settled_all_offered : (e : PacketEnd) → HasOfferedAll e → HasOfferedAll 
 settled_all_offered e (inl room) = inl (settle_same e.line.link.phase e.line.link ∙ room)
 settled_all_offered e (inr silent) = inr silent
 
--- ---- whether any packet was offered
+-- each packet that was offered is queued
+pub longer_offered : (e : PacketEnd) (count : ℕ) → may_offer e ≡ true → count ≤ length e.line.link.queue →
+    count + 1 ≤ length (offered 1 e).line.link.queue
+longer_offered e count may within =
+    let is = both_true (can_offer e.line.link) (is_some (next_packet e.layer).packet) may in
+    rw (next_offered e may) (longer e.line.link (written_packet (next_packet e.layer).packet []) count is.0 within)
 
-abbrev pub may_offer : PacketEnd → Bool
-may_offer e = can_offer e.line.link && is_some (next_packet e.layer).packet
+pub none_left : (e : PacketEnd) → may_offer e ≡ false → HasOfferedAll e
+none_left e none = go (can_offer e.line.link) refl
+  where
+    go : (room : Bool) → can_offer e.line.link ≡ room → HasOfferedAll e
+    go true room =
+        silent_all_offered e (sym (ap (λ (b : Bool). b && is_some (next_packet e.layer).packet) room) ∙ none)
+    go false room = inl room
 
-pub may_room : (e : PacketEnd) → can_offer e.line.link ≡ false → may_offer e ≡ false
-may_room e room = ap (λ (b : Bool). b && is_some (next_packet e.layer).packet) room
+-- ---- no relink is due once one was done, if it was
 
-pub may_silent : (e : PacketEnd) → is_some (next_packet e.layer).packet ≡ false → may_offer e ≡ false
-may_silent e silent = ap (λ (b : Bool). can_offer e.line.link && b) silent ∙ and_false (can_offer e.line.link)
+offered_relink : (most : ℕ) (e : PacketEnd) → (offered most e).layer.relink ≡ e.layer.relink
+offered_relink zero e = refl
+offered_relink (suc most) e = go (can_offer e.line.link) (is_some (next_packet e.layer).packet) (offered_relink most (with_next e (next_packet e.layer)))
+  where
+    go : (room says : Bool) → (offered most (with_next e (next_packet e.layer))).layer.relink ≡ (next_packet e.layer).layer.relink →
+        (cond room (cond says (offered most (with_next e (next_packet e.layer))) e) e).layer.relink ≡ e.layer.relink
+    go true true rest = rest ∙ in_relink e.layer.phase e.layer.relink e.layer
+    go true false rest = refl
+    go false says rest = refl
 
-pub may_both : (e : PacketEnd) → can_offer e.line.link ≡ true → is_some (next_packet e.layer).packet ≡ true → may_offer e ≡ true
-may_both e room says = ap (λ (b : Bool). b && is_some (next_packet e.layer).packet) room ∙ says
+if_relinked : (due : Bool) (e : PacketEnd) → e.layer.relink ≡ due → (cond due (relinked e) e).layer.relink ≡ false
+if_relinked true e is = refl
+if_relinked false e is = is
 
-pub may_before : (count : ℕ) (e old : PacketEnd) → (count ≡ 0 → e ≡ old) → (1 ≤ count → may_offer old ≡ true) → may_offer e ≡ true → may_offer old ≡ true
-may_before zero e old begins some may = sym (ap may_offer (begins refl)) ∙ may
-may_before (suc count) e old begins some may = some (omega arith)
-
-pub may_counted : (count : ℕ) (e old : PacketEnd) → (count ≡ 0 → e ≡ old) → (1 ≤ count → may_offer old ≡ true) → may_offer e ≡ false → nat_lt 0 count ≡ may_offer old
-may_counted zero e old begins some may = sym (sym (ap may_offer (begins refl)) ∙ may)
-may_counted (suc count) e old begins some may = lt-ltb 0 (suc count) (omega arith) ∙ sym (some (omega arith))
+pub none_due : (e : PacketEnd) → (all_offered (relinked_if_due e)).layer.relink ≡ false
+unfolding all_offered
+none_due e = offered_relink 7 (relinked_if_due e) ∙ if_relinked e.layer.relink e refl

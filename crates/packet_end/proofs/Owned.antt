@@ -1,5 +1,5 @@
 -- An end of a line and the pool that it alone holds buffers of.
-use Rattle.std.proofs.Common.{◌≡◌, ◌∙◌, false, sym, arith}
+use Rattle.std.proofs.Common.{◌≡◌, ◌∙◌, sym, arith}
 use Rattle.flow_window.specs.Pool.{Pool, Balances}
 use Rattle.flow_window.proofs.Weights.{weight_ones}
 use Rattle.packet_end.specs.EndView.{IsEnd}
@@ -18,10 +18,9 @@ serves a is = record {
 
 -- it gave buffers back or took some
 pub after : (a : Inside) (new : PooledEnd) (pool : Pool) → IsEnd a → Balances a.pool a.end.held pool new.held →
-    new.share ≡ a.end.share → IsEnd (record { end = new; pool = pool; is_finished = false })
+    new.share ≡ a.end.share → IsEnd (record { end = new; pool = pool })
 after a new pool is change share = record {
   size = change.size ∙ is.size;
   places = change.places ∙ is.places ∙ sym share;
   exact = λ w. let weights = change.weights w in let exact = is.exact w in omega (arith, weights, exact);
-  finished = λ says. absurd (cc);
 }

@@ -5,17 +5,15 @@ use Rattle.link_timers.specs.declared.role.Role.{Role}
 use Rattle.link_timers.specs.declared.role.Role.TheVariants.{Dte, Dce}
 use Rattle.flow_window.specs.Pool.{Pool, Buffer, weight, in_use, Holds, Balances}
 use Rattle.flow_window.proofs.Weights.{weight_append, weight_ones, holds_after}
-use Rattle.line_end.specs.End.{End}
 use Rattle.line_end.specs.End as line
 use Rattle.line_end.specs.Held.{LineEnd}
 use Rattle.packet_layer.specs.Channel.{closed_channel}
 use Rattle.packet_layer.specs.Layer as machine
 use Rattle.packet_layer.specs.Layer.{standing_channels}
 use Rattle.packet_layer.specs.Held.{Loses, Takes, Layer, most_held, HasRoom}
-use Rattle.packet_end.specs.Pooled.{Serves, share_of}
-use Rattle.packet_end.specs.Stack.{Stack}
-use Rattle.packet_end.specs.StackView.{stack_of, IsStack}
-use Rattle.packet_end.specs.declared.stack.Stack.TheInside.{Inside}
+use Rattle.packet_end.specs.Pooled.{PooledEnd, Serves, share_of}
+use Rattle.packet_end.specs.PooledView.{pooled_of}
+use Rattle.packet_end.specs.declared.pooled.PooledEnd.TheInside.{Inside}
 
 -- a pool serves an end still after a step of it
 pub serves_after : (before after : Pool) (held holds : List Buffer) (share shares : ℕ) → Serves before held share →
@@ -30,8 +28,11 @@ serves_after before after held holds share shares is change same = record {
       omega (arith, weights, old, new, change.places, is.room, same);
 }
 
-both : (a : Inside) (w : Buffer → ℕ) → weight w (a.line.held ++ a.layer.held) ≡ weight w a.line.held + weight w a.layer.held
-both a w = weight_append w a.line.held a.layer.held
+-- ---- what both hold together
+
+-- a pool serves a link and a layer
+abbrev pub ServesBoth : Pool → LineEnd → Layer → Type 0
+ServesBoth pool line layer = Serves pool (line.held ++ layer.held) (share_of line.end layer.layer)
 
 count : (bs cs : List Buffer) → length (bs ++ cs) ≡ length bs + length cs
 count bs cs =
@@ -41,146 +42,103 @@ count bs cs =
     let second = weight_ones cs in
     omega (arith, parts, all, first, second)
 
-inner : (a : Inside) (x : Stack) (pool : Pool) → stack_of a ≡ x → Serves pool x.held x.share →
-    Serves pool (a.line.held ++ a.layer.held) (share_of a.line.end a.layer.layer)
-inner a x pool view is = subst (λ (x : Stack). Serves pool x.held x.share) (sym view) is
+pub served : (a : Inside) (x : PooledEnd) (pool : Pool) → pooled_of a ≡ x → Serves pool x.held x.share →
+    ServesBoth pool a.line a.layer
+served a x pool view is = subst (λ (x : PooledEnd). Serves pool x.held x.share) (sym view) is
 
-pub line_holds : (a : Inside) (x : Stack) (pool : Pool) → stack_of a ≡ x → Serves pool x.held x.share →
-    Holds pool a.line.held
-line_holds a x pool view is w =
-    let all = (inner a x pool view is).holds w in
-    let parts = both a w in
+pub line_holds : (pool : Pool) (line : LineEnd) (layer : Layer) → ServesBoth pool line layer → Holds pool line.held
+line_holds pool line layer is w =
+    let all = is.holds w in
+    let parts = weight_append w line.held layer.held in
     omega (arith, all, parts)
 
-pub layer_holds : (a : Inside) (x : Stack) (pool : Pool) → stack_of a ≡ x → Serves pool x.held x.share →
-    Holds pool a.layer.held
-layer_holds a x pool view is w =
-    let all = (inner a x pool view is).holds w in
-    let parts = both a w in
+pub layer_part : (pool : Pool) (line : LineEnd) (layer : Layer) → Holds pool (line.held ++ layer.held) →
+    Holds pool layer.held
+layer_part pool line layer holds w =
+    let all = holds w in
+    let parts = weight_append w line.held layer.held in
     omega (arith, all, parts)
 
-pub layer_part : (a : Inside) (x : Stack) (pool : Pool) → stack_of a ≡ x → Holds pool x.held → Holds pool a.layer.held
-layer_part a x pool view all w =
-    let within = all w in
-    let parts = both a w in
-    let whole = ap (λ (x : Stack). weight w x.held) view in
-    omega (arith, within, parts, whole)
+pub layer_holds : (pool : Pool) (line : LineEnd) (layer : Layer) → ServesBoth pool line layer → Holds pool layer.held
+layer_holds pool line layer is = layer_part pool line layer is.holds
 
-pub layer_size : (x : Stack) (pool : Pool) → Serves pool x.held x.share → 128 ≤ pool.size
-layer_size x pool is = omega (arith, is.size)
+pub layer_size : (pool : Pool) (line : LineEnd) (layer : Layer) → ServesBoth pool line layer → 128 ≤ pool.size
+layer_size pool line layer is = omega (arith, is.size)
 
 -- beside what the link holds there is room for all that the layer may hold, and one packet more
-pub layer_room : (a : Inside) (x : Stack) (pool : Pool) → stack_of a ≡ x → Serves pool x.held x.share →
-    length a.line.held ≤ a.line.end.link.k → HasRoom pool a.layer.held (most_held a.layer.layer + 1)
-layer_room a x pool view is few =
-    let all = (inner a x pool view is).room in
-    let parts = count a.line.held a.layer.held in
+pub layer_room : (pool : Pool) (line : LineEnd) (layer : Layer) → ServesBoth pool line layer →
+    length line.held ≤ line.end.link.k → HasRoom pool layer.held (most_held layer.layer + 1)
+layer_room pool line layer is few =
+    let all = is.room in
+    let parts = count line.held layer.held in
     omega (arith, all, parts, few)
 
 -- where both hold no more than they may, there is a buffer for one packet more
-pub line_room : (a : Inside) (x : Stack) (pool : Pool) → stack_of a ≡ x → Serves pool x.held x.share → IsStack a →
-    in_use pool < length pool.places
-line_room a x pool view is few =
-    let all = (inner a x pool view is).room in
-    let parts = count a.line.held a.layer.held in
-    omega (arith, all, parts, few.line, few.layer)
+pub line_room : (pool : Pool) (line : LineEnd) (layer : Layer) → ServesBoth pool line layer →
+    length line.held ≤ line.end.link.k → length layer.held ≤ most_held layer.layer → in_use pool < length pool.places
+line_room pool line layer is few fits =
+    let all = is.room in
+    let parts = count line.held layer.held in
+    omega (arith, all, parts, few, fits)
 
-pub within : (a : Inside) → IsStack a → length (a.line.held ++ a.layer.held) < share_of a.line.end a.layer.layer
-within a few = let parts = count a.line.held a.layer.held in omega (arith, parts, few.line, few.layer)
+pub within : (line : LineEnd) (layer : Layer) → length line.held ≤ line.end.link.k →
+    length layer.held ≤ most_held layer.layer → length (line.held ++ layer.held) < share_of line.end layer.layer
+within line layer few fits = let parts = count line.held layer.held in omega (arith, parts, few, fits)
 
--- ---- a step of the link
+-- ---- a step of one of them
 
-pub line_stepped : (a : Inside) (x : Stack) (new : LineEnd) (f : End → End) → stack_of a ≡ x →
-    new.end ≡ f a.line.end → new.end.link.k ≡ a.line.end.link.k →
-    stack_of (record { line = new; layer = a.layer })
-    ≡ record x { line = f x.line; held = new.held ++ a.layer.held }
-line_stepped a x new f view end k =
-    rw (← view) (λ i. record {
-      line = end i;
-      layer = a.layer.layer;
-      held = new.held ++ a.layer.held;
-      share = k i + most_held a.layer.layer + 1;
-    })
+pub link_steps : (before after : Pool) (old new : LineEnd) (layer : Layer) → Balances before old.held after new.held →
+    Balances before (old.held ++ layer.held) after (new.held ++ layer.held)
+link_steps before after old new layer change = record {
+  size = change.size;
+  places = change.places;
+  weights = λ w.
+      let own = change.weights w in
+      let before = weight_append w old.held layer.held in
+      let after = weight_append w new.held layer.held in
+      omega (arith, own, before, after);
+}
 
--- and it holds what it held
-pub line_kept : (a : Inside) (x : Stack) (new : LineEnd) (f : End → End) → stack_of a ≡ x → new.end ≡ f a.line.end →
-    new.end.link.k ≡ a.line.end.link.k → new.held ≡ a.line.held →
-    stack_of (record { line = new; layer = a.layer }) ≡ record x { line = f x.line }
-line_kept a x new f view end k held =
-    rw (← view) (λ i. record {
-      line = end i;
-      layer = a.layer.layer;
-      held = held i ++ a.layer.held;
-      share = k i + most_held a.layer.layer + 1;
-    })
+pub layer_steps : (before after : Pool) (line : LineEnd) (old new : Layer) → Balances before old.held after new.held →
+    Balances before (line.held ++ old.held) after (line.held ++ new.held)
+layer_steps before after line old new change = record {
+  size = change.size;
+  places = change.places;
+  weights = λ w.
+      let own = change.weights w in
+      let before = weight_append w line.held old.held in
+      let after = weight_append w line.held new.held in
+      omega (arith, own, before, after);
+}
 
-pub line_balanced : (a : Inside) (x : Stack) (before after : Pool) (new : LineEnd) → stack_of a ≡ x →
+pub line_balanced : (a : Inside) (x : PooledEnd) (before after : Pool) (new : LineEnd) → pooled_of a ≡ x →
     Balances before a.line.held after new.held → Balances before x.held after (new.held ++ a.layer.held)
 line_balanced a x before after new view change =
-    subst (λ (x : Stack). Balances before x.held after (new.held ++ a.layer.held)) view (record {
-      size = change.size;
-      places = change.places;
-      weights = λ w.
-          let own = change.weights w in
-          let old = both a w in
-          let all = weight_append w new.held a.layer.held in
-          omega (arith, own, old, all);
-    })
+    subst (λ (x : PooledEnd). Balances before x.held after (new.held ++ a.layer.held)) view
+    (link_steps before after a.line new a.layer change)
 
--- ---- a step of the layer
-
-pub layer_stepped : (a : Inside) (x : Stack) (new : Layer) (f : machine.Layer → machine.Layer) → stack_of a ≡ x →
-    new.layer ≡ f a.layer.layer → most_held new.layer ≡ most_held a.layer.layer →
-    stack_of (record { line = a.line; layer = new })
-    ≡ record x { layer = f x.layer; held = a.line.held ++ new.held }
-layer_stepped a x new f view layer most =
-    rw (← view) (λ i. record {
-      line = a.line.end;
-      layer = layer i;
-      held = a.line.held ++ new.held;
-      share = a.line.end.link.k + most i + 1;
-    })
-
-pub layer_kept : (a : Inside) (x : Stack) (new : Layer) (f : machine.Layer → machine.Layer) → stack_of a ≡ x →
-    new ≡ record a.layer { layer = f a.layer.layer } → most_held new.layer ≡ most_held a.layer.layer →
-    stack_of (record { line = a.line; layer = new }) ≡ record x { layer = f x.layer }
-layer_kept a x new f view layer most =
-    rw (← view) (λ i. record {
-      line = a.line.end;
-      layer = (layer i).layer;
-      held = a.line.held ++ (layer i).held;
-      share = a.line.end.link.k + most i + 1;
-    })
-
-pub layer_balanced : (a : Inside) (x : Stack) (before after : Pool) (new : Layer) → stack_of a ≡ x →
+pub layer_balanced : (a : Inside) (x : PooledEnd) (before after : Pool) (new : Layer) → pooled_of a ≡ x →
     Balances before a.layer.held after new.held → Balances before x.held after (a.line.held ++ new.held)
 layer_balanced a x before after new view change =
-    subst (λ (x : Stack). Balances before x.held after (a.line.held ++ new.held)) view (record {
-      size = change.size;
-      places = change.places;
-      weights = λ w.
-          let own = change.weights w in
-          let old = both a w in
-          let all = weight_append w a.line.held new.held in
-          omega (arith, own, old, all);
-    })
+    subst (λ (x : PooledEnd). Balances before x.held after (a.line.held ++ new.held)) view
+    (layer_steps before after a.line a.layer new change)
 
-pub layer_loses : (a : Inside) (x : Stack) (given : List Buffer) (new : Layer) → stack_of a ≡ x →
+pub layer_loses : (a : Inside) (x : PooledEnd) (given : List Buffer) (new : Layer) → pooled_of a ≡ x →
     Loses a.layer.held given new.held → Loses x.held given (a.line.held ++ new.held)
 layer_loses a x given new view change w =
     let own = change w in
-    let old = both a w in
+    let old = weight_append w a.line.held a.layer.held in
     let all = weight_append w a.line.held new.held in
-    let whole = ap (λ (x : Stack). weight w x.held) view in
+    let whole = ap (λ (x : PooledEnd). weight w x.held) view in
     omega (arith, own, old, all, whole)
 
-pub layer_takes : (a : Inside) (x : Stack) (b : Buffer) (back : List Buffer) (new : Layer) → stack_of a ≡ x →
+pub layer_takes : (a : Inside) (x : PooledEnd) (b : Buffer) (back : List Buffer) (new : Layer) → pooled_of a ≡ x →
     Takes a.layer.held b back new.held → Takes x.held b back (a.line.held ++ new.held)
 layer_takes a x b back new view change w =
     let own = change w in
-    let old = both a w in
+    let old = weight_append w a.line.held a.layer.held in
     let all = weight_append w a.line.held new.held in
-    let whole = ap (λ (x : Stack). weight w x.held) view in
+    let whole = ap (λ (x : PooledEnd). weight w x.held) view in
     omega (arith, own, old, all, whole)
 
 -- ---- as both are made

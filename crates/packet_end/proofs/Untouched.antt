@@ -11,8 +11,9 @@ use Rattle.packet_layer.specs.Layer.{Layer}
 use Rattle.packet_layer.specs.Events.{timer_named, runs_named}
 use Rattle.packet_end.specs.Timing.{packet_ticks, brought_as, brought_one, brought_channel, brought_channels, brought}
 use Rattle.packet_end.specs.Timing.{RunsAsWanted, IsPacketTimer, channel_number, TimersAgree}
-use Rattle.packet_end.specs.Touched.{OthersAgree}
-use Rattle.packet_end.specs.declared.touched.Touched.TheVariants.{Nothing, Channel}
+use Rattle.packet_end.specs.Touched.{has, OthersAgree}
+use Rattle.packet_end.specs.declared.touched.Touched.{Touched}
+use Rattle.packet_end.specs.declared.touched.Touched.TheVariants.{Nothing, NoTimer, Channel}
 use Rattle.packet_end.proofs.Wanted.{is_timer}
 
 none_left : (o : Option ℕ) → is_some o ≡ false → o ≡ None
@@ -79,14 +80,21 @@ restart_stays : (l : Layer) (timers : Places) → RunsAsWanted l timers T10 → 
     brought_one l T20 (brought_one l T10 timers) ≡ timers
 restart_stays l timers ten twenty = both_stay l T20 _ timers (one_stays l T10 timers ten) twenty
 
--- no channel is touched
-pub nothing_touched : (l : Layer) (timers : Places) → OthersAgree l timers Nothing → brought l timers ≡ timers
+-- no timer is
+pub none_touched : (l : Layer) (timers : Places) → TimersAgree l timers → brought l timers ≡ timers
 unfolding brought
-nothing_touched l timers agree =
-    ap (λ (x : Places). brought_channels l 32 x) (restart_stays l timers (agree T10 tt refl) (agree T20 tt refl))
-    ∙ channels_stay l 32 timers (omega arith) (λ id is within. agree id is refl)
+none_touched l timers agree =
+    ap (λ (x : Places). brought_channels l 32 x) (restart_stays l timers (agree T10 tt) (agree T20 tt))
+    ∙ channels_stay l 32 timers (omega arith) (λ id is within. agree id is)
 
--- one channel is
+pub none_concerned : (l : Layer) (timers : Places) (touched : Touched) → (touched ≡ Nothing) ⊎ (touched ≡ NoTimer) →
+    OthersAgree l timers touched → TimersAgree l timers
+none_concerned l timers touched (inl nothing) agree id is =
+    agree id is (ap (λ (t : Touched). has t (channel_number id)) nothing)
+none_concerned l timers touched (inr none) agree id is =
+    agree id is (ap (λ (t : Touched). has t (channel_number id)) none)
+
+-- those of one channel are
 pub one_touched : (l : Layer) (channel : ℕ) (timers new : Places) → OthersAgree l timers (Channel channel) →
     new ≡ brought_channel l channel timers →
     ((id : TimerId) → IsTimer id → RunsAsWanted l timers id → RunsAsWanted l new id) →

@@ -1,6 +1,6 @@
 -- An event of one channel leaves what the timers of the others wait for, and so do most requests.
 use Rattle.std.proofs.Common.{◌≡◌, ◌≢◌, ℕ, zero, suc, ◌≤◌, Bool, true, false, List, [], ◌∷◌, length, set, refl, sym, ap, ap₂, ◌∙◌, arith}
-use Rattle.std.specs.Prelude.{◌&&◌, ◌==◌, cond, if◌then◌else◌, Option, Some, None, Result, Ok, Err, slice_get}
+use Rattle.std.specs.Prelude.{◌&&◌, ◌==◌, cond, if◌then◌else◌, Option, Some, None, is_some, Result, Ok, Err, slice_get}
 use Rattle.std.proofs.lemmas.Bool.{ne_eqb}
 use Rattle.link_timers.specs.declared.role.Role.{Role}
 use Rattle.link_timers.specs.declared.role.Role.TheVariants.{Dte, Dce}
@@ -184,6 +184,14 @@ request_alike l c n r out =
     found_alike l c n (λ ch. requested l.role ch r) (channel_of l c) refl
     (λ ch. unless_seen (refusal l.role ch r) (carried_out ch r) ch (carried_seen ch r out))
 
+-- a request that may begin or end an own call, reset or clear is of another channel
+pub request_apart_or_alike : (l : Layer) (c n : ℕ) (r : Request) → (is_of_call r ≡ true → n ≢ c) → Alike l (machine.request l c r) n
+request_apart_or_alike l c n r apart = go (is_of_call r) refl
+  where
+    go : (of_call : Bool) → is_of_call r ≡ of_call → Alike l (machine.request l c r) n
+    go true is = request_apart l c n r (apart is)
+    go false is = request_alike l c n r is
+
 placed_apart : (l : Layer) (n : ℕ) (parts : CallParts) (given : Option ℕ) → ((c : ℕ) → given ≡ Some c → n ≢ c) →
     Alike l (placed_on l parts given) n
 placed_apart l n parts None apart = same_as l n
@@ -193,6 +201,29 @@ placed_apart l n parts (Some c) apart =
 pub call_apart : (l : Layer) (n : ℕ) (parts : CallParts) →
     ((c : ℕ) → machine.channel_given l l.phase ≡ Some c → n ≢ c) → Alike l (machine.call l parts) n
 call_apart l n parts apart = placed_apart l n parts (machine.channel_given l l.phase) apart
+
+-- a call that is placed is on the channel that it is given, and one that is refused on none
+pub call_placed : (l : Layer) (n channel : ℕ) (parts : CallParts) → machine.channel_given l l.phase ≡ Some channel → n ≢ channel →
+    Alike l (machine.call l parts) n
+call_placed l n channel parts given apart =
+    call_apart l n parts (λ c is same. apart (same ∙ the_same c (sym given ∙ is)))
+  where
+    the_same : (c : ℕ) → Some channel ≡ Some c → c ≡ channel
+    the_same c is = cc
+
+none_given : (l : Layer) (phase : Phase) (r : Refusal) → machine.call_refusal l phase ≡ Some r → (c : ℕ) →
+    machine.channel_given l phase ≡ Some c → ⊥
+none_given l NoSession r refused c given = absurd (cc)
+none_given l OwnRestart r refused c given = absurd (cc)
+none_given l PacketReady r refused c given = absurd (some (machine.free_channel l.role l.channels) refused given)
+  where
+    some : (free : Option ℕ) → (if is_some free then None else Some Refusal.NoChannel) ≡ Some r → free ≡ Some c → ⊥
+    some None refused given = absurd (cc)
+    some (Some d) refused given = absurd (cc)
+
+pub call_refused : (l : Layer) (n : ℕ) (parts : CallParts) (r : Refusal) → machine.call_refusal l l.phase ≡ Some r →
+    Alike l (machine.call l parts) n
+call_refused l n parts r refused = call_apart l n parts (λ c given same. none_given l l.phase r refused c given)
 
 -- ---- a packet that comes
 

@@ -4,8 +4,6 @@ pub mod Timing
 pub mod Touched
 pub mod Params
 pub mod Pooled
-pub mod Stack
-pub mod StackView
 pub mod NoteQueueView
 pub mod PooledView
 pub mod EndView

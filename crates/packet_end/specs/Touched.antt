@@ -1,4 +1,4 @@
--- Which channels of a line are touched, and what is so of the timers of the others.
+-- What happened at an end of a line since its last event, and what is so of the timers that it does not concern.
 use Rattle.std.specs.Prelude.{◌≡◌, ◌≢◌, ℕ, ◌≤◌, Bool, true, false, ◌==◌, Option, Some, None}
 use Rattle.link_timers.specs.declared.timers.TimerId.{TimerId}
 use Rattle.link_timers.specs.Timers.{Places}
@@ -7,14 +7,21 @@ use Rattle.packet_layer.specs.Channel.Request.{Accept, Clearing, Resetting}
 use Rattle.packet_layer.specs.Layer.{Layer}
 use Rattle.packet_end.specs.Timing.{RunsAsWanted, IsPacketTimer, channel_number}
 use Rattle.packet_end.specs.declared.touched.Touched.{Touched}
-use Rattle.packet_end.specs.declared.touched.Touched.TheVariants.{Nothing, Channel, Everything}
+use Rattle.packet_end.specs.declared.touched.Touched.TheVariants.{Nothing, NoTimer, Channel, Everything}
 
+-- whether it concerns the timers of a channel
 abbrev pub has : Touched → (channel : ℕ) → Bool
 has Nothing n = false
+has NoTimer n = false
 has (Channel channel) n = n == channel
 has Everything n = true
 
--- each timer of a channel that is not touched runs exactly where the layer wants it to
+-- something happened
+abbrev pub IsTouched : Touched → Type 0
+IsTouched Nothing = ⊥
+IsTouched touched = Unit {0}
+
+-- each timer that it does not concern runs exactly where the layer wants it to
 abbrev pub OthersAgree : Layer → Places → Touched → Type 0
 OthersAgree l timers touched =
     (id : TimerId) → IsPacketTimer id → has touched (channel_number id) ≡ false → RunsAsWanted l timers id

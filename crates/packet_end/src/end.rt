@@ -1,43 +1,42 @@
-//! One end of a line with its packet layer.
-ghost use Rattle.std.specs.Prelude.{◌≡◌, ◌≤◌, ◌+◌, ◌&&◌, [], ◌∷◌, length, is_some, MatchResult, slice_get};
+//! One end of a line with its packet layer, and with a pool of its own.
+ghost use Rattle.std.specs.Prelude.{◌≡◌, ◌≤◌, ◌+◌, [], ◌∷◌, length, Some, None, MatchResult, slice_get};
 ghost use Rattle.std.specs.Bool.{OnTrue, OnFalse};
-ghost use Rattle.lapb.specs.Machine.{can_offer, settle};
-ghost use Rattle.lapb.specs.Unsent.{HasSentAll};
-ghost use Rattle.packet_layer.specs.Layer.{next_packet};
+ghost use Rattle.packet_codec.specs.Packet.{IsCallValue};
+ghost use Rattle.packet_codec.specs.View.{call_view};
+ghost use Rattle.packet_layer.specs.Channel.{Request as ask};
+ghost use Rattle.packet_layer.specs.Layer as machine;
+ghost use Rattle.packet_layer.specs.Octets.{parts_of};
+ghost use Rattle.packet_layer.specs.RequestView.{request_of, refusal_of, call_refusal_of};
+ghost use Rattle.packet_layer.specs.TakenView.{maybe_taken, maybe_front};
 ghost use Rattle.packet_end.specs.Params.{AreParams, MadeNot};
 ghost use Rattle.packet_end.specs.Timing.{TimersAgree};
-ghost use Rattle.packet_end.specs.PacketEnd.{made, begun, received, runs_at, after_timer, relinked};
-ghost use Rattle.packet_end.specs.PacketEnd.{relinked_if_due, restarted, KeepsNothingBack, settled, finished};
-ghost use Rattle.packet_end.specs.PacketEnd.{all_offered, HasOfferedAll, SettlesOnce};
+ghost use Rattle.packet_end.specs.PacketEnd.{made, begun, received, after_timer, relinked, restarted};
+ghost use Rattle.packet_end.specs.PacketEnd.{KeepsNothingBack, finished, asked, called};
+ghost use Rattle.packet_end.specs.PacketEnd.{elapsed, without_first_frame, without_first_note};
 ghost use Rattle.packet_end.specs.Sending.{EndsWhole};
-ghost use Rattle.packet_end.specs.PacketEnd.{elapsed, due, at_rest, without_first_frame, without_first_note};
-
-mod asking;
 
 use crate::fault::EndFault;
-use crate::notes::MOST_NOTES;
 use crate::params::EndParams;
 use crate::pooled::PooledEnd;
 use flow_window::pool::Pool;
 use frame_codec::{FrameBuf, MAX_INFORMATION};
-use line_end::MOST_FRAMES;
 use link_timers::{Role, TimerId};
-use packet_layer::LayerNote;
+use packet_codec::CallData;
+use packet_layer::{CallFault, ChannelFault, Front, LayerNote, Request, Taken};
 use std::alloc::Global;
 use std::marker::Model;
+use std::ops::Deref;
 
 /// One end of a line with its packet layer: the link with the frames that go out, the logical channels, the timers of
-/// both, and what is told of the calls. Its packets lie in a pool of its own.
+/// both, and what is told of the calls. Its packets lie in a pool of its own. What asks about the end, without a
+/// change, is a call of [`PooledEnd`] or of the packet layer.
 ///
-/// An event of a node is, for each of its lines: `begin`, then what happens at this line (`on_frame`, `on_timer`,
-/// `relink` or what a user asks of a call), `relink_if_due`, `offer_packets` and `settle`; a node with one line ends it
-/// by `finish`. Then the frames are taken by `out` and the notes by `notes`.
+/// An event of a node with one line is `begin`, then what happens at the line (`on_frame`, `on_timer`, `relink` or what
+/// a user asks of a call), then `finish`. Then the frames are taken by `out` and the notes by `notes`.
 #[derive(Drop)]
 pub struct PacketEnd {
     end: PooledEnd,
     pool: Pool,
-    /// Whether an event ended here and nothing happened since.
-    is_finished: bool,
 }
 
 impl Model for PacketEnd {
@@ -50,6 +49,16 @@ impl Model for PacketEnd {
     ghost view = { end_of };
 
     ghost invariant = { IsEnd };
+}
+
+impl Deref for PacketEnd {
+    type Target = PooledEnd;
+
+    fn deref(&self) -> &PooledEnd
+        ensures { result.now.end ≡ self.now }
+    {
+        &self.end
+    }
 }
 
 impl PacketEnd {
@@ -67,11 +76,7 @@ impl PacketEnd {
         params.check()?;
         let mut pool = Pool::new(alloc, params.buffers(), MAX_INFORMATION)?;
         let end = PooledEnd::new(alloc, role, params, &mut pool)?;
-        Ok(PacketEnd {
-            end,
-            pool,
-            is_finished: false,
-        })
+        Ok(PacketEnd { end, pool })
     }
 
     /// Begins an event of the node: drops the frames, as lost, and the notes that were not taken.
@@ -87,15 +92,7 @@ impl PacketEnd {
         ensures end { self.new ≡ received self.old octets.now }
         ensures notes { length self.new.notes ≤ 64 }
     {
-        self.is_finished = false;
         self.end.on_frame(octets, &mut self.pool);
-    }
-
-    /// Whether a timer runs, also with no tick left.
-    pub fn is_running(&self, id: TimerId) -> bool
-        ensures { result ≡ runs_at self.now id }
-    {
-        self.end.is_running(id)
     }
 
     /// Takes an expiry of a timer. Where the timer does not run nothing happens.
@@ -104,7 +101,6 @@ impl PacketEnd {
         ensures end { self.new ≡ after_timer self.old id }
         ensures notes { length self.new.notes ≤ 64 }
     {
-        self.is_finished = false;
         self.end.on_timer(id, &mut self.pool);
     }
 
@@ -114,26 +110,7 @@ impl PacketEnd {
         ensures end { self.new ≡ relinked self.old }
         ensures notes { length self.new.notes ≤ length self.old.notes + 32 }
     {
-        self.is_finished = false;
         self.end.relink(&mut self.pool);
-    }
-
-    /// Whether the packet layer asks for a relink.
-    pub fn must_relink(&self) -> bool
-        ensures { result ≡ self.now.layer.relink }
-    {
-        self.end.must_relink()
-    }
-
-    /// Relinks the link if the packet layer asks for it.
-    pub fn relink_if_due(&mut self)
-        requires { length self.old.notes ≤ 64 }
-        ensures end { self.new ≡ relinked_if_due self.old }
-        ensures notes { length self.new.notes ≤ length self.old.notes + 32 }
-    {
-        if self.must_relink() {
-            self.relink();
-        }
     }
 
     /// Restarts the end of the line with its node, as on a line that does not stand. All that went before is forgotten,
@@ -141,38 +118,11 @@ impl PacketEnd {
     pub fn restart(&mut self)
         ensures { self.new ≡ restarted self.old }
     {
-        self.is_finished = false;
         self.end.restart(&mut self.pool);
     }
 
-    /// Ends an event: the timers run as the packet layer wants them, and the link sends what may go.
-    pub fn settle(&mut self)
-        ensures end { self.new ≡ settled self.old }
-
-        // No packet that the link holds and may send stays unsent.
-        ensures all_sent { HasSentAll self.new.line.link }
-        ensures few { length (settle self.old.line.link).frames ≤ 7 }
-        ensures timers { TimersAgree self.new.layer self.new.timers }
-    {
-        self.is_finished = false;
-        self.end.settle(&mut self.pool);
-    }
-
-    /// Offers packets to the link, as long as it takes one and the packet layer has one that may go, and answers
-    /// whether it took any.
-    pub fn offer_packets(&mut self) -> bool
-        ensures offered { result
-            ≡ (can_offer self.old.line.link && is_some (next_packet self.old.layer).packet) }
-        ensures end { self.new ≡ all_offered self.old }
-        ensures notes { self.new.notes ≡ self.old.notes }
-        ensures all_offered { HasOfferedAll self.new }
-    {
-        self.is_finished = false;
-        self.end.offer_packets(&mut self.pool)
-    }
-
-    /// Ends an event of a node with one line: a relink where it is due, all packets that may go, and `settle`. No frame
-    /// of the event is lost.
+    /// Ends an event: a relink where it is due, all packets that may go, the timers as the packet layer wants them, and
+    /// the frames that the link may send. No frame of the event is lost.
     pub fn finish(&mut self)
         requires { length self.old.notes ≤ 64 }
         ensures end { self.new ≡ finished self.old }
@@ -181,26 +131,7 @@ impl PacketEnd {
         ensures frames { EndsWhole self.old self.new }
         ensures timers { TimersAgree self.new.layer self.new.timers }
     {
-        if self.is_finished {
-            return;
-        }
-        self.finish_anew();
-        self.is_finished = !self.must_relink();
-    }
-
-    // The same where something happened since an event ended.
-    fn finish_anew(&mut self)
-        requires { length self.old.notes ≤ 64 }
-        ensures end { self.new ≡ finished self.old }
-        ensures notes { length self.new.notes ≤ length self.old.notes + 32 }
-        ensures nothing_kept_back { KeepsNothingBack self.new }
-        ensures frames { EndsWhole self.old self.new }
-        ensures timers { TimersAgree self.new.layer self.new.timers }
-        ensures line { SettlesOnce self.new.line }
-    {
-        self.relink_if_due();
-        let _ = self.offer_packets();
-        self.settle();
+        self.end.finish(&mut self.pool);
     }
 
     /// Takes the next frame that goes out, if there is one. Where there is none `frame` stays.
@@ -225,38 +156,50 @@ impl PacketEnd {
     pub fn elapse(&mut self, ticks: u16)
         ensures { self.new ≡ elapsed self.old ticks }
     {
-        self.is_finished = false;
         self.end.elapse(ticks);
     }
 
-    /// The first timer that runs with no tick left, in the order of [`TimerId`] and then by number.
-    pub fn due(&self) -> Option<TimerId>
-        ensures { result ≡ due self.now }
+    /// Places a call on a free channel, a DTE on the highest one and a DCE on the lowest (X.25 4.1.2), and answers the
+    /// channel. The facilities have at most 109 octets and the user data at most 16.
+    ///
+    /// `NotReady` comes where the restart procedure is not done, then `NoChannel` where no channel is free. A call that
+    /// is refused changes nothing.
+    pub fn call(&mut self, call: &CallData<'_>) -> Result<u8, CallFault>
+        requires { IsCallValue (call_view call.now) }
+        ensures answer { MatchResult result
+            (λ channel. machine.channel_given self.old.layer self.old.layer.phase ≡ Some channel)
+            (λ fault. machine.call_refusal self.old.layer self.old.layer.phase ≡ Some (call_refusal_of fault)) }
+        ensures end { self.new ≡ called self.old (parts_of (call_view call.now)) }
     {
-        self.end.due()
+        self.end.call(call)
     }
 
-    /// How many frames wait to be taken, at most [`MOST_FRAMES`].
-    pub fn waiting_frames(&self) -> usize
-        ensures count { result ≡ length self.now.line.frames }
-        ensures most { result ≤ MOST_FRAMES }
+    /// Asks something of the call on the channel: [`Request`] has each refusal. A channel that the line does not have
+    /// has no call. What is refused changes nothing.
+    pub fn ask(&mut self, channel: u8, request: &Request<'_>) -> Result<(), ChannelFault>
+        ensures answer { MatchResult result
+            (λ _. machine.request_refusal self.old.layer channel (request_of request.now) ≡ None)
+            (λ fault. machine.request_refusal self.old.layer channel (request_of request.now)
+            ≡ Some (refusal_of fault)) }
+        ensures end { self.new ≡ asked self.old channel (request_of request.now) }
     {
-        self.end.waiting_frames()
+        self.end.ask(channel, request, &mut self.pool)
     }
 
-    /// How many notes wait to be taken, at most [`MOST_NOTES`].
-    pub fn waiting_notes(&self) -> usize
-        ensures count { result ≡ length self.now.notes }
-        ensures most { result ≤ MOST_NOTES }
+    /// Takes what comes next on the channel, if anything: an interrupt before all packets.
+    pub fn take(&mut self, channel: u8) -> Option<Taken>
+        ensures taken { maybe_taken result ≡ machine.front_on self.old.layer channel }
+        ensures end { self.new ≡ asked self.old channel ask.Taking }
     {
-        self.end.waiting_notes()
+        let taken = self.end.take_buf(channel)?;
+        Some(taken.take_out(&mut self.pool))
     }
 
-    /// Whether the link is up with nothing unacknowledged and nothing to be said, no packet is owed, and nothing waits
-    /// to be sent or taken on any channel.
-    pub fn is_at_rest(&self) -> bool
-        ensures { result ≡ at_rest self.now }
+    /// What `take` would give on the channel, if anything: an interrupt, or a Data packet of so many octets with M, Q
+    /// and D.
+    pub fn front(&self, channel: u8) -> Option<Front>
+        ensures { result ≡ maybe_front (machine.front_on self.now.layer channel) }
     {
-        self.end.is_at_rest()
+        self.end.front(channel, &self.pool)
     }
 }

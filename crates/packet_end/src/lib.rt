@@ -8,7 +8,6 @@ mod fault;
 mod notes;
 mod params;
 mod pooled;
-mod stack;
 mod timing;
 mod touched;
 

@@ -1,44 +1,46 @@
 //! One end of a line with its packet layer, in a pool that it is lent.
-ghost use Rattle.std.specs.Prelude.{◌≡◌, ◌≤◌, ◌<◌, ◌+◌, [], ◌∷◌, length, MatchResult, slice_get};
+ghost use Rattle.std.specs.Prelude.{◌≡◌, ◌≤◌, ◌<◌, ◌+◌, ◌++◌, [], ◌∷◌, length, drop, MatchResult, slice_get};
 ghost use Rattle.std.specs.Bool.{OnTrue, OnFalse};
 ghost use Rattle.flow_window.specs.Pool.{Balances};
-ghost use Rattle.lapb.specs.Machine.{settle};
-ghost use Rattle.lapb.specs.Unsent.{HasSentAll};
+ghost use Rattle.packet_layer.specs.Layer.{unread};
 ghost use Rattle.packet_end.specs.Params.{AreParams};
 ghost use Rattle.packet_end.specs.Pooled.{Serves, share_with};
-ghost use Rattle.packet_end.specs.Timing.{TimersAgree};
-ghost use Rattle.packet_end.specs.PacketEnd.{made, begun, gathered, heeded, received, runs_at, after_timer, relinked};
-ghost use Rattle.packet_end.specs.PacketEnd.{restarted, settled, elapsed, due, at_rest, without_first_frame};
+ghost use Rattle.packet_end.specs.PacketEnd.{made, begun, heeded, received, runs_at, after_timer, relinked};
+ghost use Rattle.packet_end.specs.PacketEnd.{restarted, elapsed, due, at_rest, without_first_frame};
 ghost use Rattle.packet_end.specs.PacketEnd.{without_first_note};
 ghost use Rattle.packet_end.specs.declared.fault.EndFault.TheVariants as fault_is;
 
 mod asking;
-mod offering;
+mod ending;
 
 use crate::fault::EndFault;
 use crate::notes::{MOST_NOTES, NoteQueue};
 use crate::params::EndParams;
-use crate::stack::Stack;
-use crate::timing::bring_into_line;
 use crate::touched::Touched;
 use flow_window::pool::Pool;
 use frame_codec::FrameBuf;
-use lapb::Note;
-use line_end::MOST_FRAMES;
+use lapb::{LinkParams, Note};
+use line_end::{LineEnd, MOST_FRAMES};
 use link_timers::{Role, TimerId, Timers};
-use packet_layer::LayerNote;
+use packet_codec::PacketBuf;
+use packet_layer::{Layer, LayerNote, LayerParams};
 use std::alloc::Global;
 use std::marker::Model;
+use std::ops::Deref;
 
 /// One end of a line with its packet layer, as [`PacketEnd`](crate::PacketEnd) has it, but without a pool of its own:
-/// its packets lie in one that it shares with other ends. Each call that puts packets there, gives them up or reads
-/// them is lent the pool.
+/// the packets of its link and its layer lie in one that it shares with other ends. Each call that puts packets there,
+/// gives them up or reads them is lent the pool. What asks the packet layer alone, without a change, is a call of
+/// [`Layer`].
 #[derive(Drop)]
 pub struct PooledEnd {
-    stack: Stack,
+    line: LineEnd,
+    layer: Layer,
     timers: Timers,
     notes: NoteQueue,
     touched: Touched,
+    /// The place of a packet that goes from the layer to the link.
+    packet: PacketBuf,
 }
 
 impl Model for PooledEnd {
@@ -51,6 +53,16 @@ impl Model for PooledEnd {
     ghost view = { pooled_of };
 
     ghost invariant = { IsPooled };
+}
+
+impl Deref for PooledEnd {
+    type Target = Layer;
+
+    fn deref(&self) -> &Layer
+        ensures { result.now.layer ≡ self.now.end.layer }
+    {
+        &self.layer
+    }
 }
 
 impl PooledEnd {
@@ -70,11 +82,28 @@ impl PooledEnd {
             (λ fault. fault ≡ fault_is.OutOfMemory) }
         ensures pool { Balances pool.old [] pool.new [] }
     {
+        let EndParams {
+            k,
+            n2,
+            channels,
+            window,
+            standing,
+        } = params;
+        let layer = LayerParams {
+            channels,
+            window,
+            standing,
+        };
+        let layer = Layer::new(alloc, role, layer)?;
+        let notes = NoteQueue::new(alloc)?;
+        let line = LineEnd::new(role, LinkParams { k, n2, standing }, pool)?;
         Ok(PooledEnd {
-            stack: Stack::new(alloc, role, params, pool)?,
+            line,
+            layer,
             timers: Timers::new(),
-            notes: NoteQueue::new(alloc)?,
+            notes,
             touched: Touched::Everything,
+            packet: PacketBuf::new(),
         })
     }
 
@@ -82,7 +111,7 @@ impl PooledEnd {
     pub fn begin(&mut self)
         ensures { self.new ≡ record self.old { end = begun self.old.end } }
     {
-        self.stack.drop_frames();
+        self.line.drop_frames();
         self.notes.clear();
     }
 
@@ -95,12 +124,13 @@ impl PooledEnd {
         ensures pool { Balances pool.old self.old.held pool.new self.new.held }
         ensures within { length self.new.held < self.new.share }
     {
-        let received = self.stack.on_frame(octets, pool);
+        self.touched.touch();
+        let received = self.line.on_frame(octets, pool);
         self.heed(received.note, pool);
         if let Some(packet) = received.packet {
             self.touched.insert_named(packet);
-            self.stack.on_packet(packet, pool);
-            self.gather();
+            self.layer.on_packet(packet, pool);
+            gather(&mut self.layer, &mut self.notes);
         }
     }
 
@@ -109,7 +139,7 @@ impl PooledEnd {
         ensures { result ≡ runs_at self.now.end id }
     {
         match id {
-            TimerId::T1 => self.stack.line().is_running(id),
+            TimerId::T1 => self.line.is_running(id),
             _ => self.timers.is_running(id),
         }
     }
@@ -124,13 +154,14 @@ impl PooledEnd {
         ensures within { length self.new.held < self.new.share }
     {
         if let TimerId::T1 = id {
-            if let Some(note) = self.stack.on_line_timer(id, pool) {
+            self.touched.touch();
+            if let Some(note) = self.line.on_timer(id, pool) {
                 self.heed(note, pool);
             }
         } else if self.timers.fire(id) {
             self.touched = Touched::Everything;
-            self.stack.on_layer_timer(id, pool);
-            self.gather();
+            self.layer.on_timer(id, pool);
+            gather(&mut self.layer, &mut self.notes);
         }
     }
 
@@ -143,51 +174,24 @@ impl PooledEnd {
         ensures pool { Balances pool.old self.old.held pool.new self.new.held }
         ensures within { length self.new.held < self.new.share }
     {
-        self.stack.relink(pool);
-        self.stack.link_down(pool);
-        self.timers = Timers::new();
-        self.touched = Touched::Everything;
-        self.gather();
+        self.touched.touch();
+        self.line.relink(pool);
+        self.heed(Note::Down, pool);
     }
 
-    /// Whether the packet layer asks for a relink.
-    pub fn must_relink(&self) -> bool
-        ensures { result ≡ self.now.end.layer.relink }
-    {
-        self.stack.layer().must_relink()
-    }
-
-    /// Begins anew after a restart of the node, as on a line that does not stand. What went before is forgotten, also
-    /// frames and notes.
+    /// Restarts the end of the line with its node, as on a line that does not stand. All that went before is forgotten,
+    /// frames and notes too.
     pub fn restart(&mut self, pool: &mut Pool)
         requires { Serves pool.old self.old.held self.old.share }
         ensures end { self.new ≡ record self.old { end = restarted self.old.end; held = self.new.held } }
         ensures pool { Balances pool.old self.old.held pool.new self.new.held }
         ensures within { length self.new.held < self.new.share }
     {
+        self.touched.touch();
         self.notes.clear();
-        self.stack.restart(pool);
-        self.stack.link_down(pool);
-        self.timers = Timers::new();
-        self.touched = Touched::Everything;
-        self.gather();
+        self.line.restart(pool);
+        self.heed(Note::Down, pool);
         self.notes.clear();
-    }
-
-    /// Ends an event: the timers run as the packet layer wants them, and the link sends what may go.
-    pub fn settle(&mut self, pool: &mut Pool)
-        requires { Serves pool.old self.old.held self.old.share }
-        ensures end { self.new ≡ record self.old { end = settled self.old.end } }
-
-        // No packet that the link holds and may send stays unsent.
-        ensures all_sent { HasSentAll self.new.end.line.link }
-        ensures few { length (settle self.old.end.line.link).frames ≤ 7 }
-        ensures timers { TimersAgree self.new.end.layer self.new.end.timers }
-        ensures pool { pool.new ≡ pool.old }
-    {
-        bring_into_line(&mut self.timers, self.stack.layer(), self.touched);
-        self.touched = Touched::Nothing;
-        self.stack.settle(pool);
     }
 
     /// Takes the next frame that goes out, if there is one. Where there is none `frame` stays.
@@ -197,7 +201,7 @@ impl PooledEnd {
         ensures same { OnFalse result (frame.new ≡ frame.old) }
         ensures end { self.new ≡ record self.old { end = without_first_frame self.old.end } }
     {
-        self.stack.out(frame)
+        self.line.out(frame)
     }
 
     /// Takes the next note, if there is one.
@@ -212,7 +216,8 @@ impl PooledEnd {
     pub fn elapse(&mut self, ticks: u16)
         ensures { self.new ≡ record self.old { end = elapsed self.old.end ticks } }
     {
-        self.stack.elapse(ticks);
+        self.touched.touch();
+        self.line.elapse(ticks);
         self.timers.elapse(ticks);
     }
 
@@ -220,7 +225,7 @@ impl PooledEnd {
     pub fn due(&self) -> Option<TimerId>
         ensures { result ≡ due self.now.end }
     {
-        match self.stack.line().due() {
+        match self.line.due() {
             Some(id) => Some(id),
             None => self.timers.due(),
         }
@@ -231,7 +236,7 @@ impl PooledEnd {
         ensures count { result ≡ length self.now.end.line.frames }
         ensures most { result ≤ MOST_FRAMES }
     {
-        self.stack.line().waiting()
+        self.line.waiting()
     }
 
     /// How many notes wait to be taken, at most [`MOST_NOTES`].
@@ -247,7 +252,7 @@ impl PooledEnd {
     pub fn is_at_rest(&self) -> bool
         ensures { result ≡ at_rest self.now.end }
     {
-        self.stack.line().is_at_rest() && self.stack.layer().is_at_rest()
+        self.line.is_at_rest() && self.layer.is_at_rest()
     }
 
     // What a note of the link is for the packet layer.
@@ -261,24 +266,25 @@ impl PooledEnd {
     {
         match note {
             Note::Nothing => return,
-            Note::Up => self.stack.link_up(pool),
-            Note::Down => self.stack.link_down(pool),
+            Note::Up => self.layer.link_up(pool),
+            Note::Down => self.layer.link_down(pool),
         }
         self.timers = Timers::new();
         self.touched = Touched::Everything;
-        self.gather();
+        gather(&mut self.layer, &mut self.notes);
     }
+}
 
-    // Takes the notes of the packet layer over.
-    fn gather(&mut self)
-        requires { length self.old.end.notes ≤ 64 }
-        ensures end { self.new ≡ record self.old { end = gathered self.old.end } }
-        ensures notes { length self.new.end.notes ≤ length self.old.end.notes + 32 }
-    {
-        for _ in 0..self.stack.layer().unread_notes() {
-            if let Some(note) = self.stack.notes() {
-                self.notes.add(note);
-            }
+// Takes the notes of a packet layer over.
+fn gather(layer: &mut Layer, notes: &mut NoteQueue)
+    requires { length notes.old ≤ 64 }
+    ensures layer { layer.new ≡ record layer.old { layer = unread layer.old.layer } }
+    ensures notes { notes.new ≡ notes.old ++ layer.old.layer.notes }
+    ensures most { length notes.new ≤ length notes.old + 32 }
+{
+    for _ in 0..layer.unread_notes() {
+        if let Some(note) = layer.notes() {
+            notes.add(note);
         }
     }
 }

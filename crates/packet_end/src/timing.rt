@@ -22,7 +22,7 @@ pub(crate) fn bring_into_line(timers: &mut Timers, layer: &Layer, touched: Touch
     ensures agree { TimersAgree layer.now.layer timers.new }
 {
     match touched {
-        Touched::Nothing => {}
+        Touched::Nothing | Touched::NoTimer => {}
         Touched::Channel(channel) if 1 <= channel && channel <= MOST_CHANNELS => {
             bring_channel(timers, layer, channel);
         }

@@ -6,19 +6,17 @@ ghost use Rattle.packet_codec.specs.View.{call_view};
 ghost use Rattle.packet_layer.specs.Answers.{handed_back};
 ghost use Rattle.packet_layer.specs.Held.{Loses, Takes};
 ghost use Rattle.packet_layer.specs.Channel.{Request as ask};
-ghost use Rattle.packet_layer.specs.Interrupting.{may_interrupt};
 ghost use Rattle.packet_layer.specs.Layer as machine;
 ghost use Rattle.packet_layer.specs.Octets.{parts_of};
 ghost use Rattle.packet_layer.specs.RequestView.{request_of, refusal_of, call_refusal_of};
-ghost use Rattle.packet_layer.specs.TakenView.{maybe_taken, maybe_taken_in, maybe_buffers_in, maybe_front};
+ghost use Rattle.packet_layer.specs.TakenView.{maybe_taken_in, maybe_buffers_in, maybe_front};
 ghost use Rattle.packet_end.specs.PacketEnd.{asked, called};
 ghost use Rattle.packet_end.specs.Pooled.{Serves};
-ghost use Rattle.packet_end.specs.Touched.{is_of_call};
 
 use crate::pooled::PooledEnd;
 use flow_window::pool::{BufNo, Pool};
 use packet_codec::CallData;
-use packet_layer::{CallFault, ChannelFault, Front, RefusedBuf, Request, Taken, TakenBuf};
+use packet_layer::{CallFault, ChannelFault, Front, RefusedBuf, Request, TakenBuf};
 
 impl PooledEnd {
     /// Places a call on a free channel, a DTE on the highest one and a DCE on the lowest (X.25 4.1.2), and answers the
@@ -33,7 +31,8 @@ impl PooledEnd {
             (λ fault. machine.call_refusal self.old.end.layer self.old.end.layer.phase ≡ Some (call_refusal_of fault)) }
         ensures end { self.new ≡ record self.old { end = called self.old.end (parts_of (call_view call.now)) } }
     {
-        let channel = self.stack.call(call)?;
+        self.touched.touch();
+        let channel = self.layer.call(call)?;
         self.touched.insert(channel);
         Ok(channel)
     }
@@ -58,32 +57,20 @@ impl PooledEnd {
         ensures pool { Balances pool.old self.old.held pool.new self.new.held }
         ensures within { length self.new.held < self.new.share }
     {
-        if changes_call(request) {
-            self.touched.insert(channel);
-        }
-        self.stack.ask(channel, request, pool)
+        self.touched.insert_asked(channel, request);
+        self.layer.ask(channel, request, pool)
     }
 
-    /// Takes what comes next on the channel, if anything: an interrupt before all packets.
-    pub fn take(&mut self, channel: u8, pool: &mut Pool) -> Option<Taken>
-        requires { Serves pool.old self.old.held self.old.share }
-        ensures taken { maybe_taken result ≡ machine.front_on self.old.end.layer channel }
-        ensures end { self.new ≡ record self.old { end = asked self.old.end channel ask.Taking; held = self.new.held } }
-        ensures pool { Balances pool.old self.old.held pool.new self.new.held }
-        ensures within { length self.new.held < self.new.share }
-    {
-        self.stack.take(channel, pool)
-    }
-
-    /// Takes what comes next on the channel as `take` does, but a packet stays in its buffer, whose number is handed
-    /// out with M, Q and D.
+    /// Takes what comes next on the channel, if anything: an interrupt before all packets. A packet stays in its buffer,
+    /// whose number is handed out with M, Q and D.
     pub fn take_buf(&mut self, channel: u8) -> Option<TakenBuf>
         ensures taken { maybe_taken_in result ≡ machine.front_on self.old.end.layer channel }
         ensures end { self.new ≡ record self.old { end = asked self.old.end channel ask.Taking; held = self.new.held } }
         ensures held { Loses self.old.held (maybe_buffers_in result) self.new.held }
         ensures within { length self.new.held < self.new.share }
     {
-        self.stack.take_buf(channel)
+        self.touched.touch();
+        self.layer.take_buf(channel)
     }
 
     /// Puts a Data packet that lies in a buffer into the send queue of the channel: `Request::Send` has each refusal.
@@ -113,66 +100,17 @@ impl PooledEnd {
         ensures held { Takes self.old.held buffer (handed_back result) self.new.held }
         ensures within { length self.new.held < self.new.share }
     {
-        self.stack
+        self.touched.touch();
+        self.layer
             .send_buf(channel, buffer, more, qualified, delivery, pool)
     }
 
-    /// Whether a call came in on the channel and is not answered: it can be accepted.
-    pub fn can_accept(&self, channel: u8) -> bool
-        ensures { result ≡ machine.can_accept self.now.end.layer channel }
-    {
-        self.stack.layer().can_accept(channel)
-    }
-
-    /// Whether data may be queued on the channel, however much waits there: `NoCall` comes where no call is in data
-    /// transfer, then `Resetting` while the own reset is not confirmed.
-    pub fn may_send(&self, channel: u8) -> Result<(), ChannelFault>
-        ensures { MatchResult result
-            (λ _. machine.flow_refusal self.now.end.layer channel ≡ None)
-            (λ fault. machine.flow_refusal self.now.end.layer channel ≡ Some (refusal_of fault)) }
-    {
-        self.stack.layer().may_send(channel)
-    }
-
-    /// How many packets the channel takes to be sent, 0 to 8: none where the first would be refused by `NoCall` or
-    /// `Resetting`.
-    pub fn room(&self, channel: u8) -> u8
-        ensures { result ≡ machine.room self.now.end.layer channel }
-    {
-        self.stack.layer().room(channel)
-    }
-
-    /// Whether the channel takes an interrupt of 1 to 32 octets to be sent.
-    pub fn may_interrupt(&self, channel: u8) -> bool
-        ensures { result ≡ may_interrupt self.now.end.layer channel }
-    {
-        self.stack.layer().may_interrupt(channel)
-    }
-
-    /// What `take` would give on the channel, if anything: an interrupt, or a Data packet of so many octets with M, Q
+    /// What `take_buf` would give on the channel, if anything: an interrupt, or a Data packet of so many octets with M, Q
     /// and D.
     pub fn front(&self, channel: u8, pool: &Pool) -> Option<Front>
         requires { Holds pool.now self.now.held }
         ensures { result ≡ maybe_front (machine.front_on self.now.end.layer channel) }
     {
-        self.stack.front(channel, pool)
+        self.layer.front(channel, pool)
     }
-
-    /// Whether the channel has a call in which no packet of the present epoch that asks for delivery confirmation (D =
-    /// 1) still waits for the P(R) that covers it (X.25 4.3.3).
-    pub fn confirmed(&self, channel: u8) -> bool
-        ensures { result ≡ machine.confirmed self.now.end.layer channel }
-    {
-        self.stack.layer().confirmed(channel)
-    }
-}
-
-// Whether a request is of the call itself, so that an own call, reset or clear may begin or end.
-fn changes_call(request: &Request<'_>) -> bool
-    ensures { result ≡ is_of_call (request_of request.now) }
-{
-    matches!(
-        request,
-        Request::Accept | Request::Clear { .. } | Request::Reset { .. }
-    )
 }

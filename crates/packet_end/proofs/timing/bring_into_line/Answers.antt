@@ -1,13 +1,13 @@
 use Rattle.std.proofs.Common.{sym}
 use Rattle.packet_end.specs.Touched.{OthersAgree}
-use Rattle.packet_end.specs.declared.touched.Touched.TheVariants.{Nothing, Channel}
-use Rattle.packet_end.proofs.Untouched.{nothing_touched, one_touched}
+use Rattle.packet_end.specs.declared.touched.Touched.TheVariants.{Channel}
+use Rattle.packet_end.proofs.Untouched.{none_touched, none_concerned, one_touched}
 use Rattle.packet_end.proofs.timing.bring_into_line.Goals as goal
 
 pub returns-in-Nothing-clause-places : goal.returns-in-Nothing-clause-places
 returns-in-Nothing-clause-places c =
-    let agree : OthersAgree c.args.layer.now.layer c.args.timers.now Nothing = rw c.in-Nothing.is at c.requires in
-    sym (nothing_touched c.args.layer.now.layer c.args.timers.now agree)
+    let l = c.args.layer.now.layer in
+    sym (none_touched l c.args.timers.now (none_concerned l c.args.timers.now c.args.touched c.in-Nothing.is c.requires))
 
 pub returns-in-Channel-clause-places : goal.returns-in-Channel-clause-places
 returns-in-Channel-clause-places c =

@@ -1,15 +1,12 @@
-use Rattle.std.proofs.Common.{◌≡◌, sym, subst}
-use Rattle.packet_end.specs.PacketEnd.{PacketEnd, finished}
-use Rattle.packet_end.specs.Sending.{EndsWhole}
-use Rattle.packet_end.proofs.Ended.{finished_once}
-use Rattle.packet_end.proofs.Sending.{ended_whole}
+use Rattle.std.proofs.Common.{ap}
+use Rattle.packet_end.specs.Pooled.{PooledEnd}
+use Rattle.packet_end.proofs.Owned.{serves, after}
 use Rattle.packet_end.proofs.end.PacketEnd.finish.Goals as goal
 
-pub returns-then-self-clause-end : goal.returns-then-self-clause-end
-returns-then-self-clause-end c =
-    subst (λ (e : PacketEnd). e ≡ finished e) c.self.view_is
-    (sym (finished_once c.self.inside.end.end (c.self.invariant.finished c.if-self.true)))
+pub finish-requires-clause-pool : goal.finish-requires-clause-pool
+finish-requires-clause-pool c = serves c.self.inside c.self.invariant
 
-pub returns-then-self-clause-frames : goal.returns-then-self-clause-frames
-returns-then-self-clause-frames c =
-    subst (λ (e : PacketEnd). EndsWhole e e) c.self.view_is (ended_whole c.self.inside.end.end (c.self.invariant.finished c.if-self.true))
+pub invariant_of-self : goal.invariant_of-self
+invariant_of-self c =
+    after c.self.inside c.finish.new.self c.finish.new.pool c.self.invariant c.finish.ensures.pool
+    (ap (λ (e : PooledEnd). e.share) c.finish.ensures.end)

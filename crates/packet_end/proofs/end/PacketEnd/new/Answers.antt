@@ -17,5 +17,4 @@ invariant_of-result c =
           let weights = change.weights w in
           let begins = c.in_ok-pool.ensures.weights w in
           omega (arith, held, weights, begins);
-      finished = λ says. absurd (cc);
     }

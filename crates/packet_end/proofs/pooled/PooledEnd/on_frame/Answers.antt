@@ -1,30 +1,86 @@
-use Rattle.std.proofs.Common.{ap, subst, sym}
-use Rattle.packet_end.specs.Stack.{Stack}
-use Rattle.packet_end.specs.Pooled.{PooledEnd, Serves}
-use Rattle.packet_end.proofs.Lent.{stepped}
-use Rattle.packet_end.proofs.Pools.{serves_after}
+use Rattle.std.proofs.Common.{◌++◌, ◌∙◌, ap, inl}
+use Rattle.std.specs.Prelude.{◌+◌}
+use Rattle.flow_window.proofs.Weights.{balances_then}
+use Rattle.packet_layer.specs.Held.{Layer, most_held}
+use Rattle.packet_end.specs.Pooled.{PooledEnd, share_of}
+use Rattle.packet_end.proofs.Pools.{served, serves_after, line_holds, layer_holds, layer_room, line_balanced, layer_balanced}
 use Rattle.packet_end.proofs.Waits.{others_agree, octets_apart}
 use Rattle.packet_end.proofs.pooled.PooledEnd.on_frame.Goals as goal
 
-pub invariant_of-self-in-Some : goal.invariant_of-self-in-Some
-invariant_of-self-in-Some c =
-    let e = c.self-in-Some.inside in
-    record {
-      within = c.on_packet.ensures.within;
-      agree = rw (ap (λ (s : Stack). s.layer) c.on_packet.ensures.stack)
-          (others_agree e.stack.layer _ e.timers e.touched c.insert_named.new.self c.self-in-Some.invariant.agree
-          (λ n out. let apart = c.insert_named.ensures n out in (apart.0, octets_apart e.stack.layer c.in-Some.packet.now n apart.1)));
-    }
+pub on_frame-received-requires : goal.on_frame-received-requires
+on_frame-received-requires c =
+    line_holds c.args.pool.now c.self.inside.line c.self.inside.layer
+    (served c.self.inside c.args.self.now c.args.pool.now c.self.view_is c.requires.pool)
 
 pub heed-requires-clause-pool : goal.heed-requires-clause-pool
 heed-requires-clause-pool c =
-    stepped c.self.inside c.args.self.now c.args.pool.now c.on_frame-received.new.pool c.on_frame-received.new.self c.self.view_is
-    c.requires.pool c.on_frame-received.ensures.pool (ap (λ (s : Stack). s.share) c.on_frame-received.ensures.stack)
+    let a = c.self.inside in
+    let x = c.args.self.now in
+    let new = c.on_frame-received.new.self in
+    serves_after c.args.pool.now c.on_frame-received.new.pool x.held (new.held ++ a.layer.held) x.share (share_of new.end a.layer.layer)
+    c.requires.pool (line_balanced a x c.args.pool.now c.on_frame-received.new.pool new c.self.view_is c.on_frame-received.ensures.pool)
+    (ap (λ k. k + most_held a.layer.layer + 1) c.on_frame-received.ensures.k ∙ ap (λ (x : PooledEnd). x.share) c.self.view_is)
 
-pub on_packet-requires : goal.on_packet-requires
-on_packet-requires c =
-    let one = stepped c.self.inside c.args.self.now c.args.pool.now c.on_frame-received.new.pool c.on_frame-received.new.self c.self.view_is
-    c.requires.pool c.on_frame-received.ensures.pool (ap (λ (s : Stack). s.share) c.on_frame-received.ensures.stack) in
-    let two = serves_after c.on_frame-received.new.pool c.heed.new.pool c.on_frame-received.new.self.held c.heed.new.self.held c.on_frame-received.new.self.share
+pub on_packet-requires-clause-holds : goal.on_packet-requires-clause-holds
+on_packet-requires-clause-holds c =
+    let a = c.self.inside in
+    let x = c.args.self.now in
+    let b = c.self-2.inside in
+    let new = c.on_frame-received.new.self in
+    let mid = c.on_frame-received.new.pool in
+    let one = serves_after c.args.pool.now mid x.held (new.held ++ a.layer.held) x.share (share_of new.end a.layer.layer)
+    c.requires.pool (line_balanced a x c.args.pool.now mid new c.self.view_is c.on_frame-received.ensures.pool)
+    (ap (λ k. k + most_held a.layer.layer + 1) c.on_frame-received.ensures.k ∙ ap (λ (x : PooledEnd). x.share) c.self.view_is) in
+    let two = serves_after mid c.heed.new.pool (new.held ++ a.layer.held) c.heed.new.self.held (share_of new.end a.layer.layer)
     c.heed.new.self.share one c.heed.ensures.pool (ap (λ (e : PooledEnd). e.share) c.heed.ensures.end) in
-    subst (λ (e : PooledEnd). Serves c.heed.new.pool e.held e.share) (sym c.self-in-Some.view_is) two
+    layer_holds c.heed.new.pool b.line b.layer (served b c.heed.new.self c.heed.new.pool c.self-2.view_is two)
+
+pub on_packet-requires-clause-room : goal.on_packet-requires-clause-room
+on_packet-requires-clause-room c =
+    let a = c.self.inside in
+    let x = c.args.self.now in
+    let b = c.self-2.inside in
+    let new = c.on_frame-received.new.self in
+    let mid = c.on_frame-received.new.pool in
+    let one = serves_after c.args.pool.now mid x.held (new.held ++ a.layer.held) x.share (share_of new.end a.layer.layer)
+    c.requires.pool (line_balanced a x c.args.pool.now mid new c.self.view_is c.on_frame-received.ensures.pool)
+    (ap (λ k. k + most_held a.layer.layer + 1) c.on_frame-received.ensures.k ∙ ap (λ (x : PooledEnd). x.share) c.self.view_is) in
+    let two = serves_after mid c.heed.new.pool (new.held ++ a.layer.held) c.heed.new.self.held (share_of new.end a.layer.layer)
+    c.heed.new.self.share one c.heed.ensures.pool (ap (λ (e : PooledEnd). e.share) c.heed.ensures.end) in
+    layer_room c.heed.new.pool b.line b.layer (served b c.heed.new.self c.heed.new.pool c.self-2.view_is two) c.self-2.invariant.line
+
+pub invariant_of-self-in-Some : goal.invariant_of-self-in-Some
+invariant_of-self-in-Some c =
+    let e = c.self-2.inside in
+    let gathered = ap (λ (l : Layer). l.layer) c.gather.ensures.layer in
+    record {
+      line = c.self-2.invariant.line;
+      layer = rw c.gather.ensures.layer c.on_packet.ensures.few;
+      agree = rw (c.gather.ensures.layer, c.on_packet.ensures.layer)
+          (others_agree e.layer.layer _ e.timers e.touched c.insert_named.new.self c.self-2.invariant.agree
+          (λ n out. let apart = c.insert_named.ensures.others n out in (apart.0, octets_apart e.layer.layer c.in-Some.packet.now n apart.1)));
+      finished = inl c.insert_named.ensures.touched;
+    }
+
+pub returns-in-Some-clause-pool : goal.returns-in-Some-clause-pool
+returns-in-Some-clause-pool c =
+    let a = c.self.inside in
+    let x = c.args.self.now in
+    let b = c.self-2.inside in
+    let new = c.on_frame-received.new.self in
+    let mid = c.on_frame-received.new.pool in
+    rw (ap (λ (l : Layer). l.held) c.gather.ensures.layer)
+    (balances_then c.args.pool.now mid c.on_packet.new.pool x.held (new.held ++ a.layer.held) (b.line.held ++ c.on_packet.new.self.held)
+    (line_balanced a x c.args.pool.now mid new c.self.view_is c.on_frame-received.ensures.pool)
+    (balances_then mid c.heed.new.pool c.on_packet.new.pool (new.held ++ a.layer.held) c.heed.new.self.held (b.line.held ++ c.on_packet.new.self.held)
+    c.heed.ensures.pool
+    (layer_balanced b c.heed.new.self c.heed.new.pool c.on_packet.new.pool c.on_packet.new.self c.self-2.view_is c.on_packet.ensures.pool)))
+
+pub returns-in_default-clause-pool : goal.returns-in_default-clause-pool
+returns-in_default-clause-pool c =
+    let a = c.self.inside in
+    let x = c.args.self.now in
+    let new = c.on_frame-received.new.self in
+    let mid = c.on_frame-received.new.pool in
+    balances_then c.args.pool.now mid c.heed.new.pool x.held (new.held ++ a.layer.held) c.heed.new.self.held
+    (line_balanced a x c.args.pool.now mid new c.self.view_is c.on_frame-received.ensures.pool) c.heed.ensures.pool

@@ -1,9 +1,30 @@
-use Rattle.std.proofs.Common.{ap}
-use Rattle.packet_end.specs.Stack.{Stack}
-use Rattle.packet_end.proofs.Lent.{stepped}
+use Rattle.std.proofs.Common.{◌++◌, ◌∙◌, ap}
+use Rattle.std.specs.Prelude.{◌+◌}
+use Rattle.flow_window.proofs.Weights.{balances_then}
+use Rattle.packet_layer.specs.Held.{most_held}
+use Rattle.packet_end.specs.Pooled.{PooledEnd, share_of}
+use Rattle.packet_end.proofs.Pools.{served, serves_after, line_holds, line_balanced}
 use Rattle.packet_end.proofs.pooled.PooledEnd.restart.Goals as goal
 
-pub link_down-requires : goal.link_down-requires
-link_down-requires c =
-    stepped c.self.inside c.args.self.now c.args.pool.now c.restart.new.pool c.restart.new.self c.self.view_is c.requires
-    c.restart.ensures.pool (ap (λ (s : Stack). s.share) c.restart.ensures.stack)
+pub restart-requires : goal.restart-requires
+restart-requires c =
+    line_holds c.args.pool.now c.self.inside.line c.self.inside.layer
+    (served c.self.inside c.args.self.now c.args.pool.now c.self.view_is c.requires)
+
+pub heed-requires-clause-pool : goal.heed-requires-clause-pool
+heed-requires-clause-pool c =
+    let a = c.self.inside in
+    let x = c.args.self.now in
+    let new = c.restart.new.self in
+    serves_after c.args.pool.now c.restart.new.pool x.held (new.held ++ a.layer.held) x.share (share_of new.end a.layer.layer)
+    c.requires (line_balanced a x c.args.pool.now c.restart.new.pool new c.self.view_is c.restart.ensures.pool)
+    (ap (λ k. k + most_held a.layer.layer + 1) c.restart.ensures.k ∙ ap (λ (x : PooledEnd). x.share) c.self.view_is)
+
+pub returns-clause-pool : goal.returns-clause-pool
+returns-clause-pool c =
+    let a = c.self.inside in
+    let x = c.args.self.now in
+    let new = c.restart.new.self in
+    rw (ap (λ (x : PooledEnd). x.held) c.self-2.view_is)
+    (balances_then c.args.pool.now c.restart.new.pool c.heed.new.pool x.held (new.held ++ a.layer.held) c.heed.new.self.held
+    (line_balanced a x c.args.pool.now c.restart.new.pool new c.self.view_is c.restart.ensures.pool) c.heed.ensures.pool)

@@ -1,6 +1,7 @@
-use Rattle.std.proofs.Common.{refl, ap}
+use Rattle.std.proofs.Common.{refl, sym, ◌∙◌, inl}
+use Rattle.packet_layer.specs.Answers.{handed_back}
 use Rattle.packet_layer.specs.Channel.Request.{Sending}
-use Rattle.packet_end.specs.Stack.{Stack}
+use Rattle.packet_end.proofs.Pools.{layer_takes}
 use Rattle.packet_end.proofs.Waits.{others_agree, request_alike}
 use Rattle.packet_end.proofs.pooled.PooledEnd.send_buf.Goals as goal
 
@@ -8,16 +9,23 @@ pub invariant_of-self : goal.invariant_of-self
 invariant_of-self c =
     let e = c.self.inside in
     record {
-      within = c.send_buf.ensures.within;
-      agree = rw (ap (λ (s : Stack). s.layer) c.send_buf.ensures.stack)
-          (others_agree e.stack.layer _ e.timers e.touched e.touched c.self.invariant.agree
+      line = c.self.invariant.line;
+      layer = c.send_buf.ensures.few;
+      agree = rw c.send_buf.ensures.layer
+          (others_agree e.layer.layer _ e.timers e.touched c.touch.new.self c.self.invariant.agree
           (λ n out. (
-            out,
-            request_alike e.stack.layer c.args.channel n (Sending (record {
+            sym (c.touch.ensures.others n) ∙ out,
+            request_alike e.layer.layer c.args.channel n (Sending (record {
               octets = c.args.buffer.octets;
               more = c.args.more;
               qualified = c.args.qualified;
               delivery = c.args.delivery;
             })) refl,
           )));
+      finished = inl c.touch.ensures.touched;
     }
+
+pub returns-clause-held : goal.returns-clause-held
+returns-clause-held c =
+    layer_takes c.self.inside c.args.self.now c.args.buffer (handed_back c.send_buf.result) c.send_buf.new.self
+    c.self.view_is c.send_buf.ensures.held

@@ -1,6 +1,7 @@
-use Rattle.std.proofs.Common.{refl, ap}
+use Rattle.std.proofs.Common.{refl, sym, ◌∙◌, inl}
 use Rattle.packet_layer.specs.Channel.Request.{Taking}
-use Rattle.packet_end.specs.Stack.{Stack}
+use Rattle.packet_layer.specs.TakenView.{maybe_buffers_in}
+use Rattle.packet_end.proofs.Pools.{layer_loses}
 use Rattle.packet_end.proofs.Waits.{others_agree, request_alike}
 use Rattle.packet_end.proofs.pooled.PooledEnd.take_buf.Goals as goal
 
@@ -8,8 +9,15 @@ pub invariant_of-self : goal.invariant_of-self
 invariant_of-self c =
     let e = c.self.inside in
     record {
-      within = c.take_buf.ensures.within;
-      agree = rw (ap (λ (s : Stack). s.layer) c.take_buf.ensures.stack)
-          (others_agree e.stack.layer _ e.timers e.touched e.touched c.self.invariant.agree
-          (λ n out. (out, request_alike e.stack.layer c.args.channel n Taking refl)));
+      line = c.self.invariant.line;
+      layer = c.take_buf.ensures.few;
+      agree = rw c.take_buf.ensures.layer
+          (others_agree e.layer.layer _ e.timers e.touched c.touch.new.self c.self.invariant.agree
+          (λ n out. (sym (c.touch.ensures.others n) ∙ out, request_alike e.layer.layer c.args.channel n Taking refl)));
+      finished = inl c.touch.ensures.touched;
     }
+
+pub returns-clause-held : goal.returns-clause-held
+returns-clause-held c =
+    layer_loses c.self.inside c.args.self.now (maybe_buffers_in c.take_buf.result) c.take_buf.new.self c.self.view_is
+    c.take_buf.ensures.held

@@ -1,0 +1,95 @@
+use Rattle.std.proofs.Common.{◌≡◌, ◌++◌, ◌∙◌, false, ap, inl, sym}
+use Rattle.std.specs.Prelude.{◌+◌, is_some}
+use Rattle.flow_window.proofs.Weights.{balances_then}
+use Rattle.packet_layer.specs.Layer.{next_packet}
+use Rattle.packet_end.specs.Pooled.{PooledEnd, share_of}
+use Rattle.packet_end.specs.PacketEnd.{PacketEnd}
+use Rattle.packet_end.proofs.Offering.{no_packet, next_none}
+use Rattle.packet_end.proofs.Pools.{served, serves_after, line_holds, line_room, layer_holds, layer_balanced, link_steps}
+use Rattle.packet_end.proofs.Waits.{others_agree, next_alike}
+use Rattle.packet_end.proofs.pooled.PooledEnd.offer_next.Goals as goal
+
+pub next_packet-requires : goal.next_packet-requires
+next_packet-requires c = record {
+  holds = layer_holds c.args.pool.now c.self.inside.line c.self.inside.layer
+      (served c.self.inside c.args.self.now c.args.pool.now c.self.view_is c.requires);
+}
+
+pub offer-requires-clause-holds : goal.offer-requires-clause-holds
+offer-requires-clause-holds c =
+    let a = c.self.inside in
+    let x = c.args.self.now in
+    let new = c.next_packet.new.self in
+    let same = ap (λ n. a.line.end.link.k + n + 1) c.next_packet.ensures.most ∙ ap (λ (x : PooledEnd). x.share) c.self.view_is in
+    line_holds c.next_packet.new.pool a.line new
+    (serves_after c.args.pool.now c.next_packet.new.pool x.held (a.line.held ++ new.held) x.share
+    (share_of a.line.end new.layer) c.requires
+    (layer_balanced a x c.args.pool.now c.next_packet.new.pool new c.self.view_is c.next_packet.ensures.pool) same)
+
+pub offer-requires-clause-room : goal.offer-requires-clause-room
+offer-requires-clause-room c =
+    let a = c.self.inside in
+    let x = c.args.self.now in
+    let new = c.next_packet.new.self in
+    let same = ap (λ n. a.line.end.link.k + n + 1) c.next_packet.ensures.most ∙ ap (λ (x : PooledEnd). x.share) c.self.view_is in
+    line_room c.next_packet.new.pool a.line new
+    (serves_after c.args.pool.now c.next_packet.new.pool x.held (a.line.held ++ new.held) x.share
+    (share_of a.line.end new.layer) c.requires
+    (layer_balanced a x c.args.pool.now c.next_packet.new.pool new c.self.view_is c.next_packet.ensures.pool) same)
+    c.self.invariant.line c.next_packet.ensures.few
+
+pub returns-clause-pool : goal.returns-clause-pool
+returns-clause-pool c =
+    let a = c.self.inside in
+    let x = c.args.self.now in
+    let new = c.next_packet.new.self in
+    balances_then c.args.pool.now c.next_packet.new.pool c.offer.new.pool x.held (a.line.held ++ new.held)
+    (c.offer.new.self.held ++ new.held)
+    (layer_balanced a x c.args.pool.now c.next_packet.new.pool new c.self.view_is c.next_packet.ensures.pool)
+    (link_steps c.next_packet.new.pool c.offer.new.pool a.line c.offer.new.self new c.offer.ensures.pool)
+
+pub returns-then-not-next_packet-clause-pool : goal.returns-then-not-next_packet-clause-pool
+returns-then-not-next_packet-clause-pool c =
+    layer_balanced c.self.inside c.args.self.now c.args.pool.now c.next_packet.new.pool c.next_packet.new.self
+    c.self.view_is c.next_packet.ensures.pool
+
+pub invariant_of-self : goal.invariant_of-self
+invariant_of-self c =
+    let e = c.self.inside in
+    record {
+      line = c.self.invariant.line;
+      layer = c.next_packet.ensures.few;
+      agree = rw c.next_packet.ensures.layer
+          (others_agree e.layer.layer _ e.timers e.touched c.touch.new.self c.self.invariant.agree
+          (λ n out. (sym (c.touch.ensures.others n) ∙ out, next_alike e.layer.layer n)));
+      finished = inl c.touch.ensures.touched;
+    }
+
+pub invariant_of-self-2 : goal.invariant_of-self-2
+invariant_of-self-2 c =
+    let e = c.self.inside in
+    record {
+      line = c.offer.ensures.most;
+      layer = c.next_packet.ensures.few;
+      agree = rw c.next_packet.ensures.layer
+          (others_agree e.layer.layer _ e.timers e.touched c.touch.new.self c.self.invariant.agree
+          (λ n out. (sym (c.touch.ensures.others n) ∙ out, next_alike e.layer.layer n)));
+      finished = inl c.touch.ensures.touched;
+    }
+
+pub returns-then-not-next_packet-clause-end : goal.returns-then-not-next_packet-clause-end
+returns-then-not-next_packet-clause-end c =
+    let a = c.self.inside in
+    let silent : is_some (next_packet a.layer.layer).packet ≡ false =
+    sym c.next_packet.ensures.said ∙ c.if-not-next_packet.true in
+    let layer : c.next_packet.new.self.layer ≡ a.layer.layer =
+    c.next_packet.ensures.layer ∙ next_none a.layer.layer silent in
+    let most = ap (λ n. a.line.end.link.k + n + 1) c.next_packet.ensures.most in
+    (λ i. record {
+      end = record { line = a.line.end; layer = layer i; timers = a.timers; notes = a.notes };
+      held = a.line.held ++ c.next_packet.new.self.held;
+      share = most i;
+    })
+    ∙ ap (λ (x : PooledEnd). record x { held = a.line.held ++ c.next_packet.new.self.held }) c.self.view_is
+    ∙ ap (λ (e : PacketEnd). record c.args.self.now { end = e; held = a.line.held ++ c.next_packet.new.self.held })
+    (sym (no_packet 1 c.args.self.now.end (ap (λ (x : PooledEnd). is_some (next_packet x.end.layer).packet) (sym c.self.view_is) ∙ silent)))
