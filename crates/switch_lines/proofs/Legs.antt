@@ -7,7 +7,7 @@ use Rattle.packet_layer.specs.Channel.{Refusal}
 use Rattle.packet_layer.specs.Channel.Request.{Taking, Releasing}
 use Rattle.switch_lines.specs.Direction.{released, releasable, carried_by, request_for}
 use Rattle.switch_lines.specs.Lines.{SwitchChannel, Joined, SwitchLine, same_place, joined_at, with_joined, ask, front_at, refusal_at}
-use Rattle.switch_lines.specs.Relay.{moved, moved_joined, moved_front, moved_unless, relayed, relayed_from, places_of, both_legs, legs_at, legs_of}
+use Rattle.switch_lines.specs.Relay.{moved, moved_joined, moved_front, moved_unless, relayed, relayed_from, places_of, both_legs, legs_at, legs_of, most_moves}
 use Rattle.switch_lines.specs.OfLine.{places_by}
 use Rattle.switch_lines.proofs.Places.{decided, place_is, joined_asked, joined_here, joined_apart}
 use Rattle.switch_lines.proofs.Rounds.{counts, counts_from, counts_there, counts_length, on_line, from_both}
@@ -51,7 +51,7 @@ to_relayed (suc most) p ls x = to_relayed most p (moved p ls) x ∙ to_moved (jo
 
 to_from : (ps : List SwitchChannel) (ls : List SwitchLine) (x : SwitchChannel) → to_at (relayed_from ps ls) x ≡ to_at ls x
 to_from [] ls x = refl
-to_from (p ∷ ps) ls x = to_from ps (relayed 8 p ls) x ∙ to_relayed 8 p ls x
+to_from (p ∷ ps) ls x = to_from ps (relayed most_moves p ls) x ∙ to_relayed most_moves p ls x
 
 -- ---- so the legs of lines are the same before and after
 
@@ -87,9 +87,9 @@ lines_stay (n ∷ ns) qs ls =
 
 -- ---- one join
 
-pub join_relayed : (o : Option Joined) (p q : SwitchChannel) (ls : List SwitchLine) → Some q ≡ option_map (λ (j : Joined). j.other) o → relayed 8 q (relayed 8 p ls) ≡ relayed_from (both_legs o p) ls
+pub join_relayed : (o : Option Joined) (p q : SwitchChannel) (ls : List SwitchLine) → Some q ≡ option_map (λ (j : Joined). j.other) o → relayed most_moves q (relayed most_moves p ls) ≡ relayed_from (both_legs o p) ls
 join_relayed None p q ls e = absurd (none-some q (sym e))
-join_relayed (Some j) p q ls e = ap (λ (x : SwitchChannel). relayed 8 x (relayed 8 p ls)) (same_Some q j.other e)
+join_relayed (Some j) p q ls e = ap (λ (x : SwitchChannel). relayed most_moves x (relayed most_moves p ls)) (same_Some q j.other e)
 
 pub none_relayed : (o : Option Joined) (p : SwitchChannel) (ls : List SwitchLine) → None ≡ option_map (λ (j : Joined). j.other) o → ls ≡ relayed_from (both_legs o p) ls
 none_relayed None p ls e = refl

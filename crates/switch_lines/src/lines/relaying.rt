@@ -1,34 +1,38 @@
 //! The relay between the two legs of a join (X.25 4.3).
 ghost use Rattle.std.specs.Prelude.{◌≡◌, ◌<◌, length, slice_get};
+ghost use Rattle.std.specs.Bool.{OnFalse};
 ghost use Rattle.switch_lines.specs.OfLine.{MovesFront};
 ghost use Rattle.switch_lines.specs.Alone.{relayed_alone};
 ghost use Rattle.switch_lines.specs.Lines.{joined_at, front_at};
-ghost use Rattle.switch_lines.specs.Relay.{moved, relayed, relayed_from, both_legs, legs_at, places_of};
+ghost use Rattle.switch_lines.specs.Relay.{moved, relayed, most_moves, relayed_from, both_legs, legs_at, places_of};
 
 use crate::channels::SwitchChannel;
 use crate::direction::Change;
 use crate::lines::Lines;
 use packet_layer::{Request, TakenBuf};
 
-/// The most that waits on a leg: seven packets and an interrupt.
-const MOST_WAITING: usize = 8;
+/// The most that waits on a leg: a queue of eight packets, and an interrupt.
+const MOST_WAITING: usize = 9;
 
 impl Lines {
     // What waits first on a joined channel is taken there and sent on the other leg, unless that one would refuse it.
-    fn relay_one(&mut self, place: SwitchChannel)
-        ensures { self.new ≡ moved place self.old }
+    // Answers whether it was.
+    fn relay_one(&mut self, place: SwitchChannel) -> bool
+        ensures lines { self.new ≡ moved place self.old }
+        ensures stays { OnFalse result (self.new ≡ self.old) }
     {
         let Some(other) = self.other(place) else {
-            return;
+            return false;
         };
         let Some(front) = self.front(place) else {
-            return;
+            return false;
         };
         if !self.may_take(other, front) {
-            return;
+            return false;
         }
         self.move_front(place, other);
         self.release(place);
+        true
     }
 
     // What waits first on a joined channel is taken there and goes to the other leg, a packet in its buffer.
@@ -54,10 +58,12 @@ impl Lines {
 
     // All that waits on a channel goes to the other leg of its join, as far as that one takes it.
     fn relay_channel(&mut self, place: SwitchChannel)
-        ensures { self.new ≡ relayed 8 place self.old }
+        ensures { self.new ≡ relayed most_moves place self.old }
     {
         for _ in 0..MOST_WAITING {
-            self.relay_one(place);
+            if !self.relay_one(place) {
+                return;
+            }
         }
     }
 
