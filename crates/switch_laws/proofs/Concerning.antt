@@ -28,7 +28,8 @@ use Rattle.switch_laws.specs.Pairs.{WasJoined, IsNewJoin}
 use Rattle.switch_laws.specs.Concern.{is_one_of, joined_to, is_concerned, concerned, relayed_on, HasRelayedBut, lines_of_event, before_relay, RelaysItsOwn}
 use Rattle.switch_laws.proofs.Lists.{decided, place_is, not_equal, get_map}
 use Rattle.switch_laws.proofs.Rounds.{offers_line, in_turn}
-use Rattle.switch_laws.proofs.Relaying.{StuckAt, VisitedBy, visited, relayed_same}
+use Rattle.switch_lines.proofs.Relaying.{relayed_stays}
+use Rattle.switch_laws.proofs.Relaying.{StuckAt, VisitedBy, visited}
 use Rattle.switch_laws.proofs.Staying.{IsOther, acted_beside}
 use Rattle.switch_laws.proofs.Turning.{relinked_effect, acted_right}
 use Rattle.switch_laws.proofs.Keeping.{layers_on_ends, joined_on_ends}
@@ -50,7 +51,7 @@ joined_stuck None x ls e s = refl
 joined_stuck (Some j) x ls e s = front_stuck (front_at ls x) x j ls refl e s
 
 pub stuck_stays : (x : SwitchChannel) (ls : List SwitchLine) → StuckAt ls x → relayed most_moves x ls ≡ ls
-stuck_stays x ls s = relayed_same most_moves x ls (joined_stuck (joined_at ls x) x ls refl s)
+stuck_stays x ls s = relayed_stays most_moves x ls (joined_stuck (joined_at ls x) x ls refl s)
 
 passes_over : (lines : List ℕ) (first : List SwitchLine) (ps : List SwitchChannel) (ls : List SwitchLine) (w : World) → IsSwitch ls w → ((p : SwitchChannel) → is_concerned lines first p ≡ false → StuckAt ls p)
     → relayed_from ps ls ≡ relayed_from (concerned lines first ps) ls

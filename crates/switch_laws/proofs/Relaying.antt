@@ -14,6 +14,7 @@ use Rattle.switch_lines.specs.declared.channels.SwitchChannel.{SwitchChannel}
 use Rattle.switch_lines.specs.declared.channels.Joined.{Joined}
 use Rattle.switch_lines.specs.Lines.{SwitchLine, same_place, joined_at, ask, front_at, refusal_at, places, places_on, places_from}
 use Rattle.switch_lines.specs.Relay.{moved, moved_joined, moved_front, moved_unless, relayed, relayed_from, all_relayed, legs_of, places_first, relayed_first, most_moves}
+use Rattle.switch_lines.proofs.Relaying.{relayed_stays}
 use Rattle.switch_laws.specs.Leg.{Leg, asked}
 use Rattle.switch_laws.specs.Way.{Way}
 use Rattle.switch_laws.specs.Way as way
@@ -227,10 +228,6 @@ pub record Visited (acts : List Act) (ls : List SwitchLine) (w : World) (x : Swi
   pub stuck_here : StuckAt ms x
   pub stuck_elsewhere : (p : SwitchChannel) → same_place p x ≡ false → StuckAt ls p → StuckAt ms p
 
-pub relayed_same : (most : ℕ) (p : SwitchChannel) (ls : List SwitchLine) → moved p ls ≡ ls → relayed most p ls ≡ ls
-relayed_same zero p ls e = refl
-relayed_same (suc most) p ls e = ap (λ (ms : List SwitchLine). relayed most p ms) e ∙ relayed_same most p ls e
-
 relayed_no_steps : (most : ℕ) (p : SwitchChannel) (ls : List SwitchLine) → moved p ls ≡ ls → moved_joined_steps (joined_at ls p) p ls ≡ [] → relayed_steps most p ls ≡ []
 relayed_no_steps zero p ls e f = refl
 relayed_no_steps (suc most) p ls e f =
@@ -264,7 +261,7 @@ waits_before false g h i = (waiting_before g.role g.channel.state i.waits, accep
 
 visited_pair : (ls : List SwitchLine) (w : World) (x : SwitchChannel) (j k : Joined) → IsSwitch ls w → Pairing ls x j k → IsPair (w x) (w j.other) j k → VisitedBy (relayed_steps most_moves x ls) ls w x (relayed most_moves x ls)
 visited_pair ls w x j k i s (waiting a b c) =
-    visited_same (relayed_steps most_moves x ls) ls (relayed most_moves x ls) w x (relayed_no_steps most_moves x ls nothing no_steps) (relayed_same most_moves x ls nothing) i (λ y t e f. absurd (none-some t (sym front_none ∙ f)))
+    visited_same (relayed_steps most_moves x ls) ls (relayed most_moves x ls) w x (relayed_no_steps most_moves x ls nothing no_steps) (relayed_stays most_moves x ls nothing) i (λ y t e f. absurd (none-some t (sym front_none ∙ f)))
   where
     front_none : front_at ls x ≡ None
     front_none =
@@ -356,7 +353,7 @@ visited_pair ls w x j k i s (connected c) = record {
 visited_joined : (o : Option Joined) (ls : List SwitchLine) (w : World) (x : SwitchChannel) → joined_at ls x ≡ o → IsSwitch ls w → VisitedBy (relayed_steps most_moves x ls) ls w x (relayed most_moves x ls)
 visited_joined None ls w x e i =
     visited_same (relayed_steps most_moves x ls) ls (relayed most_moves x ls) w x (relayed_no_steps most_moves x ls (ap (λ (o : Option Joined). moved_joined o x ls) e) (ap (λ (o : Option Joined). moved_joined_steps o x ls) e))
-    (relayed_same most_moves x ls (ap (λ (o : Option Joined). moved_joined o x ls) e)) i (λ y t f g. absurd (none-some y (sym e ∙ f)))
+    (relayed_stays most_moves x ls (ap (λ (o : Option Joined). moved_joined o x ls) e)) i (λ y t f g. absurd (none-some y (sym e ∙ f)))
 visited_joined (Some j) ls w x e i =
     let d = i.joined x j e in
     elim d.pair [
