@@ -25,7 +25,7 @@ use Rattle.switch_lines.specs.declared.channels.SwitchChannel.{SwitchChannel}
 use Rattle.switch_lines.specs.declared.channels.Joined.{Joined}
 use Rattle.switch_lines.specs.Lines.{SwitchLine, same_place, joined_at, with_joined, ask, refusal_at}
 use Rattle.switch_lines.specs.Lines as lines
-use Rattle.switch_lines.specs.Relay.{moved, relayed, places_first, relayed_first}
+use Rattle.switch_lines.specs.Relay.{moved, relayed, places_first, relayed_first, most_moves}
 use Rattle.switch_lines.specs.Switch.{heed, may_offer, offering_from, offered_from}
 use Rattle.switch_laws.specs.Joined.{IsSwitch, has_place}
 use Rattle.switch_laws.specs.World.{World, Act, layers_of, shown_at, line_of, after_act}
@@ -402,8 +402,8 @@ relayed_steady (suc most) p ls b =
 from_steady : (ps : List SwitchChannel) (ls : List SwitchLine) → BothJoined ls → AreSteady (relayed_from_steps ps ls) ls
 from_steady [] ls b = tt
 from_steady (p ∷ ps) ls b =
-    let one = relayed_steady 8 p ls b in
-    steady_then (relayed_steps 8 p ls) (relayed_from_steps ps (relayed 8 p ls)) ls (relayed 8 p ls) (relayed_leads 8 p ls) one (from_steady ps (relayed 8 p ls) (both_after (relayed_steps 8 p ls) ls (relayed 8 p ls) (relayed_leads 8 p ls) one b))
+    let one = relayed_steady most_moves p ls b in
+    steady_then (relayed_steps most_moves p ls) (relayed_from_steps ps (relayed most_moves p ls)) ls (relayed most_moves p ls) (relayed_leads most_moves p ls) one (from_steady ps (relayed most_moves p ls) (both_after (relayed_steps most_moves p ls) ls (relayed most_moves p ls) (relayed_leads most_moves p ls) one b))
 
 -- ---- rounds
 

@@ -1,9 +1,9 @@
 -- Where nothing waits elsewhere, the joins of the lines of an event are all that have to be relayed.
-use Rattle.std.proofs.Common.{◌≡◌, ℕ, zero, suc, ◌*◌, ◌⊎◌, inl, inr, Bool, true, false, ◌||◌, ◌==◌, if◌then◌else◌, List, [], ◌∷◌, ◌++◌, map, length, Option, Some, None, refl, sym, ap, subst, ◌∙◌, true≢false}
+use Rattle.std.proofs.Common.{◌≡◌, ℕ, zero, suc, ◌*◌, ◌⊎◌, inl, inr, Bool, true, false, ◌||◌, ◌==◌, if◌then◌else◌, List, [], ◌∷◌, ◌++◌, map, length, Option, Some, None, option_map, refl, sym, ap, subst, ◌∙◌, true≢false}
 use Rattle.std.specs.Prelude.{slice_get}
 use Rattle.std.specs.List.{list_any}
 use Rattle.std.proofs.lemmas.Bool.{eqb-true}
-use Rattle.std.proofs.lemmas.Option.{none-some}
+use Rattle.std.proofs.lemmas.Option.{none-some, same_Some}
 use Rattle.link_timers.specs.declared.timers.TimerId.{TimerId}
 use Rattle.packet_end.specs.PacketEnd.{PacketEnd, received, after_timer, settled}
 use Rattle.switch_lines.specs.declared.channels.SwitchChannel.{SwitchChannel}
@@ -11,6 +11,7 @@ use Rattle.switch_lines.specs.declared.channels.Joined.{Joined}
 use Rattle.switch_lines.specs.Lines.{SwitchLine, joined_at, places}
 use Rattle.switch_lines.specs.Relay.{relayed_from, places_of, both_legs, legs_at, legs_of, relayed_first}
 use Rattle.switch_lines.specs.Switch.{Switch, with_end, acted, all_begun, may_offer, offering_from, offered_from, lines_first, rounds, on_frame, on_expiry}
+use Rattle.switch_lines.specs.Waiting.{other_at, AreInPairs}
 use Rattle.switch_lines.specs.Alone.{relayed_alone, rounds_alone, on_frame_alone, on_expiry_alone}
 use Rattle.switch_lines.proofs.Rounds.{from_both}
 use Rattle.packet_laws.specs.Readable.{AreOctets}
@@ -127,6 +128,32 @@ timer_alone n id s w i all =
     let b = begun_right s.lines w i in
     let c = ran n id s.routes s.lines w i in
     ap (λ (ms : List SwitchLine). record s { lines = ms }) (event_alone n (λ e. after_timer e id) s b.world c.world b.right c.right all)
+
+-- ---- before the relay of an event the joins are in pairs
+
+in_pairs : (ls : List SwitchLine) (w : World) → IsSwitch ls w → AreInPairs ls
+in_pairs ls w i p q e = by_join (joined_at ls p) refl e
+  where
+    by_join : (o : Option Joined) → joined_at ls p ≡ o → option_map (λ (j : Joined). j.other) o ≡ Some q → other_at ls q ≡ Some p
+    by_join None f g = absurd (none-some q g)
+    by_join (Some j) f g =
+        let z = i.joined p j f in
+        ap (λ (x : SwitchChannel). other_at ls x) (sym (same_Some j.other q g))
+        ∙ ap (λ (o : Option Joined). option_map (λ (k : Joined). k.other) o) z.joined ∙ ap (λ (x : SwitchChannel). Some x) z.back
+
+pub frame_pairs : (n : ℕ) (octets : List ℕ) (s : Switch) (w : World) → AreOctets octets → IsSwitch s.lines w
+    → AreInPairs (before_relay n (λ e. received e octets) s)
+frame_pairs n octets s w are i =
+    let c = came n octets s.routes s.lines w (readable n octets s.lines are) i in
+    let r = before_right n (λ e. received e octets) s c.world c.right in
+    in_pairs (before_relay n (λ e. received e octets) s) r.world r.right
+
+pub timer_pairs : (n : ℕ) (id : TimerId) (s : Switch) (w : World) → IsSwitch s.lines w
+    → AreInPairs (before_relay n (λ e. after_timer e id) s)
+timer_pairs n id s w i =
+    let c = ran n id s.routes s.lines w i in
+    let r = before_right n (λ e. after_timer e id) s c.world c.right in
+    in_pairs (before_relay n (λ e. after_timer e id) s) r.world r.right
 
 pub concerns_hold : ConcernLaw
 concerns_hold = record { relays = relays; frame = frame; timer = timer; offers = offers; frame_alone = frame_alone; timer_alone = timer_alone }

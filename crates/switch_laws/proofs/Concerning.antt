@@ -15,7 +15,7 @@ use Rattle.switch_lines.specs.Direction.{request_for}
 use Rattle.switch_lines.specs.declared.channels.SwitchChannel.{SwitchChannel}
 use Rattle.switch_lines.specs.declared.channels.Joined.{Joined}
 use Rattle.switch_lines.specs.Lines.{SwitchLine, same_place, joined_on, joined_at, front_at, front_of_line, refusal_at, refusal_of_line, places}
-use Rattle.switch_lines.specs.Relay.{moved_joined, moved_front, moved_unless, relayed, relayed_from, all_relayed}
+use Rattle.switch_lines.specs.Relay.{moved_joined, moved_front, moved_unless, relayed, relayed_from, all_relayed, most_moves}
 use Rattle.switch_lines.specs.Switch.{Switch, acted, all_begun, may_offer, offering_from, offered_from, to_relink, relinked_at, all_relinked, relinks_of}
 use Rattle.packet_laws.specs.Readable.{AreOctets}
 use Rattle.switch_laws.specs.Steps.{acts_of_all}
@@ -28,7 +28,8 @@ use Rattle.switch_laws.specs.Pairs.{WasJoined, IsNewJoin}
 use Rattle.switch_laws.specs.Concern.{is_one_of, joined_to, is_concerned, concerned, relayed_on, HasRelayedBut, lines_of_event, before_relay, RelaysItsOwn}
 use Rattle.switch_laws.proofs.Lists.{decided, place_is, not_equal, get_map}
 use Rattle.switch_laws.proofs.Rounds.{offers_line, in_turn}
-use Rattle.switch_laws.proofs.Relaying.{StuckAt, VisitedBy, visited, relayed_same}
+use Rattle.switch_lines.proofs.Relaying.{relayed_stays}
+use Rattle.switch_laws.proofs.Relaying.{StuckAt, VisitedBy, visited}
 use Rattle.switch_laws.proofs.Staying.{IsOther, acted_beside}
 use Rattle.switch_laws.proofs.Turning.{relinked_effect, acted_right}
 use Rattle.switch_laws.proofs.Keeping.{layers_on_ends, joined_on_ends}
@@ -49,8 +50,8 @@ joined_stuck : (o : Option Joined) (x : SwitchChannel) (ls : List SwitchLine) �
 joined_stuck None x ls e s = refl
 joined_stuck (Some j) x ls e s = front_stuck (front_at ls x) x j ls refl e s
 
-pub stuck_stays : (x : SwitchChannel) (ls : List SwitchLine) → StuckAt ls x → relayed 8 x ls ≡ ls
-stuck_stays x ls s = relayed_same 8 x ls (joined_stuck (joined_at ls x) x ls refl s)
+pub stuck_stays : (x : SwitchChannel) (ls : List SwitchLine) → StuckAt ls x → relayed most_moves x ls ≡ ls
+stuck_stays x ls s = relayed_stays most_moves x ls (joined_stuck (joined_at ls x) x ls refl s)
 
 passes_over : (lines : List ℕ) (first : List SwitchLine) (ps : List SwitchChannel) (ls : List SwitchLine) (w : World) → IsSwitch ls w → ((p : SwitchChannel) → is_concerned lines first p ≡ false → StuckAt ls p)
     → relayed_from ps ls ≡ relayed_from (concerned lines first ps) ls
@@ -64,11 +65,11 @@ passes_over lines first (x ∷ ps) ls w i stuck = by_concern (decided (is_concer
         by_same (inl e) = absurd (true≢false (sym t ∙ (ap (λ (y : SwitchChannel). is_concerned lines first y) (sym (place_is p x e)) ∙ f)))
         by_same (inr e) = e
 
-    by_concern : (is_concerned lines first x ≡ true) ⊎ (is_concerned lines first x ≡ false) → (a : VisitedBy (relayed_steps 8 x ls) ls w x (relayed 8 x ls))
+    by_concern : (is_concerned lines first x ≡ true) ⊎ (is_concerned lines first x ≡ false) → (a : VisitedBy (relayed_steps most_moves x ls) ls w x (relayed most_moves x ls))
         → ((ms : List SwitchLine) (v : World) → IsSwitch ms v → ((p : SwitchChannel) → is_concerned lines first p ≡ false → StuckAt ms p) → relayed_from ps ms ≡ relayed_from (concerned lines first ps) ms)
-        → relayed_from ps (relayed 8 x ls) ≡ relayed_from (if is_concerned lines first x then x ∷ concerned lines first ps else concerned lines first ps) ls
+        → relayed_from ps (relayed most_moves x ls) ≡ relayed_from (if is_concerned lines first x then x ∷ concerned lines first ps else concerned lines first ps) ls
     by_concern (inl t) a more =
-        more (relayed 8 x ls) a.world a.switch (λ p f. a.stuck_elsewhere p (apart p t f) (stuck p f))
+        more (relayed most_moves x ls) a.world a.switch (λ p f. a.stuck_elsewhere p (apart p t f) (stuck p f))
         ∙ ap (λ (b : Bool). relayed_from (if b then x ∷ concerned lines first ps else concerned lines first ps) ls) (sym t)
     by_concern (inr f) a more =
         ap (λ (ms : List SwitchLine). relayed_from ps ms) (stuck_stays x ls (stuck x f)) ∙ more ls w i stuck

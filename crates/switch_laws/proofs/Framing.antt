@@ -35,7 +35,7 @@ use Rattle.switch_lines.specs.declared.channels.SwitchChannel.{SwitchChannel}
 use Rattle.switch_lines.specs.declared.channels.Joined.{Joined}
 use Rattle.switch_lines.specs.Lines.{SwitchLine, changed, joined_at, front_at, refusal_at}
 use Rattle.switch_lines.specs.Direction.{request_for}
-use Rattle.switch_lines.specs.Relay.{moved, relayed, places_first, relayed_first}
+use Rattle.switch_lines.specs.Relay.{moved, relayed, places_first, relayed_first, most_moves}
 use Rattle.switch_lines.specs.Switch.{Switch, with_end, without_notes, notes_of, quieted, acted, all_begun, to_relink, relinked_at, all_relinked, may_offer, offering_from, offered_from, lines_first, rounds, finished, frames_on, timer_runs, on_expiry}
 use Rattle.switch_laws.specs.World.{World, Act, layers_of, layer_after, after_act, after_acts}
 use Rattle.switch_laws.specs.World.Act.{Comes, Expires, GoesUp, GoesDown, Calls, Gives, Reads}
@@ -127,7 +127,7 @@ relayed_silent (suc most) p ls = silent_then (moved_joined_steps (joined_at ls p
 
 from_silent : (ps : List SwitchChannel) (ls : List SwitchLine) → Every IsSilent (relayed_from_steps ps ls)
 from_silent [] ls = tt
-from_silent (p ∷ ps) ls = silent_then (relayed_steps 8 p ls) _ (relayed_silent 8 p ls) (from_silent ps (relayed 8 p ls))
+from_silent (p ∷ ps) ls = silent_then (relayed_steps most_moves p ls) _ (relayed_silent most_moves p ls) (from_silent ps (relayed most_moves p ls))
 
 offers_silent : (count n : ℕ) → Every IsSilent (offered_steps count n)
 offers_silent zero n = tt

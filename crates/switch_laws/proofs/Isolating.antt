@@ -20,7 +20,7 @@ use Rattle.switch_lines.specs.Direction.{releasable, released, carried_by, reque
 use Rattle.switch_lines.specs.declared.channels.SwitchChannel.{SwitchChannel}
 use Rattle.switch_lines.specs.declared.channels.Joined.{Joined}
 use Rattle.switch_lines.specs.Lines.{SwitchLine, same_place, joined_at, with_joined, ask, front_at, refusal_at}
-use Rattle.switch_lines.specs.Relay.{moved, moved_unless, moved_front, moved_joined, relayed, relayed_from, places_first, relayed_first}
+use Rattle.switch_lines.specs.Relay.{moved, moved_unless, moved_front, moved_joined, relayed, relayed_from, places_first, relayed_first, most_moves}
 use Rattle.switch_lines.specs.Switch.{may_offer, to_relink, raised, offering_from, offered_from, rounds}
 use Rattle.switch_laws.specs.World.{World, Shown, shown_as, shown_on, shown_at, layers_of}
 use Rattle.switch_laws.specs.Joined.{IsSwitch}
@@ -290,20 +290,20 @@ same_line ms ks p lines b = record {
     phase_is (x ∷ xs) (suc n) = phase_is xs n
 
 -- one channel is relayed
-one_left : (ls ms : List SwitchLine) (w : World) (p : SwitchChannel) (j k : Joined) (x : SwitchChannel) → Waits ls p j k → IsSwitch ms w → IsLeft ls p j k ms → IsLeft ls p j k (relayed 8 x ms)
+one_left : (ls ms : List SwitchLine) (w : World) (p : SwitchChannel) (j k : Joined) (x : SwitchChannel) → Waits ls p j k → IsSwitch ms w → IsLeft ls p j k ms → IsLeft ls p j k (relayed most_moves x ms)
 one_left ls ms w p j k x u i h = by_first (decided (same_place x p)) (decided (same_place x j.other))
   where
-    left_same : (y : SwitchChannel) → x ≡ y → StuckAt ms y → IsLeft ls p j k (relayed 8 x ms)
-    left_same y e s = subst (λ (ks : List SwitchLine). IsLeft ls p j k ks) (sym (ap (λ (z : SwitchChannel). relayed 8 z ms) e ∙ stuck_stays y ms s)) h
+    left_same : (y : SwitchChannel) → x ≡ y → StuckAt ms y → IsLeft ls p j k (relayed most_moves x ms)
+    left_same y e s = subst (λ (ks : List SwitchLine). IsLeft ls p j k ks) (sym (ap (λ (z : SwitchChannel). relayed most_moves z ms) e ∙ stuck_stays y ms s)) h
 
-    by_first : (same_place x p ≡ true) ⊎ (same_place x p ≡ false) → (same_place x j.other ≡ true) ⊎ (same_place x j.other ≡ false) → IsLeft ls p j k (relayed 8 x ms)
+    by_first : (same_place x p ≡ true) ⊎ (same_place x p ≡ false) → (same_place x j.other ≡ true) ⊎ (same_place x j.other ≡ false) → IsLeft ls p j k (relayed most_moves x ms)
     by_first (inl t) other = left_same p (place_is x p t) (stuck_first ls ms p j k u h)
     by_first (inr f) (inl t) = left_same j.other (place_is x j.other t) (stuck_second ls ms p j k u h)
     by_first (inr f) (inr g) =
-        let ks = relayed 8 x ms in
+        let ks = relayed most_moves x ms in
         let lines = from_lines (x ∷ []) ms in
-        let a = relayed_before 8 p x ms (turned x p f) (other_apart ls ms w p x j k i h.here g) in
-        let b = relayed_before 8 j.other x ms (turned x j.other g)
+        let a = relayed_before most_moves p x ms (turned x p f) (other_apart ls ms w p x j k i h.here g) in
+        let b = relayed_before most_moves j.other x ms (turned x j.other g)
         (other_apart ls ms w j.other x k j i h.there (subst (λ (y : SwitchChannel). same_place x y ≡ false) (sym u.back) f)) in
         record {
           here = a.joined ∙ h.here;
@@ -322,7 +322,7 @@ pub record LeftSwitch (ls : List SwitchLine) (p : SwitchChannel) (j k : Joined) 
 from_left : (ps : List SwitchChannel) (ls ms : List SwitchLine) (w : World) (p : SwitchChannel) (j k : Joined) → Waits ls p j k → IsSwitch ms w → IsLeft ls p j k ms → LeftSwitch ls p j k (relayed_from ps ms)
 from_left [] ls ms w p j k u i h = record { world = w; switch = i; left = h }
 from_left (x ∷ ps) ls ms w p j k u i h =
-    let v = visited ms w x i in from_left ps ls (relayed 8 x ms) v.world p j k u v.switch (one_left ls ms w p j k x u i h)
+    let v = visited ms w x i in from_left ps ls (relayed most_moves x ms) v.world p j k u v.switch (one_left ls ms w p j k x u i h)
 
 -- packets are offered on all lines
 offers_left : (ls ms : List SwitchLine) (p : SwitchChannel) (j k : Joined) → IsLeft ls p j k ms → IsLeft ls p j k (map offers_line ms)

@@ -14,6 +14,7 @@ use Rattle.switch_laws.specs.Join.{Join, IsJoin, IsAtRest, turned, way, relayed_
 use Rattle.switch_laws.proofs.Directions.{direction_begins, none_made}
 use Rattle.switch_laws.proofs.Legs.{Gives, leg_gave, leg_anew, leg_connected, anew}
 use Rattle.switch_laws.proofs.Ways.{near_seen, far_seen, right_beside, relayed_right, relayed_beside, relayed_stuck, same_refusal, KeepsFar}
+use Rattle.switch_lines.specs.Relay.{most_moves}
 
 pub turned_join : (j : Join) → IsJoin j → IsJoin (turned j)
 turned_join j i = record { there = i.back; back = i.there }
@@ -35,13 +36,13 @@ both_right most j i =
 pub stuck_beside : (g h : Leg) (w : Way) → front g.channel.traffic ≡ front w.near.channel.traffic → KeepsFar w.far h → IsStuck w → IsStuck (record w { near = g; far = h })
 stuck_beside g h w f k s = λ t e. ap is_some (same_refusal t w.far h k.open_) ∙ s t (sym f ∙ e)
 
-pub both_stuck : (j : Join) → IsJoin j → IsAtRest (relayed_both 8 j)
+pub both_stuck : (j : Join) → IsJoin j → IsAtRest (relayed_both most_moves j)
 both_stuck j i =
-    let there = relayed 8 (way j) in
-    let k = turned (relayed_there 8 j) in
-    let ik : IsJoin k = turned_join (relayed_there 8 j) (there_right 8 j i) in
-    let back = relayed 8 (way k) in
-    let b = relayed_beside 8 (way k) in
+    let there = relayed most_moves (way j) in
+    let k = turned (relayed_there most_moves j) in
+    let ik : IsJoin k = turned_join (relayed_there most_moves j) (there_right most_moves j i) in
+    let back = relayed most_moves (way k) in
+    let b = relayed_beside most_moves (way k) in
     record { there = stuck_beside back.far back.near there b.far.front b.near (relayed_stuck (way j) i.there); back = relayed_stuck (way k) ik.there }
 
 -- ---- connected

@@ -18,7 +18,7 @@ use Rattle.switch_lines.specs.Direction.{carried_by, request_for}
 use Rattle.switch_lines.specs.declared.channels.SwitchChannel.{SwitchChannel}
 use Rattle.switch_lines.specs.declared.channels.Joined.{Joined}
 use Rattle.switch_lines.specs.Lines.{SwitchLine, changed, joined_on, joined_at, ask, front_at, refusal_at}
-use Rattle.switch_lines.specs.Relay.{moved, moved_unless, moved_front, moved_joined, relayed, relayed_from, places_first, relayed_first}
+use Rattle.switch_lines.specs.Relay.{moved, moved_unless, moved_front, moved_joined, relayed, relayed_from, places_first, relayed_first, most_moves}
 use Rattle.switch_lines.specs.Switch.{with_end, acted, to_relink, relinked_at, all_relinked, may_offer, offering_from, offered_from, rounds, all_offered_on, lines_first, finished}
 use Rattle.switch_laws.specs.Steps.Happening.{Relinks}
 use Rattle.switch_laws.specs.World.{World, Shown, shown_as, shown_on, shown_at, layers_of}
@@ -54,7 +54,7 @@ relayed_keeps (suc most) q ls = keeps_then ls (moved q ls) _ (moved_keeps (joine
 
 from_keeps : (qs : List SwitchChannel) (ls : List SwitchLine) → Keeps ls (relayed_from qs ls)
 from_keeps [] ls = keeps_same ls
-from_keeps (q ∷ qs) ls = keeps_then ls (relayed 8 q ls) _ (relayed_keeps 8 q ls) (from_keeps qs (relayed 8 q ls))
+from_keeps (q ∷ qs) ls = keeps_then ls (relayed most_moves q ls) _ (relayed_keeps most_moves q ls) (from_keeps qs (relayed most_moves q ls))
 
 -- ---- a packet that goes to the link leaves the state of each channel
 

@@ -14,7 +14,7 @@ use Rattle.switch_lines.specs.Causes.{reset_cause, far_diagnostic}
 use Rattle.switch_lines.specs.declared.channels.SwitchChannel.{SwitchChannel}
 use Rattle.switch_lines.specs.declared.channels.Joined.{Joined}
 use Rattle.switch_lines.specs.Lines.{SwitchLine, changed, joined_at, ask, front_at, refusal_at}
-use Rattle.switch_lines.specs.Relay.{moved, moved_unless, moved_front, moved_joined, relayed, relayed_from, places_first, relayed_first, told_joined, told_of, kept_anew, covered_on}
+use Rattle.switch_lines.specs.Relay.{moved, moved_unless, moved_front, moved_joined, relayed, relayed_from, places_first, relayed_first, told_joined, told_of, kept_anew, covered_on, most_moves}
 use Rattle.switch_lines.specs.Switch.{Answer, answer, answered, heed, heed_all, notes_of, with_end, quieted, acted, to_relink, relinked_at, all_relinked, may_offer, offering_from, offered_from, rounds, lines_first, finished, all_begun}
 use Rattle.switch_lines.specs.Switch.Answer.{Clears, Joins}
 use Rattle.switch_laws.specs.Steps.{Happening, does, Step, lines_after, lines_after_all, acts_of, acts_of_all}
@@ -58,7 +58,7 @@ relayed_leads (suc most) p ls = leads_then (moved_joined_steps (joined_at ls p) 
 
 from_leads : (ps : List SwitchChannel) (ls : List SwitchLine) → Leads (relayed_from_steps ps ls) ls (relayed_from ps ls)
 from_leads [] ls = refl
-from_leads (p ∷ ps) ls = leads_then (relayed_steps 8 p ls) (relayed_from_steps ps (relayed 8 p ls)) ls (relayed 8 p ls) _ (relayed_leads 8 p ls) (from_leads ps (relayed 8 p ls))
+from_leads (p ∷ ps) ls = leads_then (relayed_steps most_moves p ls) (relayed_from_steps ps (relayed most_moves p ls)) ls (relayed most_moves p ls) _ (relayed_leads most_moves p ls) (from_leads ps (relayed most_moves p ls))
 
 pub relayed_first_leads : (first : List ℕ) (ls : List SwitchLine) → Leads (relayed_first_steps first ls) ls (relayed_first first ls)
 relayed_first_leads first ls = from_leads (places_first first ls) ls

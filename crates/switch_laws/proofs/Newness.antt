@@ -20,7 +20,7 @@ use Rattle.switch_lines.specs.Causes.{reset_cause, clear_cause, far_diagnostic}
 use Rattle.switch_lines.specs.declared.channels.SwitchChannel.{SwitchChannel}
 use Rattle.switch_lines.specs.declared.channels.Joined.{Joined}
 use Rattle.switch_lines.specs.Lines.{SwitchLine, changed, flat, nth_joined, joined_on, joined_at, with_nth_joined, with_joined, ask, front_at, refusal_at}
-use Rattle.switch_lines.specs.Relay.{with_kept, freed, moved, moved_unless, moved_front, moved_joined, relayed, relayed_from, places_first, relayed_first, kept_anew, covered_on, told_joined, told_of}
+use Rattle.switch_lines.specs.Relay.{with_kept, freed, moved, moved_unless, moved_front, moved_joined, relayed, relayed_from, places_first, relayed_first, kept_anew, covered_on, told_joined, told_of, most_moves}
 use Rattle.switch_lines.specs.Switch.{Switch, Answer, answer, answered, forwarded, place_call, heed, heed_all, with_end, notes_of, without_notes, quieted, acted, to_relink, relinked_at, all_relinked, may_offer, offering_from, offered_from, rounds, lines_first, finished, all_begun, on_frame, on_expiry}
 use Rattle.switch_lines.specs.Switch.Answer.{Clears, Joins}
 use Rattle.switch_laws.specs.Concern.{before_relay}
@@ -139,7 +139,7 @@ from_relayed (suc most) p ls = from_then ls (moved p ls) (relayed most p (moved 
 
 from_places : (ps : List SwitchChannel) (ls : List SwitchLine) → From ls (relayed_from ps ls)
 from_places [] ls = from_same ls
-from_places (p ∷ ps) ls = from_then ls (relayed 8 p ls) (relayed_from ps (relayed 8 p ls)) (from_relayed 8 p ls) (from_places ps (relayed 8 p ls))
+from_places (p ∷ ps) ls = from_then ls (relayed most_moves p ls) (relayed_from ps (relayed most_moves p ls)) (from_relayed most_moves p ls) (from_places ps (relayed most_moves p ls))
 
 from_offered : (count n : ℕ) (ls : List SwitchLine) → From ls (offered_from count n ls)
 from_offered zero n ls = from_same ls

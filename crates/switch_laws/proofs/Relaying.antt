@@ -13,7 +13,8 @@ use Rattle.switch_lines.specs.Direction.{Direction, releasable, released, carrie
 use Rattle.switch_lines.specs.declared.channels.SwitchChannel.{SwitchChannel}
 use Rattle.switch_lines.specs.declared.channels.Joined.{Joined}
 use Rattle.switch_lines.specs.Lines.{SwitchLine, same_place, joined_at, ask, front_at, refusal_at, places, places_on, places_from}
-use Rattle.switch_lines.specs.Relay.{moved, moved_joined, moved_front, moved_unless, relayed, relayed_from, all_relayed, legs_of, places_first, relayed_first}
+use Rattle.switch_lines.specs.Relay.{moved, moved_joined, moved_front, moved_unless, relayed, relayed_from, all_relayed, legs_of, places_first, relayed_first, most_moves}
+use Rattle.switch_lines.proofs.Relaying.{relayed_stays}
 use Rattle.switch_laws.specs.Leg.{Leg, asked}
 use Rattle.switch_laws.specs.Way.{Way}
 use Rattle.switch_laws.specs.Way as way
@@ -227,10 +228,6 @@ pub record Visited (acts : List Act) (ls : List SwitchLine) (w : World) (x : Swi
   pub stuck_here : StuckAt ms x
   pub stuck_elsewhere : (p : SwitchChannel) → same_place p x ≡ false → StuckAt ls p → StuckAt ms p
 
-pub relayed_same : (most : ℕ) (p : SwitchChannel) (ls : List SwitchLine) → moved p ls ≡ ls → relayed most p ls ≡ ls
-relayed_same zero p ls e = refl
-relayed_same (suc most) p ls e = ap (λ (ms : List SwitchLine). relayed most p ms) e ∙ relayed_same most p ls e
-
 relayed_no_steps : (most : ℕ) (p : SwitchChannel) (ls : List SwitchLine) → moved p ls ≡ ls → moved_joined_steps (joined_at ls p) p ls ≡ [] → relayed_steps most p ls ≡ []
 relayed_no_steps zero p ls e f = refl
 relayed_no_steps (suc most) p ls e f =
@@ -262,9 +259,9 @@ pub waits_before : (b : Bool) (g h : Leg) → WaitsFor b g h → (in_transfer g.
 waits_before true g h i = (accepts_before g.role g.channel.state i.can_accept, waiting_before h.role h.channel.state i.waits)
 waits_before false g h i = (waiting_before g.role g.channel.state i.waits, accepts_before h.role h.channel.state i.can_accept)
 
-visited_pair : (ls : List SwitchLine) (w : World) (x : SwitchChannel) (j k : Joined) → IsSwitch ls w → Pairing ls x j k → IsPair (w x) (w j.other) j k → VisitedBy (relayed_steps 8 x ls) ls w x (relayed 8 x ls)
+visited_pair : (ls : List SwitchLine) (w : World) (x : SwitchChannel) (j k : Joined) → IsSwitch ls w → Pairing ls x j k → IsPair (w x) (w j.other) j k → VisitedBy (relayed_steps most_moves x ls) ls w x (relayed most_moves x ls)
 visited_pair ls w x j k i s (waiting a b c) =
-    visited_same (relayed_steps 8 x ls) ls (relayed 8 x ls) w x (relayed_no_steps 8 x ls nothing no_steps) (relayed_same 8 x ls nothing) i (λ y t e f. absurd (none-some t (sym front_none ∙ f)))
+    visited_same (relayed_steps most_moves x ls) ls (relayed most_moves x ls) w x (relayed_no_steps most_moves x ls nothing no_steps) (relayed_stays most_moves x ls nothing) i (λ y t e f. absurd (none-some t (sym front_none ∙ f)))
   where
     front_none : front_at ls x ≡ None
     front_none =
@@ -287,13 +284,13 @@ visited_pair ls w x j k i s (connected c) = record {
 }
   where
     ms : List SwitchLine
-    ms = relayed 8 x ls
+    ms = relayed most_moves x ls
 
     from : Way
     from = way_at w x j.other j.kept
 
-    m : Moved (acts_of_all (relayed_steps 8 x ls) ls) ls w x j k ms (way.relayed 8 from)
-    m = relays 8 ls w x j k i s c
+    m : Moved (acts_of_all (relayed_steps most_moves x ls) ls) ls w x j k ms (way.relayed most_moves from)
+    m = relays most_moves ls w x j k i s c
 
     v : World
     v = m.world
@@ -312,8 +309,8 @@ visited_pair ls w x j k i s (connected c) = record {
         ∙ (ap (λ (o : Option Refusal). is_some o) (refusal_of_leg ms v j.other (request_for t) m.switch.world q_there)
         ∙ stuck t (sym (front_of_leg ms v x m.switch.world x_there) ∙ f))
 
-    beside : Beside from (way.relayed 8 from)
-    beside = relayed_beside 8 from
+    beside : Beside from (way.relayed most_moves from)
+    beside = relayed_beside most_moves from
 
     -- of the other leg
     stuck_other : StuckAt ls j.other → StuckAt ms j.other
@@ -325,7 +322,7 @@ visited_pair ls w x j k i s (connected c) = record {
         front_of_leg ls w j.other i.world s.q_there ∙ (sym far ∙ (sym (front_of_leg ms v j.other m.switch.world q_there) ∙ f)) in
         let old = h k t s.there old_front in
         let refused : refusal (v x).role (v x).channel (request_for t) ≡ refusal (w x).role (w x).channel (request_for t) =
-        ap (λ (u : Way). refusal u.near.role u.near.channel (request_for t)) m.is ∙ same_refusal t (w x) (way.relayed 8 from).near beside.near.open_ in
+        ap (λ (u : Way). refusal u.near.role u.near.channel (request_for t)) m.is ∙ same_refusal t (w x) (way.relayed most_moves from).near beside.near.open_ in
         ap (λ (z : SwitchChannel). is_some (refusal_at ms z (request_for t))) to_x
         ∙ (ap (λ (o : Option Refusal). is_some o) (refusal_of_leg ms v x (request_for t) m.switch.world x_there ∙ (refused ∙ sym (refusal_of_leg ls w x (request_for t) i.world s.p_there)))
         ∙ (ap (λ (z : SwitchChannel). is_some (refusal_at ls z (request_for t))) (sym s.back) ∙ old))
@@ -353,10 +350,10 @@ visited_pair ls w x j k i s (connected c) = record {
         by_other (inl t) = let is = place_is p j.other t in subst (λ (z : SwitchChannel). StuckAt ms z) (sym is) (stuck_other (subst (λ (z : SwitchChannel). StuckAt ls z) is h))
         by_other (inr f) = stuck_apart p a f h
 
-visited_joined : (o : Option Joined) (ls : List SwitchLine) (w : World) (x : SwitchChannel) → joined_at ls x ≡ o → IsSwitch ls w → VisitedBy (relayed_steps 8 x ls) ls w x (relayed 8 x ls)
+visited_joined : (o : Option Joined) (ls : List SwitchLine) (w : World) (x : SwitchChannel) → joined_at ls x ≡ o → IsSwitch ls w → VisitedBy (relayed_steps most_moves x ls) ls w x (relayed most_moves x ls)
 visited_joined None ls w x e i =
-    visited_same (relayed_steps 8 x ls) ls (relayed 8 x ls) w x (relayed_no_steps 8 x ls (ap (λ (o : Option Joined). moved_joined o x ls) e) (ap (λ (o : Option Joined). moved_joined_steps o x ls) e))
-    (relayed_same 8 x ls (ap (λ (o : Option Joined). moved_joined o x ls) e)) i (λ y t f g. absurd (none-some y (sym e ∙ f)))
+    visited_same (relayed_steps most_moves x ls) ls (relayed most_moves x ls) w x (relayed_no_steps most_moves x ls (ap (λ (o : Option Joined). moved_joined o x ls) e) (ap (λ (o : Option Joined). moved_joined_steps o x ls) e))
+    (relayed_stays most_moves x ls (ap (λ (o : Option Joined). moved_joined o x ls) e)) i (λ y t f g. absurd (none-some y (sym e ∙ f)))
 visited_joined (Some j) ls w x e i =
     let d = i.joined x j e in
     elim d.pair [
@@ -364,7 +361,7 @@ visited_joined (Some j) ls w x e i =
       | inr h ↦ elim h [ inl z ↦ absurd z | inr z ↦ absurd z ]
     ]
 
-pub visited : (ls : List SwitchLine) (w : World) (x : SwitchChannel) → IsSwitch ls w → VisitedBy (relayed_steps 8 x ls) ls w x (relayed 8 x ls)
+pub visited : (ls : List SwitchLine) (w : World) (x : SwitchChannel) → IsSwitch ls w → VisitedBy (relayed_steps most_moves x ls) ls w x (relayed most_moves x ls)
 visited ls w x i = visited_joined (joined_at ls x) ls w x refl i
 
 -- ---- all channels
@@ -386,29 +383,29 @@ relays_from [] ls w i = record { world = w; reached = reached_none ls w; switch 
     none : (p : SwitchChannel) → StuckAt ls p ⊎ Among p [] → StuckAt ls p
     none p (inl h) = h
     none p (inr h) = elim h [ ]
-relays_from (x ∷ ps) ls w i = then_ (visited ls w x i) (relays_from ps (relayed 8 x ls) (visited ls w x i).world (visited ls w x i).switch)
+relays_from (x ∷ ps) ls w i = then_ (visited ls w x i) (relays_from ps (relayed most_moves x ls) (visited ls w x i).world (visited ls w x i).switch)
   where
     bs : List Step
-    bs = relayed_from_steps ps (relayed 8 x ls)
+    bs = relayed_from_steps ps (relayed most_moves x ls)
 
-    then_ : (a : VisitedBy (relayed_steps 8 x ls) ls w x (relayed 8 x ls)) → RelayedFrom (acts_of_all bs (relayed 8 x ls)) (relayed 8 x ls) a.world ps (relayed_from ps (relayed 8 x ls))
-        → RelayedFrom (acts_of_all (relayed_steps 8 x ls ++ bs) ls) ls w (x ∷ ps) (relayed_from ps (relayed 8 x ls))
+    then_ : (a : VisitedBy (relayed_steps most_moves x ls) ls w x (relayed most_moves x ls)) → RelayedFrom (acts_of_all bs (relayed most_moves x ls)) (relayed most_moves x ls) a.world ps (relayed_from ps (relayed most_moves x ls))
+        → RelayedFrom (acts_of_all (relayed_steps most_moves x ls ++ bs) ls) ls w (x ∷ ps) (relayed_from ps (relayed most_moves x ls))
     then_ a b = record {
       world = b.world;
-      reached = subst (λ (acts : List Act). Reached acts ls w (relayed_from ps (relayed 8 x ls)) b.world) (acts_lead (relayed_steps 8 x ls) bs ls (relayed 8 x ls) (relayed_leads 8 x ls))
-          (reached_then ls (relayed 8 x ls) (relayed_from ps (relayed 8 x ls)) w a.world b.world a.reached b.reached);
+      reached = subst (λ (acts : List Act). Reached acts ls w (relayed_from ps (relayed most_moves x ls)) b.world) (acts_lead (relayed_steps most_moves x ls) bs ls (relayed most_moves x ls) (relayed_leads most_moves x ls))
+          (reached_then ls (relayed most_moves x ls) (relayed_from ps (relayed most_moves x ls)) w a.world b.world a.reached b.reached);
       switch = b.switch;
       places = λ y. b.places y ∙ a.places y;
       stuck = λ p h. by_here p (decided (same_place p x)) h;
     }
       where
-        onward : (p : SwitchChannel) → same_place p x ≡ false → StuckAt ls p ⊎ Among p (x ∷ ps) → StuckAt (relayed 8 x ls) p ⊎ Among p ps
+        onward : (p : SwitchChannel) → same_place p x ≡ false → StuckAt ls p ⊎ Among p (x ∷ ps) → StuckAt (relayed most_moves x ls) p ⊎ Among p ps
         onward p f (inl h) = inl (a.stuck_elsewhere p f h)
         onward p f (inr (first e)) = absurd (true≢false (sym e ∙ f))
         onward p f (inr (later h)) = inr h
 
-        by_here : (p : SwitchChannel) → (same_place p x ≡ true) ⊎ (same_place p x ≡ false) → StuckAt ls p ⊎ Among p (x ∷ ps) → StuckAt (relayed_from ps (relayed 8 x ls)) p
-        by_here p (inl t) h = b.stuck p (inl (subst (λ (z : SwitchChannel). StuckAt (relayed 8 x ls) z) (sym (place_is p x t)) a.stuck_here))
+        by_here : (p : SwitchChannel) → (same_place p x ≡ true) ⊎ (same_place p x ≡ false) → StuckAt ls p ⊎ Among p (x ∷ ps) → StuckAt (relayed_from ps (relayed most_moves x ls)) p
+        by_here p (inl t) h = b.stuck p (inl (subst (λ (z : SwitchChannel). StuckAt (relayed most_moves x ls) z) (sym (place_is p x t)) a.stuck_here))
         by_here p (inr f) h = b.stuck p (onward p f h)
 
 pub among_here : (p x : SwitchChannel) (xs : List SwitchChannel) → p ≡ x → Among p (x ∷ xs)

@@ -15,7 +15,7 @@ use Rattle.switch_lines.specs.Direction.{releasable, carried_by, request_for}
 use Rattle.switch_lines.specs.declared.channels.SwitchChannel.{SwitchChannel}
 use Rattle.switch_lines.specs.declared.channels.Joined.{Joined}
 use Rattle.switch_lines.specs.Lines.{SwitchLine, changed, joined_at, with_joined, ask, front_at, refusal_at}
-use Rattle.switch_lines.specs.Relay.{moved, moved_unless, moved_front, moved_joined, relayed, relayed_from, places_first, relayed_first}
+use Rattle.switch_lines.specs.Relay.{moved, moved_unless, moved_front, moved_joined, relayed, relayed_from, places_first, relayed_first, most_moves}
 use Rattle.switch_lines.specs.Switch.{with_end, may_offer, offering_from, offered_from, rounds}
 use Rattle.switch_laws.proofs.Lists.{map_unchanged, and_both, decided}
 
@@ -49,7 +49,7 @@ relayed_lines (suc most) p ls = relayed_lines most p (moved p ls) ∙ moved_line
 
 pub from_lines : (ps : List SwitchChannel) (ls : List SwitchLine) → lines_of (relayed_from ps ls) ≡ lines_of ls
 from_lines [] ls = refl
-from_lines (p ∷ ps) ls = from_lines ps (relayed 8 p ls) ∙ relayed_lines 8 p ls
+from_lines (p ∷ ps) ls = from_lines ps (relayed most_moves p ls) ∙ relayed_lines most_moves p ls
 
 pub first_lines : (first : List ℕ) (ls : List SwitchLine) → lines_of (relayed_first first ls) ≡ lines_of ls
 first_lines first ls = from_lines (places_first first ls) ls

@@ -7,6 +7,7 @@ use Rattle.packet_layer.specs.Channel.{had_call}
 use Rattle.packet_laws.specs.Readable.{Every, AreOctets}
 use Rattle.packet_end.specs.Params.{AreParams}
 use Rattle.packet_end.specs.PacketEnd as offers
+use Rattle.switch_lines.specs.Relay.{most_moves}
 use Rattle.std.specs.List.{list_all}
 use Rattle.std.specs.Prelude.{slice_get}
 use Rattle.std.proofs.lemmas.Bool.{ltb-true}
@@ -123,7 +124,7 @@ events_come : Every MayCome events
 events_come = (are_octets sabm refl, (tt, (are_octets restart_request refl, (tt, (are_octets call_request refl, tt)))))
 
 pub run_holds : RunLaw
-unfolding offers.all_offered
+unfolding offers.all_offered most_moves
 run_holds = record {
   waits_for_cover = refl;
   is_sent = refl;

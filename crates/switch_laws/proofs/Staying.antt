@@ -19,7 +19,7 @@ use Rattle.switch_lines.specs.Causes.{clear_cause, reset_cause, far_diagnostic}
 use Rattle.switch_lines.specs.declared.channels.SwitchChannel.{SwitchChannel}
 use Rattle.switch_lines.specs.declared.channels.Joined.{Joined}
 use Rattle.switch_lines.specs.Lines.{SwitchLine, same_place, changed, joined_at, with_joined, ask, front_at, refusal_at}
-use Rattle.switch_lines.specs.Relay.{freed, kept_anew, covered_on, told_joined, told_of, moved, moved_unless, moved_front, moved_joined, relayed, relayed_from, places_first, relayed_first}
+use Rattle.switch_lines.specs.Relay.{freed, kept_anew, covered_on, told_joined, told_of, moved, moved_unless, moved_front, moved_joined, relayed, relayed_from, places_first, relayed_first, most_moves}
 use Rattle.switch_lines.specs.Switch.{Answer, answer, answered, forwarded, place_call, has_any, heed, heed_all, with_end, notes_of, without_notes, quieted, acted, may_offer, offering_from, offered_from, rounds}
 use Rattle.switch_lines.specs.Switch.Answer.{Clears, Joins}
 use Rattle.switch_laws.specs.World.{World, Shown, shown_as, shown_on, shown_at, layers_of}
@@ -359,7 +359,7 @@ stay_relayed (suc most) q ls = stay_then ls (moved q ls) (relayed most q (moved 
 
 stay_from : (qs : List SwitchChannel) (ls : List SwitchLine) → AllStay ls (relayed_from qs ls)
 stay_from [] ls = stay_same ls ls (λ p. refl)
-stay_from (q ∷ qs) ls = stay_then ls (relayed 8 q ls) (relayed_from qs (relayed 8 q ls)) (stay_relayed 8 q ls) (stay_from qs (relayed 8 q ls))
+stay_from (q ∷ qs) ls = stay_then ls (relayed most_moves q ls) (relayed_from qs (relayed most_moves q ls)) (stay_relayed most_moves q ls) (stay_from qs (relayed most_moves q ls))
 
 stay_offered : (count n : ℕ) (ls : List SwitchLine) → AllStay ls (offered_from count n ls)
 stay_offered zero n ls = stay_same ls ls (λ p. refl)

@@ -1,4 +1,4 @@
--- One direction of a join: the clause stays over all that the switch relays and releases, and 8 moves leave nothing.
+-- One direction of a join: the clause stays over all that the switch relays and releases, and the most moves leave nothing.
 use Rattle.std.proofs.Common.{◌≡◌, ℕ, zero, suc, ◌+◌, ◌≤◌, ◌<◌, Bool, true, false, cond, if◌then◌else◌, not, List, [], ◌∷◌, ◌++◌, length, length-append, append-nil, Option, Some, None, is_some, refl, sym, ap, subst, ◌∙◌, arith, true≢false, nat_le, nat_lt, ◌||◌, ◌==◌}
 use Rattle.std.proofs.lemmas.Bool.{leb-false}
 use Rattle.std.proofs.lemmas.Option.{none-some, same_Some}
@@ -18,6 +18,7 @@ use Rattle.switch_laws.specs.Clause.{TakenPart, SentPart, taken_part, sent_part,
 use Rattle.switch_laws.specs.Way.{Way, Holds, IsRight, IsStuck, freed, moved, moved_front, moved_unless, relayed}
 use Rattle.switch_laws.proofs.Directions.{carried_items, direction_interrupts, direction_carries, direction_released, releasable_within, releasable_none}
 use Rattle.switch_laws.proofs.Legs.{not_refused, none_of_or, asked_as, taking_allowed, releasing_allowed, release_allowed, arrived_within, leg_taken, leg_released, leg_sent, leg_interrupted}
+use Rattle.switch_lines.specs.Relay.{most_moves}
 
 -- ---- what a direction sees of its two legs
 
@@ -350,9 +351,10 @@ stuck_within zero w i le = λ t e. absurd (nothing_waits w.near.channel.traffic.
 stuck_within (suc most) w i le =
     stuck_step most w (λ less. stuck_within most (moved w) (moved_right w i) less) le (progress_front (front w.near.channel.traffic) w refl i.holds.near_call)
 
-pub relayed_stuck : (w : Way) → IsRight w → IsStuck (relayed 8 w)
-relayed_stuck w i = stuck_within 8 w i (few w.near.channel.traffic.interrupt_arrived (length w.near.channel.traffic.arrived) (arrived_within w.near i.holds.near))
+pub relayed_stuck : (w : Way) → IsRight w → IsStuck (relayed most_moves w)
+unfolding most_moves
+relayed_stuck w i = stuck_within most_moves w i (few w.near.channel.traffic.interrupt_arrived (length w.near.channel.traffic.arrived) (arrived_within w.near i.holds.near))
   where
-    few : (a : Option (List ℕ)) (n : ℕ) → n ≤ 7 → n + one a ≤ 8
+    few : (a : Option (List ℕ)) (n : ℕ) → n ≤ 7 → n + one a ≤ most_moves
     few (Some octets) n le = omega arith
     few None n le = omega arith

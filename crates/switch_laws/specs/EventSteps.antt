@@ -16,7 +16,7 @@ use Rattle.switch_lines.specs.Causes.{reset_cause, clear_cause, far_diagnostic}
 use Rattle.switch_lines.specs.declared.channels.SwitchChannel.{SwitchChannel}
 use Rattle.switch_lines.specs.declared.channels.Joined.{Joined}
 use Rattle.switch_lines.specs.Lines.{SwitchLine, changed, joined_at, places, front_at, refusal_at}
-use Rattle.switch_lines.specs.Relay.{moved, relayed, places_first, relayed_first}
+use Rattle.switch_lines.specs.Relay.{moved, relayed, places_first, relayed_first, most_moves}
 use Rattle.switch_lines.specs.Switch.{Answer, answer, forwarded, heed, notes_of, with_end, quieted, acted, to_relink}
 use Rattle.switch_lines.specs.Switch.{relinked_at, all_relinked, may_offer, offering_from, offered_from}
 use Rattle.switch_lines.specs.Switch.{lines_first, all_begun}
@@ -49,7 +49,7 @@ relayed_steps (suc most) p ls = moved_joined_steps (joined_at ls p) p ls ++ rela
 
 abbrev pub relayed_from_steps : List SwitchChannel → List SwitchLine → List Step
 relayed_from_steps [] ls = []
-relayed_from_steps (p ∷ ps) ls = relayed_steps 8 p ls ++ relayed_from_steps ps (relayed 8 p ls)
+relayed_from_steps (p ∷ ps) ls = relayed_steps most_moves p ls ++ relayed_from_steps ps (relayed most_moves p ls)
 
 abbrev pub all_relayed_steps : List SwitchLine → List Step
 all_relayed_steps ls = relayed_from_steps (places ls) ls

@@ -12,7 +12,7 @@ use Rattle.address_routes.specs.Routes.{RouteMap, line_for}
 use Rattle.switch_lines.specs.Direction.{new_direction}
 use Rattle.switch_lines.specs.declared.channels.SwitchChannel.{SwitchChannel}
 use Rattle.switch_lines.specs.Lines.{SwitchLine, joined_at}
-use Rattle.switch_lines.specs.Relay.{all_relayed}
+use Rattle.switch_lines.specs.Relay.{all_relayed, most_moves}
 use Rattle.switch_lines.specs.Switch.{Switch, answer, heed_all, on_frame, on_expiry, restart, elapse}
 use Rattle.switch_lines.specs.Switch.Answer.{Joins}
 use Rattle.switch_laws.specs.Leg.{connected}
@@ -30,15 +30,15 @@ use Rattle.switch_laws.specs.EventSteps.{all_relayed_steps, heed_all_steps, even
 use Rattle.switch_laws.specs.Joined.{IsSwitch, Becomes, HasRelayedAll, HasActed, IsTold, notes_made, has_place}
 
 -- one direction: item by item what was sent is what was taken, and on lines of one size packet by packet, with M, Q
--- and D. Releasing what may be released and relaying keep the clause, and after 8 of them nothing waits that the far
--- leg takes, since no more than 7 packets and an interrupt can wait on the near leg
+-- and D. Releasing what may be released and relaying keep the clause, and after the most moves nothing waits that the
+-- far leg takes, since no more than a queue of packets and an interrupt can wait on the near leg
 pub record RelayLaw : Type 0 where
   pub items : (w : Way) → Holds w → all_items w.far.epoch.sent ≡ all_items w.near.epoch.taken
   pub packets : (w : Way) → Holds w → w.far.epoch.sent ≡ w.near.epoch.taken
   pub frees : (w : Way) → Holds w → IsRight (freed w)
   pub moves : (w : Way) → IsRight w → IsRight (moved w)
   pub relays : (most : ℕ) (w : Way) → IsRight w → IsRight (relayed most w)
-  pub stuck : (w : Way) → IsRight w → IsStuck (relayed 8 w)
+  pub stuck : (w : Way) → IsRight w → IsStuck (relayed most_moves w)
 
 -- both directions: the clause holds when a call is connected, and stays over each relay, after which nothing is kept
 -- back, over all that comes on a leg and leaves it in data transfer, and over all that goes to its line
@@ -50,8 +50,8 @@ pub record JoinLaw : Type 0 where
         there = new_direction;
         back = new_direction;
       })
-  pub relays : (j : Join) → IsJoin j → IsJoin (relayed_both 8 j)
-  pub keeps_nothing_back : (j : Join) → IsJoin j → IsAtRest (relayed_both 8 j)
+  pub relays : (j : Join) → IsJoin j → IsJoin (relayed_both most_moves j)
+  pub keeps_nothing_back : (j : Join) → IsJoin j → IsAtRest (relayed_both most_moves j)
   pub hears : (c : ℕ) (p : Body) (j : Join) → IsNumbered p
       → (received j.b.role j.b.window c j.b.channel p).channel.state ≡ Transfer → IsJoin j → IsJoin (hears c p j)
   pub mishears : (c : ℕ) (unknown : Bool) (j : Join)

@@ -7,7 +7,7 @@ use Rattle.packet_layer.specs.Channel.{Refusal}
 use Rattle.packet_layer.specs.Channel.Request.{Taking, Releasing}
 use Rattle.switch_lines.specs.Direction.{released, releasable, carried_by, request_for}
 use Rattle.switch_lines.specs.Lines.{SwitchChannel, Joined, SwitchLine, same_place, joined_at, with_joined, ask, front_at, refusal_at}
-use Rattle.switch_lines.specs.Relay.{moved, moved_joined, moved_front, moved_unless, relayed, relayed_from, places_of, both_legs, legs_at, legs_of}
+use Rattle.switch_lines.specs.Relay.{moved, moved_joined, moved_front, moved_unless, relayed, relayed_from, places_of, both_legs, legs_at, legs_of, most_moves}
 use Rattle.switch_lines.specs.OfLine.{places_by}
 use Rattle.switch_lines.proofs.Places.{decided, place_is, joined_asked, joined_here, joined_apart}
 use Rattle.switch_lines.proofs.Rounds.{counts, counts_from, counts_there, counts_length, on_line, from_both}
@@ -28,7 +28,7 @@ to_kept p j k ks ls x same e to = by_place (decided (same_place x p))
         ∙ ap (λ (q : SwitchChannel). Some q) to ∙ sym (ap (λ (o : Option Joined). option_map (λ (y : Joined). y.other) o) e) ∙ sym (ap (λ (y : SwitchChannel). to_at ls y) is)
     by_place (inr f) = ap (λ (o : Option Joined). option_map (λ (y : Joined). y.other) o) (joined_apart p (Some k) x ks f ∙ same x)
 
-to_unless : (r : Option Refusal) (t : Taken) (p : SwitchChannel) (j : Joined) (ls : List SwitchLine) (x : SwitchChannel) → joined_at ls p ≡ Some j → to_at (moved_unless r t p j ls) x ≡ to_at ls x
+pub to_unless : (r : Option Refusal) (t : Taken) (p : SwitchChannel) (j : Joined) (ls : List SwitchLine) (x : SwitchChannel) → joined_at ls p ≡ Some j → to_at (moved_unless r t p j ls) x ≡ to_at ls x
 to_unless (Some r) t p j ls x e = refl
 to_unless None t p j ls x e =
     to_kept p j (record j { kept = released (carried_by t j.kept) }) _ ls x
@@ -45,13 +45,13 @@ to_moved : (o : Option Joined) (p : SwitchChannel) (ls : List SwitchLine) (x : S
 to_moved None p ls x e = refl
 to_moved (Some j) p ls x e = to_front (front_at ls p) p j ls x e
 
-to_relayed : (most : ℕ) (p : SwitchChannel) (ls : List SwitchLine) (x : SwitchChannel) → to_at (relayed most p ls) x ≡ to_at ls x
+pub to_relayed : (most : ℕ) (p : SwitchChannel) (ls : List SwitchLine) (x : SwitchChannel) → to_at (relayed most p ls) x ≡ to_at ls x
 to_relayed zero p ls x = refl
 to_relayed (suc most) p ls x = to_relayed most p (moved p ls) x ∙ to_moved (joined_at ls p) p ls x refl
 
-to_from : (ps : List SwitchChannel) (ls : List SwitchLine) (x : SwitchChannel) → to_at (relayed_from ps ls) x ≡ to_at ls x
+pub to_from : (ps : List SwitchChannel) (ls : List SwitchLine) (x : SwitchChannel) → to_at (relayed_from ps ls) x ≡ to_at ls x
 to_from [] ls x = refl
-to_from (p ∷ ps) ls x = to_from ps (relayed 8 p ls) x ∙ to_relayed 8 p ls x
+to_from (p ∷ ps) ls x = to_from ps (relayed most_moves p ls) x ∙ to_relayed most_moves p ls x
 
 -- ---- so the legs of lines are the same before and after
 
@@ -87,9 +87,9 @@ lines_stay (n ∷ ns) qs ls =
 
 -- ---- one join
 
-pub join_relayed : (o : Option Joined) (p q : SwitchChannel) (ls : List SwitchLine) → Some q ≡ option_map (λ (j : Joined). j.other) o → relayed 8 q (relayed 8 p ls) ≡ relayed_from (both_legs o p) ls
+pub join_relayed : (o : Option Joined) (p q : SwitchChannel) (ls : List SwitchLine) → Some q ≡ option_map (λ (j : Joined). j.other) o → relayed most_moves q (relayed most_moves p ls) ≡ relayed_from (both_legs o p) ls
 join_relayed None p q ls e = absurd (none-some q (sym e))
-join_relayed (Some j) p q ls e = ap (λ (x : SwitchChannel). relayed 8 x (relayed 8 p ls)) (same_Some q j.other e)
+join_relayed (Some j) p q ls e = ap (λ (x : SwitchChannel). relayed most_moves x (relayed most_moves p ls)) (same_Some q j.other e)
 
 pub none_relayed : (o : Option Joined) (p : SwitchChannel) (ls : List SwitchLine) → None ≡ option_map (λ (j : Joined). j.other) o → ls ≡ relayed_from (both_legs o p) ls
 none_relayed None p ls e = refl
@@ -165,3 +165,40 @@ pub one_line : (i : ℕ) (ns : List ℕ) (ls : List SwitchLine) → i < length n
     relayed_from (legs_of (drop (i + 1) ns) ms) ms ≡ relayed_from (legs_of (drop i ns) ls) ls)
 one_line i ns ls h =
     next_line (get_or ns i 0) (drop (i + 1) ns) ls ∙ ap (λ (ms : List ℕ). relayed_from (legs_of ms ls) ls) (sym (dropped i ns h))
+
+-- ---- the joins of a line of which anything can go on
+
+-- the relay of the channels of a line from one up to below another
+abbrev pub from_channel : (line first end : ℕ) → List SwitchLine → List SwitchLine
+from_channel n c end ls = relayed_from (legs_at (places_by n c (end - c)) ls) ls
+
+-- what the relay of the join of one channel makes
+abbrev pub with_join_relayed : SwitchChannel → List SwitchLine → List SwitchLine
+with_join_relayed p ls = relayed_from (both_legs (joined_at ls p) p) ls
+
+pub this_channel : (n c end : ℕ) (ls : List SwitchLine) → c < end →
+    from_channel n (c + 1) end (with_join_relayed (record { line = n; channel = c }) ls) ≡ from_channel n c end ls
+this_channel n c end ls within =
+    let p : SwitchChannel = record { line = n; channel = c } in
+    let ms = with_join_relayed p ls in
+    let next : c + 1 ≡ suc c = omega arith in
+    ap (λ (d : ℕ). relayed_from (legs_at (places_by n d (end - (c + 1))) ms) ms) next
+    ∙ next_join p (places_by n (suc c) (end - (c + 1))) ls
+    ∙ ap (λ (ps : List SwitchChannel). relayed_from (legs_at ps ls) ls) (sym (first_channel n c (end - (c + 1)) (end - c) (omega arith)))
+
+-- joins of which nothing can go on are left out
+pub left_out : (count n c d end : ℕ) (ls : List SwitchLine) → c + count ≡ d → d ≤ end
+    → ((e : ℕ) → c ≤ e → e < d → with_join_relayed (record { line = n; channel = e }) ls ≡ ls) → from_channel n c end ls ≡ from_channel n d end ls
+left_out zero n c d end ls at within none = let same : c ≡ d = omega (arith, at) in ap (λ (e : ℕ). from_channel n e end ls) same
+left_out (suc count) n c d end ls at within none =
+    sym (this_channel n c end ls (omega (arith, at, within))) ∙ ap (λ (ms : List SwitchLine). from_channel n (c + 1) end ms) (none c (omega arith) (omega (arith, at)))
+    ∙ left_out count n (c + 1) d end ls (omega (arith, at)) within (λ e least less. none e (omega (arith, least)) less)
+
+pub none_left_over : (n end : ℕ) (ls : List SwitchLine) → from_channel n end end ls ≡ ls
+none_left_over n end ls = let none : end - end ≡ 0 = omega arith in ap (λ (ps : List SwitchChannel). relayed_from (legs_at ps ls) ls) (none_by n end (end - end) none)
+
+pub whole_line : (items ls : List SwitchLine) (n k end : ℕ) (l : SwitchLine) → items ≡ ls → n < length items → l ≡ get_or items n l → k ≡ length l.joined
+    → end ≡ k + 1 → from_channel n 1 end ls ≡ relayed_from (legs_at (places_of n (slice_get ls n)) ls) ls
+whole_line items ls n k end l e within is count last =
+    let same : end - 1 ≡ k - 0 = omega (arith, last) in
+    ap (λ (m : ℕ). relayed_from (legs_at (places_by n 1 m) ls) ls) same ∙ all_channels items ls n k l e within is count

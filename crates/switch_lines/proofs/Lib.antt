@@ -15,3 +15,7 @@ pub mod Settling
 pub mod Touched
 pub mod Relinking
 pub mod Left
+pub mod Calmer
+pub mod Waiting
+pub mod Moving
+pub mod ChannelSets

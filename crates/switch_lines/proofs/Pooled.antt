@@ -57,7 +57,7 @@ within ps ms n view less =
     let long = plain_length ps in
     omega (arith, same, long, less)
 
-within_plain : (ps : Pooled) (n : ℕ) → n < length ps → n < length (plain ps)
+pub within_plain : (ps : Pooled) (n : ℕ) → n < length ps → n < length (plain ps)
 within_plain ps n less = let long = plain_length ps in omega (arith, long, less)
 
 pub one_changed : (f : SwitchLine → SwitchLine) (ps : Pooled) (ms : List SwitchLine) (n : ℕ) (old new : PooledLine) →

@@ -226,3 +226,7 @@ one_more (suc n) m p ls e = let same : n ≡ m = omega arith in ap (λ k. relaye
 pub one_moved : (most count : ℕ) (p : SwitchChannel) (ls : List SwitchLine) → count < most →
     relayed (most - (count + 1)) p (moved p ls) ≡ relayed (most - count) p ls
 one_moved most count p ls within = sym (one_more (most - count) (most - (count + 1)) p ls (omega arith))
+
+pub relayed_stays : (most : ℕ) (p : SwitchChannel) (ls : List SwitchLine) → moved p ls ≡ ls → relayed most p ls ≡ ls
+relayed_stays zero p ls e = refl
+relayed_stays (suc most) p ls e = ap (λ (ms : List SwitchLine). relayed most p ms) e ∙ relayed_stays most p ls e

@@ -26,7 +26,7 @@ use Rattle.switch_lines.specs.Causes.{reset_cause, clear_cause, far_diagnostic}
 use Rattle.switch_lines.specs.declared.channels.SwitchChannel.{SwitchChannel}
 use Rattle.switch_lines.specs.declared.channels.Joined.{Joined}
 use Rattle.switch_lines.specs.Lines.{SwitchLine, changed, joined_at, with_joined, ask, front_at, refusal_at}
-use Rattle.switch_lines.specs.Relay.{freed, kept_anew, covered_on, told_joined, told_of, moved, moved_unless}
+use Rattle.switch_lines.specs.Relay.{freed, kept_anew, covered_on, told_joined, told_of, moved, moved_unless, most_moves}
 use Rattle.switch_lines.specs.Relay.{moved_front, moved_joined, relayed, relayed_from}
 use Rattle.switch_lines.specs.Switch.{Answer, answer, answered, forwarded, place_call, heed, heed_all, with_end}
 use Rattle.switch_lines.specs.Switch.{notes_of, without_notes, quieted, acted, raised, to_relink, relinked_at}
@@ -353,7 +353,7 @@ relayed_asks (suc most) p ls = relayed_asks most p (moved p ls) ∙ moved_asks (
 
 pub from_asks : (ps : List SwitchChannel) (ls : List SwitchLine) → asks (relayed_from ps ls) ≡ asks ls
 from_asks [] ls = refl
-from_asks (p ∷ ps) ls = from_asks ps (relayed 8 p ls) ∙ relayed_asks 8 p ls
+from_asks (p ∷ ps) ls = from_asks ps (relayed most_moves p ls) ∙ relayed_asks most_moves p ls
 
 served_asks : (l : Layer) (c : ℕ) (ch : Channel) (b : Option Body) (others : Next) → others.layer.relink ≡ l.relink →
     (served l c (record { channel = ch; body = b }) others).layer.relink ≡ l.relink

@@ -7,7 +7,7 @@ use Rattle.packet_layer.specs.Channel.Request.{Taking, Releasing}
 use Rattle.switch_lines.specs.Direction.{releasable, carried_by, request_for}
 use Rattle.switch_lines.specs.Lines.{SwitchChannel, Joined, SwitchLine, changed, joined_at, with_nth_joined, with_joined, ask, front_at, refusal_at, places_on, places_from}
 pub use Rattle.switch_lines.specs.OfLine.{places_by}
-use Rattle.switch_lines.specs.Relay.{moved, moved_joined, moved_front, moved_unless, relayed, relayed_from, all_relayed}
+use Rattle.switch_lines.specs.Relay.{moved, moved_joined, moved_front, moved_unless, relayed, relayed_from, all_relayed, most_moves}
 
 -- how many channels the lines have
 abbrev pub counts : List SwitchLine → List ℕ
@@ -32,18 +32,18 @@ all_places ls = ap (λ ps. relayed_from ps ls) (sym (from_line 0 ls))
 -- ---- the channels of a line
 
 first_channel : (n c count : ℕ) (ls : List SwitchLine) (most : ℕ) → most ≡ suc count →
-    relayed_from (places_by n c most) ls ≡ relayed_from (places_by n (suc c) count) (relayed 8 (record { line = n; channel = c }) ls)
+    relayed_from (places_by n c most) ls ≡ relayed_from (places_by n (suc c) count) (relayed most_moves (record { line = n; channel = c }) ls)
 first_channel n c count ls zero e = absurd (omega arith)
 first_channel n c count ls (suc most) e =
     let same : most ≡ count = omega arith in
-    ap (λ (k : ℕ). relayed_from (places_by n (suc c) k) (relayed 8 (record { line = n; channel = c }) ls)) same
+    ap (λ (k : ℕ). relayed_from (places_by n (suc c) k) (relayed most_moves (record { line = n; channel = c }) ls)) same
 
 pub one_channel : (n i channels : ℕ) (ls : List SwitchLine) → i < channels →
-    relayed_from (places_by n (i + 1 + 1) (channels - (i + 1))) (relayed 8 (record { line = n; channel = i + 1 }) ls)
+    relayed_from (places_by n (i + 1 + 1) (channels - (i + 1))) (relayed most_moves (record { line = n; channel = i + 1 }) ls)
     ≡ relayed_from (places_by n (i + 1) (channels - i)) ls
 one_channel n i channels ls within =
     let next : i + 1 + 1 ≡ suc (i + 1) = omega arith in
-    ap (λ (c : ℕ). relayed_from (places_by n c (channels - (i + 1))) (relayed 8 (record { line = n; channel = i + 1 }) ls)) next
+    ap (λ (c : ℕ). relayed_from (places_by n c (channels - (i + 1))) (relayed most_moves (record { line = n; channel = i + 1 }) ls)) next
     ∙ sym (first_channel n (i + 1) (channels - (i + 1)) ls (channels - i) (omega arith))
 
 none_by : (n c count : ℕ) (ls : List SwitchLine) → count ≡ 0 → ls ≡ relayed_from (places_by n c count) ls
@@ -90,13 +90,13 @@ counts_relayed (suc most) p ls = counts_relayed most p (moved p ls) ∙ counts_m
 
 pub counts_from : (ps : List SwitchChannel) (ls : List SwitchLine) → counts (relayed_from ps ls) ≡ counts ls
 counts_from [] ls = refl
-counts_from (p ∷ ps) ls = counts_from ps (relayed 8 p ls) ∙ counts_relayed 8 p ls
+counts_from (p ∷ ps) ls = counts_from ps (relayed most_moves p ls) ∙ counts_relayed most_moves p ls
 
 -- ---- one line more
 
 pub from_both : (ps qs : List SwitchChannel) (ls : List SwitchLine) → relayed_from (ps ++ qs) ls ≡ relayed_from qs (relayed_from ps ls)
 from_both [] qs ls = refl
-from_both (p ∷ ps) qs ls = from_both ps qs (relayed 8 p ls)
+from_both (p ∷ ps) qs ls = from_both ps qs (relayed most_moves p ls)
 
 pub first_line : (n : ℕ) (ks : List ℕ) (m k : ℕ) (ls : List SwitchLine) → n < length ks → k ≡ get_or ks n 0 →
     relayed_from (places_by_counts m (drop n ks)) ls ≡ relayed_from (places_by_counts (suc m) (drop (suc n) ks)) (relayed_from (places_by m 1 k) ls)

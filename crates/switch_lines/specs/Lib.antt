@@ -12,3 +12,5 @@ pub mod LineView
 pub mod LinesView
 pub mod Calling
 pub mod Making
+pub mod ChannelSet
+pub mod Waiting

@@ -40,10 +40,14 @@ abbrev pub relayed : (most : ℕ) → SwitchChannel → List SwitchLine → List
 relayed zero p ls = ls
 relayed (suc most) p ls = relayed most p (moved p ls)
 
--- from each of these; no more than 7 packets and an interrupt wait on a leg
+-- no more waits on a leg: a queue holds at most 8 packets, and an interrupt may wait beside them
+unfoldable pub most_moves : ℕ
+most_moves = 9
+
+-- from each of these
 abbrev pub relayed_from : List SwitchChannel → List SwitchLine → List SwitchLine
 relayed_from [] ls = ls
-relayed_from (p ∷ ps) ls = relayed_from ps (relayed 8 p ls)
+relayed_from (p ∷ ps) ls = relayed_from ps (relayed most_moves p ls)
 
 abbrev pub all_relayed : List SwitchLine → List SwitchLine
 all_relayed ls = relayed_from (places ls) ls

@@ -2,6 +2,7 @@
 #![tactic(auto)]
 
 mod causes;
+mod channel_set;
 mod channels;
 mod config;
 mod direction;

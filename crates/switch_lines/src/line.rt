@@ -91,7 +91,8 @@ impl SwitchLine {
 
     /// How many channels have a place for a join, at most 32.
     pub(crate) fn channels(&self) -> u8
-        ensures { result ≡ length self.now.line.joined }
+        ensures count { result ≡ length self.now.line.joined }
+        ensures most { result ≤ 32 }
     {
         self.joined.len() as u8
     }

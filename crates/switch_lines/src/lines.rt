@@ -9,18 +9,22 @@ ghost use Rattle.packet_end.specs.PacketEnd.{without_first_frame};
 ghost use Rattle.packet_end.specs.declared.fault.EndFault.TheVariants as fault_is;
 ghost use Rattle.switch_lines.specs.Direction.{after};
 ghost use Rattle.switch_lines.specs.Making.{IsConfig, made_line, shares_with};
-ghost use Rattle.switch_lines.specs.Lines.{joined_at, with_joined, ask, front_at, changed};
+ghost use Rattle.switch_lines.specs.Lines.{with_joined, ask, front_at, changed};
 ghost use Rattle.switch_lines.specs.Switch.{timer_runs, due_on, frames_on, with_end, line_rests};
 ghost use Rattle.switch_lines.specs.OfLine.{kept_at, freed_at, is_taken};
+ghost use Rattle.switch_lines.specs.Pooled.{plain};
 ghost use Rattle.switch_lines.specs.Touched.{AreThere, HasAllFrames};
+ghost use Rattle.switch_lines.specs.Waiting.{other_at};
 
 mod calling;
 mod finishing;
 mod heeding;
 mod relaying;
+mod reopening;
 mod telling;
 mod touched;
 
+use crate::channel_set::ChannelSet;
 use crate::channels::{Joined, SwitchChannel};
 use crate::config::SwitchLineConfig;
 use crate::direction::Change;
@@ -48,6 +52,10 @@ pub struct Lines {
     touched: NumberSet,
     /// The lines besides these at which frames of the last event may be left.
     untaken: NumberSet,
+    /// Joined channels whose joins are to be relayed. On all others nothing waits that the other leg takes.
+    to_relay: ChannelSet,
+    /// Channels that refused what waits on the other leg, and may take it once their line took a packet.
+    refusing: ChannelSet,
 }
 
 impl Model for Lines {
@@ -73,6 +81,23 @@ fn buffers_for(lines: &[SwitchLineConfig]) -> usize
         total += line.params.buffers();
     }
     total
+}
+
+// The channel that a channel is joined to, if it is.
+fn other_of(lines: &[SwitchLine], place: SwitchChannel) -> Option<SwitchChannel>
+    ensures { result ≡ other_at (plain lines.now) place }
+{
+    lines.get(place.line)?.other(place.channel)
+}
+
+// The channel that a join leads to, if there is one.
+fn joined_to(joined: &Option<Joined>) -> Option<SwitchChannel>
+    ensures { result ≡ option_map (λ j. j.other) joined.now }
+{
+    match joined {
+        Some(joined) => Some(joined.other),
+        None => None,
+    }
 }
 
 // Whether all of these lines are at rest.
@@ -103,6 +128,8 @@ impl Lines {
             pool,
             touched,
             untaken: NumberSet::new(),
+            to_relay: ChannelSet::new(),
+            refusing: ChannelSet::new(),
         })
     }
 
@@ -169,9 +196,9 @@ impl Lines {
 
     /// The channel that a channel is joined to, if it is.
     pub fn other(&self, place: SwitchChannel) -> Option<SwitchChannel>
-        ensures { result ≡ option_map (λ j. j.other) (joined_at self.now place) }
+        ensures { result ≡ other_at self.now place }
     {
-        self.lines.get(place.line)?.other(place.channel)
+        other_of(&self.lines, place)
     }
 
     // Joins a channel, or ends its join.
@@ -179,6 +206,7 @@ impl Lines {
         ensures { self.new ≡ with_joined place joined self.old }
     {
         if place.line < self.lines.len() {
+            self.to_relay.insert_join(place, joined_to(&joined));
             self.lines[place.line].set_joined(place.channel, joined);
         }
     }
@@ -189,6 +217,8 @@ impl Lines {
     {
         if place.line < self.lines.len() {
             self.touched.insert(place.line);
+            self.to_relay
+                .insert_join(place, other_of(&self.lines, place));
             self.lines[place.line].ask(place.channel, request, &mut self.pool);
         }
     }

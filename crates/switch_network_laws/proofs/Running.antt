@@ -13,6 +13,7 @@ use Rattle.network_laws.specs.Network.{PlacedNode, PlacedSwitch, NetLine, NetNod
 use Rattle.network_laws.specs.AtSwitch.{SwitchEvent, SwitchHappened, OwnLineServed, switched, waiting_on}
 use Rattle.network_laws.specs.AtSwitch as at_switch
 use Rattle.packet_end.specs.PacketEnd as offers
+use Rattle.switch_lines.specs.Relay as relaying
 use Rattle.packet_end.specs.Params.{AreParams}
 use Rattle.switch_lines.specs.Switch.{Switch, switch_rests}
 use Rattle.packet_laws.specs.Readable.{AreOctets}
@@ -410,22 +411,22 @@ has_route : line_for routes (2 ∷ []) ≡ Some 1
 has_route = ap (λ (o : Option ℕ). or_else o None) (get-insert nat_list_cmp_total (insert empty (1 ∷ []) 0) (2 ∷ []) 1 (2 ∷ []))
 
 is_placed : placed.near.from_dte ≡ call_frame ∷ []
-unfolding offers.all_offered offers.finished
+unfolding offers.all_offered offers.finished relaying.most_moves
 is_placed = refl
 
 is_noted : notes_of (slice_get (heard_lines call_frame placed) 0) ≡ Incoming 1 its_parts ∷ []
-unfolding offers.all_offered offers.finished
+unfolding offers.all_offered offers.finished relaying.most_moves
 is_noted = refl
 
 routes_stay : placed.switch.routes ≡ routes
-unfolding offers.all_offered offers.finished
+unfolding offers.all_offered offers.finished relaying.most_moves
 routes_stay = refl
 
 goes_on : after_act FromFirst placed ≡ answered_with call_frame its_parts (Some 1) placed
 goes_on = call_heard call_frame its_parts (Some 1) placed is_placed is_noted refl (ap (λ (r : RouteMap). line_for r (2 ∷ [])) routes_stay ∙ has_route)
 
 may_talk : may_all talking (answered_with call_frame its_parts (Some 1) placed) ≡ true
-unfolding offers.all_offered offers.finished
+unfolding offers.all_offered offers.finished relaying.most_moves
 may_talk = refl
 
 -- act by act, so that each is computed once
@@ -440,18 +441,18 @@ ends_so test (act ∷ acts) t may h =
     ends_so test acts (after_act act t) both.1 (sym (ap (λ (b : Bool). if b then ends test acts (after_act act t) else false) both.0) ∙ h)
 
 computed : ends has_come_to_rest talking (answered_with call_frame its_parts (Some 1) placed) ≡ true
-unfolding offers.all_offered offers.finished
+unfolding offers.all_offered offers.finished relaying.most_moves
 computed = refl
 
 comes_to_rest : has_come_to_rest rested ≡ true
 comes_to_rest = subst (λ (t : TwoHosts). has_come_to_rest (after_acts talking t) ≡ true) (sym goes_on) (ends_so has_come_to_rest talking (answered_with call_frame its_parts (Some 1) placed) may_talk computed)
 
 may_call : may_all calling start ≡ true
-unfolding offers.all_offered offers.finished
+unfolding offers.all_offered offers.finished relaying.most_moves
 may_call = refl
 
 may_come : may_act FromFirst placed ≡ true
-unfolding offers.all_offered offers.finished
+unfolding offers.all_offered offers.finished relaying.most_moves
 may_come = refl
 
 goes : Goes (network start) (network rested)

@@ -10,7 +10,7 @@ use Rattle.switch_lines.specs.Direction.{request_for}
 use Rattle.switch_lines.specs.declared.channels.SwitchChannel.{SwitchChannel}
 use Rattle.switch_lines.specs.declared.channels.Joined.{Joined}
 use Rattle.switch_lines.specs.Lines.{SwitchLine, changed, joined_at, front_at, refusal_at}
-use Rattle.switch_lines.specs.Relay.{moved, relayed, places_first, relayed_first}
+use Rattle.switch_lines.specs.Relay.{moved, relayed, places_first, relayed_first, most_moves}
 use Rattle.switch_lines.specs.Switch.{Answer, answer, heed, notes_of, with_end, quieted, to_relink, relinked_at, all_relinked, may_offer, offering_from, offered_from, lines_first}
 use Rattle.switch_lines.specs.Switch.Answer.{Clears, Joins}
 use Rattle.switch_laws.specs.Steps.{does, Step, lines_after}
@@ -52,7 +52,7 @@ relayed-later (suc most) p ls = later-then (moved_joined_steps (joined_at ls p) 
 
 from-later : (ps : List SwitchChannel) (ls : List SwitchLine) → AreLater (relayed_from_steps ps ls)
 from-later [] ls = tt
-from-later (p ∷ ps) ls = later-then (relayed_steps 8 p ls) (relayed_from_steps ps (relayed 8 p ls)) (relayed-later 8 p ls) (from-later ps (relayed 8 p ls))
+from-later (p ∷ ps) ls = later-then (relayed_steps most_moves p ls) (relayed_from_steps ps (relayed most_moves p ls)) (relayed-later most_moves p ls) (from-later ps (relayed most_moves p ls))
 
 -- ---- notes
 

@@ -16,7 +16,7 @@ use Rattle.switch_lines.specs.Direction.{request_for}
 use Rattle.switch_lines.specs.declared.channels.SwitchChannel.{SwitchChannel}
 use Rattle.switch_lines.specs.declared.channels.Joined.{Joined}
 use Rattle.switch_lines.specs.Lines.{SwitchLine, changed, joined_at, front_at, refusal_at}
-use Rattle.switch_lines.specs.Relay.{moved, relayed, places_first, relayed_first}
+use Rattle.switch_lines.specs.Relay.{moved, relayed, places_first, relayed_first, most_moves}
 use Rattle.switch_lines.specs.Switch.{Answer, answer, address_of, heed, notes_of, with_end, quieted, acted, to_relink, relinked_at, all_relinked, may_offer, offering_from, offered_from, lines_first}
 use Rattle.switch_lines.specs.Switch.Answer.{Clears, Joins}
 use Rattle.switch_laws.specs.World.{MayAsk}
@@ -140,7 +140,7 @@ relayed_calm (suc most) p ls = calm_then (moved_joined_steps (joined_at ls p) p 
 
 from_calm : (ps : List SwitchChannel) (ls : List SwitchLine) → AreCalm (relayed_from_steps ps ls)
 from_calm [] ls = tt
-from_calm (p ∷ ps) ls = calm_then (relayed_steps 8 p ls) (relayed_from_steps ps (relayed 8 p ls)) (relayed_calm 8 p ls) (from_calm ps (relayed 8 p ls))
+from_calm (p ∷ ps) ls = calm_then (relayed_steps most_moves p ls) (relayed_from_steps ps (relayed most_moves p ls)) (relayed_calm most_moves p ls) (from_calm ps (relayed most_moves p ls))
 
 -- ---- notes
 

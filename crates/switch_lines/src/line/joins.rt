@@ -1,5 +1,5 @@
 //! The joins of the channels of a line.
-ghost use Rattle.std.specs.Prelude.{◌≡◌, ◌+◌, ◌<◌, None, Option, MatchOption, length};
+ghost use Rattle.std.specs.Prelude.{◌≡◌, ◌+◌, ◌<◌, ◌≤◌, None, Option, MatchOption, length};
 ghost use Rattle.std.specs.Option.{option_map};
 ghost use Rattle.switch_lines.specs.Direction.{after, releasable, released};
 ghost use Rattle.flow_window.specs.Pool.{Balances};
@@ -25,8 +25,9 @@ impl SwitchLine {
 
     /// Joins a channel, or ends its join.
     pub(crate) fn set_joined(&mut self, channel: u8, joined: Option<Joined>)
-        ensures { self.new
+        ensures line { self.new
             ≡ on_line (λ l. record l { joined = with_nth_joined l.joined channel joined }) self.old }
+        ensures few { length self.new.line.joined ≤ 32 }
     {
         if let Some(place) = self.place(channel) {
             self.joined[place].set(joined);

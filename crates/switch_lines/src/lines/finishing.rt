@@ -1,26 +1,45 @@
 //! What happens on a line, and the end of an event.
-ghost use Rattle.std.specs.Prelude.{◌≡◌, ◌<◌, ◌++◌, true, false, None, length, map, slice_get};
+ghost use Rattle.std.specs.Prelude.{◌≡◌, ℕ, ◌<◌, ◌++◌, true, false, None, Some, drop, length, map, slice_get};
 ghost use Rattle.std.specs.List.{list_any};
 ghost use Rattle.arrayvec.specs.ArrayVec.{array_vec_len};
+ghost use Rattle.packet_codec.specs.Reading.{named_channel};
 ghost use Rattle.packet_end.specs.PacketEnd as end;
 ghost use Rattle.switch_lines.specs.NewJoins.{joins_acted};
 ghost use Rattle.switch_lines.specs.OfLine.{AreRead};
 ghost use Rattle.switch_lines.specs.Alone.{finished_alone, offered_alone};
 ghost use Rattle.switch_lines.specs.Switch.{acted, all_begun, all_relinked, relinks_of, to_relink, offering_from};
+ghost use Rattle.switch_lines.specs.Waiting.{AreInPairs};
 ghost use Rattle.switch_lines.specs.Switch.{may_offer, with_end, without_joins};
 
-use crate::channels::NewJoin;
+use crate::channel_set::END_OF_CHANNELS;
+use crate::channels::{NewJoin, SwitchChannel};
+use crate::lines::reopening::reopen;
 use crate::lines::touched::{
     begin_lines, first_to_relink, offer_lines, restart_lines, settle_lines,
 };
-use crate::lines::{LineList, Lines};
+use crate::lines::{LineList, Lines, other_of};
 use address_routes::Routes;
 use arrayvec::ArrayVec;
 use link_timers::TimerId;
 use number_set::NumberSet;
+use packet_codec::logical_channel;
 
 /// The most packets that a link has unacknowledged.
 const MOST_PACKETS: usize = 7;
+
+// The channel that the packet of an I frame names, if it is one of a line: its packet begins with the third octet. There
+// is no channel 0.
+fn named_in(octets: &[u8]) -> u8
+    ensures { (c : ℕ) → named_channel (drop 2 octets.now) ≡ Some c → c < 63 → c ≡ result }
+{
+    let [_, _, packet @ ..] = octets else {
+        return 0;
+    };
+    match logical_channel(packet) {
+        Some(channel) if channel < u16::from(END_OF_CHANNELS) => channel as u8,
+        _ => 0,
+    }
+}
 
 impl Lines {
     /// Begins an event: the frames of the last one that were not taken are dropped.
@@ -40,6 +59,10 @@ impl Lines {
         ensures lines { self.new ≡ acted routes.now line (λ e. end.received e octets.now) self.old }
     {
         self.touched.insert(line);
+        let channel = named_in(octets);
+        let place = SwitchChannel { line, channel };
+        self.to_relay
+            .insert_join(place, other_of(&self.lines, place));
         self.lines[line].on_frame(octets, &mut self.pool);
         self.heed_line(routes, line)
     }
@@ -69,7 +92,8 @@ impl Lines {
     /// Ends an event of a line: links that have to be set up anew are, what may go on is relayed on the joins of this
     /// line and of those, and offered to the links, and each line settles.
     pub fn finish(&mut self, routes: &Routes, line: usize)
-        requires { AreRead self.old }
+        requires read { AreRead self.old }
+        requires pairs { AreInPairs (all_relinked (length self.old) routes.now self.old) }
         ensures { self.new ≡ finished_alone routes.now line self.old }
     {
         let mut concerned = ArrayVec::new();
@@ -122,6 +146,7 @@ impl Lines {
     // lines whose links took one, until the links take no more. Answers whether that was seen, in as many rounds as
     // links of at most seven packets need.
     fn relay_and_offer(&mut self, concerned: &LineList) -> bool
+        requires pairs { AreInPairs self.old }
         ensures lines { self.new ≡ offered_alone concerned.now.items self.old }
         ensures all { result ≡ true → list_any may_offer self.new ≡ false }
     {
@@ -141,6 +166,12 @@ impl Lines {
         ensures offering { result.items ≡ offering_from 0 self.old }
         ensures lines { self.new ≡ map (with_end end.all_offered) self.old }
     {
+        reopen(
+            &self.lines,
+            self.touched,
+            &mut self.to_relay,
+            &mut self.refusing,
+        );
         offer_lines(&mut self.lines, self.touched, &mut self.pool)
     }
 

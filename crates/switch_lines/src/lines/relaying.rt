@@ -1,43 +1,50 @@
 //! The relay between the two legs of a join (X.25 4.3).
-ghost use Rattle.std.specs.Prelude.{◌≡◌, ◌<◌, length, slice_get};
+ghost use Rattle.std.specs.Prelude.{◌≡◌, ◌<◌, Some, length, slice_get};
+ghost use Rattle.std.specs.Bool.{OnFalse, OnTrue};
 ghost use Rattle.switch_lines.specs.OfLine.{MovesFront};
 ghost use Rattle.switch_lines.specs.Alone.{relayed_alone};
 ghost use Rattle.switch_lines.specs.Lines.{joined_at, front_at};
-ghost use Rattle.switch_lines.specs.Relay.{moved, relayed, relayed_from, both_legs, legs_at, places_of};
+ghost use Rattle.switch_lines.specs.Waiting.{other_at, AreInPairs, IsStuck};
+ghost use Rattle.switch_lines.specs.Relay.{moved, relayed, most_moves, relayed_from, both_legs, legs_at, places_of};
 
 use crate::channels::SwitchChannel;
 use crate::direction::Change;
 use crate::lines::Lines;
 use packet_layer::{Request, TakenBuf};
 
-/// The most that waits on a leg: seven packets and an interrupt.
-const MOST_WAITING: usize = 8;
+/// The most that waits on a leg: a queue of eight packets, and an interrupt.
+const MOST_WAITING: usize = 9;
 
 impl Lines {
     // What waits first on a joined channel is taken there and sent on the other leg, unless that one would refuse it.
-    fn relay_one(&mut self, place: SwitchChannel)
-        ensures { self.new ≡ moved place self.old }
+    // Answers whether it was.
+    fn relay_one(&mut self, place: SwitchChannel) -> bool
+        ensures lines { self.new ≡ moved place self.old }
+        ensures stuck { OnFalse result (IsStuck self.old place) }
     {
         let Some(other) = self.other(place) else {
-            return;
+            return false;
         };
         let Some(front) = self.front(place) else {
-            return;
+            return false;
         };
         if !self.may_take(other, front) {
-            return;
+            return false;
         }
         self.move_front(place, other);
         self.release(place);
+        true
     }
 
     // What waits first on a joined channel is taken there and goes to the other leg, a packet in its buffer.
     fn move_front(&mut self, place: SwitchChannel, other: SwitchChannel)
         requires there { place.line < length self.old }
         requires other { other.line < length self.old }
+        requires joined { other_at self.old place ≡ Some other }
         ensures { MovesFront (front_at self.old place) place other self.old self.new }
     {
         self.touched.insert(place.line);
+        self.to_relay.insert_join(place, Some(other));
         match self.lines[place.line].take_buf(place.channel) {
             Some(TakenBuf::Interrupt(interrupt)) => {
                 self.ask(other, &Request::Interrupt(interrupt.octets()));
@@ -52,39 +59,69 @@ impl Lines {
         }
     }
 
-    // All that waits on a channel goes to the other leg of its join, as far as that one takes it.
-    fn relay_channel(&mut self, place: SwitchChannel)
-        ensures { self.new ≡ relayed 8 place self.old }
+    // All that waits on a channel goes to the other leg of its join, as far as that one takes it. Answers whether that
+    // was seen, in as many moves as a queue has places.
+    fn relay_channel(&mut self, place: SwitchChannel) -> bool
+        ensures lines { self.new ≡ relayed most_moves place self.old }
+        ensures stuck { OnTrue result (IsStuck self.new place) }
     {
         for _ in 0..MOST_WAITING {
-            self.relay_one(place);
+            if !self.relay_one(place) {
+                return true;
+            }
         }
+        false
+    }
+
+    // Nothing that waits on a joined channel and on the other leg of its join can go on: that join is not to be relayed.
+    fn rest_join(&mut self, place: SwitchChannel, other: SwitchChannel)
+        requires joined { other_at self.old place ≡ Some other }
+        requires back { other_at self.old other ≡ Some place }
+        requires stuck { IsStuck self.old place }
+        requires other_stuck { IsStuck self.old other }
+        ensures { self.new ≡ self.old }
+    {
+        let waits = self.front(place).is_some();
+        let other_waits = self.front(other).is_some();
+        self.refusing.insert_if(other, waits);
+        self.refusing.insert_if(place, other_waits);
+        self.to_relay.remove(place);
+        self.to_relay.remove(other);
     }
 
     // All that waits on a joined channel and on the other leg of its join goes on.
     fn relay_join(&mut self, place: SwitchChannel)
+        requires pairs { AreInPairs self.old }
         ensures { self.new ≡ relayed_from (both_legs (joined_at self.old place) place) self.old }
     {
-        if let Some(other) = self.other(place) {
-            self.relay_channel(place);
-            self.relay_channel(other);
+        let Some(other) = self.other(place) else {
+            return;
+        };
+        let all = self.relay_channel(place);
+        let all_back = self.relay_channel(other);
+        if all && all_back {
+            self.rest_join(place, other);
         }
     }
 
-    // The same of all joined channels of a line.
+    // The same of all joined channels of a line: those that are to be relayed are all of which anything can go on.
     fn relay_line(&mut self, line: usize)
+        requires pairs { AreInPairs self.old }
         ensures { self.new ≡ relayed_from (legs_at (places_of line (slice_get self.old line)) self.old) self.old }
     {
         if line < self.lines.len() {
-            for place in 0..self.lines[line].channels() {
-                let channel = place + 1;
+            let end = self.lines[line].channels() + 1;
+            let mut next = 1;
+            while let Some(channel) = self.to_relay.first_between(line, next, end) {
                 self.relay_join(SwitchChannel { line, channel });
+                next = channel + 1;
             }
         }
     }
 
     /// All that waits on the joins of these lines goes to the other leg, as far as that one takes it.
     pub(super) fn relay_lines(&mut self, lines: &[usize])
+        requires pairs { AreInPairs self.old }
         ensures { self.new ≡ relayed_alone lines.now self.old }
     {
         for line in lines {

@@ -4,6 +4,9 @@ use Rattle.packet_end.specs.PacketEnd as end
 use Rattle.switch_lines.specs.Switch.{with_end}
 use Rattle.switch_lines.proofs.Pooled.{one_changed, none_changed, one_touched, pooled_set, serves_one}
 use Rattle.switch_lines.proofs.Touched.{count_kept}
+use Rattle.std.proofs.Common.{refl}
+use Rattle.switch_lines.proofs.Calmer.{request_apart}
+use Rattle.switch_lines.proofs.Moving.{one_stirred}
 use Rattle.switch_lines.proofs.lines.Lines.ask.Goals as goal
 
 pub returns-then-place-len : goal.returns-then-place-len
@@ -25,6 +28,13 @@ invariant_of-self c =
       most = count_kept xs c.args.place.line 64 c.ask.new.self c.self.invariant.most;
       rest = one_touched c.self.inside.touched c.insert.new.self c.self.inside.untaken xs c.args.place.line
           c.ask.new.self (omega arith) c.insert.ensures c.self.invariant.rest;
+      moves = one_stirred c.self.inside.to_relay c.insert_join.new.self c.self.inside.refusing
+          (with_end (λ e. end.asked e c.args.place.channel (request_of c.args.request.now))) xs c.deref.result.now
+          c.args.place.line c.args.place.channel c.other_of.result c.index_mut.result.now c.ask.new.self (omega arith)
+          c.index_mut.ensures.value c.ask.ensures.line c.deref.ensures.value c.other_of.ensures c.insert_join.ensures
+          (λ l d. refl)
+          (λ l d small apart. request_apart l.end.layer c.args.place.channel d (request_of c.args.request.now) apart)
+          c.self.invariant.moves;
       pooled = pooled_set c.self.inside.pool c.ask.new.pool c.self.inside.lines.items c.args.place.line c.index_mut.result.now c.ask.new.self
           c.self.invariant.pooled (omega arith) c.index_mut.ensures.value c.ask.ensures.pool c.ask.ensures.share
           c.ask.ensures.within;

@@ -6,6 +6,10 @@ use Rattle.switch_lines.specs.Touched.{NothingElseIsLeft, changed_in}
 use Rattle.switch_lines.proofs.Ending.{written}
 use Rattle.switch_lines.proofs.Left.{Lines, begun_all, both_are_there, same_size, written_back}
 use Rattle.switch_lines.proofs.Pooled.{Pooled, plain_changed, pooled_changed}
+use Rattle.std.proofs.Common.{refl}
+use Rattle.switch_lines.specs.Waiting.{NothingElseMoves}
+use Rattle.switch_lines.proofs.Calmer.{same_layer}
+use Rattle.switch_lines.proofs.Waiting.{some_kept}
 use Rattle.switch_lines.proofs.lines.Lines.begin.Goals as goal
 
 pub begin_lines-requires : goal.begin_lines-requires
@@ -32,6 +36,9 @@ invariant_of-self c =
           (omega (arith, same, c.self.invariant.most));
       rest = written_back (λ (zs : Pooled). NothingElseIsLeft s v (plain zs)) c.self.inside.lines.len xs ys same (omega arith)
           after.1;
+      moves = written_back (λ (zs : Pooled). NothingElseMoves c.self.inside.to_relay c.self.inside.refusing (plain zs)) c.self.inside.lines.len xs ys same
+          (omega arith) (some_kept c.self.inside.to_relay c.self.inside.refusing w (with_end begun) (plain xs) (plain ys) plain_is
+          (λ l d. (refl, same_layer l.end.layer d)) c.self.invariant.moves);
       pooled = written_back (λ (zs : Pooled). ArePooled c.self.inside.pool zs) c.self.inside.lines.len xs ys same (omega arith)
           (pooled_changed c.self.inside.pool w (with_end begun) xs ys is c.self.invariant.pooled);
     }

@@ -6,6 +6,9 @@ use Rattle.switch_lines.specs.Switch.{with_end}
 use Rattle.switch_lines.specs.Pooled.{PooledLine}
 use Rattle.switch_lines.proofs.Pooled.{one_changed, none_changed, one_touched, pooled_same}
 use Rattle.switch_lines.proofs.Touched.{count_kept}
+use Rattle.std.proofs.Common.{refl}
+use Rattle.switch_lines.proofs.Calmer.{called_calm}
+use Rattle.switch_lines.proofs.Moving.{one_calm}
 use Rattle.switch_lines.proofs.lines.Lines.call.Goals as goal
 
 pub returns-clause-lines : goal.returns-clause-lines
@@ -27,6 +30,10 @@ invariant_of-self c =
       most = count_kept xs c.args.line 64 c.call.new.self c.self.invariant.most;
       rest = one_touched c.self.inside.touched c.insert.new.self c.self.inside.untaken xs c.args.line c.call.new.self
           (omega arith) c.insert.ensures c.self.invariant.rest;
+      moves = one_calm c.self.inside.to_relay c.self.inside.refusing (with_end (λ e. end.called e (parts_of (call_view c.args.call.now)))) xs c.args.line
+          c.index_mut.result.now c.call.new.self (omega arith) c.index_mut.ensures.value
+          (ap (λ (p : PooledLine). p.line) c.call.ensures.line)
+          (λ l d. (refl, called_calm l.end.layer (parts_of (call_view c.args.call.now)) d)) c.self.invariant.moves;
       pooled = pooled_same c.self.inside.pool (with_end (λ e. end.called e (parts_of (call_view c.args.call.now)))) c.self.inside.lines.items c.args.line c.index_mut.result.now c.call.new.self
           c.self.invariant.pooled (omega arith) c.index_mut.ensures.value c.call.ensures.line;
     }

@@ -10,6 +10,10 @@ use Rattle.switch_lines.proofs.Ending.{all_changed, written}
 use Rattle.switch_lines.proofs.Settling.{settled_later}
 use Rattle.switch_lines.proofs.Left.{Lines, all_stay, count_map, written_back}
 use Rattle.switch_lines.proofs.Pooled.{Pooled, plain_map, pooled_map, same_lines}
+use Rattle.std.proofs.Common.{refl}
+use Rattle.switch_lines.specs.Waiting.{NothingElseMoves}
+use Rattle.switch_lines.proofs.Calmer.{same_layer}
+use Rattle.switch_lines.proofs.Waiting.{all_kept}
 use Rattle.switch_lines.proofs.lines.Lines.elapse.Goals as goal
 
 pub loop-line-preserved : goal.loop-line-preserved
@@ -37,6 +41,9 @@ invariant_of-self c =
       rest = written_back (λ (zs : Pooled). NothingElseIsLeft c.self.inside.touched c.self.inside.untaken (plain zs))
           c.self.inside.lines.len xs ys same (omega arith)
           (subst (λ (zs : Lines). NothingElseIsLeft c.self.inside.touched c.self.inside.untaken zs) (sym plain_is) after);
+      moves = written_back (λ (zs : Pooled). NothingElseMoves c.self.inside.to_relay c.self.inside.refusing (plain zs)) c.self.inside.lines.len xs ys same
+          (omega arith) (all_kept c.self.inside.to_relay c.self.inside.refusing f (plain xs) (plain ys) plain_is (λ l d. (refl, same_layer l.end.layer d))
+          c.self.invariant.moves);
       pooled = written_back (λ (zs : Pooled). ArePooled c.self.inside.pool zs) c.self.inside.lines.len xs ys same
           (omega arith) (pooled_map c.self.inside.pool f xs ys is c.self.invariant.pooled);
     }

@@ -5,6 +5,7 @@ use Rattle.packet_channel.specs.Held.{datum_in}
 use Rattle.packet_layer.specs.Channel.Request.{Taking, Sending, Interrupting}
 use Rattle.packet_layer.specs.TakenView.{taken_in, buffers_in}
 use Rattle.packet_layer.specs.Traffic.{Taken as TakenValue}
+use Rattle.packet_layer.specs.Traffic.Taken.{TakenPacket}
 use Rattle.packet_end.specs.PacketEnd.{asked}
 use Rattle.switch_lines.specs.Direction.{carried}
 use Rattle.switch_lines.specs.Lines.{SwitchLine, ask, front_of_line}
@@ -13,6 +14,9 @@ use Rattle.switch_lines.specs.Pooled.{plain}
 use Rattle.switch_lines.specs.Switch.{with_end}
 use Rattle.switch_lines.proofs.Pooled.{one_changed, one_seen, one_touched, plain_length, handed_out, handed_in, none_in_hand, is_in_hand}
 use Rattle.switch_lines.proofs.Touched.{count_kept, count_written}
+use Rattle.switch_lines.specs.Waiting.{other_at}
+use Rattle.switch_lines.proofs.Calmer.{request_apart, sending_calm}
+use Rattle.switch_lines.proofs.Moving.{one_stirred, one_calm}
 use Rattle.switch_lines.proofs.lines.Lines.move_front.Goals as goal
 
 pub invariant_of-self : goal.invariant_of-self
@@ -27,6 +31,12 @@ invariant_of-self c =
       most = count_kept xs n 64 new c.self.invariant.most;
       rest = one_touched c.self.inside.touched c.insert.new.self c.self.inside.untaken xs n new less c.insert.ensures
           c.self.invariant.rest;
+      moves = one_stirred c.self.inside.to_relay c.insert_join.new.self c.self.inside.refusing
+          (with_end (λ e. asked e c.args.place.channel Taking)) xs xs n c.args.place.channel (Some c.args.other)
+          c.index_mut.result.now new less c.index_mut.ensures.value c.take_buf.ensures.line refl
+          (sym c.requires.joined ∙ ap (λ (ls : List SwitchLine). other_at ls c.args.place) (sym c.self.view_is))
+          c.insert_join.ensures (λ l d. refl)
+          (λ l d small apart. request_apart l.end.layer c.args.place.channel d Taking apart) c.self.invariant.moves;
       pooled = none_in_hand c.self.inside.pool _ (handed_out c.self.inside.pool xs n c.index_mut.result.now new []
           c.self.invariant.pooled less c.index_mut.ensures.value
           (λ w. c.in-Some-Interrupt.ensures.held w
@@ -46,6 +56,12 @@ invariant_of-self-in-None c =
       most = count_kept xs n 64 new c.self.invariant.most;
       rest = one_touched c.self.inside.touched c.insert.new.self c.self.inside.untaken xs n new less c.insert.ensures
           c.self.invariant.rest;
+      moves = one_stirred c.self.inside.to_relay c.insert_join.new.self c.self.inside.refusing
+          (with_end (λ e. asked e c.args.place.channel Taking)) xs xs n c.args.place.channel (Some c.args.other)
+          c.index_mut.result.now new less c.index_mut.ensures.value c.take_buf.ensures.line refl
+          (sym c.requires.joined ∙ ap (λ (ls : List SwitchLine). other_at ls c.args.place) (sym c.self.view_is))
+          c.insert_join.ensures (λ l d. refl)
+          (λ l d small apart. request_apart l.end.layer c.args.place.channel d Taking apart) c.self.invariant.moves;
       pooled = none_in_hand c.self.inside.pool _ (handed_out c.self.inside.pool xs n c.index_mut.result.now new []
           c.self.invariant.pooled less c.index_mut.ensures.value c.in-None.ensures.held
           c.take_buf.ensures.share c.take_buf.ensures.within);
@@ -83,6 +99,17 @@ invariant_of-self-in-Some-Data c =
           c.insert-in-Some-Data.ensures
           (one_touched c.self.inside.touched c.insert.new.self c.self.inside.untaken xs n new less c.insert.ensures
           c.self.invariant.rest);
+      moves = one_calm c.insert_join.new.self c.self.inside.refusing
+          (with_end (λ e. asked e c.args.other.channel (Sending (datum_in c.in-Some-Data.packet)))) ys m
+          c.index_mut-in-Some-Data.result.now c.send_packet.new.self inside c.index_mut-in-Some-Data.ensures.value
+          c.send_packet.ensures.line
+          (λ l d. (refl, sending_calm l.end.layer c.args.other.channel d (TakenPacket (datum_in c.in-Some-Data.packet))))
+          (one_stirred c.self.inside.to_relay c.insert_join.new.self c.self.inside.refusing
+          (with_end (λ e. asked e c.args.place.channel Taking)) xs xs n c.args.place.channel (Some c.args.other)
+          c.index_mut.result.now new less c.index_mut.ensures.value c.take_buf.ensures.line refl
+          (sym c.requires.joined ∙ ap (λ (ls : List SwitchLine). other_at ls c.args.place) (sym c.self.view_is))
+          c.insert_join.ensures (λ l d. refl)
+          (λ l d small apart. request_apart l.end.layer c.args.place.channel d Taking apart) c.self.invariant.moves);
       pooled = handed_in c.self.inside.pool c.send_packet.new.pool ys m c.index_mut-in-Some-Data.result.now
           c.send_packet.new.self c.in-Some-Data.packet.buffer
           (handed_out c.self.inside.pool xs n c.index_mut.result.now new (c.in-Some-Data.packet.buffer ∷ [])

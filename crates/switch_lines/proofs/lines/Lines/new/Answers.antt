@@ -7,6 +7,10 @@ use Rattle.switch_lines.proofs.Changing.{there}
 use Rattle.switch_lines.proofs.Left.{all_touched, few_made}
 use Rattle.switch_lines.proofs.Making.{made_pooled, plain_made, pooled_made, all_taken}
 use Rattle.switch_lines.proofs.Pooled.{plain_length}
+use Rattle.std.proofs.Common.{List, subst}
+use Rattle.switch_lines.specs.Lines.{SwitchLine}
+use Rattle.switch_lines.specs.Waiting.{NothingElseMoves}
+use Rattle.switch_lines.proofs.Moving.{made_moves}
 use Rattle.switch_lines.proofs.lines.Lines.new.Goals as goal
 
 pub invariant_of-result : goal.invariant_of-result
@@ -20,6 +24,8 @@ invariant_of-result c =
       most = few_made made_pooled c.loop-line.line-index 64 c.args.lines.now ys i.made c.requires.most;
       rest = all_touched c.first-touched.result c.new-2.result (plain ys) (λ n. c.first-touched.ensures n
           ∙ ap (λ k. nat_lt n k) count) (λ n is. absurd (true≢false (sym is ∙ c.new-2.ensures n)));
+      moves = subst (λ (ls : List SwitchLine). NothingElseMoves c.new-3.result c.new-4.result ls)
+          (sym (ap plain whole ∙ plain_made c.args.lines.now)) (made_moves c.new-3.result c.new-4.result c.args.lines.now);
       pooled = pooled_made c.loop-line.pool c.args.lines.now ys whole i.size i.places i.none;
     }
 

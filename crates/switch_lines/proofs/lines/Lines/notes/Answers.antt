@@ -8,6 +8,9 @@ use Rattle.switch_lines.specs.Touched.{IsSettled, IsTaken}
 use Rattle.switch_lines.specs.Pooled.{PooledLine}
 use Rattle.switch_lines.proofs.Pooled.{one_changed, none_changed, one_stays, one_seen, pooled_same}
 use Rattle.switch_lines.proofs.Touched.{count_kept}
+use Rattle.std.proofs.Common.{refl}
+use Rattle.switch_lines.proofs.Calmer.{same_layer}
+use Rattle.switch_lines.proofs.Moving.{one_calm}
 use Rattle.switch_lines.proofs.lines.Lines.notes.Goals as goal
 
 pub returns-then-line-len-clause-lines : goal.returns-then-line-len-clause-lines
@@ -35,6 +38,9 @@ invariant_of-self c =
           (λ h. subst (λ (l : SwitchLine). IsTaken l) (sym (ap (λ (p : PooledLine). p.line) c.notes.ensures.line))
           (record { frames = h.frames; notes = ap (λ (notes : List Note). drop 1 notes) h.notes }))
           c.self.invariant.rest;
+      moves = one_calm c.self.inside.to_relay c.self.inside.refusing (with_end without_first_note) xs n c.index_mut.result.now new (omega arith)
+          c.index_mut.ensures.value (ap (λ (p : PooledLine). p.line) c.notes.ensures.line)
+          (λ l d. (refl, same_layer l.end.layer d)) c.self.invariant.moves;
       pooled = pooled_same c.self.inside.pool (with_end without_first_note) c.self.inside.lines.items c.args.line c.index_mut.result.now c.notes.new.self
           c.self.invariant.pooled (omega arith) c.index_mut.ensures.value c.notes.ensures.line;
     }

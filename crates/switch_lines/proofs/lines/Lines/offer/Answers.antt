@@ -7,6 +7,8 @@ use Rattle.switch_lines.proofs.Ending.{written}
 use Rattle.switch_lines.proofs.Left.{Lines, offering_all, offered_all, touched_change, touched_are_there, same_size}
 use Rattle.switch_lines.proofs.Left.{written_back}
 use Rattle.switch_lines.proofs.Pooled.{Pooled, same_lines}
+use Rattle.switch_lines.specs.Waiting.{NothingElseMoves}
+use Rattle.switch_lines.proofs.Waiting.{offered_kept}
 use Rattle.switch_lines.proofs.lines.Lines.offer.Goals as goal
 
 pub offer_lines-requires-clause-there : goal.offer_lines-requires-clause-there
@@ -38,6 +40,11 @@ invariant_of-self c =
           (omega (arith, same, c.self.invariant.most));
       rest = written_back (λ (zs : Pooled). NothingElseIsLeft s u (plain zs)) c.self.inside.lines.len xs ys same
           (omega arith) after;
+      moves = written_back (λ (zs : Pooled). NothingElseMoves c.reopen.new.to_relay c.reopen.new.refusing (plain zs))
+          c.self.inside.lines.len xs ys same (omega arith)
+          (offered_kept c.reopen.new.to_relay c.reopen.new.refusing s (plain xs) (plain ys) is c.reopen.ensures.none
+          (subst (λ (zs : Pooled). NothingElseMoves c.reopen.new.to_relay c.reopen.new.refusing (plain zs))
+          c.deref.ensures.value c.reopen.ensures.moves));
       pooled = written_back (λ (zs : Pooled). ArePooled c.offer_lines.new.pool zs) c.self.inside.lines.len xs ys same
           (omega arith) c.offer_lines.ensures.pool;
     }
@@ -61,3 +68,8 @@ returns-clause-lines c =
     ap plain (written c.self.inside.lines.len xs ys same (omega arith))
     ∙ (is ∙ (offered_all s c.self.inside.untaken (plain xs) c.self.invariant.rest
     ∙ ap (λ (zs : Lines). map (with_end all_offered) zs) c.self.view_is))
+
+pub reopen-requires : goal.reopen-requires
+reopen-requires c =
+    subst (λ (zs : Pooled). NothingElseMoves c.self.inside.to_relay c.self.inside.refusing (plain zs))
+    (sym c.deref.ensures.value) c.self.invariant.moves

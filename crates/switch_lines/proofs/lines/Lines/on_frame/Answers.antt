@@ -6,6 +6,9 @@ use Rattle.switch_lines.specs.NewJoins.{joins_heeded}
 use Rattle.switch_lines.specs.Switch.{notes_heeded, notes_of, with_end, quieted}
 use Rattle.switch_lines.proofs.Pooled.{one_changed, one_seen, one_touched, plain_length, pooled_set, serves_one}
 use Rattle.switch_lines.proofs.Touched.{count_kept}
+use Rattle.std.proofs.Common.{refl}
+use Rattle.switch_lines.proofs.Calmer.{received_calm}
+use Rattle.switch_lines.proofs.Moving.{one_stirred}
 use Rattle.switch_lines.proofs.lines.Lines.on_frame.Goals as goal
 
 pub returns-clause-lines : goal.returns-clause-lines
@@ -39,6 +42,15 @@ invariant_of-self c =
       most = count_kept xs c.args.line 64 c.on_frame.new.self c.self.invariant.most;
       rest = one_touched c.self.inside.touched c.insert.new.self c.self.inside.untaken xs c.args.line
           c.on_frame.new.self (omega (arith, same, long, c.requires.there)) c.insert.ensures c.self.invariant.rest;
+      moves = one_stirred c.self.inside.to_relay c.insert_join.new.self c.self.inside.refusing
+          (with_end (λ e. end.received (quieted e) c.args.octets.now)) xs c.deref.result.now
+          c.args.line c.named_in-channel.result c.other_of.result c.index_mut.result.now c.on_frame.new.self
+          (omega (arith, same, long, c.requires.there))
+          c.index_mut.ensures.value c.on_frame.ensures.line c.deref.ensures.value c.other_of.ensures c.insert_join.ensures
+          (λ l d. refl)
+          (λ l d small apart. received_calm l.end c.args.octets.now d (λ i. omega (arith, c.type_inv.octets i))
+          (λ named. apart (c.named_in-channel.ensures d named small)))
+          c.self.invariant.moves;
       pooled = pooled_set c.self.inside.pool c.on_frame.new.pool c.self.inside.lines.items c.args.line c.index_mut.result.now c.on_frame.new.self
           c.self.invariant.pooled (omega (arith, same, long, c.requires.there)) c.index_mut.ensures.value c.on_frame.ensures.pool c.on_frame.ensures.share
           c.on_frame.ensures.within;

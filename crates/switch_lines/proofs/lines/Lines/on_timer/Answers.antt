@@ -4,6 +4,9 @@ use Rattle.switch_lines.specs.Lines.{SwitchLine}
 use Rattle.switch_lines.specs.Switch.{notes_heeded, notes_of, with_end, quieted}
 use Rattle.switch_lines.proofs.Pooled.{one_changed, one_seen, one_touched, plain_length, pooled_set, serves_one}
 use Rattle.switch_lines.proofs.Touched.{count_kept}
+use Rattle.std.proofs.Common.{refl}
+use Rattle.switch_lines.proofs.Calmer.{after_timer_calm}
+use Rattle.switch_lines.proofs.Moving.{one_calm}
 use Rattle.switch_lines.proofs.lines.Lines.on_timer.Goals as goal
 
 pub returns : goal.returns
@@ -26,6 +29,10 @@ invariant_of-self c =
       most = count_kept xs c.args.line 64 c.on_timer.new.self c.self.invariant.most;
       rest = one_touched c.self.inside.touched c.insert.new.self c.self.inside.untaken xs c.args.line c.on_timer.new.self
           (omega (arith, same, long, c.requires.there)) c.insert.ensures c.self.invariant.rest;
+      moves = one_calm c.self.inside.to_relay c.self.inside.refusing (with_end (λ e. end.after_timer (quieted e) c.args.id)) xs
+          c.args.line c.index_mut.result.now c.on_timer.new.self (omega (arith, same, long, c.requires.there))
+          c.index_mut.ensures.value c.on_timer.ensures.line (λ l d. (refl, after_timer_calm l.end c.args.id d))
+          c.self.invariant.moves;
       pooled = pooled_set c.self.inside.pool c.on_timer.new.pool c.self.inside.lines.items c.args.line c.index_mut.result.now c.on_timer.new.self
           c.self.invariant.pooled (omega (arith, same, long, c.requires.there)) c.index_mut.ensures.value c.on_timer.ensures.pool c.on_timer.ensures.share
           c.on_timer.ensures.within;

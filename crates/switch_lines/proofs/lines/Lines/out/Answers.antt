@@ -9,6 +9,9 @@ use Rattle.switch_lines.specs.Touched.{IsSettled, IsTaken}
 use Rattle.switch_lines.specs.Pooled.{PooledLine}
 use Rattle.switch_lines.proofs.Pooled.{one_changed, one_seen, one_stays, one_written, plain_length, pooled_same}
 use Rattle.switch_lines.proofs.Touched.{count_kept}
+use Rattle.std.proofs.Common.{refl}
+use Rattle.switch_lines.proofs.Calmer.{same_layer}
+use Rattle.switch_lines.proofs.Moving.{one_calm}
 use Rattle.switch_lines.proofs.lines.Lines.out.Goals as goal
 
 pub returns-clause-lines : goal.returns-clause-lines
@@ -46,6 +49,9 @@ invariant_of-self c =
           (λ h. subst (λ (l : SwitchLine). IsTaken l) (sym (ap (λ (p : PooledLine). p.line) c.out.ensures.line))
           (record { frames = ap (λ (frames : List Octets). drop 1 frames) h.frames; notes = h.notes }))
           c.self.invariant.rest;
+      moves = one_calm c.self.inside.to_relay c.self.inside.refusing (with_end without_first_frame) xs n c.index_mut.result.now new
+          (omega (arith, same, long, c.requires)) c.index_mut.ensures.value (ap (λ (p : PooledLine). p.line) c.out.ensures.line)
+          (λ l d. (refl, same_layer l.end.layer d)) c.self.invariant.moves;
       pooled = pooled_same c.self.inside.pool (with_end without_first_frame) c.self.inside.lines.items c.args.line c.index_mut.result.now c.out.new.self
           c.self.invariant.pooled (omega (arith, same, long, c.requires)) c.index_mut.ensures.value c.out.ensures.line;
     }

@@ -1,29 +1,65 @@
-use Rattle.std.proofs.Common.{◌-◌, ◌+◌, ap, ◌∙◌, arith, length, List}
-use Rattle.switch_lines.specs.Lines.{SwitchLine}
-use Rattle.switch_lines.specs.Relay.{relayed_from, legs_at}
+use Rattle.std.proofs.Common.{◌-◌, ◌+◌, ap, refl, subst, sym, ◌∙◌, arith, length, List}
+use Rattle.switch_lines.specs.Lines.{SwitchChannel, SwitchLine, joined_at}
+use Rattle.switch_lines.specs.Relay.{both_legs}
 use Rattle.switch_lines.specs.Pooled.{plain}
+use Rattle.switch_lines.specs.Waiting.{AreInPairs, NothingElseMoves}
 use Rattle.switch_lines.proofs.Pooled.{plain_get, plain_length}
-use Rattle.switch_lines.proofs.Rounds.{places_by}
-use Rattle.switch_lines.proofs.Legs.{one_channel, no_channels, all_channels, no_line}
+use Rattle.switch_lines.proofs.Legs.{from_channel, this_channel, left_out, none_left_over, whole_line, no_line}
+use Rattle.switch_lines.proofs.Waiting.{unmoved_join, pairs_stay}
 use Rattle.switch_lines.proofs.lines.Lines.relay_line.Goals as goal
 
-pub loop-place-init : goal.loop-place-init
-loop-place-init c =
+pub loop-channel-init : goal.loop-channel-init
+loop-channel-init c =
     let items = c.self.inside.lines.items in
     let long = plain_length items in
-    all_channels (plain items) c.args.self.now c.args.line c.channels-place-end.result c.index.result.now.line c.self.view_is
-    (omega (arith, long, c.if-line-len.true, c.len.ensures)) (plain_get items c.args.line c.index.result.now c.index.ensures)
-    c.channels-place-end.ensures
+    record {
+      left = whole_line (plain items) c.args.self.now c.args.line c.channels-end.result (c.channels-end.result + 1)
+          c.index.result.now.line c.self.view_is (omega (arith, long, c.if-line-len.true, c.len.ensures))
+          (plain_get items c.args.line c.index.result.now c.index.ensures) c.channels-end.ensures.count refl;
+      least = omega arith;
+      most = omega arith;
+      pairs = c.requires.pairs;
+    }
 
-pub loop-place-preserved : goal.loop-place-preserved
-loop-place-preserved c =
-    let i = c.loop-place.place in
-    ap (λ (ls : List SwitchLine). relayed_from (legs_at (places_by c.args.line (i + 1 + 1) (c.channels-place-end.result - (i + 1))) ls) ls) c.relay_join.ensures
-    ∙ one_channel c.args.line i c.channels-place-end.result c.loop-place.self c.loop-place-test.true ∙ c.loop-place.invariant
+pub loop-channel-preserved : goal.loop-channel-preserved
+loop-channel-preserved c =
+    let s = c.self-in-loop-channel.inside.to_relay in
+    let r = c.self-in-loop-channel.inside.refusing in
+    let n = c.args.line in
+    let next = c.loop-channel.next in
+    let channel = c.in-Some.channel in
+    let end = c.channels-end.result + 1 in
+    let ls = c.loop-channel.self in
+    let i = c.loop-channel.invariant in
+    let found = c.in-Some.ensures in
+    let this : SwitchChannel = record { line = n; channel = channel } in
+    let moves = subst (λ (ks : List SwitchLine). NothingElseMoves s r ks) c.self-in-loop-channel.view_is
+    c.self-in-loop-channel.invariant.moves in
+    record {
+      left = ap (λ (ms : List SwitchLine). from_channel n (channel + 1) end ms) c.relay_join.ensures
+          ∙ this_channel n channel end ls found.1
+          ∙ sym (left_out (channel - next) n next channel end ls (omega (arith, found.0)) (omega (arith, found.1))
+          (λ e least less. unmoved_join s r ls (record { line = n; channel = e }) moves i.pairs (found.2 e least less)))
+          ∙ i.left;
+      least = omega arith;
+      most = omega (arith, found.1);
+      pairs = subst (λ (ms : List SwitchLine). AreInPairs ms) (sym c.relay_join.ensures) (pairs_stay (both_legs (joined_at ls this) this) ls i.pairs);
+    }
 
-pub returns-after-loop-place : goal.returns-after-loop-place
-returns-after-loop-place c =
-    no_channels c.args.line c.loop-place.place c.channels-place-end.result c.loop-place.self c.loop-place-test.false ∙ c.loop-place.invariant
+pub returns-in_default : goal.returns-in_default
+returns-in_default c =
+    let s = c.self-in-loop-channel.inside.to_relay in
+    let r = c.self-in-loop-channel.inside.refusing in
+    let n = c.args.line in
+    let next = c.loop-channel.next in
+    let end = c.channels-end.result + 1 in
+    let ls = c.loop-channel.self in
+    let i = c.loop-channel.invariant in
+    let moves = subst (λ (ks : List SwitchLine). NothingElseMoves s r ks) c.self-in-loop-channel.view_is
+    c.self-in-loop-channel.invariant.moves in
+    sym (left_out (end - next) n next end end ls (omega (arith, i.most)) (omega arith)
+    (λ e least less. unmoved_join s r ls (record { line = n; channel = e }) moves i.pairs
+    (c.in_default.ensures e least less)) ∙ none_left_over n end ls) ∙ i.left
 
 pub returns-else-line-len : goal.returns-else-line-len
 returns-else-line-len c =

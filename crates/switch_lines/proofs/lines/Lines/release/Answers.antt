@@ -2,6 +2,8 @@ use Rattle.std.proofs.Common.{arith}
 use Rattle.switch_lines.specs.OfLine.{freed_on}
 use Rattle.switch_lines.proofs.Pooled.{one_changed, none_changed, one_touched, pooled_set, serves_one}
 use Rattle.switch_lines.proofs.Touched.{count_kept}
+use Rattle.switch_lines.proofs.Moving.{one_calm}
+use Rattle.switch_lines.proofs.Waiting.{freed_calm}
 use Rattle.switch_lines.proofs.lines.Lines.release.Goals as goal
 
 pub returns-then-place-len : goal.returns-then-place-len
@@ -21,6 +23,9 @@ invariant_of-self c =
       most = count_kept xs c.args.place.line 64 c.release.new.self c.self.invariant.most;
       rest = one_touched c.self.inside.touched c.insert.new.self c.self.inside.untaken xs c.args.place.line
           c.release.new.self (omega arith) c.insert.ensures c.self.invariant.rest;
+      moves = one_calm c.self.inside.to_relay c.self.inside.refusing (freed_on c.args.place.channel) xs c.args.place.line c.index_mut.result.now
+          c.release.new.self (omega arith) c.index_mut.ensures.value c.release.ensures.line
+          (λ l d. freed_calm c.args.place.channel l d) c.self.invariant.moves;
       pooled = pooled_set c.self.inside.pool c.release.new.pool c.self.inside.lines.items c.args.place.line c.index_mut.result.now c.release.new.self
           c.self.invariant.pooled (omega arith) c.index_mut.ensures.value c.release.ensures.pool c.release.ensures.share
           c.release.ensures.within;

@@ -4,6 +4,9 @@ use Rattle.switch_lines.specs.Lines.{SwitchLine}
 use Rattle.switch_lines.specs.Switch.{notes_heeded, notes_of, with_end, quieted}
 use Rattle.switch_lines.proofs.Pooled.{one_changed, one_seen, one_touched, plain_length, pooled_set, serves_one}
 use Rattle.switch_lines.proofs.Touched.{count_kept}
+use Rattle.std.proofs.Common.{refl}
+use Rattle.switch_lines.proofs.Calmer.{relinked_calm}
+use Rattle.switch_lines.proofs.Moving.{one_calm}
 use Rattle.switch_lines.proofs.lines.Lines.relink.Goals as goal
 
 pub returns : goal.returns
@@ -26,6 +29,9 @@ invariant_of-self c =
       most = count_kept xs c.args.line 64 c.relink.new.self c.self.invariant.most;
       rest = one_touched c.self.inside.touched c.insert.new.self c.self.inside.untaken xs c.args.line c.relink.new.self
           (omega (arith, same, long, c.requires.there)) c.insert.ensures c.self.invariant.rest;
+      moves = one_calm c.self.inside.to_relay c.self.inside.refusing (with_end (λ e. end.relinked (quieted e))) xs
+          c.args.line c.index_mut.result.now c.relink.new.self (omega (arith, same, long, c.requires.there))
+          c.index_mut.ensures.value c.relink.ensures.line (λ l d. (refl, relinked_calm l.end d)) c.self.invariant.moves;
       pooled = pooled_set c.self.inside.pool c.relink.new.pool c.self.inside.lines.items c.args.line c.index_mut.result.now c.relink.new.self
           c.self.invariant.pooled (omega (arith, same, long, c.requires.there)) c.index_mut.ensures.value c.relink.ensures.pool c.relink.ensures.share
           c.relink.ensures.within;

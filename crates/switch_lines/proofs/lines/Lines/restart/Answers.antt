@@ -5,6 +5,8 @@ use Rattle.switch_lines.specs.Touched.{AreThere, NothingElseIsLeft}
 use Rattle.switch_lines.proofs.Ending.{written}
 use Rattle.switch_lines.proofs.Left.{Lines, all_touched, count_map, written_back}
 use Rattle.switch_lines.proofs.Pooled.{Pooled, plain_length, same_lines}
+use Rattle.switch_lines.specs.Waiting.{NothingElseMoves}
+use Rattle.switch_lines.proofs.Moving.{restarted_moves}
 use Rattle.switch_lines.proofs.lines.Lines.restart.Goals as goal
 
 pub restart_lines-requires : goal.restart_lines-requires
@@ -30,6 +32,8 @@ invariant_of-self c =
           (omega (arith, same, c.self.invariant.most));
       rest = written_back (λ (zs : Pooled). NothingElseIsLeft c.first-self-inside.result c.self.inside.untaken (plain zs))
           c.self.inside.lines.len xs ys same (omega arith) after;
+      moves = written_back (λ (zs : Pooled). NothingElseMoves c.self.inside.to_relay c.self.inside.refusing (plain zs)) c.self.inside.lines.len xs ys same
+          (omega arith) (subst (λ (zs : Lines). NothingElseMoves c.self.inside.to_relay c.self.inside.refusing zs) (sym is) (restarted_moves c.self.inside.to_relay c.self.inside.refusing (plain xs)));
       pooled = written_back (λ (zs : Pooled). ArePooled c.restart_lines.new.pool zs) c.self.inside.lines.len xs ys same
           (omega arith) c.restart_lines.ensures.pool;
     }

@@ -3,6 +3,7 @@ use Rattle.switch_lines.specs.Lines.{with_nth_joined}
 use Rattle.switch_lines.specs.Pooled.{PooledLine}
 use Rattle.switch_lines.proofs.Pooled.{one_changed, none_changed, joins_of_one, pooled_same}
 use Rattle.switch_lines.proofs.Touched.{count_kept}
+use Rattle.switch_lines.proofs.Moving.{one_joined}
 use Rattle.switch_lines.proofs.lines.Lines.set_joined.Goals as goal
 
 pub returns-then-place-len : goal.returns-then-place-len
@@ -10,7 +11,7 @@ returns-then-place-len c =
     one_changed (λ l. record l { joined = with_nth_joined l.joined c.args.place.channel c.args.joined })
     c.self.inside.lines.items c.args.self.now c.args.place.line
     c.index_mut.result.now c.set_joined.new.self c.self.view_is (omega arith) c.index_mut.ensures.value
-    (ap (λ (p : PooledLine). p.line) c.set_joined.ensures)
+    (ap (λ (p : PooledLine). p.line) c.set_joined.ensures.line)
 
 pub returns-else-place-len : goal.returns-else-place-len
 returns-else-place-len c =
@@ -27,7 +28,12 @@ invariant_of-self c =
       most = count_kept xs n 64 new c.self.invariant.most;
       rest = joins_of_one c.self.inside.touched c.self.inside.untaken xs n c.index_mut.result.now new (omega arith)
           c.index_mut.ensures.value
-          (ap (λ (p : PooledLine). p.line.end) c.set_joined.ensures) c.self.invariant.rest;
+          (ap (λ (p : PooledLine). p.line.end) c.set_joined.ensures.line) c.self.invariant.rest;
+      moves = one_joined c.self.inside.to_relay c.insert_join.new.self c.self.inside.refusing xs n c.args.place.channel
+          c.args.joined c.joined_to.result c.index_mut.result.now new (omega arith)
+          (omega (arith, c.self.invariant.most)) c.index_mut.ensures.value
+          (ap (λ (p : PooledLine). p.line) c.set_joined.ensures.line) c.set_joined.ensures.few c.joined_to.ensures
+          c.insert_join.ensures c.self.invariant.moves;
       pooled = pooled_same c.self.inside.pool (λ l. record l { joined = with_nth_joined l.joined c.args.place.channel c.args.joined }) c.self.inside.lines.items c.args.place.line c.index_mut.result.now c.set_joined.new.self
-          c.self.invariant.pooled (omega arith) c.index_mut.ensures.value c.set_joined.ensures;
+          c.self.invariant.pooled (omega arith) c.index_mut.ensures.value c.set_joined.ensures.line;
     }

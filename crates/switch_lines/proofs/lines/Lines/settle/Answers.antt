@@ -8,6 +8,9 @@ use Rattle.switch_lines.proofs.Ending.{written}
 use Rattle.switch_lines.proofs.Left.{Lines, none_left, settled_all, touched_change, touched_are_there, both_are_there}
 use Rattle.switch_lines.proofs.Left.{in_neither, same_size, written_back}
 use Rattle.switch_lines.proofs.Pooled.{Pooled, plain_changed}
+use Rattle.switch_lines.specs.Waiting.{NothingElseMoves}
+use Rattle.switch_lines.proofs.Calmer.{same_layer}
+use Rattle.switch_lines.proofs.Waiting.{some_kept}
 use Rattle.switch_lines.proofs.lines.Lines.settle.Goals as goal
 
 pub settle_lines-requires-clause-there : goal.settle_lines-requires-clause-there
@@ -39,6 +42,9 @@ invariant_of-self c =
           (omega (arith, same, c.self.invariant.most));
       rest = written_back (λ (zs : Pooled). NothingElseIsLeft t v (plain zs)) c.self.inside.lines.len xs ys same (omega arith)
           after;
+      moves = written_back (λ (zs : Pooled). NothingElseMoves c.self.inside.to_relay c.self.inside.refusing (plain zs)) c.self.inside.lines.len xs ys same
+          (omega arith) (some_kept c.self.inside.to_relay c.self.inside.refusing s (with_end settled) (plain xs) (plain ys) plain_is
+          (λ l d. (refl, same_layer l.end.layer d)) c.self.invariant.moves);
       pooled = written_back (λ (zs : Pooled). ArePooled c.settle_lines.new.pool zs) c.self.inside.lines.len xs ys same
           (omega arith) c.settle_lines.ensures.pool;
     }
@@ -63,6 +69,9 @@ invariant_of-self-else-all_offered c =
           (omega (arith, same, c.self.invariant.most));
       rest = written_back (λ (zs : Pooled). NothingElseIsLeft s v (plain zs)) c.self.inside.lines.len xs ys same (omega arith)
           after;
+      moves = written_back (λ (zs : Pooled). NothingElseMoves c.self.inside.to_relay c.self.inside.refusing (plain zs)) c.self.inside.lines.len xs ys same
+          (omega arith) (some_kept c.self.inside.to_relay c.self.inside.refusing s (with_end settled) (plain xs) (plain ys) plain_is
+          (λ l d. (refl, same_layer l.end.layer d)) c.self.invariant.moves);
       pooled = written_back (λ (zs : Pooled). ArePooled c.settle_lines.new.pool zs) c.self.inside.lines.len xs ys same
           (omega arith) c.settle_lines.ensures.pool;
     }

@@ -1,0 +1,31 @@
+use Rattle.std.proofs.Common.{◌≡◌, ◌∙◌, ap, subst, sym, List}
+use Rattle.switch_lines.specs.Lines.{SwitchLine, SwitchChannel}
+use Rattle.switch_lines.specs.Relay.{relayed, most_moves}
+use Rattle.switch_lines.specs.Waiting.{other_at, IsStuck}
+use Rattle.switch_lines.proofs.Legs.{to_relayed}
+use Rattle.switch_lines.proofs.Waiting.{relayed_stuck}
+use Rattle.switch_lines.proofs.lines.Lines.relay_join.Goals as goal
+
+-- what a channel is joined to after two relays
+still_joined : (ls ms ks : List SwitchLine) (p q x : SwitchChannel) → ms ≡ relayed most_moves p ls →
+    ks ≡ relayed most_moves q ms → other_at ks x ≡ other_at ls x
+still_joined ls ms ks p q x first second =
+    ap (λ (zs : List SwitchLine). other_at zs x) second ∙ to_relayed most_moves q ms x
+    ∙ (ap (λ (zs : List SwitchLine). other_at zs x) first ∙ to_relayed most_moves p ls x)
+
+pub rest_join-requires-clause-joined : goal.rest_join-requires-clause-joined
+rest_join-requires-clause-joined c =
+    still_joined c.args.self.now c.relay_channel-all.new.self c.relay_channel-all_back.new.self c.args.place
+    c.in-Some.other c.args.place c.relay_channel-all.ensures.lines c.relay_channel-all_back.ensures.lines
+    ∙ sym c.in-Some.ensures
+
+pub rest_join-requires-clause-back : goal.rest_join-requires-clause-back
+rest_join-requires-clause-back c =
+    still_joined c.args.self.now c.relay_channel-all.new.self c.relay_channel-all_back.new.self c.args.place
+    c.in-Some.other c.in-Some.other c.relay_channel-all.ensures.lines c.relay_channel-all_back.ensures.lines
+    ∙ c.requires.pairs c.args.place c.in-Some.other (sym c.in-Some.ensures)
+
+pub rest_join-requires-clause-stuck : goal.rest_join-requires-clause-stuck
+rest_join-requires-clause-stuck c =
+    subst (λ (ls : List SwitchLine). IsStuck ls c.args.place) (sym c.relay_channel-all_back.ensures.lines)
+    (relayed_stuck most_moves c.in-Some.other c.args.place c.relay_channel-all.new.self c.if-all.ensures.stuck)
