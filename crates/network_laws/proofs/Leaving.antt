@@ -80,12 +80,20 @@ typed-host (Host e) b h = tt
 -- frames go out of a PAD, and nothing else
 typed-drained : (p : PadState) (b : Book) → PadHolds Dte p b → NodeHolds Dte (drained (Pad p)) b
 typed-drained p b h =
-    record { book = h.book; read = h.read; unread = h.unread; ports = h.ports; alone = h.alone; calls = h.calls }
+    record {
+      typed = record { book = h.typed.book; read = h.typed.read; unread = h.typed.unread; ports = h.typed.ports; alone = h.typed.alone; calls = h.typed.calls };
+      occasions = h.occasions;
+      said = h.said;
+    }
 
 -- and its notes are read
 typed-told : (p : PadState) (b : Book) → HoldsAfter Dte b p → NodeHolds Dte (drained (told Dte (Pad p) b).node) (told Dte (Pad p) b).book
 typed-told p b h =
-    record { book = h.book; read = h.read; unread = h.unread; ports = h.ports; alone = h.alone; calls = h.calls }
+    record {
+      typed = record { book = h.typed.book; read = h.typed.read; unread = h.typed.unread; ports = h.typed.ports; alone = h.typed.alone; calls = h.typed.calls };
+      occasions = h.occasions;
+      said = h.said;
+    }
 
 typed-expires : (p : PadState) (id : TimerId) (b : Book) → IsQuiet (Pad p) → PadHolds Dte p b
     → NodeHolds Dte (drained (expires Dte (Pad p) id b).node) (expires Dte (Pad p) id b).book

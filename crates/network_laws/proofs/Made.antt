@@ -26,13 +26,13 @@ use Rattle.network_laws.proofs.Fitting.{end-drained}
 use Rattle.line_record_laws.proofs.Keeping as keeping_law
 use Rattle.node_laws.proofs.Making as making_law
 use Rattle.node_laws.proofs.QuietTurns as quiet_law
-use Rattle.node_laws.proofs.Begins as pad_making_law
+use Rattle.node_laws.proofs.Holding as pad_law
 
 -- ---- the promise
 
 typed-so : (n : NodeState) (b : Book) → NodeHolds Dte n b → is_pad n ≡ true → (i : ℕ) (r : RecordValue)
     → slice_get b.records i ≡ Some r → r.node ≡ b.dte.node → HasSent r
-typed-so (Pad p) b h e i r at node = h.book.sent i r at node
+typed-so (Pad p) b h e i r at node = pad_law.sent_law Dte p b h i r at node
 typed-so (Host x) b h e i r at node = absurd (cc)
 
 pub typed_line : (L : LineService) (s : LineState) → IsLine L s → is_pad s.dte ≡ true → (i : ℕ) (r : RecordValue)
@@ -52,8 +52,12 @@ made-typed : (d : NewDte) (l : EndParams) (dte_node dce_node : ℕ) → (dte_nod
     → NodeHolds Dte (drained (new_dte d l)) (made_book dte_node dce_node l.channels l.standing)
 made-typed (NewPad params terminals) l dte_node dce_node apart are is =
     let c : PadConfig = record { line = l; params = params; terminals = terminals } in
-    let h = pad_making_law.made_kept Dte c dte_node dce_node l.channels apart (record { line = are; least = is.0; most = is.1 }) in
-    record { book = h.book; read = h.read; unread = h.unread; ports = h.ports; alone = h.alone; calls = h.calls }
+    let h = pad_law.made_kept Dte c dte_node dce_node l.channels apart (record { line = are; least = is.0; most = is.1 }) in
+    record {
+      typed = record { book = h.typed.book; read = h.typed.read; unread = h.typed.unread; ports = h.typed.ports; alone = h.typed.alone; calls = h.typed.calls };
+      occasions = h.occasions;
+      said = h.said;
+    }
 made-typed NewHost l dte_node dce_node apart are is = tt
 
 pub made-end : (d : NewDte) (l : EndParams) → end_of (new_dte d l) ≡ end.made Dte l

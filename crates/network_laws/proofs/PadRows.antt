@@ -25,8 +25,10 @@ use Rattle.x25_pad.specs.Pad.{all_heard}
 use Rattle.call_records.specs.Records.{RecordValue, new_record, with_closed}
 use Rattle.call_records.specs.Book.{Book, Slot}
 use Rattle.net_events.specs.OneLine.{LineState}
+use Rattle.node_laws.specs.Sending.{HasSaid}
+use Rattle.network_laws.specs.PadRun.{dialled_occasions, standing_occasions}
 use Rattle.network_laws.specs.PadRun.{Act, first, dialled_run, standing_run, dialled_pad, dialled_host, standing_pad, standing_host, shown, first_text, second_text, after, after_act, greeted, begun, ended}
-use Rattle.network_laws.specs.PadRun.{question, connecting, typing, reading, answering, resetting, holding, ending, breaking, hearing, clearing, packet, all_sent, all_taken, called, greeting, before_reset, behind_reset, interrupts, with_epochs, with_typed}
+use Rattle.network_laws.specs.PadRun.{question, connecting, typing, reading, answering, resetting, holding, ending, breaking, hearing, commanding, clearing, packet, all_sent, all_taken, called, greeting, before_reset, behind_reset, interrupt, with_epochs, with_typed}
 
 -- ---- part by part: what a part makes of the book, where the book before it is known
 
@@ -79,14 +81,18 @@ abbrev t4 : LineState
 t4 = after hearing t3
 
 abbrev t5 : LineState
-t5 = after clearing t4
+t5 = after commanding t4
 
-standing_run_is : after standing_run (first true) ≡ t5
+abbrev t6 : LineState
+t6 = after clearing t5
+
+standing_run_is : after standing_run (first true) ≡ t6
 standing_run_is =
-    after_both holding (ending ++ breaking ++ hearing ++ clearing) (first true)
-    ∙ after_both ending (breaking ++ hearing ++ clearing) t1
-    ∙ after_both breaking (hearing ++ clearing) t2
-    ∙ after_both hearing clearing t3
+    after_both holding (ending ++ breaking ++ hearing ++ commanding ++ clearing) (first true)
+    ∙ after_both ending (breaking ++ hearing ++ commanding ++ clearing) t1
+    ∙ after_both breaking (hearing ++ commanding ++ clearing) t2
+    ∙ after_both hearing (commanding ++ clearing) t3
+    ∙ after_both commanding clearing t4
 
 -- ---- the books
 
@@ -156,14 +162,19 @@ tb2 =
 
 abbrev tb3 : Book
 tb3 =
-    open_book (with_typed (begun ++ ended) (with_epochs (nothing_sent ∷ []) (all_sent behind_reset interrupts 1) (nothing_taken ∷ []) nothing_taken old_pad))
+    open_book (with_typed (begun ++ ended) (with_epochs (nothing_sent ∷ []) (all_sent behind_reset (interrupt ∷ []) 1) (nothing_taken ∷ []) nothing_taken old_pad))
     (with_epochs (nothing_sent ∷ []) nothing_sent (nothing_taken ∷ []) (all_taken text [] 1) old_host)
 
 abbrev tb4 : Book
-tb4 = open_book standing_pad standing_host
+tb4 =
+    open_book (with_typed (begun ++ ended) (with_epochs (nothing_sent ∷ []) (all_sent behind_reset (interrupt ∷ []) 2) (nothing_taken ∷ []) nothing_taken old_pad))
+    (with_epochs (nothing_sent ∷ []) nothing_sent (nothing_taken ∷ []) (all_taken behind_reset (interrupt ∷ []) 2) old_host)
 
 abbrev tb5 : Book
-tb5 = closed_book (with_closed standing_pad) (with_closed standing_host)
+tb5 = open_book standing_pad standing_host
+
+abbrev tb6 : Book
+tb6 = closed_book (with_closed standing_pad) (with_closed standing_host)
 
 -- ---- by computation
 
@@ -222,9 +233,13 @@ t_made_4 : (after hearing (with_book tb3 t3)).book ≡ tb4
 unfolding finished all_offered brought all_heard after_pairs after_line request_of_line after_octets echo_of editing.after_key editing.after_idle display.shown class_of command_of trimmed selection_of spells signal_text pairs_of message_of octets_of number_of pair_of entries numeral parameter_text allows
 t_made_4 = refl
 
-t_made_5 : (after clearing (with_book tb4 t4)).book ≡ tb5
+t_made_5 : (after commanding (with_book tb4 t4)).book ≡ tb5
 unfolding finished all_offered brought all_heard after_pairs after_line request_of_line after_octets echo_of editing.after_key editing.after_idle display.shown class_of command_of trimmed selection_of spells signal_text pairs_of message_of octets_of number_of pair_of entries numeral parameter_text allows
 t_made_5 = refl
+
+t_made_6 : (after clearing (with_book tb5 t5)).book ≡ tb6
+unfolding finished all_offered brought all_heard after_pairs after_line request_of_line after_octets echo_of editing.after_key editing.after_idle display.shown class_of command_of trimmed selection_of spells signal_text pairs_of message_of octets_of number_of pair_of entries numeral parameter_text allows
+t_made_6 = refl
 
 pub standing_texts : shown standing_run (first true) ≡ second_text ∷ []
 unfolding finished all_offered brought all_heard after_pairs after_line request_of_line after_octets echo_of editing.after_key editing.after_idle display.shown class_of command_of trimmed selection_of spells signal_text pairs_of message_of octets_of number_of pair_of entries numeral parameter_text allows
@@ -240,7 +255,20 @@ t_book_4 : t4.book ≡ tb4
 t_book_4 = part hearing t3 tb3 tb4 t_book_3 t_made_4
 
 t_book_5 : t5.book ≡ tb5
-t_book_5 = part clearing t4 tb4 tb5 t_book_4 t_made_5
+t_book_5 = part commanding t4 tb4 tb5 t_book_4 t_made_5
 
-pub standing_book : (after standing_run (first true)).book ≡ tb5
-standing_book = ap (λ (s : LineState). s.book) standing_run_is ∙ t_book_5
+t_book_6 : t6.book ≡ tb6
+t_book_6 = part clearing t5 tb5 tb6 t_book_5 t_made_6
+
+pub standing_book : (after standing_run (first true)).book ≡ tb6
+standing_book = ap (λ (s : LineState). s.book) standing_run_is ∙ t_book_6
+
+-- ---- what the PAD said of itself
+
+pub dialled_said : HasSaid dialled_occasions dialled_pad
+unfolding finished all_offered brought all_heard after_pairs after_line request_of_line after_octets echo_of editing.after_key editing.after_idle display.shown class_of command_of trimmed selection_of spells signal_text pairs_of message_of octets_of number_of pair_of entries numeral parameter_text allows
+dialled_said = record { messages = refl; told = refl; interrupts = refl }
+
+pub standing_said : HasSaid standing_occasions (with_closed standing_pad)
+unfolding finished all_offered brought all_heard after_pairs after_line request_of_line after_octets echo_of editing.after_key editing.after_idle display.shown class_of command_of trimmed selection_of spells signal_text pairs_of message_of octets_of number_of pair_of entries numeral parameter_text allows
+standing_said = record { messages = refl; told = refl; interrupts = refl }

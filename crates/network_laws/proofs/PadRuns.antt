@@ -35,7 +35,7 @@ use Rattle.packet_layer.specs.Layer.{front_on}
 use Rattle.line_nodes.specs.LineTurns.{hears}
 use Rattle.line_nodes.specs.Terminals.{at_terminal}
 use Rattle.line_nodes.specs.HostTurns.{host_takes, taken_turn}
-use Rattle.network_laws.proofs.PadRows.{dialled_book, dialled_texts, standing_book, standing_texts}
+use Rattle.network_laws.proofs.PadRows.{dialled_book, dialled_texts, standing_book, standing_texts, dialled_said, standing_said}
 use Rattle.network_laws.proofs.Lines.{happened_line}
 use Rattle.network_laws.proofs.Made.{made_lines}
 
@@ -275,6 +275,7 @@ runs_are_right = record {
     ends = all_hold dialled_run (first false) (are_first false) (begins false);
     records = ap (λ (b : Book). b.records) dialled_book;
     pairs = ap (λ (b : Book). b.pairs) dialled_book;
+    said = dialled_said;
     shown = dialled_texts;
   };
   standing = record {
@@ -283,6 +284,7 @@ runs_are_right = record {
     ends = all_hold standing_run (first true) (are_first true) (begins true);
     records = ap (λ (b : Book). b.records) standing_book;
     pairs = ap (λ (b : Book). b.pairs) standing_book;
+    said = standing_said;
     shown = standing_texts;
   };
 }

@@ -139,7 +139,7 @@ pad_place L nodes line l b place p h at pad (inr e) =
     absurd (let bad : true ≡ false = sym pad ∙ no in cc)
 
 typed_record : (b : Book) (n : ℕ) (r : RecordValue) (w : IsOfBook b n r) → HasSent w.own → HasSent r
-typed_record b n r w h = subst HasSent (sym w.same) (record { typed = h.typed; told = h.told; of_pad = h.of_pad; qualified = h.qualified; interrupts = h.interrupts })
+typed_record b n r w h = subst HasSent (sym w.same) (record { typed = h.typed; occasions = h.occasions; said = record { messages = h.said.messages; told = h.said.told; interrupts = h.said.interrupts } })
 
 typed_holds : (L : LineService) (s : Network) (n : IsNetwork L s) → L.faithful → (place : ℕ) (p : PlacedNode) (i : ℕ) (r : RecordValue) → slice_get s.nodes place ≡ Some (User p)
     → is_pad p.node ≡ true → slice_get s.register.records i ≡ Some r → r.node ≡ place → HasSent r

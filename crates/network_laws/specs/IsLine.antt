@@ -11,7 +11,7 @@ use Rattle.line_nodes.specs.Node.{NodeState, Pad, Host, end_of, is_pad}
 use Rattle.memory_line.specs.Lines.{LineService}
 use Rattle.net_events.specs.OneLine.{LineState}
 
--- on each of its calls a PAD has sent what its terminals typed, and messages of its own
+-- on each of its calls a PAD has sent what its terminals typed, and what it had occasion to say of itself
 abbrev pub NodeHolds : Role → NodeState → Book → Type 0
 NodeHolds role (Pad p) b = PadHolds role p b
 NodeHolds role (Host e) b = Unit {0}

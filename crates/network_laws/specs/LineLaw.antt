@@ -58,7 +58,7 @@ TimeLaw L = (s : LineState) (ticks : ℕ) → IsLine L s → IsLine L (elapsed t
 abbrev pub BookLaw : LineService → Type 0
 BookLaw L = (s : LineState) → IsLine L s → L.faithful → BookHolds s.book
 
--- and on any line what a PAD sent on each call is what its terminals typed, and messages of its own
+-- and on any line what a PAD sent on each call is what its terminals typed, and what it had occasion to say of itself
 abbrev pub TypedLaw : LineService → Type 0
 TypedLaw L = (s : LineState) → IsLine L s → is_pad s.dte ≡ true
     → (n : ℕ) (r : RecordValue) → slice_get s.book.records n ≡ Some r → r.node ≡ s.dte_place → HasSent r

@@ -1,7 +1,8 @@
 -- Two worked runs of a line between a PAD of two terminals and a host. From the making on: the first terminal dials the
 -- host and is connected, types with a deletion, the host reads a parameter by a message of X.29 and is answered, and
 -- resets the call. And on a call that stands: it is reset while text is held, which goes with what is typed behind the
--- reset, a break is told by an interrupt and an indication, and the terminal clears the call.
+-- reset, a break is told by an interrupt and an indication, the command INT sends another interrupt, and the terminal
+-- clears the call.
 use Rattle.std.specs.Prelude.{◌≡◌, ℕ, zero, suc, Bool, true, false, List, [], ◌∷◌, ◌++◌, map, slice_get}
 use Rattle.std.specs.Prelude.{Option, Some, None}
 use Rattle.link_timers.specs.declared.role.Role.{Role}
@@ -23,6 +24,9 @@ use Rattle.net_events.specs.OneLine.{LineState, node_at, with_turn, direction_of
 use Rattle.net_events.specs.NodeEvents.{NodeEvent, Happened, turn_of}
 use Rattle.net_events.specs.NodeEvents.NodeEvent.{Hears, Asks, Says, Takes, AtTerminal}
 use Rattle.net_events.specs.Opening.{NewDte, NewPad, new_dte, new_dce}
+use Rattle.pad_terminal.specs.Terminal.{made}
+use Rattle.node_laws.specs.Occasions.{Occasion, TookMessage, HadBreak, HadCommand}
+use Rattle.node_laws.specs.Sending.{HasSaid}
 use Rattle.network_laws.specs.IsLine.{IsLine}
 use Rattle.network_laws.specs.LineLaw.{made_line}
 
@@ -94,7 +98,7 @@ rounds (suc n) = Arrives Dce ∷ Arrives Dte ∷ rounds n
 abbrev pub types : List ℕ → List Act
 types octets = map (λ octet. Does (Key octet)) octets
 
--- 2 and CR; HX, a deletion, I and CR; N, and O and CR; DLE, CLR and CR
+-- 2 and CR; HX, a deletion, I and CR; N, and O and CR; DLE, INT and CR; DLE, CLR and CR
 abbrev pub dialled : List ℕ
 dialled = 50 ∷ 13 ∷ []
 
@@ -106,6 +110,9 @@ begun = 78 ∷ []
 
 abbrev pub ended : List ℕ
 ended = 79 ∷ 13 ∷ []
+
+abbrev pub commands : List ℕ
+commands = 16 ∷ 73 ∷ 78 ∷ 84 ∷ 13 ∷ []
 
 abbrev pub clears : List ℕ
 clears = 16 ∷ 67 ∷ 76 ∷ 82 ∷ 13 ∷ []
@@ -157,11 +164,15 @@ breaking = Does Break ∷ rounds 2
 abbrev pub hearing : List Act
 hearing = TakesNext ∷ TakesNext ∷ rounds 2
 
+-- the command, of which the host takes the interrupt
+abbrev pub commanding : List Act
+commanding = types commands ++ rounds 2 ++ TakesNext ∷ rounds 2
+
 abbrev pub clearing : List Act
 clearing = types clears ++ rounds 2 ++ Does Print ∷ []
 
 abbrev pub standing_run : List Act
-standing_run = holding ++ ending ++ breaking ++ hearing ++ clearing
+standing_run = holding ++ ending ++ breaking ++ hearing ++ commanding ++ clearing
 
 -- ---- what is shown, and what the book has then
 
@@ -195,9 +206,10 @@ clr_conf = line_of (67 ∷ 76 ∷ 82 ∷ 32 ∷ 67 ∷ 79 ∷ 78 ∷ 70 ∷ [])
 abbrev pub first_text : List ℕ
 first_text = dialled ++ connection ++ 72 ∷ 88 ∷ 8 ∷ 32 ∷ 8 ∷ 73 ∷ 13 ∷ []
 
--- N, the reset, O and CR, CLR and CR, and that the call is cleared
+-- N, the reset, O and CR, INT and CR and that it is done, CLR and CR, and that the call is cleared
 abbrev pub second_text : List ℕ
-second_text = begun ++ reset_dte ++ ended ++ 67 ∷ 76 ∷ 82 ∷ 13 ∷ clr_conf
+second_text =
+    begun ++ reset_dte ++ ended ++ 73 ∷ 78 ∷ 84 ∷ 13 ∷ 13 ∷ 10 ∷ 67 ∷ 76 ∷ 82 ∷ 13 ∷ clr_conf
 
 abbrev pub packet : List ℕ → Bool → DataPacket
 packet octets qualified = record { octets = octets; more = false; qualified = qualified; delivery = false }
@@ -244,8 +256,11 @@ dialled_host =
     (new_record 1 1 (Some called) None (Some 0))
 
 -- of the call that stood: an empty epoch before the reset, and one behind it; it is over for both ends
+abbrev pub interrupt : List ℕ
+interrupt = 1 ∷ []
+
 abbrev pub interrupts : List (List ℕ)
-interrupts = (1 ∷ []) ∷ []
+interrupts = interrupt ∷ interrupt ∷ []
 
 abbrev pub standing_pad : RecordValue
 standing_pad =
@@ -257,6 +272,14 @@ abbrev pub standing_host : RecordValue
 standing_host =
     with_epochs (nothing_sent ∷ []) nothing_sent (nothing_taken ∷ []) (all_taken behind_reset interrupts 2)
     (new_record 1 1 None None (Some 0))
+
+-- ---- what the PAD had occasion to say of itself: the message that reads a parameter; and the break and the command
+
+abbrev pub dialled_occasions : List Occasion
+dialled_occasions = TookMessage read (made values false) ∷ []
+
+abbrev pub standing_occasions : List Occasion
+standing_occasions = HadBreak values false ∷ HadCommand ∷ []
 
 -- ---- the runs meet what the law of a line asks for
 
@@ -274,16 +297,19 @@ AllAre L [] s = Unit {0}
 AllAre L (act ∷ acts) s = IsAct L act s × AllAre L acts (after_act act s)
 
 pub record RunIs (L : LineService) (standing : Bool) (acts : List Act) (pad host : RecordValue)
-    (texts : List (List ℕ)) : Type 0 where
+    (occasions : List Occasion) (texts : List (List ℕ)) : Type 0 where
   pub begins : IsLine L (first standing)
   pub happens : AllAre L acts (first standing)
   pub ends : IsLine L (after acts (first standing))
   pub records : (after acts (first standing)).book.records ≡ pad ∷ host ∷ []
   pub pairs : (after acts (first standing)).book.pairs ≡ record { caller = 0; callee = 1 } ∷ []
+  pub said : HasSaid occasions pad
   pub shown : shown acts (first standing) ≡ texts
 
 -- on a line that loses nothing
 pub record PadRunLaw : Type 0 where
-  pub dialled : RunIs lossless_service false dialled_run dialled_pad dialled_host (first_text ∷ [])
+  pub dialled :
+      RunIs lossless_service false dialled_run dialled_pad dialled_host dialled_occasions (first_text ∷ [])
   pub standing :
-      RunIs lossless_service true standing_run (with_closed standing_pad) (with_closed standing_host) (second_text ∷ [])
+      RunIs lossless_service true standing_run (with_closed standing_pad) (with_closed standing_host)
+      standing_occasions (second_text ∷ [])

@@ -1,5 +1,4 @@
 pub use Rattle.x25_pad_laws.proofs.Holding
-pub use Rattle.x25_pad_laws.proofs.Begins
 mod Turning
 pub mod Asking
 pub mod Hearing

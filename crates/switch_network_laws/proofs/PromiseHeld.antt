@@ -181,7 +181,7 @@ module _ (L : LineService) (s : Network) (p : IsSwitched L s) (f : L.faithful) w
 
   typed_record : (own r : RecordValue) → r ≡ record own { number = r.number; own = r.own; caller = r.caller } → HasSent own → HasSent r
   typed_record own r same h =
-      subst HasSent (sym same) (record { typed = h.typed; told = h.told; of_pad = h.of_pad; qualified = h.qualified; interrupts = h.interrupts })
+      subst HasSent (sym same) (record { typed = h.typed; occasions = h.occasions; said = record { messages = h.said.messages; told = h.said.told; interrupts = h.said.interrupts } })
 
   same_node : (own r : RecordValue) → r ≡ record own { number = r.number; own = r.own; caller = r.caller } → r.node ≡ own.node
   same_node own r same = ap (λ (x : RecordValue). x.node) same

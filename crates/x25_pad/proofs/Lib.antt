@@ -3,3 +3,4 @@ pub mod Hearing
 pub mod Making
 pub mod Blocks
 pub mod Acting
+pub mod Frames

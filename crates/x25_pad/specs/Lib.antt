@@ -4,6 +4,7 @@ pub mod Line
 pub mod Ports
 pub mod PortView
 pub mod Pad
+pub mod Sending
 pub mod PadView
 pub mod Making
 pub mod Law

@@ -87,20 +87,33 @@ all_settled p = record p { ports = map (port.settled p.line) p.ports }
 abbrev pub ended : PadState → PadState
 ended p = all_settled (told (with_end (end.finished p.line.end) p))
 
+-- what the end of the line has taken is heeded: the terminals learn of it, and a call that came in is answered
+abbrev pub heeded : PadState → PadState
+heeded p = answered (last_incoming None p.line.end.notes) (told p)
+
 -- an event that came from the line, from when the end of the line has taken it
 abbrev pub line_event : PadState → PadState
-line_event p = ended (answered (last_incoming None p.line.end.notes) (told p))
+line_event p = ended (heeded p)
+
+-- the end of the line has taken a frame, a relink, or an expiry
+abbrev pub with_frame : PadState → Octets → PadState
+with_frame p octets = with_end (end.received (begun p).line.end octets) (begun p)
+
+abbrev pub with_relink : PadState → PadState
+with_relink p = with_end (end.relinked (begun p).line.end) (begun p)
+
+abbrev pub with_expiry : PadState → TimerId → PadState
+with_expiry p id = with_end (end.after_timer (begun p).line.end id) (begun p)
 
 abbrev pub after_frame : PadState → Octets → PadState
-after_frame p octets = line_event (with_end (end.received (begun p).line.end octets) (begun p))
+after_frame p octets = line_event (with_frame p octets)
 
 abbrev pub after_relink : PadState → PadState
-after_relink p = line_event (with_end (end.relinked (begun p).line.end) (begun p))
+after_relink p = line_event (with_relink p)
 
 -- a timer of the line expires: where it does not run nothing happens
 abbrev pub after_expiry : PadState → TimerId → PadState
-after_expiry p id =
-    if end.runs_at p.line.end id then line_event (with_end (end.after_timer (begun p).line.end id) (begun p)) else p
+after_expiry p id = if end.runs_at p.line.end id then line_event (with_expiry p id) else p
 
 -- something happens at a terminal, and that is an event
 abbrev pub terminal_event : (number : ℕ) → (AtLine → AtLine) → PadState → PadState

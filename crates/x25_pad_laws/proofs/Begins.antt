@@ -12,9 +12,11 @@ use Rattle.line_record_laws.specs.Headline.{has_call}
 use Rattle.call_records.specs.Records.{RecordValue, new_record}
 use Rattle.call_records.specs.Book.{Book, Slot, free_slot, nth_slot, with_nth, new_book, standing_book, made_book}
 use Rattle.x25_pad.specs.Ports.{PortState, has_channel, new_port, call_on}
-use Rattle.x25_pad_laws.specs.Sending.{HasSent}
+use Rattle.x25_pad_laws.specs.Sending.{HasTyped}
 use Rattle.x25_pad_laws.specs.Holds.{node_at, HasItsRecords, HasEachOnce, IsPort, IsOn}
-use Rattle.x25_pad_laws.specs.RecordClauses.{MadeHolds}
+use Rattle.x25_pad_laws.specs.Holds.{PadTypes}
+use Rattle.x25_pad.specs.Making.{made, IsConfig}
+use Rattle.x25_pad.specs.declared.config.PadConfig.{PadConfig}
 use Rattle.x25_pad_laws.proofs.Lists.{nth_cases}
 use Rattle.x25_pad_laws.proofs.Records.{new_has}
 use Rattle.x25_pad_laws.proofs.Typing.{same_channel}
@@ -41,7 +43,7 @@ only_present channels c n k z e present =
 record BookBegins (b : Book) : Type 0 where
   has : (y : Role) → HasItsRecords y b
   once : (y : Role) → HasEachOnce y b
-  sent : (n : ℕ) (r : RecordValue) → slice_get b.records n ≡ Some r → HasSent r
+  sent : (n : ℕ) (r : RecordValue) → slice_get b.records n ≡ Some r → HasTyped r
   nothing : (n : ℕ) (r : RecordValue) → slice_get b.records n ≡ Some r → (edit_of r.steps).held ≡ []
 
 new_begins : (dte_node dce_node channels : ℕ) → BookBegins (new_book dte_node dce_node channels)
@@ -79,9 +81,9 @@ standing_begins dte_node dce_node channels = record { has = λ y. has y; once = 
         (only_present channels c n 1 (record { present = Some 1; placed = None; caller = Some 0 }) refl e).1
         ∙ sym (only_present channels d n 1 (record { present = Some 1; placed = None; caller = Some 0 }) refl f).1
 
-    sent : (n : ℕ) (r : RecordValue) → slice_get (standing_book (new_book dte_node dce_node channels)).records n ≡ Some r → HasSent r
-    sent zero r e = subst (λ (z : RecordValue). HasSent z) (same_Some (new_record 0 dte_node None None None) r e) (new_has 0 dte_node None None None)
-    sent (suc zero) r e = subst (λ (z : RecordValue). HasSent z) (same_Some (new_record 1 dce_node None None (Some 0)) r e) (new_has 1 dce_node None None (Some 0))
+    sent : (n : ℕ) (r : RecordValue) → slice_get (standing_book (new_book dte_node dce_node channels)).records n ≡ Some r → HasTyped r
+    sent zero r e = subst (λ (z : RecordValue). HasTyped z) (same_Some (new_record 0 dte_node None None None) r e) (new_has 0 dte_node None None None)
+    sent (suc zero) r e = subst (λ (z : RecordValue). HasTyped z) (same_Some (new_record 1 dce_node None None (Some 0)) r e) (new_has 1 dce_node None None (Some 0))
     sent (suc (suc n)) r e = absurd (none-some r e)
 
     nothing : (n : ℕ) (r : RecordValue) → slice_get (standing_book (new_book dte_node dce_node channels)).records n ≡ Some r → (edit_of r.steps).held ≡ []
@@ -143,8 +145,9 @@ standing_call true params zero c some on = absurd (omega arith)
 standing_call true params (suc channels) c some on =
     ap (λ (k : ℕ). has_call (nth_channel (standing_channels true (replicate (suc channels) closed_channel)) k)) (sym (same_channel (call_on 1) c on))
 
-pub made_kept : MadeHolds
-made_kept role c dte_node dce_node channels differ config =
+pub made_types : (role : Role) (c : PadConfig) (dte_node dce_node channels : ℕ) → (dte_node ≡ dce_node → ⊥) → IsConfig c
+    → PadTypes role (made c) (made_book dte_node dce_node channels c.line.standing)
+made_types role c dte_node dce_node channels differ config =
     let s : Bool = c.line.standing in
     let b : Book = made_book dte_node dce_node channels s in
     let begins = book_begins dte_node dce_node channels s in

@@ -18,7 +18,7 @@ use Rattle.call_records.specs.Carried.{carried, unless_refused, placed_on}
 use Rattle.call_records.specs.Closing.{closes_if, closes_present, closed_from, all_closed}
 use Rattle.call_records.specs.Writes.{Write, Write as write, all_sent, let_go, written_by, all_written}
 use Rattle.x25_pad.specs.Line.{datum}
-use Rattle.x25_pad_laws.specs.Sending.{HasSent}
+use Rattle.x25_pad_laws.specs.Sending.{HasTyped}
 use Rattle.x25_pad_laws.specs.Holds.{node_at, HasItsRecords, HasEachOnce, IsLeft, BookHolds}
 use Rattle.x25_pad_laws.proofs.Records.{IsQuiet, taken_quiet, interrupt_taken_quiet, released_quiet, covered_quiet, epoch_quiet, closed_quiet, with_edit, edit_node, edit_has, edit_held, new_has}
 use Rattle.x25_pad_laws.proofs.Lists.{get_before, get_last, get_pushed, get_changed, changed_here, changed_there, changed_twice, nth_cases, nth_here, other_differs, below_length}
@@ -53,17 +53,17 @@ once_kept y b b' s h c d n e f =
 
 -- ---- a record changes
 
-side_changed : (y : Role) (o : Option ℕ) (f : RecordValue → RecordValue) (b : Book) → side_of y (with_change o f b) ≡ side_of y b
+pub side_changed : (y : Role) (o : Option ℕ) (f : RecordValue → RecordValue) (b : Book) → side_of y (with_change o f b) ≡ side_of y b
 side_changed y None f b = refl
 side_changed Dte (Some n) f b = refl
 side_changed Dce (Some n) f b = refl
 
-change_keeps : (o : Option ℕ) (f : RecordValue → RecordValue) (b : Book) → ((x : RecordValue) → (f x).node ≡ x.node) → (n : ℕ) (r : RecordValue) → slice_get b.records n ≡ Some r
+pub change_keeps : (o : Option ℕ) (f : RecordValue → RecordValue) (b : Book) → ((x : RecordValue) → (f x).node ≡ x.node) → (n : ℕ) (r : RecordValue) → slice_get b.records n ≡ Some r
     → (r' : RecordValue) × (slice_get (with_change o f b).records n ≡ Some r') × (r'.node ≡ r.node)
 change_keeps None f b h n r e = (r, e, refl)
 change_keeps (Some m) f b h n r e = changed_there b.records m f n r h e
 
-change_of : (o : Option ℕ) (f : RecordValue → RecordValue) (b : Book) (n : ℕ) (r' : RecordValue) → slice_get (with_change o f b).records n ≡ Some r'
+pub change_of : (o : Option ℕ) (f : RecordValue → RecordValue) (b : Book) (n : ℕ) (r' : RecordValue) → slice_get (with_change o f b).records n ≡ Some r'
     → (r : RecordValue) × (slice_get b.records n ≡ Some r) × (((o ≡ Some n) × (r' ≡ f r)) ⊎ (r' ≡ r))
 change_of None f b n r' e = (r', e, inr refl)
 change_of (Some m) f b n r' e =
@@ -77,7 +77,7 @@ change_of (Some m) f b n r' e =
     )
 
 change_holds : (role : Role) (X Y : ℕ → List ℕ → Type 0) (b : Book) (o : Option ℕ) (f : RecordValue → RecordValue) → ((x : RecordValue) → (f x).node ≡ x.node)
-    → ((n : ℕ) (r : RecordValue) → o ≡ Some n → slice_get b.records n ≡ Some r → r.node ≡ node_at role b → HasSent r → HasSent (f r))
+    → ((n : ℕ) (r : RecordValue) → o ≡ Some n → slice_get b.records n ≡ Some r → r.node ≡ node_at role b → HasTyped r → HasTyped (f r))
     → ((c : ℕ) (t : List ℕ) → Y c t → IsLeft role c t (with_change o f b)) → BookHolds role X b → BookHolds role Y (with_change o f b)
 change_holds role X Y b o f node has left h =
     let b' : Book = with_change o f b in
@@ -92,9 +92,9 @@ change_holds role X Y b o f node has left h =
           elim g.2 [
             | inl q ↦
                 let here : g.0.node ≡ node_at role b = sym (node g.0) ∙ sym (ap (λ (z : RecordValue). z.node) q.1) ∙ of_pad ∙ stays role in
-                subst (λ (z : RecordValue). HasSent z) (sym q.1) (has n g.0 q.0 g.1 here (h.sent n g.0 g.1 here))
+                subst (λ (z : RecordValue). HasTyped z) (sym q.1) (has n g.0 q.0 g.1 here (h.sent n g.0 g.1 here))
             | inr q ↦
-                subst (λ (z : RecordValue). HasSent z) (sym q) (h.sent n g.0 g.1 (sym (ap (λ (z : RecordValue). z.node) q) ∙ of_pad ∙ stays role))
+                subst (λ (z : RecordValue). HasTyped z) (sym q) (h.sent n g.0 g.1 (sym (ap (λ (z : RecordValue). z.node) q) ∙ of_pad ∙ stays role))
           ];
       left = left;
     }
@@ -112,7 +112,7 @@ change_twice None f g b = refl
 change_twice (Some n) f g b = ap (λ (l : List RecordValue). record b { records = l }) (changed_twice b.records n f g)
 
 -- of two changes of a present call the second finds the same record
-changed_again : (x : Role) (c : ℕ) (f g : RecordValue → RecordValue) (b : Book) → changed x c g (changed x c f b) ≡ with_change (slot_at x c b).present (λ r. g (f r)) b
+pub changed_again : (x : Role) (c : ℕ) (f g : RecordValue → RecordValue) (b : Book) → changed x c g (changed x c f b) ≡ with_change (slot_at x c b).present (λ r. g (f r)) b
 changed_again x c f g b =
     let o : Option ℕ = (slot_at x c b).present in
     ap (λ (z : Side). with_change (nth_slot z.slots c).present g (with_change o f b)) (side_changed x o f b) ∙ change_twice o f g b
@@ -124,7 +124,7 @@ present_before role c o f b n e = ap (λ (z : Side). (nth_slot z.slots c).presen
 -- a quiet change
 quiet_holds : (role : Role) (X : ℕ → List ℕ → Type 0) (b : Book) (o : Option ℕ) (f : RecordValue → RecordValue) → IsQuiet f → BookHolds role X b → BookHolds role X (with_change o f b)
 quiet_holds role X b o f quiet h =
-    change_holds role X X b o f quiet.node (λ n r e g own t. quiet.has_sent r t)
+    change_holds role X X b o f quiet.node (λ n r e g own t. quiet.has_typed r t)
     (λ c t x n r' e g.
     let old = change_of o f b n r' g in
     let before = h.left c t x n old.0 (present_before role c o f b n e) old.1 in
@@ -175,14 +175,14 @@ edited_holds role X Y b c step (Some text) u x block texts h =
     (edit_holds role X Y b c step (Some text) u x block texts h)
 
 -- no present call of the other end has a record of the PAD's node
-not_ours : (role : Role) (X : ℕ → List ℕ → Type 0) (b : Book) → BookHolds role X b → (c n : ℕ) (r : RecordValue) → (slot_at (other_of role) c b).present ≡ Some n → slice_get b.records n ≡ Some r
+pub not_ours : (role : Role) (X : ℕ → List ℕ → Type 0) (b : Book) → BookHolds role X b → (c n : ℕ) (r : RecordValue) → (slot_at (other_of role) c b).present ≡ Some n → slice_get b.records n ≡ Some r
     → r.node ≡ node_at role b → ⊥
 not_ours role X b h c n r e g own =
     let there = h.far c n e in
     h.apart (sym own ∙ ap (λ (z : RecordValue). z.node) (same_Some r there.0 (sym g ∙ there.1)) ∙ there.2)
 
 -- any change of a present call at the other end
-far_holds : (role : Role) (X : ℕ → List ℕ → Type 0) (b : Book) (c : ℕ) (f : RecordValue → RecordValue) → ((x : RecordValue) → (f x).node ≡ x.node) → BookHolds role X b
+pub far_holds : (role : Role) (X : ℕ → List ℕ → Type 0) (b : Book) (c : ℕ) (f : RecordValue → RecordValue) → ((x : RecordValue) → (f x).node ≡ x.node) → BookHolds role X b
     → BookHolds role X (changed (other_of role) c f b)
 far_holds role X b c f node h =
     let o : Option ℕ = (slot_at (other_of role) c b).present in
@@ -218,11 +218,11 @@ slot_here : (x : Role) (d : ℕ) (z : Slot) (b : Book) → (slot_at x d (with_sl
 slot_here Dte d z b = nth_here b.dte.slots d z
 slot_here Dce d z b = nth_here b.dce.slots d z
 
-slot_records : (x : Role) (d : ℕ) (z : Slot) (b : Book) → (with_slot x d z b).records ≡ b.records
+pub slot_records : (x : Role) (d : ℕ) (z : Slot) (b : Book) → (with_slot x d z b).records ≡ b.records
 slot_records Dte d z b = refl
 slot_records Dce d z b = refl
 
-slot_node : (x : Role) (d : ℕ) (z : Slot) (b : Book) (y : Role) → node_at y (with_slot x d z b) ≡ node_at y b
+pub slot_node : (x : Role) (d : ℕ) (z : Slot) (b : Book) (y : Role) → node_at y (with_slot x d z b) ≡ node_at y b
 slot_node Dte d z b Dte = refl
 slot_node Dte d z b Dce = refl
 slot_node Dce d z b Dte = refl
@@ -289,11 +289,11 @@ slot_holds role X Y b x d z new fresh texts here h =
 
 -- ---- a record more
 
-side_record : (r : RecordValue) (b : Book) (y : Role) → side_of y (with_record r b) ≡ side_of y b
+pub side_record : (r : RecordValue) (b : Book) (y : Role) → side_of y (with_record r b) ≡ side_of y b
 side_record r b Dte = refl
 side_record r b Dce = refl
 
-record_holds : (role : Role) (X : ℕ → List ℕ → Type 0) (b : Book) (r : RecordValue) → HasSent r → BookHolds role X b → BookHolds role X (with_record r b)
+record_holds : (role : Role) (X : ℕ → List ℕ → Type 0) (b : Book) (r : RecordValue) → HasTyped r → BookHolds role X b → BookHolds role X (with_record r b)
 record_holds role X b r has h =
     let b' : Book = with_record r b in
     let stays : (y : Role) → node_at y b' ≡ node_at y b = λ y. ap (λ (z : Side). z.node) (side_record r b y) in
@@ -307,7 +307,7 @@ record_holds role X b r has h =
       sent = λ n q e own.
           elim (get_pushed b.records r n q e) [
             | inl k ↦ h.sent n q k (own ∙ stays role)
-            | inr k ↦ subst (λ (z : RecordValue). HasSent z) (sym k) has
+            | inr k ↦ subst (λ (z : RecordValue). HasTyped z) (sym k) has
           ];
       left = λ c t x n q e g.
           let here = ap (λ (z : Side). (nth_slot z.slots c).present) (sym (side_record r b role)) ∙ e in
@@ -353,7 +353,7 @@ pub all_closed_holds : (role : Role) (X : ℕ → List ℕ → Type 0) (x : Role
 all_closed_holds role X x b h = closed_from_holds role X (length (side_of x b).slots) 1 x b h
 
 -- a pair more
-side_pairs : (ps : List PairValue) (b : Book) (y : Role) → side_of y (record b { pairs = ps }) ≡ side_of y b
+pub side_pairs : (ps : List PairValue) (b : Book) (y : Role) → side_of y (record b { pairs = ps }) ≡ side_of y b
 side_pairs ps b Dte = refl
 side_pairs ps b Dce = refl
 
@@ -431,7 +431,7 @@ far_sent : (role : Role) (X : ℕ → List ℕ → Type 0) (c : ℕ) (ds : List 
 far_sent role X c [] b h = h
 far_sent role X c (d ∷ ds) b h = far_sent role X c ds (sends (other_of role) c d b) (far_holds role X b c (with_sent (packet_of d)) (λ r. refl) h)
 
-far_one : (role : Role) (X : ℕ → List ℕ → Type 0) (w : Write) (b : Book) → BookHolds role X b → BookHolds role X (written_by (other_of role) w b)
+pub far_one : (role : Role) (X : ℕ → List ℕ → Type 0) (w : Write) (b : Book) → BookHolds role X b → BookHolds role X (written_by (other_of role) w b)
 far_one role X (write.Told notes) b h = far_told role X notes b h
 far_one role X (write.Placed o parts) b h = far_placed role X o parts b h
 far_one role X (write.Asked refusal c r front) b h = unless_holds role X refusal (carried (other_of role) c r front b) b (far_carried role X c r front b h) h

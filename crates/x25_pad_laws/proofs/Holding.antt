@@ -1,456 +1,566 @@
--- The events of a PAD keep what holds of it and of the book.
-use Rattle.std.specs.Prelude.{◌≡◌, ℕ, ◌⊎◌, Bool, true, false, cond, if◌then◌else◌, List, [], ◌∷◌, ◌++◌, map, slice_get, slice_set, is_none, Option, Some, None}
-use Rattle.std.specs.Option.{option_map, option_map_or}
-use Rattle.std.proofs.Common.{inl, inr, refl, sym, ap, subst, ◌∙◌, true≢false, arith}
-use Rattle.std.proofs.lemmas.Option.{none-some, same_Some, slice_get-map}
+-- The events of a PAD keep what holds of it and of the book: what was typed was sent, and what the PAD said of itself is what it had occasion to say.
+use Rattle.std.specs.Prelude.{◌≡◌, ℕ, zero, suc, Bool, true, false, not, ◌&&◌, if◌then◌else◌, List, [], ◌∷◌, ◌++◌, slice_get, Option, Some, None}
+use Rattle.std.specs.Option.{option_map_or}
+use Rattle.std.proofs.Common.{inl, inr, refl, sym, ap, subst, ◌∙◌, append-nil, append_assoc}
+use Rattle.std.proofs.lemmas.Bool.{eqb-true}
+use Rattle.std.proofs.lemmas.Option.{none-some, same_Some}
 use Rattle.link_timers.specs.declared.role.Role.{Role}
 use Rattle.link_timers.specs.declared.timers.TimerId.{TimerId}
 use Rattle.link_timers.specs.declared.timers.TimerId.TheVariants.{Idle}
-use Rattle.packet_layer.specs.Packets.{Note}
+use Rattle.pad_editing.specs.Edited.{Step, key, idle}
+use Rattle.packet_layer.specs.Packets.{Note, Datum}
+use Rattle.packet_layer.specs.Traffic.{Taken}
+use Rattle.packet_layer.specs.Traffic.Taken.{TakenInterrupt, TakenPacket}
 use Rattle.packet_layer.specs.Channel.{Refusal}
-use Rattle.packet_layer.specs.Channel.Request.{Accept, Clearing}
-use Rattle.packet_layer.specs.Layer.{request, request_refusal, link_down, unread}
-use Rattle.packet_end.specs.PacketEnd.{PacketEnd, begun, received, after_timer, relinked, relinked_if_due, finished, runs_at}
-use Rattle.line_record_laws.proofs.Basics.{get_set}
-use Rattle.call_records.specs.Book.{Book}
-use Rattle.line_record_laws.proofs.Happening.{all_offered_notes}
+use Rattle.packet_layer.specs.Channel.Request.{Releasing}
+use Rattle.packet_layer.specs.Layer.{channel_given}
+use Rattle.packet_end.specs.PacketEnd.{received, after_timer, relinked, finished, runs_at}
+use Rattle.packet_laws.specs.Readable.{Every}
+use Rattle.call_records.specs.Records.{RecordValue, new_record}
+use Rattle.call_records.specs.Book.{Book, side_of, slot_at, made_book, new_book, standing_book}
+use Rattle.call_records.specs.Writes.{all_written}
+use Rattle.x29_messages.specs.MessageForm.{octets_of}
+use Rattle.x3_params.specs.Settings.{acts_on_break}
+use Rattle.x3_params.specs.declared.settings.BreakAction.TheVariants as action
+use Rattle.x29_messages.specs.declared.message.Message.{Message}
+use Rattle.x29_messages.specs.declared.message.Message.TheVariants.{IndicationOfBreak}
+use Rattle.pad_terminal.specs.Terminal.{TerminalState, is_connected}
+use Rattle.pad_terminal.specs.Messages as messages
+use Rattle.pad_terminal.specs.Breaks as breaks
+use Rattle.pad_terminal.specs.Calls as calls
+use Rattle.pad_terminal.specs.declared.answers.BreakAnswer.{BreakAnswer}
+use Rattle.pad_terminal.specs.declared.answers.BreakAnswer.TheVariants as break_answer
+use Rattle.pad_terminal.specs.declared.answers.CallCondition.{CallCondition}
+use Rattle.pad_terminal.specs.declared.answers.InputAnswer.{InputAnswer}
+use Rattle.pad_terminal.specs.declared.answers.InputAnswer.TheVariants as input
+use Rattle.pad_terminal.specs.declared.answers.Reply.{Reply}
+use Rattle.pad_terminal.specs.declared.answers.Reply.TheVariants as reply
+use Rattle.pad_terminal.specs.declared.answers.Request.{Request}
+use Rattle.pad_terminal.specs.declared.answers.Request.TheVariants as request
+use Rattle.pad_records.specs.Writing.{without_notes}
 use Rattle.x25_pad.specs.Notes as notes
-use Rattle.x25_pad.specs.Notes.{PadNote}
+use Rattle.x25_pad.specs.Notes.{PadNote, unless_refused}
 use Rattle.x25_pad.specs.Line as line
-use Rattle.x25_pad.specs.Line.{all_learnt, last_incoming}
+use Rattle.x25_pad.specs.Line.{condition, datum}
 use Rattle.x25_pad.specs.Ports as port
-use Rattle.x25_pad.specs.Ports.{PortState, AtLine, has_channel, call_on}
+use Rattle.x25_pad.specs.Ports.{PortState, AtLine}
 use Rattle.x25_pad.specs.Pad as pad
-use Rattle.x25_pad.specs.Pad.{PadState, all_heard, changed_at, at_port, acted}
+use Rattle.x25_pad.specs.Pad.{PadState, acted, at_port}
+use Rattle.x25_pad.specs.Making.{made}
 use Rattle.x25_pad.specs.declared.call.Call.{Call}
 use Rattle.x25_pad.specs.declared.line.PadLine.{PadLine}
-use Rattle.x25_pad_laws.specs.Holds.{BookHolds, IsPort, IsOn, TextOf, PadHolds}
-use Rattle.x25_pad_laws.specs.RecordClauses.{SentLaw, HoldsAfter, KeyHolds, BreakHolds, PrintHolds, FrameHolds, RelinkHolds, TimerHolds, RestartHolds, TimeHolds, DrainedHolds, FarHolds}
-use Rattle.x25_pad_laws.proofs.Asking.{noted, noted_append, noted_told}
-use Rattle.x25_pad_laws.proofs.Channels.{Tells, IncomingLast, NoneComes, none_last, none_append}
-use Rattle.x25_pad_laws.proofs.Layers.{call_at, request_notes, request_other, down_none}
-use Rattle.x25_pad_laws.proofs.Ends.{EndTells, received_tells, received_last, timer_tells, timer_last, relinked_tells, relinked_last, finished_tells}
-use Rattle.x25_pad_laws.proofs.Books.{narrowed, answers_holds, closes_holds, all_closed_holds, far_written}
-use Rattle.x25_pad_laws.proofs.Modes.{Same, resumed_same}
-use Rattle.x25_pad_laws.proofs.Typing.{AtHolds, Joined, port_same, same_channel, request_keeps}
-use Rattle.x25_pad_laws.proofs.Printing.{key_holds, break_holds, idle_holds, print_holds}
-use Rattle.x25_pad_laws.proofs.Ports.{AreAlone, Back, on_back, alone_back, text_back, changed_port, found_at, HeardHolds, TextOrNew, all_are_heard}
+use Rattle.x25_pad_laws.specs.Occasions.{Occasion, TookMessage, HadBreak, HadCommand, messages_taken, answer_in, asks_indication, told_at, all_told, all_interrupts}
+use Rattle.x25_pad_laws.specs.Sending.{qualified_messages, IsOfPad, OfPadLaw, HasSaid}
+use Rattle.x25_pad_laws.specs.Holds.{TextOf, PadTypes, HaveSaid, PadHolds}
+use Rattle.x25_pad_laws.specs.RecordClauses.{SentLaw, MadeHolds, KeyHolds, BreakHolds, PrintHolds, FrameHolds, RelinkHolds, TimerHolds, RestartHolds, TimeHolds, DrainedHolds, FarHolds}
+use Rattle.x25_pad_laws.specs.Happening.{PadEvent, HasKey, HasBreak, HasIdleTime, HasPrinting, HasFrame, HasExpiry, HasRelink, HasRestart, HasTicks, after_event, by_key, by_break, by_printing, occasions_of, meets, at_terminal, is_record, grown, writes_after, OccasionLaw, Happening, Here, There, Course, happened, all_happened, beginning, CourseLaw}
+use Rattle.x25_pad_laws.proofs.Asking.{noted, noted_append}
+use Rattle.x25_pad_laws.proofs.Begins.{made_types}
+use Rattle.x25_pad_laws.proofs.Keeping.{key_types, break_types, print_types, frame_types, relink_types, timer_types, idle_types, restart_types, time_types, drained_types, far_types}
+use Rattle.x25_pad_laws.proofs.Modes.{ReplyFollows, octets_follow}
+use Rattle.x25_pad_laws.proofs.Saying.{Octets, message_in, told_in, interrupt_in, all_in, all_append, IsKind, messages_kind, told_kind, interrupts_kind, told_octets, event_messages, event_told, event_interrupts, messages_append, octets_append, interrupts_append}
+use Rattle.x25_pad_laws.proofs.Spoken.{IsPlain, edited_plain, reset_plain, sent_plain, interrupted_plain, took_plain, AreRaw, test_of, plain_list, plain_none, IsMuteNote, mute_list, all_closed_said, far_said}
 
--- ---- during an event, with nothing unread
+-- ---- the notes of an event: those of which a record alone changes, and then those that say nothing
 
-module _ (role : Role) (b : Book) where
-  record MidHolds (l : PadLine) (ports : List PortState) : Type 0 where
-    read : l.end.notes ≡ []
-    unread_ : l.end.layer.notes ≡ []
-    each : (j : ℕ) (q : PortState) → slice_get ports j ≡ Some q → IsPort q
-    alone : AreAlone ports
-    calls : (i c : ℕ) (q : PortState) → IsOn ports i c q → call_at l.end.layer c ≡ true
-    book : BookHolds role (TextOf ports) (noted role l.notes b)
+module _ (role : Role) where
+  record Splits (ns : List PadNote) : Type 0 where
+    plain : List PadNote
+    mute : List PadNote
+    are_plain : Every (λ note. IsPlain role note) plain
+    are_mute : Every IsMuteNote mute
+    is : ns ≡ plain ++ mute
 
-  mid_holds : (p : PadState) → MidHolds p.line p.ports → HoldsAfter role b p
-  mid_holds p h = record {
-    book = h.book;
-    read = h.read;
-    unread = h.unread_;
-    ports = h.each;
-    alone = h.alone;
-    calls = h.calls;
+  every_more : {A : Type 0} (P : A → Type 0) (xs ys : List A) → Every P xs → Every P ys → Every P (xs ++ ys)
+  every_more P [] ys h k = k
+  every_more P (x ∷ xs) ys h k = (h.0, every_more P xs ys h.1 k)
+
+  -- of plain notes alone
+  abbrev ArePlain : List PadNote → Type 0
+  ArePlain ns = Every (λ note. IsPlain role note) ns
+
+  plain_splits : (ns : List PadNote) → ArePlain ns → Splits ns
+  plain_splits ns h = record { plain = ns; mute = []; are_plain = h; are_mute = tt; is = sym (append-nil ns) }
+
+  mute_splits : (ns ms : List PadNote) → ArePlain ns → Every IsMuteNote ms → Splits (ns ++ ms)
+  mute_splits ns ms h m = record { plain = ns; mute = ms; are_plain = h; are_mute = m; is = refl }
+
+  splits_more : (ns ms : List PadNote) → Splits ns → Every IsMuteNote ms → Splits (ns ++ ms)
+  splits_more ns ms s m = record {
+    plain = s.plain;
+    mute = s.mute ++ ms;
+    are_plain = s.are_plain;
+    are_mute = every_more IsMuteNote s.mute ms s.are_mute m;
+    is = ap (λ (l : List PadNote). l ++ ms) s.is ∙ append_assoc s.plain s.mute ms;
   }
 
-  -- ports that come of those before
-  ports_change : (l : PadLine) (ports after : List PortState) → Back ports after → MidHolds l ports → MidHolds l after
-  ports_change l ports after back h = record {
-    read = h.read;
-    unread_ = h.unread_;
-    each = λ j q at. (back.from j q at).0;
-    alone = alone_back ports after back h.alone;
-    calls = λ i c q on. (let p = on_back ports after back i c q on in h.calls i c p.0 p.1);
-    book = narrowed role (TextOf ports) (TextOf after) (noted role l.notes b) (text_back ports after back) h.book;
-  }
+  one_plain : (ns : List PadNote) (note : PadNote) → IsPlain role note → ArePlain ns → ArePlain (ns ++ note ∷ [])
+  one_plain ns note p h = every_more (λ note. IsPlain role note) ns (note ∷ []) h (p, tt)
 
-  -- ---- something happens at a terminal
+  plain_unless : (ns : List PadNote) (o : Option Refusal) (note : PadNote) → IsPlain role note → ArePlain ns → ArePlain (ns ++ unless_refused o note)
+  plain_unless ns None note p h = one_plain ns note p h
+  plain_unless ns (Some r) note p h = subst ArePlain (sym (append-nil ns)) h
 
-  abbrev Others : List PortState → (number : ℕ) → ℕ → List ℕ → Type 0
-  Others ports i c t = (j : ℕ) × (q : PortState) × (j ≡ i → ⊥) × (slice_get ports j ≡ Some q) × (has_channel q.call c ≡ true) × (q.terminal.held ≡ t)
+  mute_unless : (ns : List PadNote) (o : Option Refusal) (note : PadNote) → IsMuteNote note → ArePlain ns → Splits (ns ++ unless_refused o note)
+  mute_unless ns None note m h = mute_splits ns (note ∷ []) h (m, tt)
+  mute_unless ns (Some r) note m h = mute_splits ns [] h tt
 
-  at_holds : (l : PadLine) (ports : List PortState) (i : ℕ) (p : PortState) → slice_get ports i ≡ Some p → MidHolds l ports → AtHolds role b (Others ports i) (record { port = p; line = l })
-  at_holds l ports i p at h = record {
-    port = h.each i p at;
-    read = h.read;
-    unread = h.unread_;
-    others = λ c t o. h.calls o.0 c o.1 (o.3, o.4);
-    own = λ c e. h.calls i c p (at, e);
-    alone = λ c t o e. o.2 (h.alone o.0 i c o.1 p (o.3, o.4) (at, e));
-    book =
-        narrowed role (TextOf ports) (Joined role b (Others ports i) p.call p.terminal.held) (noted role l.notes b)
-        (λ c t y. elim y [
-          | inl o ↦ (o.0, o.1, o.3, o.4, o.5)
-          | inr m ↦ (i, p, at, m.0, m.1)
-        ]) h.book;
-  }
+  told_mute : (ns : List Note) → Every IsMuteNote (notes.all_told ns)
+  told_mute [] = tt
+  told_mute (n ∷ ns) = (tt, told_mute ns)
 
-  from_at : (l : PadLine) (ports : List PortState) (i : ℕ) (a : AtLine) → MidHolds l ports → AtHolds role b (Others ports i) a → MidHolds a.line (slice_set ports i a.port)
-  from_at l ports i a before h = record {
-    read = h.read;
-    unread_ = h.unread;
-    each = λ j q at.
-        elim (get_set ports i a.port j q at) [
-          | inl m ↦ subst (λ (z : PortState). IsPort z) (sym m.1) h.port
-          | inr m ↦ before.each j q m.1
-        ];
-    alone = λ j k c q r e f.
-        elim (get_set ports i a.port j q e.0) [
-          | inl m ↦
-              elim (get_set ports i a.port k r f.0) [
-                | inl n ↦ m.0 ∙ sym n.0
-                | inr n ↦ absurd (h.alone c r.terminal.held (k, r, n.0, n.1, f.1, refl) (ap (λ (z : PortState). has_channel z.call c) (sym m.1) ∙ e.1))
-              ]
-          | inr m ↦
-              elim (get_set ports i a.port k r f.0) [
-                | inl n ↦ absurd (h.alone c q.terminal.held (j, q, m.0, m.1, e.1, refl) (ap (λ (z : PortState). has_channel z.call c) (sym n.1) ∙ f.1))
-                | inr n ↦ before.alone j k c q r (m.1, e.1) (n.1, f.1)
-              ]
-        ];
-    calls = λ j c q on.
-        elim (get_set ports i a.port j q on.0) [
-          | inl m ↦ h.own c (ap (λ (z : PortState). has_channel z.call c) (sym m.1) ∙ on.1)
-          | inr m ↦ h.others c q.terminal.held (j, q, m.0, m.1, on.1, refl)
-        ];
-    book =
-        narrowed role (Joined role b (Others ports i) a.port.call a.port.terminal.held) (TextOf (slice_set ports i a.port)) (noted role a.line.notes b)
-        (λ c t x. elim (get_set ports i a.port x.0 x.1 x.2) [
-          | inl m ↦ inr (ap (λ (z : PortState). has_channel z.call c) (sym m.1) ∙ x.3, ap (λ (z : PortState). z.terminal.held) (sym m.1) ∙ x.4)
-          | inr m ↦ inl (x.0, x.1, m.0, m.1, x.3, x.4)
-        ]) h.book;
-  }
+  -- ---- what happens at a terminal
 
-  port_holds : (number : ℕ) (act : AtLine → AtLine) (p : PadState) → ((X : ℕ → List ℕ → Type 0) (a : AtLine) → AtHolds role b X a → AtHolds role b X (act a)) → MidHolds p.line p.ports
-      → MidHolds (at_port number act p).line (at_port number act p).ports
-  port_holds number act p f h = by (slice_get p.ports number) refl
+  abbrev PlainAt : AtLine → Type 0
+  PlainAt a = ArePlain a.line.notes
+
+  abbrev SplitsAt : AtLine → Type 0
+  SplitsAt a = Splits a.line.notes
+
+  resets_plain : (o : Option Call) (a : AtLine) → PlainAt a → PlainAt (port.on_call port.resets o a)
+  resets_plain None a h = h
+  resets_plain (Some call) a h = plain_unless a.line.notes _ (notes.WasReset call.channel) (reset_plain role call.channel) h
+
+  interrupts_plain : (o : Option Call) (a : AtLine) → PlainAt a → PlainAt (port.on_call port.interrupts o a)
+  interrupts_plain None a h = h
+  interrupts_plain (Some call) a h =
+      plain_unless a.line.notes _ (notes.Interrupted call.channel (line.interrupt_octet ∷ [])) (interrupted_plain role call.channel (line.interrupt_octet ∷ [])) h
+
+  sends_plain : (octets : List ℕ) (q : Bool) (o : Option Call) (a : AtLine) → PlainAt a → PlainAt (port.on_call (port.sends octets q) o a)
+  sends_plain octets q None a h = h
+  sends_plain octets q (Some call) a h = plain_unless a.line.notes _ (notes.Sent call.channel (datum octets q)) (sent_plain role call.channel octets q) h
+
+  tells_plain : (o : Option Message) (a : AtLine) → PlainAt a → PlainAt (port.tells o a)
+  tells_plain None a h = h
+  tells_plain (Some m) a h = sends_plain (octets_of m) true a.port.call a h
+
+  clears_split : (o : Option Call) (a : AtLine) → PlainAt a → SplitsAt (port.on_call port.clears o a)
+  clears_split None a h = plain_splits a.line.notes h
+  clears_split (Some call) a h = mute_unless a.line.notes _ (notes.Cleared call.channel) tt h
+
+  placed_split : (ns : List PadNote) (o : Option ℕ) (address : List ℕ) → ArePlain ns → Splits (ns ++ line.placed_note o address)
+  placed_split ns None address h = mute_splits ns [] h tt
+  placed_split ns (Some channel) address h = mute_splits ns (notes.Placed channel address ∷ []) h (tt, tt)
+
+  does_split : (o : Option Request) (a : AtLine) → PlainAt a → SplitsAt (port.does_asked o a)
+  does_split None a h = plain_splits a.line.notes h
+  does_split (Some (request.Call s)) a h = placed_split a.line.notes (channel_given a.line.end.layer a.line.end.layer.phase) s.address h
+  does_split (Some request.Clear) a h = clears_split a.port.call a h
+  does_split (Some request.Interrupt) a h = plain_splits _ (interrupts_plain a.port.call a h)
+  does_split (Some request.Reset) a h = plain_splits _ (resets_plain a.port.call a h)
+
+  block_plain : (block : Option (List ℕ)) (call : Call) (a : AtLine) → PlainAt a → PlainAt (port.block_sent block call a)
+  block_plain None call a h = h
+  block_plain (Some block) call a h = plain_unless a.line.notes _ (notes.Sent call.channel (datum block false)) (sent_plain role call.channel block false) h
+
+  edits_plain : (step : Step) (block : Option (List ℕ)) (o : Option Call) (a : AtLine) → PlainAt a → PlainAt (port.on_call (port.edits step block) o a)
+  edits_plain step block None a h = h
+  edits_plain step block (Some call) a h =
+      block_plain block call (record a { line = record a.line { notes = a.line.notes ++ notes.Edited call.channel step ∷ [] } })
+      (one_plain a.line.notes (notes.Edited call.channel step) (edited_plain role call.channel step) h)
+
+  handles_split : (answer : InputAnswer) (step : Step) (a : AtLine) → PlainAt a → SplitsAt (port.handles answer step a)
+  handles_split input.Dropped step a h = plain_splits a.line.notes h
+  handles_split (input.Edited block) step a h = plain_splits _ (edits_plain step block a.port.call a h)
+  handles_split (input.Taken asked) step a h = does_split asked a h
+
+  nothing_plain : (ns : List PadNote) → ns ≡ [] → ArePlain ns
+  nothing_plain ns e = subst ArePlain (sym e) tt
+
+  key_splits : (octet : ℕ) (a : AtLine) → a.line.notes ≡ [] → SplitsAt (port.after_key octet a)
+  key_splits octet a e =
+      handles_split (port.key_input octet a).answer (key octet a.port.terminal.settings.params)
+      (record a { port = record a.port { terminal = (port.key_input octet a).terminal; idle_left = None } }) (nothing_plain a.line.notes e)
+
+  -- a break asks for no other request
+  abbrev PlainRequest : Option Request → Type 0
+  PlainRequest None = Unit {0}
+  PlainRequest (Some request.Interrupt) = Unit {0}
+  PlainRequest (Some request.Reset) = Unit {0}
+  PlainRequest _ = ⊥
+
+  abbrev PlainAnswer : BreakAnswer → Type 0
+  PlainAnswer break_answer.Dropped = Unit {0}
+  PlainAnswer (break_answer.Taken requests) = PlainRequest requests.request
+
+  either : {A : Type 0} (P : A → Type 0) (v : Bool) (x y : A) → P x → P y → P (if v then x else y)
+  either P true x y f g = f
+  either P false x y f g = g
+
+  does_plain : (o : Option Request) → PlainRequest o → (a : AtLine) → PlainAt a → PlainAt (port.does_asked o a)
+  does_plain None p a h = h
+  does_plain (Some (request.Call s)) p a h = absurd p
+  does_plain (Some request.Clear) p a h = absurd p
+  does_plain (Some request.Interrupt) p a h = interrupts_plain a.port.call a h
+  does_plain (Some request.Reset) p a h = resets_plain a.port.call a h
+
+  answers_plain : (answer : BreakAnswer) → PlainAnswer answer → (a : AtLine) → PlainAt a → PlainAt (port.answers_break answer a)
+  answers_plain break_answer.Dropped p a h = h
+  answers_plain (break_answer.Taken requests) p a h = tells_plain requests.indication (port.does_asked requests.request a) (does_plain requests.request p a h)
+
+  request_plain : (params : List ℕ) (call : CallCondition) → PlainRequest (breaks.request_of params call)
+  request_plain params call =
+      either PlainRequest (acts_on_break params action.Reset) (if call.reset_pending then None else Some request.Reset)
+      (if acts_on_break params action.Interrupt && not call.reset_pending && not call.interrupt_pending then Some request.Interrupt else None)
+      (either PlainRequest call.reset_pending None (Some request.Reset) tt tt)
+      (either PlainRequest (acts_on_break params action.Interrupt && not call.reset_pending && not call.interrupt_pending) (Some request.Interrupt) None tt tt)
+
+  answer_plain : (call : CallCondition) (t : TerminalState) → PlainAnswer (breaks.answer_of call t)
+  answer_plain call t =
+      let taken : BreakAnswer = break_answer.Taken (record { request = breaks.request_of t.settings.params call; indication = breaks.indication_of t.settings.params }) in
+      let nothing : BreakAnswer = break_answer.Taken (record { request = None; indication = None }) in
+      either PlainAnswer (breaks.is_dropped call t) break_answer.Dropped (if is_connected t.mode then taken else nothing) tt
+      (either PlainAnswer (is_connected t.mode) taken nothing (request_plain t.settings.params call) tt)
+
+  break_splits : (a : AtLine) → a.line.notes ≡ [] → SplitsAt (port.after_break a)
+  break_splits a e =
+      plain_splits _ (answers_plain (port.break_answer_of a) (answer_plain (condition a.port.call a.line) a.port.terminal)
+      (record a { port = port.with_terminal (breaks.after_break (condition a.port.call a.line) a.port.terminal) a.port }) (nothing_plain a.line.notes e))
+
+  replies_split : (r : Reply) (a : AtLine) → PlainAt a → SplitsAt (port.replies r a)
+  replies_split reply.Nothing a h = plain_splits a.line.notes h
+  replies_split (reply.Message m) a h = plain_splits _ (tells_plain (Some m) a h)
+  replies_split reply.Clear a h = clears_split a.port.call a h
+
+  datum_split : (d : Datum) (q : Bool) (a : AtLine) → PlainAt a → SplitsAt (port.after_datum d q a)
+  datum_split d true a h =
+      let answered = messages.after_octets d.octets a.port.terminal in
+      replies_split answered.reply (record a { port = port.with_terminal answered.terminal a.port }) h
+  datum_split d false a h = plain_splits a.line.notes h
+
+  taking_split : (taken : Taken) (call : Call) (a : AtLine) → PlainAt a → SplitsAt (port.after_taking taken call (port.takes taken call a))
+  taking_split (TakenInterrupt octets) call a h =
+      plain_splits _ (one_plain a.line.notes (notes.Took call.channel (TakenInterrupt octets)) (took_plain role call.channel (TakenInterrupt octets)) h)
+  taking_split (TakenPacket d) call a h =
+      datum_split d d.qualified (port.releases (Releasing 1) call (port.takes (TakenPacket d) call a))
+      (one_plain a.line.notes (notes.Took call.channel (TakenPacket d)) (took_plain role call.channel (TakenPacket d)) h)
+
+  next_split : (o : Option Call) (taken : Option Taken) (p : PortState) (l : PadLine) → ArePlain l.notes
+      → SplitsAt (port.after_taken taken (port.with_taken taken (record { port = record p { call = o }; line = l })))
+  next_split o None p l h = plain_splits l.notes h
+  next_split None (Some taken) p l h = plain_splits l.notes h
+  next_split (Some call) (Some taken) p l h = taking_split taken call (record { port = record p { call = Some call }; line = l }) h
+
+  print_splits : (a : AtLine) → a.line.notes ≡ [] → SplitsAt (port.after_print a)
+  print_splits a e = next_split a.port.call (port.taken_of a) (port.with_terminal (calls.without_text a.port.terminal) a.port) a.line (nothing_plain a.line.notes e)
+
+  -- ---- events
+
+  terminal_splits : (number : ℕ) (act : AtLine → AtLine) → ((a : AtLine) → a.line.notes ≡ [] → SplitsAt (act a)) → (p : PadState) → Splits (pad.terminal_event number act p).line.notes
+  terminal_splits number act f p =
+      splits_more (at_port number act (pad.begun p)).line.notes _ (by (slice_get p.ports number)) (told_mute (finished (at_port number act (pad.begun p)).line.end).notes)
     where
-      by : (o : Option PortState) → slice_get p.ports number ≡ o →
-          let q : PadState = option_map_or (λ found. acted number p (act (record { port = found; line = p.line }))) o p in
-          MidHolds q.line q.ports
-      by None e = h
-      by (Some found) e =
-          from_at p.line p.ports number (act (record { port = found; line = p.line })) h
-          (f (Others p.ports number) (record { port = found; line = p.line }) (at_holds p.line p.ports number found e h))
+      by : (o : Option PortState) → Splits (option_map_or (λ found. acted number (pad.begun p) (act (record { port = found; line = (pad.begun p).line }))) o (pad.begun p)).line.notes
+      by None = plain_splits [] tt
+      by (Some q) = f (record { port = q; line = (pad.begun p).line }) refl
 
-  -- ---- what the packet layer told
-
-  told_starts : (had : ℕ → Bool) (e : PacketEnd) (ports : List PortState) (x : Book) → ((j : ℕ) (q : PortState) → slice_get ports j ≡ Some q → IsPort q) → AreAlone ports
-      → ((i c : ℕ) (q : PortState) → IsOn ports i c q → had c ≡ true) → BookHolds role (TextOf ports) x → EndTells had e → IncomingLast e.notes → HeardHolds role e.layer e.notes None ports x
-  told_starts had e ports x each alone calls book h last = record {
-    each = each;
-    alone = alone;
-    tells = λ c. (had c, h.tells c, λ i q on. calls i c q on);
-    came = λ c n. absurd (none-some c n);
-    last = last;
-    book =
-        narrowed role (TextOf ports) (TextOrNew None ports) x
-        (λ c t y. elim y [
-          | inl o ↦ o
-          | inr m ↦ absurd (none-some c m.0)
-        ]) book;
-  }
-
-  -- all was heard
-  abbrev Heard : PadLine → Option ℕ → List PortState → Type 0
-  Heard l incoming ports = HeardHolds role l.end.layer [] incoming ports (noted role l.notes b)
-
-  heard_calls : (l : PadLine) (incoming : Option ℕ) (ports : List PortState) → Heard l incoming ports → (i c : ℕ) (q : PortState) → IsOn ports i c q → call_at l.end.layer c ≡ true
-  heard_calls l incoming ports h i c q on = (h.tells c).1 ((h.tells c).2 i q on)
-
-  heard_book : (l : PadLine) (incoming : Option ℕ) (ports : List PortState) → Heard l incoming ports → BookHolds role (TextOf ports) (noted role l.notes b)
-  heard_book l incoming ports h = narrowed role (TextOrNew incoming ports) (TextOf ports) (noted role l.notes b) (λ c t o. inl o) h.book
-
-  heard_mid : (l : PadLine) (incoming : Option ℕ) (ports : List PortState) → l.end.notes ≡ [] → l.end.layer.notes ≡ [] → Heard l incoming ports → MidHolds l ports
-  heard_mid l incoming ports read unread h = record {
-    read = read;
-    unread_ = unread;
-    each = h.each;
-    alone = h.alone;
-    calls = heard_calls l incoming ports h;
-    book = heard_book l incoming ports h;
-  }
-
-  told_heard : (had : ℕ → Bool) (p : PadState) → ((j : ℕ) (q : PortState) → slice_get p.ports j ≡ Some q → IsPort q) → AreAlone p.ports
-      → ((i c : ℕ) (q : PortState) → IsOn p.ports i c q → had c ≡ true) → BookHolds role (TextOf p.ports) (noted role p.line.notes b) → EndTells had p.line.end → IncomingLast p.line.end.notes
-      → Heard (pad.told p).line (last_incoming None p.line.end.notes) (pad.told p).ports
-  told_heard had p each alone calls book h last =
-      subst (λ (x : Book). HeardHolds role p.line.end.layer [] (last_incoming None p.line.end.notes) (all_heard (all_learnt p.line.end.notes) p.ports) x)
-      (sym (noted_append role p.line.notes (notes.all_told p.line.end.notes) b ∙ noted_told role p.line.end.notes (noted role p.line.notes b)))
-      (all_are_heard role p.line.end.layer p.line.end.notes None p.ports (noted role p.line.notes b)
-      (told_starts had p.line.end p.ports (noted role p.line.notes b) each alone calls book h last))
-
-  -- ---- a call that came in is answered
-
-  unless_noted : (X : ℕ → List ℕ → Type 0) (o : Option Refusal) (note : PadNote) (ns : List PadNote) → BookHolds role X (noted role (note ∷ []) (noted role ns b)) → BookHolds role X (noted role ns b)
-      → BookHolds role X (noted role (ns ++ notes.unless_refused o note) b)
-  unless_noted X None note ns h k = subst (λ (z : Book). BookHolds role X z) (sym (noted_append role ns (note ∷ []) b)) h
-  unless_noted X (Some r) note ns h k = subst (λ (z : Book). BookHolds role X z) (sym (noted_append role ns [] b)) k
-
-  clears_it : (channel : ℕ) (p : PadState) → p.line.end.notes ≡ [] → p.line.end.layer.notes ≡ [] → Heard p.line (Some channel) p.ports → MidHolds (line.cleared channel p.line) p.ports
-  clears_it channel p read unread h = record {
-    read = read;
-    unread_ = request_notes p.line.end.layer channel (Clearing 0 0) unread;
-    each = h.each;
-    alone = h.alone;
-    calls = λ i c q on.
-        request_other p.line.end.layer channel c (Clearing 0 0) (λ e. (h.came channel refl).2 i q (subst (λ (k : ℕ). IsOn p.ports i k q) e on)) ∙ heard_calls p.line (Some channel) p.ports h i c q on;
-    book =
-        unless_noted (TextOf p.ports) (request_refusal p.line.end.layer channel (Clearing 0 0)) (notes.Cleared channel) p.line.notes
-        (closes_holds role (TextOf p.ports) role channel (noted role p.line.notes b) (heard_book p.line (Some channel) p.ports h)) (heard_book p.line (Some channel) p.ports h);
-  }
-
-  is_free : (o : Option Call) → is_none o ≡ true → o ≡ None
-  is_free None h = refl
-  is_free (Some call) h = absurd (true≢false (sym h))
-
-  accepts_it : (channel number : ℕ) (p : PadState) → pad.first_free p.ports ≡ Some number → p.line.end.notes ≡ [] → p.line.end.layer.notes ≡ [] → Heard p.line (Some channel) p.ports
-      → MidHolds (line.accepted channel p.line) (changed_at number (port.connects channel) p.ports)
-  accepts_it channel number p free read unread h = record {
-    read = read;
-    unread_ = request_notes p.line.end.layer channel Accept unread;
-    each = λ j q at.
-        elim (cases j q at) [
-          | inl m ↦ subst (λ (z : PortState). IsPort z) (sym m.1) connects_port
-          | inr m ↦ h.each j q m.1
-        ];
-    alone = λ j k c q r e f.
-        elim (cases j q e.0) [
-          | inl m ↦
-              elim (cases k r f.0) [
-                | inl n ↦ m.0 ∙ sym n.0
-                | inr n ↦ absurd (unheld c k r (channel_is c q m.1 e.1) (n.1, f.1))
-              ]
-          | inr m ↦
-              elim (cases k r f.0) [
-                | inl n ↦ absurd (unheld c j q (channel_is c r n.1 f.1) (m.1, e.1))
-                | inr n ↦ h.alone j k c q r (m.1, e.1) (n.1, f.1)
-              ]
-        ];
-    calls = λ j c q on.
-        elim (cases j q on.0) [
-          | inl m ↦ keeps c (subst (λ (k : ℕ). call_at p.line.end.layer k ≡ true) (channel_is c q m.1 on.1) (h.came channel refl).1)
-          | inr m ↦ keeps c (heard_calls p.line (Some channel) p.ports h j c q (m.1, on.1))
-        ];
-    book = narrowed role (TextOrNew (Some channel) p.ports) (TextOf (changed_at number (port.connects channel) p.ports)) _ texts accepted;
-  }
+  answered_splits : (o : Option ℕ) (p : PadState) → Splits p.line.notes → Splits (pad.answered o p).line.notes
+  answered_splits None p s = s
+  answered_splits (Some channel) p s = by (pad.first_free p.ports)
     where
-      found : (x : PortState) × (slice_get p.ports number ≡ Some x) × (is_none x.call ≡ true)
-      found = found_at (λ (x : PortState). is_none x.call) p.ports number free
+      more : (o : Option Refusal) (note : PadNote) → IsMuteNote note → Splits (p.line.notes ++ unless_refused o note)
+      more None note m = splits_more p.line.notes (note ∷ []) s (m, tt)
+      more (Some r) note m = splits_more p.line.notes [] s tt
 
-      cases : (j : ℕ) (q : PortState) → slice_get (changed_at number (port.connects channel) p.ports) j ≡ Some q → ((j ≡ number) × (q ≡ port.connects channel found.0)) ⊎ ((j ≡ number → ⊥) × (slice_get p.ports j ≡ Some q))
-      cases j q at = changed_port p.ports number found.0 (port.connects channel) j q found.1 at
+      by : (o : Option ℕ) → Splits (pad.answered_at o channel p).line.notes
+      by None = more _ (notes.Cleared channel) tt
+      by (Some number) = more _ (notes.Accepted channel) tt
 
-      connects_port : IsPort (port.connects channel found.0)
-      connects_port = record {
-        free = λ e. absurd (none-some (call_on channel) (sym e));
-        bare = λ e. absurd (true≢false e);
-        empty = λ e. absurd (true≢false e);
-        short = (h.each number found.0 found.1).short;
-      }
+  line_splits : (p : PadState) → p.line.notes ≡ [] → Splits (pad.line_event p).line.notes
+  line_splits p e =
+      let q : PadState = pad.answered (line.last_incoming None p.line.end.notes) (pad.told p) in
+      splits_more q.line.notes _
+      (answered_splits (line.last_incoming None p.line.end.notes) (pad.told p)
+      (splits_more p.line.notes _ (plain_splits p.line.notes (nothing_plain p.line.notes e)) (told_mute p.line.end.notes)))
+      (told_mute (finished q.line.end).notes)
 
-      channel_is : (c : ℕ) (q : PortState) → q ≡ port.connects channel found.0 → has_channel q.call c ≡ true → channel ≡ c
-      channel_is c q is on = same_channel (call_on channel) c (ap (λ (z : PortState). has_channel z.call c) (sym is) ∙ on)
-
-      unheld : (c j : ℕ) (q : PortState) → channel ≡ c → IsOn p.ports j c q → ⊥
-      unheld c j q is on = (h.came channel refl).2 j q (subst (λ (k : ℕ). IsOn p.ports j k q) (sym is) on)
-
-      keeps : (c : ℕ) → call_at p.line.end.layer c ≡ true → call_at (request p.line.end.layer channel Accept) c ≡ true
-      keeps c e = request_keeps role b (λ d t. ⊥) p.line.end.layer channel c Accept (λ cause diagnostic x. absurd cc) e
-
-      nothing_held : found.0.terminal.held ≡ []
-      nothing_held = (let q = h.each number found.0 found.1 in q.empty (q.free (is_free found.0.call found.2)))
-
-      texts : (c : ℕ) (t : List ℕ) → TextOf (changed_at number (port.connects channel) p.ports) c t → TextOrNew (Some channel) p.ports c t
-      texts c t x =
-          elim (cases x.0 x.1 x.2) [
-            | inl m ↦ inr (ap (λ (k : ℕ). Some k) (channel_is c x.1 m.1 x.3), sym x.4 ∙ ap (λ (z : PortState). z.terminal.held) m.1 ∙ nothing_held)
-            | inr m ↦ inl (x.0, x.1, m.1, x.3, x.4)
-          ]
-
-      accepted : BookHolds role (TextOrNew (Some channel) p.ports) (noted role (line.accepted channel p.line).notes b)
-      accepted =
-          unless_noted (TextOrNew (Some channel) p.ports) (request_refusal p.line.end.layer channel Accept) (notes.Accepted channel) p.line.notes
-          (answers_holds role (TextOrNew (Some channel) p.ports) role channel (noted role p.line.notes b) h.book) h.book
-
-  answered_holds : (o : Option ℕ) (p : PadState) → p.line.end.notes ≡ [] → p.line.end.layer.notes ≡ [] → Heard p.line o p.ports → MidHolds (pad.answered o p).line (pad.answered o p).ports
-  answered_holds None p read unread h = heard_mid p.line None p.ports read unread h
-  answered_holds (Some channel) p read unread h = by (pad.first_free p.ports) refl
+  idle_splits : (number : ℕ) (p : PadState) → p.line.notes ≡ [] → Splits (pad.after_idle number p).line.notes
+  idle_splits number p e = by (pad.runs_idle_timer number p)
     where
-      by : (o : Option ℕ) → pad.first_free p.ports ≡ o → MidHolds (pad.answered_at o channel p).line (pad.answered_at o channel p).ports
-      by None e = clears_it channel p read unread h
-      by (Some number) e = accepts_it channel number p e read unread h
+      by : (v : Bool) → Splits (if v then pad.terminal_event number port.after_idle p else p).line.notes
+      by true =
+          terminal_splits number port.after_idle (λ a none. handles_split (port.idle_input a).answer (idle a.port.terminal.settings.params)
+          (record a { port = record a.port { terminal = (port.idle_input a).terminal; idle_left = None } }) (nothing_plain a.line.notes none)) p
+      by false = plain_splits p.line.notes (nothing_plain p.line.notes e)
 
-  -- ---- the end of an event
-
-  if_none : (v : Bool) (e f : PacketEnd) → NoneComes e.notes → NoneComes f.notes → NoneComes (cond v e f).notes
-  if_none true e f h k = h
-  if_none false e f h k = k
-
-  finished_last : (e : PacketEnd) → e.notes ≡ [] → IncomingLast (finished e).notes
-  unfolding finished
-  finished_last e none =
-      subst (λ (ns : List Note). IncomingLast ns) (sym (all_offered_notes (relinked_if_due e)))
-      (none_last (relinked_if_due e).notes
-      (if_none e.layer.relink (relinked e) e
-      (none_append e.notes (link_down e.layer).notes (subst (λ (ns : List Note). NoneComes ns) (sym none) tt) (down_none e.layer)) (subst (λ (ns : List Note). NoneComes ns) (sym none) tt)))
-
-  settled_back : (l : PadLine) (ports : List PortState) → ((j : ℕ) (q : PortState) → slice_get ports j ≡ Some q → IsPort q) → Back ports (map (port.settled l) ports)
-  settled_back l ports each = record { from = λ j q at. from j q (slice_get ports j) refl (sym (slice_get-map (port.settled l) ports j) ∙ at) }
+  expiry_splits : (id : TimerId) (p : PadState) → p.line.notes ≡ [] → Splits (pad.after_expiry p id).line.notes
+  expiry_splits id p e = by (runs_at p.line.end id)
     where
-      from : (j : ℕ) (q : PortState) (o : Option PortState) → slice_get ports j ≡ o → option_map (port.settled l) o ≡ Some q
-          → IsPort q × (p : PortState) × (slice_get ports j ≡ Some p) × ((c : ℕ) → has_channel q.call c ≡ true → (has_channel p.call c ≡ true) × (q.terminal.held ≡ p.terminal.held))
-      from j q None e f = absurd (none-some q f)
-      from j q (Some p) e f =
-          let same : port.settled l p ≡ q = same_Some (port.settled l p) q f in
-          let s : Same p.terminal (port.settled l p).terminal = resumed_same (line.condition p.call l).queue_full p.terminal in
-          let is : IsPort (port.settled l p) = port_same p (port.settled l p).terminal p.call (port.settled l p).idle_left s (λ n. n) (λ n. n) (each j p e) in
-          (subst (λ (z : PortState). IsPort z) same is, p, e, λ c on. (ap (λ (z : PortState). has_channel z.call c) same ∙ on, ap (λ (z : PortState). z.terminal.held) (sym same) ∙ s.0))
+      by : (v : Bool) → Splits (if v then pad.line_event (pad.with_end (after_timer (pad.begun p).line.end id) (pad.begun p)) else p).line.notes
+      by true = line_splits (pad.with_end (after_timer (pad.begun p).line.end id) (pad.begun p)) refl
+      by false = plain_splits p.line.notes (nothing_plain p.line.notes e)
 
-  ended_holds : (p : PadState) → MidHolds p.line p.ports → HoldsAfter role b (pad.ended p)
-  ended_holds p h =
-      let had : ℕ → Bool = λ c. call_at p.line.end.layer c in
-      let before : EndTells had p.line.end = record { read = h.unread_; tells = λ c. subst (λ (ns : List Note). Tells c (had c) ns (had c)) (sym h.read) (λ e. e) } in
-      let after : EndTells had (finished p.line.end) = finished_tells had p.line.end before in
-      let q : PadState = pad.told (pad.with_end (finished p.line.end) p) in
-      let heard = told_heard had (pad.with_end (finished p.line.end) p) h.each h.alone h.calls h.book after (finished_last p.line.end h.read) in
-      let mid : MidHolds q.line q.ports = heard_mid q.line (last_incoming None (finished p.line.end).notes) q.ports refl after.read heard in
-      mid_holds (pad.ended p) (ports_change q.line q.ports (map (port.settled q.line) q.ports) (settled_back q.line q.ports mid.each) mid)
+  timer_splits : (id : TimerId) (p : PadState) → p.line.notes ≡ [] → Splits (pad.after_timer p id).line.notes
+  timer_splits (Idle number) p e = idle_splits number p e
+  timer_splits id p e = expiry_splits id p e
 
-  -- an event that came from the line
-  line_holds : (had : ℕ → Bool) (p : PadState) → p.line.notes ≡ [] → ((j : ℕ) (q : PortState) → slice_get p.ports j ≡ Some q → IsPort q) → AreAlone p.ports
-      → ((i c : ℕ) (q : PortState) → IsOn p.ports i c q → had c ≡ true) → BookHolds role (TextOf p.ports) b → EndTells had p.line.end → IncomingLast p.line.end.notes → HoldsAfter role b (pad.line_event p)
-  line_holds had p none each alone calls book h last =
-      let heard = told_heard had p each alone calls (subst (λ (ns : List PadNote). BookHolds role (TextOf p.ports) (noted role ns b)) (sym none) book) h last in
-      ended_holds (pad.answered (last_incoming None p.line.end.notes) (pad.told p)) (answered_holds (last_incoming None p.line.end.notes) (pad.told p) refl h.read heard)
+  event_splits : (event : PadEvent) (p : PadState) → p.line.notes ≡ [] → Splits (after_event event p).line.notes
+  event_splits (HasKey number octet) p e = terminal_splits number (port.after_key octet) (λ a none. key_splits octet a none) p
+  event_splits (HasBreak number) p e = terminal_splits number port.after_break (λ a none. break_splits a none) p
+  event_splits (HasPrinting number) p e = terminal_splits number port.after_print (λ a none. print_splits a none) p
+  event_splits (HasIdleTime number) p e = idle_splits number p e
+  event_splits (HasFrame octets) p e = line_splits (pad.with_end (received (pad.begun p).line.end octets) (pad.begun p)) refl
+  event_splits (HasExpiry id) p e = timer_splits id p e
+  event_splits HasRelink p e = line_splits (pad.with_end (relinked (pad.begun p).line.end) (pad.begun p)) refl
+  event_splits HasRestart p e = plain_splits [] tt
+  event_splits (HasTicks ticks) p e = plain_splits p.line.notes (nothing_plain p.line.notes e)
 
--- ---- events that begin
+-- ---- occasions of a record
 
-begun_holds : (role : Role) (p : PadState) (b : Book) → PadHolds role p b → MidHolds role b (pad.begun p).line (pad.begun p).ports
-begun_holds role p b h = record { read = refl; unread_ = h.unread; each = h.ports; alone = h.alone; calls = h.calls; book = h.book }
-
-abbrev had_in : PadState → ℕ → Bool
-had_in p c = call_at p.line.end.layer c
-
-begun_tells : (role : Role) (p : PadState) (b : Book) → PadHolds role p b → EndTells (had_in p) (begun p.line.end)
-begun_tells role p b h = record { read = h.unread; tells = λ c e. e }
-
-terminal_holds : (role : Role) (p : PadState) (b : Book) (number : ℕ) (act : AtLine → AtLine) → ((X : ℕ → List ℕ → Type 0) (a : AtLine) → AtHolds role b X a → AtHolds role b X (act a)) → PadHolds role p b
-    → HoldsAfter role b (pad.terminal_event number act p)
-terminal_holds role p b number act f h =
-    ended_holds role b (pad.at_port number act (pad.begun p)) (port_holds role b number act (pad.begun p) f (begun_holds role p b h))
-
--- nothing happens, and nothing is left to be written
-nothing_holds : (role : Role) (p : PadState) (b : Book) → p.line.notes ≡ [] → PadHolds role p b → HoldsAfter role b p
-nothing_holds role p b none h = subst (λ (ns : List PadNote). PadHolds role p (noted role ns b)) (sym none) h
-
--- ---- the laws
-
-pub sent_law : SentLaw
-sent_law role p b h n r e own = h.book.sent n r e own
-
-pub key_kept : KeyHolds
-key_kept role p number octet b h = terminal_holds role p b number (port.after_key octet) (λ X a k. key_holds role b X octet a k) h
-
-pub break_kept : BreakHolds
-break_kept role p number b h = terminal_holds role p b number port.after_break (λ X a k. break_holds role b X a k) h
-
-pub print_kept : PrintHolds
-print_kept role p number b h = terminal_holds role p b number port.after_print (λ X a k. print_holds role b X a k) h
-
-pub frame_kept : FrameHolds
-frame_kept role p octets b h =
-    line_holds role b (had_in p) (pad.with_end (received (begun p.line.end) octets) (pad.begun p)) refl h.ports h.alone h.calls h.book
-    (received_tells (had_in p) (begun p.line.end) octets (begun_tells role p b h)) (received_last (begun p.line.end) octets tt)
-
-pub relink_kept : RelinkHolds
-relink_kept role p b h =
-    line_holds role b (had_in p) (pad.with_end (relinked (begun p.line.end)) (pad.begun p)) refl h.ports h.alone h.calls h.book
-    (relinked_tells (had_in p) (begun p.line.end) (begun_tells role p b h)) (relinked_last (begun p.line.end) tt)
-
-idle_kept : (role : Role) (p : PadState) (number : ℕ) (b : Book) → p.line.notes ≡ [] → PadHolds role p b → HoldsAfter role b (pad.after_idle number p)
-idle_kept role p number b none h = by (pad.runs_idle_timer number p)
+-- a record that is not there is that of no call
+unheld : (role : Role) (p : PadState) (b : Book) → PadTypes role p b → (n : ℕ) → slice_get b.records n ≡ None → (channel : ℕ) → test_of n (side_of role b) channel ≡ false
+unheld role p b h n e channel = by (slot_at role channel b).present refl
   where
-    by : (v : Bool) → HoldsAfter role b (if v then pad.terminal_event number port.after_idle p else p)
-    by true = terminal_holds role p b number port.after_idle (λ X a k. idle_holds role b X a k) h
-    by false = nothing_holds role p b none h
+    by : (o : Option ℕ) → (slot_at role channel b).present ≡ o → is_record n o ≡ false
+    by None f = refl
+    by (Some m) f = other (is_record n (Some m)) refl
+      where
+        other : (v : Bool) → is_record n (Some m) ≡ v → v ≡ false
+        other true is =
+            let there = h.book.own channel m f in
+            absurd (none-some there.0 (sym e ∙ ap (λ (k : ℕ). slice_get b.records k) (sym (eqb-true m n is)) ∙ there.1))
+        other false is = refl
 
-expiry_kept : (role : Role) (p : PadState) (id : TimerId) (b : Book) → p.line.notes ≡ [] → PadHolds role p b → HoldsAfter role b (pad.after_expiry p id)
-expiry_kept role p id b none h = by (runs_at p.line.end id)
+none_at : (number : ℕ) (test : ℕ → Bool) (why : AtLine → List Occasion) (p : PadState) → ((channel : ℕ) → test channel ≡ false) → at_terminal number test why p ≡ []
+none_at number test why p none = by (slice_get p.ports number)
   where
-    by : (v : Bool) → HoldsAfter role b (if v then pad.line_event (pad.with_end (after_timer (begun p.line.end) id) (pad.begun p)) else p)
-    by true =
-        line_holds role b (had_in p) (pad.with_end (after_timer (begun p.line.end) id) (pad.begun p)) refl h.ports h.alone h.calls h.book
-        (timer_tells (had_in p) (begun p.line.end) id (begun_tells role p b h)) (timer_last (begun p.line.end) id h.unread tt)
-    by false = nothing_holds role p b none h
+    met : (o : Option Call) (l : List Occasion) → (if meets test o then l else []) ≡ []
+    met None l = refl
+    met (Some call) l = ap (λ (v : Bool). if v then l else []) (none call.channel)
 
-pub timer_kept : TimerHolds
-timer_kept role p (Idle number) b none h = idle_kept role p number b none h
-timer_kept role p id b none h = expiry_kept role p id b none h
+    by : (o : Option PortState) → option_map_or (λ q. if meets test q.call then why (record { port = q; line = p.line }) else []) o [] ≡ []
+    by None = refl
+    by (Some q) = met q.call (why (record { port = q; line = p.line }))
 
--- ---- a restart, time, what is read, and the other end
+no_occasion : (event : PadEvent) (p : PadState) (test : ℕ → Bool) → ((channel : ℕ) → test channel ≡ false) → occasions_of event p test ≡ []
+no_occasion (HasKey number octet) p test none = none_at number test (by_key octet) (pad.begun p) none
+no_occasion (HasBreak number) p test none = none_at number test by_break (pad.begun p) none
+no_occasion (HasPrinting number) p test none = none_at number test by_printing (pad.begun p) none
+no_occasion (HasIdleTime number) p test none = refl
+no_occasion (HasFrame octets) p test none = refl
+no_occasion (HasExpiry id) p test none = refl
+no_occasion HasRelink p test none = refl
+no_occasion HasRestart p test none = refl
+no_occasion (HasTicks ticks) p test none = refl
 
-restarted_port : (ports : List PortState) (j : ℕ) (q : PortState) → slice_get (map port.restarted ports) j ≡ Some q → (p : PortState) × (port.restarted p ≡ q)
-restarted_port ports j q at = from (slice_get ports j) (sym (slice_get-map port.restarted ports j) ∙ at)
-  where
-    from : (o : Option PortState) → option_map port.restarted o ≡ Some q → (p : PortState) × (port.restarted p ≡ q)
-    from None f = absurd (none-some q f)
-    from (Some p) f = (p, same_Some (port.restarted p) q f)
+-- ---- an event at the PAD
 
-none_on : (ports : List PortState) (j c : ℕ) (q : PortState) (P : Type 0) → IsOn (map port.restarted ports) j c q → P
-none_on ports j c q P on =
-    let r = restarted_port ports j q on.0 in
-    absurd (true≢false (sym (ap (λ (z : PortState). has_channel z.call c) r.1 ∙ on.1)))
+-- of a kind nothing is in notes that say nothing
+mute_none : (f : PadNote → Octets) → IsKind f → (ns : List PadNote) → Every IsMuteNote ns → all_in f ns ≡ []
+mute_none f kind [] ms = refl
+mute_none f kind (notes.Told note ∷ ns) ms = ap (λ (l : Octets). l ++ all_in f ns) (kind.told note) ∙ mute_none f kind ns ms.1
+mute_none f kind (notes.Placed channel address ∷ ns) ms = ap (λ (l : Octets). l ++ all_in f ns) (kind.placed channel address) ∙ mute_none f kind ns ms.1
+mute_none f kind (notes.Accepted channel ∷ ns) ms = ap (λ (l : Octets). l ++ all_in f ns) (kind.accepted channel) ∙ mute_none f kind ns ms.1
+mute_none f kind (notes.Cleared channel ∷ ns) ms = ap (λ (l : Octets). l ++ all_in f ns) (kind.cleared channel) ∙ mute_none f kind ns ms.1
+mute_none f kind (notes.WasReset channel ∷ ns) ms = absurd ms.0
+mute_none f kind (notes.Edited channel step ∷ ns) ms = absurd ms.0
+mute_none f kind (notes.Sent channel d ∷ ns) ms = absurd ms.0
+mute_none f kind (notes.Interrupted channel octets ∷ ns) ms = absurd ms.0
+mute_none f kind (notes.Took channel taken ∷ ns) ms = absurd ms.0
 
-pub restart_kept : RestartHolds
-restart_kept role p b h = record {
-  book = narrowed role (TextOf p.ports) (TextOf (map port.restarted p.ports)) _ (λ c t x. none_on p.ports x.0 c x.1 (TextOf p.ports c t) (x.2, x.3)) (all_closed_holds role (TextOf p.ports) role b h.book);
-  read = refl;
-  unread = refl;
-  ports = λ j q at. (let r = restarted_port p.ports j q at in subst (λ (z : PortState). IsPort z) r.1 (restarted_is r.0));
-  alone = λ i j c q r e f. none_on p.ports i c q (i ≡ j) e;
-  calls = λ i c q on. none_on p.ports i c q _ on;
-}
-  where
-    restarted_is : (q : PortState) → IsPort (port.restarted q)
-    restarted_is q = record { free = λ e. refl; bare = λ e. refl; empty = λ e. refl; short = omega arith }
+module _ (event : PadEvent) (role : Role) (p : PadState) (b : Book) (os : ℕ → List Occasion) (nothing : p.line.notes ≡ []) (types : PadTypes role p b) (said : HaveSaid os role b) where
+  s : Splits role (after_event event p).line.notes
+  s = event_splits role event p nothing
 
-elapsed_back : (ticks : ℕ) (ports : List PortState) → ((j : ℕ) (q : PortState) → slice_get ports j ≡ Some q → IsPort q) → Back ports (map (port.elapsed ticks) ports)
-elapsed_back ticks ports each = record { from = λ j q at. from j q (slice_get ports j) refl (sym (slice_get-map (port.elapsed ticks) ports j) ∙ at) }
-  where
-    from : (j : ℕ) (q : PortState) (o : Option PortState) → slice_get ports j ≡ o → option_map (port.elapsed ticks) o ≡ Some q
-        → IsPort q × (p : PortState) × (slice_get ports j ≡ Some p) × ((c : ℕ) → has_channel q.call c ≡ true → (has_channel p.call c ≡ true) × (q.terminal.held ≡ p.terminal.held))
-    from j q None e f = absurd (none-some q f)
-    from j q (Some p) e f =
-        let same : port.elapsed ticks p ≡ q = same_Some (port.elapsed ticks p) q f in
-        let is : IsPort (port.elapsed ticks p) = port_same p p.terminal p.call (port.elapsed ticks p).idle_left (refl, refl) (λ n. n) (λ n. n) (each j p e) in
-        (subst (λ (z : PortState). IsPort z) same is, p, e, λ c on. (ap (λ (z : PortState). has_channel z.call c) same ∙ on, ap (λ (z : PortState). z.terminal.held) (sym same)))
+  abbrev test : ℕ → ℕ → Bool
+  test n = test_of n (side_of role b)
 
-pub time_kept : TimeHolds
-time_kept role p ticks b h =
-    let back = elapsed_back ticks p.ports h.ports in
-    let after : List PortState = map (port.elapsed ticks) p.ports in
+  -- the plain notes have all of the kind
+  of_plain : (f : PadNote → Octets) → IsKind f → all_in f s.plain ≡ all_in f (after_event event p).line.notes
+  of_plain f kind =
+      sym (append-nil (all_in f s.plain)) ∙ ap (λ (l : Octets). all_in f s.plain ++ l) (sym (mute_none f kind s.mute s.are_mute))
+      ∙ sym (all_append f s.plain s.mute) ∙ ap (λ (l : List PadNote). all_in f l) (sym s.is)
+
+  raw : AreRaw (λ n. messages_taken (os n)) (λ n. told_octets (os n)) (λ n. all_interrupts (os n)) role b
+  raw n r e own = (let h = said.said n r e own in record { messages = h.messages; told = h.told; interrupts = h.interrupts })
+
+  plain_said : HaveSaid (λ n. grown os event p role b n) role (noted role s.plain b)
+  plain_said = record {
+    said = λ n r e own.
+        let h = plain_list role s.plain s.are_plain _ _ _ b raw n r e own in
+        record {
+          messages = h.messages
+              ∙ ap (λ (l : Octets). messages_taken (os n) ++ l) (of_plain (message_in (test n)) (messages_kind (test n)) ∙ event_messages event p nothing (test n))
+              ∙ sym (messages_append (os n) (occasions_of event p (test n)));
+          told = h.told
+              ∙ ap qualified_messages (ap (λ (l : Octets). told_octets (os n) ++ l) (of_plain (told_in (test n)) (told_kind (test n)) ∙ event_told event p nothing (test n))
+              ∙ sym (octets_append (os n) (occasions_of event p (test n))));
+          interrupts = h.interrupts
+              ∙ ap (λ (l : Octets). all_interrupts (os n) ++ l) (of_plain (interrupt_in (test n)) (interrupts_kind (test n)) ∙ event_interrupts event p nothing (test n))
+              ∙ sym (interrupts_append (os n) (occasions_of event p (test n)));
+        };
+    none = λ n e.
+        let before : slice_get b.records n ≡ None = plain_none role s.plain s.are_plain b n e in
+        ap (λ (l : List Occasion). l ++ occasions_of event p (test n)) (said.none n before) ∙ no_occasion event p (test n) (λ channel. unheld role p b types n before channel);
+  }
+
+  noted_said : HaveSaid (λ n. grown os event p role b n) role (noted role (after_event event p).line.notes b)
+  noted_said =
+      subst (λ (z : Book). HaveSaid (λ n. grown os event p role b n) role z)
+      (sym (ap (λ (l : List PadNote). noted role l b) s.is ∙ noted_append role s.plain s.mute b))
+      (mute_list (λ n. grown os event p role b n) role s.mute s.are_mute (noted role s.plain b) plain_said)
+
+-- of a restart nothing is noted, and nothing is said
+restart_said : (role : Role) (p : PadState) (b : Book) (os : ℕ → List Occasion) → HaveSaid os role b → HaveSaid (λ n. grown os HasRestart p role b n) role (all_written role (writes_after HasRestart p) b)
+restart_said role p b os said =
+    let h = all_closed_said os role role b said in
     record {
-      book = narrowed role (TextOf p.ports) (TextOf after) b (text_back p.ports after back) h.book;
-      read = h.read;
-      unread = h.unread;
-      ports = λ j q at. (back.from j q at).0;
-      alone = alone_back p.ports after back h.alone;
-      calls = λ i c q on. (let r = on_back p.ports after back i c q on in h.calls i c r.0 r.1);
+      said = λ n r e own. subst (λ (l : List Occasion). HasSaid l r) (sym (append-nil (os n))) (h.said n r e own);
+      none = λ n e. append-nil (os n) ∙ h.none n e;
     }
 
+pub occasions_grow : OccasionLaw
+occasions_grow HasRestart role p b os nothing types said = restart_said role p b os said
+occasions_grow (HasKey number octet) role p b os nothing types said = noted_said (HasKey number octet) role p b os nothing types said
+occasions_grow (HasBreak number) role p b os nothing types said = noted_said (HasBreak number) role p b os nothing types said
+occasions_grow (HasIdleTime number) role p b os nothing types said = noted_said (HasIdleTime number) role p b os nothing types said
+occasions_grow (HasPrinting number) role p b os nothing types said = noted_said (HasPrinting number) role p b os nothing types said
+occasions_grow (HasFrame octets) role p b os nothing types said = noted_said (HasFrame octets) role p b os nothing types said
+occasions_grow (HasExpiry id) role p b os nothing types said = noted_said (HasExpiry id) role p b os nothing types said
+occasions_grow HasRelink role p b os nothing types said = noted_said HasRelink role p b os nothing types said
+occasions_grow (HasTicks ticks) role p b os nothing types said = noted_said (HasTicks ticks) role p b os nothing types said
+
+-- ---- what holds of the PAD and of the book
+
+-- with its notes read
+unread_types : (role : Role) (p : PadState) (b : Book) → PadTypes role p b → PadTypes role (without_notes p) b
+unread_types role p b h = record { book = h.book; read = h.read; unread = h.unread; ports = h.ports; alone = h.alone; calls = h.calls }
+
+pub sent_law : SentLaw
+sent_law role p b h n r e own = record { typed = h.typed.book.sent n r e own; occasions = h.occasions n; said = h.said.said n r e own }
+
+-- an event that begins anew, whatever is left of the last one
+begins_anew : (event : PadEvent) (role : Role) (p : PadState) (b : Book) (h : PadHolds role p b) → PadTypes role (after_event event (without_notes p)) (noted role (after_event event (without_notes p)).line.notes b)
+    → PadHolds role (after_event event (without_notes p)) (noted role (after_event event (without_notes p)).line.notes b)
+begins_anew event role p b h types = record {
+  typed = types;
+  occasions = λ n. grown h.occasions event (without_notes p) role b n;
+  said = noted_said event role (without_notes p) b h.occasions refl (unread_types role p b h.typed) h.said;
+}
+
+pub key_kept : KeyHolds
+key_kept role p number octet b h = begins_anew (HasKey number octet) role p b h (key_types role p number octet b h.typed)
+
+pub break_kept : BreakHolds
+break_kept role p number b h = begins_anew (HasBreak number) role p b h (break_types role p number b h.typed)
+
+pub print_kept : PrintHolds
+print_kept role p number b h = begins_anew (HasPrinting number) role p b h (print_types role p number b h.typed)
+
+pub frame_kept : FrameHolds
+frame_kept role p octets b h = begins_anew (HasFrame octets) role p b h (frame_types role p octets b h.typed)
+
+pub relink_kept : RelinkHolds
+relink_kept role p b h = begins_anew HasRelink role p b h (relink_types role p b h.typed)
+
+pub timer_kept : TimerHolds
+timer_kept role p id b none h = record {
+  typed = timer_types role p id b none h.typed;
+  occasions = λ n. grown h.occasions (HasExpiry id) p role b n;
+  said = noted_said (HasExpiry id) role p b h.occasions none h.typed h.said;
+}
+
+pub restart_kept : RestartHolds
+restart_kept role p b h = record { typed = restart_types role p b h.typed; occasions = h.occasions; said = all_closed_said h.occasions role role b h.said }
+
+pub time_kept : TimeHolds
+time_kept role p ticks b h = record { typed = time_types role p ticks b h.typed; occasions = h.occasions; said = h.said }
+
 pub drained_kept : DrainedHolds
-drained_kept role p b h = record { book = h.book; read = h.read; unread = h.unread; ports = h.ports; alone = h.alone; calls = h.calls }
+drained_kept role p b h = record { typed = drained_types role p b h.typed; occasions = h.occasions; said = h.said }
 
 pub far_kept : FarHolds
 far_kept role p writes b h = record {
-  book = far_written role (TextOf p.ports) writes b h.book;
-  read = h.read;
-  unread = h.unread;
-  ports = h.ports;
-  alone = h.alone;
-  calls = h.calls;
+  typed = far_types role p writes b h.typed;
+  occasions = h.occasions;
+  said = far_said h.occasions role (TextOf p.ports) writes b h.typed.book h.said;
 }
+
+-- ---- the making
+
+new_said : (role : Role) (dte_node dce_node channels : ℕ) (standing : Bool) → HaveSaid (λ n. []) role (made_book dte_node dce_node channels standing)
+new_said role dte_node dce_node channels true = record { said = λ n r e own. said n r e; none = λ n e. refl }
+  where
+    said : (n : ℕ) (r : RecordValue) → slice_get (standing_book (new_book dte_node dce_node channels)).records n ≡ Some r → HasSaid [] r
+    said zero r e = subst (λ (z : RecordValue). HasSaid [] z) (same_Some (new_record 0 dte_node None None None) r e) (record { messages = refl; told = refl; interrupts = refl })
+    said (suc zero) r e = subst (λ (z : RecordValue). HasSaid [] z) (same_Some (new_record 1 dce_node None None (Some 0)) r e) (record { messages = refl; told = refl; interrupts = refl })
+    said (suc (suc n)) r e = absurd (none-some r e)
+new_said role dte_node dce_node channels false = record { said = λ n r e own. absurd (none-some r e); none = λ n e. refl }
+
+pub made_kept : MadeHolds
+made_kept role c dte_node dce_node channels differ config = record {
+  typed = made_types role c dte_node dce_node channels differ config;
+  occasions = λ n. [];
+  said = new_said role dte_node dce_node channels c.line.standing;
+}
+
+-- ---- every list of events
+
+record Stands (role : Role) (s : Course) : Type 0 where
+  nothing : s.pad.line.notes ≡ []
+  types : PadTypes role s.pad s.book
+  said : HaveSaid s.occasions role s.book
+
+event_types : (event : PadEvent) (role : Role) (p : PadState) (b : Book) → p.line.notes ≡ [] → PadTypes role p b → PadTypes role (after_event event p) (all_written role (writes_after event p) b)
+event_types (HasKey number octet) role p b none h = key_types role p number octet b h
+event_types (HasBreak number) role p b none h = break_types role p number b h
+event_types (HasPrinting number) role p b none h = print_types role p number b h
+event_types (HasIdleTime number) role p b none h = idle_types role p number b none h
+event_types (HasFrame octets) role p b none h = frame_types role p octets b h
+event_types (HasExpiry id) role p b none h = timer_types role p id b none h
+event_types HasRelink role p b none h = relink_types role p b h
+event_types HasRestart role p b none h = restart_types role p b h
+event_types (HasTicks ticks) role p b none h =
+    subst (λ (ns : List PadNote). PadTypes role (pad.elapsed ticks p) (noted role ns b)) (sym none) (time_types role p ticks b h)
+
+stands_after : (role : Role) (h : Happening) (s : Course) → Stands role s → Stands role (happened role h s)
+stands_after role (Here event) s h = record {
+  nothing = refl;
+  types = drained_types role (after_event event s.pad) (all_written role (writes_after event s.pad) s.book) (event_types event role s.pad s.book h.nothing h.types);
+  said = occasions_grow event role s.pad s.book s.occasions h.nothing h.types h.said;
+}
+stands_after role (There writes) s h = record {
+  nothing = h.nothing;
+  types = far_types role s.pad writes s.book h.types;
+  said = far_said s.occasions role (TextOf s.pad.ports) writes s.book h.types.book h.said;
+}
+
+all_stand : (role : Role) (hs : List Happening) (s : Course) → Stands role s → Stands role (all_happened role hs s)
+all_stand role [] s h = h
+all_stand role (x ∷ xs) s h = all_stand role xs (happened role x s) (stands_after role x s h)
+
+pub course_is : CourseLaw
+course_is role c dte_node dce_node channels hs differ config n r e own =
+    let b : Book = made_book dte_node dce_node channels c.line.standing in
+    let first : Stands role (beginning c dte_node dce_node channels) = record {
+      nothing = refl;
+      types = drained_types role (made c) b (made_types role c dte_node dce_node channels differ config);
+      said = new_said role dte_node dce_node channels c.line.standing;
+    } in
+    let h = all_stand role hs (beginning c dte_node dce_node channels) first in
+    (h.types.book.sent n r e own, h.said.said n r e own)
+
+-- ---- what a PAD tells
+
+told_every : (o : Occasion) → Every IsOfPad (told_at o)
+told_every (TookMessage octets t) = by (messages.after_octets octets t).reply (octets_follow octets t)
+  where
+    by : (r : Reply) → ReplyFollows r t (messages.after_octets octets t).terminal → Every IsOfPad (answer_in r)
+    by reply.Nothing f = tt
+    by (reply.Message m) f = (f.0, tt)
+    by reply.Clear f = tt
+told_every (HadBreak params pending) = by (asks_indication params) (acts_on_break params action.Discard)
+  where
+    by : (asks discards : Bool) → Every IsOfPad (if asks then IndicationOfBreak (record { items = if discards then (8, 1) ∷ [] else [] }) ∷ [] else [])
+    by false discards = tt
+    by true true = (inr refl, tt)
+    by true false = (inl refl, tt)
+told_every HadCommand = tt
+
+pub told_of_pad : OfPadLaw
+told_of_pad [] = tt
+told_of_pad (o ∷ os) = every_append (told_at o) (all_told os) (told_every o) (told_of_pad os)
+  where
+    every_append : (xs ys : List Message) → Every IsOfPad xs → Every IsOfPad ys → Every IsOfPad (xs ++ ys)
+    every_append [] ys h k = k
+    every_append (x ∷ xs) ys h k = (h.0, every_append xs ys h.1 k)

@@ -35,7 +35,7 @@ set_other (q ∷ chs) zero (suc j) x h = refl
 set_other (q ∷ chs) (suc i) zero x h = refl
 set_other (q ∷ chs) (suc i) (suc j) x h = set_other chs i j x (λ e. h (ap suc e))
 
-nth_same : (chs : List Channel) (c : ℕ) (ch x : Channel) → nth_channel chs c ≡ Some ch → nth_channel (with_nth chs c x) c ≡ Some x
+pub nth_same : (chs : List Channel) (c : ℕ) (ch x : Channel) → nth_channel chs c ≡ Some ch → nth_channel (with_nth chs c x) c ≡ Some x
 nth_same chs zero ch x e = absurd cc
 nth_same chs (suc i) ch x e = set_same chs i ch x e
 

@@ -11,10 +11,15 @@ pub mod Modes
 pub mod Typing
 pub mod Printing
 pub mod Ports
-pub mod Holding
+pub mod Keeping
 pub mod Begins
 pub mod Owning
 pub mod Expiring
 mod Rows
 pub mod Events
 pub mod Rooms
+mod Lengths
+mod Queues
+pub mod Saying
+pub mod Spoken
+pub mod Holding

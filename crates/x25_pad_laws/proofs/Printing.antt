@@ -1,6 +1,6 @@
 -- Keys, breaks and printing at a terminal keep what holds of the PAD and of the book.
-use Rattle.std.specs.Prelude.{◌≡◌, ◌⊎◌, ℕ, Bool, true, false, if◌then◌else◌, List, [], ◌∷◌, Option, Some, None}
-use Rattle.std.proofs.Common.{refl, sym, subst, inl, inr}
+use Rattle.std.specs.Prelude.{◌≡◌, ℕ, Bool, true, false, if◌then◌else◌, List, [], ◌∷◌, Option, Some, None}
+use Rattle.std.proofs.Common.{refl, sym, subst}
 use Rattle.link_timers.specs.declared.role.Role.{Role}
 use Rattle.pad_editing.specs.Edited.{key, idle}
 use Rattle.packet_layer.specs.Packets.{Datum}
@@ -31,7 +31,6 @@ use Rattle.x25_pad.specs.Ports.{PortState, AtLine}
 use Rattle.x25_pad.specs.declared.call.Call.{Call}
 use Rattle.x25_pad.specs.declared.line.PadLine.{PadLine}
 use Rattle.x25_pad.proofs.Blocks.{key_blocks, idle_blocks}
-use Rattle.x25_pad_laws.specs.Sending.{IsOfPad}
 use Rattle.x25_pad_laws.specs.Holds.{BookHolds}
 use Rattle.x25_pad_laws.proofs.Asking.{noted, noted_append}
 use Rattle.x25_pad_laws.proofs.Layers.{call_at, request_notes}
@@ -50,41 +49,30 @@ request_follows params call t u s =
     let P : Option Request → Type 0 = λ o. Follows o t u in
     either P (acts_on_break params action.Reset) _ _ (either P call.reset_pending None (Some request.Reset) s s) (either P _ (Some request.Interrupt) None s s)
 
-abbrev IsIndication : Option Message → Type 0
-IsIndication None = Unit {0}
-IsIndication (Some m) = IsOfPad m
-
 abbrev AnswerFollows : BreakAnswer → TerminalState → TerminalState → Type 0
 AnswerFollows break_answer.Dropped t u = Same t u
-AnswerFollows (break_answer.Taken requests) t u = Follows requests.request t u × IsIndication requests.indication
-
-discards_or_not : (params : List ℕ) → (breaks.discard_pairs params ≡ []) ⊎ (breaks.discard_pairs params ≡ (8, 1) ∷ [])
-discards_or_not params =
-    either (λ (pairs : List (ℕ × ℕ)). (pairs ≡ []) ⊎ (pairs ≡ (8, 1) ∷ [])) (acts_on_break params action.Discard) ((8, 1) ∷ []) [] (inr refl) (inl refl)
-
-indication_is : (params : List ℕ) → IsIndication (breaks.indication_of params)
-indication_is params = either IsIndication (breaks.indicates params) _ None (discards_or_not params) tt
+AnswerFollows (break_answer.Taken requests) t u = Follows requests.request t u
 
 break_follows : (call : CallCondition) (t u : TerminalState) → Same t u → AnswerFollows (breaks.answer_of call t) t u
 break_follows call t u s =
     let P : BreakAnswer → Type 0 = λ answer. AnswerFollows answer t u in
     either P (breaks.is_dropped call t) _ _ s
-    (either P (is_connected t.mode) _ _ (request_follows t.settings.params call t u s, indication_is t.settings.params) (s, tt))
+    (either P (is_connected t.mode) _ _ (request_follows t.settings.params call t u s) s)
 
 module _ (role : Role) (b : Book) (Others : ℕ → List ℕ → Type 0) where
   abbrev Holds : AtLine → Type 0
   Holds a = AtHolds role b Others a
 
-  tells_any : (o : Option Message) → IsIndication o → (a : AtLine) → Holds a → Holds (port.tells o a)
-  tells_any None f a h = h
-  tells_any (Some m) f a h = tells_holds role b Others m f a h
+  tells_any : (o : Option Message) (a : AtLine) → Holds a → Holds (port.tells o a)
+  tells_any None a h = h
+  tells_any (Some m) a h = tells_holds role b Others m a h
 
   answers_hold : (answer : BreakAnswer) (a : AtLine) (u : TerminalState) → AnswerFollows answer a.port.terminal u → Holds a
       → Holds (port.answers_break answer (record { port = record { terminal = u; call = a.port.call; idle_left = a.port.idle_left }; line = a.line }))
   answers_hold break_answer.Dropped a u f h = terminal_same role b Others a u a.port.idle_left f h
   answers_hold (break_answer.Taken requests) a u f h =
-      tells_any requests.indication f.1 (port.does_asked requests.request (record { port = record { terminal = u; call = a.port.call; idle_left = a.port.idle_left }; line = a.line }))
-      (does_holds role b Others requests.request a u a.port.idle_left f.0 h)
+      tells_any requests.indication (port.does_asked requests.request (record { port = record { terminal = u; call = a.port.call; idle_left = a.port.idle_left }; line = a.line }))
+      (does_holds role b Others requests.request a u a.port.idle_left f h)
 
   pub break_holds : (a : AtLine) → Holds a → Holds (port.after_break a)
   break_holds a h =
@@ -110,7 +98,7 @@ module _ (role : Role) (b : Book) (Others : ℕ → List ℕ → Type 0) where
       → Holds (port.replies answer (record { port = record { terminal = u; call = a.port.call; idle_left = a.port.idle_left }; line = a.line }))
   replies_hold reply.Nothing a u f h = terminal_same role b Others a u a.port.idle_left f h
   replies_hold (reply.Message m) a u f h =
-      tells_holds role b Others m f.0 (record { port = record { terminal = u; call = a.port.call; idle_left = a.port.idle_left }; line = a.line })
+      tells_holds role b Others m (record { port = record { terminal = u; call = a.port.call; idle_left = a.port.idle_left }; line = a.line })
       (terminal_same role b Others a u a.port.idle_left f.1 h)
   replies_hold reply.Clear a u f h = clears_holds role b Others a u a.port.idle_left f.0 f.1 h
 

@@ -31,7 +31,6 @@ use Rattle.x25_pad.specs.Ports.{PortState, AtLine, has_channel, call_on}
 use Rattle.x25_pad.specs.declared.call.Call.{Call}
 use Rattle.x25_pad.specs.declared.line.PadLine.{PadLine}
 use Rattle.pad_records.specs.Writing.{write_of}
-use Rattle.x25_pad_laws.specs.Sending.{IsOfPad}
 use Rattle.x25_pad_laws.specs.Holds.{BookHolds, IsPort}
 use Rattle.x25_pad_laws.proofs.Asking.{noted, noted_append}
 use Rattle.x25_pad_laws.proofs.Records.{epoch_quiet, interrupt_quiet, message_quiet}
@@ -216,18 +215,18 @@ module _ (role : Role) (b : Book) (Others : ℕ → List ℕ → Type 0) where
           (λ n. absurd (none-some call (sym n ∙ e))) h.port)
           (λ c on. ap (λ (x : Option Call). has_channel x c) e ∙ on) refl
           (asked_holds call.channel (Interrupting (interrupt_octet ∷ [])) (notes.Interrupted call.channel (interrupt_octet ∷ [])) a (λ cause diagnostic x. absurd cc)
-          (λ X x k. quiet_at role X x role call.channel _ interrupt_quiet k) h)
+          (λ X x k. quiet_at role X x role call.channel _ (interrupt_quiet (interrupt_octet ∷ [])) k) h)
 
   -- ---- messages
 
-  pub tells_holds : (m : Message) → IsOfPad m → (a : AtLine) → AtHolds a → AtHolds (port.tells (Some m) a)
-  tells_holds m of_pad a h = by a.port.call
+  pub tells_holds : (m : Message) (a : AtLine) → AtHolds a → AtHolds (port.tells (Some m) a)
+  tells_holds m a h = by a.port.call
     where
       by : (o : Option Call) → AtHolds (port.on_call (port.sends (octets_of m) true) o a)
       by None = h
       by (Some call) =
           asked_holds call.channel (Sending (datum (octets_of m) true)) (notes.Sent call.channel (datum (octets_of m) true)) a (λ cause diagnostic x. absurd cc)
-          (λ X x k. quiet_at role X x role call.channel (with_sent (packet_of (datum (octets_of m) true))) (message_quiet m of_pad) k) h
+          (λ X x k. quiet_at role X x role call.channel (with_sent (packet_of (datum (octets_of m) true))) (message_quiet m) k) h
 
   -- ---- a call that is placed, from a terminal without one that holds no text
 

@@ -10,7 +10,8 @@ use Rattle.call_records.specs.Book.{Book, side_of, slot_at}
 use Rattle.pad_terminal.specs.Terminal.{has_call}
 use Rattle.x25_pad.specs.Ports.{PortState, has_channel}
 use Rattle.x25_pad.specs.Pad.{PadState}
-use Rattle.x25_pad_laws.specs.Sending.{HasSent}
+use Rattle.x25_pad_laws.specs.Occasions.{Occasion}
+use Rattle.x25_pad_laws.specs.Sending.{HasTyped, HasSaid}
 
 -- ---- the book
 
@@ -36,13 +37,13 @@ IsLeft role channel text b =
     → (edit_of r.steps).held ≡ text
 
 -- the line has two nodes, and the present calls of each have their records; each record of the PAD's node has sent
--- what a PAD sends; and the texts that are held for calls are what their steps leave
+-- what was typed; and the texts that are held for calls are what their steps leave
 pub record BookHolds (role : Role) (Text : ℕ → List ℕ → Type 0) (b : Book) : Type 0 where
   pub apart : node_at role b ≡ node_at (other_of role) b → ⊥
   pub own : HasItsRecords role b
   pub far : HasItsRecords (other_of role) b
   pub once : HasEachOnce role b
-  pub sent : (n : ℕ) (r : RecordValue) → slice_get b.records n ≡ Some r → r.node ≡ node_at role b → HasSent r
+  pub sent : (n : ℕ) (r : RecordValue) → slice_get b.records n ≡ Some r → r.node ≡ node_at role b → HasTyped r
   pub left : (channel : ℕ) (text : List ℕ) → Text channel text → IsLeft role channel text b
 
 -- ---- the terminals
@@ -67,7 +68,7 @@ TextOf ports channel text =
 
 -- ---- a PAD between two events
 
-pub record PadHolds (role : Role) (p : PadState) (b : Book) : Type 0 where
+pub record PadTypes (role : Role) (p : PadState) (b : Book) : Type 0 where
   pub book : BookHolds role (TextOf p.ports) b
   -- nothing is unread
   pub read : p.line.end.notes ≡ []
@@ -77,3 +78,15 @@ pub record PadHolds (role : Role) (p : PadState) (b : Book) : Type 0 where
   pub alone : (i j channel : ℕ) (q r : PortState) → IsOn p.ports i channel q → IsOn p.ports j channel r → i ≡ j
   pub calls : (number channel : ℕ) (q : PortState) → IsOn p.ports number channel q
       → calls.has_call (channel_of p.line.end.layer channel) ≡ true
+
+-- what each record of the PAD's node said of itself, by its number, is what these occasions ask for; a record that is
+-- not there yet has none
+pub record HaveSaid (occasions : ℕ → List Occasion) (role : Role) (b : Book) : Type 0 where
+  pub said : (n : ℕ) (r : RecordValue) → slice_get b.records n ≡ Some r → r.node ≡ node_at role b
+      → HasSaid (occasions n) r
+  pub none : (n : ℕ) → slice_get b.records n ≡ None → occasions n ≡ []
+
+pub record PadHolds (role : Role) (p : PadState) (b : Book) : Type 0 where
+  pub typed : PadTypes role p b
+  pub occasions : ℕ → List Occasion
+  pub said : HaveSaid occasions role b

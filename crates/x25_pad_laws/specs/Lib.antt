@@ -1,8 +1,10 @@
 pub mod Standing
 pub mod Clauses
+pub mod Occasions
 pub mod Sending
 pub mod Holds
 pub mod RecordClauses
+pub mod Happening
 pub mod Own
 pub mod Expiry
 pub mod Rooms

@@ -21,7 +21,7 @@ use Rattle.x25_pad_laws.specs.Holds.{PadHolds, node_at}
 
 -- ---- what it says, and the making
 
--- on each of its calls a PAD sent what its terminal typed, messages of a PAD, and the interrupts of breaks
+-- on each of its calls a PAD sent what its terminal typed, and of itself what its occasions ask for
 abbrev pub SentLaw : Type 0
 SentLaw = (role : Role) (p : PadState) (b : Book) → PadHolds role p b
     → (n : ℕ) (r : RecordValue) → slice_get b.records n ≡ Some r → r.node ≡ node_at role b → HasSent r

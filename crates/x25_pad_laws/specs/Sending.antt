@@ -1,14 +1,14 @@
--- What a PAD sends on a call: what its terminal typed, messages of X.29, and the interrupt of a break.
-use Rattle.std.specs.Prelude.{◌≡◌, ◌⊎◌, ℕ, List, [], ◌∷◌, ◌++◌, map}
-use Rattle.epochs.specs.Item.{Item, Octet, End, QualifiedOctet, QualifiedEnd, user_items}
-use Rattle.epochs.specs.Epoch.{Epoch}
+-- What a PAD sends on a call: what its terminal typed, and of itself answers, indications of break and interrupts.
+use Rattle.std.specs.Prelude.{◌≡◌, ◌⊎◌, ℕ, if◌then◌else◌, List, [], ◌∷◌, ◌++◌, map}
+use Rattle.epochs.specs.Item.{Item, Octet, End, QualifiedOctet, QualifiedEnd, DataPacket, user_items}
+use Rattle.epochs.specs.Epoch.{Epoch, TakenEpoch}
 use Rattle.pad_editing.specs.Edited.{edited}
 use Rattle.call_records.specs.Records.{RecordValue, sent_epochs}
 use Rattle.packet_laws.specs.Readable.{Every}
 use Rattle.x29_messages.specs.MessageForm.{octets_of}
 use Rattle.x29_messages.specs.declared.message.Message.{Message}
 use Rattle.x29_messages.specs.declared.message.Message.TheVariants.{ParameterIndication, IndicationOfBreak, Error}
-use Rattle.x25_pad.specs.Line.{interrupt_octet}
+use Rattle.x25_pad_laws.specs.Occasions.{Occasion, messages_taken, all_told, all_interrupts}
 
 -- ---- epochs, one after the other
 
@@ -50,13 +50,38 @@ IsOfPad (Error kind code) = Unit {0}
 IsOfPad (IndicationOfBreak pairs) = (pairs.items ≡ []) ⊎ (pairs.items ≡ (8, 1) ∷ [])
 IsOfPad _ = ⊥
 
+-- no others are told, on whatever occasions
+abbrev pub OfPadLaw : Type 0
+OfPadLaw = (occasions : List Occasion) → Every IsOfPad (all_told occasions)
+
 -- ---- a record
 
--- the user items of all epochs are, for each block that the editing rules make of the steps, its octets and an end; the
--- qualified items are messages of a PAD; and each interrupt is that of a break or of a command
+-- each packet with Q = 1 that was taken is a message
+abbrev pub qualified_octets : List DataPacket → List (List ℕ)
+qualified_octets [] = []
+qualified_octets (p ∷ ps) = (if p.qualified then p.octets ∷ [] else []) ++ qualified_octets ps
+
+abbrev pub packets_of_epochs : List TakenEpoch → List DataPacket
+packets_of_epochs [] = []
+packets_of_epochs (e ∷ es) = e.packets ++ packets_of_epochs es
+
+abbrev pub messages_read : RecordValue → List (List ℕ)
+messages_read r = qualified_octets (packets_of_epochs (r.taken_before ++ r.taken ∷ []))
+
+-- these were the occasions: the messages are those that the record took in all epochs, in order; the qualified items
+-- that it sent are what the occasions ask to be told, each message once and in order; and the interrupts that it sent
+-- are those for which they ask, one each
+pub record HasSaid (occasions : List Occasion) (r : RecordValue) : Type 0 where
+  pub messages : messages_read r ≡ messages_taken occasions
+  pub told : qualified_items (items_sent r) ≡ qualified_messages (map octets_of (all_told occasions))
+  pub interrupts : interrupts_of_epochs (sent_epochs r) ≡ all_interrupts occasions
+
+-- the user items of all epochs are, for each block that the editing rules make of the steps, its octets and an end
+abbrev pub HasTyped : RecordValue → Type 0
+HasTyped r = user_items (items_sent r) ≡ user_messages (edited r.steps)
+
+-- that is what it sent, and all
 pub record HasSent (r : RecordValue) : Type 0 where
-  pub typed : user_items (items_sent r) ≡ user_messages (edited r.steps)
-  pub told : List Message
-  pub of_pad : Every IsOfPad told
-  pub qualified : qualified_items (items_sent r) ≡ qualified_messages (map octets_of told)
-  pub interrupts : Every (λ octets. octets ≡ interrupt_octet ∷ []) (interrupts_of_epochs (sent_epochs r))
+  pub typed : HasTyped r
+  pub occasions : List Occasion
+  pub said : HasSaid occasions r

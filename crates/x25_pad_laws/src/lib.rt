@@ -3,6 +3,7 @@
 #![tactic(auto)]
 
 mod expiry;
+mod occasions;
 mod own;
 mod room;
 mod sending;
@@ -11,6 +12,7 @@ ghost use Rattle.x25_pad_laws.specs.Clauses.{KeyLaw, BreakLaw, IdleLaw, PrintLaw
 ghost use Rattle.x25_pad_laws.specs.Clauses.{RestartLaw, TimeLaw, MakingLaw};
 
 pub use expiry::pad_expiry_law;
+pub use occasions::occasion_law;
 pub use own::own_text_law;
 pub use room::pad_room_law;
 pub use sending::pad_records_law;

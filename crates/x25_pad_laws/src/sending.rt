@@ -4,10 +4,11 @@ ghost use Rattle.x25_pad_laws.specs.RecordClauses.{MadeHolds};
 
 /// The law of a PAD and of the book of its line, over definitions alone. On each call of each terminal the user items
 /// of all sent epochs, one after the other, are for each block that the editing rules make of the steps of that call
-/// its octets and an end; the qualified items are indications of parameters, errors and indications of break; and each
-/// interrupt is that of a break or of a command. Text that is held stays over a reset, and is dropped where the call
-/// ends. It holds at the making, and after each event at either end, whatever octets arrive as frames, whichever timers
-/// expire, and whatever is written at the other end (X.3; X.28 3.2, 3.3; X.29 4.4).
+/// its octets and an end; the qualified items are an answer to each message taken that asks for one, and an indication
+/// of each break that asks for one; and each interrupt is that of a break or of a command. Text that is held stays over
+/// a reset, and is dropped where the call ends. It holds at the making, and after each event at either end, whatever
+/// octets arrive as frames, whichever timers expire, and whatever is written at the other end (X.3; X.28 3.2, 3.3; X.29
+/// 4.4).
 pub fn pad_records_law()
     ensures sent { SentLaw }
     ensures made { MadeHolds }

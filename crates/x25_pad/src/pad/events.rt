@@ -1,7 +1,8 @@
 //! What the packet layer tells, and the end of an event.
-ghost use Rattle.std.specs.Prelude.{◌≡◌, ◌≤◌, ◌+◌, ◌<◌, [], ◌∷◌, None, length, drop};
+ghost use Rattle.std.specs.Prelude.{◌≡◌, ◌≤◌, ◌+◌, ◌<◌, [], ◌∷◌, ◌++◌, None, length, drop};
 ghost use Rattle.packet_layer.specs.NoteView.{note_of};
 ghost use Rattle.packet_end.specs.PacketEnd as end;
+ghost use Rattle.packet_end.specs.Sending.{EndsWhole, ending_frames};
 ghost use Rattle.packet_end.specs.Timing.{TimersAgree};
 ghost use Rattle.x25_pad.specs.Line as line;
 ghost use Rattle.x25_pad.specs.Pad as spec;
@@ -27,6 +28,8 @@ impl Pad {
         requires told { length self.old.line.end.notes ≤ TOLD_NOTES }
         requires empty { self.old.line.notes ≡ [] }
         ensures pad { self.new ≡ spec.line_event self.old }
+        ensures frames { length self.old.line.end.line.frames ≤ 1 → self.new.line.end.line.frames
+            ≡ self.old.line.end.line.frames ++ ending_frames (spec.heeded self.old).line.end }
         ensures nothing_kept_back { end.KeepsNothingBack self.new.line.end }
         ensures timers { TimersAgree self.new.line.end.layer self.new.line.end.timers }
     {
@@ -41,6 +44,7 @@ impl Pad {
         requires told { self.old.line.end.notes ≡ [] }
         requires room { length self.old.line.notes ≤ EARLY_NOTES }
         ensures pad { self.new ≡ spec.ended self.old }
+        ensures frames { EndsWhole self.old.line.end self.new.line.end }
         ensures nothing_kept_back { end.KeepsNothingBack self.new.line.end }
         ensures timers { TimersAgree self.new.line.end.layer self.new.line.end.timers }
     {

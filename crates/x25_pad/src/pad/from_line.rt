@@ -4,6 +4,7 @@ ghost use Rattle.std.specs.Bool.{OnTrue, OnFalse};
 ghost use Rattle.packet_end.specs.PacketEnd as end;
 ghost use Rattle.packet_end.specs.Timing.{TimersAgree};
 ghost use Rattle.x25_pad.specs.Pad as spec;
+ghost use Rattle.x25_pad.specs.Sending.{frames_on_frame, frames_on_relink};
 
 use crate::pad::Pad;
 use link_timers::TimerId;
@@ -12,9 +13,11 @@ use packet_end::{FrameBuf, MOST_FRAMES};
 impl Pad {
     /// Takes the octets of a received frame (X.25 2.4, 3 to 5). The terminals learn what becomes of their calls. A call
     /// that comes in is accepted for the first terminal without one, and else cleared, with cause 0 and diagnostic 0.
+    /// All frames of the event wait then: the answer and those of its end.
     pub fn on_frame(&mut self, octets: &[u8])
         ensures pad { self.new ≡ spec.after_frame self.old octets.now }
         ensures nothing_kept_back { end.KeepsNothingBack self.new.line.end }
+        ensures frames { self.new.line.end.line.frames ≡ frames_on_frame self.old octets.now }
         ensures timers { TimersAgree self.new.line.end.layer self.new.line.end.timers }
     {
         self.begin();
@@ -26,6 +29,7 @@ impl Pad {
     pub fn relink(&mut self)
         ensures pad { self.new ≡ spec.after_relink self.old }
         ensures nothing_kept_back { end.KeepsNothingBack self.new.line.end }
+        ensures frames { self.new.line.end.line.frames ≡ frames_on_relink self.old }
         ensures timers { TimersAgree self.new.line.end.layer self.new.line.end.timers }
     {
         self.begin();

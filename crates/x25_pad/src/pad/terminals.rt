@@ -4,9 +4,11 @@ ghost use Rattle.std.specs.Bool.{OnTrue};
 ghost use Rattle.arrayvec.specs.ArrayVec.{array_vec_len};
 ghost use Rattle.packet_layer.specs.TakenView.{maybe_taken};
 ghost use Rattle.packet_end.specs.PacketEnd as end;
+ghost use Rattle.packet_end.specs.Sending.{expiry_frames, ending_frames};
 ghost use Rattle.packet_end.specs.Timing.{TimersAgree};
 ghost use Rattle.x25_pad.specs.Ports as port;
 ghost use Rattle.x25_pad.specs.Pad as spec;
+ghost use Rattle.x25_pad.specs.Sending.{frames_at_terminal, frames_on_timer};
 
 use crate::answer::PadAnswer;
 use crate::note::EARLY_NOTES;
@@ -26,6 +28,8 @@ impl Pad {
         ensures pad { self.new ≡ spec.terminal_event terminal (port.after_key octet) self.old }
         ensures answer { result ≡ spec.answer_of (spec.key_taken terminal octet self.old) }
         ensures nothing_kept_back { end.KeepsNothingBack self.new.line.end }
+        ensures frames { self.new.line.end.line.frames
+            ≡ frames_at_terminal terminal (port.after_key octet) self.old }
         ensures timers { TimersAgree self.new.line.end.layer self.new.line.end.timers }
     {
         self.begin();
@@ -43,6 +47,7 @@ impl Pad {
         ensures pad { self.new ≡ spec.terminal_event terminal port.after_break self.old }
         ensures answer { result ≡ spec.answer_of (spec.break_taken terminal self.old) }
         ensures nothing_kept_back { end.KeepsNothingBack self.new.line.end }
+        ensures frames { self.new.line.end.line.frames ≡ frames_at_terminal terminal port.after_break self.old }
         ensures timers { TimersAgree self.new.line.end.layer self.new.line.end.timers }
     {
         self.begin();
@@ -84,6 +89,8 @@ impl Pad {
         ensures answer { result ≡ spec.answer_of (spec.idle_taken terminal self.old) }
         ensures nothing_kept_back { spec.runs_idle_timer terminal self.old ≡ true →
             end.KeepsNothingBack self.new.line.end }
+        ensures frames { spec.runs_idle_timer terminal self.old ≡ true →
+            self.new.line.end.line.frames ≡ frames_at_terminal terminal port.after_idle self.old }
     {
         if !self.runs_idle_timer(terminal) {
             return PadAnswer::Taken;
@@ -130,6 +137,7 @@ impl Pad {
         ensures taken { maybe_taken result ≡ spec.print_taken terminal self.old }
         ensures text { out.new.items ≡ out.old.items ++ spec.print_text terminal self.old }
         ensures nothing_kept_back { end.KeepsNothingBack self.new.line.end }
+        ensures frames { self.new.line.end.line.frames ≡ frames_at_terminal terminal port.after_print self.old }
         ensures timers { TimersAgree self.new.line.end.layer self.new.line.end.timers }
     {
         self.begin();
@@ -158,6 +166,7 @@ impl Pad {
         ensures ran { result ≡ spec.runs_at self.old id }
         ensures pad { self.new ≡ spec.after_timer self.old id }
         ensures nothing_kept_back { OnTrue result (end.KeepsNothingBack self.new.line.end) }
+        ensures frames { OnTrue result (self.new.line.end.line.frames ≡ frames_on_timer self.old id) }
     {
         match id {
             TimerId::Idle(terminal) => {
@@ -171,11 +180,13 @@ impl Pad {
         }
     }
 
-    // An expiry of a timer of the line.
+    // An expiry of a timer of the line. All frames of the event wait then: those of the expiry and of its end.
     fn on_line_timer(&mut self, id: TimerId) -> bool
         ensures ran { result ≡ end.runs_at self.old.line.end id }
         ensures pad { self.new ≡ spec.after_expiry self.old id }
         ensures nothing_kept_back { OnTrue result (end.KeepsNothingBack self.new.line.end) }
+        ensures frames { OnTrue result (self.new.line.end.line.frames ≡ expiry_frames id self.old.line.end
+            ++ ending_frames (spec.heeded (spec.with_expiry self.old id)).line.end) }
     {
         if !self.line.end.is_running(id) {
             return false;

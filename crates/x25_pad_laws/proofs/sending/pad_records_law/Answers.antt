@@ -1,7 +1,6 @@
 -- The law of what a PAD sends on its calls.
 use Rattle.x25_pad_laws.proofs.Holding.{sent_law, key_kept, break_kept, print_kept, frame_kept, timer_kept, relink_kept}
-use Rattle.x25_pad_laws.proofs.Holding.{restart_kept, time_kept, drained_kept, far_kept}
-use Rattle.x25_pad_laws.proofs.Begins.{made_kept}
+use Rattle.x25_pad_laws.proofs.Holding.{restart_kept, time_kept, drained_kept, far_kept, made_kept}
 use Rattle.x25_pad_laws.proofs.sending.pad_records_law.Goals as goal
 
 pub returns : goal.returns
