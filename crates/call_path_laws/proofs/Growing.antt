@@ -104,6 +104,7 @@ module _ (plan : Plan) (os : List Origin) (js : List Join) (ps : List Origin) (k
     to_switch = j.to_switch;
     placed = j.placed;
     one_switch = j.one_switch;
+    not_back = j.not_back;
     order = j.order;
   }
 

@@ -87,7 +87,7 @@ module _ (plan : Plan) (w : World) (s : Seen plan w) where
   register_less line less = subst (λ (n : ℕ). line < n) (sym s.lines) less
 
   -- a call that came in at a switch
-  incoming : (from to : ChannelEnd) (m : MayJoin plan from to w) → joining.Incoming plan w.joins w.origins m.came_in (holder_of from w.register) (plan.node to.line to.role)
+  incoming : (from to : ChannelEnd) (m : MayJoin plan from to w) → joining.Incoming plan w.joins w.origins m.came_in (holder_of from w.register) to.line to.role
   incoming from to m =
       let side : SideIsSeen plan w.origins w.joins from.line from.role (side_of from.role (book_at from.line w.register)) (side_of from.role (book_at from.line w.whole)) =
       s.sides from.line from.role m.from_end.there in
@@ -101,6 +101,7 @@ module _ (plan : Plan) (w : World) (s : Seen plan w) where
         came = m.came;
         switch = m.from_end.switch;
         node = m.one_switch;
+        not_back = m.not_back;
         begins = subst (λ (o : Option ℕ). BeginsIf plan w.origins w.joins (holder_of from w.register) o) m.last (far.slot from.channel).placed;
         first = λ c j. m.first j.place (record { came_in = m.came_in; placed = c }) j.there refl;
       }

@@ -3,6 +3,7 @@ use Rattle.std.proofs.Common.{◌≡◌, ℕ, ◌<◌, ◌⊎◌, inl, inr, Bool
 use Rattle.std.specs.Prelude.{slice_get}
 use Rattle.std.proofs.lemmas.Option.{none-some, slice_get_within}
 use Rattle.link_timers.specs.declared.role.Role.{Role}
+use Rattle.link_timers.specs.Role.{other_of}
 use Rattle.call_records.specs.Records.{RecordValue, new_record}
 use Rattle.call_records.specs.Book.{Book, Slot, side_of, slot_at, with_record, address_of, calling_from, places_from}
 use Rattle.call_records.specs.Register.{holds}
@@ -82,13 +83,14 @@ right_joined plan js line x a b n h = record {
 }
 
 -- what came in and is joined: at a switch's end, from the record at whose way's beginning the holder is
-pub record Incoming (plan : Plan) (js : List Join) (os : List Origin) (a : ℕ) (holder : Option ℕ) (switch_node : ℕ) : Type 0 where
+pub record Incoming (plan : Plan) (js : List Join) (os : List Origin) (a : ℕ) (holder : Option ℕ) (line : ℕ) (role : Role) : Type 0 where
   pub caller : ℕ
   pub origin : Origin
   pub there : slice_get os a ≡ Some origin
   pub came : origin.caller ≡ Some caller
   pub switch : plan.has_user origin.line origin.role ≡ false
-  pub node : plan.node origin.line origin.role ≡ switch_node
+  pub node : plan.node origin.line origin.role ≡ plan.node line role
+  pub not_back : plan.has_user origin.line (other_of origin.role) ≡ false → origin.line ≡ line → ⊥
   pub begins : BeginsIf plan os js holder (Some caller)
   pub first : (c : ℕ) → IsJoined js a c → ⊥
 
@@ -98,7 +100,7 @@ pub record Joins (plan : Plan) (js : List Join) (line : ℕ) (x : Beside) (ks : 
   pub extends : Extends plan x.origins js os ks
 
 module _ (plan : Plan) (js : List Join) (line : ℕ) (role : Role) (switch : plan.has_user line role ≡ false) where
-  onward_begins : (os ps : List Origin) (a b : ℕ) (o : Option ℕ) (i : Incoming plan js os a o (plan.node line role)) → Extends plan os js ps (with_new js a b)
+  onward_begins : (os ps : List Origin) (a b : ℕ) (o : Option ℕ) (i : Incoming plan js os a o line role) → Extends plan os js ps (with_new js a b)
       → BeginsIf plan ps (with_new js a b) o (Some b)
   onward_begins os ps a b o i more = by_holder o i.begins where
     by_holder : (p : Option ℕ) → BeginsIf plan os js p (Some i.caller) → BeginsIf plan ps (with_new js a b) p (Some b)
@@ -112,7 +114,7 @@ module _ (plan : Plan) (js : List Join) (line : ℕ) (role : Role) (switch : pla
               (record { place = length js; there = get_last js (record { came_in = a; placed = b }) });
         }
 
-  pub joins : (x : Beside) (c a : ℕ) (calling called : List ℕ) (holder : Option ℕ) → IsRight plan js line x → Incoming plan js x.origins a holder (plan.node line role)
+  pub joins : (x : Beside) (c a : ℕ) (calling called : List ℕ) (holder : Option ℕ) → IsRight plan js line x → Incoming plan js x.origins a holder line role
       → Joins plan js line x (with_new js a (length x.whole.records)) (x.origins ++ placing line role ∷ [])
       (holds role c holder x.seen) (places_from role c calling called x.whole)
   joins x c a calling called holder h i =
@@ -136,6 +138,7 @@ module _ (plan : Plan) (js : List Join) (line : ℕ) (role : Role) (switch : pla
           to_switch = switch;
           placed = refl;
           one_switch = i.node;
+          not_back = i.not_back;
           order = omega arith;
         };
         first = i.first;

@@ -28,3 +28,7 @@ pub mod Moves
 pub mod Heading
 pub mod OwnAddresses
 pub mod Forwarding
+mod Above
+pub mod Path
+pub mod TrunkRunning
+pub mod TrunkHolding

@@ -4,7 +4,7 @@ use Rattle.std.specs.Prelude.{slice_get, take}
 use Rattle.std.proofs.lemmas.Option.{same_Some}
 use Rattle.call_records.specs.Records.{RecordValue, PairValue}
 use Rattle.book_laws.specs.Rest.{TookAll, NothingMissing}
-use Rattle.call_path_laws.specs.World.{World, Event, Join, after_event, after_all, made_world, MayAll}
+use Rattle.call_path_laws.specs.World.{World, Plan, Event, Join, after_event, after_all, made_world, MayAll}
 use Rattle.call_path_laws.specs.Seen.{Seen}
 use Rattle.call_path_laws.specs.Rest.{HasHandedAll, HaveHandedAll}
 use Rattle.call_path_laws.specs.Run.{plan, lines, events, first_call, still_open, OpenRunLaw}
@@ -23,27 +23,27 @@ may_front (suc n) (e ∷ es) w may = (may.0, may_front n es (after_event e w) ma
 may_first_call : MayAll plan (first_call []) (made_world lines)
 may_first_call = may_front 37 events (made_world lines) may_all
 
-seen_after : (es : List Event) (w : World) → MayAll plan es w → Seen plan w → Seen plan (after_all es w)
-seen_after [] w may seen = seen
-seen_after (e ∷ es) w may seen = seen_after es (after_event e w) may.1 (happens plan e w may.0 seen)
+pub seen_after : (of : Plan) (es : List Event) (w : World) → MayAll of es w → Seen of w → Seen of (after_all es w)
+seen_after of [] w may seen = seen
+seen_after of (e ∷ es) w may seen = seen_after of es (after_event e w) may.1 (happens of e w may.0 seen)
 
 -- ---- nothing is missing on the lines
 
-abbrev TookBoth : PairValue → Type 0
-TookBoth pair = (caller callee : RecordValue) → slice_get still_open.whole.records pair.caller ≡ Some caller
-    → slice_get still_open.whole.records pair.callee ≡ Some callee → TookAll caller callee × TookAll callee caller
+abbrev pub TookBoth : World → PairValue → Type 0
+TookBoth w pair = (caller callee : RecordValue) → slice_get w.whole.records pair.caller ≡ Some caller
+    → slice_get w.whole.records pair.callee ≡ Some callee → TookAll caller callee × TookAll callee caller
 
-took : (n m : ℕ) (r q : RecordValue) → slice_get still_open.whole.records n ≡ Some r → slice_get still_open.whole.records m ≡ Some q
-    → TookAll r q × TookAll q r → TookBoth (record { caller = n; callee = m })
-took n m r q here there both caller callee at far =
+pub took : (w : World) (n m : ℕ) (r q : RecordValue) → slice_get w.whole.records n ≡ Some r → slice_get w.whole.records m ≡ Some q
+    → TookAll r q × TookAll q r → TookBoth w (record { caller = n; callee = m })
+took w n m r q here there both caller callee at far =
     subst (λ (x : RecordValue). TookAll x callee × TookAll callee x) (same_Some r caller (sym here ∙ at))
     (subst (λ (x : RecordValue). TookAll r x × TookAll x r) (same_Some q callee (sym there ∙ far)) both)
 
 missing : NothingMissing still_open.whole.records still_open.whole.pairs
 missing i pair caller callee at here there caller_open callee_open =
-    each (λ i (p : PairValue). TookBoth p) still_open.whole.pairs (
-      took 2 3 _ _ refl refl (refl, refl),
-      (took 0 1 _ _ refl refl (refl, refl), tt),
+    each (λ i (p : PairValue). TookBoth still_open p) still_open.whole.pairs (
+      took still_open 2 3 _ _ refl refl (refl, refl),
+      (took still_open 0 1 _ _ refl refl (refl, refl), tt),
     )
     i pair at caller callee here there
 
@@ -72,7 +72,7 @@ handed a b x i pair callee came j at caller there callee_open =
 pub run_rests : OpenRunLaw
 run_rests = record {
   may = may_first_call;
-  seen = seen_after (first_call []) (made_world lines) may_first_call (made_seen plan lines (refl, (refl, (refl, (refl, (refl, (refl, tt)))))));
+  seen = seen_after plan (first_call []) (made_world lines) may_first_call (made_seen plan lines (refl, (refl, (refl, (refl, (refl, (refl, tt)))))));
   missing = missing;
   handed = handed;
   pairs = refl;

@@ -8,3 +8,5 @@ pub mod Lines
 pub mod Ends
 pub mod OwnAddresses
 pub mod Rest
+pub mod Tree
+pub mod TrunkRun

@@ -120,7 +120,8 @@ pub record SideIsSeen (plan : Plan) (origins : List Origin) (joins : List Join) 
 
 -- ---- records and pairs
 
--- the record of a switch's end that is joined came in there, and the other one was placed there
+-- the record of a switch's end that is joined came in there, and the other one was placed there, not back on a line on
+-- which the call came from a switch
 pub record JoinIsSeen (plan : Plan) (origins : List Origin) (a b : ℕ) : Type 0 where
   pub from : Origin
   pub from_there : slice_get origins a ≡ Some from
@@ -130,6 +131,7 @@ pub record JoinIsSeen (plan : Plan) (origins : List Origin) (a b : ℕ) : Type 0
   pub to_switch : plan.has_user to.line to.role ≡ false
   pub placed : to.caller ≡ None
   pub one_switch : plan.node from.line from.role ≡ plan.node to.line to.role
+  pub not_back : plan.has_user from.line (other_of from.role) ≡ false → from.line ≡ to.line → ⊥
   pub order : a < b
 
 pub record RecordsAreSeen (plan : Plan) (origins : List Origin) (joins : List Join) (seen whole : List RecordValue)

@@ -146,7 +146,8 @@ pub record IsSwitchEnd (plan : Plan) (line : ℕ) (role : Role) (w : World) : Ty
   pub there : line < length w.whole.lines
   pub switch : plan.has_user line role ≡ false
 
--- a switch joins a call as it comes in: the end that placed it placed none since, and no join has it yet
+-- a switch joins a call as it comes in: the end that placed it placed none since, no join has it yet, and no other
+-- record came in from the same one; a call that came from a switch does not go back on the line on which it came
 pub record MayJoin (plan : Plan) (from to : ChannelEnd) (w : World) : Type 0 where
   pub from_end : IsSwitchEnd plan from.line from.role w
   pub to_end : IsSwitchEnd plan to.line to.role w
@@ -157,6 +158,8 @@ pub record MayJoin (plan : Plan) (from to : ChannelEnd) (w : World) : Type 0 whe
   pub came : (slot_at from.role from.channel (book_at from.line w.whole)).caller ≡ Some caller
   pub last : (slot_at (other_of from.role) from.channel (book_at from.line w.whole)).placed ≡ Some caller
   pub first : (k : ℕ) (j : Join) → slice_get w.joins k ≡ Some j → j.came_in ≡ came_in → ⊥
+  pub alone : (a : ℕ) (o : Origin) → slice_get w.origins a ≡ Some o → o.caller ≡ Some caller → a ≡ came_in
+  pub not_back : plan.has_user from.line (other_of from.role) ≡ false → from.line ≡ to.line → ⊥
 
 abbrev pub MayHappen : Plan → Event → World → Type 0
 MayHappen plan (Writes line role writes) w = (line < length w.whole.lines) × (plan.has_user line role ≡ true)

@@ -9,6 +9,8 @@ ghost use Rattle.call_path_laws.specs.Lines.{MadeLinesLaw, TraceLaw, LinesLaw, W
 ghost use Rattle.call_path_laws.specs.OwnAddresses.{MadeOwnLaw, WriteOwnLaw, HandedOwnLaw, OwnRun};
 ghost use Rattle.call_path_laws.specs.Rest.{RestLaw};
 ghost use Rattle.call_path_laws.specs.Run.{RunLaw, OpenRunLaw};
+ghost use Rattle.call_path_laws.specs.Tree.{HopsLaw, RoomLaw};
+ghost use Rattle.call_path_laws.specs.TrunkRun.{TrunkRunLaw};
 
 /// The law of calls through switches, over definitions alone: beside the register stands a whole one, which has a
 /// record of each leg of each switch too, and whatever happens, the register has what the whole one has of the ends
@@ -86,4 +88,18 @@ pub fn lines_law()
 pub fn run_law()
     ensures whole { RunLaw }
     ensures before_the_clear { OpenRunLaw }
+{}
+
+/// In a tree of switches a way has at most 16 hops, one for each switch; so if a switch may join a call, there is room for
+/// its hop in the path.
+pub fn tree_law()
+    ensures hops { HopsLaw }
+    ensures room { RoomLaw }
+{}
+
+/// A run of two hosts with two switches between them and a trunk between the switches, by computation: a call there and
+/// one back, over two joins each, meet what the laws ask for, with a message sent with D = 1 and confirmed from end to
+/// end, and with a reset while a message is on the trunk. The switches are a tree.
+pub fn trunk_run_law()
+    ensures { TrunkRunLaw }
 {}

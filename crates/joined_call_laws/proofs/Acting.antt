@@ -60,7 +60,7 @@ use Rattle.joined_call_laws.specs.Calls.{JoinedCall, present_at, books_by, books
 use Rattle.joined_call_laws.proofs.Steady.{HavePlaces, shape, Same, Mutual, switch_mutual, books_rest, every_map, ended_same, calls_same, steadies_same, steadies_none, accept_same, IsPlain, plains_steady}
 use Rattle.joined_call_laws.proofs.Walking.{Beside, beside_step, there_step, there_steps, Leads, leads_then, Walked, walked_then, walked_quiet}
 use Rattle.switch_record_laws.proofs.Calming.{addresses}
-use Rattle.joined_call_laws.proofs.Following.{addresses_led, CameIn, KeptQuietly, KeptSending, KeptAccepting, KeptJoining, And, WrittenIn, step_quiet, steady_keep, last_written, noted_accepts, Answered, lines_answered, lines_connected}
+use Rattle.joined_call_laws.proofs.Following.{addresses_led, CameIn, KeptQuietly, KeptSending, KeptAccepting, KeptJoining, And, WrittenIn, step_quiet, steady_keep, last_written, noted_accepts, Answered, lines_answered, lines_once, lines_connected}
 use Rattle.switch_laws.specs.Pairs.{IsNoted}
 use Rattle.switch_record_laws.specs.Opened.{HasSlot}
 use Rattle.switch_record_laws.specs.Kept.{Partners, AreKept}
@@ -541,6 +541,7 @@ module _ (routes : RouteMap) (n : ℕ) (what : Happening) (ls : List SwitchLine)
               there = k.there;
               own = k.own;
               far = k.far;
+              alone = λ m e. lines_once ps bs1 ms (at n d) y.0 lines_kept y.1 m k.number c.0 e (k.recorded ∙ ap (λ (o : Option ℕ). Some o) (sym k.caller ∙ c.1));
             }
 
         -- a call that is connected is accepted where it came from

@@ -1,5 +1,5 @@
 -- A call that is over on one leg is cleared on the other one: its two records rest, and have what was handed on.
-use Rattle.std.specs.Prelude.{◌≡◌, ◌≢◌, ℕ, zero, suc, ◌⊎◌, Bool, true, false, not, ◌==◌, if◌then◌else◌, List, [], ◌∷◌, ◌++◌, slice_get, Option, Some, None, is_some}
+use Rattle.std.specs.Prelude.{◌≡◌, ◌≢◌, ℕ, zero, suc, ◌⊎◌, Bool, true, false, not, ◌==◌, if◌then◌else◌, List, [], ◌∷◌, ◌++◌, map, slice_get, Option, Some, None, is_some}
 use Rattle.std.proofs.Common.{inl, inr, refl, sym, ap, ap₂, subst, ◌∙◌, true≢false}
 use Rattle.std.proofs.lemmas.Option.{none-some}
 use Rattle.std.proofs.lemmas.Bool.{eqb-true, eq-eqb}
@@ -31,7 +31,7 @@ use Rattle.switch_record_laws.proofs.Cells.{Touches, touches_none, touches_close
 use Rattle.book_laws.proofs.Basics.{number_is}
 use Rattle.joined_call_laws.specs.Calls.{present_at, books_by}
 use Rattle.joined_call_laws.proofs.Steady.{books_rest}
-use Rattle.joined_call_laws.proofs.Following.{CameIn}
+use Rattle.joined_call_laws.proofs.Following.{callers_in, CameIn}
 use Rattle.joined_call_laws.proofs.Walking.{Beside}
 
 -- ---- a record that closes keeps its epochs
@@ -272,6 +272,36 @@ cleared_slot cause diagnostic y q x ls bs f =
           ∙ line_slot cause diagnostic y x.channel q (slice_get (layers_of ls) x.line) (bs x.line) (λ e. h.1)
     ]
 
+-- no record changes whom it came from
+callers_closed : (rs : List RecordValue) (n : ℕ) → map (λ r. r.caller) (changed_at n with_closed rs) ≡ map (λ r. r.caller) rs
+callers_closed [] n = refl
+callers_closed (r ∷ rs) zero = refl
+callers_closed (r ∷ rs) (suc n) = ap (λ (cs : List (Option ℕ)). r.caller ∷ cs) (callers_closed rs n)
+
+callers_change : (o : Option ℕ) (b : Book) → callers_in (with_change o with_closed b) ≡ callers_in b
+callers_change None b = refl
+callers_change (Some n) b = callers_closed b.records n
+
+clear_callers : (d : ℕ) (b : Book) → callers_in (closes Dce d b) ≡ callers_in b
+clear_callers d b =
+    ap (λ (rs : List RecordValue). map (λ r. r.caller) rs) (slot_records Dce d (record (slot_at Dce d b) { present = None; caller = None }) (changed Dce d with_closed b))
+    ∙ callers_change (slot_at Dce d b).present b
+
+refused_callers : (d : ℕ) (o : Option Refusal) (b : Book) → callers_in (unless_refused o (closes Dce d b) b) ≡ callers_in b
+refused_callers d None b = clear_callers d b
+refused_callers d (Some r) b = refl
+
+line_callers : (cause diagnostic : ℕ) (q : SwitchChannel) (o : Option Layer) (b : Book) → callers_in (writes_at (Clears cause diagnostic q) o b) ≡ callers_in b
+line_callers cause diagnostic q None b = refl
+line_callers cause diagnostic q (Some l) b = refused_callers q.channel (request_refusal l q.channel (Clearing cause diagnostic)) b
+
+cleared_callers : (cause diagnostic : ℕ) (q : SwitchChannel) (n : ℕ) (ls : List SwitchLine) (bs : Books) → callers_in (books_by (Asks q (Clearing cause diagnostic)) ls bs n) ≡ callers_in (bs n)
+cleared_callers cause diagnostic q n ls bs = by_test (n == q.line)
+  where
+    by_test : (v : Bool) → callers_in (if v then writes_at (Clears cause diagnostic q) (slice_get (layers_of ls) n) (bs n) else bs n) ≡ callers_in (bs n)
+    by_test true = line_callers cause diagnostic q (slice_get (layers_of ls) n) (bs n)
+    by_test false = refl
+
 pub came_stays : (cause diagnostic : ℕ) (q x : SwitchChannel) (parts : CallParts) (ls : List SwitchLine) (bs : Books) → same_place x q ≡ false → AreApart (bs q.line) → CameIn x parts bs → CameIn x parts (books_by (Asks q (Clearing cause diagnostic)) ls bs)
 came_stays cause diagnostic q x parts ls bs f a i = record {
   number = i.number;
@@ -283,4 +313,5 @@ came_stays cause diagnostic q x parts ls bs f a i = record {
   there = elsewhere q x i.number i.it bs (books_by (Asks q (Clearing cause diagnostic)) ls bs) f (clear_touches cause diagnostic q ls bs) a i.there (inr i.present);
   own = i.own;
   far = i.far;
+  alone = λ m e. i.alone m (ap (λ (cs : List (Option ℕ)). slice_get cs m) (sym (cleared_callers cause diagnostic q x.line ls bs)) ∙ e);
 }

@@ -22,8 +22,10 @@ use Rattle.packet_end.specs.PacketEnd.{PacketEnd, runs_at, with_next}
 use Rattle.address_routes.specs.Routes.{RouteMap, line_for}
 use Rattle.call_records.specs.Records.{RecordValue, PairValue, new_record, with_covered, with_epoch}
 use Rattle.call_records.specs.Book.{Book, Slot, side_of, slot_at, told, all_told, address_of, closes, with_record}
-use Rattle.book_laws.specs.Told.{World, Move, after_move, after_all}
-use Rattle.book_laws.specs.Headline.{IsIn, IsPaired, HasCallee, AreAnswered}
+use Rattle.book_laws.specs.Told.{World, Move, after_move, after_all, all_callers, made_callers}
+use Rattle.book_laws.specs.Headline.{IsIn, IsPaired, HasCallee, AreAnswered, CallsHold}
+use Rattle.book_laws.proofs.Basics.{get_last}
+use Rattle.book_laws.proofs.BookHolds.{calls_hold, callers_recorded}
 use Rattle.book_laws.proofs.Answered.{are_answered}
 use Rattle.packet_laws.specs.Line as layers
 use Rattle.packet_laws.specs.Line.{Event as layer_event}
@@ -52,7 +54,7 @@ use Rattle.switch_laws.proofs.Outcomes.{AreOf}
 use Rattle.switch_laws.proofs.SettingUp.{IsFreePlace}
 use Rattle.switch_record_laws.specs.Opened.{HasSlot}
 use Rattle.switch_record_laws.specs.Written.{Books, books_after_all}
-use Rattle.switch_record_laws.proofs.Cells.{Touches, touches_closed, changes}
+use Rattle.switch_record_laws.proofs.Cells.{Touches, touches_closed, changes, slot_records}
 use Rattle.switch_record_laws.proofs.Heads.{comes_opens}
 use Rattle.joined_call_laws.specs.Calls.{JoinedCall, present_at, books_by, books_by_all, AreCalls}
 use Rattle.joined_call_laws.proofs.Steady.{OnJoined, IsSteady, AreSteady, Mutual, mutual_stays, steady_same, calls_same}
@@ -60,8 +62,12 @@ use Rattle.joined_call_laws.proofs.Walking.{Beside, there_step}
 
 -- ---- a call that came in, as it is joined
 
+-- the caller of each record of a book
+abbrev pub callers_in : Book → List (Option ℕ)
+callers_in b = map (λ r. r.caller) b.records
+
 -- its record is the present one, and that of the end that placed it is the last that this end placed there; it has the
--- addresses of the call
+-- addresses of the call, and no other record came from the same one
 pub record CameIn (p : SwitchChannel) (parts : CallParts) (bs : Books) : Type 0 where
   pub number : ℕ
   pub caller : ℕ
@@ -72,6 +78,7 @@ pub record CameIn (p : SwitchChannel) (parts : CallParts) (bs : Books) : Type 0 
   pub there : slice_get (bs p.line).records number ≡ Some it
   pub own : it.own ≡ address_of parts.called
   pub far : it.far ≡ address_of parts.calling
+  pub alone : (m : ℕ) → slice_get (callers_in (bs p.line)) m ≡ Some (Some caller) → m ≡ number
 
 -- the calls before it, and the two channels
 pub record Joining (routes : RouteMap) (given : List (List ℕ)) (p q : SwitchChannel) (parts : CallParts) (ls : List SwitchLine) (bs : Books) (cs : List JoinedCall) : Type 0 where
@@ -261,6 +268,7 @@ pub record WrittenIn (d : ℕ) (parts : CallParts) (b : Book) : Type 0 where
   pub number : ℕ
   pub present : (slot_at Dce d b).present ≡ Some number
   pub caller : (slot_at Dce d b).caller ≡ (slot_at Dte d b).placed
+  pub recorded : slice_get (callers_in b) number ≡ Some (slot_at Dte d b).placed
   pub it : RecordValue
   pub there : slice_get b.records number ≡ Some it
   pub own : it.own ≡ address_of parts.called
@@ -272,16 +280,19 @@ has_slot b b' d c t h = (h.0, subst (λ (n : ℕ). d ≤ n) (sym (t.size Dce)) h
 incoming_written : (d : ℕ) (parts : CallParts) (b : Book) → HasSlot d b → WrittenIn d parts (told Dce (Incoming d parts) b)
 incoming_written d parts b h =
     let o = comes_opens d parts b h in
+    let z : Slot = record { present = Some (length b.records); placed = (slot_at Dce d b).placed; caller = (slot_at Dte d b).placed } in
+    let r : RecordValue = new_record (length b.records) (side_of Dce b).node (address_of parts.called) (address_of parts.calling) (slot_at Dte d b).placed in
+    let there : slice_get (told Dce (Incoming d parts) b).records (length b.records) ≡ Some r =
+    ap (λ (rs : List RecordValue). slice_get rs (length b.records)) (slot_records Dce d z (with_record r b)) ∙ get_last b.records r in
     record {
       number = length b.records;
       present = o.present;
-      caller =
-          ap (λ (s : Slot). s.caller)
-          (slot_here Dce d (record { present = Some (length b.records); placed = (slot_at Dce d b).placed; caller = (slot_at Dte d b).placed }) (with_record (new_record (length b.records) (side_of Dce b).node (address_of parts.called) (address_of parts.calling) (slot_at Dte d b).placed) b) h.0 h.1);
-      it = o.it;
-      there = o.there;
-      own = o.own_is;
-      far = o.far_is;
+      caller = ap (λ (s : Slot). s.caller) (slot_here Dce d z (with_record r b) h.0 h.1);
+      recorded = get_map (λ (x : RecordValue). x.caller) (told Dce (Incoming d parts) b).records (length b.records) ∙ ap (λ (x : Option RecordValue). option_map (λ y. y.caller) x) there;
+      it = r;
+      there = there;
+      own = refl;
+      far = refl;
     }
 
 pub last_written : (d : ℕ) (role : Role) (s : CallState) (parts : CallParts) (ns : List Note) (b : Book) → AreOf d role s ns → IsNoted ns d parts → HasSlot d b → WrittenIn d parts (all_told Dce ns b)
@@ -318,6 +329,22 @@ kept_answered s b l c ch k e may =
     let a : AreAnswered (after_all k.moves (beginning s)) =
     are_answered s.dte_node s.dce_node s.dte.channels s.dte.window s.dte.standing k.setting.dte.layer.channels_least k.setting.dte.layer.window_most k.moves k.allowed in
     subst (λ (x : Book). is_some (slot_at Dce c x).caller ≡ true) k.book (a.came Dce c ch (ap (λ (y : Layer). channel_of y c) k.joint.yours.layer ∙ e) may)
+
+-- no two records came in from the same one
+kept_once : (s : Setting) (b : Book) (l : Line) → Kept s b l → (m n x : ℕ) → slice_get (callers_in b) m ≡ Some (Some x) → slice_get (callers_in b) n ≡ Some (Some x) → m ≡ n
+kept_once s b l k m n x = subst (λ (y : Book). slice_get (callers_in y) m ≡ Some (Some x) → slice_get (callers_in y) n ≡ Some (Some x) → m ≡ n) k.book once
+  where
+    w : World
+    w = after_all k.moves (beginning s)
+
+    are : callers_in w.book ≡ all_callers k.moves (beginning s) (made_callers s.dte.standing)
+    are = callers_recorded s.dte_node s.dce_node s.dte.channels s.dte.window s.dte.standing k.setting.dte.layer.channels_least k.setting.dte.layer.window_most k.moves k.allowed
+
+    calls : CallsHold w.book (all_callers k.moves (beginning s) (made_callers s.dte.standing))
+    calls = calls_hold s.dte_node s.dce_node s.dte.channels s.dte.window s.dte.standing k.setting.dte.layer.channels_least k.setting.dte.layer.window_most k.moves k.allowed
+
+    once : slice_get (callers_in w.book) m ≡ Some (Some x) → slice_get (callers_in w.book) n ≡ Some (Some x) → m ≡ n
+    once e f = calls.once m n x (ap (λ (cs : List (Option ℕ)). slice_get cs m) (sym are) ∙ e) (ap (λ (cs : List (Option ℕ)). slice_get cs n) (sym are) ∙ f)
 
 -- the present record of a channel, in a pair
 pub record Answered (c : ℕ) (b : Book) : Type 0 where
@@ -429,6 +456,11 @@ lines_answered ps bs ls x shown k e may =
     let kept = k x.line o.line o.there in
     let dce = kept_dce (ps x.line).setting (bs x.line) (line_with (ps x.line) o.line.end) kept in
     kept_answered (ps x.line).setting (bs x.line) (line_with (ps x.line) o.line.end) x.channel shown.channel kept o.channel (ap (λ (r : Role). may_accept r shown.channel.state) (sym dce ∙ o.role) ∙ may)
+
+pub lines_once : (ps : Partners) (bs : Books) (ls : List SwitchLine) (x : SwitchChannel) (shown : Shown) → AreKept ps bs ls → shown_at (layers_of ls) x ≡ Some shown → (m n y : ℕ) → slice_get (callers_in (bs x.line)) m ≡ Some (Some y) → slice_get (callers_in (bs x.line)) n ≡ Some (Some y) → m ≡ n
+lines_once ps bs ls x shown k e =
+    let o = line_of_shown ls x shown e in
+    kept_once (ps x.line).setting (bs x.line) (line_with (ps x.line) o.line.end) (k x.line o.line o.there)
 
 pub lines_connected : (ps : Partners) (bs : Books) (ls : List SwitchLine) (x : SwitchChannel) (shown : Shown) → AreKept ps bs ls → shown_at (layers_of ls) x ≡ Some shown → in_transfer shown.channel.state ≡ true → Answered x.channel (bs x.line)
 lines_connected ps bs ls x shown k e up =

@@ -1,6 +1,6 @@
 -- What the register has stays over what is written at the switch's ends, and over the joins of calls.
 use Rattle.std.specs.Prelude.{◌≡◌, ◌≢◌, ℕ, zero, suc, ◌<◌, ◌⊎◌, Bool, true, false, not, if◌then◌else◌, List, [], ◌∷◌, ◌++◌, length, set, slice_get, Option, Some, None}
-use Rattle.std.proofs.Common.{inl, inr, refl, sym, ap, ap₂, subst, ◌∙◌, arith, option_map, append_assoc}
+use Rattle.std.proofs.Common.{inl, inr, refl, sym, ap, ap₂, subst, ◌∙◌, arith, option_map, append_assoc, true≢false}
 use Rattle.std.proofs.lemmas.Option.{none-some, same_Some, slice_get_within}
 use Rattle.std.proofs.lemmas.Bool.{eq-eqb}
 use Rattle.link_timers.specs.declared.role.Role.{Role}
@@ -47,6 +47,7 @@ use Rattle.call_path_laws.specs.Seen.{Seen, IsJoined}
 use Rattle.call_path_laws.specs.Lines.{LinesSeen}
 use Rattle.call_path_laws.specs.Forwards.{Forwards}
 use Rattle.call_path_laws.proofs.Happening.{happens}
+use Rattle.call_path_laws.proofs.Lining.{alone_seen}
 use Rattle.call_path_laws.proofs.Tracing.{traced}
 use Rattle.call_path_laws.proofs.Forwarding.{stays_handed_on}
 use Rattle.switch_path_laws.specs.Network.{network_line, AreAmong, handed_on, all_handed, lines_of, JoinIs, AreJoins, IsInJoin, GoesOnAccepted, AcceptsAccepted, SendsOnJoins, IsSeen}
@@ -587,6 +588,13 @@ module _ (plan : Plan) (at : List ℕ) (apart : AreApart at) (switch_end : (n : 
           not_yet c.call c.holds (apart c.call.near.line p.line c.is.near.0 p_less line)
           (same_place pl (lines_of w.origins) c.call.came_in j.came_in.number present_seen.0 (ap (λ (n : ℕ). slice_get (positions n (lines_of w.origins)) c.call.came_in) (sym line) ∙ near) present_seen.1.1)
 
+      -- by the owners of the whole register's records
+      own_place : (number m : ℕ) → slice_get (positions pl (lines_of w.origins)) number ≡ Some m → slice_get (positions pl i.lines.seen.owners) number ≡ Some m
+      own_place number m e = ap (λ (owners : List ℕ). slice_get (positions pl owners) number) (i.lines.lines pl (p_trace.0) p_trace.1).owners_are ∙ e
+        where
+          p_trace : (own : List Origin) × (slice_get traces pl ≡ Some own)
+          p_trace = own_trace books pl (bs p.line) w.whole w.origins traces (i.among p.line p_less) i.lines
+
       end_there : (n : ℕ) → n < length at → IsSwitchEnd plan (network_line at n) Dce w
       end_there n h = record { there = line_there plan at n bs cs books w traces h i; switch = switch_end n h }
 
@@ -601,6 +609,8 @@ module _ (plan : Plan) (at : List ℕ) (apart : AreApart at) (switch_end : (n : 
         came = caller_seen.1.0;
         last = last_seen.1.0 ∙ (sym last_seen.1.1 ∙ caller_seen.1.1);
         first = first;
+        alone = λ a o there came. alone_seen w books traces i.lines pl (bs p.line) (i.among p.line p_less) j.came_in.number j.came_in.caller present_seen.0 caller_seen.0 (own_place j.came_in.number present_seen.0 present_seen.1.1) (own_place j.came_in.caller caller_seen.0 caller_seen.1.1) j.came_in.alone a (record { origin = o; there = there; came = came });
+        not_back = λ switch back. true≢false (sym (user_end p.line p_less) ∙ switch);
       }
 
       -- its addresses are handed on

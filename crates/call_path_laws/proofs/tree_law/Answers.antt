@@ -1,0 +1,5 @@
+use Rattle.call_path_laws.proofs.Path.{hops_bounded, hops_room}
+use Rattle.call_path_laws.proofs.tree_law.Goals as goal
+
+pub returns : goal.returns
+returns c = record { hops = hops_bounded; room = hops_room }
