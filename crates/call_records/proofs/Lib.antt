@@ -1,4 +1,5 @@
 pub mod Growing
+mod Fitting
 pub mod Sides
 pub mod Rooms
 pub mod Coming

@@ -1,5 +1,5 @@
 -- What passed in one direction of a call, epoch by epoch, and how it grows.
-use Rattle.std.specs.Prelude.{ℕ, ◌+◌, ◌*◌, ◌≤◌, List, [], ◌∷◌, ◌++◌, length}
+use Rattle.std.specs.Prelude.{◌≡◌, ℕ, ◌+◌, ◌*◌, ◌≤◌, List, [], ◌∷◌, ◌++◌, length}
 use Rattle.epochs.specs.Item.{DataPacket}
 use Rattle.call_records.specs.Records.{counted as counted_of}
 
@@ -55,6 +55,12 @@ pub record HasSpare (room : ℕ) (p : PassedState) : Type 0 where
   pub octets : 132 * room ≤ p.octets
   pub interrupts : room ≤ p.interrupts
   pub ends : room ≤ p.ends
+
+-- and there is none beyond what passed
+pub record HasNoSpare (p : PassedState) : Type 0 where
+  pub octets : p.octets ≡ 0
+  pub interrupts : p.interrupts ≡ 0
+  pub ends : p.ends ≡ 0
 
 -- at most so much of that memory was used
 pub record HasUsed (most_octets most_interrupts most_ends : ℕ) (old new : PassedState) : Type 0 where

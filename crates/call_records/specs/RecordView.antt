@@ -5,7 +5,7 @@ use Rattle.pad_editing.specs.Edited.{Step, key, idle}
 use Rattle.call_records.specs.Records.{RecordValue, PairValue, with_step, with_sent, with_interrupt_sent, with_taken}
 use Rattle.call_records.specs.Records.{with_interrupt_taken, with_released, with_covered, with_epoch, with_closed}
 use Rattle.call_records.specs.Packets.{data_packet_of}
-use Rattle.call_records.specs.Passed.{Part, HasSpare}
+use Rattle.call_records.specs.Passed.{Part, HasSpare, HasNoSpare}
 use Rattle.call_records.specs.declared.record.EditStep.{EditStep}
 use Rattle.call_records.specs.declared.record.EditStep.TheVariants as edit_step
 use Rattle.call_records.specs.declared.record.Record.{Record}
@@ -51,6 +51,17 @@ pub record HasPlaces (room : ℕ) (r : Record) : Type 0 where
 -- the record of this number has them, if there is one
 abbrev pub PlacesAt : (room number : ℕ) → List Record → Type 0
 PlacesAt room number records = (r : Record) → slice_get records number ≡ Some r → HasPlaces room r
+
+-- no list of a record has spare places
+pub record HasNoPlaces (r : Record) : Type 0 where
+  pub sent : HasNoSpare r.sent
+  pub taken : HasNoSpare r.taken
+  pub steps : vec_capacity r.steps ≡ vec_len r.steps
+
+-- that of each of these numbers has none, if there is one
+abbrev pub NoPlacesAt : (numbers : List ℕ) → List Record → Type 0
+NoPlacesAt numbers records = (i number : ℕ) (r : Record) → slice_get numbers i ≡ Some number
+    → slice_get records number ≡ Some r → HasNoPlaces r
 
 -- ---- how a record grows by a write
 

@@ -1,6 +1,7 @@
 //! The book of a line, and what is written into it.
-ghost use Rattle.std.specs.Prelude.{◌≡◌, ◌≤◌, ◌+◌, ◌-◌, ℕ, IfOk, OnOk, OnErr, IsTrue, Some, map, length, vec_len};
-ghost use Rattle.std.specs.Prelude.{vec_capacity};
+ghost use Rattle.std.specs.Prelude.{◌≡◌, ◌≤◌, ◌+◌, ◌-◌, ℕ, List, [], ◌∷◌, IfOk, OnOk, OnErr, IsTrue, Some, map, length, vec_len};
+ghost use Rattle.std.specs.Prelude.{◌<◌, ◌++◌, vec_capacity};
+ghost use Rattle.std.specs.Option.{option_to_list};
 ghost use Rattle.packet_layer.specs.NoteView.{note_of};
 ghost use Rattle.packet_layer.specs.TakenView.{taken_of};
 ghost use Rattle.packet_layer.specs.Octets.{parts_of};
@@ -11,7 +12,7 @@ ghost use Rattle.call_records.specs.Records.{changed_at};
 ghost use Rattle.call_records.specs.Closing.{all_closed};
 ghost use Rattle.call_records.specs.Room.{opens, room_after};
 ghost use Rattle.call_records.specs.BookView.{CallsHavePlaces};
-ghost use Rattle.call_records.specs.RecordView.{shown, pair_of, step_of, grown, needed, left, Fits, PlacesAt};
+ghost use Rattle.call_records.specs.RecordView.{shown, pair_of, step_of, grown, needed, left, Fits, PlacesAt, NoPlacesAt};
 
 use crate::ends::{Ends, Side, Slot};
 use crate::interrupt::Interrupt;
@@ -265,7 +266,6 @@ impl Book {
         ensures { self.new ≡ record self.old { book = closes role channel self.old.book } }
     {
         let present = self.present(role, channel);
-        self.note_end(present);
         self.grow(role, channel, Growth::Closed);
         let placed = self.ends.of(role).slot(channel).placed;
         let slot = Slot {
@@ -274,18 +274,7 @@ impl Book {
             caller: None,
         };
         self.ends.put(role, channel, slot);
-    }
-
-    // The call of a record is over, which gives back its spare room when room is made next.
-    fn note_end(&mut self, present: Option<usize>)
-        ensures { self.new ≡ self.old }
-    {
-        let Some(number) = present else {
-            return;
-        };
-        if self.over.len() < self.over.capacity() {
-            self.over.push_reserved(number);
-        }
+        note_end(&mut self.over, present);
     }
 
     /// The present calls on all channels of an end are over for it, in rising order of channels.
@@ -436,6 +425,19 @@ impl Book {
     }
 }
 
+// The call of this record, if there is one, is over: the record is listed, to give back its spare room when room is
+// made next.
+fn note_end(over: &mut Vec<usize>, present: Option<usize>)
+    ensures { vec_len over.old < vec_capacity over.old → over.new.items ≡ over.old.items ++ option_to_list present }
+{
+    let Some(number) = present else {
+        return;
+    };
+    if over.len() < over.capacity() {
+        over.push_reserved(number);
+    }
+}
+
 /// The calling address that a call gives, if it gives one.
 pub fn calling_of(call: &CallData<'_>) -> Option<Address>
     ensures { result ≡ address_of (digits_or_none call.now.calling) }
@@ -507,6 +509,7 @@ fn give_back(alloc: Global, records: &mut Vec<Record>, numbers: &[usize]) -> Res
     ensures same { map shown records.new.items ≡ map shown records.old.items }
     ensures len { vec_len records.new ≡ vec_len records.old }
     ensures capacity { vec_capacity records.new ≡ vec_capacity records.old }
+    ensures fits { OnOk result (NoPlacesAt numbers.now records.new.items) }
 {
     for number in numbers {
         give_back_at(alloc, records, *number)?;
@@ -519,6 +522,9 @@ fn give_back_at(alloc: Global, records: &mut Vec<Record>, number: usize) -> Resu
     ensures same { map shown records.new.items ≡ map shown records.old.items }
     ensures len { vec_len records.new ≡ vec_len records.old }
     ensures capacity { vec_capacity records.new ≡ vec_capacity records.old }
+    ensures kept { OnOk result ((numbers : List ℕ) → NoPlacesAt numbers records.old.items →
+        NoPlacesAt numbers records.new.items) }
+    ensures fits { OnOk result (NoPlacesAt (number ∷ []) records.new.items) }
 {
     if number < records.len() {
         let record = &mut records[number];

@@ -116,7 +116,8 @@ impl Packets {
 
     /// Gives back what room there is beyond what the packets take, as far as there is memory for it.
     pub(crate) fn give_back(&mut self, alloc: Global) -> Result<(), AllocError>
-        ensures { self.new.packets ≡ self.old.packets }
+        ensures same { self.new.packets ≡ self.old.packets }
+        ensures fits { OnOk result (self.new.spare ≡ 0) }
     {
         give_back(alloc, &mut self.written)
     }

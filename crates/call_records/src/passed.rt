@@ -3,7 +3,7 @@ ghost use Rattle.std.specs.Prelude.{◌≡◌, ◌≤◌, option_map, slice_get,
 ghost use Rattle.call_records.specs.Records.{counted as counted_of};
 ghost use Rattle.call_records.specs.Packets.{data_packet_of};
 ghost use Rattle.call_records.specs.Passed.{first_epoch, with_packet, with_interrupt, with_counted, with_end};
-ghost use Rattle.call_records.specs.Passed.{HasSpare, HasUsed};
+ghost use Rattle.call_records.specs.Passed.{HasSpare, HasNoSpare, HasUsed};
 ghost use Rattle.call_records.specs.EpochEnds.{outset, end_of, part_between, part_of, IsWithin};
 
 use crate::interrupt::Interrupt;
@@ -150,7 +150,8 @@ impl Passed {
 
     /// Gives back what room there is beyond what passed, as far as there is memory for it.
     pub(crate) fn give_back(&mut self, alloc: Global) -> Result<(), AllocError>
-        ensures { self.new.epochs ≡ self.old.epochs }
+        ensures same { self.new.epochs ≡ self.old.epochs }
+        ensures fits { OnOk result (HasNoSpare self.new) }
     {
         self.packets.give_back(alloc)?;
         give_back(alloc, &mut self.interrupts)?;

@@ -1,7 +1,7 @@
 //! What a network keeps of each end's part in a call, and which two of these make a call.
 ghost use Rattle.std.specs.Prelude.{◌≡◌, ◌≤◌, ℕ, OnOk};
 ghost use Rattle.call_records.specs.Records.{new_record, with_epoch};
-ghost use Rattle.call_records.specs.RecordView.{shown, grown, needed, left, Fits, HasPlaces};
+ghost use Rattle.call_records.specs.RecordView.{shown, grown, needed, left, Fits, HasPlaces, HasNoPlaces};
 
 use crate::interrupt::Interrupt;
 use crate::packets::Packet;
@@ -149,7 +149,8 @@ impl Record {
 
     /// Gives back what room there is beyond what the record has, as far as there is memory for it.
     pub(crate) fn give_back(&mut self, alloc: Global) -> Result<(), AllocError>
-        ensures { shown self.new ≡ shown self.old }
+        ensures same { shown self.new ≡ shown self.old }
+        ensures fits { OnOk result (HasNoPlaces self.new) }
     {
         self.sent.give_back(alloc)?;
         self.taken.give_back(alloc)?;

@@ -53,6 +53,8 @@ enum Shown<'a> {
     // how many packets count in its last epoch
     SentCount(usize),
     TakenCount(usize),
+    // whether there is room for more than it has
+    HasSpare(bool),
 }
 
 // What is written into a book, or looked at, with what must be there.
@@ -93,7 +95,7 @@ enum Step<'a> {
 }
 
 use Role::{Dce, Dte};
-use Shown::{Ended, IsClosed, NoEpoch, Open, Sent, SentCount, TakenCount, Took};
+use Shown::{Ended, HasSpare, IsClosed, NoEpoch, Open, Sent, SentCount, TakenCount, Took};
 use Step::{
     AllMatch, Answer, Close, CloseAll, Closed, Connected, Cover, Covered, Incoming, Matches, Pairs,
     Place, Present, Records, Release, Renew, Reset, Send, SendInterrupt, SendOn, Shows,
@@ -250,6 +252,7 @@ fn shows(record: &Record, shown: Shown<'_>) -> bool {
         NoEpoch(epoch) => record.sent.before(epoch).is_none(),
         SentCount(count) => record.sent.last().counted == count,
         TakenCount(count) => record.taken.last().counted == count,
+        HasSpare(spare) => (record.steps.len() < record.steps.capacity()) == spare,
     }
 }
 
@@ -452,6 +455,18 @@ const CALLS: &[Example] = &[
                 caller: 0,
                 callee: 2,
             }]),
+        ],
+    },
+    Example {
+        rule: "the record of a call that is over keeps no spare room, once room is made again",
+        standing: true,
+        steps: &[
+            Send(Dte, b"A"),
+            Shows(0, HasSpare(true)),
+            Close(Dte, 1),
+            Place(Dte, 2),
+            Shows(0, HasSpare(false)),
+            Shows(1, HasSpare(true)),
         ],
     },
     Example {
