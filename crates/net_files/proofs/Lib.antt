@@ -1,4 +1,5 @@
 pub mod LineWords
+pub mod Places
 pub mod Spelling
 pub mod Only
 pub mod ScriptLines

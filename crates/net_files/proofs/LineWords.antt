@@ -13,6 +13,7 @@ use Rattle.x28_commands.specs.Numbers.{decimal}
 use Rattle.x28_commands.proofs.Grammar.{both_true, all_implied, digit_bounds, apart, prefix_append, drop_past}
 use Rattle.net_files.specs.Cuts.{before_place, behind_place}
 use Rattle.net_files.specs.Words.{◌␣◌, ◌>>=◌, has_no_space, IsNumber, IsNode, number_of, node_of, Left, next_word, named, number_at, node_at, ended, last}
+use Rattle.net_files.proofs.Places.{irreflexive}
 
 -- ---- options
 
@@ -51,9 +52,6 @@ stops p [] h = refl
 stops p (x ∷ xs) h =
     let now = both_true (not (p x)) (list_all (λ o. not (p o)) xs) h in
     rw (now.0, stops p xs now.1) (omega arith)
-
-irreflexive : (n : ℕ) → nat_lt n n ≡ false
-irreflexive n = grind arith
 
 no_position : (p : ℕ → Bool) (xs : List ℕ) → list_all (λ o. not (p o)) xs ≡ true → position p xs ≡ None
 no_position p xs h = rw (stops p xs h, irreflexive (length xs)) refl

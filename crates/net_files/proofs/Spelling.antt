@@ -1,9 +1,12 @@
 -- The texts of a script, read from their front.
-use Rattle.std.proofs.Common.{◌≡◌, ◌≢◌, ℕ, suc, ◌+◌, ◌*◌, Bool, true, false, cond, ◌==◌, List, [], ◌∷◌, ◌++◌, length, Option, Some, None, option_map, refl, ap, sym, subst, ◌∙◌, arith, append_assoc}
+use Rattle.std.proofs.Common.{◌≡◌, ◌≢◌, ℕ, suc, ◌+◌, ◌*◌, Bool, true, false, cond, ◌==◌, List, [], ◌∷◌, ◌++◌, take, drop, add-one, Option, Some, None, option_map, refl, ap, sym, subst, ◌∙◌, append_assoc}
 use Rattle.std.proofs.lemmas.List.{append-nil}
 use Rattle.std.proofs.lemmas.Option.{same_Some}
+use Rattle.std.specs.Prelude.{position}
 use borrow.Author.Tests.{eqb-true, ne_eqb}
+use Rattle.net_files.proofs.Places.{position_first, position_next}
 use Rattle.net_files.specs.Digits.{hex_value}
+use Rattle.net_files.specs.Cuts.{before, behind, before_place, behind_place}
 use Rattle.net_files.specs.Texts.{OctetForm, TextForm, EscapeState, Front, Backslash, Digit, octet_at, escaped, with_digit, octets_from, octets_of, in_front, octet_of}
 use Rattle.net_files.specs.Texts.OctetForm.{backslash, escape, plain}
 use Rattle.net_files.specs.Texts.TextForm.{empty, more}
@@ -44,7 +47,7 @@ digit_none (Some sixteens) (low ∷ behind) h = go (hex_value low) h
     go None g = refl
     go (Some ones) g = cc
 
-escape_step : (text : List ℕ) (octet : ℕ) (rest : List ℕ) → escaped text ≡ Some (octet, rest)
+pub escape_step : (text : List ℕ) (octet : ℕ) (rest : List ℕ) → escaped text ≡ Some (octet, rest)
     → octets_from Backslash text ≡ in_front (Some octet) (octets_of rest)
 unfolding octets_from
 escape_step [] octet rest h = cc
@@ -56,7 +59,7 @@ escape_step (high ∷ behind) octet rest h = go (high == 92) h
     go true g = let both : (92 ≡ octet) × (behind ≡ rest) = some_pair _ _ _ _ g in rw (← both.0, both.1) refl
     go false g = digit_step (hex_value high) behind octet rest g
 
-escape_none : (text : List ℕ) → escaped text ≡ None → octets_from Backslash text ≡ None
+pub escape_none : (text : List ℕ) → escaped text ≡ None → octets_from Backslash text ≡ None
 unfolding octets_from
 escape_none [] h = refl
 escape_none (high ∷ behind) h = go (high == 92) h
@@ -78,43 +81,71 @@ octets_step (first ∷ behind) octet rest h = go (first == 92) h
     go true g = escape_step behind octet rest g
     go false g = let both : (first ≡ octet) × (behind ≡ rest) = some_pair _ _ _ _ g in rw (both.0, both.1) refl
 
-pub octets_none : (text : List ℕ) → (length text == 0) ≡ false → octet_at text ≡ None → octets_of text ≡ None
-unfolding octets_from
-octets_none [] some h = cc
-octets_none (first ∷ behind) some h = go (first == 92) h
-  where
-    go : (b : Bool) → cond b (escaped behind) (Some (read first behind)) ≡ None
-        → cond b (octets_from Backslash behind) (in_front (Some first) (octets_from Front behind)) ≡ None
-    go true g = escape_none behind g
-    go false g = cc
-
 -- ---- the loop over a text
 
 -- octets, and then those of the rest
 abbrev pub with_front : List ℕ → Option (List ℕ) → Option (List ℕ)
 with_front front rest = option_map (λ octets. front ++ octets) rest
 
-pub with_none : (rest : Option (List ℕ)) → with_front [] rest ≡ rest
+-- the octets that are left behind a backslash, none where there is none
+abbrev pub octets_left : Option (List ℕ) → Option (List ℕ)
+octets_left None = Some []
+octets_left (Some behind) = octets_from Backslash behind
+
+with_none : (rest : Option (List ℕ)) → with_front [] rest ≡ rest
 with_none None = refl
 with_none (Some octets) = refl
 
-front_more : (front : List ℕ) (octet : ℕ) (rest : Option (List ℕ)) → with_front (front ++ octet ∷ []) rest ≡ with_front front (in_front (Some octet) rest)
-front_more front octet None = refl
-front_more front octet (Some octets) = ap Some (append_assoc front (octet ∷ []) octets)
+one_more : (octet : ℕ) (octets : List ℕ) (place : Option ℕ)
+    → in_front (Some octet) (with_front (before_place place octets) (octets_left (behind_place place octets)))
+    ≡ with_front (before_place (option_map suc place) (octet ∷ octets)) (octets_left (behind_place (option_map suc place) (octet ∷ octets)))
+one_more octet octets None = refl
+one_more octet octets (Some place) =
+    let behind : drop (suc place + 1) (octet ∷ octets) ≡ drop (place + 1) octets = rw (add-one, add-one) refl in
+    rw behind (go (octets_from Backslash (drop (place + 1) octets)))
+  where
+    go : (rest : Option (List ℕ)) → in_front (Some octet) (with_front (take place octets) rest) ≡ with_front (octet ∷ take place octets) rest
+    go None = refl
+    go (Some others) = refl
 
-pub goes_on : (front : List ℕ) (all : Option (List ℕ)) (text rest : List ℕ) (octet : ℕ) → octet_at text ≡ Some (octet, rest) → with_front front (octets_of text) ≡ all
-    → with_front (front ++ octet ∷ []) (octets_of rest) ≡ all
-goes_on front all text rest octet is so_far =
-    front_more front octet (octets_of rest) ∙ ap (with_front front) (sym (octets_step text octet rest is)) ∙ so_far
-
-pub ends : (front : List ℕ) (all : Option (List ℕ)) (text : List ℕ) → (length text == 0) ≡ true → with_front front (octets_of text) ≡ all → all ≡ Some front
+-- a text spells what stands before its first backslash, and then what it spells from there on
+pub plain_then : (text : List ℕ) → octets_of text ≡ with_front (before 92 text) (octets_left (behind 92 text))
 unfolding octets_from
-ends front all [] none so_far = sym so_far ∙ ap Some (append-nil front)
-ends front all (x ∷ xs) none so_far = let zero : suc (length xs) ≡ 0 = eqb-true _ _ none in absurd (omega arith)
+plain_then [] = refl
+plain_then (octet ∷ rest) = go (octet == 92) refl (plain_then rest)
+  where
+    go : (b : Bool) → (octet == 92) ≡ b → octets_of rest ≡ with_front (before 92 rest) (octets_left (behind 92 rest))
+        → cond b (octets_from Backslash rest) (in_front (Some octet) (octets_of rest))
+        ≡ with_front (before 92 (octet ∷ rest)) (octets_left (behind 92 (octet ∷ rest)))
+    go true is later = rw (position_first (λ o. o == 92) octet rest is) (sym (with_none (octets_from Backslash rest)))
+    go false is later =
+        rw (position_next (λ o. o == 92) octet rest is, later) (one_more octet rest (position (λ o. o == 92) rest))
 
-pub fails : (front : List ℕ) (all : Option (List ℕ)) (text : List ℕ) → (length text == 0) ≡ false → octet_at text ≡ None → with_front front (octets_of text) ≡ all
-    → all ≡ None
-fails front all text some none so_far = sym so_far ∙ ap (with_front front) (octets_none text some none)
+front_more : (front added : List ℕ) (rest : Option (List ℕ)) → with_front (front ++ added) rest ≡ with_front front (with_front added rest)
+front_more front added None = refl
+front_more front added (Some octets) = ap Some (append_assoc front added octets)
+
+-- what stands before the first backslash is added
+pub plain_added : (front text octets : List ℕ) (left : Option (List ℕ)) → octets ≡ front ++ before 92 text → left ≡ behind 92 text
+    → with_front octets (octets_left left) ≡ with_front front (octets_of text)
+plain_added front text octets left is rest =
+    rw (is, rest) (front_more front (before 92 text) (octets_left (behind 92 text)) ∙ ap (with_front front) (sym (plain_then text)))
+
+octet_more : (front : List ℕ) (octet : ℕ) (rest : Option (List ℕ)) → with_front (front ++ octet ∷ []) rest ≡ with_front front (in_front (Some octet) rest)
+octet_more front octet None = refl
+octet_more front octet (Some octets) = ap Some (append_assoc front (octet ∷ []) octets)
+
+-- an octet behind a backslash is added
+pub octet_added : (front text rest : List ℕ) (octet : ℕ) → escaped text ≡ Some (octet, rest)
+    → with_front (front ++ octet ∷ []) (octets_of rest) ≡ with_front front (octets_left (Some text))
+octet_added front text rest octet is =
+    octet_more front octet (octets_of rest) ∙ ap (with_front front) (sym (escape_step text octet rest is))
+
+pub all_spelled : (octets : List ℕ) → with_front octets (octets_left None) ≡ Some octets
+all_spelled octets = ap Some (append-nil octets)
+
+pub none_spelled : (front text : List ℕ) → escaped text ≡ None → with_front front (octets_left (Some text)) ≡ None
+none_spelled front text none = ap (with_front front) (escape_none text none)
 
 -- ---- what is spelled is read
 

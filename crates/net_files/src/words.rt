@@ -1,12 +1,12 @@
 //! The words of a line of a script.
-ghost use Rattle.std.specs.Prelude.{◌≡◌, ◌<◌, ◌≤◌, ◌==◌, ℕ, List, [], ◌∷◌, ◌++◌, Some, IfOk, IfErr, length, map};
-ghost use Rattle.std.specs.Prelude.{position};
+ghost use Rattle.std.specs.Prelude.{◌≡◌, ◌<◌, ◌≤◌, ◌==◌, ℕ, List, [], ◌∷◌, ◌++◌, Some, length, map};
+ghost use Rattle.std.specs.Prelude.{position, IfOk, IfErr, OnOk, OnErr};
 ghost use Rattle.std.specs.Prelude.{bytes_eq, min, option_map, string_bytes, IsTrue};
 ghost use Rattle.std.specs.List.{list_all};
 ghost use Rattle.std.specs.Char.{is_ascii_digit};
 ghost use Rattle.x28_commands.specs.Numbers.{decimal};
 ghost use Rattle.net_files.specs.Digits.{hex_value};
-ghost use Rattle.net_files.specs.Texts.{octet_at, octets_of};
+ghost use Rattle.net_files.specs.Texts.{escaped, octets_of};
 ghost use Rattle.net_files.specs.Cuts.{before, behind, length_left};
 ghost use Rattle.net_files.specs.Words.{next_word, named, node_at, number_of, number_at, timer_number_at};
 ghost use Rattle.net_files.specs.Words.{address_at, text_of};
@@ -14,6 +14,7 @@ ghost use Rattle.net_files.specs.Reading.{command_word};
 ghost use Rattle.net_files.specs.Answers.{EndsLine, Gives, GivesOrWants, left_of};
 
 use crate::keywords::CommandWord;
+use memchr::memchr;
 use packet_codec::Address;
 use std::alloc::{AllocError, AllocFailed, Global};
 use thiserror::Error;
@@ -141,7 +142,6 @@ impl<'a> Words<'a> {
 }
 
 /// The place of the first of these names that a word is.
-
 fn place_of(names: &[String], word: &[u8]) -> Option<usize>
     ensures { result ≡ position (λ name. bytes_eq (string_bytes name) word.now) names.now }
 {
@@ -164,7 +164,7 @@ pub(crate) fn cut(octets: &[u8], at: u8) -> (&[u8], Option<&[u8]>)
 fn first_place(octets: &[u8], at: u8) -> Option<usize>
     ensures { result ≡ position (λ octet. octet == at) octets.now }
 {
-    octets.iter().position(|octet| *octet == at)
+    memchr(at, octets)
 }
 
 /// Reads digits, of a number of at most 65,535.
@@ -214,23 +214,31 @@ pub(crate) fn add_text(octets: &mut Vec<u8>, text: &[u8]) -> Result<(), LineFaul
     ensures behind { (more : List ℕ) × (octets.new.items ≡ octets.old.items ++ more) }
 {
     let mut rest = text;
-    while !rest.is_empty() {
-        let (octet, others) = read_octet(rest)?;
+    while let Some(escape) = add_plain(octets, rest)? {
+        let (octet, others) = read_escape(escape)?;
         octets.push(octet)?;
         rest = others;
     }
     Ok(())
 }
 
-/// Reads the octet that a text begins with, and gives what stands behind it.
-fn read_octet(text: &[u8]) -> Result<(u8, &[u8]), LineFault>
-    ensures { Gives (λ read. (read.0, read.1.now)) result (octet_at text.entry.now) }
+/// Adds the octets of a text before its first backslash to others, and gives what stands behind it, if it has one.
+fn add_plain<'a>(octets: &mut Vec<u8>, text: &'a [u8]) -> Result<Option<&'a [u8]>, AllocError>
+    ensures plain { OnOk result (octets.new.items ≡ octets.old.items ++ before 92 text.entry.now) }
+    ensures behind { IfOk result (λ rest. option_map (λ s. s.now) rest ≡ behind 92 text.entry.now) }
+    ensures shorter { IfOk result (λ rest. length_left (option_map (λ s. s.now) rest) ≤ length text.entry.now) }
+    ensures none { OnErr result (octets.new.items ≡ octets.old.items) }
 {
-    let (first, rest) = first_octet(text)?;
-    if first != b'\\' {
-        return Ok((first, rest));
-    }
-    let (high, rest) = first_octet(rest)?;
+    let (plain, rest) = cut(text, b'\\');
+    octets.extend_from_slice(plain)?;
+    Ok(rest)
+}
+
+/// Reads the octet whose escape a text begins with, behind the backslash, and gives what stands behind it.
+fn read_escape(text: &[u8]) -> Result<(u8, &[u8]), LineFault>
+    ensures { Gives (λ read. (read.0, read.1.now)) result (escaped text.entry.now) }
+{
+    let (high, rest) = first_octet(text)?;
     if high == b'\\' {
         return Ok((b'\\', rest));
     }

@@ -4,12 +4,12 @@ use Rattle.net_files.proofs.Spelling.{with_front}
 use Rattle.net_files.proofs.words.add_text.Given as goal
 
 -- the octets so far, and then those that the rest spells, are those before and then those that the text spells
-abbrev pub invariant-loop-rest : goal.invariant-loop-rest
-invariant-loop-rest l = record {
+abbrev pub invariant-loop-escape : goal.invariant-loop-escape
+invariant-loop-escape l = record {
   spelled : with_front l.octets.items (octets_of l.rest) ≡ with_front l.initial.octets.items (octets_of l.text);
   behind : (more : List ℕ) × (l.octets.items ≡ l.initial.octets.items ++ more);
 }
 
 -- what is left gets shorter
-abbrev pub decreases-loop-rest : goal.decreases-loop-rest
-decreases-loop-rest l = length l.rest
+abbrev pub decreases-loop-escape : goal.decreases-loop-escape
+decreases-loop-escape l = length l.rest
