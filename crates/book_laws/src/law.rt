@@ -1,3 +1,4 @@
+//! The law of the book of a line.
 ghost use Rattle.book_laws.specs.Headline.{BookLaw, RecordsLaw, PresentLaw, AnsweredLaw, CallsLaw, CallersLaw};
 ghost use Rattle.book_laws.specs.AcceptedCalls.{AcceptedLaw, AcceptedRun};
 ghost use Rattle.book_laws.specs.Counts.{CountsLaw};

@@ -303,7 +303,7 @@ whole_has = record {
 
 missing : NothingMissing world.whole.records world.whole.pairs
 missing i pair caller callee at here_ there_ caller_open callee_open =
-    each (λ i (p : PairValue). TookBoth world p) world.whole.pairs (took world 4 5 _ _ refl refl (record { packets = refl; interrupts = refl }, record { packets = refl; interrupts = refl }), (took world 2 3 _ _ refl refl (record { packets = refl; interrupts = refl }, record { packets = refl; interrupts = refl }), (took world 0 1 _ _ refl refl (record { packets = refl; interrupts = refl }, record { packets = refl; interrupts = refl }), (took world 10 11 _ _ refl refl (record { packets = refl; interrupts = refl }, record { packets = refl; interrupts = refl }), (took world 8 9 _ _ refl refl (record { packets = refl; interrupts = refl }, record { packets = refl; interrupts = refl }), (took world 6 7 _ _ refl refl (record { packets = refl; interrupts = refl }, record { packets = refl; interrupts = refl }), tt))))))
+    each (λ i (p : PairValue). TookBoth world p) world.whole.pairs (took world 4 5 _ _ refl refl (refl, refl), (took world 2 3 _ _ refl refl (refl, refl), (took world 0 1 _ _ refl refl (refl, refl), (took world 10 11 _ _ refl refl (refl, refl), (took world 8 9 _ _ refl refl (refl, refl), (took world 6 7 _ _ refl refl (refl, refl), tt))))))
     i pair at caller callee here_ there_
 
 first_handed : HasHandedAll world 1 2
@@ -314,8 +314,8 @@ first_handed = record {
   to_there = refl;
   from_open = refl;
   to_open = refl;
-  onward = record { packets = refl; interrupts = refl };
-  backward = record { packets = refl; interrupts = refl };
+  onward = refl;
+  backward = refl;
   place = 2;
   pair = record { caller = 0; callee = 1 };
   there = refl;
@@ -330,8 +330,8 @@ second_handed = record {
   to_there = refl;
   from_open = refl;
   to_open = refl;
-  onward = record { packets = refl; interrupts = refl };
-  backward = record { packets = refl; interrupts = refl };
+  onward = refl;
+  backward = refl;
   place = 1;
   pair = record { caller = 2; callee = 3 };
   there = refl;
@@ -346,8 +346,8 @@ third_handed = record {
   to_there = refl;
   from_open = refl;
   to_open = refl;
-  onward = record { packets = refl; interrupts = refl };
-  backward = record { packets = refl; interrupts = refl };
+  onward = refl;
+  backward = refl;
   place = 5;
   pair = record { caller = 6; callee = 7 };
   there = refl;
@@ -362,8 +362,8 @@ fourth_handed = record {
   to_there = refl;
   from_open = refl;
   to_open = refl;
-  onward = record { packets = refl; interrupts = refl };
-  backward = record { packets = refl; interrupts = refl };
+  onward = refl;
+  backward = refl;
   place = 4;
   pair = record { caller = 8; callee = 9 };
   there = refl;

@@ -45,9 +45,9 @@ pub fn end_law()
     ensures open_records { OpenLaw }
 {}
 
-/// If no call that is placed gives a calling address, the own address of each caller is that of its line, or none if the
-/// line has none. So it is from the making on, whatever is written at the lines, and when a switch hands a call on. Two
-/// calls meet what these clauses ask for, by computation.
+/// If no call that is placed gives a calling address, the own address of each caller is that of its line, or none if
+/// the line has none. This holds from the making on, whatever is written at the lines, and when a switch hands a call
+/// on. Two calls meet what these clauses ask for, by computation.
 pub fn own_address_law()
     ensures made { MadeOwnLaw }
     ensures writes { WriteOwnLaw }

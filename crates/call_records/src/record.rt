@@ -23,20 +23,20 @@ pub enum EditStep {
 /// One end's part in one call.
 #[derive(Drop)]
 pub struct Record {
-    /// Its number in the order of making, from 0.
+    /// The number of the record in the order of making, from 0.
     pub number: usize,
-    /// The number of its node.
+    /// The number of the node whose call this is.
     pub node: usize,
-    /// Its own address: of a callee the called one, of a caller that of its line, if the line has any. A standing call
-    /// has none.
+    /// The address of this end: of a callee the called one, of a caller that of its line, if the line has any. A
+    /// standing call has none.
     pub own: Option<Address>,
     /// The address of the far end.
     pub far: Option<Address>,
     /// Where the call came in, the number of the record with which the other end placed it.
     pub(crate) caller: Option<usize>,
-    /// What it sent; a packet counts that a received P(R) covered.
+    /// What this end sent; a packet counts that a received P(R) covered.
     pub sent: Passed,
-    /// What it took; a packet counts that was released.
+    /// What this end took; a packet counts that was released.
     pub taken: Passed,
     /// Whether the call is over for this end.
     pub closed: bool,

@@ -1,7 +1,7 @@
 -- Every frame of two links has a spelling, so that the octets on the line are read as they were meant.
 use Rattle.std.specs.Prelude.{map, ◌≡◌, ℕ, zero, suc, ◌+◌, ◌%◌, ◌<◌, ◌≤◌, Bool, true, false, not, ◌&&◌, List, [], ◌∷◌}
-use Rattle.std.specs.Prelude.{◌++◌, length, drop, if◌then◌else◌, ◌==◌, nat_le}
-use Rattle.std.proofs.Common.{refl, ap, ◌∙◌, arith}
+use Rattle.std.specs.Prelude.{◌++◌, ◌⊎◌, length, drop, if◌then◌else◌}
+use Rattle.std.proofs.Common.{refl, sym, ap, ◌∙◌, subst, inl, inr, arith}
 use Rattle.link_timers.specs.declared.role.Role.{Role}
 use Rattle.link_timers.specs.declared.role.Role.TheVariants.{Dte, Dce}
 use Rattle.link_timers.specs.Role.{other_of}
@@ -12,17 +12,19 @@ use Rattle.frame_codec.proofs.Grammar.{reading-spelling}
 use Rattle.lapb.specs.declared.phase.Phase.{Phase}
 use Rattle.lapb.specs.Machine.{Octets, Link, Step, Defect, UndefinedControl, InformationNotAllowed}
 use Rattle.lapb.specs.Machine.{InformationTooLong, ahead, answers, response, command, numbered, still, sends, set_up}
-use Rattle.lapb.specs.Machine.{disconnect, relink, relink_as, come_up, reject_as, reject_number, report_of}
-use Rattle.lapb.specs.Machine.{defect_report, is_valid, acknowledged, on_supervisory, accept, discard, on_information}
-use Rattle.lapb.specs.Machine.{in_up, in_setting_up, in_down, in_rejecting, in_phase, on_content, on_frame, on_defect}
-use Rattle.lapb.specs.Machine.{on_defect_in, on_t1, runs, expire_in, poll, send_all, settle, settle_in, offer}
-use Rattle.lapb.specs.Machine.{can_offer, is_same, new}
+use Rattle.lapb.specs.Machine.{disconnect, relink, come_up, take_disc, reject_as, report_of}
+use Rattle.lapb.specs.Machine.{defect_report, acknowledged, on_supervisory, accept, discard}
+use Rattle.lapb.specs.Machine.{on_frame, on_defect}
+use Rattle.lapb.specs.Machine.{on_t1, poll, send_all, settle, offer}
+use Rattle.lapb.specs.Machine.{can_offer, new}
 use Rattle.lapb.specs.World.{Sent, World, Params, Event, Offer, Deliver, Lose, Expire, Relink, Settle, Restart}
 use Rattle.lapb.specs.World.{stamped, kept_of, dte_does, dce_does, dce_enters, to_dte, to_dce, without_first, happens}
 use Rattle.lapb.specs.World.{opening}
 use Rattle.lapb.specs.Octets.{on_octets, on_reading}
 use Rattle.lapb.specs.Fits.{AllShort, ReportFits, IsFit, AllSpelt, AreFit, IsShort, octets_of}
-use Rattle.lapb.proofs.Cases.{cond_by, Each, each-kept}
+use Rattle.lapb.proofs.Cases.{Each, each-kept}
+use Rattle.lapb.proofs.Rules.{Numbers, of_i, of_rr, of_rnr, of_rej, UpRules, OutRules, by_up, by_content, by_relink}
+use Rattle.lapb.proofs.Rules.{by_t1, by_settle, by_defect}
 
 -- a step that leaves the link fit, and whose frames have spellings
 abbrev pub Fitting : Step → Type 0
@@ -118,18 +120,8 @@ fit-set_up l f = (fit-cleared l Phase.SettingUp (not l.bit) false false false 0 
 fit-disconnect : (l : Link) → IsFit l → Fitting (disconnect l)
 fit-disconnect l f = (fit-cleared l Phase.Down l.bit false false true 0 f, (spelt-dm false, tt))
 
-fit-relink_as : (role : Role) (phase : Phase) (l : Link) → IsFit l → Fitting (relink_as role phase l)
-fit-relink_as Dte Phase.SettingUp l f = fit-still l f
-fit-relink_as Dte Phase.Down l f = fit-set_up l f
-fit-relink_as Dte Phase.Up l f = fit-set_up l f
-fit-relink_as Dte Phase.Rejecting l f = fit-set_up l f
-fit-relink_as Dce Phase.SettingUp l f = fit-disconnect l f
-fit-relink_as Dce Phase.Down l f = fit-disconnect l f
-fit-relink_as Dce Phase.Up l f = fit-disconnect l f
-fit-relink_as Dce Phase.Rejecting l f = fit-disconnect l f
-
 pub fit_relink : (l : Link) → IsFit l → Fitting (relink l)
-fit_relink l f = fit-relink_as l.role l.phase l f
+fit_relink l f = by_relink l Fitting (fit-still l f) (fit-set_up l f) (fit-disconnect l f)
 
 fit-reject : (role : Role) (l : Link) (report : Report) (p : Bool) → IsFit l → ReportFits report → Fitting (reject_as
     role l report p)
@@ -210,129 +202,49 @@ fit-discard l p f = (
       l.rejecting p l.expected f.expected,
 )
 
-fit-information : (l : Link) (ns : ℕ) (p : Bool) (packet : Octets) → IsFit l → Fitting (on_information l ns p
-    packet)
-fit-information l ns p packet f =
-    cond_by (λ b. Fitting (if b then accept l p packet else discard l p)) (ns == l.expected)
-    (λ _. fit-accept l p packet f) (λ _. fit-discard l p f)
+low-number : {content : Content} {nr : ℕ} → Numbers content nr → HasNumbers content → nr < 8
+low-number of_i low = low.1
+low-number of_rr low = low
+low-number of_rnr low = low
+low-number of_rej low = low
 
-fit-checked : (l : Link) (content : Content) (r p : Bool) (nr : ℕ) (taken : Step) (anew : Bool) → IsFit l →
-    HasNumbers content →
-    Fitting taken → Fitting (if is_valid l nr then record taken { anew = anew } else reject_number l content r p)
-fit-checked l content r p nr taken anew f n t =
-    cond_by (λ b. Fitting (if b then record taken { anew = anew } else reject_number l content r p)) (is_valid l
-    nr)
-    (λ _. t)
-    (λ _. fit-reject l.role l (report_of l (control_of content p) r false false false true) (p && not r) f
-    (fit-report l (control_of content p) r false false false true f (control-below content p n)))
+fit-take_disc : (l : Link) (p : Bool) → IsFit l → Fitting (take_disc l p)
+fit-take_disc l p f = (fit-cleared l Phase.Down l.bit false false false 0 f, (spelt-ua p, tt))
 
-fit-in_up : (role : Role) (l : Link) (content : Content) (r p : Bool) → HasNumbers content → IsFit l → Fitting (in_up
-    role l content r p)
-fit-in_up role l (I ns nr packet) r p n f =
-    fit-checked l (I ns nr packet) r p nr (on_information (acknowledged l nr) ns p
-    packet) _ f n
-    (fit-information (acknowledged l nr) ns p packet (fit-acknowledged l nr n.1 f))
-fit-in_up role l (Rr nr) r p n f =
-    fit-checked l (Rr nr) r p nr (on_supervisory (acknowledged l nr) false false r p) _ f n
-    (fit-supervisory (acknowledged l nr) false false r p (fit-acknowledged l nr n f))
-fit-in_up role l (Rnr nr) r p n f =
-    fit-checked l (Rnr nr) r p nr (on_supervisory (acknowledged l nr) true false r p) _ f n
-    (fit-supervisory (acknowledged l nr) true false r p (fit-acknowledged l nr n f))
-fit-in_up role l (Rej nr) r p n f =
-    fit-checked l (Rej nr) r p nr (on_supervisory (acknowledged l nr) false true r p) _ f n
-    (fit-supervisory (acknowledged l nr) false true r p (fit-acknowledged l nr n f))
-fit-in_up role l Disc r p n f = (fit-cleared l Phase.Down l.bit false false false 0 f, (spelt-ua p, tt))
-fit-in_up role l Ua r p n f = fit-still l f
-fit-in_up Dte l Sabm r p n f = fit-set_up l f
-fit-in_up Dte l Dm r p n f = fit-set_up l f
-fit-in_up Dte l (Frmr report) r p n f = fit-set_up l f
-fit-in_up Dce l Sabm r p n f = fit-still l f
-fit-in_up Dce l Dm r p n f = fit-still l f
-fit-in_up Dce l (Frmr report) r p n f = fit-disconnect l f
+fit-up : (l : Link) (content : Content) (r p : Bool) → HasNumbers content → IsFit l → UpRules l content r p Fitting
+fit-up l content r p n f =
+    let acked : (nr : ℕ) → Numbers content nr → IsFit (acknowledged l nr) =
+    λ nr has. fit-acknowledged l nr (low-number has n) f in
+    record {
+      still = λ _. fit-still l f;
+      set_up = fit-set_up l f;
+      disconnect = fit-disconnect l f;
+      take_disc = fit-take_disc l p f;
+      reject = fit-reject l.role l (report_of l (control_of content p) r false false false true) (p && not r) f
+          (fit-report l (control_of content p) r false false false true f (control-below content p n));
+      supervisory = λ nr has _ busy back _. fit-supervisory (acknowledged l nr) busy back r p (acked nr has);
+      accept = λ nr packet has _ _. fit-accept (acknowledged l nr) p packet (acked nr has);
+      discard = λ nr has _ _. fit-discard (acknowledged l nr) p (acked nr has);
+    }
 
--- ---- the other phases
+-- ---- any frame
 
-fit-polite : (l : Link) (due : Bool) → IsFit l → Fitting (if due then sends l (response Dm true) else
-    still l)
-fit-polite l true f = fit-sends l (response Dm true) f (spelt-dm true)
-fit-polite l false f = fit-still l f
-
-fit-in_down : (role : Role) (l : Link) (content : Content) (r p : Bool) → IsFit l → Fitting (in_down role l content r
-    p)
-fit-in_down Dte l Sabm r p f = fit-set_up l f
-fit-in_down Dte l Dm r p f = fit-set_up l f
-fit-in_down Dte l Disc r p f = fit-sends l (response Dm p) f (spelt-dm p)
-fit-in_down Dte l (I ns nr packet) r p f = fit-polite l (p && not r) f
-fit-in_down Dte l (Rr nr) r p f = fit-polite l (p && not r) f
-fit-in_down Dte l (Rnr nr) r p f = fit-polite l (p && not r) f
-fit-in_down Dte l (Rej nr) r p f = fit-polite l (p && not r) f
-fit-in_down Dte l Ua r p f = fit-polite l (p && not r) f
-fit-in_down Dte l (Frmr report) r p f = fit-polite l (p && not r) f
-fit-in_down Dce l Sabm r p f = fit-polite l (p && not r) f
-fit-in_down Dce l Dm r p f = fit-polite l (p && not r) f
-fit-in_down Dce l Disc r p f = fit-sends l (response Dm p) f (spelt-dm p)
-fit-in_down Dce l (I ns nr packet) r p f = fit-polite l (p && not r) f
-fit-in_down Dce l (Rr nr) r p f = fit-polite l (p && not r) f
-fit-in_down Dce l (Rnr nr) r p f = fit-polite l (p && not r) f
-fit-in_down Dce l (Rej nr) r p f = fit-polite l (p && not r) f
-fit-in_down Dce l Ua r p f = fit-polite l (p && not r) f
-fit-in_down Dce l (Frmr report) r p f = fit-polite l (p && not r) f
-
-fit-in_setting_up : (l : Link) (content : Content) (r p : Bool) → IsFit l → Fitting (in_setting_up l content r p)
-fit-in_setting_up l Ua r p f =
-    cond_by (λ b. Fitting (if b then come_up l else still l)) (is_same p l.bit)
-    (λ _. (fit-cleared l Phase.Up l.bit true true false 1 f, (spelt-ready 0 false true (omega arith), tt))) (λ _.
-    fit-still l f)
-fit-in_setting_up l Disc r p f = fit-sends l (response Dm p) f (spelt-dm p)
-fit-in_setting_up l Sabm r p f = fit-still l f
-fit-in_setting_up l Dm r p f = fit-still l f
-fit-in_setting_up l (Frmr report) r p f = fit-still l f
-fit-in_setting_up l (I ns nr packet) r p f = fit-still l f
-fit-in_setting_up l (Rr nr) r p f = fit-still l f
-fit-in_setting_up l (Rnr nr) r p f = fit-still l f
-fit-in_setting_up l (Rej nr) r p f = fit-still l f
-
-fit-again : (l : Link) (r p : Bool) → IsFit l → Fitting (if r then still l else sends l (response (Frmr
-    l.report) p))
-fit-again l true p f = fit-still l f
-fit-again l false p f = fit-sends l (response (Frmr l.report) p) f (spelt-frmr l.report p f.report)
-
-fit-in_rejecting : (l : Link) (content : Content) (r p : Bool) → IsFit l → Fitting (in_rejecting l content r p)
-fit-in_rejecting l Disc r p f = (fit-cleared l Phase.Down l.bit false false false 0 f, (spelt-ua p, tt))
-fit-in_rejecting l Sabm r p f = fit-again l r p f
-fit-in_rejecting l Dm r p f = fit-again l r p f
-fit-in_rejecting l Ua r p f = fit-again l r p f
-fit-in_rejecting l (Frmr report) r p f = fit-again l r p f
-fit-in_rejecting l (I ns nr packet) r p f = fit-again l r p f
-fit-in_rejecting l (Rr nr) r p f = fit-again l r p f
-fit-in_rejecting l (Rnr nr) r p f = fit-again l r p f
-fit-in_rejecting l (Rej nr) r p f = fit-again l r p f
-
-fit-in_phase : (phase : Phase) (role : Role) (l : Link) (content : Content) (r p : Bool) → HasNumbers content → IsFit
-    l →
-    Fitting (in_phase phase role l content r p)
-fit-in_phase Phase.Down role l content r p n f = fit-in_down role l content r p f
-fit-in_phase Phase.SettingUp role l content r p n f = fit-in_setting_up l content r p f
-fit-in_phase Phase.Up role l content r p n f = fit-in_up role l content r p n f
-fit-in_phase Phase.Rejecting role l content r p n f = fit-in_rejecting l content r p f
-
-fit-on_content : (l : Link) (content : Content) (role : Role) (r p : Bool) → HasNumbers content → IsFit l → Fitting
-    (on_content content role l r p)
-fit-on_content l Sabm Dce r p n f = (fit-cleared l Phase.Up l.bit false false false 0 f, (spelt-ua p, tt))
-fit-on_content l Sabm Dte r p n f = fit-in_phase l.phase Dte l Sabm r p n f
-fit-on_content l (I ns nr packet) role r p n f = fit-in_phase l.phase role l (I ns
-    nr packet) r p n f
-fit-on_content l (Rr nr) role r p n f = fit-in_phase l.phase role l (Rr nr) r p n f
-fit-on_content l (Rnr nr) role r p n f = fit-in_phase l.phase role l (Rnr nr) r p n
-    f
-fit-on_content l (Rej nr) role r p n f = fit-in_phase l.phase role l (Rej nr) r p n f
-fit-on_content l Disc role r p n f = fit-in_phase l.phase role l Disc r p n f
-fit-on_content l Dm role r p n f = fit-in_phase l.phase role l Dm r p n f
-fit-on_content l Ua role r p n f = fit-in_phase l.phase role l Ua r p n f
-fit-on_content l (Frmr report) role r p n f = fit-in_phase l.phase role l (Frmr report) r p n f
+fit-out : (l : Link) (content : Content) (p : Bool) → IsFit l → OutRules l content p Fitting
+fit-out l content p f = record {
+  still = fit-still l f;
+  refuse = λ bit. fit-sends l (response Dm bit) f (spelt-dm bit);
+  report = λ bit. fit-sends l (response (Frmr l.report) bit) f (spelt-frmr l.report bit f.report);
+  set_up = fit-set_up l f;
+  take_disc = fit-take_disc l p f;
+  come_up = λ _ _ _. (fit-cleared l Phase.Up l.bit true true false 1 f, (spelt-ready 0 false true (omega arith), tt));
+}
 
 pub fit_on_frame : (l : Link) (frame : FrameValue) → HasNumbers frame.content → IsFit l → Fitting (on_frame l frame)
-fit_on_frame l frame n f = fit-on_content l frame.content l.role frame.response frame.pf n f
+fit_on_frame l frame n f =
+    by_content frame.content l.role l frame.response frame.pf Fitting
+    (λ _ _. (fit-cleared l Phase.Up l.bit false false false 0 f, (spelt-ua frame.pf, tt)))
+    (λ _. by_up l.role l frame.content frame.response frame.pf Fitting (fit-up l frame.content frame.response frame.pf n
+    f)) (λ _. fit-out l frame.content frame.pf f)
 
 -- ---- faulty frames, T1, the end of an event, offers
 
@@ -342,17 +254,12 @@ defect-report-fits l UndefinedControl control r f low = fit-report l control r t
 defect-report-fits l InformationNotAllowed control r f low = fit-report l control r true true false false f low
 defect-report-fits l InformationTooLong control r f low = fit-report l control r false false true false f low
 
-fit-on_defect_in : (phase : Phase) (l : Link) (defect : Defect) (control : ℕ) (r : Bool) → control < 256 → IsFit l →
-    Fitting (on_defect_in phase l defect control r)
-fit-on_defect_in Phase.Down l defect control r low f = fit-still l f
-fit-on_defect_in Phase.SettingUp l defect control r low f = fit-still l f
-fit-on_defect_in Phase.Up l defect control r low f =
-    fit-reject l.role l (defect_report l defect control r) _ f (defect-report-fits l defect control r f low)
-fit-on_defect_in Phase.Rejecting l defect control r low f = fit-still l f
-
 pub fit_on_defect : (l : Link) (defect : Defect) (control : ℕ) (r : Bool) → control < 256 → IsFit l → Fitting
     (on_defect l defect control r)
-fit_on_defect l defect control r low f = fit-on_defect_in l.phase l defect control r low f
+fit_on_defect l defect control r low f =
+    by_defect l defect control r Fitting (fit-still l f)
+    (λ _ bit. fit-reject l.role l (defect_report l defect control r) bit f
+    (defect-report-fits l defect control r f low))
 
 fit-poll : (l : Link) → IsFit l → Fitting (poll l)
 fit-poll l f = (
@@ -364,19 +271,15 @@ fit-poll l f = (
   ),
 )
 
-fit-expire_in : (phase : Phase) (l : Link) → IsFit l → Fitting (expire_in phase l)
-fit-expire_in Phase.Down l f = fit-sends l (response Dm false) f (spelt-dm false)
-fit-expire_in Phase.SettingUp l f = fit-sends l (command Sabm l.bit) f (spelt-sabm l.bit)
-fit-expire_in Phase.Up l f =
-    cond_by (λ b. Fitting (if b then relink l else poll l)) (nat_le l.n2 l.polls) (λ _. fit_relink l f) (λ _. fit-poll
-    l f)
-fit-expire_in Phase.Rejecting l f = fit-sends l (response (Frmr l.report) false) f (spelt-frmr l.report false
-    f.report)
-
 pub fit_on_t1 : (l : Link) → IsFit l → Fitting (on_t1 l)
-fit_on_t1 l f =
-    cond_by (λ b. Fitting (if b then expire_in l.phase l else still l)) (runs l) (λ _. fit-expire_in l.phase l f) (λ
-    _. fit-still l f)
+fit_on_t1 l f = by_t1 l Fitting (record {
+  still = fit-still l f;
+  relink = fit_relink l f;
+  poll = λ _. fit-poll l f;
+  refuse = λ _. fit-sends l (response Dm false) f (spelt-dm false);
+  ask = λ _. fit-sends l (command Sabm l.bit) f (spelt-sabm l.bit);
+  report = λ _. fit-sends l (response (Frmr l.report) false) f (spelt-frmr l.report false f.report);
+})
 
 spelt-owed : (due : Bool) (nr : ℕ) → nr < 8 → Each HasSpelling (if due then response (Rr nr)
     false ∷ [] else [])
@@ -394,17 +297,16 @@ fit-send_all l (packet ∷ packets) short f = (
   spelt-numbered (l.oldest + l.next) l.expected (packet ∷ packets) f.expected short,
 )
 
-fit-settle_in : (phase : Phase) (l : Link) → IsFit l → Fitting (settle_in phase l)
-fit-settle_in Phase.Down l f = fit-still l f
-fit-settle_in Phase.SettingUp l f = fit-still l f
-fit-settle_in Phase.Up l f =
-    cond_by (λ b. Fitting (send_all l (if b then drop l.next l.queue else []))) (l.heard && not l.polling && not
-    l.busy)
-    (λ _. fit-send_all l (drop l.next l.queue) (short-drop l.next l.queue f.short) f) (λ _. fit-send_all l [] tt f)
-fit-settle_in Phase.Rejecting l f = fit-still l f
+short-sendable : (l : Link) (packets : List Octets) → packets ≡ [] ⊎ (packets ≡ drop l.next l.queue) → IsFit l
+    → AllShort packets
+short-sendable l packets which f = elim which [
+  | inl e ↦ subst AllShort (sym e) tt
+  | inr e ↦ subst AllShort (sym e) (short-drop l.next l.queue f.short)
+]
 
 pub fit_settle : (l : Link) → IsFit l → Fitting (settle l)
-fit_settle l f = fit-settle_in l.phase l f
+fit_settle l f =
+    by_settle l Fitting (fit-still l f) (λ _ packets which. fit-send_all l packets (short-sendable l packets which f) f)
 
 pub fit_offer : (l : Link) (packet : Octets) → length packet ≤ 145 → IsFit l → IsFit (offer l packet)
 fit_offer l packet short f =

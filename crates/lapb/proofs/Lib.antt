@@ -14,6 +14,7 @@ pub mod Reach
 pub mod Queues
 pub mod NamedCalls
 mod Rows
+mod Rules
 mod Steps
 pub mod Fitting
 pub mod Lines

@@ -1,26 +1,27 @@
 -- N(S) names the place of a packet among the offered ones and N(R) how many were accepted, in every frame that a link
 -- sends.
 use Rattle.std.specs.Prelude.{◌≡◌, ℕ, suc, ◌+◌, ◌-◌, ◌%◌, ◌<◌, ◌≤◌, Bool, true, false, not, ◌&&◌, ◌||◌, ◌⊎◌, List, []}
-use Rattle.std.specs.Prelude.{◌∷◌, ◌++◌, length, drop, Option, if◌then◌else◌, ◌==◌, nat_le}
+use Rattle.std.specs.Prelude.{◌∷◌, ◌++◌, length, drop, Option, if◌then◌else◌, nat_le}
 use Rattle.std.proofs.Common.{refl, sym, ap, ◌∙◌, subst, inl, inr, arith, length-append, length-drop, drop-drop}
 use Rattle.std.proofs.Common.{le-leb, leb-true, leb-false}
 use Rattle.std.proofs.lemmas.List.{drop-append-le}
 use Rattle.link_timers.specs.declared.role.Role.{Role}
 use Rattle.link_timers.specs.declared.role.Role.TheVariants.{Dte, Dce}
-use Rattle.frame_codec.specs.Spelling.{control_of}
 use Rattle.frame_codec.specs.Frame.{FrameValue, Content, Report}
 use Rattle.frame_codec.specs.Frame.Content.{I, Rr, Rnr, Rej, Sabm, Disc, Dm, Ua, Frmr}
 use Rattle.lapb.specs.declared.phase.Phase.{Phase}
 use Rattle.lapb.specs.declared.note.Note.{Note}
-use Rattle.lapb.specs.Machine.{Octets, Link, Step, Defect, ahead, answers, response, command, numbered, still, sends}
-use Rattle.lapb.specs.Machine.{set_up, disconnect, relink, relink_as, come_up, take_sabm, take_disc, reject_as}
-use Rattle.lapb.specs.Machine.{reject_number, report_of, defect_report, is_valid, acknowledged, on_supervisory}
-use Rattle.lapb.specs.Machine.{accept, discard, on_information, checked, in_up, in_setting_up, in_down, in_rejecting}
-use Rattle.lapb.specs.Machine.{in_phase, on_content, on_frame, on_defect, on_defect_in, on_t1, runs, expire_in, poll}
-use Rattle.lapb.specs.Machine.{send_all, sendable, settle, settle_in, offer, can_offer, is_full, is_same}
+use Rattle.lapb.specs.Machine.{Octets, Link, Step, Defect, ahead, answers, command, response, numbered, still, sends}
+use Rattle.lapb.specs.Machine.{set_up, disconnect, relink, come_up, take_sabm, take_disc, reject_as}
+use Rattle.lapb.specs.Machine.{reject_number, defect_report, is_valid, acknowledged, on_supervisory}
+use Rattle.lapb.specs.Machine.{accept, discard}
+use Rattle.lapb.specs.Machine.{on_content, on_frame, on_defect, on_t1, poll}
+use Rattle.lapb.specs.Machine.{send_all, settle, offer, can_offer, is_full}
 use Rattle.lapb.specs.Named.{Session, begun, Counts, Agrees, IsNamed, AreNamed, with_packet, newly, session_after}
 use Rattle.lapb.specs.Named.{after_offer, IsInRange, Keeps, NamesAfter}
 use Rattle.lapb.proofs.Cases.{cond_by, Each}
+use Rattle.lapb.proofs.Rules.{Numbers, of_i, of_rr, of_rnr, of_rej, UpRules, OutRules, not_setting, by_up, by_content}
+use Rattle.lapb.proofs.Rules.{by_relink, by_t1, by_settle, by_defect}
 use Rattle.lapb.proofs.Halves.{drop-first}
 use Rattle.lapb.proofs.Steps.{is_numbered}
 
@@ -167,29 +168,9 @@ good-discard l s count p c = (
   named-discarded (record s { taken = s.taken + count }) l.rejecting p l.expected c.expected,
 )
 
-good-information : (l : Link) (s : Session) (count ns : ℕ) (p : Bool) (packet : Octets) → Counts l (record s {
-  taken
-      = s.taken + count;
-}) →
-    Good s count (on_information l ns p packet)
-good-information l s count ns p packet c =
-    cond_by (λ b. Good s count (if b then accept l p packet else discard l p)) (ns == l.expected)
-    (λ _. good-accept l s count p packet c) (λ _. good-discard l s count p c)
-
 out-reject : (role : Role) (l : Link) (report : Report) (p : Bool) → IsOut (reject_as role l report p)
 out-reject Dte l report p = record { off = λ e. cc; plain = (refl, tt) }
 out-reject Dce l report p = record { off = λ e. cc; plain = (refl, tt) }
-
-good-checked : (l : Link) (s : Session) (content : Content) (r p : Bool) (nr : ℕ) (taken : Step) (anew : Bool) →
-    (is_valid l nr ≡ true → Good s (ahead l.oldest nr) taken) →
-    Good s (if is_valid l nr then ahead l.oldest nr else 0)
-    (if is_valid l nr then record taken { anew = anew } else reject_number l content r p)
-good-checked l s content r p nr taken anew good =
-    cond_by (λ b. Good s (if b then ahead l.oldest nr else 0) (if b then record taken { anew = anew } else
-    reject_number l content r p))
-    (is_valid l nr) (λ e. good e)
-    (λ _. good-out s 0 (reject_number l content r p)
-    (out-reject l.role l (report_of l (control_of content p) r false false false true) (p && not r)))
 
 same-count : (n : ℕ) → n ≡ n + 0
 same-count n = omega arith
@@ -208,91 +189,47 @@ good-still l s c = (
   tt,
 )
 
-good-in_up : (role : Role) (l : Link) (s : Session) (content : Content) (r p : Bool) → IsInRange content → l.phase ≡
-    Phase.Up → Counts l s →
-    Good s (newly l content) (in_up role l content r p)
-good-in_up role l s (I ns nr packet) r p low up c =
-    good-checked l s (I ns nr packet) r p nr (on_information (acknowledged l nr) ns p
-    packet) _
-    (λ valid. good-information (acknowledged l nr) s (ahead l.oldest nr) ns p packet (counts-acked l s
-    nr low c valid))
-good-in_up role l s (Rr nr) r p low up c =
-    good-checked l s (Rr nr) r p nr (on_supervisory (acknowledged l nr) false false r p) _
-    (λ valid. good-supervisory (acknowledged l nr) s (ahead l.oldest nr) false false r p (counts-acked l s
-    nr low c valid))
-good-in_up role l s (Rnr nr) r p low up c =
-    good-checked l s (Rnr nr) r p nr (on_supervisory (acknowledged l nr) true false r p) _
-    (λ valid. good-supervisory (acknowledged l nr) s (ahead l.oldest nr) true false r p (counts-acked l s
-    nr low c valid))
-good-in_up role l s (Rej nr) r p low up c =
-    good-checked l s (Rej nr) r p nr (on_supervisory (acknowledged l nr) false true r p) _
-    (λ valid. good-supervisory (acknowledged l nr) s (ahead l.oldest nr) false true r p (counts-acked l s
-    nr low c valid))
-good-in_up role l s Disc r p low up c = good-out s 0 (take_disc l p) (record {
-  off = λ e. cc;
-  plain =
-      (refl, tt);
-})
-good-in_up role l s Ua r p low up c = good-still l s c
-good-in_up Dte l s Sabm r p low up c = good-out s 0 (set_up l) (record { off = λ e. cc; plain = (refl, tt) })
-good-in_up Dte l s Dm r p low up c = good-out s 0 (set_up l) (record {
-  off = λ e. cc;
-  plain = (refl, tt);
-})
-good-in_up Dte l s (Frmr report) r p low up c = good-out s 0 (set_up l) (record {
-  off = λ e. cc;
-  plain = (
-    refl,
-    tt,
-  );
-})
-good-in_up Dce l s Sabm r p low up c = good-still l s c
-good-in_up Dce l s Dm r p low up c = good-still l s c
-good-in_up Dce l s (Frmr report) r p low up c = good-out s 0 (disconnect l) (record {
-  off = λ e. cc;
-  plain =
-      (refl, tt);
-})
+newly-valid : (l : Link) {content : Content} {nr : ℕ} → Numbers content nr → is_valid l nr ≡ true
+    → newly l content ≡ ahead l.oldest nr
+newly-valid l {nr = nr} of_i valid = ap (λ b. if b then ahead l.oldest nr else 0) valid
+newly-valid l {nr = nr} of_rr valid = ap (λ b. if b then ahead l.oldest nr else 0) valid
+newly-valid l {nr = nr} of_rnr valid = ap (λ b. if b then ahead l.oldest nr else 0) valid
+newly-valid l {nr = nr} of_rej valid = ap (λ b. if b then ahead l.oldest nr else 0) valid
 
--- ---- the other phases
+in-range : {content : Content} {nr : ℕ} → Numbers content nr → IsInRange content → nr < 8
+in-range of_i low = low
+in-range of_rr low = low
+in-range of_rnr low = low
+in-range of_rej low = low
 
-out-still : (l : Link) → (l.phase ≡ Phase.Up → ⊥) → IsOut (still l)
-out-still l off = record { off = off; plain = tt }
+out-set_up : (l : Link) → IsOut (set_up l)
+out-set_up l = record { off = λ e. cc; plain = (refl, tt) }
 
-not_down : (l : Link) → l.phase ≡ Phase.Down → l.phase ≡ Phase.Up → ⊥
-not_down l e f = let x : Phase.Down ≡ Phase.Up = sym e ∙ f in cc
+out-disconnect : (l : Link) → IsOut (disconnect l)
+out-disconnect l = record { off = λ e. cc; plain = (refl, tt) }
 
-not_setting : (l : Link) → l.phase ≡ Phase.SettingUp → l.phase ≡ Phase.Up → ⊥
-not_setting l e f = let x : Phase.SettingUp ≡ Phase.Up = sym e ∙ f in cc
+out-take_disc : (l : Link) (p : Bool) → IsOut (take_disc l p)
+out-take_disc l p = record { off = λ e. cc; plain = (refl, tt) }
 
-not_rejecting : (l : Link) → l.phase ≡ Phase.Rejecting → l.phase ≡ Phase.Up → ⊥
-not_rejecting l e f = let x : Phase.Rejecting ≡ Phase.Up = sym e ∙ f in cc
-
-out-polite : (l : Link) (due : Bool) → l.phase ≡ Phase.Down → IsOut (if due then sends l (response Dm
-    true) else still l)
-out-polite l true e = record { off = not_down l e; plain = (refl, tt) }
-out-polite l false e = out-still l (not_down l e)
-
-out-in_down : (role : Role) (l : Link) (content : Content) (r p : Bool) → l.phase ≡ Phase.Down → IsOut (in_down role l
-    content r p)
-out-in_down Dte l Sabm r p e = record { off = λ f. cc; plain = (refl, tt) }
-out-in_down Dte l Dm r p e = record { off = λ f. cc; plain = (refl, tt) }
-out-in_down Dte l Disc r p e = record { off = not_down l e; plain = (refl, tt) }
-out-in_down Dte l (I ns nr packet) r p e = out-polite l (p && not r) e
-out-in_down Dte l (Rr nr) r p e = out-polite l (p && not r) e
-out-in_down Dte l (Rnr nr) r p e = out-polite l (p && not r) e
-out-in_down Dte l (Rej nr) r p e = out-polite l (p && not r) e
-out-in_down Dte l Ua r p e = out-polite l (p && not r) e
-out-in_down Dte l (Frmr report) r p e = out-polite l (p && not r) e
-out-in_down Dce l Sabm r p e = out-polite l (p && not r) e
-out-in_down Dce l Dm r p e = out-polite l (p && not r) e
-out-in_down Dce l Disc r p e = record { off = not_down l e; plain = (refl, tt) }
-out-in_down Dce l (I ns nr packet) r p e = out-polite l (p && not r) e
-out-in_down Dce l (Rr nr) r p e = out-polite l (p && not r) e
-out-in_down Dce l (Rnr nr) r p e = out-polite l (p && not r) e
-out-in_down Dce l (Rej nr) r p e = out-polite l (p && not r) e
-out-in_down Dce l Ua r p e = out-polite l (p && not r) e
-out-in_down Dce l (Frmr report) r p e = out-polite l (p && not r) e
+good-up : (l : Link) (s : Session) (content : Content) (r p : Bool) → IsInRange content → Counts l s →
+    UpRules l content r p (Good s (newly l content))
+good-up l s content r p low c =
+    let acked : (nr : ℕ) → Numbers content nr → is_valid l nr ≡ true →
+    Counts (acknowledged l nr) (record s { taken = s.taken + newly l content }) =
+    λ nr has valid. subst (λ n. Counts (acknowledged l nr) (record s { taken = s.taken + n })) (sym (newly-valid l has
+    valid)) (counts-acked l s nr (in-range has low) c valid) in
+    record {
+      still = λ none. subst (λ n. Good s n (still l)) (sym none) (good-still l s c);
+      set_up = good-out s (newly l content) (set_up l) (out-set_up l);
+      disconnect = good-out s (newly l content) (disconnect l) (out-disconnect l);
+      take_disc = good-out s (newly l content) (take_disc l p) (out-take_disc l p);
+      reject = good-out s (newly l content) (reject_number l content r p) (out-reject l.role l _ _);
+      supervisory = λ nr has valid busy back _. good-supervisory (acknowledged l nr) s (newly l content) busy back r p
+          (acked nr has valid);
+      accept = λ nr packet has valid _. good-accept (acknowledged l nr) s (newly l content) p packet
+          (acked nr has valid);
+      discard = λ nr has valid _. good-discard (acknowledged l nr) s (newly l content) p (acked nr has valid);
+    }
 
 -- a session that begins
 counts-begun : (l : Link) → l.oldest ≡ 0 → l.next ≡ 0 → l.top ≡ 0 → l.expected ≡ 0 → l.queue ≡ [] → Counts l begun
@@ -308,78 +245,28 @@ counts-begun l a b c d e =
       expected = d;
     }
 
-good-come_up : (l : Link) (s : Session) → Good s 0 (come_up l)
-good-come_up l s = (λ _. counts-begun (come_up l).link refl refl refl refl refl, (refl, tt))
-
-good-in_setting_up : (l : Link) (s : Session) (content : Content) (r p : Bool) → l.phase ≡ Phase.SettingUp →
-    Good s (newly l content) (in_setting_up l content r p)
-good-in_setting_up l s Ua r p e =
-    cond_by (λ b. Good s 0 (if b then come_up l else still l)) (is_same p l.bit) (λ _. good-come_up l s)
-    (λ _. good-out s 0 (still l) (out-still l (not_setting l e)))
-good-in_setting_up l s Disc r p e = good-out s 0 (sends l (response Dm p)) (record {
-  off =
-      not_setting l e;
-  plain = (refl, tt);
-})
-good-in_setting_up l s Sabm r p e = good-out s 0 (still l) (out-still l (not_setting l e))
-good-in_setting_up l s Dm r p e = good-out s 0 (still l) (out-still l (not_setting l e))
-good-in_setting_up l s (Frmr report) r p e = good-out s 0 (still l) (out-still l (not_setting l e))
-good-in_setting_up l s (I ns nr packet) r p e =
-    good-out s (newly l (I ns nr packet)) (still l) (out-still l (not_setting l e))
-good-in_setting_up l s (Rr nr) r p e = good-out s (newly l (Rr nr)) (still l) (out-still
-    l (not_setting l e))
-good-in_setting_up l s (Rnr nr) r p e = good-out s (newly l (Rnr nr)) (still l)
-    (out-still l (not_setting l e))
-good-in_setting_up l s (Rej nr) r p e = good-out s (newly l (Rej nr)) (still l) (out-still l
-    (not_setting l e))
-
-out-again : (l : Link) (r p : Bool) → l.phase ≡ Phase.Rejecting → IsOut (if r then still l else sends l (response
-    (Frmr l.report) p))
-out-again l true p e = out-still l (not_rejecting l e)
-out-again l false p e = record { off = not_rejecting l e; plain = (refl, tt) }
-
-out-in_rejecting : (l : Link) (content : Content) (r p : Bool) → l.phase ≡ Phase.Rejecting → IsOut (in_rejecting l
-    content r p)
-out-in_rejecting l Disc r p e = record { off = λ f. cc; plain = (refl, tt) }
-out-in_rejecting l Sabm r p e = out-again l r p e
-out-in_rejecting l Dm r p e = out-again l r p e
-out-in_rejecting l Ua r p e = out-again l r p e
-out-in_rejecting l (Frmr report) r p e = out-again l r p e
-out-in_rejecting l (I ns nr packet) r p e = out-again l r p e
-out-in_rejecting l (Rr nr) r p e = out-again l r p e
-out-in_rejecting l (Rnr nr) r p e = out-again l r p e
-out-in_rejecting l (Rej nr) r p e = out-again l r p e
-
-good-in_phase : (phase : Phase) (role : Role) (l : Link) (s : Session) (content : Content) (r p : Bool) → IsInRange
-    content → l.phase ≡ phase →
-    Agrees l s → Good s (newly l content) (in_phase phase role l content r p)
-good-in_phase Phase.Down role l s content r p low e c = good-out s (newly l content) (in_down role l content r p)
-    (out-in_down role l content r p e)
-good-in_phase Phase.SettingUp role l s content r p low e c = good-in_setting_up l s content r p e
-good-in_phase Phase.Up role l s content r p low e c = good-in_up role l s content r p low e (c e)
-good-in_phase Phase.Rejecting role l s content r p low e c =
-    good-out s (newly l content) (in_rejecting l content r p) (out-in_rejecting l content r p e)
-
-good-take_sabm : (l : Link) (s : Session) (p : Bool) → Good s 0 (take_sabm l p)
-good-take_sabm l s p = (λ _. counts-begun (take_sabm l p).link refl refl refl refl refl, (tt, tt))
+good-out_of : (l : Link) (s : Session) (content : Content) (p : Bool) → (l.phase ≡ Phase.Up → ⊥) →
+    OutRules l content p (Good s (newly l content))
+good-out_of l s content p off = record {
+  still = good-out s (newly l content) (still l) (record { off = off; plain = tt });
+  refuse = λ bit. good-out s (newly l content) (sends l (response Dm bit)) (record { off = off; plain = (refl, tt) });
+  report = λ bit. good-out s (newly l content) (sends l (response (Frmr l.report) bit)) (record {
+    off = off;
+    plain = (refl, tt);
+  });
+  set_up = good-out s (newly l content) (set_up l) (out-set_up l);
+  take_disc = good-out s (newly l content) (take_disc l p) (out-take_disc l p);
+  come_up = λ _ _ _. (λ _. counts-begun (come_up l).link refl refl refl refl refl, (refl, tt));
+}
 
 good-on_content : (l : Link) (s : Session) (content : Content) (role : Role) (r p : Bool) → IsInRange content → Agrees
     l s →
     Good s (newly l content) (on_content content role l r p)
-good-on_content l s Sabm Dce r p low c = good-take_sabm l s p
-good-on_content l s Sabm Dte r p low c = good-in_phase l.phase Dte l s Sabm r p low refl c
-good-on_content l s (I ns nr packet) role r p low c = good-in_phase l.phase role l s (I
-    ns nr packet) r p low refl c
-good-on_content l s (Rr nr) role r p low c = good-in_phase l.phase role l s (Rr nr) r p
-    low refl c
-good-on_content l s (Rnr nr) role r p low c = good-in_phase l.phase role l s (Rnr
-    nr) r p low refl c
-good-on_content l s (Rej nr) role r p low c = good-in_phase l.phase role l s (Rej nr) r p low refl c
-good-on_content l s Disc role r p low c = good-in_phase l.phase role l s Disc r p low refl c
-good-on_content l s Dm role r p low c = good-in_phase l.phase role l s Dm r p low refl c
-good-on_content l s Ua role r p low c = good-in_phase l.phase role l s Ua r p low refl c
-good-on_content l s (Frmr report) role r p low c = good-in_phase l.phase role l s (Frmr report) r p low
-    refl c
+good-on_content l s content role r p low c =
+    by_content content role l r p (Good s (newly l content))
+    (λ _ _. (λ _. counts-begun (take_sabm l p).link refl refl refl refl refl, (tt, tt)))
+    (λ up. by_up role l content r p (Good s (newly l content)) (good-up l s content r p low (c up)))
+    (λ off. good-out_of l s content p off)
 
 -- ---- what the calls make of a session
 
@@ -397,19 +284,11 @@ keeps-out l step out s c = (λ e. absurd (out.off e), are_named-plain s step.fra
 keeps-still : (l : Link) → Keeps l (still l)
 keeps-still l s c = (c, tt)
 
-out-relink_as : (role : Role) (phase : Phase) (l : Link) → l.phase ≡ phase → IsOut (relink_as role phase l)
-out-relink_as Dte Phase.SettingUp l e = out-still l (not_setting l e)
-out-relink_as Dte Phase.Down l e = record { off = λ f. cc; plain = (refl, tt) }
-out-relink_as Dte Phase.Up l e = record { off = λ f. cc; plain = (refl, tt) }
-out-relink_as Dte Phase.Rejecting l e = record { off = λ f. cc; plain = (refl, tt) }
-out-relink_as Dce Phase.SettingUp l e = record { off = λ f. cc; plain = (refl, tt) }
-out-relink_as Dce Phase.Down l e = record { off = λ f. cc; plain = (refl, tt) }
-out-relink_as Dce Phase.Up l e = record { off = λ f. cc; plain = (refl, tt) }
-out-relink_as Dce Phase.Rejecting l e = record { off = λ f. cc; plain = (refl, tt) }
-
 -- a start or relink
 pub named_relink : (l : Link) → Keeps l (relink l)
-named_relink l = keeps-out l (relink l) (out-relink_as l.role l.phase l refl)
+named_relink l =
+    by_relink l (Keeps l) (keeps-still l) (keeps-out l (set_up l) (out-set_up l))
+    (keeps-out l (disconnect l) (out-disconnect l))
 
 keeps-poll : (l : Link) → l.phase ≡ Phase.Up → Keeps l (poll l)
 keeps-poll l up s c =
@@ -426,41 +305,31 @@ keeps-poll l up s c =
       (d.expected, tt),
     )
 
-keeps-expire_in : (phase : Phase) (l : Link) → l.phase ≡ phase → Keeps l (expire_in phase l)
-keeps-expire_in Phase.Down l e = keeps-out l (expire_in Phase.Down l) (record {
-  off = not_down l e;
-  plain = (refl, tt);
-})
-keeps-expire_in Phase.SettingUp l e = keeps-out l (expire_in Phase.SettingUp l) (record {
-  off = not_setting l e;
-  plain
-      = (refl, tt);
-})
-keeps-expire_in Phase.Up l e =
-    cond_by (λ b. Keeps l (if b then relink l else poll l)) (nat_le l.n2 l.polls) (λ _. named_relink l) (λ _.
-    keeps-poll l e)
-keeps-expire_in Phase.Rejecting l e = keeps-out l (expire_in Phase.Rejecting l) (record {
-  off = not_rejecting l e;
-  plain = (refl, tt);
-})
-
 -- an expiry of T1
 pub named_on_t1 : (l : Link) → Keeps l (on_t1 l)
-named_on_t1 l =
-    cond_by (λ b. Keeps l (if b then expire_in l.phase l else still l)) (runs l)
-    (λ _. keeps-expire_in l.phase l refl) (λ _. keeps-still l)
+named_on_t1 l = by_t1 l (Keeps l) (record {
+  still = keeps-still l;
+  relink = named_relink l;
+  poll = λ up. keeps-poll l up;
+  refuse = λ off. keeps-out l (record (sends l (response Dm false)) { anew = true }) (record {
+    off = off;
+    plain = (refl, tt);
+  });
+  ask = λ setting. keeps-out l (record (sends l (command Sabm l.bit)) { anew = true }) (record {
+    off = not_setting l setting;
+    plain = (refl, tt);
+  });
+  report = λ off. keeps-out l (record (sends l (response (Frmr l.report) false)) { anew = true }) (record {
+    off = off;
+    plain = (refl, tt);
+  });
+})
 
 -- a frame that could not be read
-keeps-on_defect_in : (phase : Phase) (l : Link) (defect : Defect) (control : ℕ) (r : Bool) → Keeps l (on_defect_in
-    phase l defect control r)
-keeps-on_defect_in Phase.Down l defect control r = keeps-still l
-keeps-on_defect_in Phase.SettingUp l defect control r = keeps-still l
-keeps-on_defect_in Phase.Up l defect control r =
-    keeps-out l (on_defect_in Phase.Up l defect control r) (out-reject l.role l (defect_report l defect control r) _)
-keeps-on_defect_in Phase.Rejecting l defect control r = keeps-still l
-
 pub named_on_defect : (l : Link) (defect : Defect) (control : ℕ) (r : Bool) → Keeps l (on_defect l defect control r)
-named_on_defect l defect control r = keeps-on_defect_in l.phase l defect control r
+named_on_defect l defect control r =
+    by_defect l defect control r (Keeps l) (keeps-still l)
+    (λ _ bit. keeps-out l _ (out-reject l.role l (defect_report l defect control r) bit))
 
 -- ---- the end of an event
 
@@ -522,17 +391,8 @@ keeps-send_all l (packet ∷ packets) which up s c =
           (omega arith) (omega (arith, d.oldest)) d.expected,
     )
 
-keeps-settle_in : (phase : Phase) (l : Link) → l.phase ≡ phase → Keeps l (settle_in phase l)
-keeps-settle_in Phase.Down l e = keeps-still l
-keeps-settle_in Phase.SettingUp l e = keeps-still l
-keeps-settle_in Phase.Up l e =
-    cond_by (λ b. Keeps l (send_all l (if b then drop l.next l.queue else []))) (l.heard && not l.polling && not
-    l.busy)
-    (λ _. keeps-send_all l (drop l.next l.queue) (inr refl) e) (λ _. keeps-send_all l [] (inl refl) e)
-keeps-settle_in Phase.Rejecting l e = keeps-still l
-
 pub named_settle : (l : Link) → Keeps l (settle l)
-named_settle l = keeps-settle_in l.phase l refl
+named_settle l = by_settle l (Keeps l) (keeps-still l) (λ up packets which. keeps-send_all l packets which up)
 
 -- ---- an offer
 

@@ -1,5 +1,5 @@
 -- Frames that carry no number, and what both roles share of an offer.
-use Rattle.std.specs.Prelude.{◌≡◌, ℕ, ◌≤◌, false, List, [], ◌∷◌, ◌++◌, length, nat_le}
+use Rattle.std.specs.Prelude.{◌≡◌, ℕ, ◌≤◌, false, List, ◌++◌, length, nat_le}
 use Rattle.std.proofs.Common.{ap, arith, leb-false}
 use Rattle.frame_codec.specs.Frame.{FrameValue, Content}
 use Rattle.frame_codec.specs.Frame.Content.{I, Rr, Rnr, Rej, Sabm, Disc, Dm, Ua, Frmr}

@@ -1,6 +1,6 @@
 -- Sessions come in rising order: the acts of SABMs, the sessions of both ends, and what each call tells.
 use Rattle.std.specs.Prelude.{◌≡◌, ℕ, ◌+◌, ◌<◌, ◌≤◌, Bool, true, false, not, ◌&&◌, ◌⊎◌, List, [], ◌∷◌, Option, Some}
-use Rattle.std.specs.Prelude.{None, if◌then◌else◌, nat_le, ◌==◌, Result, Ok, Err}
+use Rattle.std.specs.Prelude.{None, if◌then◌else◌, Result, Ok, Err}
 use Rattle.std.proofs.Common.{refl, sym, ap, ◌∙◌, subst, inl, inr, arith}
 use Rattle.link_timers.specs.declared.role.Role.{Role}
 use Rattle.link_timers.specs.declared.role.Role.TheVariants.{Dte, Dce}
@@ -8,16 +8,15 @@ use Rattle.frame_codec.specs.declared.fault.FrameFault.{FrameFault}
 use Rattle.frame_codec.specs.declared.fault.FrameFault.TheVariants.{TooShort, WrongAddress, UnknownControl}
 use Rattle.frame_codec.specs.declared.fault.FrameFault.TheVariants.{InfoNotAllowed, InfoTooLong}
 use Rattle.frame_codec.specs.Frame.{FrameValue, Content, Report}
-use Rattle.frame_codec.specs.Frame.Content.{I, Rr, Rnr, Rej, Sabm, Disc, Dm, Ua, Frmr}
+use Rattle.frame_codec.specs.Frame.Content.{Rr, Rej}
 use Rattle.frame_codec.specs.Reading.{reading}
 use Rattle.frame_codec.specs.Spelling.{spelling}
 use Rattle.lapb.specs.declared.phase.Phase.{Phase}
 use Rattle.lapb.specs.declared.note.Note.{Note}
-use Rattle.lapb.specs.Machine.{Octets, Link, Step, left, answers, response, still, sends, relink, relink_as, come_up}
-use Rattle.lapb.specs.Machine.{reject_as, reject_number, is_valid, acknowledged, on_supervisory, accept, discard}
-use Rattle.lapb.specs.Machine.{on_information, in_up, in_setting_up, in_down, in_rejecting, in_phase, on_content}
-use Rattle.lapb.specs.Machine.{on_frame, on_t1, expire_in, runs, poll, numbered, send_all, sendable, settle}
-use Rattle.lapb.specs.Machine.{settle_in, is_same, is_up}
+use Rattle.lapb.specs.Machine.{Octets, Link, Step, left, answers, response, still, set_up, disconnect, relink}
+use Rattle.lapb.specs.Machine.{reject_as, accept, discard}
+use Rattle.lapb.specs.Machine.{on_frame, on_t1, poll, numbered, send_all, settle}
+use Rattle.lapb.specs.Machine.{is_up}
 use Rattle.lapb.specs.Octets.{on_octets, on_reading, on_fault}
 use Rattle.lapb.specs.World.{Sent, World, Params, Event, Offer, Deliver, Lose, Expire, Relink, Settle, Restart}
 use Rattle.lapb.specs.World.{stamped, kept_of, is_sabm, is_setting_up, is_up_note, act_after, dte_does, to_dte}
@@ -30,6 +29,7 @@ use Rattle.lapb.proofs.Cases.{cond_by, Each, each-kept, each-weaken}
 use Rattle.lapb.proofs.Flights.{Flight, flight-append, flight-stamped, Ups}
 use Rattle.lapb.proofs.Inv.{Inv}
 use Rattle.lapb.proofs.Events.{happens-keeps}
+use Rattle.lapb.proofs.Rules.{UpRules, OutRules, by_up, by_content, by_relink, by_t1, by_settle}
 use Rattle.lapb.proofs.Notes.{Says, begins, continues, ends, stays_out, says_on_frame, says_on_t1, says_relink}
 use Rattle.lapb.proofs.Notes.{says_settle, says_on_defect, dte_begins}
 use Rattle.lapb.proofs.LinkLaw.{opening-meets, always-inv}
@@ -127,39 +127,31 @@ left-not_up Phase.SettingUp = refl
 left-not_up Phase.Up = refl
 left-not_up Phase.Rejecting = refl
 
-plain-relink_as : (role : Role) (phase : Phase) (l : Link) → IsPlain (relink_as role phase l)
-plain-relink_as Dte Phase.SettingUp l = record { begins = refl; accepts = refl }
-plain-relink_as Dte Phase.Down l = record { begins = left-not_up l.phase; accepts = refl }
-plain-relink_as Dte Phase.Up l = record { begins = left-not_up l.phase; accepts = refl }
-plain-relink_as Dte Phase.Rejecting l = record { begins = left-not_up l.phase; accepts = refl }
-plain-relink_as Dce phase l = record { begins = left-not_up l.phase; accepts = refl }
+plain-left : (step : Step) (phase : Phase) → step.note ≡ left phase → step.accepted ≡ None → IsPlain step
+plain-left step phase note none = record { begins = ap is_up_note note ∙ left-not_up phase; accepts = none }
 
 pub plain_relink : (l : Link) → IsPlain (relink l)
-plain_relink l = plain-relink_as l.role l.phase l
-
-plain-expire_in : (phase : Phase) (l : Link) → IsPlain (expire_in phase l)
-plain-expire_in Phase.Down l = record { begins = refl; accepts = refl }
-plain-expire_in Phase.SettingUp l = record { begins = refl; accepts = refl }
-plain-expire_in Phase.Up l = cond_by (λ b. IsPlain (if b then relink l else poll l)) (nat_le l.n2 l.polls)
-    (λ _. plain_relink l) (λ _. record { begins = refl; accepts = refl })
-plain-expire_in Phase.Rejecting l = record { begins = refl; accepts = refl }
+plain_relink l =
+    by_relink l IsPlain (record { begins = refl; accepts = refl }) (plain-left (set_up l) l.phase refl refl)
+    (plain-left (disconnect l) l.phase refl refl)
 
 pub plain_on_t1 : (l : Link) → IsPlain (on_t1 l)
-plain_on_t1 l = cond_by (λ b. IsPlain (if b then expire_in l.phase l else still l)) (runs l)
-    (λ _. plain-expire_in l.phase l) (λ _. record { begins = refl; accepts = refl })
+plain_on_t1 l = by_t1 l IsPlain (record {
+  still = record { begins = refl; accepts = refl };
+  relink = plain_relink l;
+  poll = λ _. record { begins = refl; accepts = refl };
+  refuse = λ _. record { begins = refl; accepts = refl };
+  ask = λ _. record { begins = refl; accepts = refl };
+  report = λ _. record { begins = refl; accepts = refl };
+})
 
 plain-send_all : (l : Link) (packets : List Octets) → IsPlain (send_all l packets)
 plain-send_all l [] = record { begins = refl; accepts = refl }
 plain-send_all l (packet ∷ packets) = record { begins = refl; accepts = refl }
 
-plain-settle_in : (phase : Phase) (l : Link) → IsPlain (settle_in phase l)
-plain-settle_in Phase.Up l = plain-send_all l (sendable l)
-plain-settle_in Phase.Down l = record { begins = refl; accepts = refl }
-plain-settle_in Phase.SettingUp l = record { begins = refl; accepts = refl }
-plain-settle_in Phase.Rejecting l = record { begins = refl; accepts = refl }
-
 pub plain_settle : (l : Link) → IsPlain (settle l)
-plain_settle l = plain-settle_in l.phase l
+plain_settle l =
+    by_settle l IsPlain (record { begins = refl; accepts = refl }) (λ _ packets _. plain-send_all l packets)
 
 pub calls_tell : (l : Link) → CallsTell l
 calls_tell l = record {
@@ -191,151 +183,59 @@ sets-reject : (role : Role) (l : Link) (report : Report) (p : Bool) → MaySet (
 sets-reject Dte l report p = inl refl
 sets-reject Dce l report p = inr (refl, tt)
 
-sets-information : (l : Link) (ns : ℕ) (p : Bool) (packet : Octets) → MaySet (on_information l ns p packet)
-sets-information l ns p packet =
-    cond_by (λ b. MaySet (if b then accept l p packet else discard l p)) (ns == l.expected)
-    (λ _. inr (none-answers p _))
-    (λ _. inr (cond_by (λ b. NoSets (if b then answers p l.expected else response (Rej l.expected) p ∷ [])) l.rejecting
-    (λ _. none-answers p l.expected) (λ _. (refl, tt))))
+none-discarded : (rejecting due : Bool) (nr : ℕ) → NoSets (if rejecting then answers due nr else response (Rej nr) due ∷
+    [])
+none-discarded true due nr = none-answers due nr
+none-discarded false due nr = (refl, tt)
 
-sets-checked : (l : Link) (content : Content) (r p : Bool) (nr : ℕ) (taken : Step) (anew : Bool) → MaySet taken →
-    MaySet (if is_valid l nr then record taken { anew = anew } else reject_number l content r p)
-sets-checked l content r p nr taken anew sets =
-    cond_by (λ b. MaySet (if b then record taken { anew = anew } else reject_number l content r p)) (is_valid l nr)
-    (λ _. sets) (λ _. sets-reject l.role l _ _)
+sets-up : (l : Link) (content : Content) (r p : Bool) → UpRules l content r p MaySet
+sets-up l content r p = record {
+  still = λ _. inr tt;
+  set_up = inl refl;
+  disconnect = inr (refl, tt);
+  take_disc = inr (refl, tt);
+  reject = sets-reject l.role l _ _;
+  supervisory = λ _ _ _ _ _ _. inr (none-answers (p && not r) l.expected);
+  accept = λ _ _ _ _ _. inr (none-answers p _);
+  discard = λ _ _ _ _. inr (none-discarded l.rejecting p l.expected);
+}
 
-sets-supervisory : (l : Link) (busy back r p : Bool) → MaySet (on_supervisory l busy back r p)
-sets-supervisory l busy back r p = inr (none-answers (p && not r) l.expected)
-
-sets-in_up : (role : Role) (l : Link) (content : Content) (r p : Bool) → MaySet (in_up role l content r p)
-sets-in_up role l (I ns nr packet) r p =
-    sets-checked l (I ns nr packet) r p nr (on_information (acknowledged l nr) ns p packet) _
-    (sets-information (acknowledged l nr) ns p packet)
-sets-in_up role l (Rr nr) r p =
-    sets-checked l (Rr nr) r p nr (on_supervisory (acknowledged l nr) false false r p) _
-    (sets-supervisory (acknowledged l nr) false false r p)
-sets-in_up role l (Rnr nr) r p =
-    sets-checked l (Rnr nr) r p nr (on_supervisory (acknowledged l nr) true false r p) _
-    (sets-supervisory (acknowledged l nr) true false r p)
-sets-in_up role l (Rej nr) r p =
-    sets-checked l (Rej nr) r p nr (on_supervisory (acknowledged l nr) false true r p) _
-    (sets-supervisory (acknowledged l nr) false true r p)
-sets-in_up role l Disc r p = inr (refl, tt)
-sets-in_up role l Ua r p = inr tt
-sets-in_up Dte l Sabm r p = inl refl
-sets-in_up Dte l Dm r p = inl refl
-sets-in_up Dte l (Frmr report) r p = inl refl
-sets-in_up Dce l Sabm r p = inr tt
-sets-in_up Dce l Dm r p = inr tt
-sets-in_up Dce l (Frmr report) r p = inr (refl, tt)
-
-sets-in_setting_up : (l : Link) (content : Content) (r p : Bool) → MaySet (in_setting_up l content r p)
-sets-in_setting_up l Ua r p =
-    cond_by (λ b. MaySet (if b then come_up l else still l)) (is_same p l.bit) (λ _. inr (refl, tt)) (λ _. inr tt)
-sets-in_setting_up l Disc r p = inr (refl, tt)
-sets-in_setting_up l Sabm r p = inr tt
-sets-in_setting_up l Dm r p = inr tt
-sets-in_setting_up l (Frmr report) r p = inr tt
-sets-in_setting_up l (I ns nr packet) r p = inr tt
-sets-in_setting_up l (Rr nr) r p = inr tt
-sets-in_setting_up l (Rnr nr) r p = inr tt
-sets-in_setting_up l (Rej nr) r p = inr tt
-
-sets-polite : (l : Link) (due : Bool) → MaySet (if due then sends l (response Dm true) else still l)
-sets-polite l true = inr (refl, tt)
-sets-polite l false = inr tt
-
-sets-in_down : (role : Role) (l : Link) (content : Content) (r p : Bool) → MaySet (in_down role l content r p)
-sets-in_down Dte l Sabm r p = inl refl
-sets-in_down Dte l Dm r p = inl refl
-sets-in_down Dte l Disc r p = inr (refl, tt)
-sets-in_down Dte l (I ns nr packet) r p = sets-polite l (p && not r)
-sets-in_down Dte l (Rr nr) r p = sets-polite l (p && not r)
-sets-in_down Dte l (Rnr nr) r p = sets-polite l (p && not r)
-sets-in_down Dte l (Rej nr) r p = sets-polite l (p && not r)
-sets-in_down Dte l Ua r p = sets-polite l (p && not r)
-sets-in_down Dte l (Frmr report) r p = sets-polite l (p && not r)
-sets-in_down Dce l Sabm r p = sets-polite l (p && not r)
-sets-in_down Dce l Dm r p = sets-polite l (p && not r)
-sets-in_down Dce l Disc r p = inr (refl, tt)
-sets-in_down Dce l (I ns nr packet) r p = sets-polite l (p && not r)
-sets-in_down Dce l (Rr nr) r p = sets-polite l (p && not r)
-sets-in_down Dce l (Rnr nr) r p = sets-polite l (p && not r)
-sets-in_down Dce l (Rej nr) r p = sets-polite l (p && not r)
-sets-in_down Dce l Ua r p = sets-polite l (p && not r)
-sets-in_down Dce l (Frmr report) r p = sets-polite l (p && not r)
-
-sets-again : (l : Link) (r p : Bool) → MaySet (if r then still l else sends l (response (Frmr l.report) p))
-sets-again l true p = inr tt
-sets-again l false p = inr (refl, tt)
-
-sets-in_rejecting : (l : Link) (content : Content) (r p : Bool) → MaySet (in_rejecting l content r p)
-sets-in_rejecting l Disc r p = inr (refl, tt)
-sets-in_rejecting l Sabm r p = sets-again l r p
-sets-in_rejecting l Dm r p = sets-again l r p
-sets-in_rejecting l Ua r p = sets-again l r p
-sets-in_rejecting l (Frmr report) r p = sets-again l r p
-sets-in_rejecting l (I ns nr packet) r p = sets-again l r p
-sets-in_rejecting l (Rr nr) r p = sets-again l r p
-sets-in_rejecting l (Rnr nr) r p = sets-again l r p
-sets-in_rejecting l (Rej nr) r p = sets-again l r p
-
-sets-in_phase : (phase : Phase) (role : Role) (l : Link) (content : Content) (r p : Bool) →
-    MaySet (in_phase phase role l content r p)
-sets-in_phase Phase.Down role l content r p = sets-in_down role l content r p
-sets-in_phase Phase.SettingUp role l content r p = sets-in_setting_up l content r p
-sets-in_phase Phase.Up role l content r p = sets-in_up role l content r p
-sets-in_phase Phase.Rejecting role l content r p = sets-in_rejecting l content r p
-
-sets-content : (content : Content) (role : Role) (l : Link) (r p : Bool) → MaySet (on_content content role l r p)
-sets-content Sabm Dce l r p = inr (refl, tt)
-sets-content Sabm Dte l r p = sets-in_phase l.phase Dte l Sabm r p
-sets-content (I ns nr packet) role l r p = sets-in_phase l.phase role l (I ns nr packet) r p
-sets-content (Rr nr) role l r p = sets-in_phase l.phase role l (Rr nr) r p
-sets-content (Rnr nr) role l r p = sets-in_phase l.phase role l (Rnr nr) r p
-sets-content (Rej nr) role l r p = sets-in_phase l.phase role l (Rej nr) r p
-sets-content Disc role l r p = sets-in_phase l.phase role l Disc r p
-sets-content Dm role l r p = sets-in_phase l.phase role l Dm r p
-sets-content Ua role l r p = sets-in_phase l.phase role l Ua r p
-sets-content (Frmr report) role l r p = sets-in_phase l.phase role l (Frmr report) r p
+sets-out : (l : Link) (content : Content) (p : Bool) → OutRules l content p MaySet
+sets-out l content p = record {
+  still = inr tt;
+  refuse = λ _. inr (refl, tt);
+  report = λ _. inr (refl, tt);
+  set_up = inl refl;
+  take_disc = inr (refl, tt);
+  come_up = λ _ _ _. inr (refl, tt);
+}
 
 sets-frame : (l : Link) (frame : FrameValue) → MaySet (on_frame l frame)
-sets-frame l frame = sets-content frame.content l.role l frame.response frame.pf
-
-sets-relink_as : (role : Role) (phase : Phase) (l : Link) → MaySet (relink_as role phase l)
-sets-relink_as Dte Phase.SettingUp l = inr tt
-sets-relink_as Dte Phase.Down l = inl refl
-sets-relink_as Dte Phase.Up l = inl refl
-sets-relink_as Dte Phase.Rejecting l = inl refl
-sets-relink_as Dce phase l = inr (refl, tt)
+sets-frame l frame =
+    by_content frame.content l.role l frame.response frame.pf MaySet (λ _ _. inr (refl, tt))
+    (λ _. by_up l.role l frame.content frame.response frame.pf MaySet (sets-up l frame.content frame.response frame.pf))
+    (λ _. sets-out l frame.content frame.pf)
 
 sets-relink : (l : Link) → MaySet (relink l)
-sets-relink l = sets-relink_as l.role l.phase l
-
-sets-expire_in : (phase : Phase) (l : Link) → l.phase ≡ phase → MaySet (expire_in phase l)
-sets-expire_in Phase.Down l e = inr (refl, tt)
-sets-expire_in Phase.SettingUp l e = inl e
-sets-expire_in Phase.Up l e = cond_by (λ b. MaySet (if b then relink l else poll l)) (nat_le l.n2 l.polls)
-    (λ _. sets-relink l) (λ _. inr (refl, tt))
-sets-expire_in Phase.Rejecting l e = inr (refl, tt)
+sets-relink l = by_relink l MaySet (inr tt) (inl refl) (inr (refl, tt))
 
 sets-t1 : (l : Link) → MaySet (on_t1 l)
-sets-t1 l = cond_by (λ b. MaySet (if b then expire_in l.phase l else still l)) (runs l)
-    (λ _. sets-expire_in l.phase l refl) (λ _. inr tt)
+sets-t1 l = by_t1 l MaySet (record {
+  still = inr tt;
+  relink = sets-relink l;
+  poll = λ _. inr (refl, tt);
+  refuse = λ _. inr (refl, tt);
+  ask = λ setting. inl setting;
+  report = λ _. inr (refl, tt);
+})
 
 sets-send_all : (l : Link) (packets : List Octets) → MaySet (send_all l packets)
 sets-send_all l [] = inr (cond_by (λ b. NoSets (if b then response (Rr l.expected) false ∷ [] else [])) l.owed
     (λ _. (refl, tt)) (λ _. tt))
 sets-send_all l (packet ∷ packets) = inr (none-numbered (l.oldest + l.next) l.expected (packet ∷ packets))
 
-sets-settle_in : (phase : Phase) (l : Link) → MaySet (settle_in phase l)
-sets-settle_in Phase.Up l = sets-send_all l (sendable l)
-sets-settle_in Phase.Down l = inr tt
-sets-settle_in Phase.SettingUp l = inr tt
-sets-settle_in Phase.Rejecting l = inr tt
-
 sets-settle : (l : Link) → MaySet (settle l)
-sets-settle l = sets-settle_in l.phase l
+sets-settle l = by_settle l MaySet (inr tt) (λ _ packets _. sets-send_all l packets)
 
 -- ---- acts and sessions
 

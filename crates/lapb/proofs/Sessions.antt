@@ -1,86 +1,46 @@
 -- Which session an end stands in after it took a frame, and that it begins fresh.
-use Rattle.std.specs.Prelude.{◌≡◌, ℕ, Bool, true, false, not, ◌&&◌, List, [], ◌∷◌, if◌then◌else◌}
-use Rattle.std.proofs.Common.{refl, sym, ap, ◌∙◌, subst}
+use Rattle.std.specs.Prelude.{◌≡◌, ℕ, Bool, false, not, List, [], ◌∷◌, if◌then◌else◌}
+use Rattle.std.proofs.Common.{refl, sym, ap, ◌∙◌, subst, inl, inr}
 use Rattle.link_timers.specs.declared.role.Role.{Role}
 use Rattle.link_timers.specs.declared.role.Role.TheVariants.{Dte, Dce}
 use Rattle.frame_codec.specs.Frame.{FrameValue, Content, I, Rr, Rnr, Rej, Sabm, Disc, Dm, Ua, Frmr}
 use Rattle.frame_codec.specs.Spelling.{spelling}
 use Rattle.lapb.specs.declared.phase.Phase.{Phase}
 use Rattle.lapb.specs.declared.note.Note.{Note}
-use Rattle.lapb.specs.Machine.{Octets, Link, Step, response, still, sends, left, in_phase, in_up, in_down}
-use Rattle.lapb.specs.Machine.{in_rejecting, on_content, on_frame}
+use Rattle.lapb.specs.Machine.{Octets, Link, Step, response}
+use Rattle.lapb.specs.Machine.{on_content, on_frame}
 use Rattle.lapb.specs.World.{Sent, World, Deliver, logged, emptied, is_sabm, is_up_note, to_dte, to_dce, happens}
 use Rattle.lapb.specs.Octets.{on_octets}
 use Rattle.lapb.specs.Fits.{AllSpelt, octets_of}
 use Rattle.lapb.specs.Line.{StandsIn}
-use Rattle.lapb.proofs.Notes.{Stays, goes_on, leaves, stays-in_up}
+use Rattle.lapb.proofs.Notes.{begins_by}
 use Rattle.lapb.proofs.Inv.{Inv}
 use Rattle.lapb.proofs.Reach.{reached_inv, reached_begins_fresh}
 use Rattle.lapb.proofs.Fitting.{octets_taken}
 
 -- ---- a DCE begins a session by a SABM, and by nothing else
 
-quiet-down : (l : Link) (due : Bool) → (if due then sends l (response Dm true) else still l).note
-    ≡ Note.Nothing
-quiet-down l true = refl
-quiet-down l false = refl
+no-up : (note : Note) → (note ≡ Note.Up → ⊥) → is_up_note note ≡ false
+no-up Note.Nothing not = refl
+no-up Note.Up not = absurd (not refl)
+no-up Note.Down not = refl
 
-quiet-in_down : (l : Link) (content : Content) (r p : Bool) → (in_down Dce l content r p).note ≡ Note.Nothing
-quiet-in_down l Sabm r p = quiet-down l (p && not r)
-quiet-in_down l Disc r p = refl
-quiet-in_down l Dm r p = quiet-down l (p && not r)
-quiet-in_down l (I ns nr packet) r p = quiet-down l (p && not r)
-quiet-in_down l (Rr nr) r p = quiet-down l (p && not r)
-quiet-in_down l (Rnr nr) r p = quiet-down l (p && not r)
-quiet-in_down l (Rej nr) r p = quiet-down l (p && not r)
-quiet-in_down l Ua r p = quiet-down l (p && not r)
-quiet-in_down l (Frmr report) r p = quiet-down l (p && not r)
-
-quiet-again : (l : Link) (r p : Bool) → (if r then still l else sends l (response (Frmr l.report) p)).note
-    ≡ Note.Nothing
-quiet-again l true p = refl
-quiet-again l false p = refl
-
-quiet-in_rejecting : (l : Link) (content : Content) (r p : Bool) → l.phase ≡ Phase.Rejecting →
-    (in_rejecting l content r p).note ≡ Note.Nothing
-quiet-in_rejecting l Disc r p e = ap left e
-quiet-in_rejecting l Sabm r p e = quiet-again l r p
-quiet-in_rejecting l Dm r p e = quiet-again l r p
-quiet-in_rejecting l (I ns nr packet) r p e = quiet-again l r p
-quiet-in_rejecting l (Rr nr) r p e = quiet-again l r p
-quiet-in_rejecting l (Rnr nr) r p e = quiet-again l r p
-quiet-in_rejecting l (Rej nr) r p e = quiet-again l r p
-quiet-in_rejecting l Ua r p e = quiet-again l r p
-quiet-in_rejecting l (Frmr report) r p e = quiet-again l r p
-
-no-up : (note : Note) → note ≡ Note.Nothing → is_up_note note ≡ false
-no-up note e = ap is_up_note e
-
-stays-no_up : (step : Step) → Stays step → is_up_note step.note ≡ false
-stays-no_up step (goes_on up none) = ap is_up_note none
-stays-no_up step (leaves off down none) = ap is_up_note down
-
-quiet-in_phase : (phase : Phase) (l : Link) (content : Content) (r p : Bool) → (phase ≡ Phase.SettingUp → ⊥)
-    → l.phase ≡ phase →
-    is_up_note (in_phase phase Dce l content r p).note ≡ false
-quiet-in_phase Phase.Down l content r p off e = no-up (in_down Dce l content r p).note (quiet-in_down l content r p)
-quiet-in_phase Phase.SettingUp l content r p off e = absurd (off refl)
-quiet-in_phase Phase.Up l content r p off e = stays-no_up (in_up Dce l content r p) (stays-in_up Dce l content r p e)
-quiet-in_phase Phase.Rejecting l content r p off e = no-up (in_rejecting l content r p).note
-    (quiet-in_rejecting l content r p e)
+quiet-else : (l : Link) (content : Content) (r p : Bool) → (l.phase ≡ Phase.SettingUp → ⊥) → (content ≡ Sabm → ⊥)
+    → is_up_note (on_content content Dce l r p).note ≡ false
+quiet-else l content r p off other = no-up (on_content content Dce l r p).note
+    (λ note. elim (begins_by l content Dce r p note) [ inl sabm ↦ other sabm.0 | inr answer ↦ off answer.0 ])
 
 dce_content : (l : Link) (content : Content) (r p : Bool) → (l.phase ≡ Phase.SettingUp → ⊥) →
     is_up_note (on_content content Dce l r p).note ≡ is_sabm content
 dce_content l Sabm r p off = refl
-dce_content l Disc r p off = quiet-in_phase l.phase l Disc r p off refl
-dce_content l Dm r p off = quiet-in_phase l.phase l Dm r p off refl
-dce_content l (I ns nr packet) r p off = quiet-in_phase l.phase l
-    (I ns nr packet) r p off refl
-dce_content l (Rr nr) r p off = quiet-in_phase l.phase l (Rr nr) r p off refl
-dce_content l (Rnr nr) r p off = quiet-in_phase l.phase l (Rnr nr) r p off refl
-dce_content l (Rej nr) r p off = quiet-in_phase l.phase l (Rej nr) r p off refl
-dce_content l Ua r p off = quiet-in_phase l.phase l Ua r p off refl
-dce_content l (Frmr report) r p off = quiet-in_phase l.phase l (Frmr report) r p off refl
+dce_content l Disc r p off = quiet-else l Disc r p off (λ e. cc)
+dce_content l Dm r p off = quiet-else l Dm r p off (λ e. cc)
+dce_content l (I ns nr packet) r p off = quiet-else l (I ns nr packet) r p off (λ e. cc)
+dce_content l (Rr nr) r p off = quiet-else l (Rr nr) r p off (λ e. cc)
+dce_content l (Rnr nr) r p off = quiet-else l (Rnr nr) r p off (λ e. cc)
+dce_content l (Rej nr) r p off = quiet-else l (Rej nr) r p off (λ e. cc)
+dce_content l Ua r p off = quiet-else l Ua r p off (λ e. cc)
+dce_content l (Frmr report) r p off = quiet-else l (Frmr report) r p off (λ e. cc)
 
 pub dce_begins : (l : Link) (frame : FrameValue) → l.role ≡ Dce → (l.phase ≡ Phase.SettingUp → ⊥) →
     is_up_note (on_frame l frame).note ≡ is_sabm frame.content

@@ -13,10 +13,10 @@ pub enum Note {
 /// What becomes of T1 (X.25 2.4.8.1).
 #[derive(Clone, Copy, PartialEq, Eq)]
 pub enum Timing {
-    /// It goes on as it is, running or not.
+    /// T1 goes on as it is, running or not.
     Keep,
-    /// It starts anew, whether it runs or not.
+    /// T1 starts again, whether it runs or not.
     Start,
-    /// It stops, where it runs.
+    /// T1 stops, if it runs.
     Stop,
 }

@@ -119,7 +119,7 @@ impl Node {
         }
     }
 
-    /// Whether it is a host with a call on the channel in which no packet that asks for delivery confirmation (D = 1)
+    /// Whether the node is a host with a call on the channel in which no packet that asks for delivery confirmation (D = 1)
     /// still waits for the P(R) that covers it (X.25 4.3.3).
     pub fn confirmed(&self, channel: u8) -> bool
         ensures { result ≡ node_confirmed (node_of self.now) channel }
@@ -130,7 +130,7 @@ impl Node {
         }
     }
 
-    /// Whether it is a PAD.
+    /// Whether the node is a PAD.
     pub fn is_pad(&self) -> bool
         ensures { result ≡ is_pad (node_of self.now) }
     {

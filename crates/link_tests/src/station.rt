@@ -1,3 +1,4 @@
+//! A link with a pool of its own, as a station of the tests.
 ghost use Rattle.std.specs.Prelude.{◌≤◌, length};
 ghost use Rattle.frame_codec.specs.Spelling.{most_information};
 

@@ -9,7 +9,6 @@ ghost use Rattle.std.specs.Prelude.{
   ◌↔◌,
   true,
   false,
-  map,
   length,
   Some,
   None,
@@ -275,8 +274,8 @@ fn channel_place(first: usize, channel: u8) -> Option<usize>
 }
 
 fn terminal_place(terminal: u8) -> Option<usize>
-    ensures { MatchOption result (place_in FIRST_IDLE 0 15 terminal ≡ places) (λ place. (place ≡ place_in FIRST_IDLE 0 15 terminal)
-        × (place < places)) }
+    ensures { MatchOption result (place_in FIRST_IDLE 0 15 terminal ≡ places) (λ place. (place ≡ place_in
+        FIRST_IDLE 0 15 terminal) × (place < places)) }
 {
     if terminal >= TERMINALS {
         return None;

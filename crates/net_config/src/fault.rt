@@ -1,3 +1,4 @@
+//! Why a network is not made.
 use std::alloc::{AllocError, AllocFailed};
 use thiserror::Error;
 

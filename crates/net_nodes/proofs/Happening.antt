@@ -25,7 +25,7 @@ use Rattle.net_events.specs.declared.node_event.HostEvent.{HostEvent}
 use Rattle.net_events.specs.declared.node_event.UserEvent.{UserEvent}
 use Rattle.net_events.specs.declared.node_event.UserEvent.TheVariants as user_event
 use Rattle.net_nodes.specs.declared.nodes.LineSide.{LineSide}
-use Rattle.net_nodes.specs.Places.{EndStands, IsStanding, IsPlaceOf, user_at}
+use Rattle.net_nodes.specs.Places.{EndStands, IsStanding, IsPlaceOf}
 use Rattle.placed_nodes.specs.Node.{is_host, terminals_of, terminals_there}
 use Rattle.net_nodes.specs.Faults.{refused, step_fault, takes_memory, IsLeftToNode, MayWant, at_node, at_host, at_terminal, where_there_is, on_channel, is_channel_at, has_channel}
 use Rattle.net_nodes.specs.Turns.{CanAct, AtEnd, ActsSo, Acts, UserActs}

@@ -7,23 +7,18 @@ use Rattle.call_records.specs.Register as spec
 use Rattle.call_records.specs.Register.{book_at, with_book}
 use Rattle.call_records.specs.RegisterView.{register_with, register_of, lines_of, IsOpen}
 use Rattle.call_records.specs.declared.register.Register.{Register}
-use Rattle.line_nodes.specs.Node.{NodeState, drained, frames_of}
-use Rattle.line_nodes.specs.Turn.{Turn}
-use Rattle.line_nodes.specs.Notes.{host_notes}
+use Rattle.line_nodes.specs.Node.{NodeState}
 use Rattle.line_nodes.specs.declared.attachment.Attachment.{Attachment}
 use Rattle.memory_line.specs.Lines.{Flights, LineService}
-use Rattle.net_events.specs.OneLine.{direction_of}
 use Rattle.net_events.specs.NodeEvents.{NodeEvent, turn_of}
 use Rattle.net_events.specs.EventView.{line_event_of}
 use Rattle.net_events.specs.Network.{PlacedNode, NetNode, User, NetLine, place_at}
 use Rattle.net_events.specs.declared.answer.Answer.{Answer}
-use Rattle.net_events.specs.declared.answer.Put.{Put}
 use Rattle.net_events.specs.declared.event.StepFault.{StepFault}
 use Rattle.net_events.specs.declared.node_event.LineEvent.{LineEvent}
 use Rattle.net_events.specs.declared.node_event.LineEvent.TheVariants.{Hears, Expires, Relinks, Restarts}
 use Rattle.net_turns.specs.Quiet.{IsQuiet}
 use Rattle.net_turns.specs.Outcomes.{IsOutcome, text_of}
-use Rattle.net_turns.specs.Sends.{Sends}
 use Rattle.net_turns.specs.Served.{Served}
 use Rattle.net_turns.specs.Users.{IsRefusedWith, IsServed, AtLine}
 use Rattle.net_turns.proofs.Opening.{written_at}

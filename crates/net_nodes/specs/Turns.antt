@@ -50,7 +50,8 @@ pub record UserServed (L : LineService) (at : Attachment) (event : NodeEvent) (f
 
 -- the node is there, and it has no frame or note that waits; the register is open at the line, with room for all that
 -- may be written, and so are the lists of the answer
-pub record CanServe (end : LineSide) (nodes : List NetNode) (l : NetLine) (g : Register) (answer : Answer) : Type 0 where
+pub record CanServe (end : LineSide) (nodes : List NetNode) (l : NetLine) (g : Register) (answer : Answer)
+    : Type 0 where
   pub node : PlacedNode
   pub there : slice_get nodes (place_at end.role l) ≡ Some (User node)
   pub quiet : IsQuiet node.node

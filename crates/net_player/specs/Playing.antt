@@ -110,7 +110,8 @@ pub record IsChecked (L : LineService) (s : Network) (all_match : Bool) : Type 0
 
 -- what a command does: its keys are typed in order, its event happens, at most 100,000 frames flow, time goes by,
 -- frames are traced from here on, or not, or the calls are checked
-pub data DoesCommand (L : LineService) (names : Names) (lines : ℕ) : CommandView → Played → List ℕ → Played → Type 0 where
+pub data DoesCommand (L : LineService) (names : Names) (lines : ℕ)
+    : CommandView → Played → List ℕ → Played → Type 0 where
   keys : {node terminal : ℕ} {octets : List ℕ} {traces : Bool} {s t : Network} {text : List ℕ}
       → InTurn Event Network (TellsEvent L names traces) (key_events node terminal octets) s text t
       → DoesCommand L names lines (command.Keys node terminal octets) (record { net = s; traces = traces }) text

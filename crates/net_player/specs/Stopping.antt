@@ -69,8 +69,8 @@ pub data ExpiryStops (L : LineService) (names : Names) (traces : Bool) (fault : 
       → net_due s ≡ Some expiry → TellsEvent L names traces expiry s first mid
       → ExpiryStops L names traces fault mid part → ExpiryStops L names traces fault s (first ++ part)
 
--- a command that stops: at one of its keys, at its event, in its flow, at what is due after its ticks, or at the line of
--- a check
+-- a command that stops: at one of its keys, at its event, in its flow, at what is due after its ticks, or at the line
+-- of a check
 pub data CommandStops (L : LineService) (names : Names) (lines : ℕ) (fault : ProgFault)
     : CommandView → Played → List ℕ → Type 0 where
   in_keys : {node terminal : ℕ} {octets : List ℕ} {s : Played} {part : List ℕ}

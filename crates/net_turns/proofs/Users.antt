@@ -1,33 +1,25 @@
 -- A node that is called with what a user does.
-use Rattle.std.proofs.Common.{◌≡◌, ◌<◌, ℕ, Bool, true, false, Option, Some, None, refl, sym, ap, ◌∙◌, subst, arith, inl, inr}
+use Rattle.std.proofs.Common.{◌≡◌, ◌<◌, ℕ, Bool, true, false, Some, None, refl, sym, ap, ◌∙◌, subst, arith}
 use Rattle.std.specs.Prelude.{◌==◌, ◌&&◌, not, nat_lt, if◌then◌else◌, length}
 use Rattle.std.proofs.lemmas.Bool.{lt-ltb, ltb-false}
 use Rattle.packet_end.specs.PacketEnd.{PacketEnd}
 use Rattle.x25_pad.specs.Pad.{PadState}
 use Rattle.call_records.specs.Book.{Book}
 use Rattle.call_records.specs.Register as spec
-use Rattle.call_records.specs.Register.{book_at, with_book}
 use Rattle.call_records.specs.declared.register.Register.{Register}
-use Rattle.line_nodes.specs.Node.{NodeState, Pad, Host}
-use Rattle.line_nodes.specs.Terminals.{after_terminal}
+use Rattle.line_nodes.specs.Node.{NodeState, Host}
 use Rattle.line_nodes.specs.Turn.{Turn, told}
 use Rattle.line_nodes.specs.declared.attachment.Attachment.{Attachment}
-use Rattle.line_nodes.specs.declared.fault.NodeFault.{NodeFault}
-use Rattle.line_nodes.specs.declared.terminal.TerminalEvent.{TerminalEvent}
 use Rattle.memory_line.specs.Lines.{Flights, LineService}
-use Rattle.node_laws.specs.Quiet.{IsQuiet}
-use Rattle.net_events.specs.NodeEvents.{NodeEvent, AtTerminal, turn_of}
+use Rattle.net_events.specs.NodeEvents.{NodeEvent}
 use Rattle.net_events.specs.EventView.{host_event_of}
 use Rattle.net_events.specs.declared.answer.Answer.{Answer}
-use Rattle.net_events.specs.declared.event.StepFault.{StepFault}
-use Rattle.net_events.specs.declared.event.StepFault.TheVariants.{NoSuchTerminal, NoSuchCall, Refused}
+use Rattle.net_events.specs.declared.event.StepFault.TheVariants.{NoSuchTerminal, NoSuchCall}
 use Rattle.net_events.specs.declared.node_event.HostEvent.{HostEvent}
 use Rattle.net_events.specs.declared.node_event.HostEvent.TheVariants.{Calls, Asks, Takes}
 use Rattle.net_turns.specs.Outcomes.{event_fault, IsOutcome, text_of}
-use Rattle.net_turns.specs.Served.{IsCalled, Served, IsReady, IsEmpty}
-use Rattle.net_turns.specs.Users.{IsNumbered, IsOpened, IsCalledBy, AtLine, HadTurn, IsRefusedWith, is_channel, is_on_line, refused, terminal_fault, host_fault}
-use Rattle.net_turns.proofs.Writing.{called_terminal}
-
+use Rattle.net_turns.specs.Served.{IsCalled, Served, IsReady}
+use Rattle.net_turns.specs.Users.{IsNumbered, IsOpened, IsCalledBy, AtLine, HadTurn, is_on_line, refused, terminal_fault, host_fault}
 -- ---- what is refused
 
 pub terminal_there : (terminal : ℕ) (p : PadState) → terminal < length p.ports → terminal_fault terminal p ≡ None

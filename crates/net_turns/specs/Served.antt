@@ -1,6 +1,7 @@
 -- What serving an event does to one node, its line and the book.
 use Rattle.std.specs.Prelude.{◌≡◌, ℕ, ◌≤◌, List, [], vec_capacity, Option, Some, None}
 use Rattle.link_timers.specs.declared.role.Role.{Role}
+use Rattle.packet_end.specs.declared.notes.TheConstants.{MOST_NOTES}
 use Rattle.packet_layer.specs.Traffic.{Taken}
 use Rattle.call_records.specs.Book.{Book, takes}
 use Rattle.call_records.specs.Room.{BookState}
@@ -39,7 +40,7 @@ pub record IsReady (a : Answer) : Type 0 where
   pub frames : a.frames.items ≡ []
   pub notes : a.notes.items ≡ []
   pub frame_places : 9 ≤ vec_capacity a.frames
-  pub note_places : 96 ≤ vec_capacity a.notes
+  pub note_places : MOST_NOTES ≤ vec_capacity a.notes
 
 -- and no text
 pub record IsEmpty (a : Answer) : Type 0 where

@@ -1,5 +1,5 @@
 -- What a user does at a node: when it is refused, and what it makes of the node, the line and the register.
-use Rattle.std.specs.Prelude.{◌≡◌, ◌<◌, ◌≤◌, ◌⊎◌, ◌==◌, ◌&&◌, ℕ, Bool, true, not, nat_lt, if◌then◌else◌, length, List}
+use Rattle.std.specs.Prelude.{◌≡◌, ◌<◌, ◌≤◌, ◌⊎◌, ◌==◌, ◌&&◌, ℕ, Bool, true, not, nat_lt, if◌then◌else◌, length}
 use Rattle.std.specs.Prelude.{Option, Some, None, Result, Ok, Err}
 use Rattle.packet_codec.specs.Address.{AreDigits}
 use Rattle.packet_end.specs.PacketEnd.{PacketEnd}
@@ -116,7 +116,7 @@ pub record HadTurn (L : LineService) (at : Attachment) (event : NodeEvent) (s : 
   pub text : a.text.items ≡ text_of event s.node
 
 -- it had its turn, or the event is refused and changes nothing
-abbrev pub IsServed : LineService → Attachment → NodeEvent → Option StepFault → AtLine → Result Answer StepFault → AtLine
-    → Type 0
+abbrev pub IsServed : LineService → Attachment → NodeEvent → Option StepFault → AtLine
+    → Result Answer StepFault → AtLine → Type 0
 IsServed L at event fault s (Ok a) t = (fault ≡ None) × HadTurn L at event s a t
 IsServed L at event fault s (Err f) t = IsRefusedWith fault f × (t ≡ s)

@@ -13,7 +13,7 @@ ghost use Rattle.net_events.specs.OneLine.{direction_of};
 ghost use Rattle.net_events.specs.EventView.{line_event_of, host_event_of, user_event_of};
 ghost use Rattle.net_turns.specs.Outcomes.{IsOutcome};
 ghost use Rattle.net_turns.specs.Served.{IsCalled, Served, IsEmpty, IsReady};
-ghost use Rattle.net_turns.specs.Users.{IsWhole, IsWholeCall, IsNumbered, is_on_line, IsRefusedWith, IsOpened};
+ghost use Rattle.net_turns.specs.Users.{IsWhole, IsWholeCall, is_on_line, IsRefusedWith, IsOpened};
 ghost use Rattle.net_turns.specs.Users.{IsCalledBy, IsServed, terminal_fault};
 ghost use Rattle.net_turns.specs.Users.{host_fault, user_fault};
 

@@ -59,7 +59,7 @@ impl Model for Traffic {
 impl Traffic {
     ghost use Rattle.packet_channel.specs.TakenView.{maybe_taken_in, maybe_buffers_in, maybe_front};
 
-    /// As a call begins it.
+    /// The data transfer of a call that begins.
     pub(crate) fn new(alloc: Global) -> Result<Self, AllocError>
         ensures { IfOk result (λ t. t ≡ record { traffic = machine.fresh; held = [] }) }
     {

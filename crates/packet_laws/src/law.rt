@@ -1,3 +1,4 @@
+//! The law of a line between two packet layers.
 ghost use Rattle.packet_laws.specs.Counts.{CountsLaw};
 ghost use Rattle.packet_laws.specs.Counted.{LineCountsLaw};
 ghost use Rattle.packet_laws.specs.Law.{LineLaw};

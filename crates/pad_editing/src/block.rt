@@ -1,3 +1,4 @@
+//! A text that was ended, as it goes in one Data packet.
 ghost use Rattle.std.specs.Prelude.{◌≡◌, ◌≤◌, length};
 
 use arrayvec::ArrayVec;

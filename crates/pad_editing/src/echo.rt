@@ -1,3 +1,4 @@
+//! What a terminal is shown of a key.
 ghost use Rattle.std.specs.Prelude.{◌≡◌, ◌≤◌, ◌<◌, ◌+◌, ◌∷◌, [], ◌++◌, length};
 ghost use Rattle.pad_editing.specs.Echoes.{function_echo};
 

@@ -1,6 +1,8 @@
+//! The editor of the text that a terminal types.
 ghost use Rattle.std.specs.Prelude.{◌≡◌, ◌+◌, ◌≤◌, ◌<◌, [], ◌∷◌, ◌++◌, length, is_some};
 ghost use Rattle.std.specs.Bool.{OnTrue, OnFalse};
-ghost use Rattle.pad_editing.specs.Edited.{after_key, after_typed, after_idle, editing, inserts, inserted, only_adds, holds};
+ghost use Rattle.pad_editing.specs.Edited.{after_key, after_typed, after_idle, editing, holds};
+ghost use Rattle.pad_editing.specs.Edited.{inserts, inserted, only_adds};
 ghost use Rattle.pad_editing.specs.Echoes.{echo_of, echo_of_added};
 
 use crate::block::{BLOCK_LIMIT, Block};

@@ -32,21 +32,20 @@ pub enum Request {
 /// What became of a key or of the end of an idle time.
 #[derive(Drop)]
 pub enum InputAnswer {
-    /// It was dropped: it would have ended a block, which had no place in the send queue.
+    /// The input was dropped: it would have ended a block, which had no place in the send queue.
     Dropped,
-    /// It was taken by the editor, with the parameters in force. A block that it ended is to be sent in one Data
-    /// packet.
+    /// The editor took the input, with the parameters in force. A block that it ended is to be sent in one Data packet.
     Edited(Option<Block>),
-    /// It was taken otherwise, and may ask something of the PAD.
+    /// The terminal took the input otherwise, and may ask something of the PAD.
     Taken(Option<Request>),
 }
 
 /// What became of a break.
 #[derive(Drop)]
 pub enum BreakAnswer {
-    /// It was dropped: its indication had no place in the send queue.
+    /// The break was dropped: its indication had no place in the send queue.
     Dropped,
-    /// It was taken.
+    /// The break was taken.
     Taken(BreakRequests),
 }
 

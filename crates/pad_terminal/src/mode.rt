@@ -1,3 +1,5 @@
+//! What the keys of a terminal are for.
+
 /// What a terminal's keys and its call are at (X.28 3.1).
 #[derive(Clone, Copy, PartialEq, Eq)]
 pub enum Mode {

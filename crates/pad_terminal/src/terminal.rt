@@ -180,7 +180,7 @@ impl Terminal {
         self.output.signal(signal, &self.settings.params);
     }
 
-    /// Whether it was told to stop by DC3 and not yet to go on (X.3 3.5).
+    /// Whether DC3 stopped the output and it may not yet go on (X.3 3.5).
     pub fn is_stopped(&self) -> bool
         ensures { result ≡ self.now.device_stopped }
     {

@@ -8,9 +8,9 @@ const MOST_BLOCKS: u32 = 5_000;
 /// What came of a call.
 #[derive(Clone, Copy)]
 pub(crate) enum Came {
-    /// It succeeded, and gave what it has to give.
+    /// The call succeeded, and gave what it has to give.
     Answered,
-    /// It answered that memory was wanted, and lost nothing.
+    /// The call answered that memory was wanted, and lost nothing.
     Refused,
     /// Anything else.
     Wrong,

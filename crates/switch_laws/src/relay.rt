@@ -1,3 +1,4 @@
+//! The laws of the calls that a switch joins.
 ghost use Rattle.switch_laws.specs.Concern.{ConcernLaw};
 ghost use Rattle.switch_laws.specs.Events.{EventLaw};
 ghost use Rattle.switch_laws.specs.Isolated.{IsolationLaw};

@@ -8,7 +8,6 @@ use Rattle.link_timers.specs.declared.role.Role.TheVariants.{Dte}
 use Rattle.memory_line.specs.declared.line.Direction.{Direction}
 use Rattle.memory_line.specs.Lines.{LineService}
 use Rattle.call_records.specs.Book.{Book}
-use Rattle.call_records.specs.Writes.{all_written}
 use Rattle.call_records.specs.Writes.Write.{Placed}
 use Rattle.call_records.specs.Register.{Register, LinePlan, free_ends, book_at, with_book, all_written_at, handed_on, no_parts}
 use Rattle.call_records.specs.Register.{with_standing_call, with_free_line, with_line, with_lines, made_register}
@@ -16,7 +15,7 @@ use Rattle.call_records.specs.Register.{empty_register}
 use Rattle.switch_lines.specs.declared.channels.NewJoin.{NewJoin}
 use Rattle.call_path_laws.specs.OwnAddresses.{HaveOwnAddresses}
 use Rattle.call_path_laws.proofs.OwnAddresses.{made_owns, written_owns, handed_owns}
-use Rattle.network_laws.specs.NodeEvents.{NodeEvent, turn_of}
+use Rattle.network_laws.specs.NodeEvents.{NodeEvent}
 use Rattle.network_laws.specs.AtSwitch.{SwitchEvent, SwitchHappened, joins_of, all_handed, network_line}
 use Rattle.network_laws.specs.Network.{Network, HappenedAt, LostAt}
 use Rattle.network_laws.specs.Opening.{NetPlan, IsMade, line_plan}

@@ -1,5 +1,5 @@
 -- On a line between two nodes with users the far address of a callee is none.
-use Rattle.std.proofs.Common.{◌≡◌, ℕ, zero, suc, ◌≤◌, ◌<◌, true, false, true≢false, List, [], ◌∷◌, length, Option, Some, None, refl, sym, ap, ◌∙◌, subst, arith}
+use Rattle.std.proofs.Common.{◌≡◌, ℕ, zero, suc, ◌≤◌, ◌<◌, true, false, true≢false, List, [], ◌∷◌, length, Option, Some, None, refl, sym, ap, ◌∙◌, arith}
 use Rattle.std.specs.Prelude.{slice_get}
 use Rattle.std.proofs.lemmas.Option.{none-some, same_Some, slice_get_within}
 use Rattle.link_timers.specs.declared.role.Role.{Role}
@@ -11,11 +11,10 @@ use Rattle.call_records.specs.Register.{book_at}
 use Rattle.book_laws.proofs.Basics.{get_there}
 use Rattle.call_path_laws.specs.World.{Plan}
 use Rattle.call_path_laws.specs.Promise.{PathIsRight, PathHolds, PathsHold, IsPlacedAt, by_caller, by_switch}
-use Rattle.call_path_laws.specs.OwnAddresses.{IsAddressAt, HasOwnAddress}
-use Rattle.network_laws.specs.Network.{PlacedNode, NetNode, User, Switching, NetLine, Network, place_at}
-use Rattle.network_laws.proofs.Users.{same_user}
+use Rattle.call_path_laws.specs.OwnAddresses.{HasOwnAddress}
+use Rattle.network_laws.specs.Network.{PlacedNode, User, NetLine, Network, place_at}
 use Rattle.switch_network_laws.specs.Histories.{HasUserAt}
-use Rattle.switch_network_laws.specs.Plans.{has_users, IsPlanOf}
+use Rattle.switch_network_laws.specs.Plans.{IsPlanOf}
 use Rattle.switch_network_laws.specs.IsSwitched.{IsAddressed}
 
 -- a call that is placed at an end with a user is placed by the caller

@@ -1,11 +1,11 @@
 -- The histories of the lines of a network, and the calls that users accepted in them.
 use Rattle.std.proofs.Common.{◌≡◌, ◌≢◌, ℕ, zero, suc, ◌<◌, true, List, [], ◌∷◌, length, Some, refl, sym, ap, ap₂, ◌∙◌, subst, arith}
 use Rattle.std.specs.Prelude.{slice_get, map, option_map}
-use Rattle.std.proofs.lemmas.Option.{none-some, same_Some, slice_get-map, slice_get_within}
+use Rattle.std.proofs.lemmas.Option.{none-some, same_Some, slice_get-map}
 use Rattle.std.proofs.lemmas.List.{length-map}
 use Rattle.link_timers.specs.declared.role.Role.{Role}
 use Rattle.link_timers.specs.declared.role.Role.TheVariants.{Dte, Dce}
-use Rattle.packet_layer.specs.Layer.{Layer, unread}
+use Rattle.packet_layer.specs.Layer.{unread}
 use Rattle.call_records.specs.Records.{RecordValue, PairValue}
 use Rattle.call_records.specs.Book.{Book, side_of}
 use Rattle.call_records.specs.Register.{Register}
@@ -19,7 +19,6 @@ use Rattle.line_record_laws.proofs.Counting.{all_sent, all_taken, epochs_alike, 
 use Rattle.call_path_laws.specs.Ends.{IsOf}
 use Rattle.network_laws.specs.Node.{end_of}
 use Rattle.network_laws.specs.Network.{PlacedNode, User, NetLine, Network, place_at}
-use Rattle.network_laws.proofs.Users.{same_user}
 use Rattle.switch_network_laws.specs.Histories.{HasUserAt, LineCall, IsOfCall, HistoriesHold}
 use Rattle.switch_network_laws.proofs.PromiseLines.{fellow}
 

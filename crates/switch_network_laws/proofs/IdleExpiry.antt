@@ -1,6 +1,6 @@
 -- An expiry at the switch of a timer that does not run leaves the network as it was.
 use Rattle.std.proofs.Common.{◌≡◌, ℕ, zero, suc, Bool, false, if◌then◌else◌, List, [], ◌∷◌, map, set, Option, Some, None, refl, sym, ap, subst, ◌∙◌, inl, inr}
-use Rattle.std.specs.Prelude.{◌⊎◌, slice_get}
+use Rattle.std.specs.Prelude.{slice_get}
 use Rattle.std.proofs.lemmas.Option.{none-some, same_Some}
 use Rattle.link_timers.specs.declared.timers.TimerId.{TimerId}
 use Rattle.lapb.specs.Machine.{Octets}
@@ -10,8 +10,8 @@ use Rattle.switch_lines.specs.Lines.{SwitchLine}
 use Rattle.switch_lines.specs.Switch.{Switch, frames_on, timer_runs, on_expiry}
 use Rattle.switch_quiet_laws.specs.Quiet.{IsQuietSwitch, AreQuiet}
 use Rattle.network_laws.specs.AtSwitch.{SwitchHappened, Expires, switched, line_drained, switch_drained, waiting_on}
-use Rattle.network_laws.specs.Network.{PlacedSwitch, NetNode, Switching, NetLine, Network}
-use Rattle.switch_network_laws.specs.IsSwitched.{IsSwitched, of_users, with_switch}
+use Rattle.network_laws.specs.Network.{Switching, Network}
+use Rattle.switch_network_laws.specs.IsSwitched.{of_users, with_switch}
 use Rattle.switch_network_laws.specs.Idle.{IsAsBefore, IdleExpiryLaw}
 use Rattle.switch_network_laws.proofs.SwitchStanding.{own_or_none, switch_quiet}
 

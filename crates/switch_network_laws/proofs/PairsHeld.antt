@@ -1,6 +1,6 @@
 -- The pairs of a network with a switch are those of its lines' books of which users accepted the calls.
-use Rattle.std.proofs.Common.{◌≡◌, ℕ, ◌<◌, Bool, true, List, length, Option, Some, refl, sym, ap, ◌∙◌, subst, arith}
-use Rattle.std.specs.Prelude.{slice_get, map, if◌then◌else◌}
+use Rattle.std.proofs.Common.{◌≡◌, ℕ, Bool, true, List, Option, Some, refl, sym, ap, ◌∙◌, subst}
+use Rattle.std.specs.Prelude.{slice_get, if◌then◌else◌}
 use Rattle.std.proofs.lemmas.Option.{same_Some}
 use Rattle.link_timers.specs.declared.role.Role.{Role}
 use Rattle.call_records.specs.Records.{RecordValue, PairValue}
@@ -15,7 +15,7 @@ use Rattle.call_path_laws.specs.Seen.{kind, numbers, shown, RecordIsShown, PairI
 use Rattle.call_path_laws.specs.Lines.{LinesSeen}
 use Rattle.call_path_laws.specs.Ends.{IsOf, IsOfUser}
 use Rattle.call_path_laws.proofs.Ending.{users_own}
-use Rattle.network_laws.specs.Network.{PlacedNode, User, NetLine, Network, place_at}
+use Rattle.network_laws.specs.Network.{User, NetLine, Network, place_at}
 use Rattle.switch_network_laws.specs.Histories.{HasUserAt}
 use Rattle.switch_network_laws.specs.Plans.{IsPlanOf}
 use Rattle.switch_network_laws.proofs.Histories.{IsOwned, IsPairAt, PairsAre}

@@ -1,7 +1,7 @@
 -- The pairs of a network of nodes with users alone are those of its lines' books.
-use Rattle.std.proofs.Common.{◌≡◌, ℕ, ◌<◌, List, length, Option, Some, refl, sym, ap, ◌∙◌, subst, arith}
+use Rattle.std.proofs.Common.{◌≡◌, ℕ, List, Option, Some, refl, sym, ◌∙◌, subst}
 use Rattle.std.specs.Prelude.{slice_get}
-use Rattle.std.proofs.lemmas.Option.{same_Some, slice_get_within}
+use Rattle.std.proofs.lemmas.Option.{same_Some}
 use Rattle.call_records.specs.Records.{RecordValue, PairValue}
 use Rattle.call_records.specs.Book.{Book}
 use Rattle.call_records.specs.Register.{Register, book_at}
@@ -11,7 +11,7 @@ use Rattle.register_laws.proofs.Positions.{is_place, place_of}
 use Rattle.register_laws.proofs.Seeing.{owned}
 use Rattle.register_laws.proofs.Steps.{same_place}
 use Rattle.call_path_laws.specs.Ends.{IsOf}
-use Rattle.network_laws.specs.Network.{NetLine, Network}
+use Rattle.network_laws.specs.Network.{Network}
 use Rattle.switch_network_laws.proofs.Histories.{IsOwned, IsPairAt, PairsAre}
 use Rattle.switch_network_laws.proofs.PromiseLines.{fellow}
 

@@ -1,3 +1,4 @@
+//! The law of the packet layer and the state tables.
 ghost use Rattle.table_laws.specs.Clauses.{EachPacket, CallPackets, DataPackets, CallsPlaced, CallActs, ResetPackets};
 ghost use Rattle.table_laws.specs.Clauses.{ResetActs, RestartPackets, RestartUnreadable};
 

@@ -13,11 +13,11 @@ enum Wanted<'a> {
     Fault(CommandFault),
     Empty,
     Profile(u8),
-    /// It asks for these parameters.
+    /// A command that asks for these parameters.
     Read(&'a [u8]),
-    /// It sets these parameters, each by its number and its value.
+    /// A command that sets these parameters, each by its number and its value.
     Set(&'a [(u8, u8)]),
-    /// It calls this address, with these user data.
+    /// A command that calls this address, with these user data.
     Select(&'a [u8], &'a [u8]),
 }
 

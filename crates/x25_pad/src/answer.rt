@@ -3,9 +3,9 @@
 /// Whether a PAD took a key, a break or the end of an idle time.
 #[derive(Clone, Copy, PartialEq, Eq)]
 pub enum PadAnswer {
-    /// It was taken.
+    /// The input was taken.
     Taken,
-    /// It was dropped: what it would have sent had no place in the send queue.
+    /// The input was dropped: what it would have sent had no place in the send queue.
     Dropped,
 }
 

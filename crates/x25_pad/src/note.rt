@@ -22,7 +22,7 @@ pub(crate) const MOST_NOTES: usize = EARLY_NOTES + 39;
 /// What happened at a PAD, with the logical channel.
 #[derive(Drop)]
 pub enum PadNote {
-    /// Its packet layer told this.
+    /// The packet layer of the PAD told this.
     Told(LayerNote),
     /// A terminal placed a call of this address (X.28 3.2.2).
     Placed {

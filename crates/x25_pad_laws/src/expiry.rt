@@ -1,3 +1,4 @@
+//! The law of the timers of a PAD.
 ghost use Rattle.x25_pad_laws.specs.Expiry.{ExpiryLaw, ApartLaw};
 
 /// The law of the timers of a PAD, over definitions alone. Where the timer that is due expires, fewer of the PAD's

@@ -1,3 +1,4 @@
+//! The law of the text of each terminal.
 ghost use Rattle.x25_pad_laws.specs.Own.{OwnPacketLaw, OwnTextLaw, OthersStayLaw, LearnsOwnLaw};
 
 /// That a terminal sees nothing of another terminal's call, over definitions alone. What is printed at it is the text

@@ -1,3 +1,4 @@
+//! The law of the room that a PAD takes in the book of its line.
 ghost use Rattle.x25_pad_laws.specs.Rooms.{KeyRoom, BreakRoom, PrintRoom, IdleRoom, FrameRoom, RelinkRoom, TimerRoom};
 
 /// How much an event of a PAD writes into the book of its line, over definitions alone, so that room for it can be made

@@ -1,3 +1,4 @@
+//! The law of what a PAD sends.
 ghost use Rattle.x25_pad_laws.specs.RecordClauses.{SentLaw, KeyHolds, BreakHolds, PrintHolds, FrameHolds, RelinkHolds};
 ghost use Rattle.x25_pad_laws.specs.RecordClauses.{TimerHolds, RestartHolds, TimeHolds, DrainedHolds, FarHolds};
 ghost use Rattle.x25_pad_laws.specs.RecordClauses.{MadeHolds};

@@ -1,3 +1,4 @@
+//! The commands of a terminal.
 use arrayvec::ArrayVec;
 use packet_codec::Address;
 

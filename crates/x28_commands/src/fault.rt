@@ -1,9 +1,10 @@
+//! Why a line is no command.
 use thiserror::Error;
 
 /// Why a line is no command.
 #[derive(Clone, Copy, Debug, PartialEq, Eq, Error)]
 pub enum CommandFault {
-    /// It does not begin with a keyword, or something follows one that stands alone.
+    /// The line does not begin with a keyword, or something follows one that stands alone.
     #[error("there is no such command")]
     Unknown,
     /// A number, a colon or a pair is missing or wrong.

@@ -1,3 +1,4 @@
+//! The service signals of a PAD.
 use crate::command::ENTRY_LIMIT;
 use arrayvec::ArrayVec;
 

@@ -1,9 +1,10 @@
+//! Why octets are no message.
 use thiserror::Error;
 
 /// Why octets are no message.
 #[derive(Clone, Copy, Debug, PartialEq, Eq, Error)]
 pub enum MessageFault {
-    /// There are none.
+    /// There are no octets.
     #[error("the message has no octets")]
     Empty,
     /// No message has the code of the first octet.

@@ -1,3 +1,4 @@
+//! The messages and their parts.
 use arrayvec::ArrayVec;
 
 /// How many pairs a message has at most.

@@ -1,3 +1,4 @@
+//! Why a parameter was not set.
 use thiserror::Error;
 
 /// Why a parameter was not set.

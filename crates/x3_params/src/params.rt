@@ -1,3 +1,4 @@
+//! The values of the parameters.
 ghost use Rattle.std.specs.Prelude.{◌≡◌, ◌==◌, ◌<◌, List, ℕ, MatchOption, IsOk, OnOk, OnErr, Some, None};
 ghost use Rattle.std.specs.Prelude.{if◌then◌else◌};
 ghost use Rattle.x3_params.specs.Table.{allows};

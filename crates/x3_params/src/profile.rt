@@ -1,3 +1,4 @@
+//! The profiles: sets of initial values.
 ghost use Rattle.std.specs.Prelude.{◌≡◌};
 
 /// A set of initial values (X.28 3.4).

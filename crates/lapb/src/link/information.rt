@@ -11,7 +11,6 @@ use crate::link::setting::Reason;
 use crate::note::Note;
 use crate::out::LinkOut;
 use crate::sent::response;
-use flow_window::Offer;
 use frame_codec::{Frame, FrameKind};
 use link_timers::Role;
 

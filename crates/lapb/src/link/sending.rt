@@ -1,5 +1,5 @@
 //! What a link sends at the end of a node's event (X.25 2.4.5.1, 2.4.5.2.2).
-ghost use Rattle.std.specs.Prelude.{◌≡◌, ◌<◌, ◌≤◌, ◌+◌, [], ◌∷◌, drop, length, map, max, false};
+ghost use Rattle.std.specs.Prelude.{◌≡◌, ◌<◌, ◌≤◌, ◌+◌, [], drop, length, map, max, false};
 ghost use Rattle.flow_window.specs.Pool.{Holds};
 ghost use Rattle.frame_codec.specs.Spelling.{spelling, most_information};
 ghost use Rattle.lapb.specs.Machine as machine;
@@ -11,7 +11,7 @@ use crate::link::Link;
 use crate::out::LinkOut;
 use crate::phase::Phase;
 use crate::queue::Queue;
-use crate::sent::{command, response};
+use crate::sent::response;
 use flow_window::pool::Pool;
 use flow_window::{Mod8, SendWindow};
 use frame_codec::{Frame, FrameKind};

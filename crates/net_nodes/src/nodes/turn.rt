@@ -1,10 +1,9 @@
 //! The turn of a node with users at its end of a line.
-ghost use Rattle.std.specs.Prelude.{◌≡◌, ◌≤◌, ◌<◌, [], Some, Ok, MatchResult, length, slice_get};
+ghost use Rattle.std.specs.Prelude.{◌≡◌, ◌≤◌, ◌<◌, Some, Ok, MatchResult, length, slice_get};
 ghost use Rattle.std.specs.Result.{result_and};
 ghost use Rattle.call_records.specs.RegisterView.{register_of};
 ghost use Rattle.net_events.specs.EventView.{line_event_of, user_event_of};
 ghost use Rattle.net_events.specs.Network as network;
-ghost use Rattle.net_events.specs.NodeEvents.{turn_of};
 ghost use Rattle.net_turns.specs.Quiet.{IsQuiet};
 ghost use Rattle.net_turns.specs.Served.{IsEmpty};
 ghost use Rattle.net_turns.specs.Users.{IsWhole, IsRefusedWith, user_fault};

@@ -46,7 +46,8 @@ impl Host {
     pub fn relink(&mut self)
         ensures host { self.new ≡ after_relink self.old }
         ensures nothing_kept_back { end.KeepsNothingBack self.new }
-        ensures frames { self.new.line.frames ≡ relink_frames self.old ++ ending_frames (end.relinked (end.begun self.old)) }
+        ensures frames { self.new.line.frames
+            ≡ relink_frames self.old ++ ending_frames (end.relinked (end.begun self.old)) }
         ensures timers { TimersAgree self.new.layer self.new.timers }
     {
         self.end.begin();

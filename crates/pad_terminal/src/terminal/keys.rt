@@ -49,8 +49,8 @@ impl Terminal {
         InputAnswer::Edited(self.editor.idle(&self.settings.params))
     }
 
-    /// Takes a key as `on_key` does, where it is only added to the text that is held, whatever the condition of the call
-    /// (X.3 3.3). Whether it was such a key: any other changes nothing.
+    /// Takes a key as `on_key` does, if it is only added to the text that is held, whatever the condition of the call
+    /// (X.3 3.3). Gives whether it was such a key: any other changes nothing.
     pub fn add_key(&mut self, octet: u8) -> bool
         ensures exact { result ≡ spec.only_adds_key octet self.old }
         ensures added { OnTrue result ((call : CallCondition) → spec.after_octet octet call self.old

@@ -80,7 +80,8 @@ impl Pad {
         incoming
     }
 
-    // Takes over the first note of the packet layer, if there is one. The channel is that of the last call that came in.
+    // Takes over the first note of the packet layer, if there is one. The channel is that of the last call that came
+    // in.
     #[tactic(auto, using(crate::proofs::Hearing::told_first, crate::proofs::Hearing::last_first))]
     fn hear_note(&mut self, incoming: Option<u8>) -> Option<u8>
         requires room { length self.old.line.notes + length self.old.line.end.notes ≤ MOST_NOTES }

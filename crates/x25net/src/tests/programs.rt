@@ -1,3 +1,4 @@
+//! Tests of the program: its command words, its input and what it prints.
 use net_files::{FIRST, ProgFault, read_net, read_script};
 use net_player::{Config, Line, MakeFault, Net, perform, play};
 use std::alloc::{AllocError, Global};

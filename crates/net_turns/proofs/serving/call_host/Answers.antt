@@ -2,7 +2,7 @@ use Rattle.std.proofs.Common.{refl, sym, ◌∙◌, ap, arith}
 use Rattle.line_nodes.specs.Node.{Host}
 use Rattle.net_events.specs.EventView.{host_event_of}
 use Rattle.net_turns.specs.Users.{refused}
-use Rattle.net_turns.proofs.Users.{numbered, host_answers, off_line, called_by}
+use Rattle.net_turns.proofs.Users.{numbered, host_answers, called_by}
 use Rattle.net_turns.proofs.serving.call_host.Goals as goal
 
 pub ask_host-requires-clause-numbered : goal.ask_host-requires-clause-numbered

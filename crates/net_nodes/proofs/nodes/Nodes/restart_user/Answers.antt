@@ -1,4 +1,4 @@
-use Rattle.std.proofs.Common.{Ok, slice_get, refl, sym, ap, ◌∙◌, subst}
+use Rattle.std.proofs.Common.{Ok, slice_get, sym, ap, ◌∙◌, subst}
 use Rattle.std.specs.Result.{result_and}
 use Rattle.call_records.specs.RegisterView.{register_of}
 use Rattle.net_events.specs.NodeEvents.{Restarts}

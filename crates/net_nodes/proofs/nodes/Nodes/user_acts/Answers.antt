@@ -1,5 +1,5 @@
 use Rattle.std.proofs.Common.{Ok, ◌≡◌, sym, ap, ◌∙◌, subst, slice_get}
-use Rattle.std.specs.Prelude.{Result, MatchResult, None}
+use Rattle.std.specs.Prelude.{MatchResult, None}
 use Rattle.std.specs.Result.{result_and}
 use Rattle.call_records.specs.RegisterView.{register_of}
 use Rattle.net_events.specs.EventView.{user_event_of}

@@ -1,11 +1,9 @@
-use Rattle.std.proofs.Common.{◌≡◌, length, sym, ap, ◌∙◌, subst, Some}
+use Rattle.std.proofs.Common.{◌≡◌, length, sym, ap, ◌∙◌, subst}
 use Rattle.std.specs.Prelude.{vec_capacity}
 use Rattle.std.specs.Option.{option_to_list}
 use Rattle.net_events.specs.AtSwitch.{HasOwnLine}
 use Rattle.net_events.specs.EventView.{switch_event_of}
-use Rattle.line_nodes.specs.NodeView.{node_of}
-use Rattle.net_events.specs.Network.{PlacedNode, PlacedSwitch}
-use Rattle.net_events.proofs.Users.{not_both}
+use Rattle.net_events.specs.Network.{PlacedSwitch}
 use Rattle.placed_nodes.specs.NodeView.{kind_of}
 use Rattle.net_nodes.specs.Switching.{CanPut}
 use Rattle.net_nodes.proofs.SwitchTurns.{switch_is, served_so, can_put_then}

@@ -1,7 +1,6 @@
-use Rattle.std.proofs.Common.{Ok, ◌≡◌, ap, ◌∙◌, sym, slice_get}
+use Rattle.std.proofs.Common.{Ok, ◌≡◌, ap, ◌∙◌, slice_get}
 use Rattle.std.specs.Result.{result_and}
 use Rattle.net_events.specs.Network.{User, place_at}
-use Rattle.net_nodes.specs.declared.nodes.LineSide.{LineSide}
 use Rattle.line_nodes.specs.declared.attachment.Attachment.{Attachment}
 use Rattle.placed_nodes.proofs.Lists.{found, within}
 use Rattle.net_nodes.proofs.Serving.{quiet_of, line_served_at}
