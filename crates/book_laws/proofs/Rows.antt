@@ -63,6 +63,7 @@ caller = record {
   taken_before = nothing_taken ∷ [];
   taken = nothing_taken;
   closed = false;
+  path = [];
   steps = [];
 }
 
@@ -78,6 +79,7 @@ callee = record {
   taken_before = record { packets = packet_of (said 72) ∷ []; interrupts = []; released = 1 } ∷ [];
   taken = record { packets = packet_of (said 73) ∷ []; interrupts = []; released = 0 };
   closed = false;
+  path = [];
   steps = [];
 }
 

@@ -9,15 +9,25 @@ use Rattle.call_path_laws.specs.Seen.{Seen}
 use Rattle.call_path_laws.specs.Law.{PathLaw, MadeAlikeLaw, WithoutSwitchLaw}
 use Rattle.call_path_laws.proofs.Happening.{happens}
 use Rattle.call_path_laws.proofs.Making.{made_seen}
+use Rattle.call_path_laws.specs.Tree.{IsTree}
+use Rattle.call_path_laws.specs.Paths.{ArePaths}
+use Rattle.call_path_laws.proofs.Hopping.{made_paths, paths_go}
 use Rattle.call_path_laws.proofs.Promising.{promised}
 
 pub all_happen : (plan : Plan) (events : List Event) (w : World) → MayAll plan events w → Seen plan w → Seen plan (after_all events w)
 all_happen plan [] w may s = s
 all_happen plan (event ∷ events) w may s = all_happen plan events (after_event event w) may.1 (happens plan event w may.0 s)
 
+pub all_paths : (plan : Plan) (switches : List ℕ) (events : List Event) (w : World) → IsTree plan switches → MayAll plan events w → Seen plan w → ArePaths plan w → ArePaths plan (after_all events w)
+all_paths plan switches [] w tree may s paths = paths
+all_paths plan switches (event ∷ events) w tree may s paths =
+    all_paths plan switches events (after_event event w) tree may.1 (happens plan event w may.0 s) (paths_go plan switches event w tree may.0 s paths)
+
 pub paths_hold : PathLaw
-paths_hold plan lines events addressed between may calls joins =
-    promised plan (after_all events (made_world lines)) addressed (all_happen plan events (made_world lines) may (made_seen plan lines between)) calls joins
+paths_hold plan switches lines events tree addressed between may calls joins =
+    let s : Seen plan (made_world lines) = made_seen plan lines between in
+    promised plan (after_all events (made_world lines)) addressed (all_happen plan events (made_world lines) may s)
+    (all_paths plan switches events (made_world lines) tree may s (made_paths plan lines)) calls joins
 
 -- where all ends have users, no line has an address
 bare : (plan : Plan) (lines : List LinePlan) (first : ℕ) → ((line : ℕ) (role : Role) → plan.has_user line role ≡ true) → AreAddressed plan

@@ -5,7 +5,7 @@ use Rattle.std.proofs.lemmas.Option.{none-some, same_Some, slice_get_within}
 use Rattle.link_timers.specs.declared.role.Role.{Role}
 use Rattle.link_timers.specs.declared.role.Role.TheVariants.{Dte, Dce}
 use Rattle.link_timers.specs.Role.{other_of}
-use Rattle.call_records.specs.Records.{RecordValue, PairValue}
+use Rattle.call_records.specs.Records.{RecordValue, HopValue, PairValue}
 use Rattle.call_records.specs.Book.{Book, slot_at}
 use Rattle.call_records.specs.Register.{book_at}
 use Rattle.book_laws.specs.Headline.{HasCallee}
@@ -28,9 +28,9 @@ use Rattle.call_path_laws.proofs.Showing.{owned, present_shown, came_shown, pair
 use Rattle.call_path_laws.proofs.Having.{StandsFor, stands_for, records_shown}
 
 -- the register's record of one of a line's book
-is_of : (plan : Plan) (o : Origin) (n m : ℕ) (k c : Option ℕ) (value own r : RecordValue) → value ≡ renumbered m c own → r ≡ shown plan o n k value → IsOf own r
-is_of plan o n m k c value own r e f =
-    subst (λ (x : RecordValue). IsOf own x) (ap (λ (v : RecordValue). shown plan o n k v) (sym e) ∙ sym f) refl
+is_of : (plan : Plan) (o : Origin) (n m : ℕ) (k c : Option ℕ) (path : List HopValue) (value own r : RecordValue) → value ≡ renumbered m c own → r ≡ shown plan o n k path value → IsOf own r
+is_of plan o n m k c path value own r e f =
+    subst (λ (x : RecordValue). IsOf own x) (ap (λ (v : RecordValue). shown plan o n k path v) (sym e) ∙ sym f) refl
 
 both_ends : (plan : Plan) (line : ℕ) (role : Role) → plan.has_user line role ≡ true → plan.has_user line (other_of role) ≡ true → (end : Role) → plan.has_user line end ≡ true
 both_ends plan line Dte e f Dte = e
@@ -155,8 +155,8 @@ module _ (plan : Plan) (w : World) (books : List Book) (traces : List (List Orig
         present = i.is;
         own = x.value;
         there = x.own_there;
-        same = is_of plan k.origin n m.number k.caller x.caller k.value x.value r (same_Some k.value (renumbered m.number x.caller x.value) (sym k.whole_there ∙ x.seen_there))
-            (same_Some r (shown plan k.origin n k.caller k.value) (sym there ∙ k.seen_there));
+        same = is_of plan k.origin n m.number k.caller x.caller k.path k.value x.value r (same_Some k.value (renumbered m.number x.caller x.value) (sym k.whole_there ∙ x.seen_there))
+            (same_Some r (shown plan k.origin n k.caller k.path k.value) (sym there ∙ k.seen_there));
       }
 
   end_seen : (line : ℕ) (b : Book) (role : Role) → slice_get books line ≡ Some b → plan.has_user line role ≡ true → EndIsSeen plan line role b w.register
@@ -181,7 +181,7 @@ module _ (plan : Plan) (w : World) (books : List Book) (traces : List (List Orig
       let o : OfLine books l.seen.owners m.0 k.value = of_line w.whole books l.seen m.0 k.value k.whole_there in
       let trace = get_there traces o.line (subst (λ (c : ℕ). o.line < c) (sym l.count) (slice_get_within books o.line o.book o.line_there)) in
       let t : OriginsSeen o.line l.seen.owners trace.0 w.origins = l.lines o.line trace.0 trace.1 in
-      let same : r ≡ shown plan k.origin n k.caller k.value = same_Some r (shown plan k.origin n k.caller k.value) (sym at ∙ k.seen_there) in
+      let same : r ≡ shown plan k.origin n k.caller k.path k.value = same_Some r (shown plan k.origin n k.caller k.path k.value) (sym at ∙ k.seen_there) in
       let line : o.line ≡ k.origin.line =
       same_Some o.line k.origin.line (sym (is_place o.line l.seen.owners o.place m.0 o.numbered) ∙ ap (λ (xs : List ℕ). slice_get xs m.0) t.owners_are
       ∙ get_map (λ (p : Origin). p.line) w.origins m.0 k.origin k.origin_there) in
@@ -195,7 +195,7 @@ module _ (plan : Plan) (w : World) (books : List Book) (traces : List (List Orig
         place = o.place;
         own = o.own;
         own_there = o.own_there;
-        same = is_of plan k.origin n m.0 k.caller o.caller k.value o.own r o.same same;
+        same = is_of plan k.origin n m.0 k.caller o.caller k.path k.value o.own r o.same same;
       }
 
 pub ends_seen : EndLaw

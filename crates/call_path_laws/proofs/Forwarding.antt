@@ -6,10 +6,10 @@ use Rattle.link_timers.specs.declared.role.Role.{Role}
 use Rattle.packet_layer.specs.Packets.{CallParts}
 use Rattle.call_records.specs.Records.{RecordValue, new_record}
 use Rattle.call_records.specs.Book.{side_of, slot_at, with_record, address_of, calling_from, places_from}
-use Rattle.call_records.specs.Register.{Register, book_at, written_at, all_written_at, holds}
+use Rattle.call_records.specs.Register.{Register, book_at, written_at, all_written_at, handed_on}
 use Rattle.call_records.specs.Writes.{Write, all_written}
 use Rattle.book_laws.proofs.Basics.{get_last, get_before, get_there}
-use Rattle.call_path_laws.specs.World.{Origin, placing, Join, World, Plan, ChannelEnd, after_event, MayJoin, holder_of, with_join, calling_on}
+use Rattle.call_path_laws.specs.World.{Origin, placing, Join, World, Plan, ChannelEnd, after_event, MayJoin, far_end, with_join, calling_on}
 use Rattle.call_path_laws.specs.World.Event.{Writes, SwitchWrites, Joins}
 use Rattle.call_path_laws.specs.Seen.{Seen}
 use Rattle.call_path_laws.specs.Forwards.{IsForwarded, IsHandedOn, AreHandedOn, MadeForwardLaw, ForwardLaw, RelayedLaw}
@@ -62,7 +62,7 @@ module _ (plan : Plan) (from to : ChannelEnd) (parts : CallParts) (w : World) (m
   origins = w.origins ++ placing to.line to.role ∷ []
 
   abbrev after : List Join → World
-  after js = record { register = written_at to.line (holds to.role to.channel (holder_of from w.register)) w.register; whole = whole; origins = origins; joins = js }
+  after js = record { register = handed_on (far_end from) to w.register; whole = whole; origins = origins; joins = js }
 
   abbrev new : RecordValue
   new =
@@ -122,7 +122,7 @@ stays_handed_on plan (SwitchWrites line role writes) w may forwards s h =
     λ a b j. handed_kept plan w (after_event (SwitchWrites line role writes) w) a b (written_headed line role writes w.whole may.0.there) (all_origins line role writes (book_at line w.whole) w.origins) (h a b j)
 stays_handed_on plan (Joins from to parts) w may forwards s h =
     subst (λ (o : Option ℕ). AreHandedOn plan (record {
-      register = written_at to.line (holds to.role to.channel (holder_of from w.register)) w.register;
+      register = handed_on (far_end from) to w.register;
       whole = written_at to.line (places_from to.role to.channel parts.calling parts.called) w.whole;
       origins = w.origins ++ placing to.line to.role ∷ [];
       joins = with_join o (length w.whole.records) w.joins;

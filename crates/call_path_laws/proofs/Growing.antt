@@ -90,6 +90,7 @@ module _ (plan : Plan) (os : List Origin) (js : List Join) (ps : List Origin) (k
     value = h.value;
     whole_there = h.whole_there;
     caller = h.caller;
+    path = h.path;
     begins = more_begins_if h.caller h.value.caller h.begins;
     seen_there = h.seen_there;
   }

@@ -1,20 +1,22 @@
 -- Whatever happens, the register has what the whole one has.
-use Rattle.std.proofs.Common.{◌≡◌, ◌≢◌, ℕ, ◌<◌, inl, inr, List, [], ◌∷◌, ◌++◌, length, Option, refl, sym, ap, subst, ◌∙◌}
+use Rattle.std.specs.Prelude.{slice_get, is_some, if◌then◌else◌}
+use Rattle.std.proofs.Common.{◌≡◌, ◌≢◌, ℕ, ◌<◌, inl, inr, Bool, true, false, List, [], ◌∷◌, ◌++◌, length, Option, refl, sym, ap, subst, ◌∙◌}
 use Rattle.link_timers.specs.declared.role.Role.{Role}
 use Rattle.link_timers.specs.declared.role.Role.TheVariants.{Dte, Dce}
 use Rattle.link_timers.specs.Role.{other_of}
+use Rattle.packet_layer.specs.Packets.{CallParts}
 use Rattle.call_records.specs.Records.{RecordValue, PairValue}
 use Rattle.call_records.specs.Book.{Book, side_of, slot_at, places_from}
-use Rattle.call_records.specs.Writes.{all_written}
-use Rattle.call_records.specs.Register.{Register, LineEnds, book_at, found_ends, with_book, written_at, holds}
-use Rattle.book_laws.proofs.Basics.{set_elsewhere, length_set, number_is}
+use Rattle.call_records.specs.Writes.{Write, all_written}
+use Rattle.call_records.specs.Register.{Register, LineEnds, book_at, found_ends, with_book, written_at, goes_on}
+use Rattle.book_laws.proofs.Basics.{set_elsewhere, length_set, number_is, get_there}
 use Rattle.register_laws.proofs.Seeing.{book_there}
-use Rattle.call_path_laws.specs.World.{Origin, placing, Join, World, Plan, ChannelEnd, MayJoin, holder_of, with_join}
+use Rattle.call_path_laws.specs.World.{Origin, placing, Join, World, Plan, ChannelEnd, AllPlaceNone, MayJoin, holder_of, with_join, all_traced}
 use Rattle.call_path_laws.specs.World.Event.{Writes, SwitchWrites, Joins}
 use Rattle.call_path_laws.specs.Seen.{BeginsIf, IsMadeAt, SideIsSeen, RecordsAreSeen, PairsAreSeen, Seen}
 use Rattle.call_path_laws.specs.Law.{EventLaw}
 use Rattle.call_path_laws.proofs.Growing.{Extends, more_side}
-use Rattle.call_path_laws.proofs.Steps.{Beside, IsRight}
+use Rattle.call_path_laws.proofs.Steps.{Beside, IsRight, Leads}
 use Rattle.call_path_laws.proofs.Writing.{user_writes, switch_writes}
 use Rattle.call_path_laws.proofs.Joining as joining
 
@@ -106,26 +108,44 @@ module _ (plan : Plan) (w : World) (s : Seen plan w) where
         first = λ c j. m.first j.place (record { came_in = m.came_in; placed = c }) j.there refl;
       }
 
+  -- a line of the whole register is one of the register
+  pub line_found : (line : ℕ) → line < length w.whole.lines → is_some (slice_get w.register.lines line) ≡ true
+  line_found line less = let e = get_there w.register.lines line (register_less line less) in ap (λ (o : Option LineEnds). is_some o) e.1
+
+  pub joins_go : (from to : ChannelEnd) (parts : CallParts) (m : MayJoin plan from to w) → joining.Joins plan w.joins to.line (beside to.line) (joining.with_new w.joins m.came_in (length w.whole.records)) (w.origins ++ placing to.line to.role ∷ [])
+      (goes_on to (holder_of from w.register) (book_at to.line w.register)) (places_from to.role to.channel parts.calling parts.called (book_at to.line w.whole))
+  joins_go from to parts m =
+      joining.joins plan w.joins to.line to.role m.to_end.switch (beside to.line) to.channel m.came_in parts.calling parts.called (holder_of from w.register)
+      (is_beside to.line m.to_end.there) (incoming from to m)
+
+  -- what is written at an end with a user, and at one of a switch
+  pub user_goes : (line : ℕ) (role : Role) (writes : List Write) → line < length w.whole.lines → plan.has_user line role ≡ true
+      → Leads plan w.joins line (beside line) (all_traced line role writes (book_at line w.whole) w.origins) (all_written role writes (book_at line w.register)) (all_written role writes (book_at line w.whole))
+  user_goes line role writes less user = user_writes plan w.joins line role user writes (beside line) (is_beside line less)
+
+  pub switch_goes : (line : ℕ) (role : Role) (writes : List Write) → line < length w.whole.lines → plan.has_user line role ≡ false → AllPlaceNone writes
+      → Leads plan w.joins line (beside line) (all_traced line role writes (book_at line w.whole) w.origins) (book_at line w.register) (all_written role writes (book_at line w.whole))
+  switch_goes line role writes less switch none = switch_writes plan w.joins line role switch writes none (beside line) (is_beside line less)
+
 pub happens : EventLaw
 happens plan (Writes line role writes) w may s =
-    let x : Beside = beside plan w s line in
-    let h = user_writes plan w.joins line role may.1 writes x (is_beside plan w s line may.0) in
+    let h = user_goes plan w s line role writes may.0 may.1 in
     written plan w s line (all_written role writes (book_at line w.register)) (all_written role writes (book_at line w.whole)) _ h.kinds w.joins _ _
     (book_written line w.register (all_written role writes (book_at line w.register)) (register_less plan w s line may.0))
     (book_written line w.whole (all_written role writes (book_at line w.whole)) may.0) h.is_right h.extends
 happens plan (SwitchWrites line role writes) w may s =
-    let x : Beside = beside plan w s line in
-    let h = switch_writes plan w.joins line role may.0.switch writes may.1 x (is_beside plan w s line may.0.there) in
+    let h = switch_goes plan w s line role writes may.0.there may.0.switch may.1 in
     written plan w s line (book_at line w.register) (all_written role writes (book_at line w.whole)) _ h.kinds w.joins _ _
     (not_written line w.register) (book_written line w.whole (all_written role writes (book_at line w.whole)) may.0.there) h.is_right h.extends
 happens plan (Joins from to parts) w may s =
-    let x : Beside = beside plan w s to.line in
-    let h = joining.joins plan w.joins to.line to.role may.to_end.switch x to.channel may.came_in parts.calling parts.called (holder_of from w.register)
-    (is_beside plan w s to.line may.to_end.there) (incoming plan w s from to may) in
-    let register : Register = written_at to.line (holds to.role to.channel (holder_of from w.register)) w.register in
+    let holder : Option ℕ = holder_of from w.register in
+    let h = joins_go plan w s from to parts may in
+    let register : Register = written_at to.line (goes_on to holder) w.register in
     let whole : Register = written_at to.line (places_from to.role to.channel parts.calling parts.called) w.whole in
     let os : List Origin = w.origins ++ placing to.line to.role ∷ [] in
-    subst (λ (o : Option ℕ). Seen plan (record { register = register; whole = whole; origins = os; joins = with_join o (length w.whole.records) w.joins })) (sym may.present)
+    subst (λ (v : Bool). Seen plan (record { register = if v then register else w.register; whole = whole; origins = os; joins = with_join (slot_at from.role from.channel (book_at from.line w.whole)).present (length w.whole.records) w.joins }))
+    (sym (line_found plan w s to.line may.to_end.there))
+    (subst (λ (o : Option ℕ). Seen plan (record { register = register; whole = whole; origins = os; joins = with_join o (length w.whole.records) w.joins })) (sym may.present)
     (written plan w s to.line _ _ os h.kinds _ register whole
     (book_written to.line w.register _ (register_less plan w s to.line may.to_end.there))
-    (book_written to.line w.whole _ may.to_end.there) h.is_right h.extends)
+    (book_written to.line w.whole _ may.to_end.there) h.is_right h.extends))

@@ -76,7 +76,7 @@ module _ (plan : Plan) (w : World) (s : Seen plan w) (have : HasRecords w.whole)
       let same : r.value ≡ h.value = same_Some r.value h.value (sym r.whole_there ∙ h.there) in
       let side = s.sides line role o.there in
       record {
-        value = shown plan r.origin n r.caller r.value;
+        value = shown plan r.origin n r.caller r.path r.value;
         there = r.seen_there;
         node = ap (λ (x : RecordValue). x.node) same ∙ h.node ∙ side.whole_node ∙ sym side.seen_node;
         is_open = ap (λ (x : RecordValue). x.closed) same ∙ h.is_open;
@@ -93,7 +93,7 @@ module _ (plan : Plan) (w : World) (s : Seen plan w) (have : HasRecords w.whole)
   are_present n r at op =
       let m = owned plan w n r s at in
       let k : RecordIsShown plan w.origins w.joins w.register.records w.whole.records n m.0 = m.2 in
-      let is_open : k.value.closed ≡ false = ap (λ (x : RecordValue). x.closed) (same_Some (shown plan k.origin n k.caller k.value) r (sym k.seen_there ∙ at)) ∙ op in
+      let is_open : k.value.closed ≡ false = ap (λ (x : RecordValue). x.closed) (same_Some (shown plan k.origin n k.caller k.path k.value) r (sym k.seen_there ∙ at)) ∙ op in
       let p : IsPresent w.whole m.0 = have.are_present m.0 k.value k.whole_there is_open in
       let less : p.line < length w.whole.lines = line_found w.whole p.role p.channel m.0 p.line (slice_get w.whole.lines p.line) refl p.present in
       let here = slot p.line p.role p.channel less in

@@ -12,7 +12,7 @@ use Rattle.call_records.specs.Carried.{placed_on}
 use Rattle.call_records.specs.Writes.{Write, all_written}
 use Rattle.book_laws.proofs.Basics.{get_before}
 use Rattle.call_path_laws.specs.World.{Origin, with_placed, all_traced}
-use Rattle.call_path_laws.proofs.Records.{IsMild}
+use Rattle.call_path_laws.proofs.Records.{KeepsHead, keeps_head}
 use Rattle.call_path_laws.proofs.Inducing.{Holds, Each, writes_hold}
 use Rattle.call_path_laws.proofs.Writing.{closing_mild}
 
@@ -28,7 +28,7 @@ record Stays (f : Book → Book) (t : Book → List Origin → List Origin) : Ty
   pub headed : (n : ℕ) (r : RecordValue) (b : Book) → IsHeaded r n b.records → IsHeaded r n (f b).records
   pub origin : (b : Book) (os : List Origin) (i : ℕ) (o : Origin) → slice_get os i ≡ Some o → slice_get (t b os) i ≡ Some o
 
-changed_headed : (rs : List RecordValue) (m n : ℕ) (f : RecordValue → RecordValue) (r : RecordValue) → IsMild f → IsHeaded r n rs → IsHeaded r n (changed_at m f rs)
+changed_headed : (rs : List RecordValue) (m n : ℕ) (f : RecordValue → RecordValue) (r : RecordValue) → KeepsHead f → IsHeaded r n rs → IsHeaded r n (changed_at m f rs)
 changed_headed [] m n f r mild h = absurd (none-some h.it h.there)
 changed_headed (s ∷ rs) zero zero f r mild h =
     let same : s ≡ h.it = same_Some s h.it h.there in
@@ -45,7 +45,7 @@ changed_headed (s ∷ rs) (suc m) (suc n) f r mild h =
     let k = changed_headed rs m n f r mild (record { it = h.it; there = h.there; node = h.node; own = h.own; far = h.far }) in
     record { it = k.it; there = k.there; node = k.node; own = k.own; far = k.far }
 
-pub change_headed : (o : Option ℕ) (f : RecordValue → RecordValue) (n : ℕ) (r : RecordValue) (b : Book) → IsMild f → IsHeaded r n b.records → IsHeaded r n (with_change o f b).records
+pub change_headed : (o : Option ℕ) (f : RecordValue → RecordValue) (n : ℕ) (r : RecordValue) (b : Book) → KeepsHead f → IsHeaded r n b.records → IsHeaded r n (with_change o f b).records
 change_headed None f n r b mild h = h
 change_headed (Some m) f n r b mild h = changed_headed b.records m n f r mild h
 
@@ -62,7 +62,7 @@ same_headed n r rs ss e h = record { it = h.it; there = ap (λ (xs : List Record
 pub closes_headed : (x : Role) (c n : ℕ) (r : RecordValue) (b : Book) → IsHeaded r n b.records → IsHeaded r n (closes x c b).records
 closes_headed x c n r b h =
     same_headed n r (changed x c with_closed b).records (closes x c b).records (slot_records x c (record (slot_at x c b) { present = None; caller = None }) (changed x c with_closed b))
-    (change_headed (slot_at x c b).present with_closed n r b closing_mild h)
+    (change_headed (slot_at x c b).present with_closed n r b (keeps_head with_closed closing_mild) h)
 
 close_headed : (x : Role) (o : Option ℕ) (c n : ℕ) (r : RecordValue) (b : Book) → IsHeaded r n b.records → IsHeaded r n (closes_if o x c b).records
 close_headed x None c n r b h = h
@@ -99,7 +99,7 @@ stays : (line : ℕ) (x : Role) → Holds line x Any Stays
 stays line x = record {
   same = record { headed = λ n r b h. h; origin = λ b os i o e. e };
   in_turn = λ f g s t p q. record { headed = λ n r b h. q.headed n r (f b) (p.headed n r b h); origin = λ b os i o e. q.origin (f b) (s b os) i o (p.origin b os i o e) };
-  changes = λ c f mild. record { headed = λ n r b h. change_headed (slot_at x c b).present f n r b mild h; origin = λ b os i o e. e };
+  changes = λ c f mild. record { headed = λ n r b h. change_headed (slot_at x c b).present f n r b (keeps_head f mild) h; origin = λ b os i o e. e };
   comes_in = λ c parts. record { headed = λ n r b h. new_headed x c _ _ n r b h; origin = λ b os i o e. get_before os _ i o e };
   accepts = λ c. record { headed = λ n r b h. pair_headed (slot_at x c b).caller (slot_at x c b).present n r b h; origin = λ b os i o e. e };
   ends = λ c. record { headed = λ n r b h. closes_headed x c n r b h; origin = λ b os i o e. e };

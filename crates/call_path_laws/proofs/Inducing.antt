@@ -8,7 +8,7 @@ use Rattle.packet_layer.specs.Traffic.{Taken}
 use Rattle.packet_layer.specs.Traffic.Taken.{TakenInterrupt, TakenPacket}
 use Rattle.packet_layer.specs.Channel.{Request, Refusal}
 use Rattle.packet_layer.specs.Channel.Request.{Accept, Clearing, Resetting, Sending, Interrupting, Taking, Releasing}
-use Rattle.call_records.specs.Records.{RecordValue, with_step, with_sent, with_interrupt_sent, with_taken, with_interrupt_taken, with_released, with_covered, with_epoch}
+use Rattle.call_records.specs.Records.{RecordValue, HopValue, with_step, with_sent, with_interrupt_sent, with_taken, with_interrupt_taken, with_released, with_covered, with_epoch}
 use Rattle.call_records.specs.Book.{Book, slot_at, changed, packet_of, comes, answers, closes, sends, takes, told, all_told}
 use Rattle.call_records.specs.Closing.{all_closed}
 use Rattle.call_records.specs.Carried.{carried, unless_refused, placed_on}
@@ -43,37 +43,37 @@ Each May [] = Unit {0}
 Each May (write ∷ writes) = May write × Each May writes
 
 mild : (f : RecordValue → RecordValue) → ((r : RecordValue) → (f r).number ≡ r.number) → ((r : RecordValue) → (f r).node ≡ r.node)
-    → ((r : RecordValue) → (f r).own ≡ r.own) → ((r : RecordValue) → (f r).far ≡ r.far) → ((r : RecordValue) → (f r).caller ≡ r.caller) → IsBlind f
-    → ((n : ℕ) (own : Option (List ℕ)) (caller : Option ℕ) (r : RecordValue) → f (record r { number = n; own = own; caller = caller }) ≡ record (f r) { number = n; own = own; caller = caller }) → IsMild f
-mild f number node own far caller blind beside = record { blind = blind; beside = beside; number = number; node = node; own = own; far = far; caller = caller }
+    → ((r : RecordValue) → (f r).own ≡ r.own) → ((r : RecordValue) → (f r).far ≡ r.far) → ((r : RecordValue) → (f r).caller ≡ r.caller) → ((r : RecordValue) → (f r).path ≡ r.path) → IsBlind f
+    → ((n : ℕ) (own : Option (List ℕ)) (caller : Option ℕ) (path : List HopValue) (r : RecordValue) → f (record r { number = n; own = own; caller = caller; path = path }) ≡ record (f r) { number = n; own = own; caller = caller; path = path }) → IsMild f
+mild f number node own far caller path blind beside = record { blind = blind; beside = beside; path = path; number = number; node = node; own = own; far = far; caller = caller }
 
 module _ (line : ℕ) (role : Role) (May : Write → Type 0) (R : Property) (h : Holds line role May R) where
   changes_by : (c : ℕ) (f : RecordValue → RecordValue) → ((r : RecordValue) → (f r).number ≡ r.number) → ((r : RecordValue) → (f r).node ≡ r.node)
-      → ((r : RecordValue) → (f r).own ≡ r.own) → ((r : RecordValue) → (f r).far ≡ r.far) → ((r : RecordValue) → (f r).caller ≡ r.caller) → IsBlind f
-      → ((n : ℕ) (own : Option (List ℕ)) (caller : Option ℕ) (r : RecordValue) → f (record r { number = n; own = own; caller = caller }) ≡ record (f r) { number = n; own = own; caller = caller }) → R (changed role c f) keeps
-  changes_by c f number node own far caller blind beside = h.changes c f (mild f number node own far caller blind beside)
+      → ((r : RecordValue) → (f r).own ≡ r.own) → ((r : RecordValue) → (f r).far ≡ r.far) → ((r : RecordValue) → (f r).caller ≡ r.caller) → ((r : RecordValue) → (f r).path ≡ r.path) → IsBlind f
+      → ((n : ℕ) (own : Option (List ℕ)) (caller : Option ℕ) (path : List HopValue) (r : RecordValue) → f (record r { number = n; own = own; caller = caller; path = path }) ≡ record (f r) { number = n; own = own; caller = caller; path = path }) → R (changed role c f) keeps
+  changes_by c f number node own far caller path blind beside = h.changes c f (mild f number node own far caller path blind beside)
 
   takes_hold : (c : ℕ) (o : Option Taken) → R (takes role c o) keeps
   takes_hold c None = h.same
-  takes_hold c (Some (TakenInterrupt octets)) = changes_by c (with_interrupt_taken octets) (λ r. refl) (λ r. refl) (λ r. refl) (λ r. refl) (λ r. refl) (λ n k r. (refl, refl)) (λ n a k r. refl)
-  takes_hold c (Some (TakenPacket d)) = changes_by c (with_taken (packet_of d)) (λ r. refl) (λ r. refl) (λ r. refl) (λ r. refl) (λ r. refl) (λ n k r. (refl, refl)) (λ n a k r. refl)
+  takes_hold c (Some (TakenInterrupt octets)) = changes_by c (with_interrupt_taken octets) (λ r. refl) (λ r. refl) (λ r. refl) (λ r. refl) (λ r. refl) (λ r. refl) (λ n k r. (refl, refl)) (λ n a k p r. refl)
+  takes_hold c (Some (TakenPacket d)) = changes_by c (with_taken (packet_of d)) (λ r. refl) (λ r. refl) (λ r. refl) (λ r. refl) (λ r. refl) (λ r. refl) (λ n k r. (refl, refl)) (λ n a k p r. refl)
 
   sent_hold : (c : ℕ) (ds : List Datum) → R (all_sent role c ds) keeps
   sent_hold c [] = h.same
   sent_hold c (d ∷ ds) =
-      h.in_turn (sends role c d) (all_sent role c ds) keeps keeps (changes_by c (with_sent (packet_of d)) (λ r. refl) (λ r. refl) (λ r. refl) (λ r. refl) (λ r. refl) (λ n k r. (refl, refl)) (λ n a k r. refl)) (sent_hold c ds)
+      h.in_turn (sends role c d) (all_sent role c ds) keeps keeps (changes_by c (with_sent (packet_of d)) (λ r. refl) (λ r. refl) (λ r. refl) (λ r. refl) (λ r. refl) (λ r. refl) (λ n k r. (refl, refl)) (λ n a k p r. refl)) (sent_hold c ds)
 
   let_go_hold : (t : Taken) (c : ℕ) → R (let_go t role c) keeps
   let_go_hold (TakenInterrupt octets) c = h.same
-  let_go_hold (TakenPacket d) c = changes_by c (with_released 1) (λ r. refl) (λ r. refl) (λ r. refl) (λ r. refl) (λ r. refl) (λ n k r. (refl, refl)) (λ n a k r. refl)
+  let_go_hold (TakenPacket d) c = changes_by c (with_released 1) (λ r. refl) (λ r. refl) (λ r. refl) (λ r. refl) (λ r. refl) (λ r. refl) (λ n k r. (refl, refl)) (λ n a k p r. refl)
 
   told_hold : (note : Note) → R (told role note) (noted line role note)
   told_hold (Incoming c parts) = h.comes_in c parts
   told_hold (Connected c) = h.same
   told_hold (Closed c cause diagnostic reason) = h.ends c
-  told_hold (WasReset c cause diagnostic reason) = changes_by c with_epoch (λ r. refl) (λ r. refl) (λ r. refl) (λ r. refl) (λ r. refl) (λ n k r. (refl, refl)) (λ n a k r. refl)
+  told_hold (WasReset c cause diagnostic reason) = changes_by c with_epoch (λ r. refl) (λ r. refl) (λ r. refl) (λ r. refl) (λ r. refl) (λ r. refl) (λ n k r. (refl, refl)) (λ n a k p r. refl)
   told_hold (InterruptConfirmed c) = h.same
-  told_hold (Covered c count) = changes_by c (with_covered count) (λ r. refl) (λ r. refl) (λ r. refl) (λ r. refl) (λ r. refl) (λ n k r. (refl, refl)) (λ n a k r. refl)
+  told_hold (Covered c count) = changes_by c (with_covered count) (λ r. refl) (λ r. refl) (λ r. refl) (λ r. refl) (λ r. refl) (λ r. refl) (λ n k r. (refl, refl)) (λ n a k p r. refl)
 
   all_told_hold : (notes : List Note) → R (all_told role notes) (all_noted line role notes)
   all_told_hold [] = h.same
@@ -83,11 +83,11 @@ module _ (line : ℕ) (role : Role) (May : Write → Type 0) (R : Property) (h :
   carried_hold : (c : ℕ) (r : Request) (front : Option Taken) → R (carried role c r front) keeps
   carried_hold c Accept front = h.accepts c
   carried_hold c (Clearing cause diagnostic) front = h.ends c
-  carried_hold c (Resetting cause diagnostic) front = changes_by c with_epoch (λ r. refl) (λ r. refl) (λ r. refl) (λ r. refl) (λ r. refl) (λ n k r. (refl, refl)) (λ n a k r. refl)
-  carried_hold c (Sending d) front = changes_by c (with_sent (packet_of d)) (λ r. refl) (λ r. refl) (λ r. refl) (λ r. refl) (λ r. refl) (λ n k r. (refl, refl)) (λ n a k r. refl)
-  carried_hold c (Interrupting octets) front = changes_by c (with_interrupt_sent octets) (λ r. refl) (λ r. refl) (λ r. refl) (λ r. refl) (λ r. refl) (λ n k r. (refl, refl)) (λ n a k r. refl)
+  carried_hold c (Resetting cause diagnostic) front = changes_by c with_epoch (λ r. refl) (λ r. refl) (λ r. refl) (λ r. refl) (λ r. refl) (λ r. refl) (λ n k r. (refl, refl)) (λ n a k p r. refl)
+  carried_hold c (Sending d) front = changes_by c (with_sent (packet_of d)) (λ r. refl) (λ r. refl) (λ r. refl) (λ r. refl) (λ r. refl) (λ r. refl) (λ n k r. (refl, refl)) (λ n a k p r. refl)
+  carried_hold c (Interrupting octets) front = changes_by c (with_interrupt_sent octets) (λ r. refl) (λ r. refl) (λ r. refl) (λ r. refl) (λ r. refl) (λ r. refl) (λ n k r. (refl, refl)) (λ n a k p r. refl)
   carried_hold c Taking front = takes_hold c front
-  carried_hold c (Releasing count) front = changes_by c (with_released count) (λ r. refl) (λ r. refl) (λ r. refl) (λ r. refl) (λ r. refl) (λ n k r. (refl, refl)) (λ n a k r. refl)
+  carried_hold c (Releasing count) front = changes_by c (with_released count) (λ r. refl) (λ r. refl) (λ r. refl) (λ r. refl) (λ r. refl) (λ r. refl) (λ n k r. (refl, refl)) (λ n a k p r. refl)
   carried_hold c _ front = h.same
 
   unless_hold : (refusal : Option Refusal) (f : Book → Book) → R f keeps → R (λ b. unless_refused refusal (f b) b) keeps
@@ -101,7 +101,7 @@ module _ (line : ℕ) (role : Role) (May : Write → Type 0) (R : Property) (h :
   write_holds (Said refusal c ds) may = unless_hold refusal (all_sent role c ds) (sent_hold c ds)
   write_holds (Took c t) may = h.in_turn (takes role c (Some t)) (let_go t role c) keeps keeps (takes_hold c (Some t)) (let_go_hold t c)
   write_holds (Cleared refusal c) may = unless_hold refusal (closes role c) (h.ends c)
-  write_holds (Edited c step) may = changes_by c (with_step step) (λ r. refl) (λ r. refl) (λ r. refl) (λ r. refl) (λ r. refl) (λ n k r. (refl, refl)) (λ n a k r. refl)
+  write_holds (Edited c step) may = changes_by c (with_step step) (λ r. refl) (λ r. refl) (λ r. refl) (λ r. refl) (λ r. refl) (λ r. refl) (λ n k r. (refl, refl)) (λ n a k p r. refl)
   write_holds AllClosed may = h.ends_all
 
   pub writes_hold : (writes : List Write) → Each May writes → R (all_written role writes) (all_traced line role writes)

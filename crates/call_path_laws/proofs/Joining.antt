@@ -3,16 +3,17 @@ use Rattle.std.proofs.Common.{◌≡◌, ℕ, ◌<◌, ◌⊎◌, inl, inr, Bool
 use Rattle.std.specs.Prelude.{slice_get}
 use Rattle.std.proofs.lemmas.Option.{none-some, slice_get_within}
 use Rattle.link_timers.specs.declared.role.Role.{Role}
+use Rattle.link_timers.specs.declared.role.Role.TheVariants.{Dte, Dce}
 use Rattle.link_timers.specs.Role.{other_of}
-use Rattle.call_records.specs.Records.{RecordValue, new_record}
-use Rattle.call_records.specs.Book.{Book, Slot, side_of, slot_at, with_record, address_of, calling_from, places_from}
-use Rattle.call_records.specs.Register.{holds}
+use Rattle.call_records.specs.Records.{RecordValue, HopValue, new_record, changed_at, with_hop}
+use Rattle.call_records.specs.Book.{Book, Slot, side_of, slot_at, with_change, with_record, address_of, calling_from, places_from}
+use Rattle.call_records.specs.Register.{holds, goes_on}
 use Rattle.book_laws.proofs.Basics.{get_before, get_last, get_pushed}
 use Rattle.call_path_laws.specs.World.{Origin, placing, Join, Plan}
-use Rattle.call_path_laws.specs.Seen.{numbers, IsJoined, Begins, BeginsIf, PresentIsSeen, CallerIsSeen, SlotIsSeen, JoinIsSeen, RecordsAreSeen}
+use Rattle.call_path_laws.specs.Seen.{numbers, IsJoined, Begins, BeginsIf, PresentIsSeen, CallerIsSeen, SlotIsSeen, SideIsSeen, JoinIsSeen, RecordsAreSeen}
 use Rattle.call_path_laws.specs.Seen.Way.{onward}
 use Rattle.call_path_laws.proofs.Growing.{Extends, extends_twice, more_came, more_begins, more_record, more_side, switch_extends}
-use Rattle.call_path_laws.proofs.Records.{more_pairs_seen}
+use Rattle.call_path_laws.proofs.Records.{hop_seen, more_pairs_seen}
 use Rattle.call_path_laws.proofs.Steps.{Beside, IsRight, Leads, after, puts_both, adds_whole, last_origin, last_made}
 
 -- a join more, of a call that was in none
@@ -114,9 +115,19 @@ module _ (plan : Plan) (js : List Join) (line : ℕ) (role : Role) (switch : pla
               (record { place = length js; there = get_last js (record { came_in = a; placed = b }) });
         }
 
+  -- the path of the holder gets one more hop
+  hop_right : (ks : List Join) (os : List Origin) (kinds : List ℕ) (holder : Option ℕ) (hop : HopValue) (seen whole : Book) → IsRight plan ks line (record { origins = os; kinds = kinds; seen = seen; whole = whole })
+      → IsRight plan ks line (record { origins = os; kinds = kinds; seen = with_change holder (with_hop hop) seen; whole = whole })
+  hop_right ks os kinds None hop seen whole h = h
+  hop_right ks os kinds (Some n) hop seen whole h = record { records = hop_seen plan os ks seen.records whole.records hop n h.records; pairs = h.pairs; sides = sides }
+    where
+      sides : (end : Role) → SideIsSeen plan os ks line end (side_of end (record seen { records = changed_at n (with_hop hop) seen.records })) (side_of end whole)
+      sides Dte = h.sides Dte
+      sides Dce = h.sides Dce
+
   pub joins : (x : Beside) (c a : ℕ) (calling called : List ℕ) (holder : Option ℕ) → IsRight plan js line x → Incoming plan js x.origins a holder line role
       → Joins plan js line x (with_new js a (length x.whole.records)) (x.origins ++ placing line role ∷ [])
-      (holds role c holder x.seen) (places_from role c calling called x.whole)
+      (goes_on (record { line = line; role = role; channel = c }) holder x.seen) (places_from role c calling called x.whole)
   joins x c a calling called holder h i =
       let b : ℕ = length x.whole.records in
       let o : Origin = placing line role in
@@ -161,4 +172,5 @@ module _ (plan : Plan) (js : List Join) (line : ℕ) (role : Role) (switch : pla
         present_origin = last_made plan js line x role true None h;
         placed_origin = last_origin plan js line x o h;
       }) in
-      record { kinds = last.kinds; is_right = last.is_right; extends = more }
+      let hop : HopValue = record { switch = (side_of role x.seen).node; line = line; channel = c } in
+      record { kinds = last.kinds; is_right = hop_right ks os last.kinds holder hop (holds role c holder x.seen) (places_from role c calling called x.whole) last.is_right; extends = more }

@@ -30,5 +30,7 @@ pub mod OwnAddresses
 pub mod Forwarding
 mod Above
 pub mod Path
+pub mod Hopping
 pub mod TrunkRunning
 pub mod TrunkHolding
+pub mod Colliding

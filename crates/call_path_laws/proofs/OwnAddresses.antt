@@ -1,6 +1,6 @@
 -- The own address of a call that a user placed is that of its line.
 use Rattle.std.proofs.Common.{◌≡◌, ℕ, zero, suc, ◌<◌, ◌+◌, ◌⊎◌, inl, inr, Bool, true, false, List, [], ◌∷◌, ◌++◌, length, set, replicate, Option, Some, None, refl, sym, ap, subst, ◌∙◌, length-append, arith}
-use Rattle.std.specs.Prelude.{slice_get, if◌then◌else◌}
+use Rattle.std.specs.Prelude.{slice_get, is_some, if◌then◌else◌}
 use Rattle.std.proofs.lemmas.Option.{none-some, same_Some, slice_get_within}
 use Rattle.std.proofs.lemmas.List.{length-set}
 use Rattle.link_timers.specs.declared.role.Role.{Role}
@@ -9,19 +9,19 @@ use Rattle.link_timers.specs.Role.{other_of}
 use Rattle.packet_layer.specs.Packets.{CallParts}
 use Rattle.packet_layer.specs.Packets.Note.{Incoming}
 use Rattle.packet_layer.specs.Channel.Request.{Accept}
-use Rattle.call_records.specs.Records.{RecordValue, PairValue, new_record, with_closed}
+use Rattle.call_records.specs.Records.{RecordValue, HopValue, PairValue, new_record, with_closed, with_hop}
 use Rattle.call_records.specs.Book.{Book, Side, Slot, free_slot, side_of, nth_slot, with_nth, found_slot, slot_at, with_slot, with_change, changed, with_record, with_pair, address_of, calling_from, closes, answers}
 use Rattle.call_records.specs.Closing.{closes_if, closes_present, closed_from}
 use Rattle.call_records.specs.Carried.{placed_on}
 use Rattle.call_records.specs.Writes.{Write, all_written}
 use Rattle.call_records.specs.Writes.Write.{Told, Placed, Asked}
-use Rattle.call_records.specs.Register.{Register, LineEnds, LinePlan, book_at, found_ends, with_book, all_written_at, handed_on, holds, holder_at, free_ends, with_free_line, with_line, with_lines, with_standing_call, no_parts, made_register, empty_register}
+use Rattle.call_records.specs.Register.{Register, LineEnds, LinePlan, ChannelEnd, book_at, found_ends, with_book, written_at, all_written_at, holds, holder_at, goes_on, free_ends, with_free_line, with_line, with_lines, with_standing_call, no_parts, made_register, empty_register}
 use Rattle.book_laws.proofs.Basics.{get_before, get_last, get_pushed, get_there, number_is}
 use Rattle.book_laws.proofs.Writing.{SameSize, size_refl, size_trans, size_slot, size_changed, size_record, slot_changed, pairs_changed}
 use Rattle.register_laws.specs.Giving.{GivesNone, AllGiveNone}
 use Rattle.call_path_laws.specs.World.{Origin, all_traced}
 use Rattle.call_path_laws.specs.OwnAddresses.{IsAddressAt, HasOwnAddress, HaveOwnAddresses, MadeOwnLaw, WriteOwnLaw, HandedOwnLaw, two_lines, calls_two, OwnRun}
-use Rattle.call_path_laws.proofs.Records.{IsMild}
+use Rattle.call_path_laws.proofs.Records.{KeepsHead, keeps_head, hop_keeps_head}
 use Rattle.call_path_laws.proofs.Writing.{closing_mild}
 use Rattle.call_path_laws.proofs.Inducing.{Holds, Each, writes_hold}
 use Rattle.call_path_laws.proofs.Heading.{IsHeaded, change_headed, closes_headed, pair_headed, new_headed}
@@ -94,10 +94,10 @@ module _ (At : ℕ → Option (List ℕ) → Type 0) where
     keeps : (b : Book) (n : ℕ) → Owns b.records n → Owns (f b).records n
     owns : (b : Book) → BookOwns b → BookOwns (f b)
 
-  change_owns : (o : Option ℕ) (f : RecordValue → RecordValue) (b : Book) → IsMild f → (n : ℕ) → Owns b.records n → Owns (with_change o f b).records n
+  change_owns : (o : Option ℕ) (f : RecordValue → RecordValue) (b : Book) → KeepsHead f → (n : ℕ) → Owns b.records n → Owns (with_change o f b).records n
   change_owns o f b mild n h = owns_headed h.value (with_change o f b).records n h.own (change_headed o f n h.value b mild (headed b.records n h))
 
-  change_step : (o : Option ℕ) (f : RecordValue → RecordValue) (b : Book) → IsMild f → BookOwns b → BookOwns (with_change o f b)
+  change_step : (o : Option ℕ) (f : RecordValue → RecordValue) (b : Book) → KeepsHead f → BookOwns b → BookOwns (with_change o f b)
   change_step o f b mild w = record {
     sides = sides_kept b (with_change o f b) (size_changed o f b) w.sides;
     slots = λ x c. subst (λ (z : Slot). SlotOwns (with_change o f b).records z) (sym (slot_changed x c o f b))
@@ -195,10 +195,10 @@ module _ (At : ℕ → Option (List ℕ) → Type 0) where
     keeps = λ b n h. owns_headed h.value (closes x c b).records n h.own (closes_headed x c n h.value b (headed b.records n h));
     owns = λ b w. put_step x c (record (slot_at x c b) { present = None; caller = None }) (changed x c with_closed b)
         (record {
-          placed = λ n e. change_owns (slot_at x c b).present with_closed b closing_mild n ((w.slots x c).placed n e);
+          placed = λ n e. change_owns (slot_at x c b).present with_closed b (keeps_head with_closed closing_mild) n ((w.slots x c).placed n e);
           came = λ n e. absurd (none-some n e);
         })
-        (change_step (slot_at x c b).present with_closed b closing_mild w);
+        (change_step (slot_at x c b).present with_closed b (keeps_head with_closed closing_mild) w);
   }
 
   still : Step (λ b. b) (λ b os. os)
@@ -256,8 +256,8 @@ module _ (At : ℕ → Option (List ℕ) → Type 0) where
     in_turn = in_turn;
     changes = λ c f mild. record {
       size = λ b. size_changed (slot_at x c b).present f b;
-      keeps = λ b n h. change_owns (slot_at x c b).present f b mild n h;
-      owns = λ b w. change_step (slot_at x c b).present f b mild w;
+      keeps = λ b n h. change_owns (slot_at x c b).present f b (keeps_head f mild) n h;
+      owns = λ b w. change_step (slot_at x c b).present f b (keeps_head f mild) w;
     };
     comes_in = λ c parts. record {
       size = λ b. new_size x c _ _ b;
@@ -368,31 +368,31 @@ written_owns g line role writes less none h =
     changed_owns g (all_written_at line role writes g) line b (book_written line g b less) (step.size (book_at line g)) (λ n o. step.keeps (book_at line g) n o)
     (step.owns (book_at line g) (book_owns g line less h)) h
 
--- where the other line is not there, nothing is handed on
-set_past : {X : Type 0} (xs : List X) (n : ℕ) (x : X) → slice_get xs n ≡ None → set xs n x ≡ xs
-set_past [] n x e = refl
-set_past (y ∷ ys) zero x e = absurd (none-some y (sym e))
-set_past (y ∷ ys) (suc n) x e = ap (λ (zs : List _). y ∷ zs) (set_past ys n x e)
-
-handed_there : (g : Register) (line channel to_line to_channel : ℕ) → to_line < length g.lines → HaveOwnAddresses g → HaveOwnAddresses (handed_on line channel to_line to_channel g)
-handed_there g line channel to_line to_channel less h =
-    let old : Book = book_at to_line g in
-    let z : Slot = record (slot_at Dce to_channel old) { placed = holder_at line channel g } in
-    let b : Book = holds Dce to_channel (holder_at line channel g) old in
-    let w : BookOwns (IsAddressAt g) old = book_owns g to_line less h in
-    changed_owns g (with_book to_line b g) to_line b (book_written to_line g b less) (size_slot Dce to_channel z old) (λ n o. o)
-    (put_step (IsAddressAt g) Dce to_channel z old
+-- the line onward is there
+handed_there : (g : Register) (from to : ChannelEnd) → to.line < length g.lines → HaveOwnAddresses g → HaveOwnAddresses (written_at to.line (goes_on to (holder_at from g)) g)
+handed_there g from to less h =
+    let old : Book = book_at to.line g in
+    let z : Slot = record (slot_at to.role to.channel old) { placed = holder_at from g } in
+    let held : Book = holds to.role to.channel (holder_at from g) old in
+    let hop : HopValue = record { switch = (side_of to.role old).node; line = to.line; channel = to.channel } in
+    let b : Book = with_change (holder_at from g) (with_hop hop) held in
+    let w : BookOwns (IsAddressAt g) old = book_owns g to.line less h in
+    let put : BookOwns (IsAddressAt g) held =
+    put_step (IsAddressAt g) to.role to.channel z old
     (record {
-      placed = λ n e. (slots_there g line h Dte channel).placed n e;
-      came = λ n e. (w.slots Dce to_channel).came n e;
-    }) w) h
+      placed = λ n e. (slots_there g from.line h from.role from.channel).placed n e;
+      came = λ n e. (w.slots to.role to.channel).came n e;
+    }) w in
+    changed_owns g (with_book to.line b g) to.line b (book_written to.line g b less) (size_trans old held b (size_slot to.role to.channel z old) (size_changed (holder_at from g) (with_hop hop) held))
+    (λ n o. change_owns (IsAddressAt g) (holder_at from g) (with_hop hop) held (hop_keeps_head hop) n (same_records (IsAddressAt g) old held (slot_records (IsAddressAt g) to.role to.channel z old) n o))
+    (change_step (IsAddressAt g) (holder_at from g) (with_hop hop) held (hop_keeps_head hop) put) h
 
 pub handed_owns : HandedOwnLaw
-handed_owns g line channel to_line to_channel h = by (slice_get g.lines to_line) refl
+handed_owns g from to h = by (slice_get g.lines to.line) refl
   where
-    by : (o : Option LineEnds) → slice_get g.lines to_line ≡ o → HaveOwnAddresses (handed_on line channel to_line to_channel g)
-    by (Some ends) e = handed_there g line channel to_line to_channel (slice_get_within g.lines to_line ends e) h
-    by None e = subst (λ (ls : List LineEnds). HaveOwnAddresses (record g { lines = ls })) (sym (set_past g.lines to_line _ e)) h
+    by : (o : Option LineEnds) → slice_get g.lines to.line ≡ o → HaveOwnAddresses (if is_some o then written_at to.line (goes_on to (holder_at from g)) g else g)
+    by (Some ends) e = handed_there g from to (slice_get_within g.lines to.line ends e) h
+    by None e = h
 
 -- ---- the making
 

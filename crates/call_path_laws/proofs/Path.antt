@@ -13,9 +13,10 @@ use Rattle.std.proofs.lemmas.Map.Made.{length-le_from_is_member, is_member-Decid
 use Rattle.link_timers.specs.declared.role.Role.{Role}
 use Rattle.link_timers.specs.declared.role.Role.TheVariants.{Dte, Dce}
 use Rattle.link_timers.specs.Role.{other_of}
+use Rattle.call_records.specs.Records.{HopValue}
 use Rattle.call_path_laws.specs.World.{Origin, placing, World, Plan, ChannelEnd, MayJoin}
 use Rattle.call_path_laws.specs.Seen.{JoinIsSeen, Seen}
-use Rattle.call_path_laws.specs.Tree.{IsTrunk, IsTree, Hop, WayOver, HopsLaw, RoomLaw}
+use Rattle.call_path_laws.specs.Tree.{IsTrunk, IsTree, WayOver, HopsLaw, RoomLaw}
 use Rattle.call_path_laws.specs.Tree.WayOver.{here, onward}
 use Rattle.call_path_laws.proofs.Above.Above.{itself}
 use Rattle.call_path_laws.proofs.Above.{Above, above_le, above_up, apart_below}
@@ -106,7 +107,7 @@ module _ (plan : Plan) (switches : List ℕ) (tree : IsTree plan switches) where
   -- ---- along a way
 
   -- a way with hops ends where a switch placed the call
-  record Stands (os : List Origin) (hops : List Hop) (b : ℕ) : Type 0 where
+  record Stands (os : List Origin) (hops : List HopValue) (b : ℕ) : Type 0 where
     pub origin : Origin
     pub there : slice_get os b ≡ Some origin
     pub switch : plan.has_user origin.line origin.role ≡ false
@@ -115,17 +116,17 @@ module _ (plan : Plan) (switches : List ℕ) (tree : IsTree plan switches) where
     pub passed : Passed plan switches (plan.node origin.line origin.role) origin.line before
 
   -- the call then came to a switch, which places it onward on a line
-  record ComesTo (hops : List Hop) (x onward_on : ℕ) : Type 0 where
+  record ComesTo (hops : List HopValue) (x onward_on : ℕ) : Type 0 where
     pub before : List ℕ
     pub count : length hops ≡ length before
     pub passed : Passed plan switches x onward_on before
 
-  comes_to : (os : List Origin) (hops : List Hop) (y line : ℕ) (role : Role) (onward_on : ℕ) → (hops ≡ []) ⊎ Stands os hops y
+  comes_to : (os : List Origin) (hops : List HopValue) (y line : ℕ) (role : Role) (onward_on : ℕ) → (hops ≡ []) ⊎ Stands os hops y
       → slice_get os y ≡ Some (placing line (other_of role)) → plan.has_user line role ≡ false
       → (plan.has_user line (other_of role) ≡ false → line ≡ onward_on → ⊥) → ComesTo hops (plan.node line role) onward_on
   comes_to os hops y line role onward_on (inl e) at switch ne = record {
     before = [];
-    count = ap (λ (hs : List Hop). length hs) e;
+    count = ap (λ (hs : List HopValue). length hs) e;
     passed = record { came = begins refl; apart = IsDistinct-cons eqb (plan.node line role) [] tt nothing_apart; among = (tree.at_switch line role switch, tt) };
   }
   comes_to os hops y line role onward_on (inr s) at switch ne =
@@ -139,7 +140,7 @@ module _ (plan : Plan) (switches : List ℕ) (tree : IsTree plan switches) where
       }
 
   module _ (w : World) (seen : Seen plan w) where
-    stands : (hops : List Hop) (x b : ℕ) → WayOver plan w.origins w.joins hops x b → (hops ≡ []) ⊎ Stands w.origins hops b
+    stands : (hops : List HopValue) (x b : ℕ) → WayOver plan w.origins w.joins hops x b → (hops ≡ []) ⊎ Stands w.origins hops b
     stands hops x b here = inl refl
     stands hops x b (onward {hops = earlier} {y = y} a c o channel way came joined there) =
         let j : JoinIsSeen plan w.origins a c = seen.records.joined a c joined in
@@ -158,10 +159,10 @@ module _ (plan : Plan) (switches : List ℕ) (tree : IsTree plan switches) where
           passed = subst (λ (k : ℕ). Passed plan switches k j.to.line next.before) j.one_switch next.passed;
         })
 
-    few_hops : (hops : List Hop) (x b : ℕ) → WayOver plan w.origins w.joins hops x b → length hops ≤ 16
+    few_hops : (hops : List HopValue) (x b : ℕ) → WayOver plan w.origins w.joins hops x b → length hops ≤ 16
     few_hops hops x b way =
         elim (stands hops x b way) [
-          | inl e ↦ subst (λ (hs : List Hop). length hs ≤ 16) (sym e) (omega arith)
+          | inl e ↦ subst (λ (hs : List HopValue). length hs ≤ 16) (sym e) (omega arith)
           | inr s ↦
               let most = bounded plan switches (plan.node s.origin.line s.origin.role) s.origin.line s.before s.passed in
               let few = tree.few in
@@ -169,7 +170,7 @@ module _ (plan : Plan) (switches : List ℕ) (tree : IsTree plan switches) where
               omega arith
         ]
 
-    has_room : (from to : ChannelEnd) (hops : List Hop) (x : ℕ) → (m : MayJoin plan from to w) → WayOver plan w.origins w.joins hops x m.caller → length hops < 16
+    has_room : (from to : ChannelEnd) (hops : List HopValue) (x : ℕ) → (m : MayJoin plan from to w) → WayOver plan w.origins w.joins hops x m.caller → length hops < 16
     has_room from to hops x m way =
         let placer : slice_get w.origins m.caller ≡ Some (placing from.line (other_of from.role)) =
         ((seen.sides from.line (other_of from.role) m.from_end.there).slot from.channel).placed_origin m.caller m.last in

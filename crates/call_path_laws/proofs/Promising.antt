@@ -9,7 +9,7 @@ use Rattle.link_timers.specs.Role.{other_of}
 use Rattle.epochs.specs.Confirmed.{Confirms}
 use Rattle.epochs.specs.ConfirmedLaws.{AreEmpty}
 use Rattle.epochs.proofs.Confirms.{confirms_trans}
-use Rattle.call_records.specs.Records.{RecordValue, PairValue, taken_epochs}
+use Rattle.call_records.specs.Records.{RecordValue, HopValue, PairValue, taken_epochs}
 use Rattle.call_records.specs.Register.{LineEnds, found_ends}
 use Rattle.book_laws.specs.Headline.{IsIn, TookNothing, sent_by, taken_by}
 use Rattle.book_laws.proofs.Basics.{get_there, order}
@@ -20,18 +20,22 @@ use Rattle.register_laws.proofs.Steps.{same_place}
 use Rattle.call_path_laws.specs.World.{Origin, placing, World, Plan, AreAddressed, calling_on}
 use Rattle.call_path_laws.specs.Seen.{kind, numbers, CameFrom, Way, Begins, address_at, own_on, own_of, shown, RecordIsShown, JoinIsSeen, PairIsSeen, PairCame, Seen}
 use Rattle.call_path_laws.specs.Seen.Way.{here, onward}
+use Rattle.call_path_laws.specs.Tree.{WayOver}
+use Rattle.call_path_laws.specs.Tree.WayOver.{here as stands_here, onward as goes_on}
+use Rattle.call_path_laws.specs.Paths.{IsPath, ArePaths}
 use Rattle.call_path_laws.specs.Promise.{IsPlacedAt, PathHolds, PathsHold, CallsHold, JoinsHold, JoinHolds}
 use Rattle.call_path_laws.specs.Promise.IsPlacedAt.{by_caller, by_switch}
 use Rattle.call_path_laws.specs.Law.{PromiseLaw}
-use Rattle.call_path_laws.proofs.Ways.{along, from_first, one_callee, one_first, numbered_user, kind_user}
+use Rattle.call_path_laws.proofs.Ways.{along, from_first, stops, one_callee, one_first, numbered_user, kind_user}
+use Rattle.call_path_laws.proofs.Hopping.{way_of}
 use Rattle.call_path_laws.proofs.Carrying.{line_confirms, Carried, CarriedTo, carried_along, all_confirmed, all_match, empty_of_empty, took_nothing, are_empty}
 
 -- the number of the caller's record does not matter
-placed_like : {plan : Plan} {c : RecordValue} {first line : ℕ} {role : Role} → IsPlacedAt plan c first line role → (r : RecordValue) → r.node ≡ c.node → r.far ≡ c.far
-    → IsPlacedAt plan r first line role
+placed_like : {plan : Plan} {c : RecordValue} {first line : ℕ} {hops : List HopValue} {role : Role} → IsPlacedAt plan c first hops line role → (r : RecordValue) → r.node ≡ c.node → r.far ≡ c.far
+    → IsPlacedAt plan r first hops line role
 placed_like (by_caller e u) r node far = by_caller (node ∙ e) u
-placed_like {plan} {line = line} {role = role} (by_switch from end p same switch routed) r node far =
-    by_switch from end (placed_like p r node far) same switch (ap (λ (d : Option (List ℕ)). plan.route (plan.node line role) d) far ∙ routed)
+placed_like {plan} {line = line} {role = role} (by_switch from end channel p same switch routed) r node far =
+    by_switch from end channel (placed_like p r node far) same switch (ap (λ (d : Option (List ℕ)). plan.route (plan.node line role) d) far ∙ routed)
 
 -- of a call that came in, the register has the own address of the whole one
 own_came : (plan : Plan) (o : Origin) (x : ℕ) (given : Option (List ℕ)) → o.caller ≡ Some x → own_of plan o given ≡ given
@@ -67,7 +71,7 @@ module _ (plan : Plan) (w : World) (s : Seen plan w) where
         caller = subst (λ (z : PairValue). Begins plan w.origins w.joins p.seen_pair.caller z.caller) same p.caller;
       }
 
-module _ (plan : Plan) (w : World) (addressed : AreAddressed plan) (s : Seen plan w) (calls : CallsHold w) (joins : JoinsHold plan w) where
+module _ (plan : Plan) (w : World) (addressed : AreAddressed plan) (s : Seen plan w) (paths : ArePaths plan w) (calls : CallsHold w) (joins : JoinsHold plan w) where
   -- ---- pairs of the two registers
 
   record PairOf (q : ℕ) (pair : PairValue) : Type 0 where
@@ -186,28 +190,26 @@ module _ (plan : Plan) (w : World) (addressed : AreAddressed plan) (s : Seen pla
       e ∙ ap (λ (a : List ℕ). calling_on a x.own) (sym none)
 
   -- the record of each end on the way is where the call was placed
-  placed_at : (x b : ℕ) → Way w.origins w.joins x b → (begin_ : Origin) → slice_get w.origins x ≡ Some begin_ → plan.has_user begin_.line begin_.role ≡ true
-      → (first : RecordValue) → slice_get w.whole.records x ≡ Some first → (o : Origin) → slice_get w.origins b ≡ Some o → IsPlacedAt plan first begin_.line o.line o.role
-  placed_at = along w.origins w.joins
-      (λ x b. (begin_ : Origin) → slice_get w.origins x ≡ Some begin_ → plan.has_user begin_.line begin_.role ≡ true
-      → (first : RecordValue) → slice_get w.whole.records x ≡ Some first → (o : Origin) → slice_get w.origins b ≡ Some o → IsPlacedAt plan first begin_.line o.line o.role)
-      (λ x begin_ begins user first there o at.
-      subst (λ (p : Origin). IsPlacedAt plan first begin_.line p.line p.role) (same_Some begin_ o (sym begins ∙ at)) (by_caller (s.records.nodes x begin_ first begins there) user))
-      (λ x y a b way before came joined begin_ begins user first there o at.
-      let j : JoinIsSeen plan w.origins a b = s.records.joined a b joined in
-      let r : JoinHolds plan w a b = joins.joins a b joined in
-      let to : j.to ≡ o = same_Some j.to o (sym j.to_there ∙ at) in
+  placed_at : (hops : List HopValue) (x b : ℕ) → WayOver plan w.origins w.joins hops x b → (begin_ : Origin) → slice_get w.origins x ≡ Some begin_ → plan.has_user begin_.line begin_.role ≡ true
+      → (first : RecordValue) → slice_get w.whole.records x ≡ Some first → (o : Origin) → slice_get w.origins b ≡ Some o → IsPlacedAt plan first begin_.line hops o.line o.role
+  placed_at hops x b stands_here begin_ begins user first there o at =
+      subst (λ (p : Origin). IsPlacedAt plan first begin_.line [] p.line p.role) (same_Some begin_ o (sym begins ∙ at)) (by_caller (s.records.nodes x begin_ first begins there) user)
+  placed_at hops x b (goes_on {hops = earlier} {y = y} a c p channel way came joined its) begin_ begins user first there o at =
+      let j : JoinIsSeen plan w.origins a c = s.records.joined a c joined in
+      let r : JoinHolds plan w a c = joins.joins a c joined in
+      let to : j.to ≡ p = same_Some j.to p (sym j.to_there ∙ its) in
       let from : came.origin ≡ j.from = same_Some came.origin j.from (sym came.there ∙ j.from_there) in
       let origin : slice_get w.origins y ≡ Some (placing j.from.line (other_of j.from.role)) =
-      s.records.callers a y j.from j.from_there (ap (λ (p : Origin). p.caller) (sym from) ∙ came.came) in
-      let c : CarriedTo w first b = carried_along plan w calls joins x b (onward a b way came joined) first there in
-      let same : r.to ≡ c.record_ = same_Some r.to c.record_ (sym r.to_there ∙ c.there) in
-      let node : r.to.node ≡ plan.node o.line o.role = s.records.nodes b o r.to at r.to_there in
-      by_switch j.from.line j.from.role (before begin_ begins user first there (placing j.from.line (other_of j.from.role)) origin)
-      (j.one_switch ∙ ap (λ (p : Origin). plan.node p.line p.role) to)
-      (ap (λ (p : Origin). plan.has_user p.line p.role) (sym to) ∙ j.to_switch)
-      (ap (λ (d : Option (List ℕ)). plan.route (plan.node o.line o.role) d) (sym (ap (λ (q : RecordValue). q.far) same ∙ c.carried.far))
-      ∙ (ap (λ (n : ℕ). plan.route n r.to.far) (sym node) ∙ r.routed o at)))
+      s.records.callers a y j.from j.from_there (ap (λ (q : Origin). q.caller) (sym from) ∙ came.came) in
+      let carried : CarriedTo w first c = carried_along plan w calls joins x c (onward a c (way_of plan w.origins w.joins earlier x y way) came joined) first there in
+      let same : r.to ≡ carried.record_ = same_Some r.to carried.record_ (sym r.to_there ∙ carried.there) in
+      let node : r.to.node ≡ plan.node p.line p.role = s.records.nodes c p r.to its r.to_there in
+      subst (λ (q : Origin). IsPlacedAt plan first begin_.line (earlier ++ record { switch = plan.node p.line p.role; line = p.line; channel = channel } ∷ []) q.line q.role) (same_Some p o (sym its ∙ at))
+      (by_switch j.from.line j.from.role channel (placed_at earlier x y way begin_ begins user first there (placing j.from.line (other_of j.from.role)) origin)
+      (j.one_switch ∙ ap (λ (q : Origin). plan.node q.line q.role) to)
+      (ap (λ (q : Origin). plan.has_user q.line q.role) (sym to) ∙ j.to_switch)
+      (ap (λ (d : Option (List ℕ)). plan.route (plan.node p.line p.role) d) (sym (ap (λ (q : RecordValue). q.far) same ∙ carried.carried.far))
+      ∙ (ap (λ (n : ℕ). plan.route n r.to.far) (sym node) ∙ r.routed p its)))
 
   -- where a call was placed by a user, the register has the address of the line
   user_address : (o : Origin) → plan.has_user o.line o.role ≡ true → address_at plan o.line o.role ≡ plan.address o.line
@@ -244,8 +246,8 @@ module _ (plan : Plan) (w : World) (addressed : AreAddressed plan) (s : Seen pla
       let y : ℕ = p.whole.callee in
       let from : RecordIsShown plan w.origins w.joins w.register.records w.whole.records pair.caller x = s.records.records pair.caller x p.caller.numbered in
       let to : RecordIsShown plan w.origins w.joins w.register.records w.whole.records pair.callee y = s.records.records pair.callee y p.callee in
-      let caller_shown : RecordValue = shown plan from.origin pair.caller from.caller from.value in
-      let callee_shown : RecordValue = shown plan to.origin pair.callee to.caller to.value in
+      let caller_shown : RecordValue = shown plan from.origin pair.caller from.caller from.path from.value in
+      let callee_shown : RecordValue = shown plan to.origin pair.callee to.caller to.path to.value in
       let h = calls.came y p.whole.caller (came_from q pair p) in
       let c : CarriedTo w from.value p.whole.caller = carried_along plan w calls joins x p.whole.caller p.caller.way from.value from.whole_there in
       let caller : h.caller ≡ c.record_ = same_Some h.caller c.record_ (sym h.caller_there ∙ c.there) in
@@ -263,6 +265,10 @@ module _ (plan : Plan) (w : World) (addressed : AreAddressed plan) (s : Seen pla
       let own : caller_shown.own ≡ calling_on (plan.address from.origin.line) from.value.own =
       own_placed from.origin from.value.own user (first_placed x p.whole.caller y p.caller.way (came_from q pair p) from.origin from.origin_there) in
       let origin : to.origin ≡ p.came.origin = same_Some to.origin p.came.origin (sym to.origin_there ∙ p.came.there) in
+      let path : IsPath plan w.origins w.joins x from.path = paths pair.caller x caller_shown p.caller.numbered from.seen_there in
+      let tip : p.whole.caller ≡ path.tip =
+      stops plan w.origins w.joins calls.once s.records.joined p.whole.caller path.tip y pair.callee (path.all p.whole.caller p.caller.way) (came_from q pair p) p.callee in
+      let over : WayOver plan w.origins w.joins from.path x p.whole.caller = subst (λ (k : ℕ). WayOver plan w.origins w.joins from.path x k) (sym tip) path.way in
       let less : x < y =
       let first = no_later x p.whole.caller p.caller.way in
       let last = caller_first y p.whole.caller (came_from q pair p) in omega arith in
@@ -297,7 +303,7 @@ module _ (plan : Plan) (w : World) (addressed : AreAddressed plan) (s : Seen pla
           node = s.records.nodes y p.came.origin to.value p.came.there to.whole_there;
           user = numbered_user plan w.origins pair.callee y p.came.origin p.callee p.came.there;
           placed = placed_like
-              (placed_at x p.whole.caller p.caller.way from.origin from.origin_there user from.value from.whole_there (placing p.came.origin.line (other_of p.came.origin.role)) placer)
+              (placed_at from.path x p.whole.caller over from.origin from.origin_there user from.value from.whole_there (placing p.came.origin.line (other_of p.came.origin.role)) placer)
               caller_shown refl refl;
         };
       }
@@ -321,7 +327,7 @@ module _ (plan : Plan) (w : World) (addressed : AreAddressed plan) (s : Seen pla
       let less : n < length (numbers plan w.origins) = subst (λ (k : ℕ). n < k) s.records.seen_count (slice_get_within w.register.records n r at) in
       let m = get_there (numbers plan w.origins) n less in
       let seen : RecordIsShown plan w.origins w.joins w.register.records w.whole.records n m.0 = s.records.records n m.0 m.1 in
-      let same : shown plan seen.origin n seen.caller seen.value ≡ r = same_Some (shown plan seen.origin n seen.caller seen.value) r (sym seen.seen_there ∙ at) in
+      let same : shown plan seen.origin n seen.caller seen.path seen.value ≡ r = same_Some (shown plan seen.origin n seen.caller seen.path seen.value) r (sym seen.seen_there ∙ at) in
       let h : IsOfEnd w.whole seen.value.node = calls.register.nodes m.0 seen.value seen.whole_there in
       let within : h.line < length w.whole.lines = slice_get_within w.whole.lines h.line h.line_ends h.line_there in
       subst (λ (v : RecordValue). IsOfEnd w.register v.node) same (end_there seen.value.node h within)
@@ -435,7 +441,7 @@ module _ (plan : Plan) (w : World) (addressed : AreAddressed plan) (s : Seen pla
       let less : n < length (numbers plan w.origins) = subst (λ (k : ℕ). n < k) s.records.seen_count (slice_get_within w.register.records n r at) in
       let m = get_there (numbers plan w.origins) n less in
       let seen : RecordIsShown plan w.origins w.joins w.register.records w.whole.records n m.0 = s.records.records n m.0 m.1 in
-      let same : shown plan seen.origin n seen.caller seen.value ≡ r = same_Some (shown plan seen.origin n seen.caller seen.value) r (sym seen.seen_there ∙ at) in
+      let same : shown plan seen.origin n seen.caller seen.path seen.value ≡ r = same_Some (shown plan seen.origin n seen.caller seen.path seen.value) r (sym seen.seen_there ∙ at) in
       subst (λ (v : RecordValue). TookNothing (taken_epochs v) ⊎ InPair n) same
       (elim (calls.register.took m.0 seen.value seen.whole_there) [
         | inl none ↦ inl none
@@ -459,4 +465,4 @@ module _ (plan : Plan) (w : World) (addressed : AreAddressed plan) (s : Seen pla
   paths_hold = record { pairs_hold = pair_holds; numbers = s.records.numbered; nodes = nodes; in_one = in_one; took = took }
 
 pub promised : PromiseLaw
-promised plan w addressed s calls joins = paths_hold plan w addressed s calls joins
+promised plan w addressed s paths calls joins = paths_hold plan w addressed s paths calls joins

@@ -1,9 +1,9 @@
 -- Records and pairs, changed or added in both registers or in the whole one alone.
-use Rattle.std.proofs.Common.{◌≡◌, ◌≢◌, ℕ, suc, ◌⊎◌, inl, inr, true, false, List, [], ◌∷◌, ◌++◌, length, Option, Some, sym, ap, subst, ◌∙◌, arith, true≢false}
-use Rattle.std.specs.Prelude.{slice_get, map}
+use Rattle.std.proofs.Common.{◌≡◌, ◌≢◌, ℕ, suc, ◌⊎◌, inl, inr, Bool, true, false, List, [], ◌∷◌, ◌++◌, length, Option, Some, refl, sym, ap, subst, ◌∙◌, arith, true≢false}
+use Rattle.std.specs.Prelude.{slice_get, map, nat_le, if◌then◌else◌}
 use Rattle.std.proofs.lemmas.Option.{same_Some, slice_get_within}
 use Rattle.link_timers.specs.Role.{other_of}
-use Rattle.call_records.specs.Records.{RecordValue, PairValue, changed_at}
+use Rattle.call_records.specs.Records.{RecordValue, HopValue, PairValue, changed_at, with_hop}
 use Rattle.book_laws.proofs.Basics.{get_before, get_last, get_pushed, get_changed, length_changed, length_pushed, number_is}
 use Rattle.register_laws.specs.Seen.{positions}
 use Rattle.register_laws.proofs.Positions.{one_here, one_elsewhere}
@@ -13,17 +13,41 @@ use Rattle.call_path_laws.specs.Seen.{kind, numbers, Begins, BeginsIf, own_of, s
 use Rattle.call_path_laws.proofs.Ways.{numbered_user}
 use Rattle.call_path_laws.proofs.Growing.{Extends, more_begins_if, more_join, more_pair, more_pair_came, numbers_user, numbers_switch, user_extends, switch_extends}
 
--- a change that leaves the number, the node, the addresses and the caller of a record as they are, and looks at none
+-- a change that leaves the number, the node, the addresses, the caller and the path of a record as they are, and looks at none
 -- of them but the node and the far address
 pub record IsMild (f : RecordValue → RecordValue) : Type 0 where
   pub blind : IsBlind f
-  pub beside : (n : ℕ) (own : Option (List ℕ)) (caller : Option ℕ) (r : RecordValue)
-      → f (record r { number = n; own = own; caller = caller }) ≡ record (f r) { number = n; own = own; caller = caller }
+  pub beside : (n : ℕ) (own : Option (List ℕ)) (caller : Option ℕ) (path : List HopValue) (r : RecordValue)
+      → f (record r { number = n; own = own; caller = caller; path = path }) ≡ record (f r) { number = n; own = own; caller = caller; path = path }
   pub number : (r : RecordValue) → (f r).number ≡ r.number
   pub node : (r : RecordValue) → (f r).node ≡ r.node
   pub own : (r : RecordValue) → (f r).own ≡ r.own
   pub far : (r : RecordValue) → (f r).far ≡ r.far
   pub caller : (r : RecordValue) → (f r).caller ≡ r.caller
+  pub path : (r : RecordValue) → (f r).path ≡ r.path
+
+-- a change that leaves the node and the addresses
+pub record KeepsHead (f : RecordValue → RecordValue) : Type 0 where
+  pub node : (r : RecordValue) → (f r).node ≡ r.node
+  pub own : (r : RecordValue) → (f r).own ≡ r.own
+  pub far : (r : RecordValue) → (f r).far ≡ r.far
+
+pub keeps_head : (f : RecordValue → RecordValue) → IsMild f → KeepsHead f
+keeps_head f mild = record { node = mild.node; own = mild.own; far = mild.far }
+
+-- one more hop leaves all but the path as it is
+pub hop_path : (hop : HopValue) (r : RecordValue) → with_hop hop r ≡ record r { path = (with_hop hop r).path }
+hop_path hop r = by_room (nat_le 16 (length r.path)) where
+  by_room : (full : Bool) → (if full then r else record r { path = r.path ++ hop ∷ [] }) ≡ record r { path = (if full then r else record r { path = r.path ++ hop ∷ [] }).path }
+  by_room true = refl
+  by_room false = refl
+
+pub hop_keeps_head : (hop : HopValue) → KeepsHead (with_hop hop)
+hop_keeps_head hop = record {
+  node = λ r. ap (λ (x : RecordValue). x.node) (hop_path hop r);
+  own = λ r. ap (λ (x : RecordValue). x.own) (hop_path hop r);
+  far = λ r. ap (λ (x : RecordValue). x.far) (hop_path hop r);
+}
 
 module _ (plan : Plan) (os : List Origin) (js : List Join) where
   -- ---- a record changes
@@ -57,11 +81,12 @@ module _ (plan : Plan) (os : List Origin) (js : List Join) where
         value = f h.value;
         whole_there = subst (λ (x : ℕ). slice_get (changed_at x f whole) k ≡ Some (f h.value)) (sym same) (changed_here whole k f h.value h.whole_there);
         caller = h.caller;
+        path = h.path;
         begins = subst (λ (o : Option ℕ). BeginsIf plan os js h.caller o) (sym (mild.caller h.value)) h.begins;
         seen_there =
-            subst (λ (x : ℕ). slice_get (changed_at x f seen) i ≡ Some (f (shown plan h.origin i h.caller h.value))) e (changed_here seen i f (shown plan h.origin i h.caller h.value) h.seen_there)
-            ∙ ap (λ (r : RecordValue). Some r) (mild.beside i (own_of plan h.origin h.value.own) h.caller h.value
-            ∙ ap (λ (d : Option (List ℕ)). record (f h.value) { number = i; own = own_of plan h.origin d; caller = h.caller }) (sym (mild.own h.value)));
+            subst (λ (x : ℕ). slice_get (changed_at x f seen) i ≡ Some (f (shown plan h.origin i h.caller h.path h.value))) e (changed_here seen i f (shown plan h.origin i h.caller h.path h.value) h.seen_there)
+            ∙ ap (λ (r : RecordValue). Some r) (mild.beside i (own_of plan h.origin h.value.own) h.caller h.path h.value
+            ∙ ap (λ (d : Option (List ℕ)). record (f h.value) { number = i; own = own_of plan h.origin d; caller = h.caller; path = h.path }) (sym (mild.own h.value)));
       }
   changed_shown seen whole f n m i k mild at there (inr e) h = record {
     origin = h.origin;
@@ -69,6 +94,7 @@ module _ (plan : Plan) (os : List Origin) (js : List Join) where
     value = h.value;
     whole_there = changed_elsewhere whole m k f (λ same. e (same_place 1 (map (kind plan) os) i n k there (at ∙ ap (λ (x : ℕ). Some x) (sym same)))) ∙ h.whole_there;
     caller = h.caller;
+    path = h.path;
     begins = h.begins;
     seen_there = changed_elsewhere seen n i f e ∙ h.seen_there;
   }
@@ -81,6 +107,55 @@ module _ (plan : Plan) (os : List Origin) (js : List Join) where
     records = λ i k there. changed_shown seen whole f n m i k mild at there (number_is i n) (h.records i k there);
     numbered = changed_numbers seen n f mild h.numbered;
     nodes = changed_nodes whole m f mild h.nodes;
+    callers = h.callers;
+    joined = h.joined;
+    joined_once = h.joined_once;
+    placed_once = h.placed_once;
+  }
+
+  -- a path that the register alone has gets one more hop
+  hop_shown : (seen whole : List RecordValue) (hop : HopValue) (n i k : ℕ) → (i ≡ n) ⊎ (i ≢ n) → RecordIsShown plan os js seen whole i k → RecordIsShown plan os js (changed_at n (with_hop hop) seen) whole i k
+  hop_shown seen whole hop n i k (inl e) h =
+      let r : RecordValue = shown plan h.origin i h.caller h.path h.value in
+      record {
+        origin = h.origin;
+        origin_there = h.origin_there;
+        value = h.value;
+        whole_there = h.whole_there;
+        caller = h.caller;
+        path = (with_hop hop r).path;
+        begins = h.begins;
+        seen_there =
+            subst (λ (x : ℕ). slice_get (changed_at x (with_hop hop) seen) i ≡ Some (with_hop hop r)) e (changed_here seen i (with_hop hop) r h.seen_there)
+            ∙ ap (λ (x : RecordValue). Some x) (hop_path hop r);
+      }
+  hop_shown seen whole hop n i k (inr e) h = record {
+    origin = h.origin;
+    origin_there = h.origin_there;
+    value = h.value;
+    whole_there = h.whole_there;
+    caller = h.caller;
+    path = h.path;
+    begins = h.begins;
+    seen_there = changed_elsewhere seen n i (with_hop hop) e ∙ h.seen_there;
+  }
+
+  hop_numbers : (seen : List RecordValue) (hop : HopValue) (k : ℕ) → ((n : ℕ) (r : RecordValue) → slice_get seen n ≡ Some r → r.number ≡ n)
+      → (n : ℕ) (r : RecordValue) → slice_get (changed_at k (with_hop hop) seen) n ≡ Some r → r.number ≡ n
+  hop_numbers seen hop k h n r at =
+      let old = get_changed seen k (with_hop hop) n r at in
+      elim old.2 [
+        | inl e ↦ ap (λ (x : RecordValue). x.number) (e.1 ∙ hop_path hop old.0) ∙ h n old.0 old.1
+        | inr e ↦ ap (λ (x : RecordValue). x.number) e.1 ∙ h n old.0 old.1
+      ]
+
+  pub hop_seen : (seen whole : List RecordValue) (hop : HopValue) (n : ℕ) → RecordsAreSeen plan os js seen whole → RecordsAreSeen plan os js (changed_at n (with_hop hop) seen) whole
+  hop_seen seen whole hop n h = record {
+    count = h.count;
+    seen_count = length_changed seen n (with_hop hop) ∙ h.seen_count;
+    records = λ i k there. hop_shown seen whole hop n i k (number_is i n) (h.records i k there);
+    numbered = hop_numbers seen hop n h.numbered;
+    nodes = h.nodes;
     callers = h.callers;
     joined = h.joined;
     joined_once = h.joined_once;
@@ -100,6 +175,7 @@ module _ (plan : Plan) (os : List Origin) (js : List Join) where
           value = r.value;
           whole_there = changed_elsewhere whole m k f (λ e. true≢false (sym (numbered_user plan os i k o there (ap (λ (x : ℕ). slice_get os x) e ∙ origin)) ∙ switch)) ∙ r.whole_there;
           caller = r.caller;
+          path = r.path;
           begins = r.begins;
           seen_there = r.seen_there;
         };
@@ -147,7 +223,7 @@ module _ (plan : Plan) (os : List Origin) (js : List Join) where
       ]
 
   added_shown : (seen whole : List RecordValue) (o : Origin) (r t : RecordValue) (c : Option ℕ) → plan.has_user o.line o.role ≡ true
-      → r ≡ shown plan o (length seen) c t → BeginsIf plan os js c t.caller → RecordsAreSeen plan os js seen whole → (i k : ℕ)
+      → r ≡ shown plan o (length seen) c [] t → BeginsIf plan os js c t.caller → RecordsAreSeen plan os js seen whole → (i k : ℕ)
       → (slice_get (numbers plan os) i ≡ Some k) ⊎ ((i ≡ length (numbers plan os)) × (k ≡ length os))
       → RecordIsShown plan (os ++ o ∷ []) js (seen ++ r ∷ []) (whole ++ t ∷ []) i k
   added_shown seen whole o r t c user is begins h i k (inl before) =
@@ -158,8 +234,9 @@ module _ (plan : Plan) (os : List Origin) (js : List Join) where
         value = w.value;
         whole_there = get_before whole (t ∷ []) k w.value w.whole_there;
         caller = w.caller;
+        path = w.path;
         begins = more_begins_if plan os js (os ++ o ∷ []) js (user_extends plan os js o user) w.caller w.value.caller w.begins;
-        seen_there = get_before seen (r ∷ []) i (shown plan w.origin i w.caller w.value) w.seen_there;
+        seen_there = get_before seen (r ∷ []) i (shown plan w.origin i w.caller w.path w.value) w.seen_there;
       }
   added_shown seen whole o r t c user is begins h i k (inr last) = record {
     origin = o;
@@ -167,14 +244,15 @@ module _ (plan : Plan) (os : List Origin) (js : List Join) where
     value = t;
     whole_there = ap (λ (x : ℕ). slice_get (whole ++ t ∷ []) x) (last.1 ∙ h.count) ∙ get_last whole t;
     caller = c;
+    path = [];
     begins = more_begins_if plan os js (os ++ o ∷ []) js (user_extends plan os js o user) c t.caller begins;
     seen_there =
         ap (λ (x : ℕ). slice_get (seen ++ r ∷ []) x) (last.0 ∙ sym h.seen_count) ∙ get_last seen r
-        ∙ ap (λ (x : RecordValue). Some x) (is ∙ ap (λ (n : ℕ). shown plan o n c t) (h.seen_count ∙ sym last.0));
+        ∙ ap (λ (x : RecordValue). Some x) (is ∙ ap (λ (n : ℕ). shown plan o n c [] t) (h.seen_count ∙ sym last.0));
   }
 
   pub added_both : (seen whole : List RecordValue) (o : Origin) (r t : RecordValue) (c : Option ℕ) → plan.has_user o.line o.role ≡ true → CallerIsThere o
-      → r ≡ shown plan o (length seen) c t → BeginsIf plan os js c t.caller → t.node ≡ plan.node o.line o.role
+      → r ≡ shown plan o (length seen) c [] t → BeginsIf plan os js c t.caller → t.node ≡ plan.node o.line o.role
       → RecordsAreSeen plan os js seen whole → RecordsAreSeen plan (os ++ o ∷ []) js (seen ++ r ∷ []) (whole ++ t ∷ [])
   added_both seen whole o r t c user caller is begins node h = record {
     count = length_pushed os o ∙ ap suc h.count ∙ sym (length_pushed whole t);
@@ -206,6 +284,7 @@ module _ (plan : Plan) (os : List Origin) (js : List Join) where
           value = r.value;
           whole_there = get_before whole (t ∷ []) k r.value r.whole_there;
           caller = r.caller;
+          path = r.path;
           begins = more_begins_if plan os js (os ++ o ∷ []) js (switch_extends plan os js o switch) r.caller r.value.caller r.begins;
           seen_there = r.seen_there;
         };

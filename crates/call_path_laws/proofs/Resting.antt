@@ -55,10 +55,10 @@ module _ (plan : Plan) (w : World) (s : Seen plan w) (lines : NothingMissing w.w
       let same : p.seen_pair ≡ pair = same_Some p.seen_pair pair (sym p.seen_there ∙ at) in
       let from : RecordIsShown plan w.origins w.joins w.register.records w.whole.records p.seen_pair.caller p.caller.first = s.records.records p.seen_pair.caller p.caller.first p.caller.numbered in
       let to : RecordIsShown plan w.origins w.joins w.register.records w.whole.records p.seen_pair.callee p.whole_pair.callee = s.records.records p.seen_pair.callee p.whole_pair.callee p.callee in
-      let caller_is : caller ≡ shown plan from.origin p.seen_pair.caller from.caller from.value =
-      same_Some caller (shown plan from.origin p.seen_pair.caller from.caller from.value) (sym caller_there ∙ ap (λ (z : PairValue). slice_get w.register.records z.caller) (sym same) ∙ from.seen_there) in
-      let callee_is : callee ≡ shown plan to.origin p.seen_pair.callee to.caller to.value =
-      same_Some callee (shown plan to.origin p.seen_pair.callee to.caller to.value) (sym callee_there ∙ ap (λ (z : PairValue). slice_get w.register.records z.callee) (sym same) ∙ to.seen_there) in
+      let caller_is : caller ≡ shown plan from.origin p.seen_pair.caller from.caller from.path from.value =
+      same_Some caller (shown plan from.origin p.seen_pair.caller from.caller from.path from.value) (sym caller_there ∙ ap (λ (z : PairValue). slice_get w.register.records z.caller) (sym same) ∙ from.seen_there) in
+      let callee_is : callee ≡ shown plan to.origin p.seen_pair.callee to.caller to.path to.value =
+      same_Some callee (shown plan to.origin p.seen_pair.callee to.caller to.path to.value) (sym callee_there ∙ ap (λ (z : PairValue). slice_get w.register.records z.callee) (sym same) ∙ to.seen_there) in
       as_whole from.value to.value caller callee
       (has_all p.caller.first p.whole_pair.caller p.caller.way place.0 p.whole_pair from.value to.value p.whole_there refl from.whole_there to.whole_there
       (sym (ap (λ (r : RecordValue). r.closed) caller_is) ∙ open_caller) (sym (ap (λ (r : RecordValue). r.closed) callee_is) ∙ open_callee))

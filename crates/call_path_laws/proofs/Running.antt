@@ -2,6 +2,8 @@
 use Rattle.std.proofs.Common.{◌≡◌, ℕ, zero, suc, ◌<◌, ◌⊎◌, inl, inr, false, List, [], ◌∷◌, Some, None, refl, sym, ap, subst, ◌∙◌, arith, true≢false}
 use Rattle.std.specs.Prelude.{slice_get, take, drop}
 use Rattle.std.proofs.lemmas.Option.{none-some, same_Some}
+use Rattle.std.specs.List.{Contains}
+use Rattle.link_timers.specs.declared.role.Role.{Role}
 use Rattle.link_timers.specs.declared.role.Role.TheVariants.{Dte, Dce}
 use Rattle.packet_layer.specs.Packets.{Datum}
 use Rattle.epochs.specs.Epoch.{IsAligned}
@@ -19,6 +21,11 @@ use Rattle.call_path_laws.specs.World.{Origin, placing, coming, Join, World, mad
 use Rattle.call_path_laws.specs.Seen.{IsJoined}
 use Rattle.call_path_laws.specs.Promise.{CallsHold, JoinHolds, JoinsHold}
 use Rattle.call_path_laws.specs.Run.{parts, plan, lines, message, reply, events, world, one_sent, one_taken, RunLaw}
+use Rattle.call_path_laws.specs.Tree.{IsTree}
+use Rattle.call_path_laws.specs.Paths.{ArePaths}
+use Rattle.call_path_laws.proofs.Making.{made_seen}
+use Rattle.call_path_laws.proofs.Hopping.{made_paths}
+use Rattle.call_path_laws.proofs.Beginning.{all_paths}
 use Rattle.call_path_laws.proofs.Each.{AllFrom, each}
 use Rattle.call_path_laws.proofs.Opened.{whole_has}
 
@@ -230,5 +237,26 @@ joins_hold = record {
   sent = λ a x o r at came switch there. each Sent world.origins ((λ x r e u at. absurd (none-some x e)), ((λ x r e u at. inr (2, record { place = 0; there = refl })), ((λ x r e u at. absurd (none-some x e)), ((λ x r e u at. absurd (true≢false u)), ((λ x r e u at. absurd (none-some x e)), ((λ x r e u at. inr (6, record { place = 1; there = refl })), ((λ x r e u at. absurd (none-some x e)), ((λ x r e u at. absurd (true≢false u)), tt)))))))) a o at x r came switch there;
 }
 
+-- ---- its one switch is a tree
+
+tree : IsTree plan (9 ∷ [])
+tree = record {
+  few = omega arith;
+  at_switch = at_switch;
+  rises = λ line t. absurd (true≢false t.dte);
+  one_up = λ line other t u e. absurd (true≢false t.dte);
+}
+  where
+    nine : Contains {X = ℕ} (9 ∷ []) 9
+    nine = (0, omega arith, refl)
+
+    at_switch : (line : ℕ) (role : Role) → plan.has_user line role ≡ false → Contains {X = ℕ} (9 ∷ []) (plan.node line role)
+    at_switch line Dte e = absurd (true≢false e)
+    at_switch zero Dce e = nine
+    at_switch (suc line) Dce e = nine
+
+paths : ArePaths plan world
+paths = all_paths plan (9 ∷ []) events (made_world lines) tree may_all (made_seen plan lines (refl, (refl, (refl, (refl, (refl, (refl, tt))))))) (made_paths plan lines)
+
 pub run_is_right : RunLaw
-run_is_right = record { addressed = λ line none. elim none [ inl e ↦ absurd (true≢false e) | inr e ↦ absurd (true≢false (sym e)) ]; may = may_all; forwards = forward_all; calls = calls_hold; joins = joins_hold; open_records = whole_has; pairs = refl; records = refl }
+run_is_right = record { addressed = λ line none. elim none [ inl e ↦ absurd (true≢false e) | inr e ↦ absurd (true≢false (sym e)) ]; may = may_all; forwards = forward_all; calls = calls_hold; tree = tree; joins = joins_hold; paths = paths; open_records = whole_has; pairs = refl; records = refl }

@@ -142,7 +142,7 @@ module _ (plan : Plan) (js : List Join) (line : ℕ) where
   -- ---- a record more
 
   pub adds_both : (x : Beside) (o : Origin) (r t : RecordValue) (c : Option ℕ) → plan.has_user o.line o.role ≡ true → CallerIsThere plan x.origins js o
-      → r ≡ shown plan o (length x.seen.records) c t → BeginsIf plan x.origins js c t.caller → t.node ≡ plan.node o.line o.role → IsRight plan js line x
+      → r ≡ shown plan o (length x.seen.records) c [] t → BeginsIf plan x.origins js c t.caller → t.node ≡ plan.node o.line o.role → IsRight plan js line x
       → Leads plan js line x (x.origins ++ o ∷ []) (with_record r x.seen) (with_record t x.whole)
   adds_both x o r t c user caller is begins node h =
       adds x (x.origins ++ o ∷ []) (x.seen.records ++ r ∷ []) (x.whole.records ++ t ∷ []) (user_extends plan x.origins js o user) h

@@ -18,19 +18,21 @@ use Rattle.call_path_laws.specs.World.{Origin, placing, coming, Join, ChannelEnd
 use Rattle.call_path_laws.specs.Seen.{IsJoined, Seen}
 use Rattle.call_path_laws.specs.Promise.{CallsHold, JoinHolds, JoinsHold}
 use Rattle.call_path_laws.specs.Rest.{HasHandedAll, HaveHandedAll}
-use Rattle.call_path_laws.specs.Tree.{IsTrunk, IsTree, WayOver}
-use Rattle.call_path_laws.specs.Tree.WayOver.{here, onward}
+use Rattle.call_path_laws.specs.Tree.{IsTrunk, IsTree}
+use Rattle.call_path_laws.specs.Paths.{ArePaths}
 use Rattle.call_path_laws.specs.Run.{message, reply}
-use Rattle.call_path_laws.specs.TrunkRun.{plan, lines, at_end, events, world, hop, TrunkRunLaw}
+use Rattle.call_path_laws.specs.TrunkRun.{plan, lines, at_end, events, world, TrunkRunLaw}
 use Rattle.call_path_laws.proofs.Each.{AllFrom, each}
 use Rattle.call_path_laws.proofs.Making.{made_seen}
+use Rattle.call_path_laws.proofs.Hopping.{made_paths}
+use Rattle.call_path_laws.proofs.Beginning.{all_paths}
 use Rattle.call_path_laws.proofs.Running.{ComesNext, next_of, pair_in, nothing_passed, one_passed, first_passed, of_line, came_to}
 use Rattle.call_path_laws.proofs.RunningOpen.{TookBoth, took, seen_after}
 use Rattle.call_path_laws.proofs.TrunkRunning.{may_go}
 
 -- ---- the switches are a tree
 
-tree : IsTree plan (8 ∷ 9 ∷ [])
+pub tree : IsTree plan (8 ∷ 9 ∷ [])
 tree = record { few = omega arith; at_switch = at_switch; rises = rises; one_up = one_up }
   where
     eight : Contains {X = ℕ} (8 ∷ 9 ∷ []) 8
@@ -374,22 +376,16 @@ handed : HaveHandedAll world
 handed a b x i pair callee came j at caller there callee_open =
     each (λ k (q : Join). HasHandedAll world q.came_in q.placed) world.joins (first_handed, (second_handed, (third_handed, (fourth_handed, tt)))) j.place (record { came_in = a; placed = b }) j.there
 
--- ---- the ways of the two calls
+-- ---- the register
 
-there_over : WayOver plan world.origins world.joins (hop 8 1 1 ∷ hop 9 2 1 ∷ []) 0 4
-there_over =
-    onward 3 4 (placing 2 Dce) 1
-    (onward 1 2 (placing 1 Dce) 1 here (record { origin = coming 0 Dce (Some 0); there = refl; came = refl }) (record { place = 0; there = refl }) refl)
-    (record { origin = coming 1 Dte (Some 2); there = refl; came = refl }) (record { place = 1; there = refl }) refl
-
-back_over : WayOver plan world.origins world.joins (hop 9 1 2 ∷ hop 8 0 1 ∷ []) 6 10
-back_over =
-    onward 9 10 (placing 0 Dce) 1
-    (onward 7 8 (placing 1 Dte) 2 here (record { origin = coming 2 Dce (Some 6); there = refl; came = refl }) (record { place = 2; there = refl }) refl)
-    (record { origin = coming 1 Dce (Some 8); there = refl; came = refl }) (record { place = 3; there = refl }) refl
+made : Seen plan (made_world lines)
+made = made_seen plan lines (refl, (refl, (refl, (refl, (refl, (refl, (refl, (refl, (refl, tt)))))))))
 
 seen : Seen plan world
-seen = seen_after plan events (made_world lines) may_go.may (made_seen plan lines (refl, (refl, (refl, (refl, (refl, (refl, (refl, (refl, (refl, tt))))))))))
+seen = seen_after plan events (made_world lines) may_go.may made
+
+paths : ArePaths plan world
+paths = all_paths plan (8 ∷ 9 ∷ []) events (made_world lines) tree may_go.may made (made_paths plan lines)
 
 pub trunk_is_right : TrunkRunLaw
 trunk_is_right = record {
@@ -403,8 +399,7 @@ trunk_is_right = record {
   open_records = whole_has;
   missing = missing;
   handed = handed;
-  there = there_over;
-  here_again = back_over;
+  paths = paths;
   pairs = refl;
   records = refl;
 }

@@ -15,13 +15,13 @@ use Rattle.call_path_laws.specs.TrunkRun.{plan, lines, at_end, placed, over_trun
 use Rattle.call_path_laws.proofs.Each.{AllFrom, each}
 use Rattle.call_path_laws.proofs.Running.{ComesNext, next_of, known}
 
-zero_three : 0 < 3
+pub zero_three : 0 < 3
 zero_three = omega arith
 
-one_three : 1 < 3
+pub one_three : 1 < 3
 one_three = omega arith
 
-two_three : 2 < 3
+pub two_three : 2 < 3
 two_three = omega arith
 
 -- ---- the run so far
@@ -72,13 +72,13 @@ pub record MayGo (es : List Event) (w : World) : Type 0 where
   pub may : MayAll plan es w
   pub forwards : AllForward plan es w
 
-ends : (w : World) → MayGo [] w
+pub ends : (w : World) → MayGo [] w
 ends w = record { may = tt; forwards = tt }
 
-goes : {e : Event} {es : List Event} {w : World} → MayHappen plan e w → Forwards plan e w → MayGo es (after_event e w) → MayGo (e ∷ es) w
+pub goes : {e : Event} {es : List Event} {w : World} → MayHappen plan e w → Forwards plan e w → MayGo es (after_event e w) → MayGo (e ∷ es) w
 goes may forwards more = record { may = (may, more.may); forwards = (forwards, more.forwards) }
 
-forward_at : (w : World) (from to : ChannelEnd) (said : CallParts) (k : ℕ) (r : RecordValue) → (slot_at from.role from.channel (book_at from.line w.whole)).present ≡ Some k → slice_get w.whole.records k ≡ Some r
+pub forward_at : (w : World) (from to : ChannelEnd) (said : CallParts) (k : ℕ) (r : RecordValue) → (slot_at from.role from.channel (book_at from.line w.whole)).present ≡ Some k → slice_get w.whole.records k ≡ Some r
     → IsForwarded plan from to said r → Forwards plan (Joins from to said) w
 forward_at w from to said k r present there h n came at is = known (λ (x : RecordValue). IsForwarded plan from to said x) w.whole.records k n r came (sym present ∙ at) there is h
 

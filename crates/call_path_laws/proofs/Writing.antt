@@ -20,7 +20,7 @@ use Rattle.call_path_laws.proofs.Steps.{Beside, IsRight, Leads, after, no_step, 
 use Rattle.call_path_laws.proofs.Inducing.{Property, Holds, Each, keeps, comes_at, writes_hold}
 
 pub closing_mild : IsMild with_closed
-closing_mild = record { blind = λ n k r. (refl, refl); beside = λ n a k r. refl; number = λ r. refl; node = λ r. refl; own = λ r. refl; far = λ r. refl; caller = λ r. refl }
+closing_mild = record { blind = λ n k r. (refl, refl); beside = λ n a k p r. refl; path = λ r. refl; number = λ r. refl; node = λ r. refl; own = λ r. refl; far = λ r. refl; caller = λ r. refl }
 
 -- on an address the caller's own is that one
 calling_at : (address given : List ℕ) → address_of (calling_from address given) ≡ calling_on address (address_of given)
@@ -91,7 +91,7 @@ module _ (plan : Plan) (js : List Join) (line : ℕ) (role : Role) where
         (record (slot_at role c x.whole) { present = None; caller = None }) first.is_right (closed_slot x.origins (slot_at role c x.seen) (slot_at role c x.whole) (slot_seen x h role c)))
 
     adds_and_puts : (x : Beside) (o : Origin) (r t : RecordValue) (k : Option ℕ) (c : ℕ) (s u : Slot) → IsRight plan js line x → plan.has_user o.line o.role ≡ true
-        → CallerIsThere plan x.origins js o → r ≡ shown plan o (length x.seen.records) k t → BeginsIf plan x.origins js k t.caller → t.node ≡ plan.node o.line o.role
+        → CallerIsThere plan x.origins js o → r ≡ shown plan o (length x.seen.records) k [] t → BeginsIf plan x.origins js k t.caller → t.node ≡ plan.node o.line o.role
         → SlotIsSeen plan (x.origins ++ o ∷ []) js line role s u
         → Leads plan js line x (x.origins ++ o ∷ []) (with_slot role c s (with_record r x.seen)) (with_slot role c u (with_record t x.whole))
     adds_and_puts x o r t k c s u h user_there caller is begins node w =

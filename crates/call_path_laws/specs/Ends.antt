@@ -11,9 +11,10 @@ use Rattle.call_path_laws.specs.World.{Origin, World, Plan}
 use Rattle.call_path_laws.specs.Seen.{Seen}
 use Rattle.call_path_laws.specs.Lines.{LinesSeen}
 
--- a record of the register is this one of a line's book, but for its number, its own address and its caller's number
+-- a record of the register is this one of a line's book, but for its number, its own address, its caller's number and
+-- its path
 abbrev pub IsOf : (own seen : RecordValue) → Type 0
-IsOf own r = r ≡ record own { number = r.number; own = r.own; caller = r.caller }
+IsOf own r = r ≡ record own { number = r.number; own = r.own; caller = r.caller; path = r.path }
 
 -- a record is that of the present call of a channel
 pub record IsOfPresent (b : Book) (role : Role) (channel : ℕ) (r : RecordValue) : Type 0 where

@@ -9,6 +9,8 @@ use Rattle.register_laws.specs.Promise.{HasRecords}
 use Rattle.call_path_laws.specs.World.{World, Plan, Event, after_event, after_all, MayHappen, MayAll, made_world}
 use Rattle.call_path_laws.specs.World.{AreBetween, AreAddressed}
 use Rattle.call_path_laws.specs.Seen.{numbers, RecordIsShown, Seen}
+use Rattle.call_path_laws.specs.Tree.{IsTree}
+use Rattle.call_path_laws.specs.Paths.{ArePaths}
 use Rattle.call_path_laws.specs.Promise.{CallsHold, JoinsHold, PathsHold}
 
 -- ---- the making, and whatever happens
@@ -22,15 +24,15 @@ EventLaw =
 
 -- ---- what the register then is
 
--- where the lines and the joins hold, so does the register
+-- where the lines and the joins hold, so does the register, with the path of each record
 abbrev pub PromiseLaw : Type 0
-PromiseLaw = (plan : Plan) (w : World) → AreAddressed plan → Seen plan w → CallsHold w → JoinsHold plan w
-    → PathsHold plan w.register
+PromiseLaw = (plan : Plan) (w : World) → AreAddressed plan → Seen plan w → ArePaths plan w → CallsHold w
+    → JoinsHold plan w → PathsHold plan w.register
 
--- so from the making on
+-- so from the making on, in a tree of switches
 abbrev pub PathLaw : Type 0
-PathLaw = (plan : Plan) (lines : List LinePlan) (events : List Event) → AreAddressed plan → AreBetween plan 0 lines
-    → MayAll plan events (made_world lines)
+PathLaw = (plan : Plan) (switches : List ℕ) (lines : List LinePlan) (events : List Event) → IsTree plan switches
+    → AreAddressed plan → AreBetween plan 0 lines → MayAll plan events (made_world lines)
     → CallsHold (after_all events (made_world lines)) → JoinsHold plan (after_all events (made_world lines))
     → PathsHold plan (after_all events (made_world lines)).register
 

@@ -9,4 +9,6 @@ pub mod Ends
 pub mod OwnAddresses
 pub mod Rest
 pub mod Tree
+pub mod Paths
 pub mod TrunkRun
+pub mod Collision

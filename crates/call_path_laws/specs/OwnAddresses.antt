@@ -9,7 +9,8 @@ use Rattle.call_records.specs.Book.{side_of, slot_at, address_of}
 use Rattle.call_records.specs.Writes.{Write}
 use Rattle.call_records.specs.Writes.Write.{Placed}
 use Rattle.register_laws.specs.Giving.{AllGiveNone}
-use Rattle.call_records.specs.Register.{Register, LinePlan, book_at, all_written_at, handed_on, made_register}
+use Rattle.call_records.specs.Register.{Register, LinePlan, ChannelEnd, book_at, all_written_at, handed_on}
+use Rattle.call_records.specs.Register.{made_register}
 
 -- the node is at an end of a line, and the address is that of the line there
 pub record IsAddressAt (g : Register) (node : ℕ) (address : Option (List ℕ)) : Type 0 where
@@ -45,8 +46,7 @@ WriteOwnLaw = (g : Register) (line : ℕ) (role : Role) (writes : List Write) �
 
 -- a call that goes on has the record of the end that placed it
 abbrev pub HandedOwnLaw : Type 0
-HandedOwnLaw = (g : Register) (line channel to_line to_channel : ℕ) → HaveOwnAddresses g
-    → HaveOwnAddresses (handed_on line channel to_line to_channel g)
+HandedOwnLaw = (g : Register) (from to : ChannelEnd) → HaveOwnAddresses g → HaveOwnAddresses (handed_on from to g)
 
 -- ---- a run
 

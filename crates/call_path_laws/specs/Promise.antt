@@ -1,11 +1,11 @@
 -- What the register of a network with switches promises of its calls.
-use Rattle.std.specs.Prelude.{◌≡◌, ℕ, ◌<◌, ◌⊎◌, true, false, slice_get, Some}
+use Rattle.std.specs.Prelude.{◌≡◌, ℕ, ◌<◌, ◌⊎◌, true, false, List, [], ◌∷◌, ◌++◌, slice_get, Some}
 use Rattle.link_timers.specs.declared.role.Role.{Role}
 use Rattle.link_timers.specs.Role.{other_of}
 use Rattle.epochs.specs.Match.{Match}
 use Rattle.epochs.specs.Confirmed.{Confirms}
 use Rattle.epochs.specs.ConfirmedLaws.{AreEmpty}
-use Rattle.call_records.specs.Records.{RecordValue, PairValue, sent_epochs, taken_epochs}
+use Rattle.call_records.specs.Records.{RecordValue, HopValue, PairValue, sent_epochs, taken_epochs}
 use Rattle.call_records.specs.Register.{Register}
 use Rattle.book_laws.specs.Headline.{IsIn, TookNothing, sent_by, taken_by, all_taken_by}
 use Rattle.register_laws.specs.Promise.{IsOfEnd, RegisterHolds}
@@ -20,19 +20,23 @@ pub record PathMatches (caller callee : RecordValue) : Type 0 where
   pub onward_confirmed : Confirms (all_taken_by callee) (sent_by caller)
   pub backward_confirmed : Confirms (all_taken_by caller) (sent_by callee)
 
--- the call was placed at this end of a line: by the caller itself, on the first line of its way, or by a switch, at
--- another of whose ends it came in, and whose route for the called address names this line
-pub data IsPlacedAt : Plan → (caller : RecordValue) → (first line : ℕ) → Role → Type 0 where
+-- over these hops the call was placed at this end of a line: over none by the caller itself, on the first line of its
+-- way; over each more by a switch, at another of whose ends it came in, and whose route for the called address names
+-- the hop's line
+pub data IsPlacedAt : Plan → (caller : RecordValue) → (first : ℕ) → (hops : List HopValue) → (line : ℕ) → Role
+    → Type 0 where
   by_caller : {plan : Plan} {caller : RecordValue} {line : ℕ} {role : Role} → caller.node ≡ plan.node line role
-      → plan.has_user line role ≡ true → IsPlacedAt plan caller line line role
-  by_switch : {plan : Plan} {caller : RecordValue} {first line : ℕ} {role : Role} (from : ℕ) (end : Role)
-      → IsPlacedAt plan caller first from (other_of end) → plan.node from end ≡ plan.node line role
-      → plan.has_user line role ≡ false → plan.route (plan.node line role) caller.far ≡ Some line
-      → IsPlacedAt plan caller first line role
+      → plan.has_user line role ≡ true → IsPlacedAt plan caller line [] line role
+  by_switch : {plan : Plan} {caller : RecordValue} {first line : ℕ} {hops : List HopValue} {role : Role} (from : ℕ)
+      (end : Role) (channel : ℕ) → IsPlacedAt plan caller first hops from (other_of end)
+      → plan.node from end ≡ plan.node line role → plan.has_user line role ≡ false
+      → plan.route (plan.node line role) caller.far ≡ Some line
+      → IsPlacedAt plan caller first
+      (hops ++ record { switch = plan.node line role; line = line; channel = channel } ∷ []) line role
 
 -- the caller's record was made first; the callee's own address is the one that was called, and the far one is the
 -- caller's own, which is that of its line, or on a line without an address the one that the caller gave; the callee is
--- a user at an end of a line at whose other end the call was placed
+-- a user at an end of a line at whose other end the call was placed, over the hops of the caller's path
 pub record PathIsRight (plan : Plan) (caller callee : RecordValue) : Type 0 where
   pub order : caller.number < callee.number
   pub own : callee.own ≡ caller.far
@@ -43,7 +47,7 @@ pub record PathIsRight (plan : Plan) (caller callee : RecordValue) : Type 0 wher
   pub role : Role
   pub node : callee.node ≡ plan.node line role
   pub user : plan.has_user line role ≡ true
-  pub placed : IsPlacedAt plan caller first line (other_of role)
+  pub placed : IsPlacedAt plan caller first caller.path line (other_of role)
 
 pub record PathHolds (plan : Plan) (g : Register) (pair : PairValue) : Type 0 where
   pub caller : RecordValue

@@ -11,7 +11,7 @@ use Rattle.packet_layer.specs.Packets.Note.{Incoming, Connected, Closed, WasRese
 use Rattle.packet_layer.specs.Packets.Reason.{FarEnd}
 use Rattle.packet_layer.specs.Traffic.Taken.{TakenPacket}
 use Rattle.packet_layer.specs.Channel.Request.{Accept, Resetting, Sending, Taking, Releasing}
-use Rattle.call_records.specs.Records.{RecordValue, new_record}
+use Rattle.call_records.specs.Records.{RecordValue, HopValue, new_record}
 use Rattle.call_records.specs.Book.{packet_of}
 use Rattle.call_records.specs.Writes.Write.{Told, Placed, Asked, Cleared}
 use Rattle.call_records.specs.Register.{LinePlan}
@@ -22,6 +22,8 @@ use Rattle.call_path_laws.specs.World.Event.{Writes, SwitchWrites, Joins}
 use Rattle.call_path_laws.specs.Seen.{Seen}
 use Rattle.call_path_laws.specs.Promise.{CallsHold, JoinsHold}
 use Rattle.call_path_laws.specs.Forwards.{AllForward}
+use Rattle.call_path_laws.specs.Tree.{IsTree}
+use Rattle.call_path_laws.specs.Paths.{ArePaths}
 use Rattle.call_path_laws.specs.Rest.{HaveHandedAll}
 
 -- ---- the network: node 1 on line 0 and node 2 on line 1, each at the DTE's end; the switch is node 9
@@ -153,9 +155,14 @@ one_sent said = record { packets = packet_of said ∷ []; interrupts = []; cover
 abbrev pub one_taken : Datum → TakenEpoch
 one_taken said = record { packets = packet_of said ∷ []; interrupts = []; released = 1 }
 
+-- each call goes on from the switch on channel 1 of line 1
+abbrev pub hop_on : HopValue
+hop_on = record { switch = 9; line = 1; channel = 1 }
+
 -- the two records of the first call, open or closed
 abbrev pub first_caller : (closed : Bool) → RecordValue
 first_caller closed = record (ended 0 1 (Some (1 ∷ 0 ∷ [])) (Some (2 ∷ 0 ∷ [])) None) {
+  path = hop_on ∷ [];
   sent_before =
       record { packets = packet_of (message 72) ∷ packet_of (message 74) ∷ []; interrupts = []; covered = 1 } ∷ [];
   sent = one_sent (message 76);
@@ -173,20 +180,23 @@ first_callee closed = record (ended 1 2 (Some (2 ∷ 0 ∷ [])) (Some (1 ∷ 0 �
   closed = closed;
 }
 
--- the run is allowed, its lines and its joins hold, open records are those that are present, and the register has two
--- calls; in the first one each end has an epoch before the reset and one after it, in each of which a message and a
--- reply were sent, taken and covered; the message that was lost in the reset was sent, and not taken
+-- the run is allowed, its lines and its joins hold, its one switch is a tree, open records are those that are present,
+-- and the register has two calls, each over one hop; in the first one each end has an epoch before the reset and one
+-- after it, in each of which a message and a reply were sent, taken and covered; the message that was lost in the reset
+-- was sent, and not taken
 pub record RunLaw : Type 0 where
   pub addressed : AreAddressed plan
+  pub tree : IsTree plan (9 ∷ [])
   pub may : MayAll plan events (made_world lines)
   pub forwards : AllForward plan events (made_world lines)
   pub calls : CallsHold world
   pub joins : JoinsHold plan world
+  pub paths : ArePaths plan world
   pub open_records : HasRecords world.whole
   pub pairs : world.register.pairs ≡ record { caller = 0; callee = 1 } ∷ record { caller = 2; callee = 3 } ∷ []
   pub records : world.register.records
       ≡ first_caller true ∷ first_callee true
-      ∷ new_record 2 1 (Some (1 ∷ 0 ∷ [])) (Some (2 ∷ 0 ∷ [])) None
+      ∷ record (new_record 2 1 (Some (1 ∷ 0 ∷ [])) (Some (2 ∷ 0 ∷ [])) None) { path = hop_on ∷ [] }
       ∷ new_record 3 2 (Some (2 ∷ 0 ∷ [])) (Some (1 ∷ 0 ∷ [])) (Some 2) ∷ []
 
 -- ---- what it is before the clear

@@ -5,7 +5,7 @@ use Rattle.std.specs.Prelude.{Option, Some, None}
 use Rattle.link_timers.specs.declared.role.Role.{Role}
 use Rattle.link_timers.specs.declared.role.Role.TheVariants.{Dte, Dce}
 use Rattle.link_timers.specs.Role.{other_of}
-use Rattle.call_records.specs.Records.{RecordValue, PairValue}
+use Rattle.call_records.specs.Records.{RecordValue, HopValue, PairValue}
 use Rattle.call_records.specs.Book.{Slot, Side, nth_slot, side_of}
 use Rattle.call_records.specs.Register.{book_at}
 use Rattle.register_laws.specs.Seen.{positions, IsNumbered}
@@ -66,12 +66,14 @@ own_on _ _ address given = given
 abbrev pub own_of : Plan → Origin → (given : Option (List ℕ)) → Option (List ℕ)
 own_of plan o given = own_on o.placed_here o.caller (address_at plan o.line o.role) given
 
--- a record of the whole register, as the register has it
-abbrev pub shown : Plan → Origin → (number : ℕ) → (caller : Option ℕ) → RecordValue → RecordValue
-shown plan o number caller r = record r {
+-- a record of the whole register, as the register has it, which alone has paths
+abbrev pub shown : Plan → Origin → (number : ℕ) → (caller : Option ℕ) → (path : List HopValue) → RecordValue
+    → RecordValue
+shown plan o number caller path r = record r {
   number = number;
   own = own_of plan o r.own;
   caller = caller;
+  path = path;
 }
 
 pub record RecordIsShown (plan : Plan) (origins : List Origin) (joins : List Join) (seen whole : List RecordValue)
@@ -82,7 +84,8 @@ pub record RecordIsShown (plan : Plan) (origins : List Origin) (joins : List Joi
   pub whole_there : slice_get whole m ≡ Some value
   pub caller : Option ℕ
   pub begins : BeginsIf plan origins joins caller value.caller
-  pub seen_there : slice_get seen n ≡ Some (shown plan origin n caller value)
+  pub path : List HopValue
+  pub seen_there : slice_get seen n ≡ Some (shown plan origin n caller path value)
 
 -- ---- a channel: at a switch's end the register has the holder alone
 

@@ -3,6 +3,7 @@ use Rattle.std.specs.Prelude.{◌≡◌, ℕ, ◌<◌, ◌≤◌, false, List, [
 use Rattle.std.specs.List.{Contains}
 use Rattle.link_timers.specs.declared.role.Role.{Role}
 use Rattle.link_timers.specs.declared.role.Role.TheVariants.{Dte, Dce}
+use Rattle.call_records.specs.Records.{HopValue}
 use Rattle.call_path_laws.specs.World.{Origin, Join, World, Plan, ChannelEnd, MayJoin}
 use Rattle.call_path_laws.specs.Seen.{CameFrom, IsJoined, Seen}
 
@@ -24,16 +25,10 @@ pub record IsTree (plan : Plan) (switches : List ℕ) : Type 0 where
 
 -- ---- the hops of a way
 
--- a switch placed a call onward, on a channel of a line
-pub record Hop : Type 0 where
-  pub switch : ℕ
-  pub line : ℕ
-  pub channel : ℕ
-
 -- a way, with a hop for each join: the switch and the line onward
-pub data WayOver : Plan → List Origin → List Join → List Hop → (first last : ℕ) → Type 0 where
+pub data WayOver : Plan → List Origin → List Join → List HopValue → (first last : ℕ) → Type 0 where
   here : {plan : Plan} {origins : List Origin} {joins : List Join} {x : ℕ} → WayOver plan origins joins [] x x
-  onward : {plan : Plan} {origins : List Origin} {joins : List Join} {hops : List Hop} {x y : ℕ} (a b : ℕ)
+  onward : {plan : Plan} {origins : List Origin} {joins : List Join} {hops : List HopValue} {x y : ℕ} (a b : ℕ)
       (o : Origin) (channel : ℕ) → WayOver plan origins joins hops x y → CameFrom origins a y → IsJoined joins a b
       → slice_get origins b ≡ Some o
       → WayOver plan origins joins
@@ -43,11 +38,11 @@ pub data WayOver : Plan → List Origin → List Join → List Hop → (first la
 
 -- in a tree a way has at most 16 hops
 abbrev pub HopsLaw : Type 0
-HopsLaw = (plan : Plan) (switches : List ℕ) (w : World) (hops : List Hop) (x b : ℕ) → IsTree plan switches
+HopsLaw = (plan : Plan) (switches : List ℕ) (w : World) (hops : List HopValue) (x b : ℕ) → IsTree plan switches
     → Seen plan w → WayOver plan w.origins w.joins hops x b → length hops ≤ 16
 
 -- and if a switch may join a call, there is room for its hop
 abbrev pub RoomLaw : Type 0
-RoomLaw = (plan : Plan) (switches : List ℕ) (w : World) (from to : ChannelEnd) (hops : List Hop) (x : ℕ)
+RoomLaw = (plan : Plan) (switches : List ℕ) (w : World) (from to : ChannelEnd) (hops : List HopValue) (x : ℕ)
     → IsTree plan switches → Seen plan w → (m : MayJoin plan from to w)
     → WayOver plan w.origins w.joins hops x m.caller → length hops < 16

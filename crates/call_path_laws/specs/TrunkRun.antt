@@ -1,6 +1,6 @@
--- A worked run over a trunk: two hosts, each at a switch of its own, and a line between the two switches. The first host
--- calls the second one, a message goes over with D = 1 and is confirmed, a reply comes back, the second host resets the
--- call while a message is on the trunk, a reply and a message go over again, and the second host calls back.
+-- A worked run over a trunk: two hosts, each at a switch of its own, and a line between the two switches. The first
+-- host calls the second one, a message goes over with D = 1 and is confirmed, a reply comes back, the second host resets
+-- the call while a message is on the trunk, a reply and a message go over again, and the second host calls back.
 use Rattle.std.specs.Prelude.{◌≡◌, ◌==◌, if◌then◌else◌, ℕ, zero, suc, Bool, true, false, List, [], ◌∷◌}
 use Rattle.std.specs.Prelude.{Option, Some, None}
 use Rattle.link_timers.specs.declared.role.Role.{Role}
@@ -10,7 +10,7 @@ use Rattle.packet_layer.specs.Packets.Note.{Incoming, Connected, WasReset, Cover
 use Rattle.packet_layer.specs.Packets.Reason.{FarEnd}
 use Rattle.packet_layer.specs.Traffic.Taken.{TakenPacket}
 use Rattle.packet_layer.specs.Channel.Request.{Accept, Resetting, Sending, Taking, Releasing}
-use Rattle.call_records.specs.Records.{RecordValue, new_record}
+use Rattle.call_records.specs.Records.{RecordValue, HopValue, new_record}
 use Rattle.call_records.specs.Book.{packet_of}
 use Rattle.call_records.specs.Writes.Write.{Told, Placed, Asked}
 use Rattle.call_records.specs.Register.{LinePlan}
@@ -22,7 +22,8 @@ use Rattle.call_path_laws.specs.Seen.{Seen}
 use Rattle.call_path_laws.specs.Promise.{CallsHold, JoinsHold}
 use Rattle.call_path_laws.specs.Forwards.{AllForward}
 use Rattle.call_path_laws.specs.Rest.{HaveHandedAll}
-use Rattle.call_path_laws.specs.Tree.{IsTree, Hop, WayOver}
+use Rattle.call_path_laws.specs.Tree.{IsTree}
+use Rattle.call_path_laws.specs.Paths.{ArePaths}
 use Rattle.call_path_laws.specs.Run.{message, reply, one_sent, one_taken, first_callee}
 
 -- ---- the network: host 1 on line 0 of switch 8, the trunk line 1 from switch 8 (DCE) to switch 9 (DTE), and host 2 on
@@ -175,8 +176,12 @@ world = after_all events (made_world lines)
 
 -- ---- what the register has then
 
+abbrev pub hop : (switch line channel : ℕ) → HopValue
+hop switch line channel = record { switch = switch; line = line; channel = channel }
+
 abbrev pub first_caller : RecordValue
 first_caller = record (new_record 0 1 (Some (1 ∷ 0 ∷ [])) (Some (2 ∷ 0 ∷ [])) None) {
+  path = hop 8 1 1 ∷ hop 9 2 1 ∷ [];
   sent_before =
       record { packets = packet_of (message 72) ∷ packet_of (message 74) ∷ []; interrupts = []; covered = 1 } ∷ [];
   sent = one_sent (message 76);
@@ -184,12 +189,9 @@ first_caller = record (new_record 0 1 (Some (1 ∷ 0 ∷ [])) (Some (2 ∷ 0 ∷
   taken = one_taken (reply 75);
 }
 
-abbrev pub hop : (switch line channel : ℕ) → Hop
-hop switch line channel = record { switch = switch; line = line; channel = channel }
-
 -- the run is allowed, its lines and its joins hold, open records are those that are present, and nothing is missing on
--- a line or at a join; the switches are a tree, each way goes over both, and the register has the two calls. The
--- message that was lost on the trunk was sent, and not taken
+-- a line or at a join; the switches are a tree, and the register has the two calls, each over two hops. The message
+-- that was lost on the trunk was sent, and not taken
 pub record TrunkRunLaw : Type 0 where
   pub addressed : AreAddressed plan
   pub tree : IsTree plan (8 ∷ 9 ∷ [])
@@ -201,10 +203,9 @@ pub record TrunkRunLaw : Type 0 where
   pub open_records : HasRecords world.whole
   pub missing : NothingMissing world.whole.records world.whole.pairs
   pub handed : HaveHandedAll world
-  pub there : WayOver plan world.origins world.joins (hop 8 1 1 ∷ hop 9 2 1 ∷ []) 0 4
-  pub here_again : WayOver plan world.origins world.joins (hop 9 1 2 ∷ hop 8 0 1 ∷ []) 6 10
+  pub paths : ArePaths plan world
   pub pairs : world.register.pairs ≡ record { caller = 0; callee = 1 } ∷ record { caller = 2; callee = 3 } ∷ []
   pub records : world.register.records
       ≡ first_caller ∷ first_callee false
-      ∷ new_record 2 2 (Some (2 ∷ 0 ∷ [])) (Some (1 ∷ 0 ∷ [])) None
+      ∷ record (new_record 2 2 (Some (2 ∷ 0 ∷ [])) (Some (1 ∷ 0 ∷ [])) None) { path = hop 9 1 2 ∷ hop 8 0 1 ∷ [] }
       ∷ new_record 3 1 (Some (1 ∷ 0 ∷ [])) (Some (2 ∷ 0 ∷ [])) (Some 2) ∷ []

@@ -11,7 +11,9 @@ use Rattle.packet_layer.specs.Packets.Note.{Incoming}
 use Rattle.call_records.specs.Book.{Book, slot_at, places_from, told}
 use Rattle.call_records.specs.Writes.{Write, written_by}
 use Rattle.call_records.specs.Writes.Write.{Placed, Told}
-use Rattle.call_records.specs.Register.{Register, LinePlan, free_ends, book_at, written_at, all_written_at, holds}
+pub use Rattle.call_records.specs.Register.{ChannelEnd}
+use Rattle.call_records.specs.Register.{Register, LinePlan, free_ends, book_at, written_at, all_written_at, holder_at}
+use Rattle.call_records.specs.Register.{handed_on}
 
 -- ---- where a record comes from
 
@@ -57,12 +59,6 @@ all_traced line role (write ∷ writes) b origins =
 
 -- ---- the network
 
--- a channel at an end of a line
-pub record ChannelEnd : Type 0 where
-  pub line : ℕ
-  pub role : Role
-  pub channel : ℕ
-
 -- a switch joined the call that came in with the one that it then placed: the numbers of its two records
 pub record Join : Type 0 where
   pub came_in : ℕ
@@ -101,9 +97,13 @@ pub data Event : Type 0 where
   SwitchWrites : (line : ℕ) → Role → List Write → Event
   Joins : (from to : ChannelEnd) → CallParts → Event
 
+-- the same channel at the other end of its line
+abbrev pub far_end : ChannelEnd → ChannelEnd
+far_end end = record end { role = other_of end.role }
+
 -- the holder for the channel to which a call goes on: that of the far end of the channel on which it came
 abbrev pub holder_of : ChannelEnd → Register → Option ℕ
-holder_of from g = (slot_at (other_of from.role) from.channel (book_at from.line g)).placed
+holder_of from g = holder_at (far_end from) g
 
 abbrev pub with_join : Option ℕ → (placed : ℕ) → List Join → List Join
 with_join None placed joins = joins
@@ -120,7 +120,7 @@ after_event (SwitchWrites line role writes) w = record w {
   origins = all_traced line role writes (book_at line w.whole) w.origins;
 }
 after_event (Joins from to parts) w = record {
-  register = written_at to.line (holds to.role to.channel (holder_of from w.register)) w.register;
+  register = handed_on (far_end from) to w.register;
   whole = written_at to.line (places_from to.role to.channel parts.calling parts.called) w.whole;
   origins = w.origins ++ placing to.line to.role ∷ [];
   joins =

@@ -10,7 +10,9 @@ ghost use Rattle.call_path_laws.specs.OwnAddresses.{MadeOwnLaw, WriteOwnLaw, Han
 ghost use Rattle.call_path_laws.specs.Rest.{RestLaw};
 ghost use Rattle.call_path_laws.specs.Run.{RunLaw, OpenRunLaw};
 ghost use Rattle.call_path_laws.specs.Tree.{HopsLaw, RoomLaw};
+ghost use Rattle.call_path_laws.specs.Paths.{MadePathsLaw, PathsLaw};
 ghost use Rattle.call_path_laws.specs.TrunkRun.{TrunkRunLaw};
+ghost use Rattle.call_path_laws.specs.Collision.{CollisionLaw};
 
 /// The law of calls through switches, over definitions alone: beside the register stands a whole one, which has a
 /// record of each leg of each switch too, and whatever happens, the register has what the whole one has of the ends
@@ -90,16 +92,20 @@ pub fn run_law()
     ensures before_the_clear { OpenRunLaw }
 {}
 
-/// In a tree of switches a way has at most 16 hops, one for each switch; so if a switch may join a call, there is room for
-/// its hop in the path.
+/// In a tree of switches a way has at most 16 hops, one for each switch; so if a switch may join a call, there is room
+/// for its hop in the path. The path of each record has the hops of its call's way.
 pub fn tree_law()
     ensures hops { HopsLaw }
     ensures room { RoomLaw }
+    ensures made { MadePathsLaw }
+    ensures events { PathsLaw }
 {}
 
 /// A run of two hosts with two switches between them and a trunk between the switches, by computation: a call there and
 /// one back, over two joins each, meet what the laws ask for, with a message sent with D = 1 and confirmed from end to
-/// end, and with a reset while a message is on the trunk. The switches are a tree.
+/// end, and with a reset while a message is on the trunk. The switches are a tree. In a second run two calls collide on
+/// the trunk, and that of its DTE goes on.
 pub fn trunk_run_law()
-    ensures { TrunkRunLaw }
+    ensures run { TrunkRunLaw }
+    ensures collision { CollisionLaw }
 {}

@@ -105,3 +105,15 @@ places_here k n rs new h r e = let P : Record → Type 0 = λ x. HasPlaces k x i
 pub grown_places : (g : Growth) (k m n : ℕ) (rs : List Record) (old new : Record) → slice_get rs n ≡ Some old
     → ((room : ℕ) → HasPlaces room old → HasPlaces (left g room) new) → PlacesAt k n rs → PlacesAt k m rs → PlacesAt (left g k) m (set rs n new)
 grown_places g k m n rs old new there grows here at = places_set (left g k) m n rs new (grows k (here old there)) (fewer_at k (left g k) m rs (left_less g k) at)
+
+-- where a change of a record leaves its places, all records keep theirs
+pub places_kept : (k m n : ℕ) (rs : List Record) (old new : Record) → slice_get rs n ≡ Some old → (HasPlaces k old → HasPlaces k new) → PlacesAt k m rs → PlacesAt k m (set rs n new)
+places_kept k m n [] old new there keeps at r e = at r e
+places_kept k zero zero (z ∷ rs) old new there keeps at r e =
+    let same : old ≡ z = cc in
+    let is : new ≡ r = cc in
+    let P : Record → Type 0 = λ x. HasPlaces k x in
+    subst P is (keeps (subst P (sym same) (at z refl)))
+places_kept k (suc m) zero (z ∷ rs) old new there keeps at r e = at r e
+places_kept k zero (suc n) (z ∷ rs) old new there keeps at r e = at r e
+places_kept k (suc m) (suc n) (z ∷ rs) old new there keeps at r e = places_kept k m n rs old new there keeps at r e

@@ -1,12 +1,15 @@
 -- The book of a register is opened at a line: its ends go to their own line, and it gets those of the other one.
 use Rattle.std.proofs.Common.{◌≡◌, ℕ, zero, suc, ◌<◌, ◌≤◌, true, arith, List, [], ◌∷◌, length, set, Option, Some, None, refl, sym, ap, ◌∙◌}
-use Rattle.std.specs.Prelude.{slice_get}
+use Rattle.std.specs.Prelude.{slice_get, if◌then◌else◌, is_some}
 use Rattle.std.specs.Option.{option_map}
 use Rattle.std.proofs.lemmas.Option.{none-some, same_Some, slice_get-map}
 use Rattle.std.proofs.lemmas.List.{set-set, map-set}
-use Rattle.link_timers.specs.declared.role.Role.TheVariants.{Dte}
-use Rattle.call_records.specs.Book.{Book, nth_slot, with_nth, slot_at, made_book}
-use Rattle.call_records.specs.Register.{Register, LineEnds, found_ends, book_at, with_book, holder_at, handed_on, made_register}
+use Rattle.link_timers.specs.declared.role.Role.{Role}
+use Rattle.link_timers.specs.declared.role.Role.TheVariants.{Dte, Dce}
+use Rattle.call_records.specs.Records.{RecordValue, HopValue, PairValue, changed_at, with_hop}
+use Rattle.call_records.specs.Book.{Book, side_of, with_change, made_book}
+use Rattle.call_records.specs.Register.{Register, LineEnds, ChannelEnd, found_ends, book_at, with_book, holds, holder_at, goes_on, handed_on, made_register}
+use Rattle.call_records.specs.BookView.{book_with}
 use Rattle.call_records.specs.RegisterView.{ends_of, lines_of, ends_in, with_ends, register_with}
 use Rattle.call_records.specs.declared.ends.Ends.{Ends}
 
@@ -95,29 +98,33 @@ stands_alone dte_node dce_node (suc channels) h = refl
 
 -- ---- a call goes on to another line
 
--- the ends of a line of which the DCE holds a record on a channel
-abbrev pub holding : (channel : ℕ) → Option ℕ → LineEnds → LineEnds
-holding channel holder e = record e {
-  dce = record e.dce { slots = with_nth e.dce.slots channel (record (nth_slot e.dce.slots channel) { placed = holder }) };
-}
+-- the records change, and the ends of a line are others
+after_hop : (holder : Option ℕ) (hop : HopValue) (line : ℕ) (b : Book) (lines : List Ends) (new : Ends)
+    → register_with None (with_change holder (with_hop hop) b) (lines_of (set lines line new))
+    ≡ with_book line (with_change holder (with_hop hop) (book_with b.records b.pairs new)) (register_with None b (lines_of lines))
+after_hop None hop line b lines new = ap (λ (ls : List LineEnds). register_with None b ls) (map-set ends_of lines line new)
+after_hop (Some n) hop line b lines new = ap (λ (ls : List LineEnds). register_with None (record b { records = changed_at n (with_hop hop) b.records }) ls) (map-set ends_of lines line new)
 
-pub handed : (line channel to_line to_channel : ℕ) (b : Book) (lines : List Ends) (holder : Option ℕ) (old new : Ends)
-    → slice_get lines to_line ≡ Some old → holder ≡ holder_at line channel (register_with None b (lines_of lines)) → ends_of new ≡ holding to_channel holder (ends_of old)
-    → register_with None b (lines_of (set lines to_line new)) ≡ handed_on line channel to_line to_channel (register_with None b (lines_of lines))
-handed line channel to_line to_channel b lines holder old new at h e =
-    let there : Some (ends_of old) ≡ slice_get (lines_of lines) to_line = sym (slice_get-map ends_of lines to_line ∙ ap (λ o. option_map ends_of o) at) in
-    ap (λ (ls : List LineEnds). register_with None b ls) (map-set ends_of lines to_line new)
-    ∙ ap (λ (x : LineEnds). register_with None b (set (lines_of lines) to_line x))
-    (e ∙ ap (λ (o : Option ℕ). holding to_channel o (ends_of old)) h
-    ∙ ap (λ (o : Option LineEnds). holding to_channel (holder_at line channel (register_with None b (lines_of lines))) (found_ends o)) there)
+-- the hop to a channel at these ends of its line
+abbrev pub hop_to : ChannelEnd → Ends → HopValue
+hop_to to ends = record { switch = (side_of to.role (book_with [] [] ends)).node; line = to.line; channel = to.channel }
 
-pub none_held : (channel : ℕ) → None ≡ (nth_slot [] channel).placed
-none_held zero = refl
-none_held (suc i) = refl
+same_hop : (to : ChannelEnd) (records : List RecordValue) (pairs : List PairValue) (ends : Ends)
+    → hop_to to ends ≡ record { switch = (side_of to.role (book_with records pairs ends)).node; line = to.line; channel = to.channel }
+same_hop to records pairs ends = ap (λ (n : ℕ). record { switch = n; line = to.line; channel = to.channel }) (by_role to.role) where
+  by_role : (role : Role) → (side_of role (book_with [] [] ends)).node ≡ (side_of role (book_with records pairs ends)).node
+  by_role Dte = refl
+  by_role Dce = refl
 
--- the record that a line holds, as its ends have it
-pub held : (line channel : ℕ) (b : Book) (lines : List Ends) (o : Option Ends) → slice_get lines line ≡ o
-    → (slot_at Dte channel (record b { dte = (found_ends (option_map ends_of o)).dte; dce = (found_ends (option_map ends_of o)).dce })).placed
-    ≡ holder_at line channel (register_with None b (lines_of lines))
-held line channel b lines o at =
-    ap (λ (p : Option LineEnds). (nth_slot (found_ends p).dte.slots channel).placed) (sym (slice_get-map ends_of lines line ∙ ap (λ p. option_map ends_of p) at))
+pub handed : (from to : ChannelEnd) (b : Book) (lines : List Ends) (holder : Option ℕ) (old new : Ends) → slice_get lines to.line ≡ Some old
+    → holder ≡ holder_at from (register_with None b (lines_of lines))
+    → ((records : List RecordValue) (pairs : List PairValue) → book_with records pairs new ≡ holds to.role to.channel holder (book_with records pairs old))
+    → register_with None (with_change holder (with_hop (hop_to to old)) b) (lines_of (set lines to.line new)) ≡ handed_on from to (register_with None b (lines_of lines))
+handed from to b lines holder old new at h e =
+    let g : Register = register_with None b (lines_of lines) in
+    let there : slice_get (lines_of lines) to.line ≡ Some (ends_of old) = slice_get-map ends_of lines to.line ∙ ap (λ o. option_map ends_of o) at in
+    after_hop holder (hop_to to old) to.line b lines new
+    ∙ ap (λ (x : Book). with_book to.line (with_change holder (with_hop (hop_to to old)) x) g) (e b.records b.pairs)
+    ∙ ap (λ (x : HopValue). with_book to.line (with_change holder (with_hop x) (holds to.role to.channel holder (book_with b.records b.pairs old))) g) (same_hop to b.records b.pairs old)
+    ∙ ap (λ (o : Option ℕ). with_book to.line (goes_on to o (book_with b.records b.pairs old)) g) h
+    ∙ ap (λ (o : Option LineEnds). if is_some o then with_book to.line (goes_on to (holder_at from g) (record { records = b.records; pairs = b.pairs; dte = (found_ends o).dte; dce = (found_ends o).dce })) g else g) (sym there)

@@ -2,13 +2,14 @@
 use Rattle.std.specs.Prelude.{◌≡◌, ℕ, ◌-◌, ◌≤◌, List, length, map, slice_get, Some, vec_len, vec_capacity}
 use Rattle.epochs.specs.Epoch.{SentEpoch as Sent, TakenEpoch as Taken}
 use Rattle.pad_editing.specs.Edited.{Step, key, idle}
-use Rattle.call_records.specs.Records.{RecordValue, PairValue, with_step, with_sent, with_interrupt_sent, with_taken}
-use Rattle.call_records.specs.Records.{with_interrupt_taken, with_released, with_covered, with_epoch, with_closed}
+use Rattle.call_records.specs.Records.{RecordValue, HopValue, PairValue, with_step, with_sent, with_interrupt_sent}
+use Rattle.call_records.specs.Records.{with_taken, with_interrupt_taken, with_released, with_covered, with_epoch, with_closed}
 use Rattle.call_records.specs.Packets.{data_packet_of}
 use Rattle.call_records.specs.Passed.{Part, HasSpare, HasNoSpare}
 use Rattle.call_records.specs.declared.record.EditStep.{EditStep}
 use Rattle.call_records.specs.declared.record.EditStep.TheVariants as edit_step
 use Rattle.call_records.specs.declared.record.Record.{Record}
+use Rattle.call_records.specs.declared.record.Hop.{Hop}
 use Rattle.call_records.specs.declared.record.Pair.{Pair}
 use Rattle.call_records.specs.declared.record.Growth.{Growth}
 use Rattle.call_records.specs.declared.record.Growth.TheVariants as growth
@@ -24,6 +25,9 @@ abbrev pub step_of : EditStep → Step
 step_of (edit_step.Key octet params) = key octet params
 step_of (edit_step.Idle params) = idle params
 
+abbrev pub hop_of : Hop → HopValue
+hop_of h = record { switch = h.switch; line = h.line; channel = h.channel }
+
 abbrev pub shown : Record → RecordValue
 shown r = record {
   number = r.number;
@@ -31,6 +35,7 @@ shown r = record {
   own = r.own;
   far = r.far;
   caller = r.caller;
+  path = map hop_of r.path.items;
   sent_before = map sent_of r.sent.epochs.before;
   sent = sent_of r.sent.epochs.last;
   taken_before = map taken_of r.taken.epochs.before;

@@ -5,15 +5,23 @@ use Rattle.epochs.specs.Item.{DataPacket}
 use Rattle.epochs.specs.Epoch.{nothing_sent, nothing_taken, Epoch, SentEpoch, TakenEpoch, sent_epoch, taken_epoch}
 use Rattle.pad_editing.specs.Edited.{Step}
 
+-- a hop of a call: a switch placed it onward, on a channel of a line
+pub record HopValue : Type 0 where
+  pub switch : ℕ
+  pub line : ℕ
+  pub channel : ℕ
+
 -- one end's part in one call: its number in the order of making, its node, its own address and the far one, where the
--- call came in the record of the end that placed it, the epochs that it sent and took, of which the last of each stands
--- apart, whether the call is closed for it, and at a PAD the steps of editing
+-- call came in the record of the end that placed it, of a caller the path of hops over which the call goes on, the
+-- epochs that it sent and took, of which the last of each stands apart, whether the call is closed for it, and at a PAD
+-- the steps of editing
 pub record RecordValue : Type 0 where
   pub number : ℕ
   pub node : ℕ
   pub own : Option (List ℕ)
   pub far : Option (List ℕ)
   pub caller : Option ℕ
+  pub path : List HopValue
   pub sent_before : List SentEpoch
   pub sent : SentEpoch
   pub taken_before : List TakenEpoch
@@ -41,6 +49,7 @@ new_record number node own far caller = record {
   own = own;
   far = far;
   caller = caller;
+  path = [];
   sent_before = [];
   sent = nothing_sent;
   taken_before = [];
@@ -97,6 +106,10 @@ with_epoch r = record r {
 -- the call is over for this end
 abbrev pub with_closed : RecordValue → RecordValue
 with_closed r = record r { closed = true }
+
+-- the call goes on over one more hop, if its path has room for it: at most 16 hops
+abbrev pub with_hop : HopValue → RecordValue → RecordValue
+with_hop hop r = if nat_le 16 (length r.path) then r else record r { path = r.path ++ hop ∷ [] }
 
 -- the records with a change at a place, if there is a record
 abbrev pub changed_at : ℕ → (RecordValue → RecordValue) → List RecordValue → List RecordValue

@@ -2,14 +2,14 @@
 -- each line the two ends with their channels. What is written at a line is what is written into a book, which has the
 -- records and pairs of all lines and the ends of this one.
 use Rattle.std.specs.Prelude.{ℕ, Bool, if◌then◌else◌, List, [], ◌∷◌, ◌++◌, length, replicate, set, slice_get}
-use Rattle.std.specs.Prelude.{Option, Some, None}
+use Rattle.std.specs.Prelude.{Option, Some, None, is_some}
 use Rattle.link_timers.specs.declared.role.Role.{Role}
 use Rattle.link_timers.specs.declared.role.Role.TheVariants.{Dte, Dce}
 use Rattle.packet_layer.specs.Packets.{CallParts}
 use Rattle.packet_layer.specs.Packets.Note.{Incoming}
 use Rattle.packet_layer.specs.Channel.Request.{Accept}
-use Rattle.call_records.specs.Records.{RecordValue, PairValue}
-use Rattle.call_records.specs.Book.{Book, Side, slot_at, with_slot, free_slot, made_book}
+use Rattle.call_records.specs.Records.{RecordValue, PairValue, with_hop}
+use Rattle.call_records.specs.Book.{Book, Side, side_of, slot_at, with_slot, with_change, free_slot, made_book}
 use Rattle.call_records.specs.Writes.{Write, all_written}
 use Rattle.call_records.specs.Writes.Write.{Placed, Told, Asked}
 
@@ -60,14 +60,26 @@ all_written_at line role writes g = written_at line (all_written role writes) g
 abbrev pub holds : Role → (channel : ℕ) → Option ℕ → Book → Book
 holds role channel holder b = with_slot role channel (record (slot_at role channel b) { placed = holder }) b
 
--- the record of the call that the DTE of a line placed last on a channel
-abbrev pub holder_at : (line channel : ℕ) → Register → Option ℕ
-holder_at line channel g = (slot_at Dte channel (book_at line g)).placed
+-- a channel at an end of a line
+pub record ChannelEnd : Type 0 where
+  pub line : ℕ
+  pub role : Role
+  pub channel : ℕ
 
--- that record is held at the DCE of another line, on the channel on which the call goes on
-abbrev pub handed_on : (line channel to_line to_channel : ℕ) → Register → Register
-handed_on line channel to_line to_channel g =
-    written_at to_line (holds Dce to_channel (holder_at line channel g)) g
+-- the record that it holds: that of the call whose path came to end there last
+abbrev pub holder_at : ChannelEnd → Register → Option ℕ
+holder_at end g = (slot_at end.role end.channel (book_at end.line g)).placed
+
+-- a call goes on to a channel: the path of its record, if it has one, gets this hop, and the channel holds the record
+abbrev pub goes_on : (to : ChannelEnd) → (holder : Option ℕ) → Book → Book
+goes_on to holder b =
+    with_change holder (with_hop (record { switch = (side_of to.role b).node; line = to.line; channel = to.channel }))
+    (holds to.role to.channel holder b)
+
+-- so it does from a channel to another one, if the line onward is there
+abbrev pub handed_on : (from to : ChannelEnd) → Register → Register
+handed_on from to g =
+    if is_some (slice_get g.lines to.line) then written_at to.line (goes_on to (holder_at from g)) g else g
 
 -- ---- making
 

@@ -5,7 +5,11 @@ use Rattle.call_records.specs.Book.{Book}
 use Rattle.call_records.specs.Register.{LineEnds}
 use Rattle.call_records.specs.Register as spec
 use Rattle.call_records.specs.declared.ends.Ends.{Ends}
+use Rattle.call_records.specs.declared.register.ChannelEnd.{ChannelEnd}
 use Rattle.call_records.specs.declared.register.Register.{Register}
+
+abbrev pub end_of : ChannelEnd → spec.ChannelEnd
+end_of e = record { line = e.line; role = e.role; channel = e.channel }
 
 abbrev pub ends_of : Ends → LineEnds
 ends_of e = record { dte = e.dte; dce = e.dce }

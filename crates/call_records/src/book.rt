@@ -5,19 +5,19 @@ ghost use Rattle.std.specs.Option.{option_to_list};
 ghost use Rattle.packet_layer.specs.NoteView.{note_of};
 ghost use Rattle.packet_layer.specs.TakenView.{taken_of};
 ghost use Rattle.packet_layer.specs.Octets.{parts_of};
-ghost use Rattle.call_records.specs.Book.{made_book, slot_at, address_of, changed, places, comes, answers, closes};
-ghost use Rattle.call_records.specs.Book.{renews, sends, interrupts, takes, releases, covers, edits, told};
+ghost use Rattle.call_records.specs.Book.{made_book, slot_at, address_of, with_change, changed, places, comes};
+ghost use Rattle.call_records.specs.Book.{answers, closes, renews, sends, interrupts, takes, releases, covers, edits, told};
 ghost use Rattle.packet_codec.specs.Digits.{digits_or_none};
-ghost use Rattle.call_records.specs.Records.{changed_at};
+ghost use Rattle.call_records.specs.Records.{changed_at, with_hop};
 ghost use Rattle.call_records.specs.Closing.{all_closed};
 ghost use Rattle.call_records.specs.Room.{opens, room_after};
 ghost use Rattle.call_records.specs.BookView.{CallsHavePlaces};
-ghost use Rattle.call_records.specs.RecordView.{shown, pair_of, step_of, grown, needed, left, Fits, PlacesAt, NoPlacesAt};
+ghost use Rattle.call_records.specs.RecordView.{shown, pair_of, step_of, grown, needed, left, Fits, PlacesAt, NoPlacesAt, hop_of};
 
 use crate::ends::{Ends, Side, Slot};
 use crate::interrupt::Interrupt;
 use crate::packets::Packet;
-use crate::record::{EditStep, Growth, Pair, Record};
+use crate::record::{EditStep, Growth, Hop, Pair, Record};
 use link_timers::Role;
 use packet_codec::{Address, CallBuf, CallData};
 use packet_layer::{LayerNote, Taken};
@@ -406,6 +406,15 @@ impl Book {
         }
     }
 
+    /// The call of the record of this number goes on over one more hop, if there is the record and its path has room.
+    pub(crate) fn go_on(&mut self, number: usize, hop: Hop)
+        ensures { self.new ≡ record self.old {
+          book = with_change (Some number) (with_hop (hop_of hop)) self.old.book;
+        } }
+    {
+        go_on_at(&mut self.records, number, hop);
+    }
+
     // The record of the present call on a channel grows by a write.
     fn grow(&mut self, role: Role, channel: u8, growth: Growth<'_>)
         requires room { needed growth ≤ self.old.room }
@@ -468,6 +477,20 @@ fn grow_at(records: &mut Vec<Record>, number: usize, growth: Growth<'_>)
     if number < records.len() {
         let record = &mut records[number];
         record.grow(growth);
+    }
+}
+
+// The call of the record of this number goes on over one more hop, if there is the record.
+fn go_on_at(records: &mut Vec<Record>, number: usize, hop: Hop)
+    ensures shown { map shown records.new.items
+        ≡ changed_at number (with_hop (hop_of hop)) (map shown records.old.items) }
+    ensures len { vec_len records.new ≡ vec_len records.old }
+    ensures capacity { vec_capacity records.new ≡ vec_capacity records.old }
+    ensures room { (room other : ℕ) → PlacesAt room other records.old.items → PlacesAt room other records.new.items }
+{
+    if number < records.len() {
+        let record = &mut records[number];
+        record.go_on(hop);
     }
 }
 

@@ -4,6 +4,7 @@ ghost use Rattle.call_records.specs.Records.{RecordValue, PairValue};
 ghost use Rattle.packet_codec.specs.Digits.{digits_or_none};
 ghost use Rattle.call_records.specs.Book.{address_of, free_slot, nth_slot, with_nth, side_of, with_slot};
 ghost use Rattle.call_records.specs.BookView.{book_with};
+ghost use Rattle.call_records.specs.Register.{holds};
 
 use crate::record::Pair;
 use link_timers::Role;
@@ -203,6 +204,18 @@ impl Ends {
         match role {
             Role::Dte => self.dte.put(channel, slot),
             Role::Dce => self.dce.put(channel, slot),
+        }
+    }
+
+    /// Holds a record on a channel of the end of this role as that of the call placed there last, if the line has the
+    /// channel.
+    pub(crate) fn hold(&mut self, role: Role, channel: u8, holder: Option<usize>)
+        ensures { (records : List RecordValue) (pairs : List PairValue) → book_with records pairs self.new
+            ≡ holds role channel holder (book_with records pairs self.old) }
+    {
+        match role {
+            Role::Dte => self.dte.hold(channel, holder),
+            Role::Dce => self.dce.hold(channel, holder),
         }
     }
 }

@@ -14,5 +14,5 @@ pub use book::{Book, calling_of};
 pub use interrupt::Interrupt;
 pub use packets::{Packet, PacketsIter};
 pub use passed::{Epoch, Passed};
-pub use record::{EditStep, Pair, Record};
-pub use register::Register;
+pub use record::{EditStep, Hop, Pair, Record};
+pub use register::{ChannelEnd, Register};

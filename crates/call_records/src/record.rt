@@ -1,12 +1,13 @@
 //! What a network keeps of each end's part in a call, and which two of these make a call.
 ghost use Rattle.std.specs.Prelude.{◌≡◌, ◌≤◌, ℕ, OnOk};
-ghost use Rattle.call_records.specs.Records.{new_record, with_epoch};
-ghost use Rattle.call_records.specs.RecordView.{shown, grown, needed, left, Fits, HasPlaces, HasNoPlaces};
+ghost use Rattle.call_records.specs.Records.{new_record, with_epoch, with_hop};
+ghost use Rattle.call_records.specs.RecordView.{shown, grown, needed, left, Fits, HasPlaces, HasNoPlaces, hop_of};
 
 use crate::interrupt::Interrupt;
 use crate::packets::Packet;
 use crate::passed::Passed;
 use crate::spare::give_back;
+use arrayvec::ArrayVec;
 use packet_codec::Address;
 use std::alloc::{AllocError, Global};
 use x3_params::Params;
@@ -18,6 +19,19 @@ pub enum EditStep {
     Key { octet: u8, params: Params },
     /// The end of the idle time (X.3 3.4).
     Idle { params: Params },
+}
+
+/// How many hops a path has at most.
+const MOST_HOPS: usize = 16;
+
+/// A hop of a call: a switch placed it onward, on a channel of a line.
+#[derive(Clone, Copy, Default)]
+pub struct Hop {
+    /// The number of the switch's node.
+    pub switch: usize,
+    /// The number of the line.
+    pub line: usize,
+    pub channel: u8,
 }
 
 /// One end's part in one call.
@@ -34,6 +48,8 @@ pub struct Record {
     pub far: Option<Address>,
     /// Where the call came in, the number of the record with which the other end placed it.
     pub(crate) caller: Option<usize>,
+    /// Of a caller, the hops over which the call goes on from its own line.
+    pub path: ArrayVec<Hop, MOST_HOPS>,
     /// What this end sent; a packet counts that a received P(R) covered.
     pub sent: Passed,
     /// What this end took; a packet counts that was released.
@@ -110,6 +126,7 @@ impl Record {
             own,
             far,
             caller,
+            path: ArrayVec::new(),
             sent: Passed::new(alloc),
             taken: Passed::new(alloc),
             closed: false,
@@ -144,6 +161,16 @@ impl Record {
             Growth::Step(step) => self.steps.push_reserved(step),
             Growth::Epoch => self.open_epoch(),
             Growth::Closed => self.closed = true,
+        }
+    }
+
+    /// The call goes on over one more hop, if its path has room for it.
+    pub(crate) fn go_on(&mut self, hop: Hop)
+        ensures shown { shown self.new ≡ with_hop (hop_of hop) (shown self.old) }
+        ensures room { (room : ℕ) → HasPlaces room self.old → HasPlaces room self.new }
+    {
+        if !self.path.is_full() {
+            self.path.push(hop);
         }
     }
 

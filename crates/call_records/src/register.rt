@@ -1,13 +1,24 @@
 //! The register of a network of lines.
 ghost use Rattle.std.specs.Prelude.{◌≡◌, ◌≤◌, ◌<◌, false, true, [], ◌∷◌, set, length, slice_get, IfOk, OnOk};
 ghost use Rattle.packet_codec.specs.Digits.{digits_or_none};
-ghost use Rattle.call_records.specs.Register.{empty_register, made_register, with_free_line, book_at, handed_on};
-ghost use Rattle.call_records.specs.RegisterView.{register_of, lines_of, ends_in, with_ends, IsOpen, IsClosed};
+ghost use Rattle.call_records.specs.Register.{empty_register, made_register, with_free_line, book_at, holder_at};
+ghost use Rattle.call_records.specs.Register.{handed_on};
+ghost use Rattle.call_records.specs.RegisterView.{register_of, end_of, lines_of, ends_in, with_ends, IsOpen, IsClosed};
 
 use crate::book::Book;
 use crate::ends::Ends;
+use crate::record::Hop;
+use link_timers::Role;
 use packet_codec::Address;
 use std::alloc::{AllocError, Global};
+
+/// A channel at an end of a line.
+#[derive(Clone, Copy)]
+pub struct ChannelEnd {
+    pub line: usize,
+    pub role: Role,
+    pub channel: u8,
+}
 
 /// The register of a network: the records and pairs of all calls, in the order of making, and for each line its two
 /// ends, channel by channel. What happens at a line is written into the book, once it is open there.
@@ -105,21 +116,42 @@ impl Register {
         self.book.reserve(count)
     }
 
-    /// The record of the call that the DTE of a line placed last on a channel is held at the DCE of another line, on
-    /// the channel on which the call goes on. The book is open at no line then.
-    pub fn hand_on(&mut self, line: usize, channel: u8, to_line: usize, to_channel: u8)
-        ensures same { register_of self.new ≡ handed_on line channel to_line to_channel (register_of self.old) }
+    /// A call goes on from a channel at an end of a line to another one, if that one's line is there. The record that
+    /// the first one holds gets the hop to the second one, which then holds it. The book is open at no line then.
+    pub fn hand_on(&mut self, from: ChannelEnd, to: ChannelEnd)
+        ensures same { register_of self.new ≡ handed_on (end_of from) (end_of to) (register_of self.old) }
         ensures lines { length self.new.lines.items ≡ length self.old.lines.items }
         ensures closed { IsClosed self.new }
     {
         self.close();
-        let holder = if line < self.lines.len() {
-            self.lines[line].dte.slot(channel).placed
+        if to.line >= self.lines.len() {
+            return;
+        }
+        let holder = self.holder(from);
+        let ends = &mut self.lines[to.line];
+        let switch = ends.of(to.role).node();
+        ends.hold(to.role, to.channel, holder);
+        if let Some(number) = holder {
+            self.book.go_on(
+                number,
+                Hop {
+                    switch,
+                    line: to.line,
+                    channel: to.channel,
+                },
+            );
+        }
+    }
+
+    // The number of the record that a channel at an end of a line holds.
+    fn holder(&self, at: ChannelEnd) -> Option<usize>
+        requires { IsClosed self.now }
+        ensures { result ≡ holder_at (end_of at) (register_of self.now) }
+    {
+        if at.line < self.lines.len() {
+            self.lines[at.line].of(at.role).slot(at.channel).placed
         } else {
             None
-        };
-        if to_line < self.lines.len() {
-            self.lines[to_line].dce.hold(to_channel, holder);
         }
     }
 

@@ -127,6 +127,7 @@ caller = record {
   taken_before = [];
   taken = nothing_taken;
   closed = false;
+  path = [];
   steps = [];
 }
 
@@ -142,6 +143,7 @@ callee = record {
   taken_before = [];
   taken = record { packets = packet_of hi ∷ []; interrupts = []; released = 1 };
   closed = false;
+  path = [];
   steps = [];
 }
 

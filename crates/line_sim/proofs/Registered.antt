@@ -4,16 +4,17 @@ use Rattle.std.proofs.Common.{ap, ◌∙◌, arith}
 use Rattle.std.specs.Prelude.{if◌then◌else◌}
 use Rattle.std.proofs.lemmas.List.{length-set, length-map, length-append}
 use Rattle.link_timers.specs.declared.role.Role.{Role}
-use Rattle.link_timers.specs.declared.role.Role.TheVariants.{Dte}
+use Rattle.link_timers.specs.declared.role.Role.TheVariants.{Dte, Dce}
 use Rattle.memory_line.specs.declared.line.Direction.{Direction}
 use Rattle.memory_line.specs.Lines.{LineService}
 use Rattle.call_records.specs.Writes.Write.{Placed}
 use Rattle.call_records.specs.Register.{Register, LinePlan, free_ends, all_written_at, handed_on, no_parts}
+use Rattle.switch_network_laws.proofs.Addressed.{lines_handed}
 use Rattle.call_records.specs.Register.{with_standing_call, with_free_line, with_line, with_lines, made_register}
 use Rattle.call_records.specs.Register.{empty_register}
 use Rattle.switch_lines.specs.declared.channels.NewJoin.{NewJoin}
 use Rattle.net_events.specs.NodeEvents.{NodeEvent}
-use Rattle.net_events.specs.AtSwitch.{SwitchEvent, SwitchHappened, joins_of, all_handed, network_line}
+use Rattle.net_events.specs.AtSwitch.{SwitchEvent, SwitchHappened, joins_of, all_handed, channel_end}
 use Rattle.net_events.specs.Network.{Network, HappenedAt, LostAt}
 use Rattle.net_events.specs.Opening.{NetPlan, IsMade, line_plan}
 
@@ -75,9 +76,8 @@ handed : (lines : List ℕ) (joins : List NewJoin) (g : Register)
 handed lines [] g = refl
 handed lines (j ∷ joins) g =
     handed lines joins
-    (handed_on (network_line lines j.came_in.line) j.came_in.channel (network_line lines j.placed.line)
-    j.placed.channel g)
-    ∙ length-set g.lines (network_line lines j.placed.line) _
+    (handed_on (channel_end lines Dte j.came_in) (channel_end lines Dce j.placed) g)
+    ∙ lines_handed (channel_end lines Dte j.came_in) (channel_end lines Dce j.placed) g
 
 pub switched_registered : (L : LineService) (event : SwitchEvent) (place : ℕ) (s t : Network) → IsRegistered s
     → SwitchHappened L event place s t → IsRegistered t

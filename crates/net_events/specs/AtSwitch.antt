@@ -1,13 +1,16 @@
 -- What may happen at a switch of a network, and what it makes of the network.
 use Rattle.std.specs.Prelude.{◌≡◌, ◌≢◌, ℕ, ◌<◌, List, [], ◌∷◌, length, map, set, slice_get, Some, unwrap_or}
+use Rattle.link_timers.specs.declared.role.Role.{Role}
+use Rattle.link_timers.specs.declared.role.Role.TheVariants.{Dte, Dce}
 use Rattle.link_timers.specs.declared.timers.TimerId.{TimerId}
-use Rattle.call_records.specs.Register.{Register, handed_on}
+use Rattle.call_records.specs.Register.{Register, ChannelEnd, handed_on}
 use Rattle.line_nodes.specs.Node.{sent_out}
 use Rattle.memory_line.specs.declared.line.Direction.TheVariants.{FromDte, FromDce}
 use Rattle.memory_line.specs.Lines.{Flights, no_flights, without_first, LineService, ArePut}
 use Rattle.switch_lines.specs.Lines.{SwitchLine}
 use Rattle.switch_lines.specs.NewJoins.{new_joins}
 use Rattle.switch_lines.specs.declared.channels.NewJoin.{NewJoin}
+use Rattle.switch_lines.specs.declared.channels.SwitchChannel.{SwitchChannel}
 use Rattle.switch_lines.specs.Switch.{Switch, on_frame, on_timer, restart, frames_on, with_end}
 use Rattle.packet_laws.specs.Readable.{AreOctets}
 use Rattle.net_events.specs.Network.{PlacedSwitch, Switching, NetLine, Network}
@@ -82,12 +85,15 @@ pub record LinesServed (L : LineService) (event : SwitchEvent) (n : PlacedSwitch
 abbrev pub network_line : (lines : List ℕ) → (own : ℕ) → ℕ
 network_line lines own = unwrap_or (slice_get lines own) 0
 
+-- the end of this role of a switch's channel
+abbrev pub channel_end : (lines : List ℕ) → Role → SwitchChannel → ChannelEnd
+channel_end lines role c = record { line = network_line lines c.line; role = role; channel = c.channel }
+
 -- calls that were joined are handed on, in order, from the line on which each came in to the one on which it goes on
 abbrev pub all_handed : (lines : List ℕ) → List NewJoin → Register → Register
 all_handed lines [] g = g
 all_handed lines (j ∷ joins) g =
-    all_handed lines joins (handed_on (network_line lines j.came_in.line) j.came_in.channel
-    (network_line lines j.placed.line) j.placed.channel g)
+    all_handed lines joins (handed_on (channel_end lines Dte j.came_in) (channel_end lines Dce j.placed) g)
 
 -- ---- the network
 

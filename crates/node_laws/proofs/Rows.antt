@@ -151,6 +151,7 @@ caller = record {
   taken_before = [];
   taken = nothing_taken;
   closed = false;
+  path = [];
   steps = [];
 }
 
@@ -166,6 +167,7 @@ callee = record {
   taken_before = [];
   taken = record { packets = packet_of hi ∷ []; interrupts = []; released = 1 };
   closed = false;
+  path = [];
   steps = [];
 }
 

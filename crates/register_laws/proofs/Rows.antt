@@ -151,6 +151,7 @@ caller number node = record {
   taken_before = [];
   taken = nothing_taken;
   closed = false;
+  path = [];
   steps = [];
 }
 
@@ -166,6 +167,7 @@ callee number node placed = record {
   taken_before = [];
   taken = record { packets = packet_of (said 72) ∷ []; interrupts = []; released = 0 };
   closed = false;
+  path = [];
   steps = [];
 }
 

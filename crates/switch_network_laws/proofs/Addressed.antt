@@ -1,22 +1,22 @@
 -- Each caller has the address of its line as its own, from the making on and after each event.
 use Rattle.std.proofs.Common.{◌≡◌, ℕ, suc, ◌<◌, ◌+◌, Bool, true, false, List, [], ◌∷◌, length, map, Some, refl, sym, ap, subst, ◌∙◌, arith}
-use Rattle.std.specs.Prelude.{if◌then◌else◌}
+use Rattle.std.specs.Prelude.{slice_get, is_some, if◌then◌else◌}
 use Rattle.std.proofs.lemmas.List.{length-set, length-map, length-append}
 use Rattle.std.proofs.lemmas.Option.{slice_get_within}
 use Rattle.link_timers.specs.declared.role.Role.{Role}
-use Rattle.link_timers.specs.declared.role.Role.TheVariants.{Dte}
+use Rattle.link_timers.specs.declared.role.Role.TheVariants.{Dte, Dce}
 use Rattle.memory_line.specs.declared.line.Direction.{Direction}
 use Rattle.memory_line.specs.Lines.{LineService}
 use Rattle.call_records.specs.Book.{Book}
 use Rattle.call_records.specs.Writes.Write.{Placed}
-use Rattle.call_records.specs.Register.{Register, LinePlan, free_ends, book_at, with_book, all_written_at, handed_on, no_parts}
+use Rattle.call_records.specs.Register.{Register, LinePlan, ChannelEnd, free_ends, book_at, with_book, written_at, all_written_at, holder_at, goes_on, handed_on, no_parts}
 use Rattle.call_records.specs.Register.{with_standing_call, with_free_line, with_line, with_lines, made_register}
 use Rattle.call_records.specs.Register.{empty_register}
 use Rattle.switch_lines.specs.declared.channels.NewJoin.{NewJoin}
 use Rattle.call_path_laws.specs.OwnAddresses.{HaveOwnAddresses}
 use Rattle.call_path_laws.proofs.OwnAddresses.{made_owns, written_owns, handed_owns}
 use Rattle.network_laws.specs.NodeEvents.{NodeEvent}
-use Rattle.network_laws.specs.AtSwitch.{SwitchEvent, SwitchHappened, joins_of, all_handed, network_line}
+use Rattle.network_laws.specs.AtSwitch.{SwitchEvent, SwitchHappened, joins_of, all_handed, channel_end}
 use Rattle.network_laws.specs.Network.{Network, HappenedAt, LostAt}
 use Rattle.network_laws.specs.Opening.{NetPlan, IsMade, line_plan}
 use Rattle.network_laws.proofs.Uniform.{uniform, none_given}
@@ -83,20 +83,26 @@ lost_addressed L line d s t a w = record {
   own = subst (λ (x : Network). HaveOwnAddresses x.register) (sym w.others) a.own;
 }
 
+pub lines_handed : (from to : ChannelEnd) (g : Register) → length (handed_on from to g).lines ≡ length g.lines
+lines_handed from to g = by (is_some (slice_get g.lines to.line))
+  where
+    by : (v : Bool) → length (if v then written_at to.line (goes_on to (holder_at from g)) g else g).lines ≡ length g.lines
+    by true = length-set g.lines to.line _
+    by false = refl
+
 handed : (lines : List ℕ) (joins : List NewJoin) (g : Register)
     → length (all_handed lines joins g).lines ≡ length g.lines
 handed lines [] g = refl
 handed lines (j ∷ joins) g =
     handed lines joins
-    (handed_on (network_line lines j.came_in.line) j.came_in.channel (network_line lines j.placed.line)
-    j.placed.channel g)
-    ∙ length-set g.lines (network_line lines j.placed.line) _
+    (handed_on (channel_end lines Dte j.came_in) (channel_end lines Dce j.placed) g)
+    ∙ lines_handed (channel_end lines Dte j.came_in) (channel_end lines Dce j.placed) g
 
 all_handed_own : (lines : List ℕ) (joins : List NewJoin) (g : Register) → HaveOwnAddresses g → HaveOwnAddresses (all_handed lines joins g)
 all_handed_own lines [] g h = h
 all_handed_own lines (j ∷ joins) g h =
-    all_handed_own lines joins (handed_on (network_line lines j.came_in.line) j.came_in.channel (network_line lines j.placed.line) j.placed.channel g)
-    (handed_owns g (network_line lines j.came_in.line) j.came_in.channel (network_line lines j.placed.line) j.placed.channel h)
+    all_handed_own lines joins (handed_on (channel_end lines Dte j.came_in) (channel_end lines Dce j.placed) g)
+    (handed_owns g (channel_end lines Dte j.came_in) (channel_end lines Dce j.placed) h)
 
 pub switched_addressed : (L : LineService) (event : SwitchEvent) (place : ℕ) (s t : Network) → IsAddressed s
     → SwitchHappened L event place s t → IsAddressed t

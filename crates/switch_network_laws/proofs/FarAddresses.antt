@@ -5,7 +5,7 @@ use Rattle.std.proofs.lemmas.Option.{none-some, same_Some, slice_get_within}
 use Rattle.link_timers.specs.declared.role.Role.{Role}
 use Rattle.link_timers.specs.declared.role.Role.TheVariants.{Dte, Dce}
 use Rattle.link_timers.specs.Role.{other_of}
-use Rattle.call_records.specs.Records.{RecordValue, PairValue}
+use Rattle.call_records.specs.Records.{RecordValue, HopValue, PairValue}
 use Rattle.call_records.specs.Book.{side_of, address_of}
 use Rattle.call_records.specs.Register.{book_at}
 use Rattle.book_laws.proofs.Basics.{get_there}
@@ -18,9 +18,9 @@ use Rattle.switch_network_laws.specs.Plans.{IsPlanOf}
 use Rattle.switch_network_laws.specs.IsSwitched.{IsAddressed}
 
 -- a call that is placed at an end with a user is placed by the caller
-placed_near : (plan : Plan) (caller : RecordValue) (first line : ℕ) (role : Role) → plan.has_user line role ≡ true → IsPlacedAt plan caller first line role → caller.node ≡ plan.node line role
-placed_near plan caller first line role user (by_caller node own) = node
-placed_near plan caller first line role user (by_switch from end p same none route) = absurd (true≢false (sym user ∙ none))
+placed_near : (plan : Plan) (caller : RecordValue) (first : ℕ) (hops : List HopValue) (line : ℕ) (role : Role) → plan.has_user line role ≡ true → IsPlacedAt plan caller first hops line role → caller.node ≡ plan.node line role
+placed_near plan caller first hops line role user (by_caller node own) = node
+placed_near plan caller first hops line role user (by_switch from end channel p same none route) = absurd (true≢false (sym user ∙ none))
 
 -- the ends of lines, in the network and in its register
 pub record AreEnds (s : Network) : Type 0 where
@@ -64,7 +64,7 @@ module _ (s : Network) (plan : Plan) (plan_is : IsPlanOf s plan) (paths : PathsH
       let on : r.line ≡ line = line_of line r.line l role r.role h.callee.node at own_node (user_at line l role at user) r.node in
       let u : HasUserAt s l (other_of r.role) = user_at line l (other_of r.role) at user in
       let near : h.caller.node ≡ plan.node r.line (other_of r.role) =
-      placed_near plan h.caller r.first r.line (other_of r.role) (ap (λ (n : ℕ). plan.has_user n (other_of r.role)) on ∙ plan_is.user line l (other_of r.role) (User u.0) at u.1) r.placed in
+      placed_near plan h.caller r.first h.caller.path r.line (other_of r.role) (ap (λ (n : ℕ). plan.has_user n (other_of r.role)) on ∙ plan_is.user line l (other_of r.role) (User u.0) at u.1) r.placed in
       let caller_node : h.caller.node ≡ place_at (other_of r.role) l = near ∙ ap (λ (n : ℕ). plan.node n (other_of r.role)) on ∙ plan_is.node line l (other_of r.role) at in
       let o : HasOwnAddress s.register pair.caller = a.own.pairs i pair there in
       let value : o.value ≡ h.caller = same_Some o.value h.caller (sym o.there ∙ h.caller_there) in

@@ -1,7 +1,8 @@
 -- What holds of a network with a switch holds at the making.
-use Rattle.std.proofs.Common.{◌≡◌, ℕ, ◌+◌, ◌<◌, ◌≤◌, ◌++◌, Bool, true, false, List, [], length, map, Option, Some, None, refl, sym, ap, ◌∙◌, subst, arith, inl, inr}
+use Rattle.std.proofs.Common.{◌≡◌, ℕ, ◌+◌, ◌<◌, ◌≤◌, ◌++◌, Bool, true, false, List, [], ◌∷◌, length, map, Option, Some, None, refl, sym, ap, ◌∙◌, subst, arith, inl, inr, true≢false}
 use Rattle.std.specs.Prelude.{◌⊎◌, slice_get, option_and_then}
 use Rattle.std.proofs.lemmas.Option.{same_Some, slice_get_within, slice_get_past}
+use Rattle.std.specs.List.{Contains}
 use Rattle.std.proofs.lemmas.List.{length-map}
 use Rattle.link_timers.specs.declared.role.Role.{Role}
 use Rattle.link_timers.specs.declared.role.Role.TheVariants.{Dte, Dce}
@@ -46,7 +47,7 @@ use Rattle.switch_network_laws.proofs.Standing.{same_switch, AreApart, same_end,
 use Rattle.switch_network_laws.proofs.UsersWrites.{line_named}
 use Rattle.switch_network_laws.proofs.UsersHeld.{address_kept}
 use Rattle.switch_network_laws.proofs.SwitchSending.{Sent, all_sent}
-use Rattle.switch_network_laws.proofs.MadePlan.{find_switch, end_place, is_user, dce_is_user, address_on, digits_of, plan_of, OwnLine, own_line, Configs, configs, is_config, are_between}
+use Rattle.switch_network_laws.proofs.MadePlan.{find_switch, end_place, is_user, dce_is_user, user_at, address_on, digits_of, plan_of, OwnLine, own_line, Configs, configs, is_config, are_between}
 use Rattle.switch_network_laws.proofs.MadeStanding.{MayStand, all_stand, made_stood}
 use Rattle.switch_network_laws.proofs.MadeStands.{net_line, line_planned, dte_made_there, stands_made, nodes_made, alone_made}
 use Rattle.switch_network_laws.proofs.MadePartners.{PartnerMade, partner_made, all_partners}
@@ -105,6 +106,13 @@ planned plan place n is at = record {
       ap (λ (xs : List ℕ). option_and_then (λ (k : ℕ). slice_get n.lines k) (line_for n.routes xs)) (digits_of called)
       ∙ (ap (λ (o : Option ℕ). option_and_then (λ (k : ℕ). slice_get n.lines k) o) routed ∙ (x.1 ∙ ap (λ (k : ℕ). Some k) (sym (line_named n.lines own x.0 x.1))));
   others = others;
+  switches = place ∷ [];
+  tree = record {
+    few = omega arith;
+    at_switch = at_switch;
+    rises = λ line t. absurd (true≢false t.dte);
+    one_up = λ line other t u e. absurd (true≢false t.dte);
+  };
 }
   where
     c : Configs plan place n
@@ -128,6 +136,20 @@ planned plan place n is at = record {
 
     alike : (line : ℕ) → (true ≡ false) ⊎ (dce_is_user plan.nodes (slice_get plan.lines line) ≡ true) → address_on (slice_get plan.lines line) ≡ []
     alike line e = alike_by line (slice_get plan.lines line) refl e
+
+    -- each end without a user is at the one switch
+    switch_is : (line : ℕ) (o : Option NewLine) → slice_get plan.lines line ≡ o → dce_is_user plan.nodes o ≡ false → end_place (length plan.nodes) o Dce ≡ place
+    switch_is line None there e = absurd (true≢false e)
+    switch_is line (Some l) there e =
+        let p : IsLinePlan plan.nodes line l = is.lines line l there in by p.dce p.dce_there
+      where
+        by : (d : Planned) → slice_get plan.nodes l.dce ≡ Some d → l.dce ≡ place
+        by (PlannedSwitch d) got = is.one_switch l.dce place d n got at
+        by (PlannedUser d) got = absurd (true≢false (sym (ap is_user got) ∙ e))
+
+    at_switch : (line : ℕ) (role : Role) → user_at plan line role ≡ false → Contains {X = ℕ} (place ∷ []) (end_place (length plan.nodes) (slice_get plan.lines line) role)
+    at_switch line Dte e = absurd (true≢false e)
+    at_switch line Dce e = (0, omega arith, sym (switch_is line (slice_get plan.lines line) refl e))
 
     others : (line : ℕ) (role : Role) → line < length (plans_of plan) → IsOther n.lines line → (plan_of plan n).has_user line role ≡ true
     others line Dte less other = refl

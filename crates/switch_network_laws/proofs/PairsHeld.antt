@@ -3,7 +3,7 @@ use Rattle.std.proofs.Common.{◌≡◌, ℕ, Bool, true, List, Option, Some, re
 use Rattle.std.specs.Prelude.{slice_get, if◌then◌else◌}
 use Rattle.std.proofs.lemmas.Option.{same_Some}
 use Rattle.link_timers.specs.declared.role.Role.{Role}
-use Rattle.call_records.specs.Records.{RecordValue, PairValue}
+use Rattle.call_records.specs.Records.{RecordValue, HopValue, PairValue}
 use Rattle.call_records.specs.Book.{Book}
 use Rattle.call_records.specs.Register.{book_at}
 use Rattle.book_laws.proofs.Basics.{map_at}
@@ -26,8 +26,8 @@ module _ (plan : Plan) (w : World) (books : List Book) (traces : List (List Orig
   abbrev pub PairOf : ℕ → ℕ → ℕ → Type 0
   PairOf i line j = (p : ℕ) × (slice_get (positions 1 seen.kinds) i ≡ Some p) × (slice_get (positions line alike.seen.pair_owners) j ≡ Some p)
 
-  renumbered_is : (own value : RecordValue) → IsOf own value → (o : Origin) (n : ℕ) (a : Option ℕ) → IsOf own (shown plan o n a value)
-  renumbered_is own value e o n a = subst (λ (v : RecordValue). IsOf own (shown plan o n a v)) (sym e) refl
+  renumbered_is : (own value : RecordValue) → IsOf own value → (o : Origin) (n : ℕ) (a : Option ℕ) (path : List HopValue) → IsOf own (shown plan o n a path value)
+  renumbered_is own value e o n a path = subst (λ (v : RecordValue). IsOf own (shown plan o n a path v)) (sym e) refl
 
   pair_at : (i line j : ℕ) → PairOf i line j → IsPairAt w.register books i line j
   pair_at i line j (p, at, there) =
@@ -46,9 +46,9 @@ module _ (plan : Plan) (w : World) (books : List Book) (traces : List (List Orig
         pair_there = q.seen_there;
         own = x.own;
         own_record = x.own_record;
-        callee = shown plan r.origin q.seen_pair.callee r.caller r.value;
+        callee = shown plan r.origin q.seen_pair.callee r.caller r.path r.value;
         callee_there = r.seen_there;
-        same = renumbered_is x.own r.value (subst (IsOf x.own) value x.same) r.origin q.seen_pair.callee r.caller;
+        same = renumbered_is x.own r.value (subst (IsOf x.own) value x.same) r.origin q.seen_pair.callee r.caller r.path;
       }
 
   every_pair : (i : ℕ) (p : PairValue) → slice_get w.register.pairs i ≡ Some p → (line : ℕ) × (j : ℕ) × PairOf i line j

@@ -20,7 +20,7 @@ use Rattle.line_record_laws.proofs.Confirming.{confirmed_kept}
 use Rattle.line_record_laws.proofs.Counting.{shown_kept}
 use Rattle.line_record_laws.specs.Histories.{LineHistory}
 use Rattle.line_record_laws.proofs.Histories.{history_kept}
-use Rattle.call_path_laws.specs.Ends.{IsOfPresent, EndIsSeen, IsOfUser}
+use Rattle.call_path_laws.specs.Ends.{IsOf, IsOfPresent, EndIsSeen, IsOfUser}
 use Rattle.call_path_laws.specs.Seen.{address_at, SideIsSeen}
 use Rattle.call_path_laws.specs.Promise.{PathsHold}
 use Rattle.call_path_laws.proofs.Ending.{ends_seen, users_own, open_seen}
@@ -108,13 +108,13 @@ module _ (L : LineService) (s : Network) (p : IsSwitched L s) (f : L.faithful) w
   end_is Dte line l b h = refl
   end_is Dce line l b h = refl
 
-  confirmed_of : (own r : RecordValue) (e x : PacketEnd) (channel : ℕ) → r ≡ record own { number = r.number; own = r.own; caller = r.caller } → e ≡ x
+  confirmed_of : (own r : RecordValue) (e x : PacketEnd) (channel : ℕ) → IsOf own r → e ≡ x
       → SaysConfirmed e.layer channel own → SaysConfirmed x.layer channel r
   confirmed_of own r e x channel same is h =
       subst (λ (y : PacketEnd). SaysConfirmed y.layer channel r) is
       (subst (λ (y : RecordValue). SaysConfirmed e.layer channel y) (sym same) (record { covered = h.covered; said = h.said }))
 
-  shown_of : (own r : RecordValue) (e x : PacketEnd) (channel : ℕ) → r ≡ record own { number = r.number; own = r.own; caller = r.caller } → e ≡ x
+  shown_of : (own r : RecordValue) (e x : PacketEnd) (channel : ℕ) → IsOf own r → e ≡ x
       → ShowsCounts e.layer channel own → ShowsCounts x.layer channel r
   shown_of own r e x channel same is h =
       subst (λ (y : PacketEnd). ShowsCounts y.layer channel r) is
@@ -179,11 +179,11 @@ module _ (L : LineService) (s : Network) (p : IsSwitched L s) (f : L.faithful) w
 
   -- ---- what a PAD typed
 
-  typed_record : (own r : RecordValue) → r ≡ record own { number = r.number; own = r.own; caller = r.caller } → HasSent own → HasSent r
+  typed_record : (own r : RecordValue) → IsOf own r → HasSent own → HasSent r
   typed_record own r same h =
       subst HasSent (sym same) (record { typed = h.typed; occasions = h.occasions; said = record { messages = h.said.messages; told = h.said.told; interrupts = h.said.interrupts } })
 
-  same_node : (own r : RecordValue) → r ≡ record own { number = r.number; own = r.own; caller = r.caller } → r.node ≡ own.node
+  same_node : (own r : RecordValue) → IsOf own r → r.node ≡ own.node
   same_node own r same = ap (λ (x : RecordValue). x.node) same
 
   -- a PAD is at the DTE

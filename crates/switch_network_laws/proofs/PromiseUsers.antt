@@ -1,14 +1,14 @@
 -- What holds of a network of nodes with users alone has, on faithful lines, all that any network promises: its paths are
 -- its lines, and no line has an address.
-use Rattle.std.proofs.Common.{◌≡◌, ℕ, Bool, true, false, List, [], ◌∷◌, length, Option, Some, None, refl, sym, ap, ◌∙◌, subst, inl, inr, arith}
+use Rattle.std.proofs.Common.{◌≡◌, ℕ, zero, suc, Bool, true, false, List, [], ◌∷◌, length, Option, Some, None, refl, sym, ap, ◌∙◌, subst, inl, inr, arith}
 use Rattle.std.specs.Prelude.{slice_get}
-use Rattle.std.proofs.lemmas.Option.{slice_get_past}
+use Rattle.std.proofs.lemmas.Option.{none-some, same_Some, slice_get_past}
 use Rattle.link_timers.specs.declared.role.Role.{Role}
 use Rattle.link_timers.specs.declared.role.Role.TheVariants.{Dte, Dce}
 use Rattle.packet_laws.specs.Line.{Event, turned}
 use Rattle.packet_laws.specs.Line as layers
 use Rattle.packet_laws.specs.Line.Happening.{Here, There}
-use Rattle.call_records.specs.Records.{RecordValue, PairValue}
+use Rattle.call_records.specs.Records.{RecordValue, HopValue, PairValue}
 use Rattle.call_records.specs.Book.{Book, side_of, made_book}
 use Rattle.call_records.specs.Register.{book_at, found_ends}
 use Rattle.call_records.specs.Writes.Write.{Edited}
@@ -19,9 +19,11 @@ use Rattle.line_record_laws.specs.Kept.{Setting, Kept, beginning, end_at}
 use Rattle.line_record_laws.specs.Histories.{LineHistory}
 use Rattle.line_record_laws.proofs.Histories.{history_kept}
 use Rattle.register_laws.specs.Promise.{PairHolds, PairIsRight, IsOfEnd}
+use Rattle.register_laws.proofs.Seeing.{owned}
 use Rattle.call_path_laws.specs.World.{Plan, calling_on}
 use Rattle.call_path_laws.specs.Lines.{writes_of}
-use Rattle.call_path_laws.specs.Promise.{PathIsRight, PathHolds, PathsHold, by_caller}
+use Rattle.call_path_laws.specs.Promise.{PathIsRight, PathHolds, PathsHold, IsPlacedAt, by_caller}
+use Rattle.call_path_laws.proofs.Hopping.{HaveNoHops, writes_none}
 use Rattle.call_path_laws.proofs.Moves.{written_so}
 use Rattle.memory_line.specs.Lines.{LineService}
 use Rattle.packet_end.specs.PacketEnd.{PacketEnd}
@@ -73,6 +75,31 @@ no_address : (x : Setting) (b : Book) (l : Line) (role : Role) → Kept x b l �
 no_address x b l role k =
     subst (λ (y : Book). (side_of role y).address ≡ []) k.book
     (moves_stay k.moves (beginning x) role ∙ none_made x.dte_node x.dce_node x.dte.channels x.dte.standing role)
+
+-- ---- nor do their records have hops
+
+event_none : (x : Role) (event : Event) (w : layers.Line) (b : Book) → HaveNoHops b.records → HaveNoHops (written x event w b).records
+event_none x event w b none = subst (λ (y : Book). HaveNoHops y.records) (written_so x event w b) (writes_none x (writes_of event w) b none)
+
+move_none : (m : Move) (v : World) → HaveNoHops v.book.records → HaveNoHops (after_move m v).book.records
+move_none (Happens (Here event)) v none = event_none Dte event v.line v.book none
+move_none (Happens (There event)) v none = event_none Dce event (turned v.line) v.book none
+move_none (Edits x channel step) v none = writes_none x (Edited channel step ∷ []) v.book none
+
+moves_none : (ms : List Move) (v : World) → HaveNoHops v.book.records → HaveNoHops (after_all ms v).book.records
+moves_none [] v none = none
+moves_none (m ∷ ms) v none = moves_none ms (after_move m v) (move_none m v none)
+
+no_hops_made : (dte_node dce_node channels : ℕ) (standing : Bool) → HaveNoHops (made_book dte_node dce_node channels standing).records
+no_hops_made dte_node dce_node channels false n r at = absurd (none-some r at)
+no_hops_made dte_node dce_node channels true zero r at = ap (λ (x : RecordValue). x.path) (sym (same_Some _ r at))
+no_hops_made dte_node dce_node channels true (suc zero) r at = ap (λ (x : RecordValue). x.path) (sym (same_Some _ r at))
+no_hops_made dte_node dce_node channels true (suc (suc n)) r at = absurd (none-some r at)
+
+no_hops : (x : Setting) (b : Book) (l : Line) → Kept x b l → HaveNoHops b.records
+no_hops x b l k =
+    subst (λ (y : Book). HaveNoHops y.records) k.book
+    (moves_none k.moves (beginning x) (no_hops_made x.dte_node x.dce_node x.dte.channels x.dte.standing))
 
 -- ---- the plan
 
@@ -127,8 +154,21 @@ module _ (L : LineService) (s : Network) (n : IsNetwork L s) (a : IsAddressed s)
   stands_at line role node b e =
       let l = line_there L s n line b.0 b.1 in e ∙ (holds.ends line l.0 role l.1).own ∙ sym (ap (λ o. end_place (length s.nodes) o role) l.1)
 
-  path_right : (caller callee : RecordValue) → PairIsRight s.register caller callee → PathIsRight (users_plan s) caller callee
-  path_right caller callee h =
+  -- nor does a record of the register have hops
+  no_path : (i : ℕ) (r : RecordValue) → slice_get s.register.records i ≡ Some r → r.path ≡ []
+  no_path i r at =
+      let o = owned s.register n.books i r n.seen at in
+      let l = line_there L s n o.0 o.1 o.2 in
+      let h : LineHolds L s.nodes o.0 l.0 o.1 = n.lines o.0 l.0 o.1 l.1 o.2 in
+      let own : LineState = line_state l.0 h.dte h.dce o.1 in
+      let k : IsKept own = h.holds.kept f in
+      ap (λ (x : RecordValue). x.path) o.3.same ∙ no_hops k.setting o.1 (line_of own) k.kept o.3.place o.3.own o.3.own_there
+
+  by_itself : (caller : RecordValue) (line : ℕ) (role : Role) → caller.path ≡ [] → caller.node ≡ (users_plan s).node line role → IsPlacedAt (users_plan s) caller line caller.path line role
+  by_itself caller line role none node = subst (λ (hops : List HopValue). IsPlacedAt (users_plan s) caller line hops line role) (sym none) (by_caller node refl)
+
+  path_right : (caller callee : RecordValue) → caller.path ≡ [] → PairIsRight s.register caller callee → PathIsRight (users_plan s) caller callee
+  path_right caller callee none h =
       let b = fellow n.books s.register.lines h.line h.line_ends (sym n.seen.lines) h.line_there in
       let calling : caller.own ≡ calling_on ((users_plan s).address h.line) caller.own =
       calling_own ((users_plan s).address h.line) caller.own (book_address h.line b.0 b.1) in
@@ -143,7 +183,7 @@ module _ (L : LineService) (s : Network) (n : IsNetwork L s) (a : IsAddressed s)
           role = Dce;
           node = stands_at h.line Dce callee.node b e.1;
           user = refl;
-          placed = by_caller (stands_at h.line Dte caller.node b e.0) refl;
+          placed = by_itself caller h.line Dte none (stands_at h.line Dte caller.node b e.0);
         }
         | inr e ↦ record {
           order = h.order;
@@ -155,7 +195,7 @@ module _ (L : LineService) (s : Network) (n : IsNetwork L s) (a : IsAddressed s)
           role = Dte;
           node = stands_at h.line Dte callee.node b e.1;
           user = refl;
-          placed = by_caller (stands_at h.line Dce caller.node b e.0) refl;
+          placed = by_itself caller h.line Dce none (stands_at h.line Dce caller.node b e.0);
         }
       ]
 
@@ -171,7 +211,7 @@ module _ (L : LineService) (s : Network) (n : IsNetwork L s) (a : IsAddressed s)
       onward_confirmed = h.matches.onward_confirmed;
       backward_confirmed = h.matches.backward_confirmed;
     };
-    is_right = path_right h.caller h.callee h.is_right;
+    is_right = path_right h.caller h.callee (no_path pair.caller h.caller h.caller_there) h.is_right;
   }
 
   paths_hold : PathsHold (users_plan s) s.register

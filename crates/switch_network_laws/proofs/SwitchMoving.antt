@@ -1,9 +1,12 @@
 -- What an event of a switch makes of what the laws of paths say of it, before its frames go out.
 use Rattle.std.proofs.Common.{◌≡◌, ℕ, zero, suc, set, List, [], ◌∷◌, ◌++◌, map, Option, Some, None, Bool, true, false, if◌then◌else◌, refl, sym, ap, subst, ◌∙◌}
-use Rattle.std.specs.Prelude.{slice_get, unwrap_or}
+use Rattle.std.specs.Prelude.{slice_get, is_some, unwrap_or}
+use Rattle.link_timers.specs.declared.role.Role.{Role}
+use Rattle.link_timers.specs.declared.role.Role.TheVariants.{Dte, Dce}
 use Rattle.link_timers.specs.declared.timers.TimerId.{TimerId}
-use Rattle.call_records.specs.Book.{Book}
-use Rattle.call_records.specs.Register.{Register, LineEnds, found_ends, book_at, handed_on}
+use Rattle.call_records.specs.Records.{HopValue, with_hop}
+use Rattle.call_records.specs.Book.{Book, with_change}
+use Rattle.call_records.specs.Register.{Register, LineEnds, ChannelEnd, found_ends, book_at, written_at, holds, holder_at, goes_on, handed_on}
 use Rattle.switch_lines.specs.declared.channels.NewJoin.{NewJoin}
 use Rattle.switch_lines.specs.Switch.{Switch, on_frame, timer_runs, on_expiry}
 use Rattle.switch_laws.specs.Steps.Happening.{Brings, RunsOut}
@@ -19,7 +22,7 @@ use Rattle.call_path_laws.specs.World.{Origin, World, Plan}
 use Rattle.switch_path_laws.specs.Network.{IsNetwork, found_line}
 use Rattle.switch_path_laws.specs.Network as paths
 use Rattle.switch_path_laws.specs.Law.{calls_in, join_of_call, SwitchPathLaw, OthersStay, AfterEvent, AfterRestart}
-use Rattle.network_laws.specs.AtSwitch.{SwitchEvent, Hears, Expires, Restarts, switched, joins_of, network_line, all_handed}
+use Rattle.network_laws.specs.AtSwitch.{SwitchEvent, Hears, Expires, Restarts, switched, joins_of, channel_end, all_handed}
 use Rattle.switch_network_laws.proofs.SwitchWriting.{IsWritten, nothing_written, acts_written, restart_written}
 
 -- ---- calls that are handed on
@@ -28,14 +31,17 @@ line_same : (o : Option ℕ) → found_line o ≡ unwrap_or o 0
 line_same None = refl
 line_same (Some line) = refl
 
+abbrev at_line : (line : ℕ) → Role → (channel : ℕ) → ChannelEnd
+at_line line role channel = record { line = line; role = role; channel = channel }
+
 -- the joined calls, as the switch tells of them
 handed_same : (at : List ℕ) (cs : List JoinedCall) (g : Register) → paths.all_handed at cs g ≡ all_handed at (map join_of_call cs) g
 handed_same at [] g = refl
 handed_same at (c ∷ cs) g =
     handed_same at cs (paths.handed_on at c g)
     ∙ ap (λ (x : Register). all_handed at (map join_of_call cs) x)
-    (ap (λ (line : ℕ). handed_on line c.near.channel (paths.network_line at c.far.line) c.far.channel g) (line_same (slice_get at c.near.line))
-    ∙ ap (λ (line : ℕ). handed_on (network_line at c.near.line) c.near.channel line c.far.channel g) (line_same (slice_get at c.far.line)))
+    (ap (λ (line : ℕ). handed_on (at_line line Dte c.near.channel) (at_line (paths.network_line at c.far.line) Dce c.far.channel) g) (line_same (slice_get at c.near.line))
+    ∙ ap (λ (line : ℕ). handed_on (channel_end at Dte c.near) (at_line line Dce c.far.channel) g) (line_same (slice_get at c.far.line)))
 
 -- no address of a line changes
 address_found : (xs : List LineEnds) (to line : ℕ) (e : LineEnds) → e.dte.address ≡ (found_ends (slice_get xs to)).dte.address
@@ -46,12 +52,27 @@ address_found (x ∷ xs) zero (suc line) e same = refl
 address_found (x ∷ xs) (suc to) zero e same = refl
 address_found (x ∷ xs) (suc to) (suc line) e same = address_found xs to line e same
 
+hop_stays : (holder : Option ℕ) (hop : HopValue) (b : Book) → (with_change holder (with_hop hop) b).dte.address ≡ b.dte.address
+hop_stays None hop b = refl
+hop_stays (Some n) hop b = refl
+
+slot_stays : (role : Role) (channel : ℕ) (holder : Option ℕ) (b : Book) → (holds role channel holder b).dte.address ≡ b.dte.address
+slot_stays Dte channel holder b = refl
+slot_stays Dce channel holder b = refl
+
+one_stays : (from to : ChannelEnd) (line : ℕ) (g : Register) → (book_at line (handed_on from to g)).dte.address ≡ (book_at line g).dte.address
+one_stays from to line g = by (is_some (slice_get g.lines to.line))
+  where
+    by : (v : Bool) → (book_at line (if v then written_at to.line (goes_on to (holder_at from g)) g else g)).dte.address ≡ (book_at line g).dte.address
+    by true = address_found g.lines to.line line _ (hop_stays (holder_at from g) _ (holds to.role to.channel (holder_at from g) (book_at to.line g)) ∙ slot_stays to.role to.channel (holder_at from g) (book_at to.line g))
+    by false = refl
+
 pub addresses_stay : (at : List ℕ) (joins : List NewJoin) (line : ℕ) (g : Register)
     → (book_at line (all_handed at joins g)).dte.address ≡ (book_at line g).dte.address
 addresses_stay at [] line g = refl
 addresses_stay at (j ∷ joins) line g =
-    addresses_stay at joins line (handed_on (network_line at j.came_in.line) j.came_in.channel (network_line at j.placed.line) j.placed.channel g)
-    ∙ address_found g.lines (network_line at j.placed.line) line _ refl
+    addresses_stay at joins line (handed_on (channel_end at Dte j.came_in) (channel_end at Dce j.placed) g)
+    ∙ one_stays (channel_end at Dte j.came_in) (channel_end at Dce j.placed) line g
 
 -- ---- each event
 

@@ -48,6 +48,7 @@ use Rattle.call_path_laws.proofs.Making.{made_seen}
 use Rattle.call_path_laws.proofs.Freeing.{made_lines}
 use Rattle.call_path_laws.proofs.Lining.{lines_hold}
 use Rattle.call_path_laws.proofs.Forwarding.{made_handed_on, relayed_joins}
+use Rattle.call_path_laws.proofs.Hopping.{made_paths}
 use Rattle.call_path_laws.proofs.Promising.{promised}
 use Rattle.switch_path_laws.specs.Network.{network_line, AreAmong, IsPlanned, all_handed, lines_of, HasNumber, IsInJoin, IsSeen, IsNetwork}
 use Rattle.switch_path_laws.specs.Law.{BeginLaw, no_switch, AloneLaw, AfterEvent, FrameLaw, TimerLaw, ElapseLaw, OutLaw, RestartLaw, partner_acted, PartnerLaw, OtherLaw, AddressLaw, IsKept, PromiseLaw, SwitchPathLaw}
@@ -90,6 +91,8 @@ planned_stays plan count at s t routes e i = record {
   alike = i.alike;
   route = λ called n h f. i.route called n h (ap (λ (r : RouteMap). line_for r called) (sym routes) ∙ f);
   others = i.others;
+  switches = i.switches;
+  tree = i.tree;
 }
 
 -- of as many lines
@@ -310,6 +313,7 @@ length_books (plan ∷ plans) = ap suc (length_books plans)
 seen_made : (plan : Plan) (at : List ℕ) (plans : List LinePlan) (bs : Books) → AreBetween plan 0 plans → AreAmong at bs (map free_book plans) → IsSeen plan at bs [] (map free_book plans) (made_world plans) (map (λ line. []) plans)
 seen_made plan at plans bs between among = record {
   seen = made_seen plan plans between;
+  paths = λ switches tree. made_paths plan plans;
   among = among;
   lines = made_lines plans;
   joins = tt;
@@ -441,7 +445,7 @@ addresses_are plan at s h cs books w traces i k c there =
 
 promise : PromiseLaw
 promise plan at s h cs books w traces i others =
-    promised plan w i.planned.alike i.seen.seen (lines_hold w books traces i.seen.lines holds) (relayed_joins plan w i.seen.handed (relays plan at s h cs books w traces i) (sends_so plan at s h cs books w traces i))
+    promised plan w i.planned.alike i.seen.seen (i.seen.paths i.planned.switches i.planned.tree) (lines_hold w books traces i.seen.lines holds) (relayed_joins plan w i.seen.handed (relays plan at s h cs books w traces i) (sends_so plan at s h cs books w traces i))
   where
     kept : (line : ℕ) (b : Book) → slice_get books line ≡ Some b → IsKept b
     kept line b there = elim (own_or_other at line) [

@@ -1,6 +1,7 @@
 -- The run: what the laws ask for is met.
 use Rattle.std.specs.Prelude.{◌≡◌, ℕ, zero, suc, ◌<◌, true, false, List, [], ◌∷◌, slice_get, Option, Some, option_map}
 use Rattle.std.proofs.Common.{inl, inr, refl, sym, ap, ◌∙◌, true≢false, arith}
+use Rattle.std.specs.List.{Contains}
 use Rattle.std.proofs.lemmas.Option.{none-some, same_Some}
 use Rattle.link_timers.specs.declared.role.Role.{Role}
 use Rattle.link_timers.specs.declared.role.Role.TheVariants.{Dte, Dce}
@@ -16,6 +17,7 @@ use Rattle.joined_call_laws.specs.Tied.{IsTied}
 use Rattle.joined_call_laws.proofs.Running.{run_holds as records_run}
 use Rattle.joined_call_laws.proofs.Tying.{tied_holds}
 use Rattle.call_path_laws.specs.World.{AreAddressed, AreBetween, made_world}
+use Rattle.call_path_laws.specs.Tree.{IsTree}
 use Rattle.switch_path_laws.specs.Network.{network_line, IsOther, AreAmong, IsPlanned, IsNetwork}
 use Rattle.switch_path_laws.specs.Law.{no_switch}
 use Rattle.switch_path_laws.specs.Run.{routes, switch, at, plan, lines, books, traces, placed, user_book, plan_alone, lines_alone, route_of, RunLaw}
@@ -71,6 +73,23 @@ between_users (suc zero) Dce h other = refl
 between_users (suc (suc zero)) role h other = absurd (other 0 (omega arith) refl)
 between_users (suc (suc (suc line))) role h other = absurd (omega arith)
 
+one_switch : IsTree plan (9 ∷ [])
+one_switch = record {
+  few = omega arith;
+  at_switch = at_switch;
+  rises = λ line t. absurd (true≢false t.dte);
+  one_up = λ line other t u e. absurd (true≢false t.dte);
+}
+  where
+    nine : Contains {X = ℕ} (9 ∷ []) 9
+    nine = (0, omega arith, refl)
+
+    at_switch : (line : ℕ) (role : Role) → plan.has_user line role ≡ false → Contains {X = ℕ} (9 ∷ []) (plan.node line role)
+    at_switch line Dte e = absurd (true≢false e)
+    at_switch zero Dce e = nine
+    at_switch (suc zero) Dce e = absurd (true≢false e)
+    at_switch (suc (suc line)) Dce e = nine
+
 is_planned : IsPlanned plan 3 at switch
 is_planned = record {
   lines = refl;
@@ -83,6 +102,8 @@ is_planned = record {
   alike = alike;
   route = λ called n h e. by_route called n e;
   others = between_users;
+  switches = 9 ∷ [];
+  tree = one_switch;
 }
 
 are_between : AreBetween plan 0 lines
@@ -121,6 +142,13 @@ planned_alone = record {
   alike = λ line e. refl;
   route = λ called n h e. absurd (omega arith);
   others = λ line role h other. refl;
+  switches = [];
+  tree = record {
+    few = omega arith;
+    at_switch = λ line role e. absurd (true≢false e);
+    rises = λ line t. absurd (true≢false t.dte);
+    one_up = λ line other t u e. absurd (true≢false t.dte);
+  };
 }
 
 pub run_holds : RunLaw

@@ -47,6 +47,7 @@ use Rattle.call_path_laws.specs.Seen.{Seen, IsJoined}
 use Rattle.call_path_laws.specs.Lines.{LinesSeen}
 use Rattle.call_path_laws.specs.Forwards.{Forwards}
 use Rattle.call_path_laws.proofs.Happening.{happens}
+use Rattle.call_path_laws.proofs.Hopping.{paths_go}
 use Rattle.call_path_laws.proofs.Lining.{alone_seen}
 use Rattle.call_path_laws.proofs.Tracing.{traced}
 use Rattle.call_path_laws.proofs.Forwarding.{stays_handed_on}
@@ -132,6 +133,7 @@ written_by_user plan at line role ws b own bs bs' cs books w traces user there t
     let may : MayHappen plan event w = (subst (λ (k : ℕ). line < k) (sym i.lines.seen.lines) (slice_get_within books line b there), user) in
     record {
       seen = happens plan event w may i.seen;
+      paths = λ switches tree. paths_go plan switches event w tree may i.seen (i.paths switches tree);
       among = among;
       lines = traced w.whole w.origins books traces line b own role ws there trace i.lines;
       joins = joins_stay at line role w.origins _ cs w.joins (writes_grow line role ws (book_at line w.whole) w.origins) i.joins;
@@ -173,6 +175,7 @@ module _ (plan : Plan) (at : List ℕ) (apart : AreApart at) (switch_end : (n : 
         traces = set traces line trace;
         is = record {
           seen = happens plan event w may i.seen;
+          paths = λ switches tree. paths_go plan switches event w tree may i.seen (i.paths switches tree);
           among = among_set at n bs bs' books b apart h here others i.among;
           lines = traced w.whole w.origins books traces line (bs n) own.0 Dce ws (i.among n h) own.1 i.lines;
           joins = joins_stay at line Dce w.origins _ cs w.joins (writes_grow line Dce ws (book_at line w.whole) w.origins) i.joins;
@@ -207,7 +210,7 @@ module _ (plan : Plan) (at : List ℕ) (apart : AreApart at) (switch_end : (n : 
     books = books;
     world = w;
     traces = traces;
-    is = record { seen = i.seen; among = among_same at bs bs' books h i.among; lines = i.lines; joins = i.joins; handed = i.handed; sends = i.sends; accepts = i.accepts };
+    is = record { seen = i.seen; paths = i.paths; among = among_same at bs bs' books h i.among; lines = i.lines; joins = i.joins; handed = i.handed; sends = i.sends; accepts = i.accepts };
     same = refl;
     others = others_same at books traces;
   }
@@ -670,6 +673,7 @@ module _ (plan : Plan) (at : List ℕ) (apart : AreApart at) (switch_end : (n : 
             traces = set traces ql trace;
             is = record {
               seen = happens plan event w may i.seen;
+              paths = λ switches tree. paths_go plan switches event w tree may i.seen (i.paths switches tree);
               among = among_set at q.line bs bs' books b apart q_less placed_here placed_apart i.among;
               lines = traced w.whole w.origins books traces ql (bs q.line) own.0 Dce ws (i.among q.line q_less) own.1 i.lines;
               joins =

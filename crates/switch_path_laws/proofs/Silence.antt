@@ -103,7 +103,7 @@ pushed_silent x z c b h = record {
   pairs = slot_pairs Dce c z (with_record x b);
 }
 
-pub nothing_yet : SentNothing (record { number = 0; node = 0; own = None; far = None; caller = None; sent_before = []; sent = nothing_sent; taken_before = []; taken = record { packets = []; interrupts = []; released = 0 }; closed = false; steps = [] })
+pub nothing_yet : SentNothing (record { number = 0; node = 0; own = None; far = None; caller = None; path = []; sent_before = []; sent = nothing_sent; taken_before = []; taken = record { packets = []; interrupts = []; released = 0 }; closed = false; steps = [] })
 nothing_yet = (record { items = refl; interrupts = refl }, tt)
 
 closes_silent : (c : ℕ) (b : Book) → Silent b (closes Dce c b)

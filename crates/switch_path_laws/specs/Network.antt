@@ -19,6 +19,8 @@ use Rattle.joined_call_laws.specs.Tied.{Histories, IsTied}
 use Rattle.joined_call_laws.specs.Calls.{JoinedCall, AreCalls}
 use Rattle.call_path_laws.specs.World.{Origin, Join, World, Plan, AreAddressed}
 use Rattle.call_path_laws.specs.Seen.{Seen, IsJoined}
+use Rattle.call_path_laws.specs.Tree.{IsTree}
+use Rattle.call_path_laws.specs.Paths.{ArePaths}
 use Rattle.call_path_laws.specs.Lines.{LinesSeen}
 use Rattle.call_path_laws.specs.Forwards.{AreHandedOn}
 
@@ -44,7 +46,7 @@ AreAmong at bs books = (n : ℕ) → n < length at → slice_get books (network_
 
 -- of a network of `count` lines: no line is two of the switch's; users are at the DTE's end of each of these and the
 -- switch is at the DCE's; they have the addresses of the plan, and each has one, which a line between two ends of one
--- kind has not; the routes are those of the switch; and all other lines are between users
+-- kind has not; the routes are those of the switch; all other lines are between users; and the switches are a tree
 pub record IsPlanned (plan : Plan) (count : ℕ) (at : List ℕ) (s : Switch) : Type 0 where
   pub lines : length at ≡ length s.lines
   pub apart : (m n : ℕ) → m < length at → n < length at → network_line at m ≡ network_line at n → m ≡ n
@@ -58,13 +60,16 @@ pub record IsPlanned (plan : Plan) (count : ℕ) (at : List ℕ) (s : Switch) : 
   pub route : (called : List ℕ) (n : ℕ) → n < length at → line_for s.routes called ≡ Some n
       → plan.route (plan.node (network_line at n) Dce) (address_of called) ≡ Some (network_line at n)
   pub others : (line : ℕ) (role : Role) → line < count → IsOther at line → plan.has_user line role ≡ true
+  pub switches : List ℕ
+  pub tree : IsTree plan switches
 
 -- ---- joined calls in the register
 
 -- from the line on which the call came in to that on which it goes on
 abbrev pub handed_on : (at : List ℕ) → JoinedCall → Register → Register
 handed_on at c g =
-    register.handed_on (network_line at c.near.line) c.near.channel (network_line at c.far.line) c.far.channel g
+    register.handed_on (record { line = network_line at c.near.line; role = Dte; channel = c.near.channel })
+    (record { line = network_line at c.far.line; role = Dce; channel = c.far.channel }) g
 
 abbrev pub all_handed : (at : List ℕ) → List JoinedCall → Register → Register
 all_handed at [] g = g
@@ -115,10 +120,12 @@ AcceptsAccepted plan w = (i : ℕ) (pair : PairValue) (o : Origin) → slice_get
 -- ---- the register beside the switch
 
 -- the register has of the ends with users what the whole one has; the whole one has what the books of all lines have,
--- those of the switch's lines among them, and its joins are the joined calls, with the addresses of these calls
+-- those of the switch's lines among them, and its joins are the joined calls, with the addresses of these calls; in a
+-- tree of switches the path of each record is that of its call
 pub record IsSeen (plan : Plan) (at : List ℕ) (bs : Books) (cs : List JoinedCall) (books : List Book) (w : World)
     (traces : List (List Origin)) : Type 0 where
   pub seen : Seen plan w
+  pub paths : (switches : List ℕ) → IsTree plan switches → ArePaths plan w
   pub among : AreAmong at bs books
   pub lines : LinesSeen w.whole w.origins books traces
   pub joins : AreJoins at w.origins cs w.joins

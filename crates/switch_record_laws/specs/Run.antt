@@ -67,6 +67,7 @@ near_record = record {
   taken_before = record { packets = letter ∷ []; interrupts = []; released = 1 } ∷ [];
   taken = nothing_taken;
   closed = false;
+  path = [];
   steps = [];
 }
 
@@ -82,6 +83,7 @@ far_record = record {
   taken_before = nothing_taken ∷ [];
   taken = nothing_taken;
   closed = false;
+  path = [];
   steps = [];
 }
 

@@ -12,8 +12,9 @@ ghost use Rattle.net_nodes.specs.Switching.{HasRoom, CanPut, LinesPut, is_anew, 
 ghost use Rattle.net_nodes.specs.Switching.{CanSwitch, SwitchActed};
 
 use crate::nodes::{NetLine, Nodes};
-use call_records::Register;
+use call_records::{ChannelEnd, Register};
 use line_end::MOST_FRAMES;
+use link_timers::Role;
 use memory_line::Line;
 use net_events::{Answer, Outcome, Put, StepFault, SwitchEvent};
 use net_turns::{call_switch, make_frame_room, put_switch_frames};
@@ -28,10 +29,16 @@ fn hand_on(register: &mut Register, lines: &[usize], joined: Option<NewJoin>)
     if let Some(join) = joined {
         let (from, to) = (join.came_in, join.placed);
         register.hand_on(
-            network_line(lines, from.line),
-            from.channel,
-            network_line(lines, to.line),
-            to.channel,
+            ChannelEnd {
+                line: network_line(lines, from.line),
+                role: Role::Dte,
+                channel: from.channel,
+            },
+            ChannelEnd {
+                line: network_line(lines, to.line),
+                role: Role::Dce,
+                channel: to.channel,
+            },
         );
     }
 }
