@@ -20,7 +20,7 @@ pub fn one_line_law<L: Line>()
 /// Two runs of a PAD and a host on a line that loses nothing, by computation, of which the law of the line speaks from
 /// the making on: dialled, connected, typed with a deletion, a parameter read by the host (X.29), reset; and on a call
 /// that stands reset while text is held, a break, the command INT, cleared. Records and pair are what was typed,
-/// answered and told, with the occasions of what the PAD said of itself, and what the terminal is shown are its echo and
+/// answered and told, with the occasions of what the PAD said of itself. What the terminal is shown are its echo and
 /// the service signals (X.28).
 pub fn pad_run_law()
     ensures { PadRunLaw }
