@@ -433,7 +433,7 @@ covers_fits : (receive : ℕ) (t : Traffic) → Fits t (covers receive t)
 covers_fits receive t = by (nat_le (distance t.covered receive) (in_flight t)) _ (λ h. leb-true (distance t.covered receive) (in_flight t) h)
   where
     by : (v : Bool) (d : ℕ) → (v ≡ true → distance t.covered receive ≤ in_flight t)
-        → Fits t (cond v (Keeps (distance t.covered receive) (record t { covered = receive; undelivered = t.undelivered - distance t.covered receive })) (Wrong d))
+        → Fits t (cond v (Keeps (distance t.covered receive) (record t { covered = (t.covered + distance t.covered receive) % 8; undelivered = t.undelivered - distance t.covered receive })) (Wrong d))
     by true d h = h refl
     by false d h = tt
 

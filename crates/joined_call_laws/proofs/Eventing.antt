@@ -44,11 +44,11 @@ use Rattle.switch_laws.specs.World.{shown_at}
 use Rattle.switch_laws.specs.Joined.{IsPair}
 use Rattle.switch_laws.specs.Events.{new_legs}
 use Rattle.switch_laws.specs.Steps.Step.{Elapses}
-use Rattle.switch_laws.proofs.Finishing.{begun_line, readable, restarted_joined}
+use Rattle.switch_laws.proofs.Finishing.{restarted_joined}
 use Rattle.switch_laws.proofs.Happening.{events_hold}
 use Rattle.switch_laws.proofs.Places.{joined_kept}
 use Rattle.switch_laws.proofs.SettingUp.{pair_call}
-use Rattle.switch_laws.proofs.Turning.{ReadsNumbers, received_effect, timer_effect}
+use Rattle.switch_laws.proofs.Turning.{received_effect, timer_effect}
 use Rattle.switch_record_laws.specs.Kept.{all_frames_out}
 use Rattle.switch_record_laws.specs.Joined.{JoinsRecords}
 use Rattle.switch_record_laws.specs.Records.{AreRecords, Has, call_on}
@@ -241,18 +241,13 @@ module _ (R : Books → List JoinedCall → Type 0) (keeps : KeptQuietly R) (sen
       (subst (λ (new : List JoinedCall). And AreCalls R (finished s.routes n (acted s.routes n (does what) ls)) (happened n what s h).books (cs ++ new)) (sym x.leads.calls)
       (subst (λ (y : Books). And AreCalls R (finished s.routes n (acted s.routes n (does what) ls)) y (cs ++ x.new)) (sym x.leads.books ∙ books_are ss s.lines h.books) x.holds))
 
-pub frame_effect : (n : ℕ) (octets : Octets) (ls : List SwitchLine) → AreOctets octets → (line : SwitchLine) → slice_get (all_begun ls) n ≡ Some line → EndEffect n (Brings octets) line.end
-frame_effect n octets ls are line e =
-    let old = begun_line n ls line e in
-    received_effect n octets line.end (subst (λ (l : SwitchLine). ReadsNumbers (link_octets.on_octets l.end.line.link octets).accepted) old.1.1 (readable n octets ls are old.0 old.1.0))
-
 nothing_beside : Books → List JoinedCall → Type 0
 nothing_beside bs cs = Unit {0}
 
 frame_calls : FrameCalls
 unfolding nothing_beside
 frame_calls n octets s h cs are first i a =
-    (calls_after nothing_beside (λ acts ys bs ds q r. tt) (λ p q j ls bs ds g m a e r. tt) (λ p j ls bs ds c r. tt) n (Brings octets) s (on_frame n octets s) h cs (λ p q parts ls bs ds j r. tt) refl (frame_effect n octets s.lines are) are first i a tt).0
+    (calls_after nothing_beside (λ acts ys bs ds q r. tt) (λ p q j ls bs ds g m a e r. tt) (λ p j ls bs ds c r. tt) n (Brings octets) s (on_frame n octets s) h cs (λ p q parts ls bs ds j r. tt) refl (λ line e. received_effect n octets line.end) are first i a tt).0
 
 timer_calls : TimerCalls
 unfolding nothing_beside
@@ -276,7 +271,7 @@ event_as_said n what s h i eff =
 
 new_joins_law : NewJoinsLaw
 new_joins_law = record {
-  frames = λ n octets s h are i. event_as_said n (Brings octets) s h i (frame_effect n octets s.lines are);
+  frames = λ n octets s h are i. event_as_said n (Brings octets) s h i (λ line e. received_effect n octets line.end);
   timers = λ n id s h i. no_calls (calls_in n (RunsOut id) s h) (event_as_said n (RunsOut id) s h i (λ line e. timer_effect n id line.end) ∙ timer_joins_none s.routes n id (all_begun s.lines));
 }
 

@@ -13,7 +13,7 @@ use Rattle.packet_layer.specs.Channel.{CallState, Channel, Step, Request, Refusa
 use Rattle.packet_layer.specs.Channel.CallState.{Ready, OwnWaiting, FarWaiting, Transfer, Collision, OwnClear}
 use Rattle.packet_layer.specs.Channel.Request.{Accept, Clearing, Resetting, Sending, Interrupting, Stopping, Taking, Releasing, Confirming}
 use Rattle.packet_laws.specs.History.{Epoch, empty_epoch, logged, logged_heard}
-use Rattle.packet_laws.specs.Counts.{NamesAfter, IsNumbered}
+use Rattle.packet_laws.specs.Counts.{NamesAfter}
 use Rattle.packet_laws.specs.Readable.{Every}
 use Rattle.packet_laws.proofs.Naming.{counts_hold}
 use Rattle.packet_laws.proofs.Call.Saying.{by_cond}
@@ -121,20 +121,20 @@ after_heard_agrees role window c o t e b (Keeps n u) names all = record { names 
 after_heard_agrees role window c o t e b (Confirms u) names all = record { names = names; unused = λ out. absurd (true≢false out); controls = all }
 after_heard_agrees role window c o t e b (Wrong d) names all = resets role window c d (channel_in Transfer false o t) e refl all
 
-hears_agrees : (role : Role) (window c : ℕ) (o : List Body) (t : Traffic) (e : Epoch) (b : Body) → window ≤ 7 → IsNumbered b → Counts window Transfer false o t e
+hears_agrees : (role : Role) (window c : ℕ) (o : List Body) (t : Traffic) (e : Epoch) (b : Body) → window ≤ 7 → Counts window Transfer false o t e
     → StepAgrees window (after_heard role c (channel_in Transfer false o t) (hears window t b)) (logged_heard (hears window t b) e)
-hears_agrees role window c o t e b le numbered k = after_heard_agrees role window c o t e b (hears window t b) (counts_hold.heard window le t e b numbered k.names) k.controls
+hears_agrees role window c o t e b le k = after_heard_agrees role window c o t e b (hears window t b) (counts_hold.heard window le t e b k.names) k.controls
 
-in_d1 : (role : Role) (window c : ℕ) (o : List Body) (t : Traffic) (e : Epoch) (b : Body) → window ≤ 7 → IsNumbered b → Received role window c Transfer false o t e b (in_flow_ready role window c (channel_in Transfer false o t) b)
-in_d1 role window c o t e (Clear cause diagnostic) le numbered k = is_cleared window c cause diagnostic (channel_in Transfer false o t) e k.controls
-in_d1 role window c o t e (Reset cause diagnostic) le numbered k = renews window Transfer false o ResetConfirmation refl k.controls tt
-in_d1 role window c o t e ResetConfirmation le numbered k = resets role window c _ (channel_in Transfer false o t) e refl k.controls
-in_d1 role window c o t e (Data send receive d) le numbered k = hears_agrees role window c o t e (Data send receive d) le numbered k
-in_d1 role window c o t e (ReceiveReady receive) le numbered k = hears_agrees role window c o t e (ReceiveReady receive) le numbered k
-in_d1 role window c o t e (ReceiveNotReady receive) le numbered k = hears_agrees role window c o t e (ReceiveNotReady receive) le numbered k
-in_d1 role window c o t e (Interrupt octets) le numbered k = hears_agrees role window c o t e (Interrupt octets) le numbered k
-in_d1 role window c o t e InterruptConfirmation le numbered k = hears_agrees role window c o t e InterruptConfirmation le numbered k
-in_d1 role window c o t e _ le numbered k = clears role window c _ true (channel_in Transfer false o t) e k.controls
+in_d1 : (role : Role) (window c : ℕ) (o : List Body) (t : Traffic) (e : Epoch) (b : Body) → window ≤ 7 → Received role window c Transfer false o t e b (in_flow_ready role window c (channel_in Transfer false o t) b)
+in_d1 role window c o t e (Clear cause diagnostic) le k = is_cleared window c cause diagnostic (channel_in Transfer false o t) e k.controls
+in_d1 role window c o t e (Reset cause diagnostic) le k = renews window Transfer false o ResetConfirmation refl k.controls tt
+in_d1 role window c o t e ResetConfirmation le k = resets role window c _ (channel_in Transfer false o t) e refl k.controls
+in_d1 role window c o t e (Data send receive d) le k = hears_agrees role window c o t e (Data send receive d) le k
+in_d1 role window c o t e (ReceiveReady receive) le k = hears_agrees role window c o t e (ReceiveReady receive) le k
+in_d1 role window c o t e (ReceiveNotReady receive) le k = hears_agrees role window c o t e (ReceiveNotReady receive) le k
+in_d1 role window c o t e (Interrupt octets) le k = hears_agrees role window c o t e (Interrupt octets) le k
+in_d1 role window c o t e InterruptConfirmation le k = hears_agrees role window c o t e InterruptConfirmation le k
+in_d1 role window c o t e _ le k = clears role window c _ true (channel_in Transfer false o t) e k.controls
 
 -- in the own reset they do not
 leaves_reset : (window : ℕ) (o : List Body) (t : Traffic) (e : Epoch) → Counts window Transfer true o t e → Counts window Transfer false o t e
@@ -151,18 +151,18 @@ in_d2 role window c o t e (Interrupt octets) k = k
 in_d2 role window c o t e InterruptConfirmation k = k
 in_d2 role window c o t e _ k = clears role window c _ true (channel_in Transfer true o t) e k.controls
 
-received_by : (role : Role) (window c : ℕ) (s : CallState) (rs : Bool) (o : List Body) (t : Traffic) (e : Epoch) (b : Body) → window ≤ 7 → IsNumbered b
+received_by : (role : Role) (window c : ℕ) (s : CallState) (rs : Bool) (o : List Body) (t : Traffic) (e : Epoch) (b : Body) → window ≤ 7
     → Received role window c s rs o t e b (received_in s role window c (channel_in s rs o t) b)
-received_by role window c Ready rs o t e b le numbered k = in_p1 role window c rs o t e b k
-received_by role window c OwnWaiting rs o t e b le numbered k = in_p2 role window c rs o t e b k
-received_by role window c FarWaiting rs o t e b le numbered k = in_p3 role window c rs o t e b k
-received_by role window c Transfer false o t e b le numbered k = in_d1 role window c o t e b le numbered k
-received_by role window c Transfer true o t e b le numbered k = in_d2 role window c o t e b k
-received_by role window c Collision rs o t e b le numbered k = in_p5 role window c rs o t e b k
-received_by role window c OwnClear rs o t e b le numbered k = in_p6 role window c rs o t e b k
+received_by role window c Ready rs o t e b le k = in_p1 role window c rs o t e b k
+received_by role window c OwnWaiting rs o t e b le k = in_p2 role window c rs o t e b k
+received_by role window c FarWaiting rs o t e b le k = in_p3 role window c rs o t e b k
+received_by role window c Transfer false o t e b le k = in_d1 role window c o t e b le k
+received_by role window c Transfer true o t e b le k = in_d2 role window c o t e b k
+received_by role window c Collision rs o t e b le k = in_p5 role window c rs o t e b k
+received_by role window c OwnClear rs o t e b le k = in_p6 role window c rs o t e b k
 
-pub received_agrees : (role : Role) (window c : ℕ) (b : Body) → window ≤ 7 → IsNumbered b → (ch : Channel) (e : Epoch) → Agrees window ch e → Agrees window (owing (received role window c ch b)) (after_packet role window c b ch e)
-received_agrees role window c b le numbered ch e k = received_by role window c ch.state ch.resetting ch.owed ch.traffic e b le numbered k
+pub received_agrees : (role : Role) (window c : ℕ) (b : Body) → window ≤ 7 → (ch : Channel) (e : Epoch) → Agrees window ch e → Agrees window (owing (received role window c ch b)) (after_packet role window c b ch e)
+received_agrees role window c b le ch e k = received_by role window c ch.state ch.resetting ch.owed ch.traffic e b le k
 
 -- one that cannot be read
 unreadable_by : (role : Role) (window c : ℕ) (unknown : Bool) (s : CallState) (rs : Bool) (o : List Body) (t : Traffic) (e : Epoch) → Counts window s rs o t e → StepAgrees window (unreadable_in s role c unknown (channel_in s rs o t)) e

@@ -21,12 +21,11 @@ use Rattle.packet_laws.proofs.Line.Lines.{nth_same, nth_other}
 use Rattle.packet_laws.proofs.Line.Outcomes.{Freed, free_is, given_ready}
 use Rattle.layer_laws.specs.Epochs as epochs
 use Rattle.layer_laws.specs.Epochs.{Epochs, all_begun, after_request, after_packet, after_unreadable}
-use Rattle.layer_laws.specs.Acts.{Act, CanBe, layer_after, epochs_after, start}
+use Rattle.layer_laws.specs.Acts.{Act, layer_after, epochs_after, start}
 use Rattle.layer_laws.specs.Acts.Act.{Up, Down, Calls, Requests, Expires, Arrives, Offers, Reads}
 use Rattle.layer_laws.specs.Counts.{HasNoNumber, Agrees, AllCounts, AllAgree, IsNamed, IsNamedAmong}
 use Rattle.layer_laws.proofs.Channels.{owed_controls, closed_agrees, clears, received_agrees, unreadable_agrees, requested_agrees, places}
 use Rattle.layer_laws.proofs.Saying.{no_number, NextAgrees, next_agrees}
-use Rattle.layer_laws.proofs.Octets.{HasNumbers, heard_numbers}
 
 -- a layer with this window agrees with these epochs
 pub record Follows (window : ℕ) (l : Layer) (es : Epochs) : Type 0 where
@@ -127,28 +126,28 @@ restart_follows OwnRestart window RestartConfirmation l es k = record { window_i
 restart_follows OwnRestart window _ l es k = k
 restart_follows NoSession window _ l es k = k
 
-received_follows : (window : ℕ) (l : Layer) (r : Received) (es : Epochs) → window ≤ 7 → HasNumbers r → Follows window l es → Follows window (on_received l r) (epochs.on_received l r es)
-received_follows window l (Whole p) es le numbered k =
+received_follows : (window : ℕ) (l : Layer) (r : Received) (es : Epochs) → window ≤ 7 → Follows window l es → Follows window (on_received l r) (epochs.on_received l r es)
+received_follows window l (Whole p) es le k =
     both (λ (x : Layer) (y : Epochs). Follows window x y) (p.channel == 0) _ _ _ _ (restart_follows l.phase window p.body l es k)
     (channel_follows l.phase window l es p.channel (λ ch. received l.role l.window p.channel ch p.body) (λ ch e. after_packet l.role l.window p.channel p.body ch e) step k)
   where
     step : (ch : Channel) (e : Epoch) → Agrees window ch e → Agrees window (owing (received l.role l.window p.channel ch p.body)) (after_packet l.role l.window p.channel p.body ch e)
     step ch e good =
         subst (λ (n : ℕ). Agrees window (owing (received l.role n p.channel ch p.body)) (after_packet l.role n p.channel p.body ch e)) (sym k.window_is)
-        (received_agrees l.role window p.channel p.body le numbered ch e good)
-received_follows window l (Unknown c) es le numbered k =
+        (received_agrees l.role window p.channel p.body le ch e good)
+received_follows window l (Unknown c) es le k =
     channel_follows l.phase window l es c (λ ch. unreadable l.role c true ch) (λ ch e. after_unreadable l.role c true ch e) (λ ch e good. unreadable_agrees l.role window c true ch e good) k
-received_follows window l (Faulty c) es le numbered k =
+received_follows window l (Faulty c) es le k =
     channel_follows l.phase window l es c (λ ch. unreadable l.role c false ch) (λ ch e. after_unreadable l.role c false ch e) (λ ch e good. unreadable_agrees l.role window c false ch e good) k
 
 read_again : (window : ℕ) (l : Layer) (es : Epochs) → Follows window l es → Follows window (unread l) es
 read_again window l es k = record { window_is = k.window_is; counts = k.counts }
 
-hearing_follows : (window : ℕ) (l : Layer) (o : Option Received) (es : Epochs) → window ≤ 7 → IfAny HasNumbers o → Follows window l es → Follows window (after_hearing (unread l) o) (epochs.on_hearing l o es)
-hearing_follows window l None es le numbered k = read_again window l es k
-hearing_follows window l (Some (Whole p)) es le numbered k = received_follows window (unread l) (Whole p) es le numbered (read_again window l es k)
-hearing_follows window l (Some (Unknown c)) es le numbered k = received_follows window (unread l) (Unknown c) es le numbered (read_again window l es k)
-hearing_follows window l (Some (Faulty c)) es le numbered k = received_follows window (unread l) (Faulty c) es le numbered (read_again window l es k)
+hearing_follows : (window : ℕ) (l : Layer) (o : Option Received) (es : Epochs) → window ≤ 7 → Follows window l es → Follows window (after_hearing (unread l) o) (epochs.on_hearing l o es)
+hearing_follows window l None es le k = read_again window l es k
+hearing_follows window l (Some (Whole p)) es le k = received_follows window (unread l) (Whole p) es le (read_again window l es k)
+hearing_follows window l (Some (Unknown c)) es le k = received_follows window (unread l) (Unknown c) es le (read_again window l es k)
+hearing_follows window l (Some (Faulty c)) es le k = received_follows window (unread l) (Faulty c) es le (read_again window l es k)
 
 -- ---- timers
 
@@ -237,12 +236,12 @@ up_follows window l es k = record { window_is = k.window_is; counts = closed_all
 down_follows : (window : ℕ) (l : Layer) (es : Epochs) → Follows window l es → Follows window (link_down l) all_begun
 down_follows window l es k = record { window_is = k.window_is; counts = closed_all window l.channels [] tt }
 
-pub act_follows : (act : Act) (window : ℕ) (l : Layer) (es : Epochs) → window ≤ 7 → CanBe act → Follows window l es → Follows window (layer_after act l) (epochs_after act l es)
-act_follows Up window l es le can k = up_follows window l es k
-act_follows Down window l es le can k = down_follows window l es k
-act_follows (Calls parts) window l es le can k = call_follows window l parts es k
-act_follows (Requests c r) window l es le can k = request_follows window l c r es le k
-act_follows (Expires id) window l es le can k = timer_follows window l (timer_named l.role id) es k
-act_follows (Arrives octets) window l es le can k = hearing_follows window l (heard octets) es le (heard_numbers octets can) k
-act_follows Offers window l es le can k = (gives window l es le k).0
-act_follows Reads window l es le can k = record { window_is = k.window_is; counts = k.counts }
+pub act_follows : (act : Act) (window : ℕ) (l : Layer) (es : Epochs) → window ≤ 7 → Follows window l es → Follows window (layer_after act l) (epochs_after act l es)
+act_follows Up window l es le k = up_follows window l es k
+act_follows Down window l es le k = down_follows window l es k
+act_follows (Calls parts) window l es le k = call_follows window l parts es k
+act_follows (Requests c r) window l es le k = request_follows window l c r es le k
+act_follows (Expires id) window l es le k = timer_follows window l (timer_named l.role id) es k
+act_follows (Arrives octets) window l es le k = hearing_follows window l (heard octets) es le k
+act_follows Offers window l es le k = (gives window l es le k).0
+act_follows Reads window l es le k = record { window_is = k.window_is; counts = k.counts }

@@ -3,8 +3,7 @@ use Rattle.std.proofs.Common.{ℕ, ◌≤◌, Bool, true, List, [], ◌∷◌, r
 use Rattle.link_timers.specs.declared.role.Role.{Role}
 use Rattle.link_timers.specs.declared.role.Role.TheVariants.{Dte}
 use Rattle.packet_layer.specs.Params.{AreParams}
-use Rattle.packet_laws.specs.Readable.{Every}
-use Rattle.layer_laws.specs.Acts.{World, Act, CanBe, start, after, run}
+use Rattle.layer_laws.specs.Acts.{World, Act, start, after, run}
 use Rattle.layer_laws.specs.Counts.{AllCounts, AllAgree}
 use Rattle.layer_laws.specs.Law.{CallsLaw, NamedLaw, Always, IsNextNamed, ResetsInTransfer}
 use Rattle.layer_laws.specs.Run.{sends, covers, takes, errs, begins, sent, covered, taken, reset, RunLaw}
@@ -19,66 +18,53 @@ follows : (w : World) → AllAgree w → Follows w.layer.window w.layer w.epochs
 follows w k = record { window_is = refl; counts = k }
 
 pub calls : CallsLaw
-calls w act le can k =
-    let f = act_follows act w.layer.window w.layer w.epochs le can (follows w k) in
+calls w act le k =
+    let f = act_follows act w.layer.window w.layer w.epochs le (follows w k) in
     subst (λ (n : ℕ). AllCounts n (after act w).layer.channels (after act w).layer.owed (after act w).epochs) (sym f.window_is) f.counts
 
 pub named : NamedLaw
 named w le k = (gives w.layer.window w.layer w.epochs le (follows w k)).1
 
-after_fits : (act : Act) (w : World) → CanBe act → Fits w → Fits (after act w)
-after_fits act w can f =
-    let g = act_follows act w.layer.window w.layer w.epochs f.window can (follows w f.agrees) in
-    record { window = subst (λ (n : ℕ). n ≤ 7) (sym g.window_is) f.window; agrees = calls w act f.window can f.agrees }
+after_fits : (act : Act) (w : World) → Fits w → Fits (after act w)
+after_fits act w f =
+    let g = act_follows act w.layer.window w.layer w.epochs f.window (follows w f.agrees) in
+    record { window = subst (λ (n : ℕ). n ≤ 7) (sym g.window_is) f.window; agrees = calls w act f.window f.agrees }
 
-pub run_fits : (acts : List Act) (w : World) → Every CanBe acts → Fits w → Fits (run acts w)
-run_fits [] w can f = f
-run_fits (act ∷ acts) w can f = run_fits acts (after act w) can.1 (after_fits act w can.0 f)
+pub run_fits : (acts : List Act) (w : World) → Fits w → Fits (run acts w)
+run_fits [] w f = f
+run_fits (act ∷ acts) w f = run_fits acts (after act w) (after_fits act w f)
 
 start_fits : (role : Role) (channels window : ℕ) (standing : Bool) → window ≤ 7 → Fits (start role channels window standing)
 start_fits role channels window standing le = record { window = le; agrees = made_agrees role channels window standing }
 
 always_fits : Always Fits
-always_fits role channels window standing acts params can = run_fits acts (start role channels window standing) can (start_fits role channels window standing params.window_most)
+always_fits role channels window standing acts params = run_fits acts (start role channels window standing) (start_fits role channels window standing params.window_most)
 
 pub always : Always AllAgree
-always role channels window standing acts params can = (always_fits role channels window standing acts params can).agrees
+always role channels window standing acts params = (always_fits role channels window standing acts params).agrees
 
 pub always_named : Always IsNextNamed
-always_named role channels window standing acts params can =
-    let f = always_fits role channels window standing acts params can in
+always_named role channels window standing acts params =
+    let f = always_fits role channels window standing acts params in
     named (run acts (start role channels window standing)) f.window f.agrees
 
 pub resets : Always ResetsInTransfer
-resets role channels window standing acts params can c ch found out =
-    (((always_fits role channels window standing acts params can).agrees.each c ch found).unused out).not_resetting
+resets role channels window standing acts params c ch found out =
+    (((always_fits role channels window standing acts params).agrees.each c ch found).unused out).not_resetting
 
 -- ---- a run
 
 two : AreParams 1 2
 two = record { channels_least = omega arith; channels_most = omega arith; window_least = omega arith; window_most = omega arith }
 
-can_cover : Every CanBe covers
-can_cover = (tt, ((omega arith, (omega arith, (omega arith, tt))), tt))
-
-can_take : Every CanBe takes
-can_take = ((omega arith, (omega arith, (omega arith, (omega arith, (omega arith, tt))))), (tt, (tt, tt)))
-
-can_err : Every CanBe errs
-can_err = ((omega arith, (omega arith, (omega arith, tt))), tt)
-
-can_begin : Every CanBe begins
-can_begin = (tt, ((omega arith, (omega arith, (omega arith, tt))), (tt, tt)))
-
 begun_fits : Fits (run begins reset)
 begun_fits =
-    run_fits begins reset can_begin
-    (run_fits errs taken can_err (run_fits takes covered can_take (run_fits covers sent can_cover (run_fits sends (start Dte 1 2 true) (tt, (tt, (tt, tt))) (start_fits Dte 1 2 true two.window_most)))))
+    run_fits begins reset
+    (run_fits errs taken (run_fits takes covered (run_fits covers sent (run_fits sends (start Dte 1 2 true) (start_fits Dte 1 2 true two.window_most)))))
 
 pub run_holds : RunLaw
 run_holds = record {
   parameters = two;
-  acts = ((tt, (tt, (tt, tt))), (can_cover, (can_take, (can_err, (can_begin, tt)))));
   second_place = refl;
   one_covered = refl;
   all_covered = refl;

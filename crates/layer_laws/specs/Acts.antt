@@ -1,5 +1,5 @@
 -- The calls of a packet layer that change it, and what they make of it and of the epochs of its channels.
-use Rattle.std.specs.Prelude.{ℕ, ◌<◌, Bool, List, [], ◌∷◌, drop}
+use Rattle.std.specs.Prelude.{ℕ, Bool, List, [], ◌∷◌, drop}
 use Rattle.link_timers.specs.declared.role.Role.{Role}
 use Rattle.link_timers.specs.declared.timers.TimerId.{TimerId}
 use Rattle.packet_layer.specs.Packets.{CallParts}
@@ -7,7 +7,6 @@ use Rattle.packet_layer.specs.Channel.{Request}
 use Rattle.packet_layer.specs.Layer.{Layer, channel_of, made, link_up, link_down, call, request, next_packet}
 use Rattle.packet_layer.specs.Events.{on_octets, on_named, timer_named}
 use Rattle.packet_layer.specs.Octets.{heard}
-use Rattle.packet_laws.specs.Readable.{Every}
 use Rattle.layer_laws.specs.Epochs.{Epochs, after_request, all_begun, on_found, on_hearing, on_timer}
 
 -- a packet layer with the present epochs of its channels
@@ -59,8 +58,3 @@ after act w = record { layer = layer_after act w.layer; epochs = epochs_after ac
 abbrev pub run : List Act → World → World
 run [] w = w
 run (act ∷ acts) w = run acts (after act w)
-
--- what the link brings are octets
-abbrev pub CanBe : Act → Type 0
-CanBe (Arrives octets) = Every (λ x. x < 256) octets
-CanBe act = Unit {0}

@@ -6,8 +6,7 @@ use Rattle.packet_layer.specs.Channel.{Channel, in_transfer}
 use Rattle.packet_layer.specs.Layer.{channel_of, next_packet}
 use Rattle.packet_layer.specs.Params.{AreParams}
 use Rattle.packet_laws.specs.History.{empty_epoch}
-use Rattle.packet_laws.specs.Readable.{Every}
-use Rattle.layer_laws.specs.Acts.{World, Act, CanBe, start, after, run}
+use Rattle.layer_laws.specs.Acts.{World, Act, start, after, run}
 use Rattle.layer_laws.specs.Counts.{AllAgree, IsNamedAmong, Grows}
 
 -- a layer as it is made agrees with epochs in which nothing was done
@@ -16,7 +15,7 @@ MadeLaw = (role : Role) (channels window : ℕ) (standing : Bool) → AllAgree (
 
 -- whichever epochs agree with a layer before a call, those that the call makes of them agree with it after the call
 abbrev pub CallsLaw : Type 0
-CallsLaw = (w : World) (act : Act) → w.layer.window ≤ 7 → CanBe act → AllAgree w → AllAgree (after act w)
+CallsLaw = (w : World) (act : Act) → w.layer.window ≤ 7 → AllAgree w → AllAgree (after act w)
 
 -- it makes each of them longer, leaves it as it is, or begins it anew
 abbrev pub GrowsLaw : Type 0
@@ -33,7 +32,7 @@ NamedLaw = (w : World) → w.layer.window ≤ 7 → AllAgree w → IsNextNamed w
 -- it holds of whatever calls in any order make of a layer, with its epochs, from its making on
 abbrev pub Always : (World → Type 0) → Type 0
 Always P = (role : Role) (channels window : ℕ) (standing : Bool) (acts : List Act)
-    → AreParams channels window → Every CanBe acts → P (run acts (start role channels window standing))
+    → AreParams channels window → P (run acts (start role channels window standing))
 
 -- an own reset is unconfirmed in data transfer alone
 abbrev pub ResetsInTransfer : World → Type 0

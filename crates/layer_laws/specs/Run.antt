@@ -7,8 +7,7 @@ use Rattle.packet_layer.specs.Channel.Request.{Sending, Taking, Releasing}
 use Rattle.packet_layer.specs.Layer.{next_packet}
 use Rattle.packet_layer.specs.Params.{AreParams}
 use Rattle.packet_laws.specs.History.{empty_epoch}
-use Rattle.packet_laws.specs.Readable.{Every}
-use Rattle.layer_laws.specs.Acts.{World, Act, CanBe, start, run}
+use Rattle.layer_laws.specs.Acts.{World, Act, start, run}
 use Rattle.layer_laws.specs.Acts.Act.{Requests, Arrives, Offers}
 use Rattle.layer_laws.specs.Counts.{AllAgree}
 
@@ -57,7 +56,6 @@ GoesNext w b = (next_packet w.layer).packet ≡ Some (record { channel = 1; body
 
 pub record RunLaw : Type 0 where
   pub parameters : AreParams 1 2
-  pub acts : Every (λ part. Every CanBe part) (sends ∷ covers ∷ takes ∷ errs ∷ begins ∷ [])
   pub second_place : GoesNext sent (Data 1 0 letter)
   pub one_covered : (covered.epochs 1).covered ≡ 1
   pub all_covered : (taken.epochs 1).covered ≡ 2

@@ -179,12 +179,16 @@ pub data Heard : Type 0 where
   Confirms : Traffic → Heard
   Wrong : (diagnostic : ℕ) → Heard
 
--- a P(R) is valid if it names a packet that is not covered yet, or the next one to be sent
+-- a P(R) is valid if it names a packet that is not covered yet, or the next one to be sent; it counts by how many
+-- packets it covers
 abbrev pub covers : ℕ → Traffic → Heard
 covers receive t =
     if nat_le (distance t.covered receive) (in_flight t)
     then Heard.Keeps (distance t.covered receive)
-    (record t { covered = receive; undelivered = t.undelivered - distance t.covered receive })
+    (record t {
+      covered = (t.covered + distance t.covered receive) % 8;
+      undelivered = t.undelivered - distance t.covered receive;
+    })
     else Heard.Wrong invalid_receive_number
 
 abbrev pub keeps : (Traffic → Traffic) → Heard → Heard

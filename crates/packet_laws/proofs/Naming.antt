@@ -8,8 +8,8 @@ use Rattle.packet_layer.specs.Traffic.{Traffic, Said, queue, Heard, distance, in
 use Rattle.packet_layer.specs.Channel.{Request, traffic_after}
 use Rattle.packet_layer.specs.Channel.Request.{Sending, Interrupting, Stopping, Taking, Releasing, Confirming}
 use Rattle.packet_laws.specs.History.{Epoch, logged, with_taken}
-use Rattle.packet_laws.specs.Counts.{NamesCounts, NamesPlace, NamesAfter, NamesNext, IsNumbered, AreDelivered, CountsLaw, or_first, through_delivery}
-use Rattle.packet_laws.proofs.Numbers.{more_mod, named_mod, flight_is, unreleased_is, uncovered_is}
+use Rattle.packet_laws.specs.Counts.{NamesCounts, NamesPlace, NamesAfter, NamesNext, AreDelivered, CountsLaw, or_first, through_delivery}
+use Rattle.packet_laws.proofs.Numbers.{more_mod, flight_is, unreleased_is, uncovered_is}
 use Rattle.packet_laws.proofs.Call.Saying.{by_cond, and_parts}
 use Rattle.packet_laws.proofs.Call.Asking.{same_length}
 
@@ -161,7 +161,7 @@ asked_release window n t e seven k = by_test (may_release n t) (λ may. leb-true
           covered_went = k.covered_went;
           went_within = k.went_within;
           expected_is = k.expected_is;
-          released_is = ap (λ (r : ℕ). (r + n) % 8) k.released_is ∙ more_mod e.released n;
+          released_is = more_mod t.released e.released n k.released_is;
           released_taken = omega arith;
           came_within = omega arith;
           undelivered_is = k.undelivered_is;
@@ -262,9 +262,9 @@ names_said window seven t e n = let s = named_says window t e seven (into window
 
 -- ---- heard
 
-heard_cover : (window r : ℕ) (t : Traffic) (e : Epoch) → window ≤ 7 → r < 8 → nat_le (distance t.covered r) (in_flight t) ≡ true → Of window t e
-    → Of window (record t { covered = r; undelivered = t.undelivered - distance t.covered r }) (record e { covered = e.covered + distance t.covered r })
-heard_cover window r t e seven lt valid k =
+heard_cover : (window r : ℕ) (t : Traffic) (e : Epoch) → window ≤ 7 → nat_le (distance t.covered r) (in_flight t) ≡ true → Of window t e
+    → Of window (record t { covered = (t.covered + distance t.covered r) % 8; undelivered = t.undelivered - distance t.covered r }) (record e { covered = e.covered + distance t.covered r })
+heard_cover window r t e seven valid k =
     let le : distance t.covered r ≤ in_flight t = leb-true (distance t.covered r) (in_flight t) valid in
     let flight = flight_is window t e seven (back window t e k) in
     let within = k.went_within in
@@ -273,7 +273,7 @@ heard_cover window r t e seven lt valid k =
       gone = k.gone;
       sent_is = k.sent_is;
       send_is = k.send_is;
-      covered_is = named_mod t.covered e.covered r k.covered_is lt;
+      covered_is = more_mod t.covered e.covered (distance t.covered r) k.covered_is;
       covered_went = omega arith;
       went_within = omega arith;
       expected_is = k.expected_is;
@@ -283,18 +283,18 @@ heard_cover window r t e seven lt valid k =
       undelivered_is = omega arith;
     }
 
-heard_ready : (window : ℕ) (busy : Bool) (r : ℕ) (t : Traffic) (e : Epoch) (b : Body) → window ≤ 7 → r < 8 → NamesNext t e b → Of window t e
+heard_ready : (window : ℕ) (busy : Bool) (r : ℕ) (t : Traffic) (e : Epoch) (b : Body) → window ≤ 7 → NamesNext t e b → Of window t e
     → NamesAfter window (keeps (λ u. partner_says busy u) (covers r t)) t e b
-heard_ready window busy r t e b seven lt next k =
+heard_ready window busy r t e b seven next k =
     by_cond (λ (h : Heard). NamesAfter window (keeps (λ u. partner_says busy u) h) t e b) (nat_le (distance t.covered r) (in_flight t)) _ _
-    (λ h. (back window _ _ (heard_cover window r t e seven lt h k), next)) (λ h. tt)
+    (λ h. (back window _ _ (heard_cover window r t e seven h k), next)) (λ h. tt)
 
-heard_datum : (window : ℕ) (s r : ℕ) (d : Datum) (t : Traffic) (e : Epoch) → window ≤ 7 → r < 8 → s ≡ t.receive_number → unreleased t < window → Of window t e
+heard_datum : (window : ℕ) (s r : ℕ) (d : Datum) (t : Traffic) (e : Epoch) → window ≤ 7 → s ≡ t.receive_number → unreleased t < window → Of window t e
     → NamesAfter window (keeps (λ u. arrives d u) (covers r t)) t e (Data s r d)
-heard_datum window s r d t e seven lt number room k =
+heard_datum window s r d t e seven number room k =
     by_cond (λ (h : Heard). NamesAfter window (keeps (λ u. arrives d u) h) t e (Data s r d)) (nat_le (distance t.covered r) (in_flight t)) _ _
     (λ h.
-    let c = heard_cover window r t e seven lt h k in
+    let c = heard_cover window r t e seven h k in
     let len = length-append t.arrived (d ∷ []) in
     let expected = k.expected_is in
     let count = unreleased_is window t e seven (back window t e k) in
@@ -315,24 +315,24 @@ heard_datum window s r d t e seven lt number room k =
       number ∙ expected,
     )) (λ h. tt)
 
-names_heard : (window : ℕ) → window ≤ 7 → (t : Traffic) (e : Epoch) (b : Body) → IsNumbered b → NamesCounts window t e → NamesAfter window (hears window t b) t e b
-names_heard window seven t e (Data s r d) lt n =
+names_heard : (window : ℕ) → window ≤ 7 → (t : Traffic) (e : Epoch) (b : Body) → NamesCounts window t e → NamesAfter window (hears window t b) t e b
+names_heard window seven t e (Data s r d) n =
     by_cond (λ (h : Heard). NamesAfter window h t e (Data s r d)) ((s == t.receive_number) && nat_lt (unreleased t) window) _ _
     (λ h.
     let both = and_parts (s == t.receive_number) (nat_lt (unreleased t) window) h in
-    heard_datum window s r d t e seven lt (eqb-true s t.receive_number both.0) (ltb-true (unreleased t) window both.1) (into window t e n)) (λ h. tt)
-names_heard window seven t e (ReceiveReady r) lt n = heard_ready window false r t e (ReceiveReady r) seven lt tt (into window t e n)
-names_heard window seven t e (ReceiveNotReady r) lt n = heard_ready window true r t e (ReceiveNotReady r) seven lt tt (into window t e n)
-names_heard window seven t e (Interrupt octets) lt n =
+    heard_datum window s r d t e seven (eqb-true s t.receive_number both.0) (ltb-true (unreleased t) window both.1) (into window t e n)) (λ h. tt)
+names_heard window seven t e (ReceiveReady r) n = heard_ready window false r t e (ReceiveReady r) seven tt (into window t e n)
+names_heard window seven t e (ReceiveNotReady r) n = heard_ready window true r t e (ReceiveNotReady r) seven tt (into window t e n)
+names_heard window seven t e (Interrupt octets) n =
     let k = into window t e n in
     by_cond (λ (h : Heard). NamesAfter window h t e (Interrupt octets)) (interrupted t) _ _ (λ h. tt)
     (λ h. (back window _ _ (none_more window t e k), tt))
   where
     none_more : (window : ℕ) (t : Traffic) (e : Epoch) → Of window t e → Of window t (record e { covered = e.covered + 0 })
     none_more window t e k = let same : e.covered ≡ e.covered + 0 = omega arith in subst (λ (c : ℕ). Of window t (record e { covered = c })) same k
-names_heard window seven t e InterruptConfirmation lt n =
+names_heard window seven t e InterruptConfirmation n =
     by_cond (λ (h : Heard). NamesAfter window h t e InterruptConfirmation) t.interrupt_unconfirmed _ _ (λ h. back window _ _ (into window t e n)) (λ h. tt)
-names_heard window seven t e _ lt n = tt
+names_heard window seven t e _ n = tt
 
 pub counts_hold : CountsLaw
 counts_hold = record {

@@ -12,11 +12,8 @@ use Rattle.packet_laws.specs.Counts.{NamesCounts}
 pub apart : (a b low high : ℕ) → a ≡ low % 8 → b ≡ high % 8 → low ≤ high → high ≤ low + 7 → low + distance a b ≡ high
 apart a b low high from to le within = omega arith
 
-pub more_mod : (k n : ℕ) → (k % 8 + n) % 8 ≡ (k + n) % 8
-more_mod k n = omega arith
-
-pub named_mod : (a c r : ℕ) → a ≡ c % 8 → r < 8 → r ≡ (c + distance a r) % 8
-named_mod a c r from lt = omega arith
+pub more_mod : (a count n : ℕ) → a ≡ count % 8 → (a + n) % 8 ≡ (count + n) % 8
+more_mod a count n is = omega arith
 
 -- what went and is not covered is in flight
 pub flight_is : (window : ℕ) (t : Traffic) (e : Epoch) → window ≤ 7 → (k : NamesCounts window t e) → e.covered + in_flight t ≡ length k.gone

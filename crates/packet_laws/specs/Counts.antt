@@ -45,13 +45,6 @@ NamesPlace e waiting (Some (ReceiveReady receive)) = receive ≡ e.released % 8
 NamesPlace e waiting (Some (ReceiveNotReady receive)) = receive ≡ e.released % 8
 NamesPlace e waiting o = Unit {0}
 
--- numbers read from a packet are below 8
-abbrev pub IsNumbered : Body → Type 0
-IsNumbered (Data send receive d) = receive < 8
-IsNumbered (ReceiveReady receive) = receive < 8
-IsNumbered (ReceiveNotReady receive) = receive < 8
-IsNumbered b = Unit {0}
-
 -- a Data packet that is kept has the P(S) that names how many came before it
 abbrev pub NamesNext : Traffic → Epoch → Body → Type 0
 NamesNext t e (Data send receive d) = send ≡ (length e.taken + length t.arrived) % 8
@@ -75,6 +68,6 @@ pub record CountsLaw : Type 0 where
       → NamesCounts window (traffic_after r t) (logged t r e)
   pub said : (window : ℕ) → window ≤ 7 → (t : Traffic) (e : Epoch) → NamesCounts window t e
       → NamesCounts window (says window t).traffic e × NamesPlace e (says window t).traffic.waiting (says window t).body
-  pub heard : (window : ℕ) → window ≤ 7 → (t : Traffic) (e : Epoch) (b : Body) → IsNumbered b → NamesCounts window t e
+  pub heard : (window : ℕ) → window ≤ 7 → (t : Traffic) (e : Epoch) (b : Body) → NamesCounts window t e
       → NamesAfter window (hears window t b) t e b
   pub delivered : (window : ℕ) (t : Traffic) (e : Epoch) → NamesCounts window t e → (t.undelivered ≡ 0) ↔ AreDelivered e

@@ -14,7 +14,6 @@ use Rattle.switch_lines.specs.Switch.{Switch, with_end, acted, all_begun, may_of
 use Rattle.switch_lines.specs.Waiting.{other_at, AreInPairs}
 use Rattle.switch_lines.specs.Alone.{relayed_alone, rounds_alone, on_frame_alone, on_expiry_alone}
 use Rattle.switch_lines.proofs.Rounds.{from_both}
-use Rattle.packet_laws.specs.Readable.{AreOctets}
 use Rattle.switch_laws.specs.World.{World}
 use Rattle.switch_laws.specs.Joined.{IsSwitch, HasRelayedAll, has_place_on}
 use Rattle.switch_laws.specs.Concern.{is_one_of, joined_to, is_concerned, HasRelayedBut, before_relay, ConcernLaw}
@@ -24,7 +23,7 @@ use Rattle.switch_laws.proofs.Rounds.{from_lines, offers_all}
 use Rattle.switch_laws.proofs.Relaying.{StuckAt, Among, relays_from, among_here, among_left, among_right, among_nth}
 use Rattle.switch_laws.proofs.Relaying.Among.{first, later}
 use Rattle.switch_laws.proofs.Concerning.{stuck_stays, relays, frame, timer, offers, event_but, before_right, offered_but}
-use Rattle.switch_laws.proofs.Finishing.{begun_right, came, ran, readable, offers_from}
+use Rattle.switch_laws.proofs.Finishing.{begun_right, came, ran, offers_from}
 
 -- ---- both legs of a join of these lines are among those that are relayed
 
@@ -117,10 +116,10 @@ event_alone n f s w v i k all =
     let r = before_right n f s v k in
     ap (λ (ms : List SwitchLine). map (with_end settled) ms) (alone (7 * length rs) (lines_first n s.routes (acted s.routes n f (all_begun s.lines))) rs r.world r.right (event_but n f s w v i k all))
 
-frame_alone : (n : ℕ) (octets : List ℕ) (s : Switch) (w : World) → AreOctets octets → IsSwitch s.lines w → HasRelayedAll s.lines → on_frame_alone n octets s ≡ on_frame n octets s
-frame_alone n octets s w are i all =
+frame_alone : (n : ℕ) (octets : List ℕ) (s : Switch) (w : World) → IsSwitch s.lines w → HasRelayedAll s.lines → on_frame_alone n octets s ≡ on_frame n octets s
+frame_alone n octets s w i all =
     let b = begun_right s.lines w i in
-    let c = came n octets s.routes s.lines w (readable n octets s.lines are) i in
+    let c = came n octets s.routes s.lines w i in
     ap (λ (ms : List SwitchLine). record s { lines = ms }) (event_alone n (λ e. received e octets) s b.world c.world b.right c.right all)
 
 timer_alone : (n : ℕ) (id : TimerId) (s : Switch) (w : World) → IsSwitch s.lines w → HasRelayedAll s.lines → on_expiry_alone n id s ≡ on_expiry n id s

@@ -17,7 +17,6 @@ use Rattle.switch_lines.specs.declared.channels.Joined.{Joined}
 use Rattle.switch_lines.specs.Lines.{SwitchLine, same_place, joined_on, joined_at, front_at, front_of_line, refusal_at, refusal_of_line, places}
 use Rattle.switch_lines.specs.Relay.{moved_joined, moved_front, moved_unless, relayed, relayed_from, all_relayed, most_moves}
 use Rattle.switch_lines.specs.Switch.{Switch, acted, all_begun, may_offer, offering_from, offered_from, to_relink, relinked_at, all_relinked, relinks_of}
-use Rattle.packet_laws.specs.Readable.{AreOctets}
 use Rattle.switch_laws.specs.Steps.{acts_of_all}
 use Rattle.switch_laws.specs.Steps.Happening.{Relinks}
 use Rattle.switch_laws.specs.EventSteps.{relayed_steps, all_relinked_steps}
@@ -34,7 +33,7 @@ use Rattle.switch_laws.proofs.Staying.{IsOther, acted_beside}
 use Rattle.switch_laws.proofs.Turning.{relinked_effect, acted_right}
 use Rattle.switch_laws.proofs.Keeping.{layers_on_ends, joined_on_ends}
 use Rattle.switch_laws.proofs.Newness.{before_joins}
-use Rattle.switch_laws.proofs.Finishing.{begun_right, came, ran, readable, none_relinks, all_relinks, offers_from}
+use Rattle.switch_laws.proofs.Finishing.{begun_right, came, ran, none_relinks, all_relinks, offers_from}
 
 -- ---- joins that are passed over
 
@@ -196,11 +195,11 @@ pub before_right : (n : ℕ) (f : PacketEnd → PacketEnd) (s : Switch) (v : Wor
     → Becomes (acts_of_all (all_relinked_steps (length (acted s.routes n f (all_begun s.lines))) s.routes (acted s.routes n f (all_begun s.lines))) (acted s.routes n f (all_begun s.lines))) (acted s.routes n f (all_begun s.lines)) v (before_relay n f s)
 before_right n f s v k = let ms = acted s.routes n f (all_begun s.lines) in all_relinks (length ms) s.routes ms v k
 
-pub frame : (n : ℕ) (octets : List ℕ) (s : Switch) (w : World) → AreOctets octets → IsSwitch s.lines w → HasRelayedAll s.lines
+pub frame : (n : ℕ) (octets : List ℕ) (s : Switch) (w : World) → IsSwitch s.lines w → HasRelayedAll s.lines
     → RelaysItsOwn n (λ e. received e octets) s
-frame n octets s w are i all =
+frame n octets s w i all =
     let b = begun_right s.lines w i in
-    let c = came n octets s.routes s.lines w (readable n octets s.lines are) i in
+    let c = came n octets s.routes s.lines w i in
     let r = before_right n (λ e. received e octets) s c.world c.right in
     relays (lines_of_event n (λ e. received e octets) s) (before_relay n (λ e. received e octets) s) r.world r.right (event_but n (λ e. received e octets) s b.world c.world b.right c.right all)
 

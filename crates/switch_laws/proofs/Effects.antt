@@ -26,7 +26,7 @@ use Rattle.switch_lines.specs.Switch.{heed}
 use Rattle.switch_laws.specs.Leg.{Leg, stepped, heard, misheard, heard_epoch}
 use Rattle.switch_laws.specs.Join.{IsJoin}
 use Rattle.switch_laws.specs.Join as join
-use Rattle.switch_laws.specs.World.{World, Shown, shown_of, shown_as, shown_on, shown_at, layers_of, Act, MayHappen, IsReadAs, world_after, leg_after, line_of, closed, restarted, came_in, ran_out, cleared_if}
+use Rattle.switch_laws.specs.World.{World, Shown, shown_of, shown_as, shown_on, shown_at, layers_of, Act, MayHappen, world_after, leg_after, line_of, closed, restarted, came_in, ran_out, cleared_if}
 use Rattle.switch_laws.specs.World.Act.{Comes, Expires, GoesUp, GoesDown}
 use Rattle.switch_laws.specs.Joined.{IsPair, IsOver, IsSwitchBefore, IsSwitch, Reached, HasActed, IsTold, notes_made, has_place}
 use Rattle.switch_laws.proofs.Lists.{decided}
@@ -71,12 +71,12 @@ epoch_kept Transfer rs h e = inr refl
 epoch_kept Collision rs h e = inl refl
 epoch_kept OwnClear rs h e = inl refl
 
-hears_step : (d : ℕ) (p : Body) → IsReadAs (Whole (record { channel = d; body = p }))
+hears_step : (d : ℕ) (p : Body)
     → IsStep d (λ s. received s.role s.window d s.channel p) (λ g. heard_epoch g.channel.state g.channel.resetting (hears g.window g.channel.traffic p) g.epoch)
-hears_step d p numbered = record {
+hears_step d p = record {
   notes_of_it = λ s. received_notes s.role s.window d p s.channel;
   outcome = λ s. received_outcome s.role s.window d p s.channel;
-  goes = λ g h there back state i. hears_right d p (record { a = h; b = g; there = there; back = back }) numbered state i;
+  goes = λ g h there back state i. hears_right d p (record { a = h; b = g; there = there; back = back }) state i;
   epoch = λ g. epoch_kept g.channel.state g.channel.resetting (hears g.window g.channel.traffic p) g.epoch;
   calls = λ n s. received_calls n s.role s.window d p s.channel;
 }
@@ -129,10 +129,10 @@ restart_effect n p l z ready = by_body p.body refl
     by_body RestartConfirmation e = closes_all LocalFault refl (leg RestartConfirmation e)
     by_body b e = nothing refl (leg b e)
 
-hears_effect : (n : ℕ) (p : Packet) (l : Layer) → (p.channel == 0) ≡ false → l.phase ≡ PacketReady → IsReadAs (Whole p)
+hears_effect : (n : ℕ) (p : Packet) (l : Layer) → (p.channel == 0) ≡ false → l.phase ≡ PacketReady
     → Effect (λ c g. leg_after (Comes n (Whole p)) (Some l) c g) l (on_found (unread l) p.channel (λ ch. received l.role l.window p.channel ch p.body) (channel_of (unread l) p.channel)).notes
-hears_effect n p l z ready numbered =
-    on_one p.channel _ _ (hears_step p.channel p.body numbered) (λ c g f. leg c g ∙ if_apart (c == p.channel) g _ f) (λ g. leg p.channel g ∙ if_here p.channel g _)
+hears_effect n p l z ready =
+    on_one p.channel _ _ (hears_step p.channel p.body) (λ c g f. leg c g ∙ if_apart (c == p.channel) g _ f) (λ g. leg p.channel g ∙ if_here p.channel g _)
     (λ e. found_none (unread l) p.channel (λ x. received l.role l.window p.channel x p.body) refl e) (λ ch e. found_some (unread l) p.channel (λ x. received l.role l.window p.channel x p.body) ch refl e)
   where
     leg : (c : ℕ) (g : Leg) → leg_after (Comes n (Whole p)) (Some l) c g ≡ (if c == p.channel then heard c p.body g else g)
@@ -155,13 +155,13 @@ by_test : (b : Bool) (x y : Layer) (a : Act) (l : Layer) → (b ≡ true → Eff
 by_test true x y a l f g = f refl
 by_test false x y a l f g = g refl
 
-whole_effect : (phase : Phase) (n : ℕ) (p : Packet) (l : Layer) → l.phase ≡ phase → IsReadAs (Whole p)
+whole_effect : (phase : Phase) (n : ℕ) (p : Packet) (l : Layer) → l.phase ≡ phase
     → Effect (λ c g. leg_after (Comes n (Whole p)) (Some l) c g) l (cond (p.channel == 0) (restart_packet phase p.body (unread l)) (on_channel phase (unread l) p.channel (λ ch. received l.role l.window p.channel ch p.body))).notes
-whole_effect PacketReady n p l e numbered = by_test (p.channel == 0) _ _ (Comes n (Whole p)) l (λ z. restart_effect n p l z e) (λ z. hears_effect n p l z e numbered)
-whole_effect OwnRestart n p l e numbered =
+whole_effect PacketReady n p l e = by_test (p.channel == 0) _ _ (Comes n (Whole p)) l (λ z. restart_effect n p l z e) (λ z. hears_effect n p l z e)
+whole_effect OwnRestart n p l e =
     by_test (p.channel == 0) _ _ (Comes n (Whole p)) l (λ z. nothing (own_restart_notes p.body l) (λ c g. ap (λ (ph : Phase). came_in ph (Whole p) c g) e))
     (λ z. nothing refl (λ c g. ap (λ (ph : Phase). came_in ph (Whole p) c g) e))
-whole_effect NoSession n p l e numbered =
+whole_effect NoSession n p l e =
     by_test (p.channel == 0) _ _ (Comes n (Whole p)) l (λ z. nothing refl (λ c g. ap (λ (ph : Phase). came_in ph (Whole p) c g) e)) (λ z. nothing refl (λ c g. ap (λ (ph : Phase). came_in ph (Whole p) c g) e))
 
 unknown_effect : (phase : Phase) (n d : ℕ) (l : Layer) → l.phase ≡ phase → Effect (λ c g. leg_after (Comes n (Unknown d)) (Some l) c g) l (on_channel phase (unread l) d (λ ch. unreadable l.role d true ch)).notes
@@ -196,7 +196,7 @@ expires_effect n t l =
     by_test (runs l t) _ _ (Expires n t) l (λ e. expired_effect n t l e) (λ e. nothing refl (λ c g. ap (λ (b : Bool). if b then ran_out t c g else g) e))
 
 pub effect : (a : Act) (l : Layer) → IsTold a → Effect (λ c g. leg_after a (Some l) c g) l (notes_made a (Some l))
-effect (Comes n (Whole p)) l m = whole_effect l.phase n p l refl m
+effect (Comes n (Whole p)) l m = whole_effect l.phase n p l refl
 effect (Comes n (Unknown d)) l m = unknown_effect l.phase n d l refl
 effect (Comes n (Faulty d)) l m = faulty_effect l.phase n d l refl
 effect (Expires n t) l m = expires_effect n t l

@@ -28,9 +28,7 @@ use Rattle.switch_laws.specs.Steps.Step.{Settles}
 use Rattle.switch_laws.specs.EventSteps.{relayed_first_steps, acted_steps, relinked_steps, all_relinked_steps, offered_steps, rounds_steps, finished_steps, event_acts}
 use Rattle.switch_laws.specs.Joined.{WaitsFor, IsPair, IsSwitch, Reached, Becomes, HasRelayedAll, has_nth, has_place_on}
 use Rattle.switch_laws.specs.Joined.IsPair.{connected, waiting}
-use Rattle.packet_laws.specs.Readable.{IfAny, AreOctets}
 use Rattle.switch_laws.specs.Law.{TurnLaw}
-use Rattle.switch_laws.proofs.Octets.{accepts_octets, reads_numbers}
 use Rattle.switch_laws.proofs.Layers.{all_close}
 use Rattle.switch_lines.specs.Lines.{joined_at}
 use Rattle.switch_laws.specs.Stays.{IsNone, OthersStay, relinked_in}
@@ -48,7 +46,7 @@ use Rattle.switch_laws.proofs.Relaying.{relayed_first_right, relayed_first_stuck
 use Rattle.switch_laws.proofs.Leading.{acts_lead, relayed_first_leads, offered_leads, rounds_leads, relinked_leads, all_relinked_leads, acted_leads}
 use Rattle.switch_laws.proofs.Coming.{becomes_same, becomes_then, becomes_by}
 use Rattle.switch_laws.proofs.Effects.{steady, leg_on_line, leg_elsewhere}
-use Rattle.switch_laws.proofs.Turning.{changed_at, changed_none, changed_twice, changed_same, got_changed, layer_got, layers_changed, ReadsNumbers, acted_right, relinked_effect, received_effect, timer_effect}
+use Rattle.switch_laws.proofs.Turning.{changed_at, changed_none, changed_twice, changed_same, got_changed, layer_got, layers_changed, acted_right, relinked_effect, received_effect, timer_effect}
 
 -- ---- a packet goes to a link
 
@@ -309,18 +307,12 @@ begun_line n [] line e = absurd (none-some line e)
 begun_line zero (l ∷ ls) line e = (l, (refl, same_Some _ line e))
 begun_line (suc n) (l ∷ ls) line e = begun_line n ls line e
 
--- the frame of a line is read as numbers below 8, where it brings a packet
-abbrev pub Readable : ℕ → Octets → List SwitchLine → Type 0
-Readable n octets ls = (line : SwitchLine) → slice_get ls n ≡ Some line → ReadsNumbers (link_octets.on_octets line.end.line.link octets).accepted
-
-pub came : (n : ℕ) (octets : Octets) (routes : RouteMap) (ls : List SwitchLine) (w : World) → Readable n octets ls → IsSwitch ls w
+pub came : (n : ℕ) (octets : Octets) (routes : RouteMap) (ls : List SwitchLine) (w : World) → IsSwitch ls w
     → Becomes (acts_of_all (acted_steps routes n (Brings octets) (all_begun ls)) (all_begun ls)) ls w (acted routes n (λ e. received e octets) (all_begun ls))
-came n octets routes ls w read i =
+came n octets routes ls w i =
     let a = begun_right ls w i in
-    becomes_then ls (all_begun ls) _ w a.world a.reached (acted_right routes n (Brings octets) (all_begun ls) a.world a.right
-    (λ line e.
-    let old = begun_line n ls line e in
-    received_effect n octets line.end (subst (λ (l : SwitchLine). ReadsNumbers (link_octets.on_octets l.end.line.link octets).accepted) old.1.1 (read old.0 old.1.0))))
+    becomes_then ls (all_begun ls) _ w a.world a.reached
+    (acted_right routes n (Brings octets) (all_begun ls) a.world a.right (λ line e. received_effect n octets line.end))
 
 pub ran : (n : ℕ) (id : TimerId) (routes : RouteMap) (ls : List SwitchLine) (w : World) → IsSwitch ls w
     → Becomes (acts_of_all (acted_steps routes n (RunsOut id) (all_begun ls)) (all_begun ls)) ls w (acted routes n (λ e. after_timer e id) (all_begun ls))
@@ -338,12 +330,12 @@ event_right n what s w v r b =
     (acts_lead (acted_steps s.routes n what (all_begun s.lines)) (finished_steps s.routes n (acted s.routes n (does what) (all_begun s.lines))) (all_begun s.lines) (acted s.routes n (does what) (all_begun s.lines)) (acted_leads s.routes n what (all_begun s.lines)))
     (becomes_then s.lines (acted s.routes n (does what) (all_begun s.lines)) _ w v r b)
 
-pub frame_right : (n : ℕ) (octets : Octets) (s : Switch) (w : World) → Readable n octets s.lines → IsSwitch s.lines w → Becomes (event_acts s.routes n (Brings octets) s.lines) s.lines w (on_frame n octets s).lines
-frame_right n octets s w read i =
-    let a = came n octets s.routes s.lines w read i in event_right n (Brings octets) s w a.world a.reached (finished_right s.routes n _ a.world a.right)
+pub frame_right : (n : ℕ) (octets : Octets) (s : Switch) (w : World) → IsSwitch s.lines w → Becomes (event_acts s.routes n (Brings octets) s.lines) s.lines w (on_frame n octets s).lines
+frame_right n octets s w i =
+    let a = came n octets s.routes s.lines w i in event_right n (Brings octets) s w a.world a.reached (finished_right s.routes n _ a.world a.right)
 
-pub frame_stuck : (n : ℕ) (octets : Octets) (s : Switch) (w : World) → Readable n octets s.lines → IsSwitch s.lines w → HasRelayedAll (on_frame n octets s).lines
-frame_stuck n octets s w read i = let a = came n octets s.routes s.lines w read i in finished_stuck s.routes n _ a.world a.right
+pub frame_stuck : (n : ℕ) (octets : Octets) (s : Switch) (w : World) → IsSwitch s.lines w → HasRelayedAll (on_frame n octets s).lines
+frame_stuck n octets s w i = let a = came n octets s.routes s.lines w i in finished_stuck s.routes n _ a.world a.right
 
 pub timer_right : (n : ℕ) (id : TimerId) (s : Switch) (w : World) → IsSwitch s.lines w → Becomes (event_acts s.routes n (RunsOut id) s.lines) s.lines w (on_expiry n id s).lines
 timer_right n id s w i =
@@ -351,15 +343,6 @@ timer_right n id s w i =
 
 pub timer_stuck : (n : ℕ) (id : TimerId) (s : Switch) (w : World) → IsSwitch s.lines w → HasRelayedAll (on_expiry n id s).lines
 timer_stuck n id s w i = let a = ran n id s.routes s.lines w i in finished_stuck s.routes n _ a.world a.right
-
--- ---- frames of octets
-
-octets_read : (o : Option Octets) → IfAny (λ packet. AreOctets packet) o → ReadsNumbers o
-octets_read None are = tt
-octets_read (Some octets) are = reads_numbers octets are
-
-pub readable : (n : ℕ) (octets : Octets) (ls : List SwitchLine) → AreOctets octets → Readable n octets ls
-readable n octets ls are line e = octets_read (link_octets.on_octets line.end.line.link octets).accepted (accepts_octets line.end.line.link octets are)
 
 -- ---- a restart
 
@@ -449,10 +432,10 @@ event_leaves n f s w v i k p j e a b =
     let last = stay_rounds (7 * length rs) first rs p j then_ in
     record { kept = last.kept; joined = joined_on_ends settled (all_offered_on first rs) p.line p.channel ∙ last.joined }
 
-frame_leaves : (n : ℕ) (octets : Octets) (s : Switch) (w : World) → AreOctets octets → IsSwitch s.lines w → OthersStay (n ∷ relinked_in n (λ e. received e octets) s) s.lines (on_frame n octets s).lines
-frame_leaves n octets s w are i =
+frame_leaves : (n : ℕ) (octets : Octets) (s : Switch) (w : World) → IsSwitch s.lines w → OthersStay (n ∷ relinked_in n (λ e. received e octets) s) s.lines (on_frame n octets s).lines
+frame_leaves n octets s w i =
     let b = begun_right s.lines w i in
-    let c = came n octets s.routes s.lines w (readable n octets s.lines are) i in
+    let c = came n octets s.routes s.lines w i in
     event_leaves n (λ e. received e octets) s b.world c.world b.right c.right
 
 timer_leaves : (n : ℕ) (id : TimerId) (s : Switch) (w : World) → IsSwitch s.lines w → OthersStay (n ∷ relinked_in n (λ e. after_timer e id) s) s.lines (on_expiry n id s).lines
@@ -463,16 +446,12 @@ timer_leaves n id s w i =
 
 -- ---- channels with calls are joined
 
-frame_calls : (n : ℕ) (octets : Octets) (s : Switch) (w : World) → AreOctets octets → IsSwitch s.lines w → CallsAreJoined s.lines → CallsAreJoined (on_frame n octets s).lines
-frame_calls n octets s w are i all =
+frame_calls : (n : ℕ) (octets : Octets) (s : Switch) (w : World) → IsSwitch s.lines w → CallsAreJoined s.lines → CallsAreJoined (on_frame n octets s).lines
+frame_calls n octets s w i all =
     let b = begun_right s.lines w i in
-    let read = readable n octets s.lines are in
-    let c = came n octets s.routes s.lines w read i in
+    let c = came n octets s.routes s.lines w i in
     finished_calls s.routes n _ c.world c.right
-    (acted_calls s.routes n (Brings octets) (all_begun s.lines) b.world b.right
-    (λ line e.
-    let old = begun_line n s.lines line e in
-    received_effect n octets line.end (subst (λ (l : SwitchLine). ReadsNumbers (link_octets.on_octets l.end.line.link octets).accepted) old.1.1 (read old.0 old.1.0))) (ends_keep begun s.lines (λ e. refl) all))
+    (acted_calls s.routes n (Brings octets) (all_begun s.lines) b.world b.right (λ line e. received_effect n octets line.end) (ends_keep begun s.lines (λ e. refl) all))
 
 timer_calls : (n : ℕ) (id : TimerId) (s : Switch) (w : World) → IsSwitch s.lines w → CallsAreJoined s.lines → CallsAreJoined (on_expiry n id s).lines
 timer_calls n id s w i all =
@@ -491,8 +470,8 @@ same_end_layers ticks ls w i = same_ends (λ e. elapsed e ticks) ls w (λ e. ref
 
 pub turns : TurnLaw
 turns = record {
-  frame = λ n octets s w are i. frame_right n octets s w (readable n octets s.lines are) i;
-  frame_keeps_nothing_back = λ n octets s w are i. frame_stuck n octets s w (readable n octets s.lines are) i;
+  frame = frame_right;
+  frame_keeps_nothing_back = frame_stuck;
   timer = timer_right;
   timer_keeps_nothing_back = timer_stuck;
   frame_offers = frame_offered;

@@ -53,7 +53,7 @@ use Rattle.switch_laws.proofs.Frame.{acts_then}
 use Rattle.switch_laws.proofs.Rounds.{lines_of, first_lines}
 use Rattle.switch_laws.proofs.Leading.{Leads, acted_leads, all_relinked_leads, rounds_leads}
 use Rattle.switch_laws.proofs.Turning.{relinked_effect, acted_right}
-use Rattle.switch_laws.proofs.Finishing.{came, ran, readable}
+use Rattle.switch_laws.proofs.Finishing.{came, ran}
 use Rattle.switch_laws.proofs.Offered.{AreSmall, heed_all_lines, all_relinked_ks, act_ks, begun_ks, small_links, received_k, timer_k}
 use Rattle.switch_laws.proofs.Happening.{links_small, rounds_ks}
 use Rattle.switch_laws.proofs.Owing.{IsMild, AreMild, IsAsking, heed_all_asks, asking_mild, acted_mild, OnLine, on_or_not, asks, relink_asks}
@@ -617,6 +617,6 @@ timer_sends n id s w h false e = absurd (true≢false (sym e))
 
 pub all_are_sent : SentLaw
 all_are_sent = record {
-  frame = λ n octets s w are h. event_sends n (Brings octets) s w (came n octets s.routes s.lines w (readable n octets s.lines are) h.joins) (small_queues n (Brings octets) s w h (λ e. received_k octets e));
+  frame = λ n octets s w h. event_sends n (Brings octets) s w (came n octets s.routes s.lines w h.joins) (small_queues n (Brings octets) s w h (λ e. received_k octets e));
   timer = λ n id s w h e. timer_sends n id s w h (timer_runs (slice_get s.lines n) id) e;
 }

@@ -18,7 +18,6 @@ use Rattle.packet_layer.specs.Channel.{Refusal, Channel, closed_channel, had_cal
 use Rattle.packet_layer.specs.Layer.{Layer, channel_of, nth_channel, standing_channels, start_phase, next_in}
 use Rattle.packet_layer.specs.Layer.{next_packet}
 use Rattle.packet_laws.specs.History.{empty_epoch}
-use Rattle.packet_laws.specs.Readable.{Every}
 use Rattle.packet_end.specs.PacketEnd.{PacketEnd, HasOfferedAll, received, after_timer, all_offered, settled, elapsed}
 use Rattle.packet_end.specs.PacketEnd.{without_first_frame}
 use Rattle.address_routes.specs.Routes.{RouteMap}
@@ -37,7 +36,7 @@ use Rattle.switch_laws.specs.Leg.{Leg}
 use Rattle.switch_laws.specs.Calls.{CallsAreJoined}
 use Rattle.switch_laws.specs.World.{World, Shown, Agrees, shown_as, shown_on, shown_at, layers_of, closed}
 use Rattle.switch_laws.specs.Joined.{IsSwitch, Becomes, Reached, has_nth, has_place_on, HasRelayedAll}
-use Rattle.switch_laws.specs.Events.{Event, after_event, MayCome, SwitchHolds, AfterEvent, AfterExpiry, HoldsOn, window_of}
+use Rattle.switch_laws.specs.Events.{Event, after_event, SwitchHolds, AfterEvent, AfterExpiry, HoldsOn, window_of}
 use Rattle.switch_laws.specs.Events.{new_legs, EventLaw}
 use Rattle.switch_laws.specs.Steps.Happening.{Brings, RunsOut}
 use Rattle.switch_laws.specs.EventSteps.{event_acts}
@@ -274,16 +273,16 @@ either_stays n id s w h false ran =
       nothing_kept_back = λ e. absurd (true≢false (sym e ∙ ran));
     }
 
-stays : (event : Event) (s : Switch) (w : World) → MayCome event → SwitchHolds s w → AfterEvent event s w
-stays (Arrives n octets) s w are h =
-    let b = turns.frame n octets s w are h.joins in
+stays : (event : Event) (s : Switch) (w : World) → SwitchHolds s w → AfterEvent event s w
+stays (Arrives n octets) s w h =
+    let b = turns.frame n octets s w h.joins in
     record {
       world = b.world;
       moved = b.reached;
       holds = record {
         joins = b.right;
-        calls = turns.frame_joins_calls n octets s w are h.joins h.calls;
-        relayed = turns.frame_keeps_nothing_back n octets s w are h.joins;
+        calls = turns.frame_joins_calls n octets s w h.joins h.calls;
+        relayed = turns.frame_keeps_nothing_back n octets s w h.joins;
         offered = none_offer (on_frame n octets s).lines (turns.frame_offers n octets s h.links);
         no_relink = finished_end s.routes n (acted s.routes n (λ e. received e octets) (all_begun s.lines));
         links = same_links s.lines (on_frame n octets s).lines
@@ -293,8 +292,8 @@ stays (Arrives n octets) s w are h =
       };
       nothing_kept_back = turns.frame_offers n octets s h.links;
     }
-stays (Expires n id) s w are h = either_stays n id s w h (timer_runs (slice_get s.lines n) id) refl
-stays Restarts s w are h = record {
+stays (Expires n id) s w h = either_stays n id s w h (timer_runs (slice_get s.lines n) id) refl
+stays Restarts s w h = record {
   world = λ x. closed (w x);
   moved = refl;
   holds = record {
@@ -308,7 +307,7 @@ stays Restarts s w are h = record {
   };
   nothing_kept_back = tt;
 }
-stays (Elapses ticks) s w are h =
+stays (Elapses ticks) s w h =
     let b = turns.elapses ticks s w h.joins in
     record {
       world = b.world;
@@ -326,18 +325,18 @@ stays (Elapses ticks) s w are h =
       };
       nothing_kept_back = tt;
     }
-stays (Departs n) s w are h = record {
+stays (Departs n) s w h = record {
   world = w;
   moved = record { may = tt; layers = steady_layers n without_first_frame s.lines first_steady; legs = refl };
   holds = steady_holds n without_first_frame s w first_steady h;
   nothing_kept_back = tt;
 }
 
-holds_on : (events : List Event) (s : Switch) (w : World) → Every MayCome events → SwitchHolds s w → HoldsOn events s w
-holds_on [] s w may h = ended
-holds_on (event ∷ events) s w may h =
-    let a = stays event s w may.0 h in
-    goes_on a (holds_on events (after_event event s) a.world may.1 a.holds)
+holds_on : (events : List Event) (s : Switch) (w : World) → SwitchHolds s w → HoldsOn events s w
+holds_on [] s w h = ended
+holds_on (event ∷ events) s w h =
+    let a = stays event s w h in
+    goes_on a (holds_on events (after_event event s) a.world a.holds)
 
 -- ---- a switch as it is made
 

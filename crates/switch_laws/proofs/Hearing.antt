@@ -10,7 +10,7 @@ use Rattle.packet_layer.specs.Channel.{CallState, received, unreadable, in_trans
 use Rattle.packet_layer.specs.Channel.CallState.{Transfer}
 use Rattle.packet_layer.specs.Channel.Request.{Confirming}
 use Rattle.packet_laws.specs.History.{logged_heard}
-use Rattle.packet_laws.specs.Counts.{NamesAfter, NamesCounts, IsNumbered}
+use Rattle.packet_laws.specs.Counts.{NamesAfter, NamesCounts}
 use Rattle.packet_laws.proofs.Naming.{counts_hold}
 use Rattle.packet_laws.proofs.Numbers.{covered_within}
 use Rattle.switch_lines.specs.Direction.{covered_by}
@@ -152,10 +152,10 @@ after_heard_right c (Confirms u) p j k f clear i =
     subst (λ (t : Traffic). NamesCounts j.b.window t j.b.epoch → After c (Confirms t) j) (sym f.1) (λ n. confirms_interrupt j clear n f.0 i) k
 after_heard_right c (Wrong d) p j k f clear i = reset_right _ _ true _ j i
 
-hears_flow : (c : ℕ) (p : Body) (j : Join) → IsNumbered p → j.b.channel.resetting ≡ false → IsJoin j → After c (hears_in j.b.window j.b.channel.traffic p) j
-hears_flow c p j numbered clear i =
+hears_flow : (c : ℕ) (p : Body) (j : Join) → j.b.channel.resetting ≡ false → IsJoin j → After c (hears_in j.b.window j.b.channel.traffic p) j
+hears_flow c p j clear i =
     after_heard_right c (hears_in j.b.window j.b.channel.traffic p) p j
-    (counts_hold.heard j.b.window i.there.holds.far.window j.b.channel.traffic j.b.epoch p numbered i.there.holds.far.counts)
+    (counts_hold.heard j.b.window i.there.holds.far.window j.b.channel.traffic j.b.epoch p i.there.holds.far.counts)
     (hears_flags j.b.window j.b.channel.traffic p) clear i
 
 -- ---- by the state of the leg b
@@ -163,16 +163,16 @@ hears_flow c p j numbered clear i =
 abbrev Hears : ℕ → Body → Join → Type 0
 Hears c p j = (received j.b.role j.b.window c j.b.channel p).channel.state ≡ Transfer → IsJoin j → IsJoin (hears c p j)
 
-in_d1 : (c : ℕ) (p : Body) (j : Join) → IsNumbered p → Hears c p (b_in Transfer false j)
-in_d1 c (Clear cause diagnostic) j numbered e i = not_transfer _ refl e
-in_d1 c (Reset cause diagnostic) j numbered e i = reset_right _ _ false _ (b_in Transfer false j) i
-in_d1 c ResetConfirmation j numbered e i = reset_right _ _ true _ (b_in Transfer false j) i
-in_d1 c (Data send receive d) j numbered e i = hears_flow c (Data send receive d) (b_in Transfer false j) numbered refl i
-in_d1 c (ReceiveReady receive) j numbered e i = hears_flow c (ReceiveReady receive) (b_in Transfer false j) numbered refl i
-in_d1 c (ReceiveNotReady receive) j numbered e i = hears_flow c (ReceiveNotReady receive) (b_in Transfer false j) numbered refl i
-in_d1 c (Interrupt octets) j numbered e i = hears_flow c (Interrupt octets) (b_in Transfer false j) numbered refl i
-in_d1 c InterruptConfirmation j numbered e i = hears_flow c InterruptConfirmation (b_in Transfer false j) numbered refl i
-in_d1 c _ j numbered e i = not_transfer _ refl e
+in_d1 : (c : ℕ) (p : Body) (j : Join) → Hears c p (b_in Transfer false j)
+in_d1 c (Clear cause diagnostic) j e i = not_transfer _ refl e
+in_d1 c (Reset cause diagnostic) j e i = reset_right _ _ false _ (b_in Transfer false j) i
+in_d1 c ResetConfirmation j e i = reset_right _ _ true _ (b_in Transfer false j) i
+in_d1 c (Data send receive d) j e i = hears_flow c (Data send receive d) (b_in Transfer false j) refl i
+in_d1 c (ReceiveReady receive) j e i = hears_flow c (ReceiveReady receive) (b_in Transfer false j) refl i
+in_d1 c (ReceiveNotReady receive) j e i = hears_flow c (ReceiveNotReady receive) (b_in Transfer false j) refl i
+in_d1 c (Interrupt octets) j e i = hears_flow c (Interrupt octets) (b_in Transfer false j) refl i
+in_d1 c InterruptConfirmation j e i = hears_flow c InterruptConfirmation (b_in Transfer false j) refl i
+in_d1 c _ j e i = not_transfer _ refl e
 
 -- the own reset ends
 reset_ends : (j : Join) → IsJoin (b_in Transfer true j) → IsJoin (b_in Transfer false j)
@@ -201,13 +201,13 @@ in_own_reset_ c (Interrupt octets) j e i = i
 in_own_reset_ c InterruptConfirmation j e i = i
 in_own_reset_ c _ j e i = not_transfer _ refl e
 
-in_transfer_ : (rs : Bool) (c : ℕ) (p : Body) (j : Join) → IsNumbered p → Hears c p (b_in Transfer rs j)
-in_transfer_ true c p j numbered = in_own_reset_ c p j
-in_transfer_ false c p j numbered = in_d1 c p j numbered
+in_transfer_ : (rs : Bool) (c : ℕ) (p : Body) (j : Join) → Hears c p (b_in Transfer rs j)
+in_transfer_ true c p j = in_own_reset_ c p j
+in_transfer_ false c p j = in_d1 c p j
 
-pub hears_right : (c : ℕ) (p : Body) (j : Join) → IsNumbered p → Hears c p j
-hears_right c p j numbered e i =
-    subst (λ (s : CallState). Hears c p (b_in s j.b.channel.resetting j)) (sym i.there.holds.far_call) (in_transfer_ j.b.channel.resetting c p j numbered) e i
+pub hears_right : (c : ℕ) (p : Body) (j : Join) → Hears c p j
+hears_right c p j e i =
+    subst (λ (s : CallState). Hears c p (b_in s j.b.channel.resetting j)) (sym i.there.holds.far_call) (in_transfer_ j.b.channel.resetting c p j) e i
 
 -- ---- an unreadable packet
 

@@ -21,7 +21,7 @@ use Rattle.packet_laws.proofs.Line.Lines.{nth_same, nth_other}
 use Rattle.packet_laws.proofs.Line.Outcomes.{free_is, given_ready}
 use Rattle.switch_lines.specs.Lines.{changed}
 use Rattle.switch_laws.specs.Leg.{Leg, asked, asked_unless, opened, stepped, heard, misheard, heard_epoch, gave}
-use Rattle.switch_laws.specs.World.{World, Shown, shown_of, shown_as, shown_on, Agrees, IsWorld, Act, MayHappen, MayAsk, IsReadAs, after_act, after_acts, world_after, world_after_all, layer_after, leg_after, line_of, closed, restarted, came_in, cleared_if, ran_out, is_channel, placed_if, gave_if}
+use Rattle.switch_laws.specs.World.{World, Shown, shown_of, shown_as, shown_on, Agrees, IsWorld, Act, MayHappen, MayAsk, after_act, after_acts, world_after, world_after_all, layer_after, leg_after, line_of, closed, restarted, came_in, cleared_if, ran_out, is_channel, placed_if, gave_if}
 use Rattle.switch_laws.specs.World.Act.{Asks, Comes, Expires, GoesUp, GoesDown, Calls, Gives, Reads}
 use Rattle.switch_laws.proofs.Lists.{get_changed, get_unchanged, get_map, decided, not_equal}
 use Rattle.switch_laws.proofs.Standing.{start_good, asked_good, heard_good, misheard_good, gave_good}
@@ -112,13 +112,13 @@ line_restarts (Restart cause diagnostic) l c g i = all_close l (restart_packet P
 line_restarts RestartConfirmation l c g i = all_close l (restart_packet PacketReady RestartConfirmation l) c g refl refl refl i
 line_restarts _ l c g i = i
 
-line_hears : (p : Body) (l : Layer) (d c : ℕ) (g : Leg) → IsReadAs (Whole (record { channel = d; body = p })) → LineAgrees l c g
+line_hears : (p : Body) (l : Layer) (d c : ℕ) (g : Leg) → LineAgrees l c g
     → LineAgrees (on_found l d (λ ch. received l.role l.window d ch p) (channel_of l d)) c (if c == d then heard c p g else g)
-line_hears p l d c g numbered i =
+line_hears p l d c g i =
     one_channel l d c (λ ch. received l.role l.window d ch p) (channel_of l d) (λ x. heard c p x) g refl
     (λ ch same here a. record {
       shown = ap (λ (k : ℕ). seen l (owing (received l.role l.window k ch p))) (sym same) ∙ stepped_shown (λ t. received t.role t.window c t.channel p) (heard_epoch g.channel.state g.channel.resetting (hears g.window g.channel.traffic p) g.epoch) (seen l ch) g a.shown;
-      leg = heard_good c p g numbered a.leg;
+      leg = heard_good c p g a.leg;
     }) i
 
 line_mishears : (unknown : Bool) (l : Layer) (d c : ℕ) (g : Leg) → LineAgrees l c g
@@ -139,12 +139,12 @@ restart_same (Restart cause diagnostic) l c g i = i
 restart_same RestartConfirmation l c g i = i
 restart_same _ l c g i = i
 
-line_whole : (phase : Phase) (p : Packet) (l : Layer) (c : ℕ) (g : Leg) → IsReadAs (Whole p) → LineAgrees l c g
+line_whole : (phase : Phase) (p : Packet) (l : Layer) (c : ℕ) (g : Leg) → LineAgrees l c g
     → LineAgrees (cond (p.channel == 0) (restart_packet phase p.body l) (on_channel phase l p.channel (λ ch. received l.role l.window p.channel ch p.body))) c (came_in phase (Whole p) c g)
-line_whole PacketReady p l c g numbered i =
-    by_both (λ (x : Layer) (y : Leg). LineAgrees x c y) (p.channel == 0) _ _ _ _ (line_restarts p.body l c g i) (line_hears p.body l p.channel c g numbered i)
-line_whole OwnRestart p l c g numbered i = by_cond (λ (x : Layer). LineAgrees x c g) (p.channel == 0) _ _ (λ h. restart_same p.body l c g i) (λ h. i)
-line_whole NoSession p l c g numbered i = by_cond (λ (x : Layer). LineAgrees x c g) (p.channel == 0) _ _ (λ h. i) (λ h. i)
+line_whole PacketReady p l c g i =
+    by_both (λ (x : Layer) (y : Leg). LineAgrees x c y) (p.channel == 0) _ _ _ _ (line_restarts p.body l c g i) (line_hears p.body l p.channel c g i)
+line_whole OwnRestart p l c g i = by_cond (λ (x : Layer). LineAgrees x c g) (p.channel == 0) _ _ (λ h. restart_same p.body l c g i) (λ h. i)
+line_whole NoSession p l c g i = by_cond (λ (x : Layer). LineAgrees x c g) (p.channel == 0) _ _ (λ h. i) (λ h. i)
 
 line_unread : (phase : Phase) (d : ℕ) (unknown : Bool) (l : Layer) (c : ℕ) (g : Leg) → LineAgrees l c g → LineAgrees (on_channel phase l d (λ ch. unreadable l.role d unknown ch)) c (came_in phase (if unknown then Unknown d else Faulty d) c g)
 line_unread PacketReady d true l c g i = line_mishears true l d c g i
@@ -152,10 +152,10 @@ line_unread PacketReady d false l c g i = line_mishears false l d c g i
 line_unread OwnRestart d unknown l c g i = i
 line_unread NoSession d unknown l c g i = i
 
-line_comes : (r : Received) (l : Layer) (c : ℕ) (g : Leg) → IsReadAs r → LineAgrees l c g → LineAgrees (unread (on_received (unread l) r)) c (came_in l.phase r c g)
-line_comes (Whole p) l c g numbered i = line_whole l.phase p (unread l) c g numbered i
-line_comes (Unknown d) l c g numbered i = line_unread l.phase d true (unread l) c g i
-line_comes (Faulty d) l c g numbered i = line_unread l.phase d false (unread l) c g i
+line_comes : (r : Received) (l : Layer) (c : ℕ) (g : Leg) → LineAgrees l c g → LineAgrees (unread (on_received (unread l) r)) c (came_in l.phase r c g)
+line_comes (Whole p) l c g i = line_whole l.phase p (unread l) c g i
+line_comes (Unknown d) l c g i = line_unread l.phase d true (unread l) c g i
+line_comes (Faulty d) l c g i = line_unread l.phase d false (unread l) c g i
 
 -- ---- a timer
 
@@ -243,7 +243,7 @@ line_gives_in PacketReady false l c g i = restart_given l.owed l c g i
 
 line_acts : (a : Act) (l : Layer) (c : ℕ) (g : Leg) → MayHappen a → LineAgrees l c g → LineAgrees (layer_after a l) c (leg_after a (Some l) c g)
 line_acts (Asks p q) l c g m i = line_asks l p.channel c q g m i
-line_acts (Comes n r) l c g m i = line_comes r l c g m i
+line_acts (Comes n r) l c g m i = line_comes r l c g i
 line_acts (Expires n t) l c g m i = line_expires t l c g i
 line_acts (GoesUp n) l c g m i = all_close l (unread (link_up l)) c g refl refl refl i
 line_acts (GoesDown n) l c g m i = all_close l (unread (link_down l)) c g refl refl refl i

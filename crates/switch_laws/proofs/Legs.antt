@@ -97,12 +97,12 @@ HearsFlags t (Keeps n u) = Flags t u
 HearsFlags t (Confirms u) = (t.interrupt_unconfirmed ≡ true) × (u ≡ record t { interrupt_unconfirmed = false })
 HearsFlags t (Wrong d) = Unit {0}
 
-through : (n r : ℕ) (t : Traffic) (u : Traffic) → Flags (record t { covered = r; undelivered = t.undelivered - n }) u → Flags t u
-through n r t u i = record { pending = i.pending; taken = i.taken; one = i.one }
+through : (n c : ℕ) (t : Traffic) (u : Traffic) → Flags (record t { covered = c; undelivered = t.undelivered - n }) u → Flags t u
+through n c t u i = record { pending = i.pending; taken = i.taken; one = i.one }
 
 covers_flags : (f : Traffic → Traffic) → ((u : Traffic) → Flags u (f u)) → (r : ℕ) (t : Traffic) → HearsFlags t (keeps (λ u. f u) (covers r t))
 covers_flags f same r t =
-    by_cond (λ (h : Heard). HearsFlags t (keeps (λ u. f u) h)) (nat_le (distance t.covered r) (in_flight t)) _ _ (λ h. through (distance t.covered r) r t _ (same _)) (λ h. tt)
+    by_cond (λ (h : Heard). HearsFlags t (keeps (λ u. f u) h)) (nat_le (distance t.covered r) (in_flight t)) _ _ (λ h. through (distance t.covered r) ((t.covered + distance t.covered r) % 8) t _ (same _)) (λ h. tt)
 
 arrives_flags : (d : Datum) (u : Traffic) → Flags u (arrives d u)
 arrives_flags d u = record { pending = refl; taken = refl; one = λ f. f }

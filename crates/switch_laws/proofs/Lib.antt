@@ -24,7 +24,6 @@ pub mod Happening
 pub mod Newness
 pub mod Pairing
 pub mod Concerning
-pub mod Octets
 pub mod Rounds
 pub mod Links
 pub mod Offered

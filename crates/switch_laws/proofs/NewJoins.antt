@@ -19,7 +19,6 @@ use Rattle.switch_lines.specs.Switch.Answer.{Clears, Joins}
 use Rattle.switch_lines.specs.declared.channels.NewJoin.{NewJoin}
 use Rattle.switch_lines.specs.NewJoins.{join_of, joins_of_notes, new_joins}
 use Rattle.switch_laws.specs.Leg.{Leg}
-use Rattle.packet_laws.specs.Readable.{AreOctets}
 use Rattle.switch_laws.specs.Steps.{does}
 use Rattle.switch_laws.specs.Steps.Happening.{Brings}
 use Rattle.switch_laws.proofs.Coming.{at}
@@ -27,8 +26,7 @@ use Rattle.switch_laws.proofs.Layers.{seen}
 use Rattle.switch_laws.proofs.Outcomes.{AreOf}
 use Rattle.switch_laws.proofs.Effects.{Effect}
 use Rattle.switch_laws.proofs.Effects.Effect.{nothing, closes_all, on_one}
-use Rattle.switch_laws.proofs.Turning.{ReadsNumbers, received_effect, got_changed, changed_none}
-use Rattle.switch_laws.proofs.Finishing.{begun_line, readable}
+use Rattle.switch_laws.proofs.Turning.{received_effect, got_changed, changed_none}
 
 -- there is one or none
 abbrev Single : List NewJoin → Type 0
@@ -72,8 +70,8 @@ by_effect routes n f l ns ls (on_one d st e is apart leg empty some) = by_channe
     by_channel None g = subst (λ (xs : List Note). Single (joins_of_notes routes n xs ls)) (sym (empty g)) refl
     by_channel (Some ch) g = subst (λ (xs : List Note). Single (joins_of_notes routes n xs ls)) (sym (some ch g)) (single_of routes n d _ _ _ ls (is.notes_of_it (seen l ch)))
 
-new_single : (n : ℕ) (octets : Octets) (s : Switch) → AreOctets octets → Single (new_joins n octets s)
-new_single n octets s are = by_line (slice_get ls n) refl
+new_single : (n : ℕ) (octets : Octets) (s : Switch) → Single (new_joins n octets s)
+new_single n octets s = by_line (slice_get ls n) refl
   where
     ls : List SwitchLine
     ls = all_begun s.lines
@@ -90,10 +88,9 @@ new_single n octets s are = by_line (slice_get ls n) refl
     by_line : (o : Option SwitchLine) → slice_get ls n ≡ o → Single (new_joins n octets s)
     by_line None e = by_notes None (ap (λ (ks : List SwitchLine). slice_get ks n) (changed_none n g ls e) ∙ e) refl
     by_line (Some line) e =
-        let old = begun_line n s.lines line e in
-        let eff = received_effect n octets line.end (subst (λ (l : SwitchLine). ReadsNumbers (link_octets.on_octets l.end.line.link octets).accepted) old.1.1 (readable n octets s.lines are old.0 old.1.0)) in
+        let eff = received_effect n octets line.end in
         by_notes (Some (g line)) (got_changed n g ls line e) (by_effect s.routes n eff.moves (unread line.end.layer) (g line).end.notes ms eff.effect)
 
 -- so the first one is the only one
-pub one_told : (n : ℕ) (octets : Octets) (s : Switch) → AreOctets octets → (o : Option NewJoin) → o ≡ slice_get (new_joins n octets s) 0 → option_to_list o ≡ new_joins n octets s
-one_told n octets s are o e = ap (λ (p : Option NewJoin). option_to_list p) e ∙ new_single n octets s are
+pub one_told : (n : ℕ) (octets : Octets) (s : Switch) → (o : Option NewJoin) → o ≡ slice_get (new_joins n octets s) 0 → option_to_list o ≡ new_joins n octets s
+one_told n octets s o e = ap (λ (p : Option NewJoin). option_to_list p) e ∙ new_single n octets s

@@ -4,13 +4,10 @@ use Rattle.std.proofs.lemmas.Option.{none-some, same_Some}
 use Rattle.link_timers.specs.declared.role.Role.TheVariants.{Dce}
 use Rattle.packet_layer.specs.Packets.Body.{Data, Interrupt, InterruptConfirmation, ReceiveReady, Reset}
 use Rattle.packet_layer.specs.Channel.{had_call}
-use Rattle.packet_laws.specs.Readable.{Every, AreOctets}
 use Rattle.packet_end.specs.Params.{AreParams}
 use Rattle.packet_end.specs.PacketEnd as offers
 use Rattle.switch_lines.specs.Relay.{most_moves}
-use Rattle.std.specs.List.{list_all}
 use Rattle.std.specs.Prelude.{slice_get}
-use Rattle.std.proofs.lemmas.Bool.{ltb-true}
 use Rattle.switch_lines.specs.declared.config.SwitchLineConfig.{SwitchLineConfig}
 use Rattle.switch_lines.specs.declared.channels.SwitchChannel.{SwitchChannel}
 use Rattle.switch_lines.specs.Making.{IsConfig, IsLineConfig}
@@ -19,10 +16,9 @@ use Rattle.switch_lines.specs.Lines.{joined_at}
 use Rattle.switch_laws.specs.Join.{IsJoin, turned, hears, gives}
 use Rattle.switch_laws.specs.World.{Shown, Agrees, shown_at, shown_of, layers_of}
 use Rattle.switch_laws.specs.Joined.{IsSwitch, has_place}
-use Rattle.switch_laws.specs.Events.{MayCome, new_legs}
+use Rattle.switch_laws.specs.Events.{new_legs}
 use Rattle.switch_laws.specs.Run.{started, letter, carried, covered, interrupted, confirmed, reset, two_lines, no_calls, parameters, config, configs, new_switch, sabm, restart_request, call_request, events, RunLaw}
 use Rattle.switch_laws.proofs.Happening.{events_hold}
-use Rattle.switch_laws.proofs.Lists.{and_both}
 use Rattle.switch_laws.proofs.Joins.{join_begins, both_right, gives_right, turned_join}
 use Rattle.switch_laws.proofs.Hearing.{hears_right}
 use Rattle.switch_laws.proofs.Standing.{start_good}
@@ -37,21 +33,21 @@ started_right : IsJoin started
 started_right = join_begins Dce Dce 2 2 [] [] seven seven
 
 carried_right : IsJoin carried
-carried_right = both_right 8 (hears 1 (Data 0 0 letter) started) (hears_right 1 (Data 0 0 letter) started (omega arith) refl started_right)
+carried_right = both_right 8 (hears 1 (Data 0 0 letter) started) (hears_right 1 (Data 0 0 letter) started refl started_right)
 
 covered_right : IsJoin covered
 covered_right =
-    turned_join _ (hears_right 1 (ReceiveReady 1) (gives (turned carried)) (omega arith) refl (gives_right (turned carried) (turned_join carried carried_right)))
+    turned_join _ (hears_right 1 (ReceiveReady 1) (gives (turned carried)) refl (gives_right (turned carried) (turned_join carried carried_right)))
 
 interrupted_right : IsJoin interrupted
-interrupted_right = both_right 8 (hears 1 (Interrupt (65 ∷ [])) covered) (hears_right 1 (Interrupt (65 ∷ [])) covered tt refl covered_right)
+interrupted_right = both_right 8 (hears 1 (Interrupt (65 ∷ [])) covered) (hears_right 1 (Interrupt (65 ∷ [])) covered refl covered_right)
 
 confirmed_right : IsJoin confirmed
 confirmed_right =
-    turned_join _ (hears_right 1 InterruptConfirmation (gives (turned interrupted)) tt refl (gives_right (turned interrupted) (turned_join interrupted interrupted_right)))
+    turned_join _ (hears_right 1 InterruptConfirmation (gives (turned interrupted)) refl (gives_right (turned interrupted) (turned_join interrupted interrupted_right)))
 
 reset_right_ : IsJoin reset
-reset_right_ = hears_right 1 (Reset 0 0) confirmed tt refl confirmed_right
+reset_right_ = hears_right 1 (Reset 0 0) confirmed refl confirmed_right
 
 closed_agrees : (x : SwitchChannel) (s : Shown) → Some (shown_of (no_calls x)) ≡ Some s → Agrees s (no_calls x)
 closed_agrees x s e = record {
@@ -116,13 +112,6 @@ each_config (suc (suc n)) c e = absurd (none-some c e)
 pub configs_right : IsConfig configs
 configs_right = record { least = omega arith; most = omega arith; each = each_config }
 
-are_octets : (xs : List ℕ) → list_all (λ x. nat_lt x 256) xs ≡ true → AreOctets xs
-are_octets [] e = tt
-are_octets (x ∷ xs) e = let both = and_both (nat_lt x 256) _ e in (ltb-true x 256 both.0, are_octets xs both.1)
-
-events_come : Every MayCome events
-events_come = (are_octets sabm refl, (tt, (are_octets restart_request refl, (tt, (are_octets call_request refl, tt)))))
-
 pub run_holds : RunLaw
 unfolding offers.all_offered most_moves
 run_holds = record {
@@ -137,7 +126,6 @@ run_holds = record {
   switch = switch_right;
   calls = λ x h. absurd (true≢false (sym h.call ∙ ap (λ (t : Shown). had_call t.channel.state) (world_right x.line x.channel h.channel h.there).shown));
   can_be_made = configs_right;
-  may_come = events_come;
   is_cleared = refl;
-  holds_on = events_hold.holds_on events new_switch (new_legs configs) events_come (events_hold.begins _ configs configs_right);
+  holds_on = events_hold.holds_on events new_switch (new_legs configs) (events_hold.begins _ configs configs_right);
 }

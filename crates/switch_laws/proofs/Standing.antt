@@ -10,7 +10,7 @@ use Rattle.packet_layer.specs.Channel.{CallState, Request, Refusal, refusal, ref
 use Rattle.packet_layer.specs.Channel.CallState.{Ready, OwnWaiting, FarWaiting, Transfer, Collision, OwnClear}
 use Rattle.packet_layer.specs.Channel.Request.{Accept, Clearing, Resetting, Sending, Interrupting, Stopping, Taking, Releasing, Confirming}
 use Rattle.packet_laws.specs.History.{Epoch, logged_heard}
-use Rattle.packet_laws.specs.Counts.{NamesCounts, NamesAfter, IsNumbered}
+use Rattle.packet_laws.specs.Counts.{NamesCounts, NamesAfter}
 use Rattle.packet_laws.proofs.Naming.{counts_hold}
 use Rattle.switch_laws.specs.Leg.{Leg, IsLeg, asked, asked_unless, stepped, heard, misheard, gave}
 use Rattle.switch_laws.specs.World.{IsAtStart, IsCallLeg, MayAsk}
@@ -110,23 +110,23 @@ after_good c (Confirms u) p g k f clear t i =
     (λ n. transfer_good (stepped (after_heard g.role c g.channel (Confirms (record g.channel.traffic { interrupt_unconfirmed = false }))) g.epoch g) t (leg_confirms g clear f.0 n i)) k
 after_good c (Wrong d) p g k f clear t i = transfer_good (stepped (after_heard g.role c g.channel (Wrong d)) g.epoch g) t (leg_anew true _ g i)
 
-flow_good : (c : ℕ) (p : Body) (g : Leg) → IsNumbered p → g.channel.resetting ≡ false → in_transfer g.channel.state ≡ true → IsLeg g → After c (hears_in g.window g.channel.traffic p) g
-flow_good c p g numbered clear t i =
-    after_good c (hears_in g.window g.channel.traffic p) p g (counts_hold.heard g.window i.window g.channel.traffic g.epoch p numbered i.counts) (hears_flags g.window g.channel.traffic p) clear t i
+flow_good : (c : ℕ) (p : Body) (g : Leg) → g.channel.resetting ≡ false → in_transfer g.channel.state ≡ true → IsLeg g → After c (hears_in g.window g.channel.traffic p) g
+flow_good c p g clear t i =
+    after_good c (hears_in g.window g.channel.traffic p) p g (counts_hold.heard g.window i.window g.channel.traffic g.epoch p i.counts) (hears_flags g.window g.channel.traffic p) clear t i
 
 abbrev Hears : ℕ → Body → Leg → Type 0
 Hears c p g = IsCallLeg g → IsCallLeg (heard c p g)
 
-d1_good : (c : ℕ) (p : Body) (g : Leg) → IsNumbered p → Hears c p (leg_in Transfer false g)
-d1_good c (Clear cause diagnostic) g numbered i = start_good (heard c (Clear cause diagnostic) (leg_in Transfer false g)) i.leg.window (record { not_resetting = refl; traffic = refl; before = refl; epoch = refl })
-d1_good c (Reset cause diagnostic) g numbered i = transfer_good (heard c (Reset cause diagnostic) (leg_in Transfer false g)) refl (leg_anew false _ (leg_in Transfer false g) i.leg)
-d1_good c ResetConfirmation g numbered i = transfer_good (heard c ResetConfirmation (leg_in Transfer false g)) refl (leg_anew true _ (leg_in Transfer false g) i.leg)
-d1_good c (Data send receive d) g numbered i = flow_good c (Data send receive d) (leg_in Transfer false g) numbered refl refl i.leg
-d1_good c (ReceiveReady receive) g numbered i = flow_good c (ReceiveReady receive) (leg_in Transfer false g) numbered refl refl i.leg
-d1_good c (ReceiveNotReady receive) g numbered i = flow_good c (ReceiveNotReady receive) (leg_in Transfer false g) numbered refl refl i.leg
-d1_good c (Interrupt octets) g numbered i = flow_good c (Interrupt octets) (leg_in Transfer false g) numbered refl refl i.leg
-d1_good c InterruptConfirmation g numbered i = flow_good c InterruptConfirmation (leg_in Transfer false g) numbered refl refl i.leg
-d1_good c p g numbered i = start_good (heard c p (leg_in Transfer false g)) i.leg.window (record { not_resetting = refl; traffic = refl; before = refl; epoch = refl })
+d1_good : (c : ℕ) (p : Body) (g : Leg) → Hears c p (leg_in Transfer false g)
+d1_good c (Clear cause diagnostic) g i = start_good (heard c (Clear cause diagnostic) (leg_in Transfer false g)) i.leg.window (record { not_resetting = refl; traffic = refl; before = refl; epoch = refl })
+d1_good c (Reset cause diagnostic) g i = transfer_good (heard c (Reset cause diagnostic) (leg_in Transfer false g)) refl (leg_anew false _ (leg_in Transfer false g) i.leg)
+d1_good c ResetConfirmation g i = transfer_good (heard c ResetConfirmation (leg_in Transfer false g)) refl (leg_anew true _ (leg_in Transfer false g) i.leg)
+d1_good c (Data send receive d) g i = flow_good c (Data send receive d) (leg_in Transfer false g) refl refl i.leg
+d1_good c (ReceiveReady receive) g i = flow_good c (ReceiveReady receive) (leg_in Transfer false g) refl refl i.leg
+d1_good c (ReceiveNotReady receive) g i = flow_good c (ReceiveNotReady receive) (leg_in Transfer false g) refl refl i.leg
+d1_good c (Interrupt octets) g i = flow_good c (Interrupt octets) (leg_in Transfer false g) refl refl i.leg
+d1_good c InterruptConfirmation g i = flow_good c InterruptConfirmation (leg_in Transfer false g) refl refl i.leg
+d1_good c p g i = start_good (heard c p (leg_in Transfer false g)) i.leg.window (record { not_resetting = refl; traffic = refl; before = refl; epoch = refl })
 
 ends_good : (g : Leg) → IsCallLeg (leg_in Transfer true g) → IsCallLeg (leg_in Transfer false g)
 ends_good g i = transfer_good (leg_in Transfer false g) refl (record {
@@ -176,17 +176,17 @@ own_clear_good rs c (Clear cause diagnostic) g i = let a = i.start refl in start
 own_clear_good rs c (ClearConfirmation) g i = let a = i.start refl in start_good (heard c (ClearConfirmation) (leg_in OwnClear rs g)) i.leg.window (record { not_resetting = a.not_resetting; traffic = a.traffic; before = a.before; epoch = a.epoch })
 own_clear_good rs c p g i = let a = i.start refl in start_good (heard c p (leg_in OwnClear rs g)) i.leg.window (record { not_resetting = a.not_resetting; traffic = a.traffic; before = a.before; epoch = a.epoch })
 
-heard_in : (s : CallState) (rs : Bool) (c : ℕ) (p : Body) (g : Leg) → IsNumbered p → Hears c p (leg_in s rs g)
-heard_in Ready rs c p g numbered i = ready_good rs c p g i
-heard_in OwnWaiting rs c p g numbered i = own_waiting_good rs c p g i
-heard_in FarWaiting rs c p g numbered i = far_waiting_good rs c p g i
-heard_in Transfer true c p g numbered i = own_reset_good c p g i
-heard_in Transfer false c p g numbered i = d1_good c p g numbered i
-heard_in Collision rs c p g numbered i = collision_good g.role rs c p g i
-heard_in OwnClear rs c p g numbered i = own_clear_good rs c p g i
+heard_in : (s : CallState) (rs : Bool) (c : ℕ) (p : Body) (g : Leg) → Hears c p (leg_in s rs g)
+heard_in Ready rs c p g i = ready_good rs c p g i
+heard_in OwnWaiting rs c p g i = own_waiting_good rs c p g i
+heard_in FarWaiting rs c p g i = far_waiting_good rs c p g i
+heard_in Transfer true c p g i = own_reset_good c p g i
+heard_in Transfer false c p g i = d1_good c p g i
+heard_in Collision rs c p g i = collision_good g.role rs c p g i
+heard_in OwnClear rs c p g i = own_clear_good rs c p g i
 
-pub heard_good : (c : ℕ) (p : Body) (g : Leg) → IsNumbered p → IsCallLeg g → IsCallLeg (heard c p g)
-heard_good c p g numbered i = heard_in g.channel.state g.channel.resetting c p g numbered i
+pub heard_good : (c : ℕ) (p : Body) (g : Leg) → IsCallLeg g → IsCallLeg (heard c p g)
+heard_good c p g i = heard_in g.channel.state g.channel.resetting c p g i
 
 misheard_in : (s : CallState) (rs : Bool) (c : ℕ) (unknown : Bool) (g : Leg) → IsCallLeg (leg_in s rs g) → IsCallLeg (misheard c unknown (leg_in s rs g))
 misheard_in OwnClear rs c unknown g i = i

@@ -30,7 +30,7 @@ use Rattle.switch_lines.specs.declared.channels.SwitchChannel.{SwitchChannel}
 use Rattle.switch_lines.specs.Lines.{SwitchLine, changed, joined_at}
 use Rattle.switch_lines.specs.Switch.{heed_all, with_end, notes_of, without_notes, notes_heeded, quieted, acted}
 use Rattle.switch_laws.specs.Leg.{Leg}
-use Rattle.switch_laws.specs.World.{World, layers_of, Act, MayHappen, IsReadAs, after_act, after_acts, world_after, world_after_all, layer_after, leg_after, line_of, came_in}
+use Rattle.switch_laws.specs.World.{World, layers_of, Act, MayHappen, after_act, after_acts, world_after, world_after_all, layer_after, leg_after, line_of, came_in}
 use Rattle.switch_laws.specs.World.Act.{Comes, Expires, GoesUp, GoesDown, Reads}
 use Rattle.switch_laws.specs.Joined.{IsSwitch, Reached, Becomes, has_place}
 use Rattle.switch_laws.proofs.Places.{joined_kept, place_after}
@@ -254,24 +254,19 @@ is_ready_phase PacketReady = true
 is_ready_phase ph = false
 
 -- a packet after the session began or ended
-packet_later : {acts : List Act} (n : ℕ) (l after : Layer) (notes : List Note) (o : Option Received) → ((r : Received) → o ≡ Some r → IsReadAs r) → (after.phase ≡ PacketReady → ⊥) → unread after ≡ after
+packet_later : {acts : List Act} (n : ℕ) (l after : Layer) (notes : List Note) (o : Option Received) → (after.phase ≡ PacketReady → ⊥) → unread after ≡ after
     → LineEffect acts n l after notes → LineEffect (acts ++ heard_acts n o) n l (unread (after_hearing (unread after) o)) (notes ++ (after_hearing (unread after) o).notes)
-packet_later {acts} n l after notes None read ready quiet e =
+packet_later {acts} n l after notes None ready quiet e =
     with_notes n l (unread (unread after)) notes (notes ++ []) (sym (append-nil notes)) (subst (λ (as_ : List Act). LineEffect as_ n l (unread (unread after)) notes) (sym (append-nil acts)) (subst (λ (y : Layer). LineEffect acts n l y notes) (sym (ap (λ (z : Layer). unread z) quiet ∙ quiet)) e))
-packet_later n l after notes (Some r) read ready quiet e =
+packet_later n l after notes (Some r) ready quiet e =
     with_notes n l (unread (on_received (unread after) r)) notes (notes ++ (on_received (unread after) r).notes)
     (sym (ap (λ (ns : List Note). notes ++ ns) (quiet_notes after.phase r after refl ready) ∙ append-nil notes))
-    (and_act (Comes n r) l after notes (read r refl) (λ c g. quiet_leg after.phase r c g ready) e)
+    (and_act (Comes n r) l after notes tt (λ c g. quiet_leg after.phase r c g ready) e)
 
 -- a packet alone
-packet_first : (n : ℕ) (l : Layer) (o : Option Received) → ((r : Received) → o ≡ Some r → IsReadAs r) → LineEffect (heard_acts n o) n (unread l) (unread (after_hearing (unread l) o)) (after_hearing (unread l) o).notes
-packet_first n l None read = no_effect n (unread l)
-packet_first n l (Some r) read = one_act (Comes n r) (unread l) _ (read r refl) (effect (Comes n r) (unread l) (read r refl))
-
--- numbers read from the octets are below 8
-abbrev pub ReadsNumbers : Option Octets → Type 0
-ReadsNumbers None = Unit {0}
-ReadsNumbers (Some octets) = (r : Received) → heard octets ≡ Some r → IsReadAs r
+packet_first : (n : ℕ) (l : Layer) (o : Option Received) → LineEffect (heard_acts n o) n (unread l) (unread (after_hearing (unread l) o)) (after_hearing (unread l) o).notes
+packet_first n l None = no_effect n (unread l)
+packet_first n l (Some r) = one_act (Comes n r) (unread l) _ tt (effect (Comes n r) (unread l) tt)
 
 own_restart_not_ready : OwnRestart ≡ PacketReady → ⊥
 own_restart_not_ready e = true≢false (sym (ap (λ (ph : Phase). is_ready_phase ph) e))
@@ -279,21 +274,21 @@ own_restart_not_ready e = true≢false (sym (ap (λ (ph : Phase). is_ready_phase
 no_session_not_ready : NoSession ≡ PacketReady → ⊥
 no_session_not_ready e = true≢false (sym (ap (λ (ph : Phase). is_ready_phase ph) e))
 
-brought : (n : ℕ) (e : PacketEnd) (to : End) (note : link_note.Note) (accepted : Option Octets) → ReadsNumbers accepted
+brought : (n : ℕ) (e : PacketEnd) (to : End) (note : link_note.Note) (accepted : Option Octets)
     → LineEffect (note_acts n note ++ packet_acts n accepted) n (unread e.layer) (after_packet accepted (heeded note (record (quieted e) { line = to }))).layer (after_packet accepted (heeded note (record (quieted e) { line = to }))).notes
-brought n e to Nothing None read = no_effect n (unread e.layer)
-brought n e to Nothing (Some octets) read = packet_first n e.layer (heard octets) read
-brought n e to Up None read = one_act (GoesUp n) (unread e.layer) _ tt (effect (GoesUp n) (unread e.layer) tt)
-brought n e to Up (Some octets) read =
-    packet_later n (unread e.layer) (unread (link_up (unread e.layer))) (link_up (unread e.layer)).notes (heard octets) read own_restart_not_ready refl
+brought n e to Nothing None = no_effect n (unread e.layer)
+brought n e to Nothing (Some octets) = packet_first n e.layer (heard octets)
+brought n e to Up None = one_act (GoesUp n) (unread e.layer) _ tt (effect (GoesUp n) (unread e.layer) tt)
+brought n e to Up (Some octets) =
+    packet_later n (unread e.layer) (unread (link_up (unread e.layer))) (link_up (unread e.layer)).notes (heard octets) own_restart_not_ready refl
     (one_act (GoesUp n) (unread e.layer) _ tt (effect (GoesUp n) (unread e.layer) tt))
-brought n e to Down None read = one_act (GoesDown n) (unread e.layer) _ tt (effect (GoesDown n) (unread e.layer) tt)
-brought n e to Down (Some octets) read =
-    packet_later n (unread e.layer) (unread (link_down (unread e.layer))) (link_down (unread e.layer)).notes (heard octets) read no_session_not_ready refl
+brought n e to Down None = one_act (GoesDown n) (unread e.layer) _ tt (effect (GoesDown n) (unread e.layer) tt)
+brought n e to Down (Some octets) =
+    packet_later n (unread e.layer) (unread (link_down (unread e.layer))) (link_down (unread e.layer)).notes (heard octets) no_session_not_ready refl
     (one_act (GoesDown n) (unread e.layer) _ tt (effect (GoesDown n) (unread e.layer) tt))
 
-pub received_effect : (n : ℕ) (octets : Octets) (e : PacketEnd) → ReadsNumbers (link_octets.on_octets e.line.link octets).accepted → EndEffect n (Brings octets) e
-received_effect n octets e read = brought n e _ (link_octets.on_octets e.line.link octets).note (link_octets.on_octets e.line.link octets).accepted read
+pub received_effect : (n : ℕ) (octets : Octets) (e : PacketEnd) → EndEffect n (Brings octets) e
+received_effect n octets e = brought n e _ (link_octets.on_octets e.line.link octets).note (link_octets.on_octets e.line.link octets).accepted
 
 -- ---- a timer runs out
 
@@ -302,7 +297,7 @@ named_effect n l None = no_effect n (unread l)
 named_effect n l (Some t) = one_act (Expires n t) (unread l) _ tt (effect (Expires n t) (unread l) tt)
 
 expired_effect_ : (n : ℕ) (id : TimerId) (e : PacketEnd) → LineEffect (expiry_acts n id e) n (unread e.layer) (expired id (quieted e)).layer (expired id (quieted e)).notes
-expired_effect_ n T1 e = subst (λ (acts : List Act). LineEffect acts n (unread e.layer) (expired T1 (quieted e)).layer (expired T1 (quieted e)).notes) (append-nil (note_acts n (link.on_t1 e.line.link).note)) (brought n e _ (link.on_t1 e.line.link).note None tt)
+expired_effect_ n T1 e = subst (λ (acts : List Act). LineEffect acts n (unread e.layer) (expired T1 (quieted e)).layer (expired T1 (quieted e)).notes) (append-nil (note_acts n (link.on_t1 e.line.link).note)) (brought n e _ (link.on_t1 e.line.link).note None)
 expired_effect_ n id e = named_effect n e.layer (timer_named e.layer.role id)
 
 both_cond : (P : List Act → PacketEnd → Type 0) (b : Bool) (as_ bs : List Act) (e f : PacketEnd) → P as_ e → P bs f → P (if b then as_ else bs) (cond b e f)

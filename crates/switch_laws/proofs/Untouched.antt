@@ -23,7 +23,7 @@ use Rattle.switch_laws.proofs.Lists.{decided, get_map, get_unchanged}
 use Rattle.switch_laws.proofs.Staying.{IsOther, acted_beside}
 use Rattle.switch_laws.proofs.Turning.{relinked_effect, acted_right}
 use Rattle.switch_laws.proofs.Keeping.{layers_on_ends, joined_on_ends}
-use Rattle.switch_laws.proofs.Finishing.{begun_right, came, ran, readable, none_relinks, relinks_leave}
+use Rattle.switch_laws.proofs.Finishing.{begun_right, came, ran, none_relinks, relinks_leave}
 use Rattle.switch_laws.proofs.Offered.{heed_all_lines}
 use Rattle.switch_laws.proofs.Concerning.{relinks_beside, none_of, before_right}
 use Rattle.switch_laws.proofs.Owing.{acted_mild, acts_phase, phase_of, event_came}
@@ -174,6 +174,6 @@ expiry_leaves n id s w h false = λ p j e here there. inl (record { joined = e; 
 
 pub others_are_left : IsolationLaw
 others_are_left = record {
-  frame = λ n octets s w are h. leaves n (Brings octets) s w (came n octets s.routes s.lines w (readable n octets s.lines are) h.joins) h;
+  frame = λ n octets s w h. leaves n (Brings octets) s w (came n octets s.routes s.lines w h.joins) h;
   timer = λ n id s w h. expiry_leaves n id s w h (timer_runs (slice_get s.lines n) id);
 }

@@ -14,7 +14,6 @@ use Rattle.switch_lines.specs.Relay.{relayed_from, all_relayed}
 use Rattle.switch_lines.specs.Switch.{Switch, acted, all_begun, all_relinked, offered_from, offering_from, on_frame}
 use Rattle.switch_lines.specs.Switch.{on_expiry}
 use Rattle.switch_lines.specs.Alone.{on_frame_alone, on_expiry_alone}
-use Rattle.packet_laws.specs.Readable.{AreOctets}
 use Rattle.switch_laws.specs.World.{World}
 use Rattle.switch_laws.specs.Joined.{IsSwitch, HasRelayedAll}
 use Rattle.switch_laws.specs.Stays.{relinked_in}
@@ -62,13 +61,13 @@ RelaysItsOwn n f s = all_relayed (before_relay n f s) ≡ relayed_on (lines_of_e
 pub record ConcernLaw : Type 0 where
   pub relays : (lines : List ℕ) (ls : List SwitchLine) (w : World) → IsSwitch ls w → HasRelayedBut lines ls
       → all_relayed ls ≡ relayed_on lines ls
-  pub frame : (n : ℕ) (octets : List ℕ) (s : Switch) (w : World) → AreOctets octets → IsSwitch s.lines w
+  pub frame : (n : ℕ) (octets : List ℕ) (s : Switch) (w : World) → IsSwitch s.lines w
       → HasRelayedAll s.lines → RelaysItsOwn n (λ e. end.received e octets) s
   pub timer : (n : ℕ) (id : TimerId) (s : Switch) (w : World) → IsSwitch s.lines w → HasRelayedAll s.lines
       → RelaysItsOwn n (λ e. end.after_timer e id) s
   pub offers : (ls : List SwitchLine) (w : World) → IsSwitch ls w → HasRelayedAll ls
       → all_relayed (offered_from (length ls) 0 ls) ≡ relayed_on (offering_from 0 ls) (offered_from (length ls) 0 ls)
-  pub frame_alone : (n : ℕ) (octets : List ℕ) (s : Switch) (w : World) → AreOctets octets → IsSwitch s.lines w
+  pub frame_alone : (n : ℕ) (octets : List ℕ) (s : Switch) (w : World) → IsSwitch s.lines w
       → HasRelayedAll s.lines → on_frame_alone n octets s ≡ on_frame n octets s
   pub timer_alone : (n : ℕ) (id : TimerId) (s : Switch) (w : World) → IsSwitch s.lines w → HasRelayedAll s.lines
       → on_expiry_alone n id s ≡ on_expiry n id s

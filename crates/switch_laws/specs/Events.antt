@@ -5,7 +5,6 @@ use Rattle.link_timers.specs.declared.role.Role.TheVariants.{Dce}
 use Rattle.link_timers.specs.declared.timers.TimerId.{TimerId}
 use Rattle.packet_layer.specs.Channel.{closed_channel}
 use Rattle.packet_laws.specs.History.{empty_epoch}
-use Rattle.packet_laws.specs.Readable.{Every, AreOctets}
 use Rattle.address_routes.specs.Routes.{RouteMap}
 use Rattle.switch_lines.specs.declared.config.SwitchLineConfig.{SwitchLineConfig}
 use Rattle.switch_lines.specs.Lines.{SwitchLine}
@@ -37,11 +36,6 @@ after_event (Departs n) s = without_frame n s
 abbrev pub after_events : List Event → Switch → Switch
 after_events [] s = s
 after_events (event ∷ events) s = after_events events (after_event event s)
-
--- a frame is of octets, whatever they are
-abbrev pub MayCome : Event → Type 0
-MayCome (Arrives n octets) = AreOctets octets
-MayCome event = Unit {0}
 
 -- ---- what always holds of a switch and the legs of its channels
 
@@ -123,6 +117,6 @@ new_legs lines = λ x. record {
 pub record EventLaw : Type 0 where
   pub begins : (routes : RouteMap) (lines : List SwitchLineConfig) → IsConfig lines
       → SwitchHolds (made routes lines) (new_legs lines)
-  pub stays : (event : Event) (s : Switch) (w : World) → MayCome event → SwitchHolds s w → AfterEvent event s w
-  pub holds_on : (events : List Event) (s : Switch) (w : World) → Every MayCome events → SwitchHolds s w
+  pub stays : (event : Event) (s : Switch) (w : World) → SwitchHolds s w → AfterEvent event s w
+  pub holds_on : (events : List Event) (s : Switch) (w : World) → SwitchHolds s w
       → HoldsOn events s w

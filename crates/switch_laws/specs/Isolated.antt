@@ -5,7 +5,6 @@ use Rattle.link_timers.specs.declared.timers.TimerId.{TimerId}
 use Rattle.packet_layer.specs.Packets.{CallParts}
 use Rattle.packet_layer.specs.Channel.{Channel, Step, requested, placing}
 use Rattle.packet_layer.specs.Layer.{Layer, channel_of, channel_given}
-use Rattle.packet_laws.specs.Readable.{AreOctets}
 use Rattle.switch_lines.specs.declared.channels.SwitchChannel.{SwitchChannel}
 use Rattle.switch_lines.specs.declared.channels.Joined.{Joined}
 use Rattle.switch_lines.specs.Lines.{SwitchLine, joined_at}
@@ -67,7 +66,7 @@ LeavesOthers n what old new = (p : SwitchChannel) (j : Joined) → joined_at old
 
 -- so it is, whatever frame comes on the line, and whatever timer of it expires
 pub record IsolationLaw : Type 0 where
-  pub frame : (n : ℕ) (octets : List ℕ) (s : Switch) (w : World) → AreOctets octets → SwitchHolds s w
+  pub frame : (n : ℕ) (octets : List ℕ) (s : Switch) (w : World) → SwitchHolds s w
       → LeavesOthers n (Brings octets) s (on_frame n octets s)
   pub timer : (n : ℕ) (id : TimerId) (s : Switch) (w : World) → SwitchHolds s w
       → LeavesOthers n (RunsOut id) s (on_timer n id s)

@@ -14,7 +14,7 @@ use Rattle.switch_laws.specs.Join.{IsJoin}
 use Rattle.packet_laws.specs.Readable.{Every}
 use Rattle.packet_layer.specs.Layer.{Layer, unread, on_received, on_timer, link_up, link_down}
 use Rattle.switch_laws.specs.World.Act.{Comes, Expires, GoesUp, GoesDown}
-use Rattle.switch_laws.specs.World.{after_act, IsReadAs, World, IsWorld, layers_of, shown_at, Act, MayHappen}
+use Rattle.switch_laws.specs.World.{after_act, World, IsWorld, layers_of, shown_at, Act, MayHappen}
 use Rattle.switch_laws.specs.World.{after_acts, world_after_all}
 
 -- ---- two legs
@@ -110,7 +110,7 @@ pub record HasActed (act : Act) (ls ms : List SwitchLine) : Type 0 where
 
 -- what a layer is told by its line
 abbrev pub IsTold : Act → Type 0
-IsTold (Comes n r) = IsReadAs r
+IsTold (Comes n r) = Unit {0}
 IsTold (Expires n t) = Unit {0}
 IsTold (GoesUp n) = Unit {0}
 IsTold (GoesDown n) = Unit {0}

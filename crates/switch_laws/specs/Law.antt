@@ -7,7 +7,6 @@ use Rattle.packet_layer.specs.Packets.{Body, CallParts}
 use Rattle.packet_layer.specs.Channel.{received, unreadable}
 use Rattle.packet_layer.specs.Channel.CallState.{Transfer}
 use Rattle.packet_layer.specs.Layer.{Layer}
-use Rattle.packet_laws.specs.Counts.{IsNumbered}
 use Rattle.address_routes.specs.Routes.{RouteMap, line_for}
 use Rattle.switch_lines.specs.Direction.{new_direction}
 use Rattle.switch_lines.specs.declared.channels.SwitchChannel.{SwitchChannel}
@@ -18,7 +17,6 @@ use Rattle.switch_lines.specs.Switch.Answer.{Joins}
 use Rattle.switch_laws.specs.Leg.{connected}
 use Rattle.switch_laws.specs.Way.{Way, Holds, IsRight, IsStuck, freed, moved, relayed}
 use Rattle.switch_laws.specs.Join.{Join, IsJoin, IsAtRest, relayed_both, hears, mishears, gives}
-use Rattle.packet_laws.specs.Readable.{AreOctets}
 use Rattle.packet_end.specs.PacketEnd as end
 use Rattle.switch_laws.specs.Calls.{CallsAreJoined, HasCall}
 use Rattle.switch_laws.specs.Stays.{OthersStay, relinked_in}
@@ -52,7 +50,7 @@ pub record JoinLaw : Type 0 where
       })
   pub relays : (j : Join) → IsJoin j → IsJoin (relayed_both most_moves j)
   pub keeps_nothing_back : (j : Join) → IsJoin j → IsAtRest (relayed_both most_moves j)
-  pub hears : (c : ℕ) (p : Body) (j : Join) → IsNumbered p
+  pub hears : (c : ℕ) (p : Body) (j : Join)
       → (received j.b.role j.b.window c j.b.channel p).channel.state ≡ Transfer → IsJoin j → IsJoin (hears c p j)
   pub mishears : (c : ℕ) (unknown : Bool) (j : Join)
       → (unreadable j.b.role c unknown j.b.channel).channel.state ≡ Transfer → IsJoin j
@@ -80,9 +78,9 @@ pub record SwitchLaw : Type 0 where
 -- packet layers and at links with a k of at most 7; each channel that has a call is joined; a join of two other lines
 -- stays, but for the joins of a line whose link is set up anew in the event; a restart leaves no call
 pub record TurnLaw : Type 0 where
-  pub frame : (n : ℕ) (octets : List ℕ) (s : Switch) (w : World) → AreOctets octets → IsSwitch s.lines w
+  pub frame : (n : ℕ) (octets : List ℕ) (s : Switch) (w : World) → IsSwitch s.lines w
       → Becomes (event_acts s.routes n (Brings octets) s.lines) s.lines w (on_frame n octets s).lines
-  pub frame_keeps_nothing_back : (n : ℕ) (octets : List ℕ) (s : Switch) (w : World) → AreOctets octets
+  pub frame_keeps_nothing_back : (n : ℕ) (octets : List ℕ) (s : Switch) (w : World)
       → IsSwitch s.lines w → HasRelayedAll (on_frame n octets s).lines
   pub timer : (n : ℕ) (id : TimerId) (s : Switch) (w : World) → IsSwitch s.lines w
       → Becomes (event_acts s.routes n (RunsOut id) s.lines) s.lines w (on_expiry n id s).lines
@@ -92,11 +90,11 @@ pub record TurnLaw : Type 0 where
       → EndsKeepNothingBack (on_frame n octets s).lines
   pub timer_offers : (n : ℕ) (id : TimerId) (s : Switch) → HaveSmallLinks s.lines
       → EndsKeepNothingBack (on_expiry n id s).lines
-  pub frame_joins_calls : (n : ℕ) (octets : List ℕ) (s : Switch) (w : World) → AreOctets octets → IsSwitch s.lines w
+  pub frame_joins_calls : (n : ℕ) (octets : List ℕ) (s : Switch) (w : World) → IsSwitch s.lines w
       → CallsAreJoined s.lines → CallsAreJoined (on_frame n octets s).lines
   pub timer_joins_calls : (n : ℕ) (id : TimerId) (s : Switch) (w : World) → IsSwitch s.lines w
       → CallsAreJoined s.lines → CallsAreJoined (on_expiry n id s).lines
-  pub frame_leaves_others : (n : ℕ) (octets : List ℕ) (s : Switch) (w : World) → AreOctets octets → IsSwitch s.lines w
+  pub frame_leaves_others : (n : ℕ) (octets : List ℕ) (s : Switch) (w : World) → IsSwitch s.lines w
       → OthersStay (n ∷ relinked_in n (λ e. end.received e octets) s) s.lines (on_frame n octets s).lines
   pub timer_leaves_others : (n : ℕ) (id : TimerId) (s : Switch) (w : World) → IsSwitch s.lines w
       → OthersStay (n ∷ relinked_in n (λ e. end.after_timer e id) s) s.lines (on_expiry n id s).lines

@@ -5,7 +5,6 @@ use Rattle.packet_layer.specs.Packets.{Datum}
 use Rattle.packet_layer.specs.Packets.Body.{Data, Interrupt, InterruptConfirmation, ReceiveReady, Reset}
 use Rattle.packet_layer.specs.Channel.{closed_channel}
 use Rattle.packet_laws.specs.History.{empty_epoch}
-use Rattle.packet_laws.specs.Readable.{Every}
 use Rattle.std.specs.FinMap.{empty}
 use Rattle.packet_end.specs.PacketEnd.{made}
 use Rattle.packet_end.specs.declared.params.EndParams.{EndParams}
@@ -19,7 +18,7 @@ use Rattle.switch_laws.specs.Join.{Join, IsJoin, turned, relayed_both, hears, gi
 use Rattle.switch_laws.specs.World.{World}
 use Rattle.switch_laws.specs.Joined.{IsSwitch}
 use Rattle.switch_laws.specs.Calls.{CallsAreJoined}
-use Rattle.switch_laws.specs.Events.{Event, after_events, MayCome, HoldsOn, new_legs}
+use Rattle.switch_laws.specs.Events.{Event, after_events, HoldsOn, new_legs}
 use Rattle.switch_laws.specs.Events.Event.{Arrives, Departs, Elapses}
 
 -- ---- one join, of two channels with a window of 2
@@ -103,6 +102,5 @@ pub record RunLaw : Type 0 where
   pub switch : IsSwitch two_lines no_calls
   pub calls : CallsAreJoined two_lines
   pub can_be_made : IsConfig configs
-  pub may_come : Every MayCome events
   pub is_cleared : frames_on (slice_get (after_events events new_switch).lines 0) ≡ clear_indication ∷ []
   pub holds_on : HoldsOn events new_switch (new_legs configs)

@@ -3,7 +3,6 @@ use Rattle.std.specs.Prelude.{◌≡◌, ℕ, ◌≤◌, true, ◌==◌, if◌th
 use Rattle.std.specs.Prelude.{Option, Some, None}
 use Rattle.link_timers.specs.declared.timers.TimerId.{TimerId}
 use Rattle.lapb.specs.Machine.{Octets}
-use Rattle.packet_laws.specs.Readable.{AreOctets}
 use Rattle.packet_end.specs.PacketEnd.{PacketEnd}
 use Rattle.packet_end.specs.Sending.{answer_frames, timer_frames, relink_frames, last_frames}
 use Rattle.switch_lines.specs.Lines.{SwitchLine}
@@ -44,7 +43,7 @@ pub record AreAllSent (n : ℕ) (what : Happening) (old new : Switch) : Type 0 w
 
 -- so it is, whatever frame comes, and whatever timer that runs expires
 pub record SentLaw : Type 0 where
-  pub frame : (n : ℕ) (octets : List ℕ) (s : Switch) (w : World) → AreOctets octets → SwitchHolds s w
+  pub frame : (n : ℕ) (octets : List ℕ) (s : Switch) (w : World) → SwitchHolds s w
       → AreAllSent n (Brings octets) s (on_frame n octets s)
   pub timer : (n : ℕ) (id : TimerId) (s : Switch) (w : World) → SwitchHolds s w
       → timer_runs (slice_get s.lines n) id ≡ true → AreAllSent n (RunsOut id) s (on_timer n id s)

@@ -14,7 +14,6 @@ use Rattle.packet_layer.specs.Layer.{unread, runs, link_up, link_down, request, 
 use Rattle.packet_layer.specs.Layer.Phase.{PacketReady}
 use Rattle.packet_layer.specs.Layer.Timer.{RestartTimer, CallTimer, ResetTimer, ClearTimer}
 use Rattle.packet_laws.specs.History.{empty_epoch}
-use Rattle.packet_laws.specs.Counts.{IsNumbered}
 use Rattle.switch_lines.specs.declared.channels.SwitchChannel.{SwitchChannel}
 use Rattle.switch_lines.specs.Lines.{SwitchLine, changed}
 use Rattle.switch_laws.specs.Leg.{Leg, IsLeg, asked, stepped, heard, misheard, gave}
@@ -80,18 +79,13 @@ pub data Act : Type 0 where
   Gives : (line : ℕ) → Act
   Reads : (line : ℕ) → Act
 
--- numbers read from a packet are below 8, and the switch stops no one
-abbrev pub IsReadAs : Received → Type 0
-IsReadAs (Whole p) = IsNumbered p.body
-IsReadAs r = Unit {0}
-
+-- the switch stops no one
 abbrev pub MayAsk : Request → Type 0
 MayAsk (Stopping b) = ⊥
 MayAsk q = Unit {0}
 
 abbrev pub MayHappen : Act → Type 0
 MayHappen (Asks p q) = MayAsk q
-MayHappen (Comes n r) = IsReadAs r
 MayHappen a = Unit {0}
 
 abbrev pub line_of : Act → ℕ

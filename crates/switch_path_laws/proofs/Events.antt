@@ -27,7 +27,7 @@ use Rattle.switch_laws.specs.Steps.Step.{Happens, Elapses}
 use Rattle.switch_laws.specs.EventSteps.{event_steps}
 use Rattle.switch_laws.proofs.Leading.{event_leads}
 use Rattle.switch_laws.proofs.Lists.{get_map, map_unchanged, decided}
-use Rattle.switch_laws.proofs.Turning.{timer_effect, EndEffect}
+use Rattle.switch_laws.proofs.Turning.{received_effect, timer_effect, EndEffect}
 use Rattle.joined_call_laws.specs.Records.{AreRecords}
 use Rattle.joined_call_laws.specs.Written.{Books, restart_writes}
 use Rattle.joined_call_laws.specs.Kept.{Partner, IsFit, ReadsOctets, line_with, all_frames_out}
@@ -39,7 +39,7 @@ use Rattle.joined_call_laws.specs.Calls.{JoinedCall}
 use Rattle.joined_call_laws.specs.Law.{calls_in, written_there, HasRelayed}
 use Rattle.joined_call_laws.proofs.Following.{addresses_led}
 use Rattle.joined_call_laws.proofs.Closing.{if_apart}
-use Rattle.joined_call_laws.proofs.Eventing.{calls_after, frame_effect, calls_hold}
+use Rattle.joined_call_laws.proofs.Eventing.{calls_after, calls_hold}
 use Rattle.call_path_laws.specs.World.{Origin, World, Plan, AreBetween, made_world, calling_on}
 use Rattle.call_path_laws.specs.Seen.{IsJoined}
 use Rattle.call_path_laws.specs.Forwards.{IsRelayed}
@@ -137,7 +137,7 @@ event_after plan at n what s t h cs books w traces is routes eff reads fits tied
 
 frame_after : FrameLaw
 frame_after plan at n octets s h cs books w traces are first i =
-    event_after plan at n (Brings octets) s (on_frame n octets s) h cs books w traces refl refl (frame_effect n octets s.lines are) are first (tied_holds.frames n octets s h are first i.tied) i
+    event_after plan at n (Brings octets) s (on_frame n octets s) h cs books w traces refl refl (λ line e. received_effect n octets line.end) are first (tied_holds.frames n octets s h are first i.tied) i
 
 timer_after : TimerLaw
 timer_after plan at n id s h cs books w traces i = event_after plan at n (RunsOut id) s (on_expiry n id s) h cs books w traces refl refl (λ line e. timer_effect n id line.end) tt tt (tied_holds.timers n id s h i.tied) i

@@ -21,9 +21,8 @@ use Rattle.line_record_laws.specs.Kept.{Kept}
 use Rattle.line_record_laws.proofs.Keeping.{silent_kept, restart_kept}
 use Rattle.switch_lines.specs.Lines.{SwitchLine, changed}
 use Rattle.switch_lines.specs.Switch.{Switch, with_end, quieted, notes_of, finished, acted, all_begun, without_joins}
-use Rattle.switch_laws.specs.World.{Act, MayHappen, IsReadAs, layers_of, after_acts}
+use Rattle.switch_laws.specs.World.{Act, MayHappen, layers_of, after_acts}
 use Rattle.switch_laws.proofs.Lists.{get_map, decided}
-use Rattle.switch_laws.proofs.Octets.{accepts_octets, reads_numbers}
 use Rattle.switch_laws.proofs.Layers.{world_acts_all}
 use Rattle.switch_laws.proofs.Frame.{acts_then, every_then}
 use Rattle.switch_laws.proofs.Turning.{layer_got}
@@ -119,13 +118,13 @@ notes_may n Nothing = tt
 notes_may n Up = (tt, tt)
 notes_may n Down = (tt, tt)
 
-heard_may : (n : ℕ) (o : Option Received) → ((r : Received) → o ≡ Some r → IsReadAs r) → May (heard_acts n o)
-heard_may n None i = tt
-heard_may n (Some r) i = (i r refl, tt)
+heard_may : (n : ℕ) (o : Option Received) → May (heard_acts n o)
+heard_may n None = tt
+heard_may n (Some r) = (tt, tt)
 
-packets_may : (n : ℕ) (o : Option Octets) → IfAny (λ packet. AreOctets packet) o → May (packet_acts n o)
-packets_may n None are = tt
-packets_may n (Some octets) are = heard_may n (heard octets) (reads_numbers octets are)
+packets_may : (n : ℕ) (o : Option Octets) → May (packet_acts n o)
+packets_may n None = tt
+packets_may n (Some octets) = heard_may n (heard octets)
 
 timers_may : (n : ℕ) (o : Option Timer) → May (timer_acts n o)
 timers_may n None = tt
@@ -139,12 +138,12 @@ if_may : (v : Bool) (as_ bs : List Act) → May as_ → May bs → May (if v the
 if_may true as_ bs p q = p
 if_may false as_ bs p q = q
 
-happening_may : (n : ℕ) (what : Happening) (e : PacketEnd) → ReadsOctets what → May (happening_acts n what e)
-happening_may n (Brings octets) e are =
+happening_may : (n : ℕ) (what : Happening) (e : PacketEnd) → May (happening_acts n what e)
+happening_may n (Brings octets) e =
     every_then (note_acts n (on_octets e.line.link octets).note) (packet_acts n (on_octets e.line.link octets).accepted) (notes_may n (on_octets e.line.link octets).note)
-    (packets_may n (on_octets e.line.link octets).accepted (accepts_octets e.line.link octets are))
-happening_may n (RunsOut id) e are = if_may (runs_at e id) (expiry_acts n id e) [] (expiry_may n id e) tt
-happening_may n Relinks e are = (tt, tt)
+    (packets_may n (on_octets e.line.link octets).accepted)
+happening_may n (RunsOut id) e = if_may (runs_at e id) (expiry_acts n id e) [] (expiry_may n id e) tt
+happening_may n Relinks e = (tt, tt)
 
 offers_may : (most n : ℕ) (e : PacketEnd) → May (offer_acts most n e)
 offers_may zero n e = tt
@@ -160,8 +159,8 @@ step_may (Asks p q) ls c = (c, tt)
 step_may (Places n parts) ls c = (tt, tt)
 step_may (Keeps p o) ls c = tt
 step_may (Happens n (Brings octets)) ls c = absurd c
-step_may (Happens n (RunsOut id)) ls c = (tt, line_may (λ e. happening_acts n (RunsOut id) e) (slice_get ls n) (λ e. happening_may n (RunsOut id) e tt))
-step_may (Happens n Relinks) ls c = (tt, line_may (λ e. happening_acts n Relinks e) (slice_get ls n) (λ e. happening_may n Relinks e tt))
+step_may (Happens n (RunsOut id)) ls c = (tt, line_may (λ e. happening_acts n (RunsOut id) e) (slice_get ls n) (λ e. happening_may n (RunsOut id) e))
+step_may (Happens n Relinks) ls c = (tt, line_may (λ e. happening_acts n Relinks e) (slice_get ls n) (λ e. happening_may n Relinks e))
 step_may (Offers n) ls c = line_may (λ e. offer_acts 7 n e) (slice_get ls n) (λ e. offers_may 7 n e)
 step_may Begins ls c = tt
 step_may Settles ls c = tt
@@ -175,7 +174,7 @@ event_may : (n : ℕ) (what : Happening) (s : Switch) → ReadsOctets what → H
 unfolding later
 event_may n what s reads h =
     every_then (acts_of (Happens n what) (all_begun s.lines)) (acts_of_all (later n what s) (lines_after (Happens n what) (all_begun s.lines)))
-    (tt, line_may (λ e. happening_acts n what e) (slice_get (all_begun s.lines) n) (λ e. happening_may n what e reads))
+    (tt, line_may (λ e. happening_acts n what e) (slice_get (all_begun s.lines) n) (λ e. happening_may n what e))
     (steps_may (later n what s) (lines_after (Happens n what) (all_begun s.lines)) (begun_later n what s reads h))
 
 pub legs_move : LegsLaw

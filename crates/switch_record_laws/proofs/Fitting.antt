@@ -30,7 +30,7 @@ use Rattle.packet_layer.specs.Layer.Timer.{RestartTimer, CallTimer, ResetTimer, 
 use Rattle.packet_layer.specs.Events.{after_hearing, on_named, timer_named}
 use Rattle.packet_end.specs.PacketEnd.{PacketEnd, heeded, after_packet, expired, runs_at}
 use Rattle.switch_lines.specs.Switch.{quieted}
-use Rattle.switch_laws.proofs.Octets.{accepts_octets}
+use Rattle.switch_record_laws.proofs.Octets.{accepts_octets}
 use Rattle.switch_record_laws.specs.Kept.{ReadsOctets}
 use Rattle.switch_laws.specs.Steps.{Happening, does}
 use Rattle.switch_laws.specs.Steps.Happening.{Brings, RunsOut, Relinks}

@@ -16,6 +16,7 @@ pub mod Turning
 pub mod Chains
 pub mod Happenings
 pub mod Stepping
+mod Octets
 pub mod Fitting
 pub mod Calming
 pub mod Events

@@ -21,7 +21,7 @@ use Rattle.call_records.specs.Carried.{unless_refused, placed_on}
 use Rattle.line_record_laws.proofs.Basics.{number_is}
 use Rattle.line_record_laws.proofs.Writing.{Closes, closes_all, closed_all}
 use Rattle.switch_laws.specs.Leg.{Leg, asked, asked_unless, stepped, heard, misheard, gave}
-use Rattle.switch_laws.specs.World.{Shown, shown_of, shown_as, Agrees, Act, MayHappen, MayAsk, IsReadAs, layer_after, leg_after, closed, restarted, came_in, cleared_if, ran_out, is_channel, placed_if, gave_if}
+use Rattle.switch_laws.specs.World.{Shown, shown_of, shown_as, Agrees, Act, MayHappen, MayAsk, layer_after, leg_after, closed, restarted, came_in, cleared_if, ran_out, is_channel, placed_if, gave_if}
 use Rattle.switch_laws.specs.World.Act.{Asks, Comes, Expires, GoesUp, GoesDown, Calls, Gives, Reads}
 use Rattle.switch_laws.proofs.Lists.{decided, get_map}
 use Rattle.switch_laws.proofs.Layers.{LineAgrees, seen, opened_shown, not_in_transfer}
@@ -203,15 +203,15 @@ line_steps x l d step h legs b i others writes_ r =
     (writes_ ch is a (subst (λ (s : Shown). Has x d (leg_if (had_call s.channel.state) (legs d)) b) a.shown p)))
     (record { slots = r.slots; apart = r.apart; has = r.has })
 
-line_hears : (x : Role) (l : Layer) (d : ℕ) (p : Body) (legs : ℕ → Leg) (b : Book) → IsReadAs (Whole (record { channel = d; body = p })) → ((c : ℕ) → LineAgrees l c (legs c)) → AreRecords x l legs b
+line_hears : (x : Role) (l : Layer) (d : ℕ) (p : Body) (legs : ℕ → Leg) (b : Book) → ((c : ℕ) → LineAgrees l c (legs c)) → AreRecords x l legs b
     → AreRecords x (on_found (unread l) d (λ ch. received l.role l.window d ch p) (channel_of l d)) (λ c. if c == d then heard c p (legs c) else legs c)
     (all_told x (on_found (unread l) d (λ ch. received l.role l.window d ch p) (channel_of l d)).notes b)
-line_hears x l d p legs b numbered i r =
+line_hears x l d p legs b i r =
     line_steps x l d (λ ch. received l.role l.window d ch p) (λ c g. if c == d then heard c p g else g) legs b i (λ c ne. if_other c d (legs c) _ ne)
     (λ ch is a h.
     subst (λ (g : Leg). Writes x d b (all_told x (received l.role l.window d ch p).notes b) (leg_if (had_call (received l.role l.window d ch p).channel.state) g)) (sym (if_same d (legs d) (heard d p (legs d))))
     (subst (λ (s : Shown). Writes x d b (all_told x (received s.role s.window d s.channel p).notes b) (leg_if (had_call (received s.role s.window d s.channel p).channel.state) (heard d p (legs d)))) (sym a.shown)
-    (comes_written x d p b (legs d) is numbered a.leg h))) r
+    (comes_written x d p b (legs d) is a.leg h))) r
 
 line_mishears : (x : Role) (l : Layer) (d : ℕ) (unknown : Bool) (legs : ℕ → Leg) (b : Book) → ((c : ℕ) → LineAgrees l c (legs c)) → AreRecords x l legs b
     → AreRecords x (on_found (unread l) d (λ ch. unreadable l.role d unknown ch) (channel_of l d)) (λ c. if c == d then misheard c unknown (legs c) else legs c)
@@ -255,12 +255,12 @@ by_both : (x : Role) (v : Bool) (l m : Layer) (f g : ℕ → Leg) (b : Book) →
 by_both x true l m f g b p q = p
 by_both x false l m f g b p q = q
 
-whole : (phase : Phase) (x : Role) (p : Packet) (l : Layer) (legs : ℕ → Leg) (b : Book) → IsReadAs (Whole p) → ((c : ℕ) → LineAgrees l c (legs c)) → AreRecords x l legs b
+whole : (phase : Phase) (x : Role) (p : Packet) (l : Layer) (legs : ℕ → Leg) (b : Book) → ((c : ℕ) → LineAgrees l c (legs c)) → AreRecords x l legs b
     → Kept x (cond (p.channel == 0) (restart_packet phase p.body (unread l)) (on_channel phase (unread l) p.channel (λ ch. received l.role l.window p.channel ch p.body))) (λ c. came_in phase (Whole p) c (legs c)) b
-whole PacketReady x p l legs b numbered i r =
-    by_both x (p.channel == 0) _ _ (λ c. restarted p.body (legs c)) (λ c. if c == p.channel then heard c p.body (legs c) else legs c) b (restart_in_r1 x p.body l legs b r) (line_hears x l p.channel p.body legs b numbered i r)
-whole OwnRestart x p l legs b numbered i r = by_cond (λ (m : Layer). Kept x m legs b) (p.channel == 0) _ _ (λ h. restart_in_r2 x p.body l legs b r) (λ h. unread_same x l legs b r)
-whole NoSession x p l legs b numbered i r = by_cond (λ (m : Layer). Kept x m legs b) (p.channel == 0) _ _ (λ h. unread_same x l legs b r) (λ h. unread_same x l legs b r)
+whole PacketReady x p l legs b i r =
+    by_both x (p.channel == 0) _ _ (λ c. restarted p.body (legs c)) (λ c. if c == p.channel then heard c p.body (legs c) else legs c) b (restart_in_r1 x p.body l legs b r) (line_hears x l p.channel p.body legs b i r)
+whole OwnRestart x p l legs b i r = by_cond (λ (m : Layer). Kept x m legs b) (p.channel == 0) _ _ (λ h. restart_in_r2 x p.body l legs b r) (λ h. unread_same x l legs b r)
+whole NoSession x p l legs b i r = by_cond (λ (m : Layer). Kept x m legs b) (p.channel == 0) _ _ (λ h. unread_same x l legs b r) (λ h. unread_same x l legs b r)
 
 cannot_read : (phase : Phase) (x : Role) (d : ℕ) (unknown : Bool) (l : Layer) (legs : ℕ → Leg) (b : Book) → ((c : ℕ) → LineAgrees l c (legs c)) → AreRecords x l legs b
     → Kept x (on_channel phase (unread l) d (λ ch. unreadable l.role d unknown ch)) (λ c. came_in phase (if unknown then Unknown d else Faulty d) c (legs c)) b
@@ -271,11 +271,11 @@ cannot_read OwnRestart x d false l legs b i r = unread_same x l legs b r
 cannot_read NoSession x d true l legs b i r = unread_same x l legs b r
 cannot_read NoSession x d false l legs b i r = unread_same x l legs b r
 
-comes : (x : Role) (y : Received) (l : Layer) (legs : ℕ → Leg) (b : Book) → IsReadAs y → ((c : ℕ) → LineAgrees l c (legs c)) → AreRecords x l legs b
+comes : (x : Role) (y : Received) (l : Layer) (legs : ℕ → Leg) (b : Book) → ((c : ℕ) → LineAgrees l c (legs c)) → AreRecords x l legs b
     → Kept x (on_received (unread l) y) (λ c. came_in l.phase y c (legs c)) b
-comes x (Whole p) l legs b numbered i r = whole l.phase x p l legs b numbered i r
-comes x (Unknown d) l legs b numbered i r = cannot_read l.phase x d true l legs b i r
-comes x (Faulty d) l legs b numbered i r = cannot_read l.phase x d false l legs b i r
+comes x (Whole p) l legs b i r = whole l.phase x p l legs b i r
+comes x (Unknown d) l legs b i r = cannot_read l.phase x d true l legs b i r
+comes x (Faulty d) l legs b i r = cannot_read l.phase x d false l legs b i r
 
 -- ---- timers
 
@@ -354,7 +354,7 @@ pub line_writes : (x : Role) (a : Act) (l : Layer) (legs : ℕ → Leg) (b : Boo
     → ((c : ℕ) → LineAgrees (layer_after a l) c (leg_after a (Some l) c (legs c))) → AreRecords x l legs b
     → AreRecords x (layer_after a l) (λ c. leg_after a (Some l) c (legs c)) (writes x a l b)
 line_writes x (Asks p q) l legs b m i after r = line_asks x l p.channel q legs b m i r
-line_writes x (Comes n y) l legs b m i after r = read x (on_received (unread l) y) _ _ _ refl (comes x y l legs b m i r)
+line_writes x (Comes n y) l legs b m i after r = read x (on_received (unread l) y) _ _ _ refl (comes x y l legs b i r)
 line_writes x (Expires n t) l legs b m i after r = by_runs (runs l t) refl
   where
     by_runs : (v : Bool) → runs l t ≡ v → AreRecords x (unread (on_timer l t)) (λ c. if runs l t then ran_out t c (legs c) else legs c) (all_told x (on_timer (unread l) t).notes b)

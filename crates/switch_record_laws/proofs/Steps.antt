@@ -15,7 +15,7 @@ use Rattle.packet_layer.specs.Channel.{CallState, Step, Request, Refusal, receiv
 use Rattle.packet_layer.specs.Channel.CallState.{Ready, OwnWaiting, FarWaiting, Transfer, Collision, OwnClear}
 use Rattle.packet_layer.specs.Channel.Request.{Accept, Clearing, Resetting, Sending, Interrupting, Stopping, Taking, Releasing, Confirming}
 use Rattle.packet_laws.specs.History.{Epoch, empty_epoch, logged_heard, with_taken as epoch_with_taken}
-use Rattle.packet_laws.specs.Counts.{NamesCounts, NamesAfter, IsNumbered}
+use Rattle.packet_laws.specs.Counts.{NamesCounts, NamesAfter}
 use Rattle.packet_laws.proofs.Naming.{counts_hold}
 use Rattle.packet_laws.proofs.Numbers.{covered_within}
 use Rattle.call_records.specs.Records.{RecordValue, counted, with_sent, with_interrupt_sent, with_taken, with_interrupt_taken, with_released, with_covered, with_epoch, new_record}
@@ -151,20 +151,20 @@ abbrev Comes : Role → ℕ → Body → Book → Leg → Type 0
 Comes x c p b g = IsCallLeg g → Before x c g b
     → Tells x c (received g.role g.window c g.channel p) (heard_epoch g.channel.state g.channel.resetting (hears_in g.window g.channel.traffic p) g.epoch) g b
 
-flow : (x : Role) (c : ℕ) (p : Body) (b : Book) (g : Leg) → IsNumbered p → IsCallLeg (leg_in Transfer false g) → HasRecord x c (leg_in Transfer false g) b
+flow : (x : Role) (c : ℕ) (p : Body) (b : Book) (g : Leg) → IsCallLeg (leg_in Transfer false g) → HasRecord x c (leg_in Transfer false g) b
     → Tells x c (after_heard g.role c (leg_in Transfer false g).channel (hears_in g.window g.channel.traffic p)) (logged_heard (hears_in g.window g.channel.traffic p) g.epoch) (leg_in Transfer false g) b
-flow x c p b g numbered i r = heard_written x c (hears_in g.window g.channel.traffic p) p b (leg_in Transfer false g) refl (counts_hold.heard g.window i.leg.window g.channel.traffic g.epoch p numbered i.leg.counts) r
+flow x c p b g i r = heard_written x c (hears_in g.window g.channel.traffic p) p b (leg_in Transfer false g) refl (counts_hold.heard g.window i.leg.window g.channel.traffic g.epoch p i.leg.counts) r
 
-d1 : (x : Role) (c : ℕ) (p : Body) (b : Book) (g : Leg) → IsNumbered p → Comes x c p b (leg_in Transfer false g)
-d1 x c (Clear cause diagnostic) b g numbered i r = closed_written x c b
-d1 x c (Reset cause diagnostic) b g numbered i r = renewed_written x c b (leg_in Transfer false g) _ refl refl r
-d1 x c ResetConfirmation b g numbered i r = renewed_written x c b (leg_in Transfer false g) _ refl refl r
-d1 x c (Data send receive d) b g numbered i r = flow x c (Data send receive d) b g numbered i r
-d1 x c (ReceiveReady receive) b g numbered i r = flow x c (ReceiveReady receive) b g numbered i r
-d1 x c (ReceiveNotReady receive) b g numbered i r = flow x c (ReceiveNotReady receive) b g numbered i r
-d1 x c (Interrupt octets) b g numbered i r = flow x c (Interrupt octets) b g numbered i r
-d1 x c InterruptConfirmation b g numbered i r = flow x c InterruptConfirmation b g numbered i r
-d1 x c p b g numbered i r = closed_written x c b
+d1 : (x : Role) (c : ℕ) (p : Body) (b : Book) (g : Leg) → Comes x c p b (leg_in Transfer false g)
+d1 x c (Clear cause diagnostic) b g i r = closed_written x c b
+d1 x c (Reset cause diagnostic) b g i r = renewed_written x c b (leg_in Transfer false g) _ refl refl r
+d1 x c ResetConfirmation b g i r = renewed_written x c b (leg_in Transfer false g) _ refl refl r
+d1 x c (Data send receive d) b g i r = flow x c (Data send receive d) b g i r
+d1 x c (ReceiveReady receive) b g i r = flow x c (ReceiveReady receive) b g i r
+d1 x c (ReceiveNotReady receive) b g i r = flow x c (ReceiveNotReady receive) b g i r
+d1 x c (Interrupt octets) b g i r = flow x c (Interrupt octets) b g i r
+d1 x c InterruptConfirmation b g i r = flow x c InterruptConfirmation b g i r
+d1 x c p b g i r = closed_written x c b
 
 own_reset : (x : Role) (c : ℕ) (p : Body) (b : Book) (g : Leg) → Comes x c p b (leg_in Transfer true g)
 own_reset x c (Reset cause diagnostic) b g i r = same_written x c b (leg_in Transfer true g) _ refl refl r
@@ -204,17 +204,17 @@ own_clear rs x c (Clear cause diagnostic) b g i r = nothing_written x c b None r
 own_clear rs x c ClearConfirmation b g i r = nothing_written x c b None r
 own_clear rs x c p b g i r = nothing_written x c b None r
 
-comes_in : (s : CallState) (rs : Bool) (x : Role) (c : ℕ) (p : Body) (b : Book) (g : Leg) → IsSlot x c b → IsNumbered p → Comes x c p b (leg_in s rs g)
-comes_in Ready rs x c p b g is numbered i r = ready rs x c p b g is i r
-comes_in OwnWaiting rs x c p b g is numbered i r = own_waiting g.role rs x c p b g is i r
-comes_in FarWaiting rs x c p b g is numbered i r = far_waiting rs x c p b g i r
-comes_in Transfer true x c p b g is numbered i r = own_reset x c p b g i r
-comes_in Transfer false x c p b g is numbered i r = d1 x c p b g numbered i r
-comes_in Collision rs x c p b g is numbered i r = collision g.role rs x c p b g i r
-comes_in OwnClear rs x c p b g is numbered i r = own_clear rs x c p b g i r
+comes_in : (s : CallState) (rs : Bool) (x : Role) (c : ℕ) (p : Body) (b : Book) (g : Leg) → IsSlot x c b → Comes x c p b (leg_in s rs g)
+comes_in Ready rs x c p b g is i r = ready rs x c p b g is i r
+comes_in OwnWaiting rs x c p b g is i r = own_waiting g.role rs x c p b g is i r
+comes_in FarWaiting rs x c p b g is i r = far_waiting rs x c p b g i r
+comes_in Transfer true x c p b g is i r = own_reset x c p b g i r
+comes_in Transfer false x c p b g is i r = d1 x c p b g i r
+comes_in Collision rs x c p b g is i r = collision g.role rs x c p b g i r
+comes_in OwnClear rs x c p b g is i r = own_clear rs x c p b g i r
 
-pub comes_written : (x : Role) (c : ℕ) (p : Body) (b : Book) (g : Leg) → IsSlot x c b → IsNumbered p → Comes x c p b g
-comes_written x c p b g is numbered i r = comes_in g.channel.state g.channel.resetting x c p b g is numbered i r
+pub comes_written : (x : Role) (c : ℕ) (p : Body) (b : Book) (g : Leg) → IsSlot x c b → Comes x c p b g
+comes_written x c p b g is i r = comes_in g.channel.state g.channel.resetting x c p b g is i r
 
 -- ---- what cannot be read, and a timer that runs out
 

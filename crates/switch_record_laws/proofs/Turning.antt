@@ -26,7 +26,7 @@ goes {acts} ls ms w bs i h b = record {
 }
 
 pub frame_goes : FrameLaw
-frame_goes n octets s w bs are i h = goes s.lines _ w bs i h (turns.frame n octets s w are i)
+frame_goes n octets s w bs are i h = goes s.lines _ w bs i h (turns.frame n octets s w i)
 
 pub timer_goes : TimerLaw
 timer_goes n id s w bs i h = goes s.lines _ w bs i h (turns.timer n id s w i)

@@ -51,7 +51,7 @@ event_tied n what s t h world reads i is moved holds kept =
 
 frame_tied : FrameTied
 frame_tied n octets s h are first i =
-    let a = events_hold.stays (Arrives n octets) s h.legs are i.holds in
+    let a = events_hold.stays (Arrives n octets) s h.legs i.holds in
     event_tied n (Brings octets) s (on_frame n octets s) h a.world are i refl a.moved a.holds (frame_event n octets s h.partners h.books are i.addresses first i.kept)
 
 timer_tied : TimerTied
@@ -67,7 +67,7 @@ elapsed_addresses f (l ∷ ls) = ap (λ (as_ : List (List ℕ)). l.address ∷ a
 
 elapse_tied : ElapseTied
 elapse_tied ticks s h i =
-    let a = events_hold.stays (Elapses ticks) s h.legs tt i.holds in
+    let a = events_hold.stays (Elapses ticks) s h.legs i.holds in
     record {
       holds = subst (λ (v : World). SwitchHolds (elapse ticks s) v) a.moved.legs a.holds;
       kept = elapse_event ticks s h.partners h.books i.kept;
@@ -81,7 +81,7 @@ restarted_addresses (l ∷ ls) = ap (λ (as_ : List (List ℕ)). l.address ∷ a
 
 restart_tied : RestartTied
 restart_tied s h i =
-    let a = events_hold.stays Restarts s h.legs tt i.holds in
+    let a = events_hold.stays Restarts s h.legs i.holds in
     record {
       holds = subst (λ (v : World). SwitchHolds (restart s) v) a.moved a.holds;
       kept = restart_event s h.partners h.books i.kept;

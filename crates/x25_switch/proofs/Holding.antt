@@ -7,9 +7,8 @@ use Rattle.address_routes.specs.Routes.{RouteMap}
 use Rattle.switch_lines.specs.Lines.{SwitchLine}
 use Rattle.switch_lines.specs.Switch.{Switch, acted, all_begun, on_frame, timer_runs, on_expiry, on_timer}
 use Rattle.switch_lines.specs.Alone.{finished_alone}
-use Rattle.switch_laws.specs.Turn.{AreOctets}
 use Rattle.switch_laws.specs.World.{World}
-use Rattle.switch_laws.specs.Events.{Event, MayCome, after_event, SwitchHolds, GoesOn, KeepsLegs}
+use Rattle.switch_laws.specs.Events.{Event, after_event, SwitchHolds, GoesOn, KeepsLegs}
 use Rattle.switch_laws.specs.Events.Event.{Arrives, Expires}
 use Rattle.switch_laws.specs.Isolated.{LeavesOthers}
 use Rattle.switch_laws.specs.Joined.{HasRelayedAll}
@@ -23,25 +22,21 @@ use Rattle.switch_laws.proofs.Pairing.{pairs_hold}
 use Rattle.switch_laws.proofs.Untouched.{others_are_left}
 use Rattle.switch_laws.proofs.Framing.{all_are_sent}
 
-pub octets : (xs : List ℕ) → ((i : ℕ) → slice_index xs i < 256) → AreOctets xs
-octets [] h = tt
-octets (x ∷ xs) h = (h 0, octets xs (λ i. h (suc i)))
-
 -- there are legs with which it holds
 pub record Holds (s : Switch) : Type 0 where
   pub legs : World
   pub holds : SwitchHolds s legs
 
-pub holds_after : (event : Event) (s t : Switch) (w : World) → MayCome event → SwitchHolds s w → t ≡ after_event event s → Holds t
-holds_after event s t w may h e =
-    let a = events_hold.stays event s w may h in
+pub holds_after : (event : Event) (s t : Switch) (w : World) → SwitchHolds s w → t ≡ after_event event s → Holds t
+holds_after event s t w h e =
+    let a = events_hold.stays event s w h in
     subst (λ (x : Switch). Holds x) (sym e) (record { legs = a.world; holds = a.holds })
 
 -- ---- what is promised of an event, whatever legs there are
 
-pub goes_on : (event : Event) (s t : Switch) → MayCome event → t ≡ after_event event s → KeepsLegs event s t
-goes_on event s t may e w h =
-    let a = events_hold.stays event s w may h in
+pub goes_on : (event : Event) (s t : Switch) → t ≡ after_event event s → KeepsLegs event s t
+goes_on event s t e w h =
+    let a = events_hold.stays event s w h in
     subst (λ (x : Switch). GoesOn event s w x) (sym e) (record { world = a.world; moved = a.moved; holds = a.holds })
 
 pub record FrameKept (n : ℕ) (xs : List ℕ) (s t : Switch) : Type 0 where
@@ -52,16 +47,16 @@ pub record FrameKept (n : ℕ) (xs : List ℕ) (s t : Switch) : Type 0 where
   pub legs : KeepsLegs (Arrives n xs) s t
   pub frames : AreAllSent n (Brings xs) s t
 
-pub frame_kept : (n : ℕ) (xs : List ℕ) (s t v : Switch) (w : World) → AreOctets xs → SwitchHolds s w → t ≡ on_frame n xs s → s ≡ v → FrameKept n xs v t
-frame_kept n xs s t v w are h e old =
-    let a = events_hold.stays (Arrives n xs) s w are h in
+pub frame_kept : (n : ℕ) (xs : List ℕ) (s t v : Switch) (w : World) → SwitchHolds s w → t ≡ on_frame n xs s → s ≡ v → FrameKept n xs v t
+frame_kept n xs s t v w h e old =
+    let a = events_hold.stays (Arrives n xs) s w h in
     let k : FrameKept n xs s (on_frame n xs s) = record {
-      others = others_are_left.frame n xs s w are h;
+      others = others_are_left.frame n xs s w h;
       relayed = a.holds.relayed;
       nothing_kept_back = a.nothing_kept_back;
       routes = pairs_hold.frame_joins n xs s;
-      legs = goes_on (Arrives n xs) s (on_frame n xs s) are refl;
-      frames = all_are_sent.frame n xs s w are h;
+      legs = goes_on (Arrives n xs) s (on_frame n xs s) refl;
+      frames = all_are_sent.frame n xs s w h;
     } in
     subst (λ (x : Switch). FrameKept n xs x t) old (subst (λ (x : Switch). FrameKept n xs s x) (sym e) k)
 
@@ -79,13 +74,13 @@ either_routes n id s false = λ p j e. inl (record { old = j; joined = e; other 
 
 pub timer_kept : (n : ℕ) (id : TimerId) (s t v : Switch) (w : World) → SwitchHolds s w → t ≡ on_timer n id s → s ≡ v → TimerKept n id v t
 timer_kept n id s t v w h e old =
-    let a = events_hold.stays (Expires n id) s w tt h in
+    let a = events_hold.stays (Expires n id) s w h in
     let k : TimerKept n id s (on_timer n id s) = record {
       others = others_are_left.timer n id s w h;
       relayed = a.holds.relayed;
       nothing_kept_back = a.nothing_kept_back;
       routes = either_routes n id s (timer_runs (slice_get s.lines n) id);
-      legs = goes_on (Expires n id) s (on_timer n id s) tt refl;
+      legs = goes_on (Expires n id) s (on_timer n id s) refl;
       frames = λ ran. all_are_sent.timer n id s w h ran;
     } in
     subst (λ (x : Switch). TimerKept n id x t) old (subst (λ (x : Switch). TimerKept n id s x) (sym e) k)
@@ -104,10 +99,10 @@ three_calls : (n : ℕ) (f : Acts) (routes : RouteMap) (ls bs rs fs : List Switc
 three_calls n f routes ls bs rs fs begins acts ends =
     ap (λ (xs : List SwitchLine). of_lines routes xs) (ends ∙ ap (λ (xs : List SwitchLine). finished_alone routes n xs) (acts ∙ ap (λ (xs : List SwitchLine). acted routes n f xs) begins))
 
-pub frame_is : (n : ℕ) (xs : List ℕ) (routes : RouteMap) (ls bs rs fs : List SwitchLine) (w : World) → AreOctets xs → SwitchHolds (of_lines routes ls) w
+pub frame_is : (n : ℕ) (xs : List ℕ) (routes : RouteMap) (ls bs rs fs : List SwitchLine) (w : World) → SwitchHolds (of_lines routes ls) w
     → bs ≡ all_begun ls → rs ≡ acted routes n (λ e. received e xs) bs → fs ≡ finished_alone routes n rs → of_lines routes fs ≡ on_frame n xs (of_lines routes ls)
-frame_is n xs routes ls bs rs fs w are h begins acts ends =
-    three_calls n (λ e. received e xs) routes ls bs rs fs begins acts ends ∙ concerns_hold.frame_alone n xs (of_lines routes ls) w are h.joins h.relayed
+frame_is n xs routes ls bs rs fs w h begins acts ends =
+    three_calls n (λ e. received e xs) routes ls bs rs fs begins acts ends ∙ concerns_hold.frame_alone n xs (of_lines routes ls) w h.joins h.relayed
 
 pub timer_is : (n : ℕ) (id : TimerId) (routes : RouteMap) (ls bs rs fs : List SwitchLine) (w : World) → timer_runs (slice_get ls n) id ≡ true → SwitchHolds (of_lines routes ls) w
     → bs ≡ all_begun ls → rs ≡ acted routes n (λ e. after_timer e id) bs → fs ≡ finished_alone routes n rs → of_lines routes fs ≡ on_timer n id (of_lines routes ls)

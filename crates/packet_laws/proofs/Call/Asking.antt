@@ -136,7 +136,7 @@ asks_release window n true x y o b e i =
         acking = record {
           acks = acks_more o y.epoch.covered x.epoch.released (x.epoch.released + n) (omega arith) k.acks;
           covered_is = k.covered_is;
-          released_is = ap (λ (r : ℕ). (r + n) % 8) k.released_is ∙ more_mod x.epoch.released n;
+          released_is = more_mod x.traffic.released x.epoch.released n k.released_is;
           in_window = k.in_window;
           released_taken = omega arith;
         };

@@ -1,13 +1,12 @@
 -- What is still to be covered at an end goes with its epoch, beside the agreement of the two ends.
 use Rattle.std.proofs.Common.{◌≡◌, ℕ, ◌+◌, ◌-◌, ◌%◌, List, ◌∷◌, ◌++◌, length, sym, ap, ◌∙◌, append_assoc, length-append, arith}
 use Rattle.packet_layer.specs.Packets.{Datum, Body}
-use Rattle.packet_layer.specs.Packets.Body.{Data, ReceiveReady, ReceiveNotReady}
 use Rattle.packet_layer.specs.Traffic.{Heard, hears}
 use Rattle.packet_layer.specs.Traffic.Heard.{Keeps, Confirms, Wrong}
 use Rattle.packet_layer.specs.Channel.{Request}
-use Rattle.packet_laws.specs.Counts.{NamesCounts, NamesAfter, IsNumbered, through_delivery}
+use Rattle.packet_laws.specs.Counts.{NamesCounts, NamesAfter, through_delivery}
 use Rattle.packet_laws.proofs.Handshakes.Handshake.{Two, does, said}
-use Rattle.packet_laws.proofs.Call.OneEpoch.{Inner, Epochs_agree, datas, AckOf, heard_inner, inner_hears, inner_ok, inner_says, inner_after, Askable}
+use Rattle.packet_laws.proofs.Call.OneEpoch.{Inner, Epochs_agree, datas, heard_inner, inner_hears, inner_ok, inner_says, inner_after, Askable}
 use Rattle.packet_laws.proofs.Call.Pipes.{acks_le}
 use Rattle.packet_laws.proofs.Call.Asking.{pair_of, asking}
 use Rattle.packet_laws.proofs.Call.Saying.{saying}
@@ -65,12 +64,6 @@ says_on window x y o b i = record {
   yours = i.yours;
 }
 
-numbered : (t : Body) (c : ℕ) (rest : ℕ → Type 0) → AckOf t c rest → IsNumbered t
-numbered (Data send receive d) c rest h = let e = h.1.0 in omega arith
-numbered (ReceiveReady receive) c rest h = let e = h.1.0 in omega arith
-numbered (ReceiveNotReady receive) c rest h = let e = h.1.0 in omega arith
-numbered _ c rest h = tt
-
 heard_delivery : (window : ℕ) (h : Heard) (i : Inner) (t : Body) → NamesAfter window h i.traffic i.epoch t → Undelivered i → Undelivered (heard_inner h i)
 heard_delivery window (Keeps n t) i b w u = w.0.undelivered
 heard_delivery window (Confirms t) i b w u = w.undelivered
@@ -83,7 +76,7 @@ hears_on window v t ts i =
       record {
         ways = h.1;
         mine = heard_delivery window (hears window v.me.traffic t) v.me t
-            (counts_hold.heard window i.ways.small v.me.traffic v.me.epoch t (numbered t v.me.epoch.covered _ i.ways.forth.acking.acks)
+            (counts_hold.heard window i.ways.small v.me.traffic v.me.epoch t
             (names window v.me v.you v.out (t ∷ ts) i.ways i.mine)) i.mine;
         yours = i.yours;
       },

@@ -8,13 +8,13 @@ use Rattle.packet_layer.specs.Traffic.Heard.{Keeps, Confirms, Wrong}
 use Rattle.packet_laws.proofs.Handshakes.Handshake.{Two, does}
 use Rattle.packet_laws.proofs.Call.OneEpoch.{Inner, datas, interrupts, confirmations, Numbers, Acks, one, Waits, wire, Epochs_agree, heard_inner, NotWrong, inner_hears, inner_ok}
 use Rattle.packet_laws.specs.Law.{listed}
-use Rattle.packet_laws.proofs.Numbers.{apart}
+use Rattle.packet_laws.proofs.Numbers.{apart, more_mod}
 use Rattle.packet_laws.proofs.Call.Pipes.{acks_le}
 use Rattle.packet_laws.proofs.Call.Asking.{pair_of}
 
 -- a P(R) that names a count from the one covered to what was released is valid, and covers up to it
 covers_is : (window n r : ℕ) (x y : Inner) (o b : List Body) → Epochs_agree window (pair_of x y o b) → r ≡ n % 8 → x.epoch.covered ≤ n → n ≤ y.epoch.released
-    → (covers r x.traffic ≡ Keeps (distance x.traffic.covered r) (record x.traffic { covered = r; undelivered = x.traffic.undelivered - distance x.traffic.covered r })) × (x.epoch.covered + distance x.traffic.covered r ≡ n)
+    → (covers r x.traffic ≡ Keeps (distance x.traffic.covered r) (record x.traffic { covered = (x.traffic.covered + distance x.traffic.covered r) % 8; undelivered = x.traffic.undelivered - distance x.traffic.covered r })) × (x.epoch.covered + distance x.traffic.covered r ≡ n)
 covers_is window n r x y o b i is lo hi =
     let s = i.forth.stream in let a = i.forth.acking in
     let rt = a.released_taken in let sm = i.small in let iw = a.in_window in
@@ -22,7 +22,7 @@ covers_is window n r x y o b i is lo hi =
     let flight : x.epoch.covered + in_flight x.traffic ≡ sum =
     apart x.traffic.covered x.traffic.send_number x.epoch.covered sum a.covered_is s.next (omega arith) (omega arith) in
     let newly : x.epoch.covered + distance x.traffic.covered r ≡ n = apart x.traffic.covered r x.epoch.covered n a.covered_is is lo (omega arith) in (
-      ap (λ (c : Bool). cond c (Keeps (distance x.traffic.covered r) (record x.traffic { covered = r; undelivered = x.traffic.undelivered - distance x.traffic.covered r })) (Wrong 2)) (le-leb (distance x.traffic.covered r) (in_flight x.traffic) (omega arith)),
+      ap (λ (c : Bool). cond c (Keeps (distance x.traffic.covered r) (record x.traffic { covered = (x.traffic.covered + distance x.traffic.covered r) % 8; undelivered = x.traffic.undelivered - distance x.traffic.covered r })) (Wrong 2)) (le-leb (distance x.traffic.covered r) (in_flight x.traffic) (omega arith)),
       newly,
     )
 
@@ -44,7 +44,7 @@ hears_ready window n r x y o ts nums is lo acks i =
           stream = i.forth.stream;
           acking = record {
             acks = subst (λ (j : ℕ). Acks j ts y.epoch.released) (sym c.1) acks;
-            covered_is = is ∙ ap (λ (j : ℕ). j % 8) (sym c.1);
+            covered_is = more_mod x.traffic.covered x.epoch.covered (distance x.traffic.covered r) a.covered_is;
             released_is = a.released_is;
             in_window = let e = c.1 in let w = a.in_window in omega arith;
             released_taken = a.released_taken;
@@ -79,7 +79,7 @@ hears_not_ready window n r x y o ts nums is lo acks i =
           stream = i.forth.stream;
           acking = record {
             acks = subst (λ (j : ℕ). Acks j ts y.epoch.released) (sym c.1) acks;
-            covered_is = is ∙ ap (λ (j : ℕ). j % 8) (sym c.1);
+            covered_is = more_mod x.traffic.covered x.epoch.covered (distance x.traffic.covered r) a.covered_is;
             released_is = a.released_is;
             in_window = let e = c.1 in let w = a.in_window in omega arith;
             released_taken = a.released_taken;
@@ -124,7 +124,7 @@ hears_datum window n s r d x y o ts s_is nums is lo acks i =
           stream = i.forth.stream;
           acking = record {
             acks = subst (λ (j : ℕ). Acks j ts y.epoch.released) (sym c.1) acks;
-            covered_is = is ∙ ap (λ (j : ℕ). j % 8) (sym c.1);
+            covered_is = more_mod x.traffic.covered x.epoch.covered (distance x.traffic.covered r) a.covered_is;
             released_is = a.released_is;
             in_window = let e = c.1 in let w = a.in_window in omega arith;
             released_taken = a.released_taken;

@@ -34,7 +34,7 @@ pub invariant_of-self : goal.invariant_of-self
 invariant_of-self c =
     let is = timer_is c.args.line c.args.id c.self.inside.routes c.self.inside.lines c.begin.new.self c.on_timer.new.self c.finish.new.self c.self.invariant.legs (sym c.if-not-is_running.ensures) c.self.invariant.holds
     c.begin.ensures c.on_timer.ensures c.finish.ensures in
-    let h = holds_after (Expires c.args.line c.args.id) (switch_of c.self.inside) (of_lines c.self.inside.routes c.finish.new.self) c.self.invariant.legs tt c.self.invariant.holds is in
+    let h = holds_after (Expires c.args.line c.args.id) (switch_of c.self.inside) (of_lines c.self.inside.routes c.finish.new.self) c.self.invariant.legs c.self.invariant.holds is in
     record { legs = h.legs; holds = h.holds }
 
 pub returns-clause-switch : goal.returns-clause-switch

@@ -8,6 +8,6 @@ use Rattle.x25_switch.proofs.switch.Switch.out.Goals as goal
 pub invariant_of-self : goal.invariant_of-self
 invariant_of-self c =
     let routes = c.self.inside.routes in
-    let h = holds_after (Departs c.args.line) (switch_of c.self.inside) (of_lines routes c.out.new.self) c.self.invariant.legs tt c.self.invariant.holds
+    let h = holds_after (Departs c.args.line) (switch_of c.self.inside) (of_lines routes c.out.new.self) c.self.invariant.legs c.self.invariant.holds
     (ap (λ (ls : List SwitchLine). of_lines routes ls) c.out.ensures.lines) in
     record { legs = h.legs; holds = h.holds }

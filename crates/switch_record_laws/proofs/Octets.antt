@@ -1,6 +1,5 @@
--- Octets that come on a line: the packet that a frame brings consists of octets, and its numbers are below 8.
+-- Octets that come on a line: the packet that a frame brings consists of octets.
 use Rattle.std.proofs.Common.{◌≡◌, ℕ, ◌/◌, ◌%◌, ◌<◌, Bool, true, false, if◌then◌else◌, List, [], ◌∷◌, length, Option, Some, None, Result, Ok, Err, refl, sym, subst, arith, nat_le, nat_lt}
-use Rattle.std.proofs.lemmas.Option.{none-some, same_Some}
 use Rattle.link_timers.specs.declared.role.Role.{Role}
 use Rattle.link_timers.specs.declared.role.Role.TheVariants.{Dte, Dce}
 use Rattle.frame_codec.specs.declared.fault.FrameFault.{FrameFault}
@@ -14,18 +13,7 @@ use Rattle.lapb.specs.Machine as link
 use Rattle.lapb.specs.Machine.{Link, Step, Defect}
 use Rattle.frame_codec.specs.Frame.{Report}
 use Rattle.lapb.specs.Octets as link_octets
-use Rattle.packet_codec.specs.declared.fault.PacketFault.{PacketFault}
-use Rattle.packet_codec.specs.declared.fault.PacketFault.TheVariants as packet_fault
-use Rattle.packet_codec.specs.declared.packet_type.PacketType.{PacketType}
-use Rattle.packet_codec.specs.declared.packet_type.PacketType.TheVariants as types
-use Rattle.packet_codec.specs.Packet.{PacketValue, ContentValue}
-use Rattle.packet_codec.specs.Reading as packets
-use Rattle.packet_layer.specs.Packets.{Received}
-use Rattle.packet_layer.specs.Packets.Received.{Whole, Unknown, Faulty}
-use Rattle.packet_layer.specs.Octets.{body_of, heard, heard_by, unreadable_as}
-use Rattle.packet_laws.specs.Counts.{IsNumbered}
 use Rattle.packet_laws.specs.Readable.{IfAny, AreOctets}
-use Rattle.switch_laws.specs.World.{IsReadAs}
 
 by_if : {X : Type 0} (P : X → Type 0) (b : Bool) (x y : X) → P x → P y → P (if b then x else y)
 by_if P true x y f g = f
@@ -191,68 +179,3 @@ on_reading l octets (Err fault) i = on_fault l fault octets
 
 pub accepts_octets : (l : Link) (octets : List ℕ) → AreOctets octets → IfAny (λ packet. AreOctets packet) (link_octets.on_octets l octets).accepted
 accepts_octets l octets are = (on_reading l octets (frames.reading l.role octets) (frame_read l.role octets are)).it
-
--- ---- numbers of a packet
-
-record ReadAs (o : Option Received) : Type 0 where
-  it : (r : Received) → o ≡ Some r → IsReadAs r
-
-read_none : ReadAs None
-read_none = record { it = λ r e. absurd (none-some r e) }
-
-read_some : (r : Received) → IsReadAs r → ReadAs (Some r)
-read_some r i = record { it = λ s e. subst (λ (x : Received). IsReadAs x) (same_Some r s e) i }
-
-read_unreadable : (unknown : Bool) (o : Option ℕ) → ReadAs (unreadable_as unknown o)
-read_unreadable true None = read_none
-read_unreadable false None = read_none
-read_unreadable true (Some c) = read_some (Unknown c) tt
-read_unreadable false (Some c) = read_some (Faulty c) tt
-
-below : (third : ℕ) → third < 256 → third / 32 < 8
-below third lt = omega arith
-
-said_numbered : (kind : PacketType) (q d : Bool) (third : ℕ) (rest : List ℕ) → third < 256 → IsNumbered (body_of (packets.said kind q d third rest))
-said_numbered types.Data q d third rest lt = below third lt
-said_numbered types.ReceiveReady q d third rest lt = below third lt
-said_numbered types.ReceiveNotReady q d third rest lt = below third lt
-said_numbered kind q d third rest lt = tt
-
-record Reads (octets : List ℕ) (r : Result PacketValue PacketFault) : Type 0 where
-  it : ReadAs (heard_by octets r)
-
-read_fault : (octets : List ℕ) (fault : PacketFault) → Reads octets (Err fault)
-read_fault octets packet_fault.TooShort = record { it = read_none }
-read_fault octets packet_fault.BadFormatId = record { it = read_none }
-read_fault octets packet_fault.UnknownType = record { it = read_unreadable true _ }
-read_fault octets packet_fault.BadLength = record { it = read_unreadable false _ }
-read_fault octets packet_fault.BadAddress = record { it = read_unreadable false _ }
-read_fault octets packet_fault.DataTooLong = record { it = read_unreadable false _ }
-
-record ReadsOn (octets : List ℕ) (c : ℕ) (r : Result ContentValue PacketFault) : Type 0 where
-  it : Reads octets (packets.on_channel c r)
-
-refuses : (octets : List ℕ) (c : ℕ) (fault : PacketFault) → ReadsOn octets c (Err fault)
-refuses octets c fault = record { it = read_fault octets fault }
-
-says : (octets : List ℕ) (c : ℕ) (kind : PacketType) (q d : Bool) (third : ℕ) (rest : List ℕ) → third < 256 → ReadsOn octets c (Ok (packets.said kind q d third rest))
-says octets c kind q d third rest lt = record { it = record { it = read_some (Whole (record { channel = c; body = body_of (packets.said kind q d third rest) })) (said_numbered kind q d third rest lt) } }
-
-read_kind : (octets : List ℕ) (c : ℕ) (kind : PacketType) (q d : Bool) (third : ℕ) (rest : List ℕ) → third < 256 → ReadsOn octets c (packets.content_of kind q d third rest)
-read_kind octets c kind q d third rest lt =
-    by_if (λ r. ReadsOn octets c r) _ _ _ (refuses octets c packet_fault.BadLength)
-    (by_if (λ r. ReadsOn octets c r) _ _ _ (refuses octets c packet_fault.BadAddress)
-    (by_if (λ r. ReadsOn octets c r) _ _ _ (refuses octets c packet_fault.DataTooLong) (says octets c kind q d third rest lt)))
-
-read_typed : (octets : List ℕ) (kind : Option PacketType) (first second third : ℕ) (rest : List ℕ) → third < 256 → Reads octets (packets.typed kind first second third rest)
-read_typed octets None first second third rest lt = read_fault octets packet_fault.UnknownType
-read_typed octets (Some kind) first second third rest lt = (read_kind octets (packets.channel_of first second) kind (packets.bit_8 first) (packets.bit_7 first) third rest lt).it
-
-read_octets : (all octets : List ℕ) → AreOctets octets → Reads all (packets.reading octets)
-read_octets all [] are = read_fault all packet_fault.TooShort
-read_octets all (a ∷ []) are = read_fault all packet_fault.TooShort
-read_octets all (a ∷ b ∷ []) are = read_fault all packet_fault.TooShort
-read_octets all (a ∷ b ∷ c ∷ rest) are = by_if (λ r. Reads all r) _ _ _ (read_typed all (packets.named_type a b c) a b c rest are.1.1.0) (read_fault all packet_fault.BadFormatId)
-
-pub reads_numbers : (octets : List ℕ) → AreOctets octets → (r : Received) → heard octets ≡ Some r → IsReadAs r
-reads_numbers octets are = (read_octets octets octets are).it.it
