@@ -6,7 +6,6 @@ pub mod Params
 pub mod Pooled
 pub mod Stack
 pub mod StackView
-pub mod NoteQueueView
 pub mod PooledView
 pub mod EndView
 pub mod Sending

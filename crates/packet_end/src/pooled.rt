@@ -16,7 +16,7 @@ mod asking;
 mod offering;
 
 use crate::fault::EndFault;
-use crate::notes::{MOST_NOTES, NoteQueue};
+use crate::notes::{EventNotes, MOST_NOTES};
 use crate::params::EndParams;
 use crate::stack::Stack;
 use crate::timing::bring_into_line;
@@ -37,7 +37,7 @@ use std::marker::Model;
 pub struct PooledEnd {
     stack: Stack,
     timers: Timers,
-    notes: NoteQueue,
+    notes: EventNotes,
     touched: Touched,
 }
 
@@ -73,7 +73,7 @@ impl PooledEnd {
         Ok(PooledEnd {
             stack: Stack::new(alloc, role, params, pool)?,
             timers: Timers::new(),
-            notes: NoteQueue::new(alloc)?,
+            notes: EventNotes::new(alloc)?,
             touched: Touched::Everything,
         })
     }
