@@ -5,7 +5,6 @@ ghost use Rattle.packet_codec.specs.Digits.{digits_or_none};
 ghost use Rattle.call_records.specs.Book.{address_of, free_slot, nth_slot, with_nth, side_of, with_slot};
 ghost use Rattle.call_records.specs.BookView.{book_with};
 
-use crate::record::Pair;
 use link_timers::Role;
 use packet_codec::Address;
 use std::alloc::{AllocError, Global};

@@ -6,7 +6,6 @@ ghost use Rattle.packet_end.specs.Timing.{TimersAgree};
 ghost use Rattle.x25_pad.specs.Pad as spec;
 
 use crate::pad::Pad;
-use link_timers::TimerId;
 use packet_end::{FrameBuf, MOST_FRAMES};
 
 impl Pad {
