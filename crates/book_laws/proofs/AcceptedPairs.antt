@@ -1,12 +1,11 @@
 -- The pairs of a book are the calls that were accepted.
-use Rattle.std.specs.Prelude.{◌≡◌, ℕ, ◌≤◌, Bool, true, List, length, map, option_map, slice_get, Option, Some, None}
+use Rattle.std.specs.Prelude.{◌≡◌, ℕ, true, List, length, map, option_map, slice_get, Option, Some, None}
 use Rattle.std.proofs.Common.{refl, sym, ap, ap₂, subst, ◌∙◌, arith}
 use Rattle.std.proofs.lemmas.Option.{same_Some, slice_get-map, slice_get_within}
 use Rattle.std.proofs.lemmas.List.{length-map}
 use Rattle.link_timers.specs.declared.role.Role.{Role}
 use Rattle.link_timers.specs.declared.role.Role.TheVariants.{Dte, Dce}
 use Rattle.link_timers.specs.Role.{other_of}
-use Rattle.packet_laws.specs.History.{Epoch}
 use Rattle.packet_laws.proofs.Line.LineHolds.{line_holds}
 use Rattle.call_records.specs.Records.{RecordValue, PairValue}
 use Rattle.call_records.specs.Book.{side_of}
@@ -14,7 +13,7 @@ use Rattle.book_laws.specs.Told.{World, after_all, all_callers, start, made_call
 use Rattle.book_laws.specs.Counts as counts
 use Rattle.book_laws.specs.AcceptedCalls.{CallUse, epochs_at, was_accepted, IsOfAccepted, PairsAreAccepted, AcceptedLaw, AcceptedRun}
 use Rattle.book_laws.proofs.Basics.{get_there, map_at}
-use Rattle.book_laws.proofs.Invariant.{EndView, ChannelUse, Kind, Tag, IsLive, Tells, IsRight, book_parts, answered_at}
+use Rattle.book_laws.proofs.Invariant.{EndView, ChannelUse, Kind, Tag, IsLive, IsRight, book_parts, answered_at}
 use Rattle.book_laws.proofs.Cancelling.{caller_not_cancelled, callee_not_cancelled}
 use Rattle.book_laws.proofs.Counting.{use_epochs}
 use Rattle.book_laws.proofs.EndSteps.{views_of}

@@ -5,7 +5,6 @@ use Rattle.std.proofs.lemmas.Option.{none-some, same_Some}
 use Rattle.std.proofs.lemmas.List.{append_assoc, append-nil}
 use Rattle.call_records.specs.Book.{Book}
 use Rattle.call_records.specs.Register.{Register, LinePlan, LineEnds, free_ends, planned_book, with_lines, with_line, empty_register}
-use Rattle.register_laws.specs.Seen.{positions}
 use Rattle.register_laws.specs.Seen as line
 use Rattle.register_laws.specs.Law.{HaveChannels, HaveNoAddress}
 use Rattle.register_laws.proofs.Making.{made_seen}

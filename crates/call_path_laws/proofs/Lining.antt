@@ -6,7 +6,7 @@ use Rattle.link_timers.specs.declared.role.Role.TheVariants.{Dte, Dce}
 use Rattle.call_records.specs.Records.{RecordValue}
 use Rattle.call_records.specs.Book.{Book}
 use Rattle.call_records.specs.Register.{book_at}
-use Rattle.book_laws.specs.Headline.{AreEnds, BookHolds}
+use Rattle.book_laws.specs.Headline.{AreEnds}
 use Rattle.book_laws.specs.Headline as book
 use Rattle.book_laws.proofs.Basics.{get_there}
 use Rattle.register_laws.specs.Seen.{positions, IsNumbered, renumbered, RecordIsSeen}

@@ -9,6 +9,7 @@ ghost use Rattle.call_records.specs.Book.{made_book, slot_at, address_of, with_c
 ghost use Rattle.call_records.specs.Book.{answers, closes, renews, sends, interrupts, takes, releases, covers, edits, told};
 ghost use Rattle.packet_codec.specs.Digits.{digits_or_none};
 ghost use Rattle.call_records.specs.Records.{changed_at, with_hop};
+ghost use Rattle.call_records.specs.Packets.{data_packet_of};
 ghost use Rattle.call_records.specs.Closing.{all_closed};
 ghost use Rattle.call_records.specs.Room.{opens, room_after};
 ghost use Rattle.call_records.specs.BookView.{CallsHavePlaces};
@@ -297,30 +298,15 @@ impl Book {
         self.grow(role, channel, Growth::Epoch);
     }
 
-    /// A Data packet of at most 128 octets was accepted to be sent, with its bits M, Q and D (X.25 4.3).
-    pub fn send(
-        &mut self,
-        role: Role,
-        channel: u8,
-        octets: &[u8],
-        more: bool,
-        qualified: bool,
-        delivery: bool,
-    )
+    /// A Data packet of at most 128 octets was accepted to be sent (X.25 4.3).
+    pub fn send(&mut self, role: Role, channel: u8, packet: Packet<'_>)
         requires room { 1 ≤ self.old.room }
-        requires fits { length octets.now ≤ 128 }
+        requires fits { length packet.octets.now ≤ 128 }
         ensures { self.new ≡ record self.old {
-          book = sends role channel
-              (record { octets = octets.now; more = more; qualified = qualified; delivery = delivery }) self.old.book;
+          book = sends role channel (data_packet_of packet.entry) self.old.book;
           room = self.old.room - 1;
         } }
     {
-        let packet = Packet {
-            octets,
-            more,
-            qualified,
-            delivery,
-        };
         self.grow(role, channel, Growth::Sent(packet));
     }
 

@@ -6,7 +6,6 @@ ghost use Rattle.call_records.specs.Book.{address_of, free_slot, nth_slot, with_
 ghost use Rattle.call_records.specs.BookView.{book_with};
 ghost use Rattle.call_records.specs.Register.{holds};
 
-use crate::record::Pair;
 use link_timers::Role;
 use packet_codec::Address;
 use std::alloc::{AllocError, Global};

@@ -44,7 +44,7 @@ ghost use Rattle.line_end.specs.End.{
 
 use flow_window::pool::Pool;
 use frame_codec::FrameBuf;
-use lapb::{BadParams, Link, LinkOut, LinkParams, MOST_FRAMES, Note, OfferFault, Phase, Timing};
+use lapb::{BadParams, Link, LinkOut, LinkParams, MOST_FRAMES, Note, OfferFault, Timing};
 use link_timers::{Role, TimerId, Timers};
 use std::marker::Model;
 

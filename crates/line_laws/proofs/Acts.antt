@@ -21,7 +21,7 @@ use Rattle.packet_layer.specs.Channel.{Request}
 use Rattle.packet_layer.specs.Layer.{Layer}
 use Rattle.packet_layer.specs.Events.{timer_named}
 use Rattle.packet_laws.specs.Line as layers
-use Rattle.packet_laws.specs.Line.{Event, happens}
+use Rattle.packet_laws.specs.Line.{Event}
 use Rattle.packet_laws.specs.Readable.{IsReadable, CanBePlaced}
 use Rattle.packet_laws.proofs.Readable.{readable_link_down}
 use Rattle.packet_end.specs.PacketEnd as end

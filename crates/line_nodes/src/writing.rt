@@ -12,7 +12,7 @@ ghost use Rattle.line_nodes.specs.Writing.{request_written, IsShort, IsRoomFor};
 use crate::attachment::Attachment;
 use crate::node::Node;
 use crate::note::{HostNote, list_note};
-use call_records::Book;
+use call_records::{Book, Packet};
 use link_timers::Role;
 use packet_codec::MAX_USER_DATA;
 use packet_end::MOST_NOTES;
@@ -82,11 +82,23 @@ fn write_message(
 {
     let mut rest = octets;
     for _ in 0..full_packets(octets) {
-        let (packet, others) = rest.split_at(MAX_USER_DATA);
-        book.send(role, channel, packet, true, qualified, false);
+        let (full, others) = rest.split_at(MAX_USER_DATA);
+        let packet = Packet {
+            octets: full,
+            more: true,
+            qualified,
+            delivery: false,
+        };
+        book.send(role, channel, packet);
         rest = others;
     }
-    book.send(role, channel, rest, false, qualified, delivery);
+    let last = Packet {
+        octets: rest,
+        more: false,
+        qualified,
+        delivery,
+    };
+    book.send(role, channel, last);
 }
 
 // Reads the notes of a host, writes them, and lists those that its user is told.

@@ -10,7 +10,7 @@ use Rattle.packet_layer.specs.Channel.{Channel, Refusal, Request}
 use Rattle.packet_layer.specs.Layer.{Phase, Layer, channel_of, next_packet, next_in, next_restart, next_number, next_of, serve, serve_found, Next, front_on, call_refusal, request_refusal}
 use Rattle.packet_layer.specs.Layer.Phase.{NoSession, OwnRestart, PacketReady}
 use Rattle.packet_end.specs.PacketEnd as end
-use Rattle.packet_end.specs.PacketEnd.{PacketEnd, begun, received, runs_at, after_timer, relinked, relinked_if_due, with_next, offered, all_offered, finished, asked, called}
+use Rattle.packet_end.specs.PacketEnd.{PacketEnd, begun, runs_at, after_timer, relinked, relinked_if_due, with_next, offered, all_offered, finished, asked, called}
 use Rattle.packet_end.specs.declared.params.EndParams.{EndParams}
 use Rattle.packet_host.specs.Host.{ended, unless_refused, refuse_refusal, after_call, after_request, after_refuse, after_say, let_go, taken_as, after_take, after_expiry}
 use Rattle.packet_host.specs.Saying.{queued, cut, say_refusal}

@@ -7,6 +7,5 @@ mod Refusals
 mod RunsMore
 mod Stepped
 mod Resting
-mod Empties
 mod Receipts
 mod Matched

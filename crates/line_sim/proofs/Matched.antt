@@ -2,8 +2,7 @@
 use Rattle.std.proofs.Common.{◌≡◌, ◌<◌, ℕ, zero, suc, List, [], ◌∷◌, length, get_or, Some, refl, arith}
 use Rattle.std.specs.Prelude.{slice_get}
 use Rattle.call_records.specs.Records.{PairValue}
-use Rattle.call_path_laws.specs.Promise.{PathHolds}
-use Rattle.epoch_matching.specs.Pairs.{PairMatches, AllMatch}
+use Rattle.epoch_matching.specs.Pairs.{AllMatch}
 use Rattle.memory_line.specs.Lines.{LineService}
 use Rattle.net_events.specs.Network.{Network}
 use Rattle.switch_network_laws.specs.IsSwitched.{IsAny}

@@ -1,14 +1,12 @@
 -- What an event is answered, and what it makes of the network.
-use Rattle.std.specs.Prelude.{◌≡◌, ℕ, OnErr, Result, Ok, Err}
+use Rattle.std.specs.Prelude.{◌≡◌, OnErr, Result, Ok, Err}
 use Rattle.std.specs.Borrow.{Bor}
-use Rattle.memory_line.specs.declared.line.Direction.{Direction}
 use Rattle.memory_line.specs.Lines.{LineService}
 use Rattle.net_events.specs.declared.answer.Answer.{Answer}
 use Rattle.net_events.specs.declared.event.Event.{Event}
-use Rattle.net_events.specs.declared.event.Event.TheVariants.{Deliver}
 use Rattle.net_events.specs.declared.event.StepFault.{StepFault}
 use Rattle.net_events.specs.Network.{Network}
-use Rattle.net_nodes.specs.Happening.{Happens, SaysNoneArrived}
+use Rattle.net_nodes.specs.Happening.{Happens}
 use Rattle.switch_network_laws.specs.Promise.{NetworkPromise}
 use Rattle.line_sim.specs.Expiries.{FewerDue, IdleExpiry}
 
@@ -26,9 +24,3 @@ pub record HasStepped (L : LineService) (e : Event) (s : Network) (r : Result An
   pub fewer_due : FewerDue e s r t
   pub idle : IdleExpiry L e s t
   pub headline : L.faithful → NetworkPromise t
-
--- a delivery on a line in a direction is answered that no frame arrived, and changes nothing
-pub record FindsNoFrame (L : LineService) (line : ℕ) (d : Direction) (s : Network) : Type 0 where
-  pub answer : Answer
-  pub says : SaysNoneArrived answer
-  pub happens : Happens L (Deliver line d) s (Ok answer) s

@@ -10,7 +10,7 @@ ghost use Rattle.net_config.specs.declared.fault.MakeFault.TheVariants as make_f
 ghost use Rattle.net_config.specs.Served.{is_served};
 ghost use Rattle.net_events.specs.declared.event.StepFault.TheVariants as step_fault_is;
 ghost use Rattle.net_nodes.specs.Faults.{step_fault, takes_memory};
-ghost use Rattle.net_nodes.specs.Happening.{IsRefusedSo};
+ghost use Rattle.net_nodes.specs.Happening.{IsRefusedSo, FindsNoFrame};
 ghost use Rattle.net_nodes.specs.Due.{net_due};
 ghost use Rattle.line_sim.specs.Receipts.{IsTakenBeyond};
 ghost use Rattle.net_nodes.specs.Questions.{net_confirmed, net_rests};
@@ -66,7 +66,7 @@ impl<L: Line> Net<L> {
     ghost use Rattle.std.specs.Borrow.{sem};
     ghost use Rattle.std.specs.Io.BufRead.{Rests};
     ghost use Rattle.line_sim.specs.contracts.net.Net.{the_row};
-    ghost use Rattle.line_sim.specs.Stepping.{lent, FindsNoFrame, HasStepped};
+    ghost use Rattle.line_sim.specs.Stepping.{lent, HasStepped};
 
     /// Makes a network on these lines, each of which is emptied first; where no call stands both ends of a line send a
     /// frame to begin with. It is refused where the configuration is outside its limits or of a kind that is not

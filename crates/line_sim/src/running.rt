@@ -74,11 +74,7 @@ fn goes_on(net: &mut Net<MemLine>, event: &Event) -> bool
     ensures headline { NetworkPromise net.new }
 {
     match net.step(event) {
-        Err(StepFault::OutOfMemory) => return false,
-        Err(StepFault::NoSuchNode) => return true,
-        Err(StepFault::NoSuchTerminal) => return true,
-        Err(StepFault::NoSuchCall) => return true,
-        Err(StepFault::Refused(_)) => return true,
-        Ok(_) => return true,
+        Ok(_) => true,
+        Err(fault) => fault != StepFault::OutOfMemory,
     }
 }

@@ -1,5 +1,5 @@
 //! Sets of places of timers.
-ghost use Rattle.std.specs.Prelude.{◌≡◌, ◌<◌, ℕ, true, false, ◌&&◌, ◌||◌, not, ◌==◌, MatchOption};
+ghost use Rattle.std.specs.Prelude.{◌≡◌, ◌<◌, ℕ, false, ◌&&◌, ◌||◌, not, ◌==◌, MatchOption};
 ghost use Rattle.link_timers.specs.PlaceSet.{has, size, IsFirstOf};
 
 use number_set::NumberSet;

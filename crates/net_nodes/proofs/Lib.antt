@@ -5,5 +5,6 @@ mod Waiting
 mod SwitchTurns
 mod Acting
 mod Happening
+mod Empties
 mod Making
 pub mod Made

@@ -33,5 +33,7 @@ pub record SaysNoneArrived (a : Answer) : Type 0 where
   pub outcome : a.outcome ≡ Delivered false
 
 -- a delivery on a line in a direction is answered so, and changes nothing
-abbrev pub FindsNone : (L : LineService) → (line : ℕ) → Direction → Network → Type 0
-FindsNone L line d s = (a : Answer) → SaysNoneArrived a → Happens L (Deliver line d) s (Ok a) s
+pub record FindsNoFrame (L : LineService) (line : ℕ) (d : Direction) (s : Network) : Type 0 where
+  pub answer : Answer
+  pub says : SaysNoneArrived answer
+  pub happens : Happens L (Deliver line d) s (Ok answer) s

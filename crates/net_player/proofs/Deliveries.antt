@@ -6,7 +6,7 @@ use Rattle.memory_line.specs.Lines.{LineService}
 use Rattle.net_events.specs.declared.event.Event.{Event}
 use Rattle.net_events.specs.declared.event.Event.TheVariants.{Deliver}
 use Rattle.line_sim.specs.Network.{Network}
-use Rattle.line_sim.specs.Stepping.{FindsNoFrame}
+use Rattle.line_sim.specs.Happening.{FindsNoFrame}
 use Rattle.net_player.specs.InTurn.{InTurn, Writes}
 use Rattle.answer_texts.specs.Answers.{Names, frames_text}
 use Rattle.net_player.specs.Playing.{Tells, Flowing, Delivers, has_arrived, deliveries_from, Passes, Flows}

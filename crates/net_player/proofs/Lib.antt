@@ -3,6 +3,5 @@ mod Lent
 pub mod Parts
 pub mod Deliveries
 pub mod Expiries
-pub mod WholeRead
 pub mod Failing
 pub mod Typing

@@ -9,7 +9,7 @@ ghost use Rattle.net_events.specs.declared.event.Event.TheVariants.{Deliver};
 ghost use Rattle.line_sim.specs.Network.{Network, all_elapsed};
 ghost use Rattle.line_sim.specs.DueCount.{all_due};
 ghost use Rattle.line_sim.specs.Due.{net_due};
-ghost use Rattle.line_sim.specs.Stepping.{FindsNoFrame};
+ghost use Rattle.line_sim.specs.Happening.{FindsNoFrame};
 ghost use Rattle.memory_line.specs.declared.line.Direction.TheVariants.{FromDte, FromDce};
 ghost use Rattle.net_player.specs.InTurn.{InTurn, StopsInTurn, Writes};
 ghost use Rattle.net_player.specs.Playing.{has_arrived, key_events, Tells, TellsEvent, Delivers, Passes, Flows};

@@ -11,6 +11,7 @@ ghost use Rattle.net_player.specs.Programs.{IsFrontOf, making_fault};
 
 use crate::output::write;
 use crate::player::play;
+use bounded_read::read_all;
 use command_words::{Invocation, Mode, WordsFault, read_words};
 use itoa::Buffer;
 use line_sim::{Config, MakeFault, Net};
@@ -177,7 +178,7 @@ fn play_first<R: Read, W: Write>(alloc: Global, input: &mut R, out: &mut W) -> R
         (W.contents out.old) (W.contents out.new)) }
 {
     let config = read_net(alloc, FIRST)?;
-    let text = read_all(alloc, input)?;
+    let text = read_text(alloc, input)?;
     let script = read_script(alloc, text.as_slice(), &config)?;
     play_in_memory(alloc, &config, &script, out)
 }
@@ -307,20 +308,18 @@ fn read_file<F: Files>(files: &F, alloc: Global, name: &str) -> Result<Vec<u8>, 
     ensures faults { IfErr result IsReadFault }
 {
     match File::open(files, name) {
-        Ok(mut file) => read_all(alloc, &mut file),
+        Ok(mut file) => read_text(alloc, &mut file),
         Err(error) => Err(reading_fault(&error)),
     }
 }
 
-/// Reads all that a reader has, of at most 1,048,576 octets.
-fn read_all<R: Read>(alloc: Global, input: &mut R) -> Result<Vec<u8>, ProgFault>
+/// Reads the text that a reader has, of at most 1,048,576 octets.
+fn read_text<R: Read>(alloc: Global, input: &mut R) -> Result<Vec<u8>, ProgFault>
     ensures left { IfOk result (λ text. IsLeftOf (R.remaining input.old) text.items) }
     ensures faults { IfErr result IsReadFault }
 {
-    let mut text = Vec::new(alloc);
-    match input.take(TEXT_OCTETS + 1).read_to_end(&mut text) {
-        Ok(count) if count as u64 <= TEXT_OCTETS => Ok(text),
-        Ok(_) => Err(ProgFault::File),
+    match read_all(alloc, input, TEXT_OCTETS) {
+        Ok(text) => Ok(text),
         Err(error) => Err(reading_fault(&error)),
     }
 }

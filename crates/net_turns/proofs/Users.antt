@@ -20,6 +20,7 @@ use Rattle.net_events.specs.declared.node_event.HostEvent.TheVariants.{Calls, As
 use Rattle.net_turns.specs.Outcomes.{event_fault, IsOutcome, text_of}
 use Rattle.net_turns.specs.Served.{IsCalled, Served, IsReady}
 use Rattle.net_turns.specs.Users.{IsNumbered, IsOpened, IsCalledBy, AtLine, HadTurn, is_on_line, refused, terminal_fault, host_fault}
+
 -- ---- what is refused
 
 pub terminal_there : (terminal : ℕ) (p : PadState) → terminal < length p.ports → terminal_fault terminal p ≡ None

@@ -7,7 +7,7 @@ use Rattle.packet_layer.specs.Traffic.{Taken}
 use Rattle.packet_layer.specs.Traffic.Taken.{TakenInterrupt, TakenPacket}
 use Rattle.packet_layer.specs.Channel.{Request as ask}
 use Rattle.packet_end.specs.PacketEnd as end
-use Rattle.packet_end.specs.PacketEnd.{PacketEnd, begun}
+use Rattle.packet_end.specs.PacketEnd.{PacketEnd}
 use Rattle.x29_messages.specs.MessageForm.{octets_of}
 use Rattle.x29_messages.specs.declared.message.Message.{Message}
 use Rattle.pad_terminal.specs.Breaks as breaks

@@ -3,7 +3,7 @@ ghost use Rattle.std.specs.Prelude.{◌≤◌};
 
 use crate::lines::{STANDING, incoming};
 use crate::nodes::is_packet;
-use call_records::{Book, EditStep, Epoch, Interrupt, PacketsIter, Pair, Passed, Record};
+use call_records::{Book, EditStep, Epoch, Interrupt, Packet, PacketsIter, Pair, Passed, Record};
 use epoch_matching::{all_match, matches};
 use frame_codec::FrameBuf;
 use link_timers::Role;
@@ -185,9 +185,23 @@ fn pass(book: &mut Book, step: Step<'_>)
     requires { 1 ≤ book.old.room }
 {
     match step {
-        Send(role, octets) if octets.len() <= 128 => book.send(role, 1, octets, true, false, true),
+        Send(role, octets) if octets.len() <= 128 => {
+            let packet = Packet {
+                octets,
+                more: true,
+                qualified: false,
+                delivery: true,
+            };
+            book.send(role, 1, packet);
+        }
         SendOn(role, channel, octets) if octets.len() <= 128 => {
-            book.send(role, channel, octets, false, false, false);
+            let packet = Packet {
+                octets,
+                more: false,
+                qualified: false,
+                delivery: false,
+            };
+            book.send(role, channel, packet);
         }
         SendInterrupt(role, octets) if octets.len() <= 32 => book.interrupt(role, 1, octets),
         Release(role, count) => book.release(role, 1, count),

@@ -20,7 +20,7 @@ pub use channel::{BareRequest, Channel, Request};
 pub use fault::{ChannelFault, RefusedBuf};
 pub use kept::KeptPacket;
 pub use note::{LayerNote, Reason};
-pub use notes::Notes;
+pub use notes::{NoteQueue, Notes};
 pub use owed::Owed;
 pub use state::{CallState, End, MOST_CHANNELS, error_cause};
 pub use taken::{Front, Taken, TakenBuf};

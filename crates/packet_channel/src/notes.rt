@@ -1,5 +1,5 @@
-//! The notes of a packet layer that are not yet read.
-ghost use Rattle.std.specs.Prelude.{◌≡◌, ◌<◌, ◌++◌, [], ◌∷◌, IfOk, length, drop, slice_get};
+//! Notes of a packet layer that are not yet read.
+ghost use Rattle.std.specs.Prelude.{◌≡◌, ◌<◌, ◌≤◌, ◌++◌, [], ◌∷◌, IfOk, length, drop, slice_get};
 
 use crate::note::LayerNote;
 use crate::state::MOST_CHANNELS;
@@ -7,16 +7,19 @@ use circular_buffer::HeapCircularBuffer;
 use std::alloc::{AllocError, Global};
 use std::marker::Model;
 
-/// The most notes that one event gives: each of the calls closes, and one more.
+/// The most notes that one event of the layer gives: each of the calls closes, and one more.
 const MOST_NOTES: usize = MOST_CHANNELS as usize + 1;
 
-/// The notes that are not yet read, in order.
+/// The notes of one event of the layer.
+pub type Notes = NoteQueue<MOST_NOTES>;
+
+/// The notes that are not yet read, in order. There is room for so many.
 #[derive(Drop)]
-pub struct Notes {
+pub struct NoteQueue<const PLACES: usize> {
     notes: HeapCircularBuffer<LayerNote>,
 }
 
-impl Model for Notes {
+impl<const PLACES: usize> Model for NoteQueue<PLACES> {
     ghost use Rattle.std.specs.Prelude.{◌≡◌, List};
     ghost use Rattle.packet_channel.specs.Packets.{Note};
 
@@ -26,18 +29,18 @@ impl Model for Notes {
 
     ghost view = { λ n. notes_of n.notes.items };
 
-    ghost invariant = { λ n. n.notes.capacity ≡ 33 };
+    ghost invariant = { λ n. n.notes.capacity ≡ PLACES };
 }
 
-impl Notes {
+impl<const PLACES: usize> NoteQueue<PLACES> {
     ghost use Rattle.packet_channel.specs.NoteView.{note_of, maybe_note};
 
-    /// No notes, with room for those of one event.
+    /// No notes.
     pub fn new(alloc: Global) -> Result<Self, AllocError>
         ensures { IfOk result (λ n. n ≡ []) }
     {
-        let notes = HeapCircularBuffer::with_capacity(alloc, MOST_NOTES)?;
-        Ok(Notes { notes })
+        let notes = HeapCircularBuffer::with_capacity(alloc, PLACES)?;
+        Ok(NoteQueue { notes })
     }
 
     /// Drops all notes.
@@ -49,14 +52,15 @@ impl Notes {
 
     /// How many notes are not yet read.
     pub fn len(&self) -> usize
-        ensures { result ≡ length self.now }
+        ensures count { result ≡ length self.now }
+        ensures most { result ≤ PLACES }
     {
         self.notes.len()
     }
 
     /// Adds a note.
     pub fn add(&mut self, note: LayerNote)
-        requires { length self.old < 33 }
+        requires { length self.old < PLACES }
         ensures { self.new ≡ self.old ++ note_of note ∷ [] }
     {
         let _ = self.notes.try_push_back(note);

@@ -4,7 +4,6 @@ pub mod Timing
 pub mod Touched
 pub mod Params
 pub mod Pooled
-pub mod NoteQueueView
 pub mod PooledView
 pub mod EndView
 pub mod Sending

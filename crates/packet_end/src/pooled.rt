@@ -14,7 +14,7 @@ mod asking;
 mod ending;
 
 use crate::fault::EndFault;
-use crate::notes::{MOST_NOTES, NoteQueue};
+use crate::notes::{EventNotes, MOST_NOTES};
 use crate::params::EndParams;
 use crate::touched::Touched;
 use flow_window::pool::Pool;
@@ -37,7 +37,7 @@ pub struct PooledEnd {
     line: LineEnd,
     layer: Layer,
     timers: Timers,
-    notes: NoteQueue,
+    notes: EventNotes,
     touched: Touched,
     /// The place of a packet that goes from the layer to the link.
     packet: PacketBuf,
@@ -95,7 +95,7 @@ impl PooledEnd {
             standing,
         };
         let layer = Layer::new(alloc, role, layer)?;
-        let notes = NoteQueue::new(alloc)?;
+        let notes = EventNotes::new(alloc)?;
         let line = LineEnd::new(role, LinkParams { k, n2, standing }, pool)?;
         Ok(PooledEnd {
             line,
@@ -276,7 +276,7 @@ impl PooledEnd {
 }
 
 // Takes the notes of a packet layer over.
-fn gather(layer: &mut Layer, notes: &mut NoteQueue)
+fn gather(layer: &mut Layer, notes: &mut EventNotes)
     requires { length notes.old ≤ 64 }
     ensures layer { layer.new ≡ record layer.old { layer = unread layer.old.layer } }
     ensures notes { notes.new ≡ notes.old ++ layer.old.layer.notes }

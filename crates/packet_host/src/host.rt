@@ -1,5 +1,5 @@
 //! The host and its calls.
-ghost use Rattle.std.specs.Prelude.{◌≡◌, ◌≤◌, ◌∷◌, [], true, false, Some, None, length, MatchResult, OnOk, OnErr};
+ghost use Rattle.std.specs.Prelude.{◌≡◌, ◌≤◌, [], true, false, Some, None, length, MatchResult, OnOk, OnErr};
 ghost use Rattle.std.specs.Prelude.{OnSome};
 ghost use Rattle.std.specs.Prelude.{slice_get};
 ghost use Rattle.packet_layer.specs.Channel.{Request as ask};

@@ -9,7 +9,7 @@ ghost use Rattle.x25_pad.specs.NoteView.{pad_note_of};
 ghost use Rattle.pad_records.specs.Writing.{writes_of, without_notes};
 ghost use Rattle.pad_records.specs.Room.{HasRoom, HaveRoom, written};
 
-use call_records::{Book, EditStep};
+use call_records::{Book, EditStep, Packet};
 use link_timers::Role;
 use packet_layer::Taken;
 pub use x25_pad::Pad;
@@ -55,14 +55,15 @@ pub fn write_note(book: &mut Book, role: Role, note: &PadNote)
         PadNote::Paused { channel, params } => {
             book.edit(role, *channel, EditStep::Idle { params: *params });
         }
-        PadNote::Sent { channel, user_data } => book.send(
-            role,
-            *channel,
-            user_data.octets(),
-            user_data.more(),
-            user_data.qualified(),
-            user_data.delivery(),
-        ),
+        PadNote::Sent { channel, user_data } => {
+            let packet = Packet {
+                octets: user_data.octets(),
+                more: user_data.more(),
+                qualified: user_data.qualified(),
+                delivery: user_data.delivery(),
+            };
+            book.send(role, *channel, packet);
+        }
         PadNote::Interrupted { channel, octet } => book.interrupt(role, *channel, &[*octet]),
         PadNote::Took { channel, taken } => write_taken(book, role, *channel, taken),
     }

@@ -8,7 +8,7 @@ use Rattle.link_timers.specs.Role.{other_of}
 use Rattle.call_records.specs.Records.{RecordValue, PairValue}
 use Rattle.call_records.specs.Book.{Book, slot_at}
 use Rattle.call_records.specs.Register.{Register, LineEnds, book_at, found_ends}
-use Rattle.book_laws.specs.Headline.{HaveRecords, IsOpenHere, HasCallee}
+use Rattle.book_laws.specs.Headline.{HaveRecords, IsOpenHere}
 use Rattle.book_laws.specs.Headline as line
 use Rattle.book_laws.proofs.Basics.{get_there}
 use Rattle.book_laws.proofs.Placed.{pair_is}

@@ -6,7 +6,7 @@ use Rattle.link_timers.specs.declared.role.Role.TheVariants.{Dte, Dce}
 use Rattle.call_records.specs.Records.{RecordValue, PairValue, taken_epochs}
 use Rattle.call_records.specs.Book.{Book, slot_at}
 use Rattle.call_records.specs.Register.{Register, LineEnds, book_at, found_ends}
-use Rattle.book_laws.specs.Headline.{PairMatches, AreEnds, IsIn, TookNothing, BookHolds}
+use Rattle.book_laws.specs.Headline.{AreEnds, IsIn, TookNothing, BookHolds}
 use Rattle.book_laws.specs.Headline as line
 use Rattle.book_laws.proofs.Basics.{get_there}
 use Rattle.book_laws.proofs.Placed.{pair_is}

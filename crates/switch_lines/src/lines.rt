@@ -26,7 +26,7 @@ mod touched;
 
 use crate::channel_set::ChannelSet;
 use crate::channels::{Joined, SwitchChannel};
-use crate::config::SwitchLineConfig;
+use crate::config::{MOST_LINES, SwitchLineConfig};
 use crate::direction::Change;
 use crate::line::SwitchLine;
 use arrayvec::ArrayVec;
@@ -39,8 +39,11 @@ use packet_layer::{Front, Request};
 use std::alloc::{AllocError, Global};
 use std::marker::Model;
 
-// Lines by number: all of them, and one of them once more.
-type LineList = ArrayVec<usize, 65>;
+/// The most lines of a list: all of a switch, and one of them once more.
+const MOST_LISTED: usize = MOST_LINES + 1;
+
+// Lines by number.
+type LineList = ArrayVec<usize, MOST_LISTED>;
 
 /// The lines of a switch, at most 64.
 #[derive(Drop)]
@@ -136,7 +139,7 @@ impl Lines {
     /// How many lines there are, at most 64.
     pub fn len(&self) -> usize
         ensures count { result ≡ length self.now }
-        ensures most { result ≤ 64 }
+        ensures most { result ≤ MOST_LINES }
     {
         self.lines.len()
     }

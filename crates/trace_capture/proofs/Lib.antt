@@ -1,4 +1,3 @@
 pub mod Lines
 pub mod Octets
 pub mod FrameLines
-pub mod WholeRead

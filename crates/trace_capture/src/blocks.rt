@@ -2,7 +2,7 @@
 ghost use Rattle.std.specs.Prelude.{◌≡◌, ◌≤◌, ◌<◌, ◌+◌, ◌++◌, ◌%◌, ◌-◌, length, replicate, IfOk, IfErr, IfSome, OnOk};
 ghost use Rattle.std.specs.Option.{option_map};
 ghost use Rattle.trace_capture.specs.Lines.{line_feed, first_line, behind_line};
-ghost use Rattle.trace_capture.specs.Capture.{block, head, packet, comment, packet_body, way_of, IsCapture};
+ghost use Rattle.trace_capture.specs.Capture.{block, head, comment, packet_body, way_of, IsCapture};
 ghost use Rattle.trace_capture.specs.Capture.{IsTraceFault};
 
 use crate::fault::TraceFault;

@@ -4,8 +4,9 @@ ghost use Rattle.trace_capture.specs.Capture.{Converts};
 
 use crate::blocks::capture;
 use crate::fault::TraceFault;
+use bounded_read::read_all;
 use std::alloc::Global;
-use std::io::{self, Read, Write};
+use std::io::{ErrorKind, Read, Write};
 
 /// How many octets a trace has at most.
 const TEXT_OCTETS: u64 = 67_108_864;
@@ -43,7 +44,7 @@ fn try_convert<R: Read, W: Write>(
 ) -> Result<(), TraceFault>
     ensures { OnOk result (Converts (R.remaining input.old) (W.contents out.old) (W.contents out.new)) }
 {
-    let text = read_all(alloc, input)?;
+    let text = read_text(alloc, input)?;
     let capture = capture(alloc, text.as_slice())?;
     if out.write_all(capture.as_slice()).is_err() || out.flush().is_err() {
         return Err(TraceFault::Write);
@@ -51,16 +52,14 @@ fn try_convert<R: Read, W: Write>(
     Ok(())
 }
 
-/// Reads all that a reader has.
-fn read_all<R: Read>(alloc: Global, input: &mut R) -> Result<Vec<u8>, TraceFault>
+/// Reads the text that a reader has.
+fn read_text<R: Read>(alloc: Global, input: &mut R) -> Result<Vec<u8>, TraceFault>
     ensures { IfOk result (λ text. IfSome (R.remaining input.old) (λ octets. text.items ≡ octets)) }
 {
-    let mut text = Vec::new(alloc);
-    match input.take(TEXT_OCTETS + 1).read_to_end(&mut text) {
-        Ok(count) if count as u64 <= TEXT_OCTETS => Ok(text),
-        Ok(_) => Err(TraceFault::Input),
+    match read_all(alloc, input, TEXT_OCTETS) {
+        Ok(text) => Ok(text),
         Err(error) => match error.kind() {
-            io::ErrorKind::OutOfMemory => Err(TraceFault::OutOfMemory),
+            ErrorKind::OutOfMemory => Err(TraceFault::OutOfMemory),
             _ => Err(TraceFault::Input),
         },
     }

@@ -6,6 +6,7 @@ use Rattle.packet_layer.specs.TakenView.{taken_of}
 use Rattle.x25_pad.specs.Notes as spec
 use Rattle.x25_pad.specs.declared.note.PadNote.{PadNote}
 use Rattle.x25_pad.specs.declared.note.PadNote.TheVariants as note
+use Rattle.x25_pad.specs.declared.note.TheConstants.{MOST_NOTES}
 use Rattle.x25_pad.specs.declared.note.PadNotes.TheInside.{Inside}
 
 abbrev pub pad_note_of : PadNote → spec.PadNote
@@ -29,4 +30,4 @@ notes_in q = map pad_note_of q.notes.items
 
 -- it has its places
 pub record IsNoteQueue (q : Inside) : Type 0 where
-  pub capacity : q.notes.capacity ≡ 104
+  pub capacity : q.notes.capacity ≡ MOST_NOTES

@@ -25,7 +25,7 @@ use number_set::NumberSet;
 use packet_end::EndFault;
 use std::alloc::Global;
 use std::marker::Model;
-use switch_lines::{Lines, MOST_FRAMES, NewJoin, SwitchChannel, SwitchConfig, check_lines};
+use switch_lines::{Lines, MOST_FRAMES, MOST_LINES, NewJoin, SwitchChannel, SwitchConfig, check_lines};
 
 /// A switch: the DCE on up to 64 lines, of which it joins calls (X.25 3 to 5). A call that comes in on one line goes on
 /// to the line of its route, and all that happens on the one is relayed to the other.
@@ -75,7 +75,7 @@ impl Switch {
     /// How many lines there are, at most 64.
     pub fn lines(&self) -> usize
         ensures count { result ≡ length self.now.lines }
-        ensures most { result ≤ 64 }
+        ensures most { result ≤ MOST_LINES }
     {
         self.lines.len()
     }
@@ -83,9 +83,10 @@ impl Switch {
     /// Takes the octets of a frame that a line brings, and answers the call that it joined, if it did. A frame joins no
     /// more than one.
     ///
-    /// Each join of two other lines is as it was, unless one of the two was set up anew, since a fifth packet came to be
-    /// owed there. After it nothing waits that the other leg or the link takes, each new join is by its route, and a
-    /// packet with D = 1 was released only if it was covered on the other leg. On each line all frames of the event wait.
+    /// Each join of two other lines is as it was, unless one of the two was set up anew, since a fifth packet came to
+    /// be owed there. After it nothing waits that the other leg or the link takes, each new join is by its route, and a
+    /// packet with D = 1 was released only if it was covered on the other leg. On each line all frames of the event
+    /// wait.
     pub fn on_frame(&mut self, line: usize, octets: &[u8]) -> Option<NewJoin>
         requires { line < length self.old.lines }
         ensures join { option_to_list result ≡ new_joins line octets.now self.old }

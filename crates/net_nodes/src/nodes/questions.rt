@@ -5,7 +5,7 @@ ghost use Rattle.std.specs.List.{list_all};
 ghost use Rattle.call_records.specs.RecordView.{shown, pair_of};
 ghost use Rattle.net_events.specs.Network.{all_elapsed};
 ghost use Rattle.net_nodes.specs.Due.{net_due};
-ghost use Rattle.net_nodes.specs.Happening.{FindsNone};
+ghost use Rattle.net_nodes.specs.Happening.{FindsNoFrame};
 ghost use Rattle.net_nodes.specs.Questions.{net_confirmed, net_rests, is_empty};
 ghost use Rattle.placed_nodes.specs.Node.{rests};
 
@@ -47,7 +47,7 @@ impl<L: Line> Nodes<L> {
     /// Whether it is certain that a delivery on a line in this direction finds no frame, and so changes nothing. A line
     /// that does not know says no, and so does one that is not there.
     pub fn finds_none(&self, line: usize, direction: Direction) -> bool
-        ensures { OnTrue result (FindsNone L.service line direction self.now) }
+        ensures { OnTrue result (FindsNoFrame L.service line direction self.now) }
     {
         line < self.lines.len() && self.lines[line].line.is_certainly_empty(direction)
     }

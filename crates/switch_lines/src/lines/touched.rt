@@ -8,6 +8,7 @@ ghost use Rattle.switch_lines.specs.Pooled.{plain, on_line, ArePooled};
 ghost use Rattle.switch_lines.specs.Switch.{with_end, without_joins};
 ghost use Rattle.switch_lines.specs.Touched.{AreThere, changed_in, offering_in, first_to_relink};
 
+use crate::config::MOST_LINES;
 use crate::line::SwitchLine;
 use crate::lines::LineList;
 use arrayvec::ArrayVec;
@@ -45,7 +46,7 @@ pub(super) fn offer_lines(
     pool: &mut Pool,
 ) -> LineList
     requires there { AreThere which (plain lines.old) }
-    requires most { length lines.old ≤ 64 }
+    requires most { length lines.old ≤ MOST_LINES }
     requires pool { ArePooled pool.old lines.old }
     ensures offering { result.items ≡ offering_in which 0 (plain lines.old) }
     ensures lines { plain lines.new ≡ changed_in which (with_end end.all_offered) 0 (plain lines.old) }

@@ -7,7 +7,6 @@ ghost use Rattle.x25_pad.specs.Pad as spec;
 ghost use Rattle.x25_pad.specs.Sending.{frames_on_frame, frames_on_relink};
 
 use crate::pad::Pad;
-use link_timers::TimerId;
 use packet_end::{FrameBuf, MOST_FRAMES};
 
 impl Pad {

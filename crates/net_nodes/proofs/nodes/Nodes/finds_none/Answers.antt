@@ -1,17 +1,22 @@
-use Rattle.std.proofs.Common.{◌<◌, length, slice_get, sym, ap, ◌∙◌, arith}
+use Rattle.std.proofs.Common.{◌<◌, length, slice_get, sym, ap, ◌∙◌, arith, refl}
 use Rattle.std.proofs.lemmas.Bool.{OnTrue_from}
 use Rattle.memory_line.specs.Lines.{flying}
 use Rattle.net_events.specs.Network.{Network, NetLine}
 use Rattle.placed_nodes.proofs.Lists.{there}
+use Rattle.net_nodes.proofs.Empties.{none_arrived}
 use Rattle.net_nodes.proofs.Happening.{nothing_arrives}
 use Rattle.net_nodes.proofs.nodes.Nodes.finds_none.Goals as goal
 
 pub returns-then-line-len : goal.returns-then-line-len
 returns-then-line-len g c =
-    OnTrue_from c.is_certainly_empty.result _ (λ none. λ a. λ says.
+    OnTrue_from c.is_certainly_empty.result _ (λ none.
     let lines = c.self.inside.lines.items in
     let h : c.args.line < length lines = omega arith in
     let here = ap (λ (s : Network). slice_get s.lines c.args.line) (sym c.self.view_is) ∙ there lines c.args.line _ c.index.result.now h c.index.ensures in
-    nothing_arrives g.L.Line.service c.args.line c.args.direction c.args.self.now c.index.result.now here
-    (λ f. ap (λ (l : NetLine). flying c.args.direction l.flights) (sym c.behind-self.view_is) ∙ c.is_certainly_empty.ensures f none)
-    a says.frames says.notes says.text says.outcome)
+    let answer = none_arrived c.self.inside.nodes in record {
+      answer = answer;
+      says = record { frames = refl; notes = refl; text = refl; outcome = refl };
+      happens = nothing_arrives g.L.Line.service c.args.line c.args.direction c.args.self.now c.index.result.now here
+          (λ f. ap (λ (l : NetLine). flying c.args.direction l.flights) (sym c.behind-self.view_is) ∙ c.is_certainly_empty.ensures f none)
+          answer refl refl refl refl;
+    })
