@@ -27,8 +27,7 @@ use Rattle.std.specs.Option.{option_copied}
 use Rattle.std.specs.Borrow.{Bor}
 use Rattle.std.proofs.Common.{refl, sym, ap, ◌∙◌, arith, inl, inr, length-drop}
 use Rattle.std.proofs.lemmas.List.{length-map, take_all}
-use Rattle.link_timers.specs.declared.timers.TimerId.TheVariants.{T1}
-use Rattle.link_timers.specs.Timers.{Places, left_of}
+use Rattle.link_timers.specs.Timers.{Places}
 use Rattle.frame_codec.specs.Spelling.{spelling}
 use Rattle.lapb.specs.declared.note.Timing.{Timing as Change}
 use Rattle.lapb.specs.Held.{Link as Holder}
@@ -80,15 +79,15 @@ t1_expired-is l prior out before after told is then fired ran =
     runs_after_expiry l ran
 
 -- what always holds of an end holds after it
-pub still_end : (a : Inside) (link : Holder) (timers : Places) (out : Out) → IsEnd a →
+pub still_end : (a : Inside) (link : Holder) (t1 : Option ℕ) (out : Out) → IsEnd a →
     Keeps a.link.link link.link → length link.held ≡ length link.link.queue →
-    is_some (left_of timers T1) ≡ runs link.link → out.timer ≡ Change.Keep →
-    IsEnd (record a { link = link; timers = timers; out = out })
-still_end a link timers out is keeps tight t1 told = record {
+    is_some t1 ≡ runs link.link → out.timer ≡ Change.Keep →
+    IsEnd (record a { link = link; t1 = t1; out = out })
+still_end a link t1 out is keeps tight runs told = record {
   k = omega (arith, keeps.k, is.k);
   queue = omega (arith, keeps.queue, is.queue, keeps.k);
   tight = tight;
-  t1 = t1;
+  t1 = runs;
   told = told;
 }
 

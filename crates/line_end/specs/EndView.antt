@@ -1,15 +1,14 @@
 -- What contracts see of the code's end of a line, and what always holds of it.
 use Rattle.std.specs.Prelude.{◌≡◌, ◌≤◌, length, is_some}
-use Rattle.link_timers.specs.declared.timers.TimerId.TheVariants.{T1}
-use Rattle.link_timers.specs.Timers.{left_of}
 use Rattle.lapb.specs.Machine.{runs}
 use Rattle.lapb.specs.declared.note.Timing.{Timing}
 use Rattle.line_end.specs.declared.end.LineEnd.TheInside.{Inside}
 use Rattle.line_end.specs.End.{End}
 use Rattle.line_end.specs.Held.{LineEnd}
+use Rattle.line_end.specs.T1.{t1_alone}
 
 abbrev pub end_of : Inside → End
-end_of a = record { link = a.link.link; timers = a.timers; frames = a.out.frames }
+end_of a = record { link = a.link.link; timers = t1_alone a.t1; frames = a.out.frames }
 
 abbrev pub holding : Inside → LineEnd
 holding a = record { end = end_of a; held = a.link.held }
@@ -19,5 +18,5 @@ pub record IsEnd (a : Inside) : Type 0 where
   pub k : a.link.link.k ≤ 7
   pub queue : length a.link.link.queue ≤ a.link.link.k
   pub tight : length a.link.held ≡ length a.link.link.queue
-  pub t1 : is_some (left_of a.timers T1) ≡ runs a.link.link
+  pub t1 : is_some a.t1 ≡ runs a.link.link
   pub told : a.out.timer ≡ Timing.Keep

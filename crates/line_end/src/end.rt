@@ -1,4 +1,4 @@
-//! The end of a line: its link, its timers, and the frames that go out.
+//! The end of a line: its link, T1, and the frames that go out.
 ghost use Rattle.std.specs.Prelude.{
   ◌≡◌,
   ◌≤◌,
@@ -25,6 +25,7 @@ ghost use Rattle.lapb.specs.Octets.{on_octets};
 ghost use Rattle.lapb.specs.Offers.{refusal};
 ghost use Rattle.lapb.specs.Unsent.{HasSentAll};
 ghost use Rattle.lapb.specs.Params.{AreParams};
+ghost use Rattle.line_end.specs.T1.{t1_alone};
 ghost use Rattle.line_end.specs.End.{
   timed,
   runs_then,
@@ -42,10 +43,11 @@ ghost use Rattle.line_end.specs.End.{
   SendsUpTo,
 };
 
+use crate::countdown::Countdown;
 use flow_window::pool::Pool;
 use frame_codec::FrameBuf;
 use lapb::{BadParams, Link, LinkOut, LinkParams, MOST_FRAMES, Note, OfferFault, Timing};
-use link_timers::{Role, TimerId, Timers};
+use link_timers::{Role, TimerId};
 use std::marker::Model;
 
 /// How long T1 runs, in ticks of a twentieth of a second (X.25 2.4.8.1).
@@ -60,8 +62,7 @@ pub struct Received<'a> {
     pub packet: Option<&'a [u8]>,
 }
 
-/// The end of a line: the link (X.25 2.4), whose packets lie in buffers of a pool, the timers, and the frames that go
-/// out.
+/// The end of a line: the link (X.25 2.4), whose packets lie in buffers of a pool, T1, and the frames that go out.
 ///
 /// A node calls it in this order in each of its events: `drop_frames`, what happens at this line (a frame, an expiry,
 /// a relink), an offer of each packet that may go, `settle`; then it takes the frames by `out`. Up to [`MOST_FRAMES`]
@@ -70,7 +71,7 @@ pub struct Received<'a> {
 #[derive(Drop)]
 pub struct LineEnd {
     link: Link,
-    timers: Timers,
+    t1: Countdown,
     out: LinkOut,
 }
 
@@ -100,7 +101,7 @@ impl LineEnd {
     {
         let mut end = LineEnd {
             link: Link::new(role, params)?,
-            timers: Timers::new(),
+            t1: Countdown::new(),
             out: LinkOut::new(),
         };
         if !params.standing {
@@ -129,7 +130,7 @@ impl LineEnd {
         ensures k { self.new.end.link.k ≡ self.old.end.link.k }
     {
         self.link.on_frame(octets, &mut self.out, pool);
-        set_timer(&mut self.timers, self.out.take_timer());
+        set_timer(&mut self.t1, self.out.take_timer());
         Received {
             note: self.out.note(),
             packet: if self.out.accepted() {
@@ -155,14 +156,15 @@ impl LineEnd {
         ensures most { length self.new.held ≤ self.new.end.link.k }
         ensures k { self.new.end.link.k ≡ self.old.end.link.k }
     {
-        if !self.timers.fire(id) {
+        if !self.t1.is_running() {
             return None;
         }
-        if id != TimerId::T1 {
-            return Some(Note::Nothing);
-        }
+        let TimerId::T1 = id else {
+            return None;
+        };
+        self.t1.stop();
         self.link.on_t1(&mut self.out, pool);
-        set_timer(&mut self.timers, self.out.take_timer());
+        set_timer(&mut self.t1, self.out.take_timer());
         Some(self.out.note())
     }
 
@@ -178,7 +180,7 @@ impl LineEnd {
         ensures k { self.new.end.link.k ≡ self.old.end.link.k }
     {
         self.link.relink(&mut self.out, pool);
-        set_timer(&mut self.timers, self.out.take_timer());
+        set_timer(&mut self.t1, self.out.take_timer());
         self.out.note()
     }
 
@@ -193,7 +195,7 @@ impl LineEnd {
         ensures k { self.new.end.link.k ≡ self.old.end.link.k }
     {
         self.link.restart(pool);
-        self.timers = Timers::new();
+        self.t1.stop();
         self.out.clear_frames();
         self.relink(pool);
     }
@@ -236,7 +238,7 @@ impl LineEnd {
         ensures k { self.new.end.link.k ≡ self.old.end.link.k }
     {
         self.link.settle(&mut self.out, pool);
-        set_timer(&mut self.timers, self.out.take_timer());
+        set_timer(&mut self.t1, self.out.take_timer());
     }
 
     /// Takes the next frame that goes out, if there is one. Where there is none `frame` stays.
@@ -255,18 +257,22 @@ impl LineEnd {
         true
     }
 
-    /// Lets ticks pass, each a twentieth of a second: each timer that runs has so many less, not below 0.
+    /// Lets ticks pass, each a twentieth of a second: T1 has so many less, if it runs, not below 0.
     pub fn elapse(&mut self, ticks: u16)
         ensures { self.new ≡ record self.old { end = elapsed self.old.end ticks } }
     {
-        self.timers.elapse(ticks);
+        self.t1.elapse(ticks);
     }
 
-    /// The first timer that runs with no tick left.
+    /// T1, if it runs with no tick left. No other timer runs here.
     pub fn due(&self) -> Option<TimerId>
         ensures { result ≡ first_of (due_timers self.now.end.timers) }
     {
-        self.timers.due()
+        if self.t1.is_due() {
+            Some(TimerId::T1)
+        } else {
+            None
+        }
     }
 
     /// How many frames wait to be taken.
@@ -289,7 +295,10 @@ impl LineEnd {
     pub fn is_running(&self, id: TimerId) -> bool
         ensures { result ≡ is_some (left_of self.now.end.timers id) }
     {
-        self.timers.is_running(id)
+        match id {
+            TimerId::T1 => self.t1.is_running(),
+            _ => false,
+        }
     }
 
     /// Whether the link is up and has nothing to wait for or to tell.
@@ -301,14 +310,13 @@ impl LineEnd {
 }
 
 // Does with T1 what a call of the link asks for.
-fn set_timer(timers: &mut Timers, change: Timing)
-    ensures timers { timers.new ≡ timed change timers.old }
-    ensures t1 { is_some (left_of timers.new TimerId.T1) ≡ runs_then change
-        (is_some (left_of timers.old TimerId.T1)) }
+fn set_timer(t1: &mut Countdown, change: Timing)
+    ensures timers { t1_alone t1.new ≡ timed change (t1_alone t1.old) }
+    ensures t1 { is_some t1.new ≡ runs_then change (is_some t1.old) }
 {
     match change {
         Timing::Keep => {}
-        Timing::Start => timers.start(TimerId::T1, T1_TICKS),
-        Timing::Stop => timers.stop(TimerId::T1),
+        Timing::Start => t1.start(T1_TICKS),
+        Timing::Stop => t1.stop(),
     }
 }

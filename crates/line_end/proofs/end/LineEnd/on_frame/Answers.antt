@@ -5,12 +5,11 @@ use Rattle.std.proofs.Common.{◌≡◌, ap, ◌∙◌, sym, arith}
 use Rattle.std.specs.Prelude.{is_some}
 use Rattle.std.specs.Option.{option_copied}
 use Rattle.lapb.specs.Octets.{on_octets}
-use Rattle.link_timers.specs.declared.timers.TimerId.TheVariants.{T1}
-use Rattle.link_timers.specs.Timers.{left_of}
 use Rattle.lapb.specs.Out.{Out}
 use Rattle.line_end.specs.Held.{LineEnd}
 use Rattle.line_end.specs.End.{received}
 use Rattle.line_end.specs.EndView.{end_of}
+use Rattle.line_end.specs.T1.{t1_alone}
 use Rattle.line_end.proofs.Steps.{Keeps, sends_on_octets}
 use Rattle.line_end.proofs.Calls.{did-is, t1-is, still_end, accepted_long, packet-is, none_of, sends_up_to}
 use Rattle.line_end.proofs.end.LineEnd.on_frame.Goals as goal
@@ -19,22 +18,22 @@ use Rattle.line_end.proofs.end.LineEnd.on_frame.Goals.{then-accepted, else-accep
 pub invariant_of-self : goal.invariant_of-self
 invariant_of-self c =
     let step = on_octets c.self.inside.link.link c.args.octets.now in
-    still_end c.self.inside c.on_frame.new.self c.set_timer.new.timers c.take_timer.new.self
+    still_end c.self.inside c.on_frame.new.self c.set_timer.new.t1 c.take_timer.new.self
     c.self.invariant
     (rw c.on_frame.ensures.link (sends_on_octets c.self.inside.link.link c.args.octets.now).keeps) c.on_frame.ensures.tight
-    (rw c.on_frame.ensures.link (t1-is c.self.inside.link.link step c.self.inside.out c.on_frame.new.out _ _ c.self.invariant.told c.on_frame.ensures.out (c.set_timer.ensures.t1 ∙ ap (λ (change : Timing). runs_then change (is_some (left_of c.self.inside.timers T1))) c.take_timer.ensures.timer) c.self.invariant.t1)) (ap (λ (o : Out). o.timer) c.take_timer.ensures.out)
+    (rw c.on_frame.ensures.link (t1-is c.self.inside.link.link step c.self.inside.out c.on_frame.new.out _ _ c.self.invariant.told c.on_frame.ensures.out (c.set_timer.ensures.t1 ∙ ap (λ (change : Timing). runs_then change (is_some c.self.inside.t1)) c.take_timer.ensures.timer) c.self.invariant.t1)) (ap (λ (o : Out). o.timer) c.take_timer.ensures.out)
 
 pub returns-clause-end : goal.returns-clause-end
 returns-clause-end c =
     let step = on_octets c.self.inside.link.link c.args.octets.now in
     (λ i. record {
       link = c.on_frame.ensures.link i;
-      timers = c.set_timer.new.timers;
+      timers = t1_alone c.set_timer.new.t1;
       frames = (ap (λ (o : Out). o.frames) c.take_timer.ensures.out) i;
     })
-    ∙ did-is (end_of c.self.inside) step c.self.inside.out c.on_frame.new.out c.set_timer.new.timers
+    ∙ did-is (end_of c.self.inside) step c.self.inside.out c.on_frame.new.out (t1_alone c.set_timer.new.t1)
     c.self.invariant.told refl c.on_frame.ensures.out
-    (c.set_timer.ensures.timers ∙ ap (λ (change : Timing). timed change c.self.inside.timers) c.take_timer.ensures.timer)
+    (c.set_timer.ensures.timers ∙ ap (λ (change : Timing). timed change (t1_alone c.self.inside.t1)) c.take_timer.ensures.timer)
     ∙ ap (λ (e : LineEnd). received e.end c.args.octets.now) c.self.view_is
 
 pub returns-clause-packet : goal.returns-clause-packet
