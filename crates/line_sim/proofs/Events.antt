@@ -78,7 +78,7 @@ began_anew : (L : LineService) (place : ℕ) (s : Network) (a : Answer) (t : Net
 began_anew L place s a t b (inl e) = at_node L place Restarts s a t b e
 began_anew L place s a t b (inr e) = at_switch L switch_event.Restarts place s t b e.happened
 
-stepped : (L : LineService) (e : Event) (s : Network) (a : Answer) (t : Network) → IsBetweenEvents L s
+pub stepped : (L : LineService) (e : Event) (s : Network) (a : Answer) (t : Network) → IsBetweenEvents L s
     → StepOf L e s a t → IsBetweenEvents L t
 stepped L (AtTerminal node terminal event) s a t b d = at_node L node (node_event.AtTerminal terminal event) s a t b d
 stepped L (Call node address user_data) s a t b d = at_node L node (Calls address user_data.items) s a t b d

@@ -1,6 +1,6 @@
 mod Registered
-mod Standing
-mod Events
+pub mod Standing
+pub mod Events
 mod FewerDue
 mod IdleTimers
 mod Refusals

@@ -2,7 +2,7 @@
 use Rattle.std.specs.Prelude.{◌≡◌, ℕ, true, false, List, [], ◌∷◌, take, slice_get, Option, Some, None}
 use Rattle.memory_line.specs.Lines.{LineService, memory_service}
 use Rattle.net_events.specs.Network.{Network}
-use Rattle.net_events.specs.Opening.{IsMade}
+use Rattle.net_events.specs.Opening.{IsPlan, IsMade}
 use Rattle.net_config.specs.declared.config.Config.{Config}
 use Rattle.net_config.specs.declared.fault.MakeFault.TheVariants.{BadConfig, OutOfMemory}
 use Rattle.net_plans.specs.Plan.{plan_of}
@@ -15,9 +15,10 @@ use Rattle.net_events.specs.declared.answer.Answer.{Answer}
 use Rattle.line_sim.specs.declared.running.RunFault.{RunFault}
 use Rattle.line_sim.specs.declared.running.RunFault.TheVariants.{Made, Stopped}
 
--- the configuration is served, and the network is made as it says
+-- the configuration is served, its plan is one of a network that there can be, and the network is made so
 pub record IsMadeBy (L : LineService) (config : Config) (net : Network) : Type 0 where
   pub served : is_served config ≡ true
+  pub planned : IsPlan (plan_of config)
   pub made : IsMade L (plan_of config) net
 
 -- the event is answered, or refused with its fault, but not for want of memory

@@ -20,7 +20,7 @@ pub mod UsersAny
 mod SwitchWriting
 mod SwitchSending
 mod SwitchMoving
-mod SwitchStanding
+pub mod SwitchStanding
 mod SwitchPartners
 mod SwitchHolding
 pub mod SwitchEvents

@@ -1,0 +1,7 @@
+mod Puts
+mod Ends
+mod Switches
+mod Steps
+mod Making
+mod Runs
+mod Running
