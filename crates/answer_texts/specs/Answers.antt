@@ -1,7 +1,7 @@
 -- The text of an answer.
 use Rattle.std.specs.Prelude.{ℕ, ◌+◌, ◌/◌, ◌%◌, ◌==◌, ◌&&◌, Bool, true, false, List, [], ◌∷◌, ◌++◌, Option, Some, None}
 use Rattle.std.specs.Prelude.{Result, Ok, Err, String, string_bytes, codes, decimal, slice_get, unwrap_or, nat_lt}
-use Rattle.std.specs.Prelude.{nat_le, if◌then◌else◌}
+use Rattle.std.specs.Prelude.{nat_le, not, if◌then◌else◌}
 use Rattle.std.specs.declared.alloc.Global.{Global}
 use Rattle.std.specs.Option.{option_map}
 use Rattle.std.specs.List.{flat_map}
@@ -34,6 +34,10 @@ Names = List (String Global)
 -- the hexadecimal digit of a number below 16: 48 is `0`, 65 is `A`
 abbrev pub hex_digit : ℕ → ℕ
 hex_digit n = if nat_lt n 10 then 48 + n else 55 + n
+
+-- a printable character other than a backslash (92), which stands for itself in a text
+abbrev pub is_plain : ℕ → Bool
+is_plain octet = nat_le 32 octet && nat_lt octet 127 && not (octet == 92)
 
 -- how an octet stands in a text: a printable character for itself, a backslash (92) doubled, any other octet as a
 -- backslash and its two hexadecimal digits

@@ -1,23 +1,21 @@
 //! The text of an answer: what is printed for an event.
-ghost use Rattle.std.specs.Prelude.{◌≡◌, ◌<◌, ◌++◌, ◌∷◌, ℕ, List, [], Some, IfOk, OnOk, string_bytes, decimal};
+ghost use Rattle.std.specs.Prelude.{◌≡◌, ◌<◌, ◌++◌, ◌∷◌, ℕ, List, [], Some, Ok, OnOk, string_bytes, decimal};
 ghost use Rattle.std.specs.Bool.{OnTrue};
-ghost use Rattle.std.specs.List.{flat_map};
-ghost use Rattle.std.specs.Fmt.{WritesOnOk};
-ghost use Rattle.answer_texts.specs.Answers.{Names, quoted, shown, hex_digit, flags_of, taken_text};
+ghost use Rattle.std.specs.List.{flat_map, list_all};
+ghost use Rattle.answer_texts.specs.Answers.{Names, quoted, shown, is_plain, hex_digit, flags_of, taken_text};
 ghost use Rattle.answer_texts.specs.Answers.{name_of, outcome_text, refusal_text, node_refusal_text, way_of, spaced};
-ghost use Rattle.answer_texts.specs.Answers.{frame_text, note_text, happening, check_line};
+ghost use Rattle.answer_texts.specs.Answers.{frame_text, note_text, happening, answer_text, check_line};
 
 use itoa::Buffer;
 use line_nodes::{HostNote, NodeFault, NoteKind};
 use memory_line::Direction;
 use net_events::{Answer, Event, Outcome, Put, StepFault};
 use packet_layer::{CallFault, ChannelFault, Front};
-use std::alloc::{AllocError, Global};
-use std::fmt;
+use std::alloc::AllocError;
 use x25_pad::PadAnswer;
 
-/// For how many octets the line of an outcome has room at first.
-const LINE_ROOM: usize = 64;
+/// So many octets are looked at together, and added together if all of them stand for themselves.
+const RUN: usize = 32;
 
 /// Whether it is certain that nothing is printed of an outcome, so that no line need be made: of that of a delivery,
 /// and of that of a key that was taken.
@@ -31,22 +29,26 @@ pub fn prints_nothing(event: &Event, outcome: &Outcome) -> bool
     }
 }
 
-/// The line of an outcome, by the names of the network's nodes: none for a key that was taken, nor for a delivery.
-pub fn outcome_line(
-    alloc: Global,
+/// Adds the text of an answer, by the names of the network's nodes: the lines of its frames, if they are traced, of what
+/// a host noted, and of its outcome.
+pub fn add_answer(
+    text: &mut Vec<u8>,
     names: &[String],
+    traces: bool,
     event: &Event,
     answer: &Answer,
-) -> Result<Vec<u8>, AllocError>
-    ensures { IfOk result (λ line. line.items ≡ outcome_text names.now event.now answer.now.outcome
-        answer.now.text.items) }
+) -> Result<(), AllocError>
+    ensures { OnOk result (text.new.items ≡ text.old.items
+        ++ answer_text names.now traces event.now (Ok answer.now)) }
 {
-    let mut line = Vec::with_capacity(alloc, LINE_ROOM)?;
-    add_outcome(&mut line, names, event, answer)?;
-    Ok(line)
+    if traces {
+        add_frames(text, answer.frames.as_slice())?;
+    }
+    add_notes(text, names, answer.notes.as_slice())?;
+    add_outcome(text, names, event, answer)
 }
 
-/// Adds the line of an outcome.
+/// Adds the line of an outcome: none for a key that was taken, nor for a delivery.
 fn add_outcome(
     line: &mut Vec<u8>,
     names: &[String],
@@ -122,10 +124,44 @@ fn add_quoted(line: &mut Vec<u8>, before: &[u8], octets: &[u8]) -> Result<(), Al
 fn add_octets(line: &mut Vec<u8>, octets: &[u8]) -> Result<(), AllocError>
     ensures { OnOk result (line.new.items ≡ line.old.items ++ flat_map shown octets.now) }
 {
+    let mut rest = octets;
+    while !rest.is_empty() {
+        let (run, others) = rest.split_at(rest.len().min(RUN));
+        add_run(line, run)?;
+        rest = others;
+    }
+    Ok(())
+}
+
+/// Adds a run of octets as they stand between quotes.
+fn add_run(line: &mut Vec<u8>, octets: &[u8]) -> Result<(), AllocError>
+    ensures { OnOk result (line.new.items ≡ line.old.items ++ flat_map shown octets.now) }
+{
+    if are_plain(octets) {
+        return line.extend_from_slice(octets);
+    }
     for octet in octets {
         add_octet(line, *octet)?;
     }
     Ok(())
+}
+
+/// Whether each of these octets stands for itself between quotes.
+fn are_plain(octets: &[u8]) -> bool
+    ensures { result ≡ list_all is_plain octets.now }
+{
+    let mut all = true;
+    for octet in octets {
+        all &= is_plain(*octet);
+    }
+    all
+}
+
+/// Whether an octet stands for itself between quotes.
+fn is_plain(octet: u8) -> bool
+    ensures { result ≡ is_plain octet }
+{
+    (octet >= 0x20) & (octet < 0x7F) & (octet != b'\\')
 }
 
 /// Adds an octet as it stands between quotes: a printable character stands for itself, a backslash is doubled, and any
@@ -143,14 +179,28 @@ fn add_octet(line: &mut Vec<u8>, octet: u8) -> Result<(), AllocError>
     }
 }
 
-/// The line that traces a frame that was put: its line, its direction and its octets.
-pub fn frame_text(alloc: Global, put: &Put) -> Result<String, AllocError>
-    ensures { IfOk result (λ text. string_bytes text ≡ frame_text put.now) }
+// ---- frames
+
+/// Adds the lines that trace frames that were put.
+fn add_frames(text: &mut Vec<u8>, puts: &[Put]) -> Result<(), AllocError>
+    ensures { OnOk result (text.new.items ≡ text.old.items ++ flat_map frame_text puts.now) }
 {
-    let line = put.line;
-    let way = way_of(put.direction);
-    let octets = Octets(put.octets.as_slice());
-    format!(in alloc; "{line} {way}{octets}\n")
+    for put in puts {
+        add_frame(text, put)?;
+    }
+    Ok(())
+}
+
+/// Adds the line that traces a frame that was put: its line, its direction and its octets.
+fn add_frame(text: &mut Vec<u8>, put: &Put) -> Result<(), AllocError>
+    ensures { OnOk result (text.new.items ≡ text.old.items ++ frame_text put.now) }
+{
+    let mut digits = Buffer::new();
+    text.extend_from_slice(digits.format(put.line).as_bytes())?;
+    text.extend_from_slice(b" ")?;
+    text.extend_from_slice(way_of(put.direction).as_bytes())?;
+    add_spaced(text, put.octets.as_slice())?;
+    text.extend_from_slice(b"\n")
 }
 
 /// The sign of a direction.
@@ -163,79 +213,89 @@ fn way_of(direction: Direction) -> &'static str
     }
 }
 
-/// The line of what a host noted of a call, by the names of the network's nodes.
-pub fn note_text(alloc: Global, names: &[String], note: &HostNote) -> Result<String, AllocError>
-    ensures { IfOk result (λ text. string_bytes text ≡ note_text names.now note.now) }
+/// Adds octets in hexadecimal, each behind a space.
+fn add_spaced(text: &mut Vec<u8>, octets: &[u8]) -> Result<(), AllocError>
+    ensures { OnOk result (text.new.items ≡ text.old.items ++ flat_map spaced octets.now) }
 {
-    let name = node_name(names, note.node);
-    let channel = note.channel;
-    let happening = Happening(&note.kind);
-    format!(in alloc; "{name}/{channel} {happening}\n")
+    for octet in octets {
+        text.extend_from_slice(&[b' ', hex_digit(*octet / 16), hex_digit(*octet % 16)])?;
+    }
+    Ok(())
 }
 
-/// What happened to a call.
-#[derive(Clone, Copy)]
-struct Happening<'a>(&'a NoteKind);
+// ---- notes
 
-impl fmt::Display for Happening<'_> {
-    ghost output = { λ h. Some (happening h.0.now) };
+/// Adds the lines of what a host noted.
+fn add_notes(text: &mut Vec<u8>, names: &[String], notes: &[HostNote]) -> Result<(), AllocError>
+    ensures { OnOk result (text.new.items ≡ text.old.items ++ flat_map (note_text names.now) notes.now) }
+{
+    for note in notes {
+        add_note(text, names, note)?;
+    }
+    Ok(())
+}
 
-    fn fmt<W: fmt::Write>(&self, f: &mut fmt::Formatter<W>) -> fmt::Result {
-        match self.0 {
-            NoteKind::Incoming { calling: None } => f.write_str("incoming"),
-            NoteKind::Incoming {
-                calling: Some(address),
-            } => {
-                f.write_str("incoming ")?;
-                write_digits(f, address.digits())
-            }
-            NoteKind::Connected => f.write_str("connected"),
-            NoteKind::Cleared { cause, diagnostic } => write!(f, "cleared {cause} {diagnostic}"),
-            NoteKind::Reset { cause, diagnostic } => write!(f, "reset {cause} {diagnostic}"),
+/// Adds the line of what a host noted of a call.
+fn add_note(text: &mut Vec<u8>, names: &[String], note: &HostNote) -> Result<(), AllocError>
+    ensures { OnOk result (text.new.items ≡ text.old.items ++ note_text names.now note.now) }
+{
+    add_place(
+        text,
+        node_name(names, note.node),
+        b'/',
+        u16::from(note.channel),
+    )?;
+    text.extend_from_slice(b" ")?;
+    add_happening(text, &note.kind)?;
+    text.extend_from_slice(b"\n")
+}
+
+/// Adds what happened to a call.
+fn add_happening(text: &mut Vec<u8>, kind: &NoteKind) -> Result<(), AllocError>
+    ensures { OnOk result (text.new.items ≡ text.old.items ++ happening kind.now) }
+{
+    match kind {
+        NoteKind::Incoming { calling: None } => text.extend_from_slice(b"incoming"),
+        NoteKind::Incoming {
+            calling: Some(address),
+        } => {
+            text.extend_from_slice(b"incoming ")?;
+            add_digits(text, address.digits())
+        }
+        NoteKind::Connected => text.extend_from_slice(b"connected"),
+        NoteKind::Cleared { cause, diagnostic } => {
+            text.extend_from_slice(b"cleared ")?;
+            add_cause(text, *cause, *diagnostic)
+        }
+        NoteKind::Reset { cause, diagnostic } => {
+            text.extend_from_slice(b"reset ")?;
+            add_cause(text, *cause, *diagnostic)
         }
     }
 }
 
-/// Writes the digits of an address.
-fn write_digits<W: fmt::Write>(f: &mut fmt::Formatter<W>, digits: &[u8]) -> fmt::Result
-    ensures { WritesOnOk W.write_str_gives f.old result (flat_map decimal digits.now) f.new }
+/// Adds a cause and a diagnostic.
+fn add_cause(text: &mut Vec<u8>, cause: u8, diagnostic: u8) -> Result<(), AllocError>
+    ensures { OnOk result (text.new.items ≡ text.old.items ++ (decimal cause ++ (32 ∷ decimal diagnostic))) }
 {
+    let mut digits = Buffer::new();
+    text.extend_from_slice(digits.format(cause).as_bytes())?;
+    text.extend_from_slice(b" ")?;
+    text.extend_from_slice(digits.format(diagnostic).as_bytes())
+}
+
+/// Adds the digits of an address.
+fn add_digits(text: &mut Vec<u8>, digits: &[u8]) -> Result<(), AllocError>
+    ensures { OnOk result (text.new.items ≡ text.old.items ++ flat_map decimal digits.now) }
+{
+    let mut buffer = Buffer::new();
     for digit in digits {
-        write!(f, "{digit}")?;
+        text.extend_from_slice(buffer.format(*digit).as_bytes())?;
     }
     Ok(())
 }
 
-/// Octets in hexadecimal, each behind a space.
-#[derive(Clone, Copy)]
-struct Octets<'a>(&'a [u8]);
-
-impl fmt::Display for Octets<'_> {
-    ghost output = { λ o. Some (flat_map spaced o.0.now) };
-
-    fn fmt<W: fmt::Write>(&self, f: &mut fmt::Formatter<W>) -> fmt::Result {
-        write_spaced(f, self.0)
-    }
-}
-
-/// Writes octets in hexadecimal, each behind a space.
-fn write_spaced<W: fmt::Write>(f: &mut fmt::Formatter<W>, octets: &[u8]) -> fmt::Result
-    ensures { WritesOnOk W.write_str_gives f.old result (flat_map spaced octets.now) f.new }
-{
-    for octet in octets {
-        write_hex(f, *octet)?;
-    }
-    Ok(())
-}
-
-/// Writes an octet in hexadecimal, behind a space.
-fn write_hex<W: fmt::Write>(f: &mut fmt::Formatter<W>, octet: u8) -> fmt::Result
-    ensures { WritesOnOk W.write_str_gives f.old result (spaced octet) f.new }
-{
-    f.write_char(' ')?;
-    f.write_char(char::from(hex_digit(octet / 16)))?;
-    f.write_char(char::from(hex_digit(octet % 16)))
-}
+// ---- lines of one kind
 
 /// The line of a refusal: its number and name.
 pub fn refusal_text(fault: StepFault) -> &'static str

@@ -4,4 +4,4 @@
 
 mod answer;
 
-pub use answer::{check_line, frame_text, note_text, outcome_line, prints_nothing, refusal_text};
+pub use answer::{add_answer, check_line, prints_nothing, refusal_text};

@@ -2,11 +2,10 @@
 ghost use Rattle.std.specs.Prelude.{◌≡◌, ◌≢◌, ◌+◌, ◌<◌, ◌≤◌, ◌↔◌, [], ◌∷◌, ◌++◌, length, slice_get, IsTrue};
 ghost use Rattle.std.specs.Prelude.{IfOk, replicate, true, Some, None, drop};
 ghost use Rattle.std.specs.Bool.{OnTrue, OnFalse};
-ghost use Rattle.circular_buffer.specs.Buffer.{buffer};
 ghost use Rattle.memory_line.specs.Lines.{Flights, LineService, memory_service, no_flights, flying, with_flying};
 ghost use Rattle.memory_line.specs.Lines.{without_first, IsPut};
 
-use circular_buffer::HeapCircularBuffer;
+use crate::flying::Flying;
 use frame_codec::FrameBuf;
 use std::alloc::{AllocError, Global};
 use std::marker::Model;
@@ -60,19 +59,16 @@ pub trait Line: Drop {
 /// A line in memory, which holds 64 frames for each direction: a frame put beyond these is lost. It is faithful.
 #[derive(Drop)]
 pub struct MemLine {
-    from_dte: HeapCircularBuffer<FrameBuf>,
-    from_dce: HeapCircularBuffer<FrameBuf>,
+    from_dte: Flying,
+    from_dce: Flying,
 }
 
 impl Model for MemLine {
-    ghost use Rattle.std.specs.Prelude.{◌≡◌};
     ghost use Rattle.memory_line.specs.Lines.{Flights};
 
     ghost Value = { Flights };
 
-    ghost view = { λ l. record { from_dte = l.from_dte.items; from_dce = l.from_dce.items } };
-
-    ghost invariant = { λ l. (l.from_dte.capacity ≡ 64) × (l.from_dce.capacity ≡ 64) };
+    ghost view = { λ l. record { from_dte = l.from_dte; from_dce = l.from_dce } };
 }
 
 impl MemLine {
@@ -80,8 +76,8 @@ impl MemLine {
     pub fn new(alloc: Global) -> Result<Self, AllocError>
         ensures { IfOk result (λ line. line ≡ no_flights) }
     {
-        let from_dte = HeapCircularBuffer::with_capacity(alloc, FRAMES_IN_FLIGHT)?;
-        let from_dce = HeapCircularBuffer::with_capacity(alloc, FRAMES_IN_FLIGHT)?;
+        let from_dte = Flying::new(alloc)?;
+        let from_dce = Flying::new(alloc)?;
         Ok(MemLine { from_dte, from_dce })
     }
 }
@@ -97,15 +93,9 @@ impl Line for MemLine {
             → self.new ≡ with_flying direction (flying direction self.old ++ frame.now ∷ []) self.old }
         ensures beyond { 64 ≤ length (flying direction self.old) → self.new ≡ self.old }
     {
-        let mut copy = FrameBuf::new();
-        copy.extend(frame.as_slice());
         match direction {
-            Direction::FromDte => {
-                let _ = self.from_dte.try_push_back(copy);
-            }
-            Direction::FromDce => {
-                let _ = self.from_dce.try_push_back(copy);
-            }
+            Direction::FromDte => self.from_dte.put(frame),
+            Direction::FromDce => self.from_dce.put(frame),
         }
     }
 
@@ -116,8 +106,8 @@ impl Line for MemLine {
         ensures others { self.new ≡ without_first direction self.old }
     {
         match direction {
-            Direction::FromDte => take_first(&mut self.from_dte, frame),
-            Direction::FromDce => take_first(&mut self.from_dce, frame),
+            Direction::FromDte => self.from_dte.take(frame),
+            Direction::FromDce => self.from_dce.take(frame),
         }
     }
 
@@ -145,22 +135,6 @@ impl Line for MemLine {
             Direction::FromDce => self.from_dce.is_empty(),
         }
     }
-}
-
-/// Takes the first of some frames, if there is one.
-fn take_first(frames: &mut HeapCircularBuffer<FrameBuf>, frame: &mut FrameBuf) -> bool
-    ensures taken { OnTrue result (slice_get frames.old.items 0 ≡ Some frame.new) }
-    ensures none { OnFalse result (slice_get frames.old.items 0 ≡ None) }
-    ensures same { OnFalse result (frame.new ≡ frame.old) }
-    ensures others { frames.new ≡ buffer (drop 1 frames.old.items) frames.old.capacity }
-{
-    let Some(first) = frames.front() else {
-        return false;
-    };
-    frame.clear();
-    frame.extend(first.as_slice());
-    let _ = frames.pop_front();
-    true
 }
 
 /// Makes `n` empty lines in memory.

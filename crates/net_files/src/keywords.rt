@@ -190,9 +190,9 @@ pub(crate) fn numbered_timer(word: &[u8], number: u8) -> Option<TimerId>
     }
 }
 
-/// Whether a word is this one.
+/// Whether a word is this one. Most words have another length, and comparing octets is a call.
 fn spells(word: &[u8], name: &[u8]) -> bool
     ensures { result ≡ bytes_eq word.now name.now }
 {
-    word == name
+    word.len() == name.len() && word == name
 }

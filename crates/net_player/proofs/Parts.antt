@@ -66,25 +66,6 @@ not_write same = cc same
 pub told_front : (part rest : List ℕ) → IsPartOf (part ++ rest) fault_is.OutOfMemory part
 told_front part rest = record { rest = rest; front = refl; refused = λ is empty. not_write is }
 
--- the texts of some of a list were written, and a part of that of the next
-pub told_next : {X : Type 0} {fault : ProgFault} {part : List ℕ} (f : X → List ℕ) (xs : List X) (i : ℕ) (x : X)
-    → i < length xs → x ≡ get_or xs i x → IsPartOf (f x) fault part
-    → IsPartOf (flat_map f xs) fault (flat_map f (take i xs) ++ part)
-told_next {X} {fault} {part} f xs i x within there told =
-    let whole : flat_map f xs ≡ flat_map f (take i xs) ++ (f x ++ flat_map f (drop (suc i) xs)) =
-    ap (flat_map f) (split_at xs i x within there) ∙ flat_map-append f (take i xs) (x ∷ drop (suc i) xs) in
-    let P : List ℕ → Type 0 = λ text. IsPartOf text fault (flat_map f (take i xs) ++ part) in
-    subst P (sym whole) (told_behind _ (told_before _ told))
-
--- the texts of some of a list were written, and then memory was wanted
-pub told_some : {X : Type 0} (f : X → List ℕ) (xs : List X) (i : ℕ)
-    → IsPartOf (flat_map f xs) fault_is.OutOfMemory (flat_map f (take i xs))
-told_some {X} f xs i =
-    let whole : flat_map f xs ≡ flat_map f (take i xs) ++ flat_map f (drop i xs) =
-    ap (flat_map f) (sym (take-append-drop i xs)) ∙ flat_map-append f (take i xs) (drop i xs) in
-    let P : List ℕ → Type 0 = λ text. IsPartOf text fault_is.OutOfMemory (flat_map f (take i xs)) in
-    subst P (sym whole) (told_front _ _)
-
 -- a text is known to be written, and it is of this kind
 pub writes_known : {Whole : List ℕ → Type 0} {a b : Option (List ℕ)} (text : List ℕ)
     → Whole text → Appends a b text → Writes a b Whole

@@ -2,8 +2,7 @@
 ghost use Rattle.std.specs.Prelude.{◌≡◌, ◌≤◌, ◌<◌, [], Some, Ok, OnOk, IfOk, IfErr};
 ghost use Rattle.std.specs.Bool.{OnTrue};
 ghost use Rattle.std.specs.Io.KnownBytes.{Appends};
-ghost use Rattle.std.specs.List.{flat_map};
-ghost use Rattle.answer_texts.specs.Answers.{frame_text, note_text, frames_text, answer_text, outcome_text};
+ghost use Rattle.answer_texts.specs.Answers.{answer_text};
 ghost use Rattle.net_events.specs.declared.event.Event.{Event};
 ghost use Rattle.net_events.specs.declared.event.Event.TheVariants.{Deliver};
 ghost use Rattle.line_sim.specs.Network.{Network, all_elapsed};
@@ -20,9 +19,9 @@ ghost use Rattle.net_player.specs.Stopping.{IsPlayFault, IsPartOf, StopsAt, Deli
 ghost use Rattle.net_player.specs.Stopping.{ExpiryStops, CommandStops, PlayStops};
 
 use crate::output::{write, write_octets};
-use answer_texts::{check_line, frame_text, note_text, outcome_line, prints_nothing, refusal_text};
-use line_nodes::{HostNote, TerminalEvent};
-use line_sim::{Answer, Direction, Event, Line, Net, Outcome, Put, StepFault};
+use answer_texts::{add_answer, check_line, prints_nothing, refusal_text};
+use line_nodes::TerminalEvent;
+use line_sim::{Answer, Direction, Event, Line, Net, Outcome, StepFault};
 use net_files::{Command, Keys, ProgFault, Script};
 use std::alloc::Global;
 use std::io::Write;
@@ -47,14 +46,14 @@ pub fn play<L: Line, W: Write>(
         (PlayStops L.service script.now fault net.old)) }
     ensures faults { IfErr result IsPlayFault }
 {
+    let mut text = Vec::new(alloc);
     let mut player = Player {
-        alloc,
         names: script.names.as_slice(),
         lines: script.lines,
         traces: false,
     };
     for command in script.commands.iter() {
-        player.traces = player.play_command(net, &command, out)?;
+        player.traces = player.play_command(net, &command, &mut text, out)?;
     }
     write(out, end_line(net.at_rest()))?;
     Ok(())
@@ -68,10 +67,9 @@ fn end_line(at_rest: bool) -> &'static str
 }
 
 /// Plays commands, one after the other: the names of the network's nodes, how many lines it has, and whether frames are
-/// traced.
+/// traced. The text of an answer is made in a list that is lent, and keeps its room from one to the next.
 #[derive(Drop)]
 struct Player<'a> {
-    alloc: Global,
     names: &'a [String],
     lines: usize,
     traces: bool,
@@ -83,6 +81,7 @@ impl Player<'_> {
         &self,
         net: &mut Net<L>,
         command: &Command<'_>,
+        text: &mut Vec<u8>,
         out: &mut W,
     ) -> Result<bool, ProgFault>
         ensures writes { IfOk result (λ after. Writes (W.contents out.old) (W.contents out.new)
@@ -95,19 +94,19 @@ impl Player<'_> {
     {
         match command {
             Command::Keys(keys) => {
-                self.play_keys(net, *keys, out)?;
+                self.play_keys(net, *keys, text, out)?;
                 Ok(self.traces)
             }
             Command::Event(event) => {
-                self.play_event(net, event, out)?;
+                self.play_event(net, event, text, out)?;
                 Ok(self.traces)
             }
             Command::Flow => {
-                self.flow(net, out)?;
+                self.flow(net, text, out)?;
                 Ok(self.traces)
             }
             Command::Tick(ticks) => {
-                self.tick(net, *ticks, out)?;
+                self.tick(net, *ticks, text, out)?;
                 Ok(self.traces)
             }
             Command::Trace(on) => Ok(*on),
@@ -123,6 +122,7 @@ impl Player<'_> {
         &self,
         net: &mut Net<L>,
         keys: Keys<'_>,
+        text: &mut Vec<u8>,
         out: &mut W,
     ) -> Result<(), ProgFault>
         ensures writes { OnOk result (Writes (W.contents out.old) (W.contents out.new)
@@ -140,13 +140,18 @@ impl Player<'_> {
                 terminal: keys.terminal,
                 event: TerminalEvent::Key(*octet),
             };
-            self.play_event(net, &key, out)?;
+            self.play_event(net, &key, text, out)?;
         }
         Ok(())
     }
 
     /// Delivers frames, pass after pass over the lines, until a pass brings none.
-    fn flow<L: Line, W: Write>(&self, net: &mut Net<L>, out: &mut W) -> Result<(), ProgFault>
+    fn flow<L: Line, W: Write>(
+        &self,
+        net: &mut Net<L>,
+        text: &mut Vec<u8>,
+        out: &mut W,
+    ) -> Result<(), ProgFault>
         ensures writes { OnOk result (Writes (W.contents out.old) (W.contents out.new)
             (λ text. Flows L.service self.now.names.now self.now.traces self.now.lines
             (record { left = 100000; net = net.old }) text net.new)) }
@@ -157,7 +162,7 @@ impl Player<'_> {
     {
         let mut left = FLOW_LIMIT;
         loop {
-            let still_left = self.pass(net, left, out)?;
+            let still_left = self.pass(net, left, text, out)?;
             if still_left == left {
                 return Ok(());
             }
@@ -170,6 +175,7 @@ impl Player<'_> {
         &self,
         net: &mut Net<L>,
         left: u32,
+        text: &mut Vec<u8>,
         out: &mut W,
     ) -> Result<u32, ProgFault>
         ensures passes { IfOk result (λ still_left. Writes (W.contents out.old) (W.contents out.new)
@@ -186,8 +192,8 @@ impl Player<'_> {
             if is_empty(net, line) {
                 continue;
             }
-            still_left = self.deliver(net, line, Direction::FromDte, still_left, out)?;
-            still_left = self.deliver(net, line, Direction::FromDce, still_left, out)?;
+            still_left = self.deliver(net, line, Direction::FromDte, still_left, text, out)?;
+            still_left = self.deliver(net, line, Direction::FromDce, still_left, text, out)?;
         }
         Ok(still_left)
     }
@@ -199,6 +205,7 @@ impl Player<'_> {
         line: usize,
         direction: Direction,
         left: u32,
+        text: &mut Vec<u8>,
         out: &mut W,
     ) -> Result<u32, ProgFault>
         ensures delivers { IfOk result (λ still_left. Writes (W.contents out.old) (W.contents out.new)
@@ -216,7 +223,7 @@ impl Player<'_> {
         if net.finds_none(line, direction) {
             return Ok(left);
         }
-        self.deliver_first(net, line, direction, left, out)
+        self.deliver_first(net, line, direction, left, text, out)
     }
 
     /// Delivers the first frame, if there is one, where one may still be delivered.
@@ -227,6 +234,7 @@ impl Player<'_> {
         line: usize,
         direction: Direction,
         left: u32,
+        text: &mut Vec<u8>,
         out: &mut W,
     ) -> Result<u32, ProgFault>
         requires { 0 < left }
@@ -240,7 +248,7 @@ impl Player<'_> {
         ensures faults { IfErr result IsPlayFault }
     {
         let delivery = Event::Deliver { line, direction };
-        if self.play_event(net, &delivery, out)? {
+        if self.play_event(net, &delivery, text, out)? {
             Ok(left - 1)
         } else {
             Ok(left)
@@ -252,6 +260,7 @@ impl Player<'_> {
         &self,
         net: &mut Net<L>,
         ticks: u16,
+        text: &mut Vec<u8>,
         out: &mut W,
     ) -> Result<(), ProgFault>
         ensures writes { OnOk result (Writes (W.contents out.old) (W.contents out.new)
@@ -262,7 +271,7 @@ impl Player<'_> {
     {
         net.elapse(ticks);
         while let Some(expiry) = net.next_due() {
-            self.play_event(net, &expiry, out)?;
+            self.play_event(net, &expiry, text, out)?;
         }
         Ok(())
     }
@@ -272,6 +281,7 @@ impl Player<'_> {
         &self,
         net: &mut Net<L>,
         event: &Event,
+        text: &mut Vec<u8>,
         out: &mut W,
     ) -> Result<bool, ProgFault>
         ensures tells { IfOk result (λ arrived. Writes (W.contents out.old) (W.contents out.new)
@@ -284,7 +294,7 @@ impl Player<'_> {
     {
         match net.step(event) {
             Ok(answer) => {
-                self.write_answer(event, answer, out)?;
+                self.write_answer(event, answer, text, out)?;
                 Ok(has_arrived(&answer.outcome))
             }
             Err(StepFault::OutOfMemory) => Err(ProgFault::OutOfMemory),
@@ -308,6 +318,7 @@ impl Player<'_> {
         &self,
         event: &Event,
         answer: &Answer,
+        text: &mut Vec<u8>,
         out: &mut W,
     ) -> Result<(), ProgFault>
         ensures writes { OnOk result (Appends (W.contents out.old) (W.contents out.new)
@@ -319,15 +330,16 @@ impl Player<'_> {
         if self.is_silent(event, answer) {
             return Ok(());
         }
-        self.write_lines(event, answer, out)
+        self.write_lines(event, answer, text, out)
     }
 
-    /// Prints the lines of an answer: the frames, if they are traced, what a host noted, and the outcome.
+    /// Prints the lines of an answer.
     #[inline(never)]
     fn write_lines<W: Write>(
         &self,
         event: &Event,
         answer: &Answer,
+        text: &mut Vec<u8>,
         out: &mut W,
     ) -> Result<(), ProgFault>
         ensures writes { OnOk result (Appends (W.contents out.old) (W.contents out.new)
@@ -336,56 +348,9 @@ impl Player<'_> {
             (IsPartOf (answer_text self.now.names.now self.now.traces event.now (Ok answer.now)) fault)) }
         ensures faults { IfErr result IsPlayFault }
     {
-        self.write_traced(answer.frames.as_slice(), out)?;
-        self.write_notes(answer.notes.as_slice(), out)?;
-        self.write_outcome(event, answer, out)
-    }
-
-    /// Prints the outcome.
-    fn write_outcome<W: Write>(
-        &self,
-        event: &Event,
-        answer: &Answer,
-        out: &mut W,
-    ) -> Result<(), ProgFault>
-        ensures writes { OnOk result (Appends (W.contents out.old) (W.contents out.new)
-            (outcome_text self.now.names.now event.now answer.now.outcome answer.now.text.items)) }
-        ensures stops { IfErr result (λ fault. Writes (W.contents out.old) (W.contents out.new)
-            (IsPartOf (outcome_text self.now.names.now event.now answer.now.outcome answer.now.text.items) fault)) }
-        ensures faults { IfErr result IsPlayFault }
-    {
-        let line = outcome_line(self.alloc, self.names, event, answer)?;
-        write_octets(out, line.as_slice())
-    }
-
-    /// Prints the frames that were put, if they are traced.
-    #[tactic(auto, using(crate::proofs::Turns::appends_nothing))]
-    fn write_traced<W: Write>(&self, puts: &[Put], out: &mut W) -> Result<(), ProgFault>
-        ensures writes { OnOk result (Appends (W.contents out.old) (W.contents out.new)
-            (frames_text self.now.traces puts.now)) }
-        ensures stops { IfErr result (λ fault. Writes (W.contents out.old) (W.contents out.new)
-            (IsPartOf (frames_text self.now.traces puts.now) fault)) }
-        ensures faults { IfErr result IsPlayFault }
-    {
-        if !self.traces {
-            return Ok(());
-        }
-        write_frames(self.alloc, puts, out)
-    }
-
-    /// Prints what a host noted.
-    fn write_notes<W: Write>(&self, notes: &[HostNote], out: &mut W) -> Result<(), ProgFault>
-        ensures writes { OnOk result (Appends (W.contents out.old) (W.contents out.new)
-            (flat_map (note_text self.now.names.now) notes.now)) }
-        ensures stops { IfErr result (λ fault. Writes (W.contents out.old) (W.contents out.new)
-            (IsPartOf (flat_map (note_text self.now.names.now) notes.now) fault)) }
-        ensures faults { IfErr result IsPlayFault }
-    {
-        for note in notes {
-            let text = note_text(self.alloc, self.names, note)?;
-            write(out, text.as_str())?;
-        }
-        Ok(())
+        text.clear();
+        add_answer(text, self.names, self.traces, event, answer)?;
+        write_octets(out, text.as_slice())
     }
 }
 
@@ -395,20 +360,6 @@ fn is_empty<L: Line>(net: &Net<L>, line: usize) -> bool
     ensures from_dce { OnTrue result (FindsNoFrame L.service line FromDce net.now) }
 {
     net.finds_none(line, Direction::FromDte) && net.finds_none(line, Direction::FromDce)
-}
-
-/// Prints the frames that were put.
-fn write_frames<W: Write>(alloc: Global, puts: &[Put], out: &mut W) -> Result<(), ProgFault>
-    ensures writes { OnOk result (Appends (W.contents out.old) (W.contents out.new) (flat_map frame_text puts.now)) }
-    ensures stops { IfErr result (λ fault. Writes (W.contents out.old) (W.contents out.new)
-        (IsPartOf (flat_map frame_text puts.now) fault)) }
-    ensures faults { IfErr result IsPlayFault }
-{
-    for put in puts {
-        let text = frame_text(alloc, put)?;
-        write(out, text.as_str())?;
-    }
-    Ok(())
 }
 
 /// Whether a frame arrived.
