@@ -140,10 +140,10 @@ in_pairs ls w i p q e = by_join (joined_at ls p) refl e
         ap (λ (x : SwitchChannel). other_at ls x) (sym (same_Some j.other q g))
         ∙ ap (λ (o : Option Joined). option_map (λ (k : Joined). k.other) o) z.joined ∙ ap (λ (x : SwitchChannel). Some x) z.back
 
-pub frame_pairs : (n : ℕ) (octets : List ℕ) (s : Switch) (w : World) → AreOctets octets → IsSwitch s.lines w
+pub frame_pairs : (n : ℕ) (octets : List ℕ) (s : Switch) (w : World) → IsSwitch s.lines w
     → AreInPairs (before_relay n (λ e. received e octets) s)
-frame_pairs n octets s w are i =
-    let c = came n octets s.routes s.lines w (readable n octets s.lines are) i in
+frame_pairs n octets s w i =
+    let c = came n octets s.routes s.lines w i in
     let r = before_right n (λ e. received e octets) s c.world c.right in
     in_pairs (before_relay n (λ e. received e octets) s) r.world r.right
 

@@ -29,8 +29,7 @@ finish-requires-clause-pairs c =
     let routes = c.self.inside.routes in
     subst (λ (ls : List SwitchLine). AreInPairs (all_relinked (length ls) routes ls))
     (sym (c.on_frame-joined.ensures.lines ∙ ap (λ (ls : List SwitchLine). acted routes c.args.line (λ e. end.received e c.args.octets.now) ls) c.begin.ensures))
-    (frame_pairs c.args.line c.args.octets.now (switch_of c.self.inside) c.self.invariant.legs (octets c.args.octets.now (λ i. omega (arith, c.type_inv.octets i)))
-    c.self.invariant.holds.joins)
+    (frame_pairs c.args.line c.args.octets.now (switch_of c.self.inside) c.self.invariant.legs c.self.invariant.holds.joins)
 
 pub invariant_of-self : goal.invariant_of-self
 invariant_of-self c =
