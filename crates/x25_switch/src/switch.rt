@@ -25,7 +25,9 @@ use number_set::NumberSet;
 use packet_end::EndFault;
 use std::alloc::Global;
 use std::marker::Model;
-use switch_lines::{Lines, MOST_FRAMES, MOST_LINES, NewJoin, SwitchChannel, SwitchConfig, check_lines};
+use switch_lines::{
+    Lines, MOST_FRAMES, MOST_LINES, NewJoin, SwitchChannel, SwitchConfig, check_lines,
+};
 
 /// A switch: the DCE on up to 64 lines, of which it joins calls (X.25 3 to 5). A call that comes in on one line goes on
 /// to the line of its route, and all that happens on the one is relayed to the other.
