@@ -58,7 +58,9 @@ use Rattle.x25_pad_laws.proofs.Asking.{noted, noted_append}
 use Rattle.x25_pad_laws.proofs.Begins.{made_types}
 use Rattle.x25_pad_laws.proofs.Keeping.{key_types, break_types, print_types, frame_types, relink_types, timer_types, idle_types, restart_types, time_types, drained_types, far_types}
 use Rattle.x25_pad_laws.proofs.Modes.{ReplyFollows, octets_follow}
-use Rattle.x25_pad_laws.proofs.Saying.{Octets, message_in, told_in, interrupt_in, all_in, all_append, IsKind, messages_kind, told_kind, interrupts_kind, told_octets, event_messages, event_told, event_interrupts, messages_append, octets_append, interrupts_append}
+use Rattle.x25_pad_laws.proofs.Telling.{Octets, all_append, message_in, told_in, interrupt_in, all_in, IsKind, messages_kind, told_kind, told_octets}
+use Rattle.x25_pad_laws.proofs.Interrupting.{interrupts_kind}
+use Rattle.x25_pad_laws.proofs.Saying.{event_messages, event_told, event_interrupts, messages_append, octets_append, interrupts_append}
 use Rattle.x25_pad_laws.proofs.Spoken.{IsPlain, edited_plain, reset_plain, sent_plain, interrupted_plain, took_plain, AreRaw, test_of, plain_list, plain_none, IsMuteNote, mute_list, all_closed_said, far_said}
 
 -- ---- the notes of an event: those of which a record alone changes, and then those that say nothing

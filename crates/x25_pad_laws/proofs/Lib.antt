@@ -20,6 +20,8 @@ pub mod Events
 pub mod Rooms
 mod Lengths
 mod Queues
+pub mod Telling
+pub mod Interrupting
 pub mod Saying
 pub mod Spoken
 pub mod Holding

@@ -32,7 +32,7 @@ use Rattle.x25_pad_laws.proofs.Asking.{noted}
 use Rattle.x25_pad_laws.proofs.Records.{qualified_append, qualified_more, qualified_user, qualified_qualified, sent_more, same_sent, renewed_sent, interrupts_more, same_interrupts, renewed_interrupts}
 use Rattle.x25_pad_laws.proofs.Books.{side_changed, change_of, change_keeps, slot_records, slot_node, side_record, side_pairs, changed_again, not_ours, far_holds, far_one}
 use Rattle.x25_pad_laws.proofs.Lists.{get_before}
-use Rattle.x25_pad_laws.proofs.Saying.{Octets, message_in, told_in, interrupt_in, all_in}
+use Rattle.x25_pad_laws.proofs.Telling.{Octets, message_in, told_in, interrupt_in, all_in}
 
 -- ---- messages that a record took
 
