@@ -91,7 +91,7 @@ fn stops_the_program<F: Files + net::Net>(rt: &F, alloc: Global, writes: u32) ->
 #[test]
 fn each_write_that_is_refused_is_a_fault(rt: HostRuntime) {
     let writes = writes_of_all(rt.alloc()).expect(&rt, "what is printed");
-    assert!(rt; writes >= 6, "{writes} writes");
+    assert!(rt; writes >= 5, "{writes} writes");
     for refused in 0..writes {
         assert!(rt; stops_playing(rt.alloc(), refused), "at {refused}");
         assert!(rt; stops_the_program(&rt, rt.alloc(), refused), "at {refused}");
