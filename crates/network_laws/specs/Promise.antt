@@ -66,8 +66,8 @@ pub record NetworkHolds (s : Network) : Type 0 where
   -- at each end a call in data transfer that was placed there is in a pair
   pub placed : (line : ℕ) (l : NetLine) (role : Role) → slice_get s.lines line ≡ Some l → PlacedHolds s line l role
   -- what a PAD's terminal sent on a call is, block for block with its end, what its editing rules make of the keys and
-  -- idle times; else the PAD sent only an answer to each message that it took and that asks for one, an indication of
-  -- each break that asks for one, and the interrupts of breaks and of INT, each once and in order
+  -- idle times; else the PAD sent what some list of occasions asks for, in order, whose messages are those that it
+  -- took. Which breaks and commands came, and with which parameters, is not said here
   pub typed : (place : ℕ) (n : PlacedNode) (i : ℕ) (r : RecordValue) → slice_get s.nodes place ≡ Some (User n)
       → is_pad n.node ≡ true → slice_get s.register.records i ≡ Some r → r.node ≡ place → HasSent r
   -- each record, open or closed, has the epochs that the packet layer of its node counted: packets, interrupts, and how
