@@ -7,3 +7,4 @@ pub mod Ending
 pub mod Opening
 pub mod Written
 pub mod Cutting
+pub mod Blank

@@ -18,6 +18,7 @@ ghost use Rattle.call_records.specs.RecordView.{shown, pair_of, step_of, grown, 
 use crate::ends::{Ends, Side, Slot};
 use crate::interrupt::Interrupt;
 use crate::packets::Packet;
+use crate::passed::Passed;
 use crate::record::{EditStep, Growth, Hop, Pair, Record};
 use link_timers::Role;
 use packet_codec::{Address, CallBuf, CallData};
@@ -28,6 +29,9 @@ use std::marker::Model;
 /// How many places more than it is asked for `reserve` makes in each list, so that it need not look at all records of
 /// present calls again before they are used up.
 const AHEAD: usize = 24;
+
+/// How many lists with room a book keeps for later calls: those of both ends of a call, sent and taken.
+const MOST_SPARE: usize = 4;
 
 /// The book of a line: the records of the calls' two ends, the pairs of them that make a call, and for each end,
 /// channel by channel, which records belong there. Only `new` and `reserve` take memory; what is written needs room
@@ -45,6 +49,8 @@ pub struct Book {
     places: usize,
     // The records of the calls that ended since room was made last.
     over: Vec<usize>,
+    // What records of calls that are over, in which nothing passed, had room for.
+    spare: Vec<Passed>,
 }
 
 impl Model for Book {
@@ -79,11 +85,14 @@ impl Book {
             dte: Side::new(alloc, dte_node, None, channels)?,
             dce: Side::new(alloc, dce_node, None, channels)?,
         };
+        let mut spare = Vec::with_capacity(alloc, MOST_SPARE)?;
         let mut records = Vec::with_capacity(alloc, 2)?;
         let mut pairs = Vec::with_capacity(alloc, 1)?;
         if standing {
-            records.push_reserved(Record::new(alloc, 0, dte_node, None, None, None));
-            records.push_reserved(Record::new(alloc, 1, dce_node, None, None, Some(0)));
+            let caller = Record::new(alloc, &mut spare, 0, dte_node, None, None, None);
+            let callee = Record::new(alloc, &mut spare, 1, dce_node, None, None, Some(0));
+            records.push_reserved(caller);
+            records.push_reserved(callee);
             pairs.push_reserved(Pair {
                 caller: 0,
                 callee: 1,
@@ -110,6 +119,7 @@ impl Book {
             pair_room: 0,
             places: 0,
             over: Vec::new(alloc),
+            spare,
         })
     }
 
@@ -130,7 +140,12 @@ impl Book {
         self.room = 0;
         self.pair_room = 0;
         self.places = 0;
-        give_back(self.alloc, &mut self.records, self.over.as_slice())?;
+        give_back(
+            self.alloc,
+            &mut self.records,
+            self.over.as_slice(),
+            &mut self.spare,
+        )?;
         self.over.clear();
         self.over.reserve(self.ends.channels())?;
         let places = count.saturating_add(AHEAD);
@@ -203,8 +218,8 @@ impl Book {
             placed: Some(number),
             caller: None,
         };
-        self.records
-            .push_reserved(Record::new(self.alloc, number, node, own, far, None));
+        let spare = &mut self.spare;
+        self.records.push_reserved(Record::new(self.alloc, spare, number, node, own, far, None));
         self.ends.put(role, channel, slot);
         self.room = 0;
         self.places = 0;
@@ -228,6 +243,7 @@ impl Book {
         let data = call.data();
         self.records.push_reserved(Record::new(
             self.alloc,
+            &mut self.spare,
             number,
             node,
             Some(data.called),
@@ -514,20 +530,30 @@ fn reserve_present(records: &mut Vec<Record>, side: &Side, count: usize) -> Resu
 }
 
 // The records of these numbers give back their spare room.
-fn give_back(alloc: Global, records: &mut Vec<Record>, numbers: &[usize]) -> Result<(), AllocError>
+fn give_back(
+    alloc: Global,
+    records: &mut Vec<Record>,
+    numbers: &[usize],
+    spare: &mut Vec<Passed>,
+) -> Result<(), AllocError>
     ensures same { map shown records.new.items ≡ map shown records.old.items }
     ensures len { vec_len records.new ≡ vec_len records.old }
     ensures capacity { vec_capacity records.new ≡ vec_capacity records.old }
     ensures fits { OnOk result (NoPlacesAt numbers.now records.new.items) }
 {
     for number in numbers {
-        give_back_at(alloc, records, *number)?;
+        give_back_at(alloc, records, *number, spare)?;
     }
     Ok(())
 }
 
 // So does the record of this number, if there is one.
-fn give_back_at(alloc: Global, records: &mut Vec<Record>, number: usize) -> Result<(), AllocError>
+fn give_back_at(
+    alloc: Global,
+    records: &mut Vec<Record>,
+    number: usize,
+    spare: &mut Vec<Passed>,
+) -> Result<(), AllocError>
     ensures same { map shown records.new.items ≡ map shown records.old.items }
     ensures len { vec_len records.new ≡ vec_len records.old }
     ensures capacity { vec_capacity records.new ≡ vec_capacity records.old }
@@ -537,7 +563,7 @@ fn give_back_at(alloc: Global, records: &mut Vec<Record>, number: usize) -> Resu
 {
     if number < records.len() {
         let record = &mut records[number];
-        record.give_back(alloc)?;
+        record.give_back(alloc, spare)?;
     }
     Ok(())
 }

@@ -44,9 +44,10 @@ impl Model for Packets {
 }
 
 impl Packets {
-    /// No packets.
+    /// No packets, and no room.
     pub(crate) fn new(alloc: Global) -> Self
-        ensures { result.packets ≡ [] }
+        ensures packets { result.packets ≡ [] }
+        ensures spare { result.spare ≡ 0 }
     {
         Packets {
             written: Vec::new(alloc),

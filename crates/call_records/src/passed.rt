@@ -1,4 +1,5 @@
 //! What passed in one direction of a call, epoch by epoch, that is, between two resets.
+ghost use Rattle.std.specs.Bool.{OnTrue};
 ghost use Rattle.std.specs.Prelude.{◌≡◌, ◌≤◌, option_map, slice_get, length, OnOk};
 ghost use Rattle.call_records.specs.Records.{counted as counted_of};
 ghost use Rattle.call_records.specs.Packets.{data_packet_of};
@@ -11,6 +12,7 @@ use crate::packets::{Packet, Packets, PacketsIter};
 use crate::spare::give_back;
 use std::alloc::{AllocError, Global};
 use std::marker::Model;
+use std::mem::replace;
 
 /// Where an epoch ended: how many packets and interrupts had passed on the call by then, and how many of the packets of
 /// this epoch counted.
@@ -54,9 +56,10 @@ impl Model for Passed {
 }
 
 impl Passed {
-    /// One epoch, in which nothing passed yet.
+    /// One epoch, in which nothing passed yet, without room.
     pub(crate) fn new(alloc: Global) -> Self
-        ensures { result.epochs ≡ first_epoch }
+        ensures epochs { result.epochs ≡ first_epoch }
+        ensures no_room { HasNoSpare result }
     {
         Passed {
             packets: Packets::new(alloc),
@@ -64,6 +67,29 @@ impl Passed {
             ends: Vec::new(alloc),
             counted: 0,
         }
+    }
+
+    /// One epoch, in which nothing passed yet, with the room of a spare one, if there is one.
+    pub(crate) fn from_spare(alloc: Global, spare: &mut Vec<Passed>) -> Self
+        ensures { result.epochs ≡ first_epoch }
+    {
+        if let Some(passed) = spare.pop() {
+            if passed.is_blank() {
+                return passed;
+            }
+        }
+        Passed::new(alloc)
+    }
+
+    // Whether certainly nothing passed.
+    #[tactic(auto, using(crate::proofs::Blank::nothing_passed))]
+    fn is_blank(&self) -> bool
+        ensures { OnTrue result (self.now.epochs ≡ first_epoch) }
+    {
+        self.packets.len() == 0
+            && self.interrupts.is_empty()
+            && self.ends.is_empty()
+            && self.counted == 0
     }
 
     /// How many epochs ended.
@@ -148,11 +174,23 @@ impl Passed {
         self.counted = 0;
     }
 
-    /// Gives back what room there is beyond what passed, as far as there is memory for it.
-    pub(crate) fn give_back(&mut self, alloc: Global) -> Result<(), AllocError>
+    /// Gives back what room there is beyond what passed, as far as there is memory for it. Where nothing passed, all of
+    /// it goes to the spare ones, if they are not too many.
+    pub(crate) fn give_back(
+        &mut self,
+        alloc: Global,
+        spare: &mut Vec<Passed>,
+    ) -> Result<(), AllocError>
         ensures same { self.new.epochs ≡ self.old.epochs }
         ensures fits { OnOk result (HasNoSpare self.new) }
     {
+        if self.is_blank() {
+            let blank = replace(self, Passed::new(alloc));
+            if spare.len() < spare.capacity() {
+                spare.push_reserved(blank);
+            }
+            return Ok(());
+        }
         self.packets.give_back(alloc)?;
         give_back(alloc, &mut self.interrupts)?;
         give_back(alloc, &mut self.ends)

@@ -109,9 +109,10 @@ impl Growth<'_> {
 }
 
 impl Record {
-    /// The record of an end's part in a new call.
+    /// The record of an end's part in a new call, with the room of spare lists, if there are any.
     pub(crate) fn new(
         alloc: Global,
+        spare: &mut Vec<Passed>,
         number: usize,
         node: usize,
         own: Option<Address>,
@@ -127,8 +128,8 @@ impl Record {
             far,
             caller,
             path: ArrayVec::new(),
-            sent: Passed::new(alloc),
-            taken: Passed::new(alloc),
+            sent: Passed::from_spare(alloc, spare),
+            taken: Passed::from_spare(alloc, spare),
             closed: false,
             steps: Vec::new(alloc),
         }
@@ -175,12 +176,16 @@ impl Record {
     }
 
     /// Gives back what room there is beyond what the record has, as far as there is memory for it.
-    pub(crate) fn give_back(&mut self, alloc: Global) -> Result<(), AllocError>
+    pub(crate) fn give_back(
+        &mut self,
+        alloc: Global,
+        spare: &mut Vec<Passed>,
+    ) -> Result<(), AllocError>
         ensures same { shown self.new ≡ shown self.old }
         ensures fits { OnOk result (HasNoPlaces self.new) }
     {
-        self.sent.give_back(alloc)?;
-        self.taken.give_back(alloc)?;
+        self.sent.give_back(alloc, spare)?;
+        self.taken.give_back(alloc, spare)?;
         give_back(alloc, &mut self.steps)
     }
 

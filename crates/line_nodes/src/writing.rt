@@ -113,9 +113,11 @@ fn write_host_notes(host: &mut Host, at: Attachment, book: &mut Book, notes: &mu
     ensures notes { notes.new.items ≡ host_notes at.node host.old.notes }
 {
     for _ in 0..host.waiting_notes() {
-        if let Some(note) = host.notes() {
-            book.tell(at.role, &note);
-            list_note(at.node, &note, notes);
-        }
+        let Some(note) = host.first_note() else {
+            return;
+        };
+        book.tell(at.role, note);
+        list_note(at.node, note, notes);
+        let _ = host.notes();
     }
 }

@@ -16,6 +16,15 @@ use Rattle.link_timers.proofs.PlaceLaws.{past_end, none_at, others_left, lowered
 pub none_run : (running : PlaceSet) → ((n : ℕ) → has running n ≡ false) → AreTimers none_running running
 none_run running none = record { whole = refl; runs = λ n. none n ∙ sym (ap is_some (none_at 211 n)) }
 
+none_at_place : (left : Option ℕ) → is_some left ≡ false → left ≡ None
+none_at_place None none = refl
+none_at_place (Some n) none = absurd (cc)
+
+pub none_runs : (timers : Places) (running : PlaceSet) → AreTimers timers running → ((n : ℕ) → has running n ≡ false) →
+    (id : TimerId) → left_of timers id ≡ None
+none_runs timers running are none id =
+    none_at_place (left_of timers id) (sym (are.runs (place_of id)) ∙ none (place_of id))
+
 -- one place is set
 pub one_set : (timers : Places) (running after : PlaceSet) (place : ℕ) (left : Option ℕ) (f : Bool → Bool → Bool) →
     AreTimers timers running → place < 211 → ((n : ℕ) → has after n ≡ f (has running n) (n == place)) →

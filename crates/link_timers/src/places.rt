@@ -1,5 +1,6 @@
 //! Sets of places of timers.
 ghost use Rattle.std.specs.Prelude.{◌≡◌, ◌<◌, ℕ, false, ◌&&◌, ◌||◌, not, ◌==◌, MatchOption};
+ghost use Rattle.std.specs.Bool.{OnTrue};
 ghost use Rattle.link_timers.specs.PlaceSet.{has, size, IsFirstOf};
 
 use number_set::NumberSet;
@@ -39,6 +40,18 @@ impl PlaceSet {
         ensures { (n : ℕ) → has self.new n ≡ (has self.old n && not (n == place)) }
     {
         self.parts[place / PART].remove(place % PART);
+    }
+
+    /// Whether there is no place.
+    pub(crate) fn is_empty(&self) -> bool
+        ensures { OnTrue result ((n : ℕ) → has self.now n ≡ false) }
+    {
+        for part in self.parts.iter() {
+            if !part.is_empty() {
+                return false;
+            }
+        }
+        true
     }
 
     /// Takes the first place out, if there is one.

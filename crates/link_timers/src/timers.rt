@@ -16,6 +16,7 @@ ghost use Rattle.std.specs.Prelude.{
   MatchOption,
   Contains,
 };
+ghost use Rattle.std.specs.Bool.{OnTrue};
 ghost use Rattle.link_timers.specs.declared.timers.TimerId.{TimerId};
 ghost use Rattle.link_timers.specs.Timers.{
   places,
@@ -151,6 +152,14 @@ impl Timers {
         ensures { result ≡ is_some (left_of self.now id) }
     {
         self.running_place(id).is_some()
+    }
+
+    /// Whether no timer runs. If it says no, it may still be that none does.
+    #[tactic(auto, using(crate::proofs::RunningLaws::none_runs))]
+    pub fn is_empty(&self) -> bool
+        ensures { OnTrue result ((id : TimerId) → left_of self.now id ≡ None) }
+    {
+        self.running.is_empty()
     }
 
     /// Takes an expiry of a timer: whether it ran, and it is stopped.

@@ -193,8 +193,9 @@ impl Channel {
         ensures reads_back { ReadsAs channel (machine.next_of window self.old.channel).body buf.new.items }
         ensures same { OnFalse result (self.new ≡ self.old) }
     {
-        if let Some(control) = self.owed.take_first() {
-            write_control(channel, &control, buf);
+        if let Some(control) = self.owed.first() {
+            write_control(channel, control, buf);
+            self.owed.drop_first();
             return true;
         }
         if !self.has_flow() {

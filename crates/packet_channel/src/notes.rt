@@ -1,5 +1,5 @@
 //! Notes of a packet layer that are not yet read.
-ghost use Rattle.std.specs.Prelude.{◌≡◌, ◌<◌, ◌≤◌, ◌++◌, [], ◌∷◌, IfOk, length, drop, slice_get};
+ghost use Rattle.std.specs.Prelude.{◌≡◌, ◌<◌, ◌≤◌, ◌++◌, [], ◌∷◌, IfOk, MatchOption, Some, None, length, drop, slice_get};
 
 use crate::note::LayerNote;
 use crate::state::MOST_CHANNELS;
@@ -64,6 +64,14 @@ impl<const PLACES: usize> NoteQueue<PLACES> {
         ensures { self.new ≡ self.old ++ note_of note ∷ [] }
     {
         let _ = self.notes.try_push_back(note);
+    }
+
+    /// The first note, if there is one.
+    pub fn first(&self) -> Option<&LayerNote>
+        ensures { MatchOption result (slice_get self.now 0 ≡ None)
+            (λ note. slice_get self.now 0 ≡ Some (note_of note.now)) }
+    {
+        self.notes.front()
     }
 
     /// Takes the first note, if there is one.

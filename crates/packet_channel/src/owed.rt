@@ -1,5 +1,5 @@
 //! Packets that are owed to the link.
-ghost use Rattle.std.specs.Prelude.{◌≡◌, ◌==◌, [], ◌∷◌, Some, MatchOption, length};
+ghost use Rattle.std.specs.Prelude.{◌≡◌, ◌==◌, [], Some, drop, length, option_copied, slice_get};
 ghost use Rattle.packet_channel.specs.Channel.{with_owed, passes_limit};
 
 use arrayvec::ArrayVec;
@@ -55,16 +55,21 @@ impl<P: Default + Drop> Owed<P> {
         false
     }
 
-    /// Takes the first packet out, if there is one.
-    pub fn take_first(&mut self) -> Option<P>
-        ensures { MatchOption result
-            ((self.old ≡ []) × (self.new ≡ []))
-            (λ packet. self.old ≡ packet ∷ self.new) }
+    /// The first packet, if there is one.
+    pub fn first(&self) -> Option<&P>
+        ensures { option_copied result ≡ slice_get self.now 0 }
     {
-        if self.packets.is_empty() {
-            None
+        self.packets.as_slice().first()
+    }
+
+    /// Drops the first packet, if there is one.
+    pub fn drop_first(&mut self)
+        ensures { self.new ≡ drop 1 self.old }
+    {
+        if self.packets.len() <= 1 {
+            self.packets.clear();
         } else {
-            Some(self.packets.remove(0))
+            let _ = self.packets.remove(0);
         }
     }
 }

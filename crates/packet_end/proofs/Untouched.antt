@@ -1,13 +1,17 @@
 -- A timer that runs as the layer wants it to is left as it is, so that the timers of the touched channels alone are
 -- brought into line.
 use Rattle.std.proofs.Common.{◌≡◌, ◌≢◌, ℕ, zero, suc, ◌≤◌, Bool, true, false, refl, sym, ap, ◌∙◌, arith, inl, inr}
-use Rattle.std.specs.Prelude.{◌⊎◌, Option, Some, None, is_some, if◌then◌else◌, slice_set}
+use Rattle.std.specs.Prelude.{◌||◌, ◌⊎◌, Option, Some, None, is_some, if◌then◌else◌, slice_set}
 use Rattle.std.proofs.lemmas.Bool.{cases_eq, ne_eqb}
 use Rattle.std.proofs.lemmas.List.{set-get_or}
+use Rattle.link_timers.specs.declared.role.Role.{Role}
+use Rattle.link_timers.specs.declared.role.Role.TheVariants.{Dte, Dce}
 use Rattle.link_timers.specs.declared.timers.TimerId.{TimerId}
-use Rattle.link_timers.specs.declared.timers.TimerId.TheVariants.{T10, T20, T11, T12, T13, T21, T22, T23}
+use Rattle.link_timers.specs.declared.timers.TimerId.TheVariants.{T1, T10, T20, T11, T12, T13, T21, T22, T23, Idle}
 use Rattle.link_timers.specs.Timers.{Places, IsTimer, place_of, left_of, started}
 use Rattle.packet_layer.specs.Layer.{Layer}
+use Rattle.packet_layer.specs.Layer as machine
+use Rattle.packet_layer.specs.Layer.Timer.{CallTimer, ResetTimer, ClearTimer}
 use Rattle.packet_layer.specs.Events.{timer_named, runs_named}
 use Rattle.packet_end.specs.Timing.{packet_ticks, brought_as, brought_one, brought_channel, brought_channels, brought}
 use Rattle.packet_end.specs.Timing.{RunsAsWanted, IsPacketTimer, channel_number, TimersAgree}
@@ -35,7 +39,47 @@ both_stay : (l : Layer) (id : TimerId) (before timers : Places) → before ≡ t
     brought_one l id before ≡ timers
 both_stay l id before timers same wanted = ap (λ (x : Places). brought_one l id x) same ∙ one_stays l id timers wanted
 
-channel_stays : (l : Layer) (channel : ℕ) (timers : Places) →
+-- ---- none runs, and none is to
+
+or_none : (a b c : Bool) → (a || (b || c)) ≡ false → (a ≡ false) × (b ≡ false) × (c ≡ false)
+or_none false false false e = (refl, refl, refl)
+or_none false false true e = absurd (cc)
+or_none false true c e = absurd (cc)
+or_none true b c e = absurd (cc)
+
+named_none : (l : Layer) (role : Role) (channel : ℕ) (id : TimerId) → machine.runs l (CallTimer channel) ≡ false →
+    machine.runs l (ResetTimer channel) ≡ false → machine.runs l (ClearTimer channel) ≡ false → 1 ≤ channel →
+    channel_number id ≡ channel → runs_named l (timer_named role id) ≡ false
+named_none l Dte channel T1 call reset clear least same = refl
+named_none l Dte channel T10 call reset clear least same = refl
+named_none l Dte channel T20 call reset clear least same = absurd (omega (arith, least, same))
+named_none l Dte channel (T11 n) call reset clear least same = refl
+named_none l Dte channel (T12 n) call reset clear least same = refl
+named_none l Dte channel (T13 n) call reset clear least same = refl
+named_none l Dte channel (T21 n) call reset clear least same = ap (λ (c : ℕ). machine.runs l (CallTimer c)) same ∙ call
+named_none l Dte channel (T22 n) call reset clear least same = ap (λ (c : ℕ). machine.runs l (ResetTimer c)) same ∙ reset
+named_none l Dte channel (T23 n) call reset clear least same = ap (λ (c : ℕ). machine.runs l (ClearTimer c)) same ∙ clear
+named_none l Dte channel (Idle n) call reset clear least same = refl
+named_none l Dce channel T1 call reset clear least same = refl
+named_none l Dce channel T10 call reset clear least same = absurd (omega (arith, least, same))
+named_none l Dce channel T20 call reset clear least same = refl
+named_none l Dce channel (T11 n) call reset clear least same = ap (λ (c : ℕ). machine.runs l (CallTimer c)) same ∙ call
+named_none l Dce channel (T12 n) call reset clear least same = ap (λ (c : ℕ). machine.runs l (ResetTimer c)) same ∙ reset
+named_none l Dce channel (T13 n) call reset clear least same = ap (λ (c : ℕ). machine.runs l (ClearTimer c)) same ∙ clear
+named_none l Dce channel (T21 n) call reset clear least same = refl
+named_none l Dce channel (T22 n) call reset clear least same = refl
+named_none l Dce channel (T23 n) call reset clear least same = refl
+named_none l Dce channel (Idle n) call reset clear least same = refl
+
+pub none_wanted : (l : Layer) (channel : ℕ) (timers : Places) → ((id : TimerId) → left_of timers id ≡ None) →
+    (machine.runs l (CallTimer channel) || (machine.runs l (ResetTimer channel) || machine.runs l (ClearTimer channel)))
+    ≡ false → 1 ≤ channel → (id : TimerId) → channel_number id ≡ channel → RunsAsWanted l timers id
+none_wanted l channel timers none waits least id same =
+    let no = or_none (machine.runs l (CallTimer channel)) (machine.runs l (ResetTimer channel))
+    (machine.runs l (ClearTimer channel)) waits in
+    ap is_some (none id) ∙ sym (named_none l l.role channel id no.0 no.1 no.2 least same)
+
+pub channel_stays : (l : Layer) (channel : ℕ) (timers : Places) →
     ((id : TimerId) → IsPacketTimer id → channel_number id ≡ channel → RunsAsWanted l timers id) →
     1 ≤ channel → channel ≤ 32 → brought_channel l channel timers ≡ timers
 channel_stays l channel timers wanted least most =

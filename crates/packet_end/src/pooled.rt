@@ -1,5 +1,5 @@
 //! One end of a line with its packet layer, in a pool that it is lent.
-ghost use Rattle.std.specs.Prelude.{◌≡◌, ◌≤◌, ◌<◌, ◌+◌, ◌++◌, [], ◌∷◌, length, drop, MatchResult, slice_get};
+ghost use Rattle.std.specs.Prelude.{◌≡◌, ◌≤◌, ◌<◌, ◌+◌, ◌++◌, [], ◌∷◌, length, drop, MatchOption, MatchResult, Some, None, slice_get};
 ghost use Rattle.std.specs.Bool.{OnTrue, OnFalse};
 ghost use Rattle.flow_window.specs.Pool.{Balances};
 ghost use Rattle.packet_layer.specs.Layer.{unread};
@@ -66,7 +66,7 @@ impl Deref for PooledEnd {
 }
 
 impl PooledEnd {
-    ghost use Rattle.packet_layer.specs.NoteView.{maybe_note};
+    ghost use Rattle.packet_layer.specs.NoteView.{maybe_note, note_of};
 
     /// The end of this role of a line, as `PacketEnd::new` makes it. It takes all the memory that it ever uses, but for
     /// the pool. `OutOfMemory` comes for want of memory.
@@ -202,6 +202,14 @@ impl PooledEnd {
         ensures end { self.new ≡ record self.old { end = without_first_frame self.old.end } }
     {
         self.line.out(frame)
+    }
+
+    /// The next note, if there is one.
+    pub fn first_note(&self) -> Option<&LayerNote>
+        ensures { MatchOption result (slice_get self.now.end.notes 0 ≡ None)
+            (λ note. slice_get self.now.end.notes 0 ≡ Some (note_of note.now)) }
+    {
+        self.notes.first()
     }
 
     /// Takes the next note, if there is one.

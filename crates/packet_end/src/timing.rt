@@ -53,6 +53,9 @@ fn bring_channel(timers: &mut Timers, layer: &Layer, channel: u8)
     ensures kept { (id : TimerName) → IsTimer id → RunsAsWanted layer.now.layer timers.old id →
         RunsAsWanted layer.now.layer timers.new id }
 {
+    if timers.is_empty() && !layer.waits_on(channel) {
+        return;
+    }
     bring_one(timers, layer, TimerId::T11(channel));
     bring_one(timers, layer, TimerId::T12(channel));
     bring_one(timers, layer, TimerId::T13(channel));

@@ -3,9 +3,9 @@ use Rattle.std.specs.Prelude.{ℕ, true, false, Option}
 use Rattle.packet_layer.specs.Channel.{Refusal}
 use Rattle.packet_layer.specs.Channel.{Request as ask}
 use Rattle.packet_layer.specs.Layer.{request_refusal}
-use Rattle.packet_end.specs.PacketEnd.{PacketEnd}
-use Rattle.packet_host.specs.Host.{refuse_refusal, after_request, after_refuse, after_say}
-use Rattle.packet_host.specs.Saying.{say_refusal}
+use Rattle.packet_end.specs.PacketEnd.{PacketEnd, asked}
+use Rattle.packet_host.specs.Host.{refuse_refusal, unless_refused, ended}
+use Rattle.packet_host.specs.Saying.{cut, queued, say_refusal}
 use Rattle.packet_host.specs.declared.request.HostRequest.{HostRequest}
 use Rattle.packet_host.specs.declared.request.HostRequest.TheVariants.{Answer, Refuse, Say, Interrupt, Reset, Clear}
 use Rattle.packet_host.specs.declared.request.HostRequest.TheVariants.{Stop, Go}
@@ -21,13 +21,17 @@ ask_refusal e channel Clear = request_refusal e.layer channel (ask.Clearing 0 0)
 ask_refusal e channel Stop = request_refusal e.layer channel (ask.Stopping true)
 ask_refusal e channel Go = request_refusal e.layer channel (ask.Stopping false)
 
+-- what a request makes of the end of the line, if it is not refused
+abbrev pub asked_for : PacketEnd → (channel : ℕ) → HostRequest → PacketEnd
+asked_for e channel Answer = asked e channel ask.Accept
+asked_for e channel Refuse = asked e channel (ask.Clearing 0 0)
+asked_for e channel (Say octets qualified delivery) = queued channel (cut octets.items qualified delivery) e
+asked_for e channel (Interrupt octets) = asked e channel (ask.Interrupting octets.items)
+asked_for e channel Reset = asked e channel (ask.Resetting 0 0)
+asked_for e channel Clear = asked e channel (ask.Clearing 0 0)
+asked_for e channel Stop = asked e channel (ask.Stopping true)
+asked_for e channel Go = asked e channel (ask.Stopping false)
+
 -- the host after the request: one that is refused changes nothing
 abbrev pub after_ask : PacketEnd → (channel : ℕ) → HostRequest → PacketEnd
-after_ask e channel Answer = after_request e channel ask.Accept
-after_ask e channel Refuse = after_refuse e channel
-after_ask e channel (Say octets qualified delivery) = after_say e channel octets.items qualified delivery
-after_ask e channel (Interrupt octets) = after_request e channel (ask.Interrupting octets.items)
-after_ask e channel Reset = after_request e channel (ask.Resetting 0 0)
-after_ask e channel Clear = after_request e channel (ask.Clearing 0 0)
-after_ask e channel Stop = after_request e channel (ask.Stopping true)
-after_ask e channel Go = after_request e channel (ask.Stopping false)
+after_ask e channel request = unless_refused (ask_refusal e channel request) (ended (asked_for e channel request)) e

@@ -8,11 +8,16 @@ use Rattle.packet_layer.specs.Channel.{Refusal, Request, refused_if}
 use Rattle.packet_layer.specs.Layer.{can_accept, request_refusal, call_refusal, front_on}
 use Rattle.packet_end.specs.PacketEnd.{Octets, PacketEnd, begun, finished, asked, called, received, runs_at, after_timer}
 use Rattle.packet_end.specs.PacketEnd as end
+use Rattle.packet_end.specs.Sending.{ending_frames}
 use Rattle.packet_host.specs.Saying.{cut, queued, say_refusal}
 
 -- an event that has changed the end: it drops what was not taken of the last one, and ends
 abbrev pub ended : PacketEnd → PacketEnd
 ended e = finished (begun e)
+
+-- the frames of such an event, all of them: those of its end
+abbrev pub ended_frames : PacketEnd → List Octets
+ended_frames e = ending_frames (begun e)
 
 -- what is refused changes nothing
 abbrev pub unless_refused : Option Refusal → (done old : PacketEnd) → PacketEnd

@@ -1,18 +1,16 @@
 //! The host and its calls.
 ghost use Rattle.std.specs.Prelude.{◌≡◌, ◌≤◌, [], true, false, Some, None, length, MatchResult, OnOk, OnErr};
-ghost use Rattle.std.specs.Prelude.{OnSome};
-ghost use Rattle.std.specs.Prelude.{slice_get};
+ghost use Rattle.std.specs.Prelude.{OnSome, MatchOption, slice_get, IfSome};
 ghost use Rattle.packet_layer.specs.Channel.{Request as ask};
 ghost use Rattle.packet_layer.specs.Layer as machine;
-ghost use Rattle.packet_layer.specs.NoteView.{maybe_note};
+ghost use Rattle.packet_layer.specs.NoteView.{maybe_note, note_of};
 ghost use Rattle.packet_layer.specs.RequestView.{request_of, refusal_of, call_refusal_of};
-ghost use Rattle.packet_layer.specs.TakenView.{maybe_taken};
+ghost use Rattle.packet_layer.specs.TakenView.{taken_of, maybe_taken};
 ghost use Rattle.packet_end.specs.Params.{AreParams, MadeNot};
 ghost use Rattle.packet_end.specs.PacketEnd as end;
-ghost use Rattle.packet_end.specs.Sending.{ending_frames};
 ghost use Rattle.packet_end.specs.Timing.{TimersAgree};
 ghost use Rattle.packet_host.specs.Host.{ended, call_parts, after_call, after_request, refuse_refusal, after_refuse};
-ghost use Rattle.packet_host.specs.Host.{after_take};
+ghost use Rattle.packet_host.specs.Host.{let_go, after_take, ended_frames};
 ghost use Rattle.packet_host.specs.Making.{made};
 
 mod asking;
@@ -71,6 +69,8 @@ impl Host {
         ensures host { self.new ≡ after_call self.old (call_parts address user_data.now) }
         ensures err { OnErr result (self.new ≡ self.old) }
         ensures nothing_kept_back { OnOk result (end.KeepsNothingBack self.new) }
+        ensures frames { OnOk result (self.new.line.frames
+            ≡ ended_frames (end.called self.old (call_parts address user_data.now))) }
     {
         let channel = self.end.call(&CallData {
             called: address,
@@ -91,6 +91,7 @@ impl Host {
             (λ fault. machine.request_refusal self.old.layer channel ask.Accept ≡ Some (refusal_of fault)) }
         ensures host { self.new ≡ after_request self.old channel ask.Accept }
         ensures nothing_kept_back { OnOk result (end.KeepsNothingBack self.new) }
+        ensures frames { OnOk result (self.new.line.frames ≡ ended_frames (end.asked self.old channel ask.Accept)) }
     {
         self.request(channel, &Request::Accept)
     }
@@ -104,6 +105,8 @@ impl Host {
             (λ fault. refuse_refusal self.old channel ≡ Some (refusal_of fault)) }
         ensures host { self.new ≡ after_refuse self.old channel }
         ensures nothing_kept_back { OnOk result (end.KeepsNothingBack self.new) }
+        ensures frames { OnOk result (self.new.line.frames
+            ≡ ended_frames (end.asked self.old channel (ask.Clearing 0 0))) }
     {
         if !self.end.can_accept(channel) {
             return Err(ChannelFault::NoCall);
@@ -120,6 +123,7 @@ impl Host {
             (λ fault. machine.request_refusal self.old.layer channel (ask.Clearing 0 0) ≡ Some (refusal_of fault)) }
         ensures host { self.new ≡ after_request self.old channel (ask.Clearing 0 0) }
         ensures nothing_kept_back { OnOk result (end.KeepsNothingBack self.new) }
+        ensures frames { OnOk result (self.new.line.frames ≡ ended_frames (end.asked self.old channel (ask.Clearing 0 0))) }
     {
         let request = Request::Clear {
             cause: 0,
@@ -138,6 +142,7 @@ impl Host {
             (λ fault. machine.request_refusal self.old.layer channel (ask.Resetting 0 0) ≡ Some (refusal_of fault)) }
         ensures host { self.new ≡ after_request self.old channel (ask.Resetting 0 0) }
         ensures nothing_kept_back { OnOk result (end.KeepsNothingBack self.new) }
+        ensures frames { OnOk result (self.new.line.frames ≡ ended_frames (end.asked self.old channel (ask.Resetting 0 0))) }
     {
         let request = Request::Reset {
             cause: 0,
@@ -157,6 +162,7 @@ impl Host {
             ≡ Some (refusal_of fault)) }
         ensures host { self.new ≡ after_request self.old channel (ask.Interrupting octets.now) }
         ensures nothing_kept_back { OnOk result (end.KeepsNothingBack self.new) }
+        ensures frames { OnOk result (self.new.line.frames ≡ ended_frames (end.asked self.old channel (ask.Interrupting octets.now))) }
     {
         self.request(channel, &Request::Interrupt(octets))
     }
@@ -170,6 +176,7 @@ impl Host {
             (λ fault. machine.request_refusal self.old.layer channel (ask.Stopping true) ≡ Some (refusal_of fault)) }
         ensures host { self.new ≡ after_request self.old channel (ask.Stopping true) }
         ensures nothing_kept_back { OnOk result (end.KeepsNothingBack self.new) }
+        ensures frames { OnOk result (self.new.line.frames ≡ ended_frames (end.asked self.old channel (ask.Stopping true))) }
     {
         self.request(channel, &Request::Stop(true))
     }
@@ -183,6 +190,7 @@ impl Host {
             (λ fault. machine.request_refusal self.old.layer channel (ask.Stopping false) ≡ Some (refusal_of fault)) }
         ensures host { self.new ≡ after_request self.old channel (ask.Stopping false) }
         ensures nothing_kept_back { OnOk result (end.KeepsNothingBack self.new) }
+        ensures frames { OnOk result (self.new.line.frames ≡ ended_frames (end.asked self.old channel (ask.Stopping false))) }
     {
         self.request(channel, &Request::Stop(false))
     }
@@ -193,6 +201,8 @@ impl Host {
         ensures taken { maybe_taken result ≡ machine.front_on self.old.layer channel }
         ensures host { self.new ≡ after_take self.old channel }
         ensures nothing_kept_back { OnSome result (end.KeepsNothingBack self.new) }
+        ensures frames { IfSome result (λ taken. self.new.line.frames
+            ≡ ended_frames (let_go (taken_of taken) channel (end.asked self.old channel ask.Taking))) }
     {
         let taken = self.end.take(channel)?;
         let request = match taken {
@@ -212,6 +222,14 @@ impl Host {
         self.end.confirmed(channel)
     }
 
+    /// The next note of the event, if there is one.
+    pub fn first_note(&self) -> Option<&LayerNote>
+        ensures { MatchOption result (slice_get self.now.notes 0 ≡ None)
+            (λ note. slice_get self.now.notes 0 ≡ Some (note_of note.now)) }
+    {
+        self.end.first_note()
+    }
+
     /// Takes the next note of the event, if there is one.
     pub fn notes(&mut self) -> Option<LayerNote>
         ensures note { maybe_note result ≡ slice_get self.old.notes 0 }
@@ -228,6 +246,8 @@ impl Host {
             ≡ Some (refusal_of fault)) }
         ensures host { self.new ≡ after_request self.old channel (request_of request.now) }
         ensures nothing_kept_back { OnOk result (end.KeepsNothingBack self.new) }
+        ensures frames { OnOk result (self.new.line.frames
+            ≡ ended_frames (end.asked self.old channel (request_of request.now))) }
     {
         self.end.ask(channel, request)?;
         self.end_event();
@@ -238,7 +258,7 @@ impl Host {
     fn end_event(&mut self)
         ensures host { self.new ≡ ended self.old }
         ensures nothing_kept_back { end.KeepsNothingBack self.new }
-        ensures frames { self.new.line.frames ≡ ending_frames (end.begun self.old) }
+        ensures frames { self.new.line.frames ≡ ended_frames self.old }
         ensures timers { TimersAgree self.new.layer self.new.timers }
     {
         self.end.begin();

@@ -18,12 +18,12 @@ use Rattle.pad_terminal.specs.declared.mode.Mode.TheVariants.{CommandState}
 abbrev pub indicates : List ℕ → Bool
 indicates params = acts_on_break params action.Indication && not (acts_on_break params action.Reset)
 
--- an interrupt or a reset, where none waits for its confirmation; of the two the reset
+-- an interrupt or a reset, where it may be sent; of the two the reset
 abbrev pub request_of : List ℕ → CallCondition → Option Request
 request_of params call =
     if acts_on_break params action.Reset
     then (if call.reset_pending then None else Some request.Reset)
-    else if acts_on_break params action.Interrupt && not call.reset_pending && not call.interrupt_pending
+    else if acts_on_break params action.Interrupt && call.may_interrupt
     then Some request.Interrupt
     else None
 

@@ -68,7 +68,7 @@ abbrev pub may_reset : CallCondition → TerminalState → Bool
 may_reset call t = is_connected t.mode && not call.reset_pending
 
 abbrev pub may_interrupt : CallCondition → TerminalState → Bool
-may_interrupt call t = may_reset call t && not call.interrupt_pending
+may_interrupt call t = is_connected t.mode && call.may_interrupt
 
 -- a request, where it may be made
 abbrev pub asked : Bool → Request → Outcome

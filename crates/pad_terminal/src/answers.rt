@@ -11,8 +11,8 @@ pub struct CallCondition {
     pub queue_full: bool,
     /// A reset that the PAD began is not confirmed.
     pub reset_pending: bool,
-    /// An interrupt that the PAD sent is not confirmed.
-    pub interrupt_pending: bool,
+    /// An interrupt may be sent: there is a call, and no interrupt and no reset that the PAD sent is unconfirmed.
+    pub may_interrupt: bool,
 }
 
 /// What a terminal asks of its PAD.

@@ -38,7 +38,7 @@ pub(crate) enum Step<'a> {
     // the send queue has no room, or has some again
     QueueFull(bool),
     ResetPending(bool),
-    InterruptPending(bool),
+    MayInterrupt(bool),
     Connected,
     Cleared(u8),
     Reset(u8),
@@ -96,7 +96,7 @@ pub(crate) fn play(rt: &impl Abort, alloc: Global, rule: &str, standing: bool, s
 const AT_FIRST: CallCondition = CallCondition {
     queue_full: false,
     reset_pending: false,
-    interrupt_pending: false,
+    may_interrupt: true,
 };
 
 fn play_from(rt: &impl Abort, terminal: Terminal, rule: &str, steps: &[Step<'_>]) {
@@ -134,7 +134,7 @@ fn fits(tested: &mut Tested, step: Step<'_>) -> bool {
         Step::Sends(octets) => sends(tested, octets),
         Step::SendsNothing => tested.block.is_none(),
         Step::Asks(asked) => asks(tested, asked),
-        Step::QueueFull(_) | Step::ResetPending(_) | Step::InterruptPending(_) => {
+        Step::QueueFull(_) | Step::ResetPending(_) | Step::MayInterrupt(_) => {
             change(&mut tested.call, step);
             true
         }
@@ -147,7 +147,7 @@ fn change(call: &mut CallCondition, step: Step<'_>) {
     match step {
         Step::QueueFull(full) => call.queue_full = full,
         Step::ResetPending(pending) => call.reset_pending = pending,
-        Step::InterruptPending(pending) => call.interrupt_pending = pending,
+        Step::MayInterrupt(may) => call.may_interrupt = may,
         _ => {}
     }
 }

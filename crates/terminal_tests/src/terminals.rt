@@ -3,7 +3,7 @@
 use crate::steps::{Asked, Example, Step, play, play_all};
 use Step::{
     Asks, BreakDropped, Breaks, Cleared, Connected, Drops, IdleDropped, IdleTime, Idles, In,
-    InterruptPending, Invited, MayShow, Message, Prints, QueueFull, Reset, ResetPending, Restart,
+    Invited, MayInterrupt, MayShow, Message, Prints, QueueFull, Reset, ResetPending, Restart,
     Sends, SendsNothing, Shows, Type,
 };
 use pad_terminal::Mode;
@@ -194,14 +194,13 @@ const COMMANDS: &[Example] = &[
         steps: &[
             Type(b"\x10INT\r"),
             Asks(Asked::Interrupt),
-            InterruptPending(true),
+            MayInterrupt(false),
             Type(b"\x10INT\r"),
             Asks(Asked::Nothing),
             Prints(b"INT\r\r\nINT\r\r\nERR\r\n"),
             Type(b"RESET\r"),
             Asks(Asked::Reset),
             ResetPending(true),
-            InterruptPending(false),
             Type(b"\x10RESET\r"),
             Asks(Asked::Nothing),
             Type(b"INT\r"),
@@ -320,7 +319,7 @@ const MESSAGES: &[Example] = &[
             Shows(b"LOST", b""),
             Message(b"\x02\x08\x00", b""),
             Shows(b"SEEN", b"SEEN"),
-            InterruptPending(true),
+            MayInterrupt(false),
             Breaks(b"\x03\x08\x01"),
             Asks(Asked::Nothing),
             QueueFull(true),

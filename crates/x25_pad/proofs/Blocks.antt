@@ -17,7 +17,6 @@ use Rattle.x3_params.specs.Settings.{recall_character}
 use Rattle.x25_pad.specs.Law.{KeyBlocksAreTaken, IdleBlocksAreTaken}
 use Rattle.x25_pad.specs.Line.{condition, datum}
 use Rattle.x25_pad.specs.Ports.{AtLine}
-use Rattle.x25_pad.specs.declared.call.Call.{Call}
 
 -- ---- the send queue
 
@@ -84,13 +83,13 @@ idle_with_room true t block h =
 
 -- ---- both
 
-block_taken : (a : AtLine) (block : List ℕ) (call : Call) → a.port.call ≡ Some call → length block ≤ 128 →
+block_taken : (a : AtLine) (block : List ℕ) (call : ℕ) → a.port.call ≡ Some call → length block ≤ 128 →
     (condition a.port.call a.line).queue_full ≡ false →
-    request_refusal a.line.end.layer call.channel (Request.Sending (datum block false)) ≡ None
+    request_refusal a.line.end.layer call (Request.Sending (datum block false)) ≡ None
 block_taken a block call is le full =
-    let P : Option Call → Type 0 = λ found. (condition found a.line).queue_full ≡ false in
+    let P : Option ℕ → Type 0 = λ found. (condition found a.line).queue_full ≡ false in
     let there : (condition (Some call) a.line).queue_full ≡ false = subst P is full in
-    taken_at a.line.end.layer.role (channel_of a.line.end.layer call.channel) block there le
+    taken_at a.line.end.layer.role (channel_of a.line.end.layer call) block there le
 
 pub key_blocks : KeyBlocksAreTaken
 key_blocks o a block call answer is le =

@@ -30,7 +30,6 @@ use Rattle.x25_pad.specs.Ports.{PortState, AtLine}
 use Rattle.x25_pad.specs.Pad as pad
 use Rattle.x25_pad.specs.Pad.{PadState, acted, at_port, heeded, with_frame, with_relink, with_expiry}
 use Rattle.x25_pad.specs.Sending.{frames_on_frame, frames_on_relink, frames_at_terminal, frames_on_timer}
-use Rattle.x25_pad.specs.declared.call.Call.{Call}
 use Rattle.x25_pad.specs.declared.line.PadLine.{PadLine}
 
 -- ---- the frames that wait stay
@@ -52,7 +51,7 @@ answered_same (Some channel) p = by (pad.first_free p.ports)
 pub heeded_same : (p : PadState) → SameFrames p.line.end (heeded p).line.end
 heeded_same p = answered_same (line.last_incoming None p.line.end.notes) (pad.told p)
 
-on_call_same : (act : Call → AtLine → AtLine) (o : Option Call) (a : AtLine) → ((call : Call) → SameAt a (act call a)) → SameAt a (port.on_call act o a)
+on_call_same : (act : ℕ → AtLine → AtLine) (o : Option ℕ) (a : AtLine) → ((call : ℕ) → SameAt a (act call a)) → SameAt a (port.on_call act o a)
 on_call_same act None a h = refl
 on_call_same act (Some call) a h = h call
 
@@ -67,11 +66,11 @@ tells_same : (o : Option Message) (a : AtLine) → SameAt a (port.tells o a)
 tells_same None a = refl
 tells_same (Some m) a = on_call_same _ a.port.call a (λ call. refl)
 
-block_same : (block : Option (List ℕ)) (call : Call) (a : AtLine) → SameAt a (port.block_sent block call a)
+block_same : (block : Option (List ℕ)) (call : ℕ) (a : AtLine) → SameAt a (port.block_sent block call a)
 block_same None call a = refl
 block_same (Some block) call a = refl
 
-edits_same : (step : Step) (block : Option (List ℕ)) (call : Call) (a : AtLine) → SameAt a (port.edits step block call a)
+edits_same : (step : Step) (block : Option (List ℕ)) (call : ℕ) (a : AtLine) → SameAt a (port.edits step block call a)
 edits_same step None call a = refl
 edits_same step (Some block) call a = refl
 
@@ -110,11 +109,11 @@ datum_same d true a =
     replies_same answered.reply (record a { port = port.with_terminal answered.terminal a.port })
 datum_same d false a = refl
 
-taking_same : (taken : Taken) (call : Call) (a : AtLine) → SameAt a (port.after_taking taken call (port.takes taken call a))
+taking_same : (taken : Taken) (call : ℕ) (a : AtLine) → SameAt a (port.after_taking taken call (port.takes taken call a))
 taking_same (TakenInterrupt octets) call a = refl
 taking_same (TakenPacket d) call a = datum_same d d.qualified (port.releases (LayerRequest.Releasing 1) call (port.takes (TakenPacket d) call a))
 
-next_same : (o : Option Call) (taken : Option Taken) (p : PortState) (l : PadLine)
+next_same : (o : Option ℕ) (taken : Option Taken) (p : PortState) (l : PadLine)
     → SameAt (record { port = record p { call = o }; line = l }) (port.after_taken taken (port.with_taken taken (record { port = record p { call = o }; line = l })))
 next_same o None p l = refl
 next_same None (Some taken) p l = refl

@@ -6,13 +6,12 @@ use Rattle.pad_terminal.specs.declared.answers.InputAnswer.{InputAnswer}
 use Rattle.pad_terminal.specs.declared.answers.InputAnswer.TheVariants.{Edited}
 use Rattle.x25_pad.specs.Line.{datum}
 use Rattle.x25_pad.specs.Ports.{AtLine, key_input, idle_input}
-use Rattle.x25_pad.specs.declared.call.Call.{Call}
 
 -- where a block is ended, the send queue of the call takes it
 abbrev pub BlockIsTaken : InputAnswer → AtLine → Type 0
 BlockIsTaken answer a =
-    (block : List ℕ) → (call : Call) → answer ≡ Edited (Some block) → a.port.call ≡ Some call → length block ≤ 128 →
-    request_refusal a.line.end.layer call.channel (Request.Sending (datum block false)) ≡ None
+    (block : List ℕ) → (call : ℕ) → answer ≡ Edited (Some block) → a.port.call ≡ Some call → length block ≤ 128 →
+    request_refusal a.line.end.layer call (Request.Sending (datum block false)) ≡ None
 
 abbrev pub KeyBlocksAreTaken : Type 0
 KeyBlocksAreTaken = (o : ℕ) (a : AtLine) → BlockIsTaken (key_input o a).answer a

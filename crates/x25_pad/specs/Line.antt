@@ -6,11 +6,11 @@ use Rattle.packet_layer.specs.Traffic.{Taken}
 use Rattle.packet_layer.specs.Packets.Note.{Incoming, Connected, Closed, WasReset, InterruptConfirmed, Covered}
 use Rattle.packet_layer.specs.Channel.{Refusal, Request}
 use Rattle.packet_layer.specs.Layer.{room, flow_refusal, request_refusal, channel_given}
+use Rattle.packet_layer.specs.Interrupting.{may_interrupt}
 use Rattle.packet_end.specs.PacketEnd as end
 use Rattle.pad_terminal.specs.declared.answers.CallCondition.{CallCondition}
 use Rattle.x25_pad.specs.Notes as notes
 use Rattle.x25_pad.specs.Notes.{PadNote, all_told, unless_refused}
-use Rattle.x25_pad.specs.declared.call.Call.{Call}
 use Rattle.x25_pad.specs.declared.call.CallNote.{CallNote}
 use Rattle.x25_pad.specs.declared.call.CallNote.TheVariants as learnt
 use Rattle.x25_pad.specs.declared.line.PadLine.{PadLine}
@@ -81,12 +81,13 @@ abbrev pub is_resetting : Option Refusal → Bool
 is_resetting (Some Refusal.IsResetting) = true
 is_resetting _ = false
 
-abbrev pub condition : Option Call → PadLine → CallCondition
-condition None l = record { queue_full = true; reset_pending = false; interrupt_pending = false }
-condition (Some call) l = record {
-  queue_full = room l.end.layer call.channel == 0;
-  reset_pending = is_resetting (flow_refusal l.end.layer call.channel);
-  interrupt_pending = call.interrupt_pending;
+-- of the call on a logical channel; without one no packet and no interrupt is taken
+abbrev pub condition : (call : Option ℕ) → PadLine → CallCondition
+condition None l = record { queue_full = true; reset_pending = false; may_interrupt = false }
+condition (Some channel) l = record {
+  queue_full = room l.end.layer channel == 0;
+  reset_pending = is_resetting (flow_refusal l.end.layer channel);
+  may_interrupt = may_interrupt l.end.layer channel;
 }
 
 -- ---- what the packet layer tells
@@ -107,7 +108,7 @@ learnt_of (Incoming channel parts) = []
 learnt_of (Connected channel) = learnt.Connected channel ∷ []
 learnt_of (Closed channel cause diagnostic reason) = learnt.Cleared channel cause ∷ []
 learnt_of (WasReset channel cause diagnostic reason) = learnt.Reset channel cause ∷ []
-learnt_of (InterruptConfirmed channel) = learnt.InterruptConfirmed channel ∷ []
+learnt_of (InterruptConfirmed channel) = []
 learnt_of (Covered channel count) = []
 
 abbrev pub all_learnt : List Note → List CallNote

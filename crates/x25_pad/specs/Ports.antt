@@ -28,15 +28,14 @@ use Rattle.pad_terminal.specs.declared.answers.Request.{Request}
 use Rattle.pad_terminal.specs.declared.answers.Request.TheVariants as request
 use Rattle.x25_pad.specs.Notes.{Edited}
 use Rattle.x25_pad.specs.Line as line
-use Rattle.x25_pad.specs.declared.call.Call.{Call}
 use Rattle.x25_pad.specs.declared.call.CallNote.{CallNote}
 use Rattle.x25_pad.specs.declared.call.CallNote.TheVariants as learnt
 use Rattle.x25_pad.specs.declared.line.PadLine.{PadLine}
 
--- the terminal, its call, and the ticks left of its idle timer, where it runs
+-- the terminal, the logical channel of its call, and the ticks left of its idle timer, where it runs
 pub record PortState : Type 0 where
   pub terminal : TerminalState
-  pub call : Option Call
+  pub call : Option ℕ
   pub idle_left : Option ℕ
 
 -- a port and the line
@@ -47,34 +46,25 @@ pub record AtLine : Type 0 where
 abbrev pub with_terminal : TerminalState → PortState → PortState
 with_terminal t p = record p { terminal = t }
 
-abbrev pub call_on : (channel : ℕ) → Call
-call_on channel = record { channel = channel; interrupt_pending = false }
-
 -- ---- what the terminal asks
 
 -- of its call, where there is one
-abbrev pub on_call : (Call → AtLine → AtLine) → Option Call → AtLine → AtLine
+abbrev pub on_call : ((channel : ℕ) → AtLine → AtLine) → Option ℕ → AtLine → AtLine
 on_call act None a = a
-on_call act (Some call) a = act call a
+on_call act (Some channel) a = act channel a
 
-abbrev pub sends : (octets : List ℕ) → (qualified : Bool) → Call → AtLine → AtLine
-sends octets qualified call a = record a { line = line.sent call.channel octets qualified a.line }
+abbrev pub sends : (octets : List ℕ) → (qualified : Bool) → (channel : ℕ) → AtLine → AtLine
+sends octets qualified channel a = record a { line = line.sent channel octets qualified a.line }
 
-abbrev pub clears : Call → AtLine → AtLine
-clears call a =
-    record { port = record a.port { call = None }; line = line.cleared call.channel a.line }
+abbrev pub clears : (channel : ℕ) → AtLine → AtLine
+clears channel a =
+    record { port = record a.port { call = None }; line = line.cleared channel a.line }
 
-abbrev pub resets : Call → AtLine → AtLine
-resets call a = record {
-  port = record a.port { call = Some (call_on call.channel) };
-  line = line.reset call.channel a.line;
-}
+abbrev pub resets : (channel : ℕ) → AtLine → AtLine
+resets channel a = record a { line = line.reset channel a.line }
 
-abbrev pub interrupts : Call → AtLine → AtLine
-interrupts call a = record {
-  port = record a.port { call = Some (record call { interrupt_pending = true }) };
-  line = line.interrupted call.channel a.line;
-}
+abbrev pub interrupts : (channel : ℕ) → AtLine → AtLine
+interrupts channel a = record a { line = line.interrupted channel a.line }
 
 -- the cause that is shown where a call cannot be placed: out of order, or no channel
 abbrev pub refusal_cause : Option Refusal → ℕ
@@ -82,7 +72,7 @@ refusal_cause (Some Refusal.NotReady) = 9
 refusal_cause _ = 5
 
 abbrev pub placed_on : Option ℕ → Option Refusal → PortState → PortState
-placed_on (Some channel) refusal p = record p { call = Some (call_on channel) }
+placed_on (Some channel) refusal p = record p { call = Some channel }
 placed_on None refusal p = with_terminal (calls.cleared (refusal_cause refusal) p.terminal) p
 
 abbrev pub places : Selection → AtLine → AtLine
@@ -110,13 +100,13 @@ tells (Some message) a = on_call (sends (octets_of message) true) a.port.call a
 -- ---- keys and idle times
 
 -- a step of editing, and the block that it ends
-abbrev pub block_sent : Option (List ℕ) → Call → AtLine → AtLine
-block_sent None call a = a
-block_sent (Some block) call a = sends block false call a
+abbrev pub block_sent : Option (List ℕ) → (channel : ℕ) → AtLine → AtLine
+block_sent None channel a = a
+block_sent (Some block) channel a = sends block false channel a
 
-abbrev pub edits : Step → Option (List ℕ) → Call → AtLine → AtLine
-edits step block call a =
-    block_sent block call (record a { line = record a.line { notes = a.line.notes ++ Edited call.channel step ∷ [] } })
+abbrev pub edits : Step → Option (List ℕ) → (channel : ℕ) → AtLine → AtLine
+edits step block channel a =
+    block_sent block channel (record a { line = record a.line { notes = a.line.notes ++ Edited channel step ∷ [] } })
 
 abbrev pub handles : InputAnswer → Step → AtLine → AtLine
 handles input.Dropped step a = a
@@ -180,21 +170,21 @@ after_message octets a =
     replies answered.reply (record a { port = with_terminal answered.terminal a.port })
 
 -- what waits first is taken
-abbrev pub takes : TakenValue → Call → AtLine → AtLine
-takes taken call a = record a { line = line.taken call.channel (Some taken) a.line }
+abbrev pub takes : TakenValue → (channel : ℕ) → AtLine → AtLine
+takes taken channel a = record a { line = line.taken channel (Some taken) a.line }
 
 -- P(R) may pass it, or an interrupt is confirmed
-abbrev pub releases : ask → Call → AtLine → AtLine
-releases r call a = record a { line = record a.line { end = end.asked a.line.end call.channel r } }
+abbrev pub releases : ask → (channel : ℕ) → AtLine → AtLine
+releases r channel a = record a { line = record a.line { end = end.asked a.line.end channel r } }
 
 -- what is taken: an interrupt shows nothing, a qualified packet is a message, another is shown
 abbrev pub after_datum : Datum → Bool → AtLine → AtLine
 after_datum d true a = after_message d.octets a
 after_datum d false a = record a { port = with_terminal (calls.displayed d.octets a.port.terminal) a.port }
 
-abbrev pub after_taking : TakenValue → Call → AtLine → AtLine
-after_taking (TakenInterrupt octets) call a = releases ask.Confirming call a
-after_taking (TakenPacket d) call a = after_datum d d.qualified (releases (ask.Releasing 1) call a)
+abbrev pub after_taking : TakenValue → (channel : ℕ) → AtLine → AtLine
+after_taking (TakenInterrupt octets) channel a = releases ask.Confirming channel a
+after_taking (TakenPacket d) channel a = after_datum d d.qualified (releases (ask.Releasing 1) channel a)
 
 abbrev pub text_of_datum : Datum → Bool → TerminalState → List ℕ
 text_of_datum d true t = []
@@ -217,10 +207,10 @@ takeable None queue_full = None
 takeable (Some taken) queue_full = unless_full queue_full taken
 
 -- what is taken for the terminal, if anything
-abbrev pub next_on : Option Call → AtLine → Option TakenValue
+abbrev pub next_on : Option ℕ → AtLine → Option TakenValue
 next_on None a = None
-next_on (Some call) a =
-    takeable (front_on a.line.end.layer call.channel) (line.condition (Some call) a.line).queue_full
+next_on (Some channel) a =
+    takeable (front_on a.line.end.layer channel) (line.condition (Some channel) a.line).queue_full
 
 abbrev pub taken_of : AtLine → Option TakenValue
 taken_of a = if terminal.may_show a.port.terminal then next_on a.port.call a else None
@@ -233,9 +223,9 @@ abbrev pub after_taken : Option TakenValue → AtLine → AtLine
 after_taken None a = a
 after_taken (Some taken) a = on_call (after_taking taken) a.port.call a
 
-abbrev pub text_on_call : Option Call → TakenValue → TerminalState → List ℕ
+abbrev pub text_on_call : Option ℕ → TakenValue → TerminalState → List ℕ
 text_on_call None taken t = []
-text_on_call (Some call) taken t = text_of taken t
+text_on_call (Some channel) taken t = text_of taken t
 
 abbrev pub text_taken : Option TakenValue → TerminalState → List ℕ
 text_taken None t = []
@@ -256,23 +246,20 @@ abbrev pub channel_of : CallNote → ℕ
 channel_of (learnt.Connected channel) = channel
 channel_of (learnt.Cleared channel cause) = channel
 channel_of (learnt.Reset channel cause) = channel
-channel_of (learnt.InterruptConfirmed channel) = channel
 
 -- its call is that on the channel
-abbrev pub has_channel : Option Call → (channel : ℕ) → Bool
+abbrev pub has_channel : Option ℕ → (channel : ℕ) → Bool
 has_channel None channel = false
-has_channel (Some call) channel = call.channel == channel
+has_channel (Some own) channel = own == channel
 
 abbrev pub connects : (channel : ℕ) → PortState → PortState
-connects channel p = record p { terminal = calls.connected p.terminal; call = Some (call_on channel) }
+connects channel p = record p { terminal = calls.connected p.terminal; call = Some channel }
 
 abbrev pub learns : CallNote → PortState → PortState
 learns (learnt.Connected channel) p = connects channel p
 learns (learnt.Cleared channel cause) p =
     record p { terminal = calls.cleared cause p.terminal; call = None }
-learns (learnt.Reset channel cause) p =
-    record p { terminal = calls.reset cause p.terminal; call = Some (call_on channel) }
-learns (learnt.InterruptConfirmed channel) p = record p { call = Some (call_on channel) }
+learns (learnt.Reset channel cause) p = with_terminal (calls.reset cause p.terminal) p
 
 -- ---- the end of an event
 
@@ -305,13 +292,9 @@ abbrev pub is_due : PortState → Bool
 is_due p = has_expired p.idle_left
 
 -- a port as it is made, with the call that stands on a channel or none
-abbrev pub standing_call : Option ℕ → Option Call
-standing_call None = None
-standing_call (Some channel) = Some (call_on channel)
-
 abbrev pub new_port : (params : List ℕ) → (standing : Option ℕ) → PortState
 new_port params standing =
-    record { terminal = terminal.made params (is_some standing); call = standing_call standing; idle_left = None }
+    record { terminal = terminal.made params (is_some standing); call = standing; idle_left = None }
 
 abbrev pub restarted : PortState → PortState
 restarted p =

@@ -1,14 +1,6 @@
-//! The call of a terminal.
+//! What a terminal learns of its call.
 ghost use Rattle.std.specs.Prelude.{◌≡◌};
 ghost use Rattle.x25_pad.specs.Ports.{channel_of};
-
-/// The call of a terminal, connected or being set up.
-#[derive(Clone, Copy)]
-pub(crate) struct Call {
-    pub(crate) channel: u8,
-    /// An interrupt was sent and is not confirmed.
-    pub(crate) interrupt_pending: bool,
-}
 
 /// What a terminal learns of the call on a channel.
 #[derive(Clone, Copy)]
@@ -16,7 +8,6 @@ pub(crate) enum CallNote {
     Connected(u8),
     Cleared(u8, u8),
     Reset(u8, u8),
-    InterruptConfirmed(u8),
 }
 
 impl CallNote {
@@ -27,8 +18,7 @@ impl CallNote {
         match self {
             CallNote::Connected(channel)
             | CallNote::Cleared(channel, _)
-            | CallNote::Reset(channel, _)
-            | CallNote::InterruptConfirmed(channel) => channel,
+            | CallNote::Reset(channel, _) => channel,
         }
     }
 }

@@ -7,7 +7,6 @@ ghost use Rattle.packet_end.specs.PacketEnd as end;
 ghost use Rattle.x25_pad.specs.NoteView.{pad_note_of};
 ghost use Rattle.x25_pad.specs.Line as spec;
 
-use crate::call::Call;
 use crate::note::{MOST_NOTES, PadNote, PadNotes};
 use arrayvec::ArrayVec;
 use packet_codec::{Address, CallData};
@@ -152,30 +151,31 @@ impl PadLine {
         Some(taken)
     }
 
-    /// What a terminal must know of its call. Without a call no packet is taken to be sent.
-    pub(crate) fn condition(&self, call: Option<Call>) -> CallCondition
+    /// What a terminal must know of its call, which is on a channel. Without a call no packet and no interrupt is taken
+    /// to be sent.
+    pub(crate) fn condition(&self, call: Option<u8>) -> CallCondition
         ensures { result ≡ spec.condition call self.now }
     {
-        let Some(call) = call else {
+        let Some(channel) = call else {
             return CallCondition {
                 queue_full: true,
                 reset_pending: false,
-                interrupt_pending: false,
+                may_interrupt: false,
             };
         };
         CallCondition {
-            queue_full: self.is_full(Some(call)),
-            reset_pending: self.is_resetting(call.channel),
-            interrupt_pending: call.interrupt_pending,
+            queue_full: self.is_full(Some(channel)),
+            reset_pending: self.is_resetting(channel),
+            may_interrupt: self.end.may_interrupt(channel),
         }
     }
 
     /// Whether the send queue of a call takes no packet. Without a call it takes none.
-    pub(crate) fn is_full(&self, call: Option<Call>) -> bool
+    pub(crate) fn is_full(&self, call: Option<u8>) -> bool
         ensures { result ≡ (spec.condition call self.now).queue_full }
     {
         match call {
-            Some(call) => self.end.room(call.channel) == 0,
+            Some(channel) => self.end.room(channel) == 0,
             None => true,
         }
     }

@@ -5,7 +5,7 @@ ghost use Rattle.x25_pad.specs.Ports as spec;
 mod asking;
 mod printing;
 
-use crate::call::{Call, CallNote};
+use crate::call::CallNote;
 use crate::line::PadLine;
 use pad_terminal::Terminal;
 pub use printing::MOST_TEXT;
@@ -17,7 +17,8 @@ use x3_params::Params;
 #[derive(Drop)]
 pub(crate) struct Port {
     terminal: Terminal,
-    call: Option<Call>,
+    /// The logical channel of its call, connected or being set up.
+    call: Option<u8>,
     /// The ticks left of the idle timer, where it runs.
     idle_left: Option<u16>,
 }
@@ -42,13 +43,9 @@ impl Port {
         ensures { IfOk result (λ port. port ≡ spec.new_port params standing) }
     {
         let terminal = Terminal::new(alloc, params, standing.is_some())?;
-        let call = match standing {
-            Some(channel) => Some(call_on(channel)),
-            None => None,
-        };
         Ok(Port {
             terminal,
-            call,
+            call: standing,
             idle_left: None,
         })
     }
@@ -73,10 +70,7 @@ impl Port {
     pub(crate) fn has_channel(&self, channel: u8) -> bool
         ensures { result ≡ spec.has_channel self.now.call channel }
     {
-        match self.call {
-            Some(call) => call.channel == channel,
-            None => false,
-        }
+        self.call == Some(channel)
     }
 
     /// Takes the call on a channel, which is connected.
@@ -84,7 +78,7 @@ impl Port {
         ensures { self.new ≡ spec.connects channel self.old }
     {
         self.terminal.on_connected();
-        self.call = Some(call_on(channel));
+        self.call = Some(channel);
     }
 
     /// Learns what became of its call.
@@ -97,11 +91,7 @@ impl Port {
                 self.terminal.on_cleared(cause);
                 self.call = None;
             }
-            CallNote::Reset(channel, cause) => {
-                self.terminal.on_reset(cause);
-                self.call = Some(call_on(channel));
-            }
-            CallNote::InterruptConfirmed(channel) => self.call = Some(call_on(channel)),
+            CallNote::Reset(_, cause) => self.terminal.on_reset(cause),
         }
     }
 
@@ -136,16 +126,6 @@ impl Port {
         ensures { result ≡ spec.is_due self.now }
     {
         self.idle_left == Some(0)
-    }
-}
-
-// A call on a channel, with no interrupt pending.
-fn call_on(channel: u8) -> Call
-    ensures { result ≡ spec.call_on channel }
-{
-    Call {
-        channel,
-        interrupt_pending: false,
     }
 }
 

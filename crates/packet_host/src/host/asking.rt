@@ -2,7 +2,8 @@
 ghost use Rattle.std.specs.Prelude.{◌≡◌, Some, None, MatchResult, OnOk, OnErr};
 ghost use Rattle.packet_layer.specs.RequestView.{refusal_of};
 ghost use Rattle.packet_end.specs.PacketEnd as end;
-ghost use Rattle.packet_host.specs.Asking.{ask_refusal, after_ask};
+ghost use Rattle.packet_host.specs.Asking.{ask_refusal, asked_for, after_ask};
+ghost use Rattle.packet_host.specs.Host.{ended_frames};
 
 use crate::host::Host;
 use crate::request::HostRequest;
@@ -18,6 +19,7 @@ impl Host {
         ensures host { self.new ≡ after_ask self.old channel request.now }
         ensures err { OnErr result (self.new ≡ self.old) }
         ensures nothing_kept_back { OnOk result (end.KeepsNothingBack self.new) }
+        ensures frames { OnOk result (self.new.line.frames ≡ ended_frames (asked_for self.old channel request.now)) }
     {
         match request {
             HostRequest::Answer => self.answer(channel),

@@ -2,7 +2,7 @@
 ghost use Rattle.std.specs.Prelude.{◌≡◌, Some, None, MatchResult, OnOk};
 ghost use Rattle.packet_layer.specs.RequestView.{refusal_of};
 ghost use Rattle.packet_end.specs.PacketEnd as end;
-ghost use Rattle.packet_host.specs.Host.{after_say};
+ghost use Rattle.packet_host.specs.Host.{after_say, ended_frames};
 ghost use Rattle.packet_host.specs.Saying.{say_refusal, full_packets, places_needed, most_octets, cut, queued};
 ghost use Rattle.packet_host.specs.Saying.{AllTaken};
 
@@ -34,6 +34,8 @@ impl Host {
         ensures taken { OnOk result (AllTaken channel (cut octets.now qualified delivery) self.old) }
         ensures host { self.new ≡ after_say self.old channel octets.now qualified delivery }
         ensures nothing_kept_back { OnOk result (end.KeepsNothingBack self.new) }
+        ensures frames { OnOk result (self.new.line.frames
+            ≡ ended_frames (queued channel (cut octets.now qualified delivery) self.old)) }
     {
         self.end.may_send(channel)?;
         if usize::from(self.end.room(channel)) < needed(octets, qualified) {

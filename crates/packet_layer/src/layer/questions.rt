@@ -10,6 +10,7 @@ ghost use Rattle.packet_channel.specs.TakenView.{maybe_front};
 
 use crate::layer::Layer;
 use flow_window::pool::Pool;
+use link_timers::Role;
 use packet_channel::{Channel, ChannelFault, Front};
 
 impl Layer {
@@ -89,6 +90,13 @@ impl Layer {
             Some(channel) => channel.is_confirmed(),
             None => false,
         }
+    }
+
+    /// Its role, which it keeps: of two layers on a line one is the DTE, the other one the DCE (X.25 1.1).
+    pub fn role(&self) -> Role
+        ensures { result ≡ self.now.layer.role }
+    {
+        self.role
     }
 
     /// Whether the link has to be set up anew: from when a rule asks for it until `link_down` or `link_up`.

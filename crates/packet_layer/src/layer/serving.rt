@@ -29,8 +29,9 @@ impl Layer {
         if matches!(self.phase, Phase::NoSession) || self.relink {
             return false;
         }
-        if let Some(packet) = self.owed.take_first() {
-            write_restart(packet, buf);
+        if let Some(packet) = self.owed.first() {
+            write_restart(*packet, buf);
+            self.owed.drop_first();
             return true;
         }
         self.serve(buf, pool)

@@ -1,5 +1,5 @@
 //! The timers of a packet layer (X.25 annex D).
-ghost use Rattle.std.specs.Prelude.{◌≡◌, [], ◌≤◌, length};
+ghost use Rattle.std.specs.Prelude.{◌≡◌, [], ◌≤◌, ◌||◌, length};
 ghost use Rattle.flow_window.specs.Pool.{Holds, Balances};
 ghost use Rattle.packet_layer.specs.Held.{most_held};
 ghost use Rattle.packet_layer.specs.Layer as machine;
@@ -71,6 +71,22 @@ impl Layer {
                 Some(channel) => channel.state().waits_for_clear(),
                 None => false,
             },
+        }
+    }
+
+    /// Whether a timer of the channel is to run: of the own call, the own reset or the own clear.
+    pub fn waits_on(&self, channel: u8) -> bool
+        ensures { result ≡ (machine.runs self.now.layer (machine.Timer.CallTimer channel)
+            || (machine.runs self.now.layer (machine.Timer.ResetTimer channel)
+            || machine.runs self.now.layer (machine.Timer.ClearTimer channel))) }
+    {
+        match self.ready_channel(u16::from(channel)) {
+            Some(channel) => {
+                channel.state().waits_for_call(self.role)
+                    || channel.waits_for_reset()
+                    || channel.state().waits_for_clear()
+            }
+            None => false,
         }
     }
 

@@ -67,11 +67,13 @@ fn indicates(params: &Params) -> bool
 fn request(params: &Params, call: CallCondition) -> Option<Request>
     ensures { result ≡ spec.request_of params.now call }
 {
-    if call.reset_pending {
-        None
-    } else if params.acts_on_break(BreakAction::Reset) {
-        Some(Request::Reset)
-    } else if params.acts_on_break(BreakAction::Interrupt) && !call.interrupt_pending {
+    if params.acts_on_break(BreakAction::Reset) {
+        if call.reset_pending {
+            None
+        } else {
+            Some(Request::Reset)
+        }
+    } else if params.acts_on_break(BreakAction::Interrupt) && call.may_interrupt {
         Some(Request::Interrupt)
     } else {
         None

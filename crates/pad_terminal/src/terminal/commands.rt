@@ -141,7 +141,7 @@ impl Terminal {
     fn may_interrupt(&self, call: CallCondition) -> bool
         ensures { result ≡ spec.may_interrupt call self.now }
     {
-        self.may_reset(call) && !call.interrupt_pending
+        self.mode.is_connected() && call.may_interrupt
     }
 
     fn take_profile(&mut self, profile: Option<Profile>) -> Outcome

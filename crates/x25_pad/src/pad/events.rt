@@ -157,10 +157,8 @@ fn tell(ports: &mut Vec<Port>, note: &LayerNote)
             learn(ports, CallNote::Cleared(*channel, *cause));
         }
         LayerNote::Reset { channel, cause, .. } => learn(ports, CallNote::Reset(*channel, *cause)),
-        LayerNote::InterruptConfirmed(channel) => {
-            learn(ports, CallNote::InterruptConfirmed(*channel));
-        }
-        LayerNote::Incoming(_, _) | LayerNote::Covered { .. } => {}
+        LayerNote::Incoming(_, _) | LayerNote::InterruptConfirmed(_) | LayerNote::Covered { .. } =>
+            {}
     }
 }
 

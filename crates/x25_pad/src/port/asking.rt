@@ -5,7 +5,7 @@ ghost use Rattle.x25_pad.specs.Ports as spec;
 
 use crate::line::PadLine;
 use crate::note::{MOST_NOTES, PadNote};
-use crate::port::{Port, call_on};
+use crate::port::Port;
 use packet_codec::clear_cause::{NETWORK_CONGESTION, OUT_OF_ORDER};
 use packet_layer::CallFault;
 use pad_editing::Block;
@@ -126,11 +126,11 @@ impl Port {
         ensures room { length line.new.notes ≤ length line.old.notes + 1 }
         ensures told { line.new.end.notes ≡ line.old.end.notes }
     {
-        let Some(call) = self.call else {
+        let Some(channel) = self.call else {
             return;
         };
         line.notes.add(PadNote::Edited {
-            channel: call.channel,
+            channel,
             octet,
             params,
         });
@@ -144,10 +144,10 @@ impl Port {
         ensures room { length line.new.notes ≤ length line.old.notes + 1 }
         ensures told { line.new.end.notes ≡ line.old.end.notes }
     {
-        let Some(call) = self.call else {
+        let Some(channel) = self.call else {
             return;
         };
-        line.send(call.channel, block.as_slice(), false);
+        line.send(channel, block.as_slice(), false);
     }
 
     // The end of the idle time has edited the text: its step is noted.
@@ -158,13 +158,10 @@ impl Port {
         ensures room { length line.new.notes ≤ length line.old.notes + 1 }
         ensures told { line.new.end.notes ≡ line.old.end.notes }
     {
-        let Some(call) = self.call else {
+        let Some(channel) = self.call else {
             return;
         };
-        line.notes.add(PadNote::Paused {
-            channel: call.channel,
-            params,
-        });
+        line.notes.add(PadNote::Paused { channel, params });
     }
 
     // Does what the terminal asks for, if anything.
@@ -193,7 +190,7 @@ impl Port {
         ensures told { line.new.end.notes ≡ line.old.end.notes }
     {
         match line.place(selection.address, selection.user_data.as_slice()) {
-            Ok(channel) => self.call = Some(call_on(channel)),
+            Ok(channel) => self.call = Some(channel),
             Err(CallFault::NotReady) => self.terminal.on_cleared(OUT_OF_ORDER),
             Err(CallFault::NoChannel) => self.terminal.on_cleared(NETWORK_CONGESTION),
         }
@@ -209,44 +206,37 @@ impl Port {
         ensures room { length line.new.notes ≤ length line.old.notes + 1 }
         ensures told { line.new.end.notes ≡ line.old.end.notes }
     {
-        let Some(call) = self.call else {
+        let Some(channel) = self.call else {
             return;
         };
         self.call = None;
-        line.clear(call.channel);
+        line.clear(channel);
     }
 
-    fn reset_call(&mut self, line: &mut PadLine)
+    fn reset_call(&self, line: &mut PadLine)
         requires { length line.old.notes + 1 ≤ MOST_NOTES }
-        ensures port { self.new ≡ (spec.on_call spec.resets self.old.call
-            (record { port = self.old; line = line.old })).port }
-        ensures line { line.new ≡ (spec.on_call spec.resets self.old.call
-            (record { port = self.old; line = line.old })).line }
+        ensures line { line.new ≡ (spec.on_call spec.resets self.now.call
+            (record { port = self.now; line = line.old })).line }
         ensures room { length line.new.notes ≤ length line.old.notes + 1 }
         ensures told { line.new.end.notes ≡ line.old.end.notes }
     {
-        let Some(call) = self.call else {
+        let Some(channel) = self.call else {
             return;
         };
-        self.call = Some(call_on(call.channel));
-        line.reset(call.channel);
+        line.reset(channel);
     }
 
-    fn interrupt(&mut self, line: &mut PadLine)
+    fn interrupt(&self, line: &mut PadLine)
         requires { length line.old.notes + 1 ≤ MOST_NOTES }
-        ensures port { self.new ≡ (spec.on_call spec.interrupts self.old.call
-            (record { port = self.old; line = line.old })).port }
-        ensures line { line.new ≡ (spec.on_call spec.interrupts self.old.call
-            (record { port = self.old; line = line.old })).line }
+        ensures line { line.new ≡ (spec.on_call spec.interrupts self.now.call
+            (record { port = self.now; line = line.old })).line }
         ensures room { length line.new.notes ≤ length line.old.notes + 1 }
         ensures told { line.new.end.notes ≡ line.old.end.notes }
     {
-        let Some(mut call) = self.call else {
+        let Some(channel) = self.call else {
             return;
         };
-        call.interrupt_pending = true;
-        self.call = Some(call);
-        line.interrupt(call.channel);
+        line.interrupt(channel);
     }
 
     // Sends a message, if there is one.
@@ -257,11 +247,11 @@ impl Port {
         ensures room { length line.new.notes ≤ length line.old.notes + 1 }
         ensures told { line.new.end.notes ≡ line.old.end.notes }
     {
-        let (Some(call), Some(message)) = (self.call, message) else {
+        let (Some(channel), Some(message)) = (self.call, message) else {
             return;
         };
         let mut octets = MessageBuf::new();
         write_message(&message, &mut octets);
-        line.send(call.channel, octets.as_slice(), true);
+        line.send(channel, octets.as_slice(), true);
     }
 }

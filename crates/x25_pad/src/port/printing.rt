@@ -55,18 +55,18 @@ impl Port {
         if !self.terminal.may_show() {
             return None;
         }
-        let Some(call) = self.call else {
+        let Some(channel) = self.call else {
             return None;
         };
-        match line.end.front(call.channel) {
+        match line.end.front(channel) {
             None => None,
             Some(
                 Front::Data {
                     qualified: true,
                     ..
                 },
-            ) if line.end.room(call.channel) == 0 => None,
-            Some(_) => line.take(call.channel),
+            ) if line.end.room(channel) == 0 => None,
+            Some(_) => line.take(channel),
         }
     }
 
@@ -83,15 +83,15 @@ impl Port {
         ensures room { length line.new.notes ≤ length line.old.notes + 1 }
         ensures told { line.new.end.notes ≡ line.old.end.notes }
     {
-        let Some(call) = self.call else {
+        let Some(channel) = self.call else {
             return;
         };
         match taken {
             Taken::Interrupt(_) => {
-                let _ = line.end.ask(call.channel, &Request::ConfirmInterrupt);
+                let _ = line.end.ask(channel, &Request::ConfirmInterrupt);
             }
             Taken::Data(user_data) => {
-                let _ = line.end.ask(call.channel, &Request::Release(1));
+                let _ = line.end.ask(channel, &Request::Release(1));
                 self.show_data(user_data, line, out);
             }
         }

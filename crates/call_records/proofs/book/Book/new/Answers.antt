@@ -18,8 +18,8 @@ returns c =
           rw (w.ends-is, w.records-is, w.pairs-is, w.if-standing.true) (ap (λ (b : Book). record { book = b; room = 0; pairs = 0 })
           (standing_is c.args.dte_node c.args.dce_node c.args.channels first w.put.new.self w.put-then-standing.new.self (map shown two) (map pair_of one)
           c.in_ok-new.ensures c.in_ok-new-2.ensures (w.put.ensures (map shown two) (map pair_of one)) (w.put-then-standing.ensures (map shown two) (map pair_of one))
-          (two_shown c.in_ok-records.records.items w.push_reserved.new.self.items two w.new-then-standing.result w.new-then-standing-2.result _ _
-          c.in_ok-records.ensures.items w.push_reserved.ensures.items w.push_reserved-then-standing.ensures.items w.new-then-standing.ensures w.new-then-standing-2.ensures)
+          (two_shown c.in_ok-records.records.items w.push_reserved.new.self.items two w.new-caller.result w.new-callee.result _ _
+          c.in_ok-records.ensures.items w.push_reserved.ensures.items w.push_reserved-then-standing.ensures.items w.new-caller.ensures w.new-callee.ensures)
           (one_pair c.in_ok-pairs.pairs.items one (record { caller = 0; callee = 1 }) c.in_ok-pairs.ensures.items w.push_reserved-then-standing-2.ensures.items)))
       | else-standing w ↦
           rw (w.ends-is, w.records-is, w.pairs-is, w.if-standing.false) (ap (λ (b : Book). record { book = b; room = 0; pairs = 0 })

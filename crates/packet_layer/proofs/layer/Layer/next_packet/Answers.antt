@@ -12,4 +12,4 @@ pub returns-clause-few : goal.returns-clause-few
 returns-clause-few c = c.serve.ensures.few
 
 pub serve-requires-clause-few : goal.serve-requires-clause-few
-serve-requires-clause-few c = few c.self.inside.window c.self.inside.channels.items c.self.invariant.fits
+serve-requires-clause-few c = own_few c.self.inside c.args.self.now c.self.invariant c.self.view_is

@@ -1,4 +1,4 @@
-use Rattle.std.proofs.Common.{◌+◌, ap, ◌∙◌, refl, sym, subst}
+use Rattle.std.proofs.Common.{◌+◌, ap, ◌∙◌, sym, subst}
 use Rattle.flow_window.specs.Pool.{Buffer, IsIn, weight}
 use Rattle.packet_layer.specs.TakenView.{buffers_in}
 use Rattle.packet_tests.proofs.Stations.{in_hand}

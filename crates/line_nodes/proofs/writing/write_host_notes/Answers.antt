@@ -1,0 +1,46 @@
+use Rattle.std.proofs.Common.{◌≡◌, ◌∙◌, ◌++◌, ◌≤◌, ap, ap₂, drop, List, length, arith, subst, sym}
+use Rattle.packet_layer.specs.Packets.{Note}
+use Rattle.packet_layer.specs.NoteView.{note_of}
+use Rattle.packet_end.specs.PacketEnd.{PacketEnd}
+use Rattle.call_records.specs.Book.{all_told}
+use Rattle.call_records.specs.Room.{BookState, opening_notes}
+use Rattle.line_nodes.specs.Node.{all_read}
+use Rattle.line_nodes.specs.Notes.{host_notes}
+use Rattle.line_nodes.proofs.Telling.{first_is, may_tell, room_left, listed_then, one_less}
+use Rattle.line_nodes.proofs.writing.write_host_notes.Goals as goal
+
+pub tell-requires : goal.tell-requires
+tell-requires c =
+    may_tell c.loop.host.notes (note_of c.in-Some.note.now) c.loop.book.room c.in-Some.ensures c.loop.invariant.room
+
+pub loop-preserved : goal.loop-preserved
+loop-preserved c =
+    let notes = c.loop.host.notes in
+    let note = note_of c.in-Some.note.now in
+    let first = c.in-Some.ensures in
+    let invariant = c.loop.invariant in
+    let host = c.notes.ensures.host in
+    let rest : c.notes.new.self.notes ≡ drop 1 notes = ap (λ (e : PacketEnd). e.notes) host in
+    let told = c.tell.ensures in
+    let listed = c.list_note.ensures.listed in
+    let left = room_left notes note c.loop.book.room first invariant.opening invariant.room in
+    let fewer = one_less c.args.at.node notes note c.loop.notes.items c.list_note.new.notes.items first listed in
+    let back = sym rest in
+    record {
+      host = ap (λ (e : PacketEnd). all_read e) host ∙ invariant.host;
+      book =
+          ap₂ (λ (ns : List Note) (b : BookState). all_told c.args.at.role ns b.book) rest told
+          ∙ ap (λ (ns : List Note). all_told c.args.at.role ns c.loop.book.book) (first_is notes note first)
+          ∙ invariant.book;
+      opening = subst (λ (ns : List Note). opening_notes ns ≤ 1) back left.opening;
+      room = subst (λ (ns : List Note). opening_notes ns ≤ c.tell.new.self.room) back
+          (subst (λ (b : BookState). opening_notes (drop 1 notes) ≤ b.room) (sym told) left.left);
+      listed =
+          ap (λ (ns : List Note). c.list_note.new.notes.items ++ host_notes c.args.at.node ns) rest
+          ∙ listed_then c.args.at.node notes note c.loop.notes.items c.list_note.new.notes.items first listed
+          ∙ invariant.listed;
+      left = let count = ap (λ (ns : List Note). length ns) rest in omega (arith, count, fewer.rest, invariant.left);
+      places =
+          let count = ap (λ (ns : List Note). length ns) rest in
+          omega (arith, count, fewer.places, invariant.places, c.list_note.ensures.capacity, c.list_note.new.notes.ok, c.loop.notes.ok);
+    }
