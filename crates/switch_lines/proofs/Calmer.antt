@@ -26,7 +26,7 @@ use Rattle.packet_layer.specs.Packets.{CallParts, Datum, Packet, Body}
 use Rattle.packet_layer.specs.Packets.Body.{Restart, RestartConfirmation}
 use Rattle.packet_layer.specs.Channel.{Channel, Step, Request, Refusal, closed_channel, refused_if, refusal, requested, unless, carried_out, owing, in_transfer, has_flow, moved, next_of, next_owed, ChannelNext, placing, clear_error, received, unreadable}
 use Rattle.packet_layer.specs.Channel.Request.{Taking, Releasing}
-use Rattle.packet_layer.specs.Layer.{Layer, Phase, Next, nth_channel, channel_of, with_nth, unread, on_found, on_channel, packet_in, restart_packet, restarting, all_closed, served, serve, serve_found, next_number, next_restart, next_in, next_packet, placed_on, call, front_at, front_on, request_refusal}
+use Rattle.packet_layer.specs.Layer.{Layer, Phase, Next, nth_channel, channel_of, with_nth, unread, on_found, on_channel, packet_in, restart_packet, served, serve, serve_found, next_number, next_restart, next_in, next_packet, placed_on, call, front_at, front_on, request_refusal}
 use Rattle.packet_layer.specs.Layer as machine
 use Rattle.packet_layer.specs.Layer.Phase.{NoSession, OwnRestart, PacketReady}
 use Rattle.packet_layer.specs.Events.{after_hearing, on_octets, timer_named, on_named}
@@ -35,7 +35,7 @@ use Rattle.packet_layer.specs.Traffic.{Traffic, Taken, front, taking, taking_of,
 use Rattle.packet_layer.specs.Traffic.Taken.{TakenInterrupt, TakenPacket}
 use Rattle.packet_end.specs.PacketEnd.{PacketEnd, gathered, heeded, after_packet, runs_at, expired, after_timer, relinked, offered, all_offered, with_next}
 use Rattle.packet_end.specs.PacketEnd as end
-use Rattle.switch_lines.specs.Direction.{request_for}
+use Rattle.switch_lines.specs.Relay.{request_for}
 use Rattle.switch_lines.specs.Switch.{quieted}
 
 -- ---- one channel
@@ -96,7 +96,7 @@ nth_apart chs zero j new apart = refl
 nth_apart chs (suc i) zero new apart = refl
 nth_apart chs (suc i) (suc j) new apart = set_apart chs i j new (λ e. apart (ap suc e))
 
-closed_slice : (chs : List Channel) (i : ℕ) (ch : Channel) → slice_get (map (λ (x : Channel). closed_channel) chs) i ≡ Some ch → ch ≡ closed_channel
+pub closed_slice : (chs : List Channel) (i : ℕ) (ch : Channel) → slice_get (map (λ (x : Channel). closed_channel) chs) i ≡ Some ch → ch ≡ closed_channel
 closed_slice [] i ch e = absurd (none-some ch e)
 closed_slice (x ∷ xs) zero ch e = sym (same_Some closed_channel ch e)
 closed_slice (x ∷ xs) (suc i) ch e = closed_slice xs i ch e

@@ -1,6 +1,6 @@
 -- Lists of which one element is changed.
 use Rattle.std.proofs.Common.{◌≡◌, ℕ, zero, suc, ◌<◌, ◌≤◌, List, [], ◌∷◌, length, set, get_or, refl, sym, ap, ◌∙◌, arith}
-use Rattle.std.specs.Prelude.{slice_get, Some, None}
+use Rattle.std.specs.Prelude.{slice_get, Some}
 use Rattle.switch_lines.specs.Lines.{changed}
 
 pub changed_here : {X : Type 0} (f : X → X) (xs : List X) (n : ℕ) (old new : X) → n < length xs → old ≡ get_or xs n old → new ≡ f old →
@@ -19,11 +19,6 @@ pub there : {X : Type 0} (xs : List X) (n : ℕ) (x : X) → n < length xs → x
 there [] n x h e = absurd (omega arith)
 there (y ∷ ys) zero x h e = ap Some (sym e)
 there (y ∷ ys) (suc n) x h e = there ys n x (omega arith) e
-
-pub not_there : {X : Type 0} (xs : List X) (n : ℕ) → length xs ≤ n → slice_get xs n ≡ None
-not_there [] n h = refl
-not_there (y ∷ ys) zero h = absurd (omega arith)
-not_there (y ∷ ys) (suc n) h = not_there ys n (omega arith)
 
 -- the same of lines that are seen as such
 pub changed_lines : {X : Type 0} (f : X → X) (xs ms : List X) (n : ℕ) (old new : X) → xs ≡ ms → n < length xs → old ≡ get_or xs n old → new ≡ f old →

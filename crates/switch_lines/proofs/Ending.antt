@@ -17,7 +17,7 @@ use Rattle.switch_lines.specs.Switch.{raised, to_relink, relinked_at, all_relink
 use Rattle.switch_lines.specs.Switch.{offering_from, offered_from, with_end}
 use Rattle.switch_lines.specs.Alone.{relayed_alone, rounds_alone, offered_alone}
 use Rattle.switch_lines.proofs.Rounds.{counts_from, same_length}
-use Rattle.switch_lines.proofs.Places.{decided}
+use Rattle.switch_joins.proofs.Apart.{decided}
 
 -- ---- links that are set up anew
 

@@ -1,7 +1,7 @@
 -- Heeding a note does not look at the notes that are left.
-use Rattle.std.proofs.Common.{◌≡◌, ℕ, zero, suc, true, false, if◌then◌else◌, List, [], ◌∷◌, ◌++◌, ◌<◌, get_or, length, drop, refl, sym, ap, ap₂, ◌∙◌, arith, Option, Some, None}
+use Rattle.std.proofs.Common.{◌≡◌, ℕ, zero, suc, ◌==◌, ◌&&◌, Bool, true, false, if◌then◌else◌, List, [], ◌∷◌, ◌++◌, ◌<◌, get_or, length, drop, refl, sym, ap, ap₂, ◌∙◌, arith, Option, Some, None}
 use Rattle.std.specs.Option.{option_or, option_to_list}
-use Rattle.std.specs.Prelude.{slice_get}
+use Rattle.std.specs.Prelude.{slice_get, unwrap_or}
 use Rattle.std.proofs.lemmas.Option.{none-some, same_Some}
 use Rattle.packet_codec.specs.ClearCause.{invalid_facility}
 use Rattle.packet_codec.specs.Diagnostic.{no_information}
@@ -11,11 +11,11 @@ use Rattle.packet_layer.specs.Channel.{Request}
 use Rattle.packet_layer.specs.Channel.Request.{Accept, Clearing, Resetting, Confirming, Releasing}
 use Rattle.packet_end.specs.PacketEnd.{PacketEnd, without_first_note}
 use Rattle.address_routes.specs.Routes.{RouteMap, line_for}
-use Rattle.switch_lines.specs.Direction.{Direction, new_direction, releasable, released, covered_by}
+use Rattle.switch_joins.specs.Direction.{Direction, new_direction, releasable, released, covered_by}
 use Rattle.switch_lines.specs.Causes.{reset_cause, clear_cause, far_diagnostic}
-use Rattle.switch_lines.specs.Lines.{SwitchChannel, Joined, SwitchLine, changed, joined_at, with_joined, ask}
+use Rattle.switch_lines.specs.Lines.{SwitchChannel, Joined, SwitchLine, is_trunk, changed, joined_at, with_joined, ask}
 use Rattle.switch_lines.specs.Relay.{told_joined, told_of, with_kept, freed, kept_anew, covered_on}
-use Rattle.switch_lines.specs.Switch.{Answer, answer, answer_by, answer_on, has_any, forwarded, address_of, place_call, with_join, answered, heed, heed_all, with_end, without_notes, notes_of, notes_heeded, acted, all_begun, quieted}
+use Rattle.switch_lines.specs.Switch.{Answer, answer, answer_by, answer_on, has_any, route_from, forwarded, address_of, place_call, with_join, answered, heed, heed_all, with_end, without_notes, notes_of, notes_heeded, acted, all_begun, quieted}
 use Rattle.switch_lines.specs.Switch.Answer.{Clears, Joins}
 use Rattle.switch_lines.specs.NewJoins.{NewJoin, join_of, joins_of_note, joins_of_notes, joins_heeded}
 use Rattle.switch_lines.specs.OfLine.{notes_on, AreRead}
@@ -94,6 +94,13 @@ calm_freed p j v =
 
 -- ---- what is told
 
+trunks_unnoted : (m n : ℕ) (ls : List SwitchLine) → is_trunk (slice_get (unnoted n ls) m) ≡ is_trunk (slice_get ls m)
+trunks_unnoted m n [] = refl
+trunks_unnoted zero zero (l ∷ ls) = refl
+trunks_unnoted zero (suc n) (l ∷ ls) = refl
+trunks_unnoted (suc m) zero (l ∷ ls) = refl
+trunks_unnoted (suc m) (suc n) (l ∷ ls) = trunks_unnoted m n ls
+
 joins_unnoted : (p : SwitchChannel) (n : ℕ) (ls : List SwitchLine) → joined_at (unnoted n ls) p ≡ joined_at ls p
 joins_unnoted p n ls = joined_after n (with_end without_notes) p ls (λ l. refl)
 
@@ -108,9 +115,11 @@ calm_covered n (Some j) p = calm_freed p j (covered_by n j.kept)
 calm_told : (x : Note) (p : SwitchChannel) (j : Joined) → Calm (λ ls. told_joined x p j ls)
 calm_told (Connected c) p j = calm_ask j.other Accept
 calm_told (Closed c cause diagnostic reason) p j =
-    calm_then (λ ls. ask j.other (Clearing (clear_cause reason cause) (far_diagnostic reason diagnostic)) ls) (λ ls. with_joined j.other None (with_joined p None ls))
-    (calm_ask j.other (Clearing (clear_cause reason cause) (far_diagnostic reason diagnostic)))
-    (calm_then (λ ls. with_joined j.other None ls) (λ ls. with_joined p None ls) (calm_joined j.other None) (calm_joined p None))
+    let clears : Bool → Request = λ (trunk : Bool). Clearing (clear_cause trunk reason cause) (far_diagnostic reason diagnostic) in
+    calm_by (λ ls. is_trunk (slice_get ls p.line)) (λ trunk ls. ask j.other (clears trunk) (with_joined j.other None (with_joined p None ls)))
+    (λ n ls. trunks_unnoted p.line n ls)
+    (λ trunk. calm_then (λ ls. ask j.other (clears trunk) ls) (λ ls. with_joined j.other None (with_joined p None ls)) (calm_ask j.other (clears trunk))
+    (calm_then (λ ls. with_joined j.other None ls) (λ ls. with_joined p None ls) (calm_joined j.other None) (calm_joined p None)))
 calm_told (WasReset c cause diagnostic reason) p j =
     let r = Resetting (reset_cause reason cause) (far_diagnostic reason diagnostic) in
     calm_by (λ ls. joined_at ls j.other) (λ o ls. kept_anew o j.other (kept_anew (Some j) p (ask j.other r ls))) (λ n ls. joins_unnoted j.other n ls)
@@ -141,9 +150,15 @@ routed_unnoted : (route : Option ℕ) (n : ℕ) (ls : List SwitchLine) → answe
 routed_unnoted None n ls = refl
 routed_unnoted (Some m) n ls = answers_unnoted m n m ls
 
-answer_unnoted : (routes : RouteMap) (parts : CallParts) (n : ℕ) (ls : List SwitchLine) → answer routes (unnoted n ls) parts ≡ answer routes ls parts
-answer_unnoted routes parts n ls =
-    ap (λ (a : Answer). if has_any parts.facilities then Clears invalid_facility else a) (routed_unnoted (line_for routes parts.called) n ls)
+from_unnoted : (k : ℕ) (route : Option ℕ) (n : ℕ) (ls : List SwitchLine) → route_from k (unnoted n ls) route ≡ route_from k ls route
+from_unnoted k None n ls = refl
+from_unnoted k (Some to) n ls = ap (λ (trunk : Bool). if (to == k) && trunk then None else Some to) (trunks_unnoted k n ls)
+
+answer_unnoted : (routes : RouteMap) (k : ℕ) (parts : CallParts) (n : ℕ) (ls : List SwitchLine) → answer routes (unnoted n ls) k parts ≡ answer routes ls k parts
+answer_unnoted routes k parts n ls =
+    let route = line_for routes parts.called in
+    ap (λ (a : Answer). if has_any parts.facilities then Clears invalid_facility else a)
+    (ap (λ (o : Option ℕ). answer_by (unnoted n ls) o) (from_unnoted k route n ls) ∙ routed_unnoted (route_from k ls route) n ls)
 
 addresses_unnoted : (m n : ℕ) (ls : List SwitchLine) → address_of (slice_get (unnoted n ls) m) ≡ address_of (slice_get ls m)
 addresses_unnoted m n [] = refl
@@ -153,7 +168,7 @@ addresses_unnoted (suc m) zero (l ∷ ls) = refl
 addresses_unnoted (suc m) (suc n) (l ∷ ls) = addresses_unnoted m n ls
 
 forwarded_unnoted : (m : ℕ) (parts : CallParts) (n : ℕ) (ls : List SwitchLine) → forwarded (unnoted n ls) m parts ≡ forwarded ls m parts
-forwarded_unnoted m parts n ls = ap (λ (calling : List ℕ). record parts { calling = calling; facilities = [] }) (addresses_unnoted m n ls)
+forwarded_unnoted m parts n ls = ap (λ (address : Option (List ℕ)). record parts { calling = unwrap_or address parts.calling; facilities = [] }) (addresses_unnoted m n ls)
 
 calm_join : (p q : SwitchChannel) → Calm (λ ls. with_join p q ls)
 calm_join p q =
@@ -171,7 +186,7 @@ calm_answered (Joins q) p parts =
 
 calm_heed : (routes : RouteMap) (k : ℕ) (x : Note) → Calm (λ ls. heed routes k x ls)
 calm_heed routes k (Incoming c parts) =
-    calm_by (λ ls. answer routes ls parts) (λ a ls. answered a (record { line = k; channel = c }) parts ls) (λ n ls. answer_unnoted routes parts n ls)
+    calm_by (λ ls. answer routes ls k parts) (λ a ls. answered a (record { line = k; channel = c }) parts ls) (λ n ls. answer_unnoted routes k parts n ls)
     (λ a. calm_answered a (record { line = k; channel = c }) parts)
 calm_heed routes k (Connected c) = calm_tell (Connected c) (record { line = k; channel = c })
 calm_heed routes k (Closed c cause diagnostic reason) = calm_tell (Closed c cause diagnostic reason) (record { line = k; channel = c })
@@ -264,7 +279,7 @@ acted_length routes k f ls =
 -- ---- the calls that the notes join
 
 note_unnoted : (routes : RouteMap) (n : ℕ) (x : Note) (ls : List SwitchLine) → joins_of_note routes n x (unnoted n ls) ≡ joins_of_note routes n x ls
-note_unnoted routes n (Incoming c parts) ls = ap (λ (a : Answer). join_of a (record { line = n; channel = c })) (answer_unnoted routes parts n ls)
+note_unnoted routes n (Incoming c parts) ls = ap (λ (a : Answer). join_of a (record { line = n; channel = c })) (answer_unnoted routes n parts n ls)
 note_unnoted routes n _ ls = refl
 
 joined_first : (routes : RouteMap) (n : ℕ) (x : Note) (notes : List Note) (ls : List SwitchLine) → Some x ≡ slice_get notes 0

@@ -16,7 +16,7 @@ use Rattle.switch_lines.specs.Touched.{AreThere, IsSettled, IsTaken, NothingElse
 use Rattle.switch_lines.specs.Touched.{first_to_relink, HasAllFrames}
 use Rattle.switch_lines.proofs.Changing.{there}
 use Rattle.switch_lines.proofs.Ending.{written, offer_none}
-use Rattle.switch_lines.proofs.Places.{decided}
+use Rattle.switch_joins.proofs.Apart.{decided}
 use Rattle.switch_lines.proofs.Settling.{stays_settled, is_settled, stays_taken}
 use Rattle.switch_lines.proofs.Touched.{count_written, written_here, written_other, all_are_changed, others_same}
 use Rattle.switch_lines.proofs.Touched.{same_count, all_offering_in, all_asking}

@@ -5,11 +5,12 @@ use Rattle.std.proofs.lemmas.Option.{none-some, same_Some}
 use Rattle.packet_layer.specs.Traffic.{Taken}
 use Rattle.packet_layer.specs.Channel.{Refusal}
 use Rattle.packet_layer.specs.Channel.Request.{Taking, Releasing}
-use Rattle.switch_lines.specs.Direction.{released, releasable, carried_by, request_for}
+use Rattle.switch_joins.specs.Direction.{released, releasable}
 use Rattle.switch_lines.specs.Lines.{SwitchChannel, Joined, SwitchLine, same_place, joined_at, with_joined, ask, front_at, refusal_at}
-use Rattle.switch_lines.specs.Relay.{moved, moved_joined, moved_front, moved_unless, relayed, relayed_from, places_of, both_legs, legs_at, legs_of, most_moves}
+use Rattle.switch_lines.specs.Relay.{carried_by, request_for, moved, moved_joined, moved_front, moved_unless, relayed, relayed_from, places_of, both_legs, legs_at, legs_of, most_moves}
 use Rattle.switch_lines.specs.OfLine.{places_by}
-use Rattle.switch_lines.proofs.Places.{decided, place_is, joined_asked, joined_here, joined_apart}
+use Rattle.switch_lines.proofs.Places.{joined_asked, joined_here, joined_apart}
+use Rattle.switch_joins.proofs.Apart.{decided, place_is}
 use Rattle.switch_lines.proofs.Rounds.{counts, counts_from, counts_there, counts_length, on_line, from_both}
 
 -- ---- a relay leaves the channel that each one is joined to

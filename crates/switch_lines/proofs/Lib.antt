@@ -1,6 +1,4 @@
-pub mod Directions
 pub mod Unread
-pub mod Slots
 pub mod Changing
 pub mod Places
 pub mod Relaying
@@ -18,4 +16,3 @@ pub mod Left
 pub mod Calmer
 pub mod Waiting
 pub mod Moving
-pub mod ChannelSets

@@ -1,13 +1,13 @@
 -- What is left to relay on lines in the pool that they share, after each call.
 use Rattle.std.proofs.Common.{◌≡◌, ◌≢◌, ℕ, suc, ◌<◌, ◌≤◌, Bool, true, false, ◌&&◌, List, [], ◌∷◌, map, length, set, get_or, nat_lt, Option, Some, None, is_some, option_map, zero, refl, sym, ap, ap₂, subst, ◌∙◌, true≢false, arith}
 use Rattle.std.specs.Prelude.{slice_get, replicate}
-use Rattle.std.proofs.lemmas.Bool.{ltb-true, lt-ltb, eq-eqb}
+use Rattle.std.proofs.lemmas.Bool.{ltb-true, eq-eqb}
 use Rattle.std.proofs.lemmas.Option.{none-some}
 use Rattle.packet_layer.specs.TakenView.{maybe_front}
 use Rattle.packet_layer.specs.Traffic.{Taken}
 use Rattle.packet_channel.specs.declared.taken.Front.{Front}
-use Rattle.switch_lines.specs.ChannelSet.{has, is_small, IsApart}
-use Rattle.switch_lines.specs.declared.channel_set.ChannelSet.{ChannelSet}
+use Rattle.switch_joins.specs.ChannelSet.{has, is_small, IsApart}
+use Rattle.switch_joins.specs.declared.channel_set.ChannelSet.{ChannelSet}
 use Rattle.switch_lines.specs.declared.config.SwitchLineConfig.{SwitchLineConfig}
 use Rattle.switch_lines.specs.Making.{made_line}
 use Rattle.switch_lines.specs.Lines.{SwitchChannel, Joined, SwitchLine, same_place, flat, nth_joined, with_nth_joined, joined_on, joined_at}
@@ -16,7 +16,10 @@ use Rattle.switch_lines.specs.Switch.{without_joins}
 use Rattle.switch_lines.specs.Waiting.{other_at, NothingElseMoves}
 use Rattle.switch_lines.proofs.Calmer.{IsCalm, same_layer}
 use Rattle.switch_lines.proofs.Pooled.{Pooled, plain_set, plain_get, within_plain}
-use Rattle.switch_lines.proofs.Waiting.{written_calm, written_others, calm_kept, touched_kept, joined_kept, none_joined, nth_set, nth_apart, got_written}
+use Rattle.switch_lines.proofs.Waiting.{written_calm, written_others, calm_kept, touched_kept, joined_kept, none_joined, nth_set, got_written}
+use Rattle.switch_joins.proofs.Slots.{nth_apart, set_size}
+use Rattle.switch_joins.proofs.Apart.{and_both}
+use Rattle.switch_joins.proofs.ChannelSets.{is_so_small}
 
 abbrev Lines : Type 0
 Lines = List SwitchLine
@@ -26,18 +29,11 @@ other_on js c = option_map (λ (j : Joined). j.other) (nth_joined js c)
 
 -- ---- small channels
 
-and_both : (a b : Bool) → (a && b) ≡ true → (a ≡ true) × (b ≡ true)
-and_both true b e = (refl, e)
-and_both false b e = absurd (true≢false (sym e))
-
 pub small_channel : (x : SwitchChannel) → is_small x ≡ true → x.channel < 63
 small_channel x e = ltb-true x.channel 63 (and_both (nat_lt x.line 64) (nat_lt x.channel 63) e).1
 
 pub small_line : (x : SwitchChannel) → is_small x ≡ true → x.line < 64
 small_line x e = ltb-true x.line 64 (and_both (nat_lt x.line 64) (nat_lt x.channel 63) e).0
-
-pub is_so_small : (x : SwitchChannel) → x.line < 64 → x.channel < 63 → is_small x ≡ true
-is_so_small x line channel = ap₂ (λ (a b : Bool). a && b) (lt-ltb x.line 64 line) (lt-ltb x.channel 63 channel)
 
 pub place_same : (p x : SwitchChannel) → p.line ≡ x.line → p.channel ≡ x.channel → same_place p x ≡ true
 place_same p x e f = ap₂ (λ (a b : Bool). a && b) (eq-eqb p.line x.line e) (eq-eqb p.channel x.channel f)
@@ -79,20 +75,11 @@ one_stirred s t r f ps zs n c o old new less is done seen found touches others c
     at : old.line ≡ get_or (plain ps) n old.line
     at = plain_get ps n old is
 
-set_length : (js : List (Option Joined)) (i : ℕ) (o : Option Joined) → length (set js i o) ≡ length js
-set_length [] i o = refl
-set_length (x ∷ xs) zero o = refl
-set_length (x ∷ xs) (suc i) o = ap suc (set_length xs i o)
-
-set_size : (js : List (Option Joined)) (c : ℕ) (o : Option Joined) → length (with_nth_joined js c o) ≡ length js
-set_size js zero o = refl
-set_size js (suc i) o = set_length js i o
-
 -- a channel is joined there, or its join ends
 pub one_joined : (s t r : ChannelSet) (ps : Pooled) (n c : ℕ) (j : Option Joined) (o : Option SwitchChannel) (old new : PooledLine) → n < length ps → n < 64
     → old ≡ get_or ps n old → new.line ≡ record old.line { joined = with_nth_joined old.line.joined c j }
     → length new.line.joined ≤ 32 → o ≡ option_map (λ (k : Joined). k.other) j
-    → ((p : SwitchChannel) → has t p ≡ false → (has s p ≡ false) × IsApart p (record { line = n; channel = c }) o)
+    → ((p : SwitchChannel) → has t p ≡ false → (has s p ≡ false) × IsApart p (record { line = n; channel = c }) (other_at (plain ps) (record { line = n; channel = c })) × IsApart p (record { line = n; channel = c }) o)
     → NothingElseMoves s r (plain ps) → NothingElseMoves t r (plain (set ps n new))
 one_joined s t r ps n c j o old new less line is done few leads touches i =
     subst (λ (ls : Lines). NothingElseMoves t r ls) (sym (plain_set ps n new ∙ ap (λ (l : SwitchLine). set (plain ps) n l) done))

@@ -1,15 +1,17 @@
 -- Joins by place, after what is asked and kept elsewhere and there.
-use Rattle.std.proofs.Common.{◌≡◌, ℕ, zero, suc, ◌⊎◌, inl, inr, Bool, true, false, ◌&&◌, ◌==◌, List, [], ◌∷◌, set, refl, sym, ap, ap₂, subst, ◌∙◌, true≢false, Option, Some, None}
+use Rattle.std.proofs.Common.{◌≡◌, ℕ, zero, suc, ◌⊎◌, inl, inr, Bool, false, List, [], ◌∷◌, set, refl, sym, ap, subst, ◌∙◌, Option, Some, None}
 use Rattle.std.specs.Prelude.{slice_get}
-use Rattle.std.proofs.lemmas.Bool.{eqb-true, eq-eqb}
 use Rattle.std.proofs.lemmas.Option.{none-some}
 use Rattle.packet_layer.specs.Channel.{Request}
 use Rattle.packet_layer.specs.Channel.Request.{Releasing}
 use Rattle.packet_end.specs.PacketEnd.{asked}
-use Rattle.switch_lines.specs.Direction.{Direction, releasable, released}
+use Rattle.switch_joins.specs.Direction.{Direction, releasable, released}
+use Rattle.switch_joins.proofs.Apart.{apart_by}
 use Rattle.switch_lines.specs.Lines.{SwitchChannel, Joined, SwitchLine, same_place, changed, flat, nth_joined, joined_on, joined_at, with_nth_joined, with_joined, ask}
 use Rattle.switch_lines.specs.Relay.{with_kept, freed}
-use Rattle.switch_lines.specs.OfLine.{joined_with, kept_on, kept_at, released_if, freed_on, freed_at}
+use Rattle.switch_lines.specs.OfLine.{kept_on, kept_at, released_if, freed_on, freed_at}
+use Rattle.switch_joins.specs.Joins.{joined_with}
+use Rattle.switch_joins.proofs.Slots.{nth_apart}
 
 -- ---- one element changed
 
@@ -40,7 +42,7 @@ joined_again js (suc i) o r = set_again js i o r
 
 -- ---- joins
 
-joined_kept : (n m c : ℕ) (f : SwitchLine → SwitchLine) (ls : List SwitchLine) → ((l : SwitchLine) → (f l).joined ≡ l.joined)
+pub joined_kept : (n m c : ℕ) (f : SwitchLine → SwitchLine) (ls : List SwitchLine) → ((l : SwitchLine) → (f l).joined ≡ l.joined)
     → joined_on (slice_get (changed n f ls) m) c ≡ joined_on (slice_get ls m) c
 joined_kept n m c f [] same = refl
 joined_kept zero zero c f (l ∷ ls) same = ap (λ js. nth_joined js c) (same l)
@@ -139,44 +141,12 @@ freed_none p ls e =
 
 -- ---- other places
 
-pub decided : (b : Bool) → (b ≡ true) ⊎ (b ≡ false)
-decided true = inl refl
-decided false = inr refl
-
-and_both : (a b : Bool) → (a && b) ≡ true → (a ≡ true) × (b ≡ true)
-and_both true b e = (refl, e)
-and_both false b e = absurd (true≢false (sym e))
-
-pub place_is : (p q : SwitchChannel) → same_place p q ≡ true → p ≡ q
-place_is p q e =
-    let b = and_both (p.line == q.line) (p.channel == q.channel) e in
-    ap₂ (λ (l c : ℕ). record { line = l; channel = c }) (eqb-true p.line q.line b.0) (eqb-true p.channel q.channel b.1)
-
-apart_by : (p q : SwitchChannel) → same_place p q ≡ false → (p.line ≡ q.line → ⊥) ⊎ ((p.line ≡ q.line) × (p.channel ≡ q.channel → ⊥))
-apart_by p q e = by_line (decided (p.line == q.line))
-  where
-    by_line : ((p.line == q.line) ≡ true) ⊎ ((p.line == q.line) ≡ false) → (p.line ≡ q.line → ⊥) ⊎ ((p.line ≡ q.line) × (p.channel ≡ q.channel → ⊥))
-    by_line (inl t) = inr (eqb-true p.line q.line t, λ c. true≢false (sym (ap₂ (λ (a b : Bool). a && b) t (eq-eqb p.channel q.channel c)) ∙ e))
-    by_line (inr f) = inl (λ same. true≢false (sym (eq-eqb p.line q.line same) ∙ f))
-
-get_unchanged : {X : Type 0} (n m : ℕ) (f : X → X) (xs : List X) → (m ≡ n → ⊥) → slice_get (changed n f xs) m ≡ slice_get xs m
+pub get_unchanged : {X : Type 0} (n m : ℕ) (f : X → X) (xs : List X) → (m ≡ n → ⊥) → slice_get (changed n f xs) m ≡ slice_get xs m
 get_unchanged n m f [] h = refl
 get_unchanged zero zero f (x ∷ xs) h = absurd (h refl)
 get_unchanged zero (suc m) f (x ∷ xs) h = refl
 get_unchanged (suc n) zero f (x ∷ xs) h = refl
 get_unchanged (suc n) (suc m) f (x ∷ xs) h = get_unchanged n m f xs (λ e. h (ap suc e))
-
-set_apart : (js : List (Option Joined)) (i k : ℕ) (o : Option Joined) → (k ≡ i → ⊥) → slice_get (set js i o) k ≡ slice_get js k
-set_apart [] i k o ne = refl
-set_apart (j ∷ js) zero zero o ne = absurd (ne refl)
-set_apart (j ∷ js) zero (suc k) o ne = refl
-set_apart (j ∷ js) (suc i) zero o ne = refl
-set_apart (j ∷ js) (suc i) (suc k) o ne = set_apart js i k o (λ e. ne (ap suc e))
-
-nth_apart : (js : List (Option Joined)) (c d : ℕ) (o : Option Joined) → (d ≡ c → ⊥) → nth_joined (with_nth_joined js c o) d ≡ nth_joined js d
-nth_apart js zero d o ne = refl
-nth_apart js (suc i) zero o ne = refl
-nth_apart js (suc i) (suc k) o ne = ap (λ x. flat x) (set_apart js i k o (λ e. ne (ap suc e)))
 
 line_apart : (n c d : ℕ) (o : Option Joined) (ls : List SwitchLine) → (d ≡ c → ⊥)
     → joined_on (slice_get (changed n (λ l. record l { joined = with_nth_joined l.joined c o }) ls) n) d ≡ joined_on (slice_get ls n) d

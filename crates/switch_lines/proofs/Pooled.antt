@@ -27,6 +27,12 @@ Pooled = List PooledLine
 pub plain_length : (ps : Pooled) → length (plain ps) ≡ length ps
 plain_length ps = length-map ps (λ (p : PooledLine). p.line)
 
+pub seen_within : (ps : Pooled) (ls : List SwitchLine) (n : ℕ) → plain ps ≡ ls → n < length ls → n < length ps
+seen_within ps ls n seen within =
+    let long = plain_length ps in
+    let same = ap (λ (xs : List SwitchLine). length xs) seen in
+    omega (arith, long, same, within)
+
 pub plain_set : (ps : Pooled) (n : ℕ) (p : PooledLine) → plain (set ps n p) ≡ set (plain ps) n p.line
 plain_set ps n p = map-set (λ (p : PooledLine). p.line) ps n p
 

@@ -13,9 +13,9 @@ use Rattle.packet_layer.specs.Interrupting.{may_interrupt_at}
 use Rattle.packet_layer.specs.TakenView.{shown_front, maybe_front}
 use Rattle.packet_channel.specs.declared.taken.Front.{Front}
 use Rattle.packet_channel.specs.declared.taken.Front.TheVariants as front
-use Rattle.switch_lines.specs.Direction.{request_for, carried, carried_by}
+use Rattle.switch_joins.specs.Direction.{carried}
 use Rattle.switch_lines.specs.Lines.{SwitchChannel, Joined, SwitchLine, joined_at, ask, front_at, front_of_line, refusal_at, refusal_of_line}
-use Rattle.switch_lines.specs.Relay.{moved, moved_joined, moved_front, moved_unless, freed, with_kept, relayed}
+use Rattle.switch_lines.specs.Relay.{request_for, carried_by, moved, moved_joined, moved_front, moved_unless, freed, with_kept, relayed}
 use Rattle.switch_lines.specs.OfLine.{is_taken, taken_on, freed_at, Fits, sent_on, MovesFront}
 use Rattle.switch_lines.proofs.Places.{joined_asked, joined_here, kept_joined, freed_joined, freed_kept}
 

@@ -21,20 +21,19 @@ use Rattle.packet_layer.specs.Layer.{serve_found, served, next_restart, next_in,
 use Rattle.packet_layer.specs.Layer.Phase.{NoSession, OwnRestart, PacketReady}
 use Rattle.packet_end.specs.PacketEnd.{PacketEnd, relinked, offered, all_offered, with_next}
 use Rattle.address_routes.specs.Routes.{RouteMap}
-use Rattle.switch_lines.specs.Direction.{Direction, releasable, carried_by, request_for}
+use Rattle.switch_joins.specs.Direction.{Direction, releasable}
 use Rattle.switch_lines.specs.Causes.{reset_cause, clear_cause, far_diagnostic}
-use Rattle.switch_lines.specs.declared.channels.SwitchChannel.{SwitchChannel}
-use Rattle.switch_lines.specs.declared.channels.Joined.{Joined}
-use Rattle.switch_lines.specs.Lines.{SwitchLine, changed, joined_at, with_joined, ask, front_at, refusal_at}
-use Rattle.switch_lines.specs.Relay.{freed, kept_anew, covered_on, told_joined, told_of, moved, moved_unless, most_moves}
-use Rattle.switch_lines.specs.Relay.{moved_front, moved_joined, relayed, relayed_from}
+use Rattle.switch_joins.specs.declared.channels.SwitchChannel.{SwitchChannel}
+use Rattle.switch_joins.specs.declared.join.Joined.{Joined}
+use Rattle.switch_lines.specs.Lines.{SwitchLine, changed, joined_at, with_joined, ask, front_at, refusal_at, is_trunk}
 use Rattle.switch_lines.specs.Switch.{Answer, answer, answered, forwarded, place_call, heed, heed_all, with_end}
 use Rattle.switch_lines.specs.Switch.{notes_of, without_notes, quieted, acted, raised, to_relink, relinked_at}
 use Rattle.switch_lines.specs.Switch.{all_relinked, may_offer, offering_from, offered_from}
 use Rattle.switch_lines.specs.Switch.Answer.{Clears, Joins}
 use Rattle.switch_lines.specs.Alone.{relayed_alone, rounds_alone, offered_alone}
-use Rattle.switch_lines.specs.Relay.{legs_of}
+use Rattle.switch_lines.specs.Relay.{carried_by, request_for, freed, kept_anew, covered_on, told_joined, told_of, moved, moved_unless, most_moves, moved_front, moved_joined, relayed, relayed_from, legs_of}
 use Rattle.switch_lines.proofs.Ending.{relinks_no_more}
+use Rattle.switch_lines.proofs.Calmer.{closed_slice}
 
 map_unchanged : {X Y : Type 0} (g : X → Y) (f : X → X) (n : ℕ) (xs : List X) → ((x : X) → g (f x) ≡ g x) →
     map g (changed n f xs) ≡ map g xs
@@ -66,15 +65,9 @@ closed_with chs zero are d ch e = are d ch e
 closed_with chs (suc i) are zero ch e = absurd (none-some ch e)
 closed_with chs (suc i) are (suc k) ch e = closed_set chs i k ch (λ m y f. are (suc m) y f) e
 
-closed_all : (chs : List Channel) (k : ℕ) (ch : Channel) → slice_get (map (λ (x : Channel). closed_channel) chs) k ≡
-    Some ch → ch ≡ closed_channel
-closed_all [] k ch e = absurd (none-some ch e)
-closed_all (x ∷ xs) zero ch e = sym (same_Some closed_channel ch e)
-closed_all (x ∷ xs) (suc k) ch e = closed_all xs k ch e
-
 closed_map : (chs : List Channel) → AreClosed (map (λ (x : Channel). closed_channel) chs)
 closed_map chs zero ch e = absurd (none-some ch e)
-closed_map chs (suc k) ch e = closed_all chs k ch e
+closed_map chs (suc k) ch e = closed_slice chs k ch e
 
 -- each request is refused there
 refuses : (role : Role) (q : Request) → requested role closed_channel q ≡ quiet closed_channel
@@ -159,7 +152,7 @@ marks_told : (note : Note) (p : SwitchChannel) (j : Joined) (bs : List Bool) (ls
     Marks bs (told_joined note p j ls)
 marks_told (Connected c) p j bs ls m = marks_asked j.other Accept bs ls m
 marks_told (Closed c cause diagnostic reason) p j bs ls m =
-    marks_asked j.other (Clearing (clear_cause reason cause) (far_diagnostic reason diagnostic)) bs _
+    marks_asked j.other (Clearing (clear_cause (is_trunk (slice_get ls p.line)) reason cause) (far_diagnostic reason diagnostic)) bs _
     (marks_joined j.other None bs _ (marks_joined p None bs ls m))
 marks_told (WasReset c cause diagnostic reason) p j bs ls m =
     let q = Resetting (reset_cause reason cause) (far_diagnostic reason diagnostic) in
@@ -182,7 +175,7 @@ marks_answered (Joins q) p parts bs ls m = marks_joined q _ bs _ (marks_joined p
 
 marks_heeded : (routes : RouteMap) (n : ℕ) (note : Note) (bs : List Bool) (ls : List SwitchLine) → Marks bs ls →
     Marks bs (heed routes n note ls)
-marks_heeded routes n (Incoming c parts) bs ls m = marks_answered (answer routes ls parts) _ parts bs ls m
+marks_heeded routes n (Incoming c parts) bs ls m = marks_answered (answer routes ls n parts) _ parts bs ls m
 marks_heeded routes n (Connected c) bs ls m = marks_told_of _ (Connected c) _ bs ls m
 marks_heeded routes n (Closed c cause diagnostic reason) bs ls m = marks_told_of _ (Closed c cause diagnostic reason) _
     bs ls m

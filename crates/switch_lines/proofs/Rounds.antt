@@ -1,13 +1,13 @@
 -- The relay on all channels, one after the other.
 use Rattle.std.proofs.Common.{◌≡◌, ℕ, zero, suc, ◌+◌, ◌-◌, ◌<◌, ◌≤◌, List, [], ◌∷◌, ◌++◌, map, length, drop, get_or, refl, sym, ap, ap₂, ◌∙◌, arith, Option, Some, None}
-use Rattle.std.proofs.Math.ListN.{length-set}
 use Rattle.packet_layer.specs.Traffic.{Taken}
 use Rattle.packet_layer.specs.Channel.{Refusal, Request}
 use Rattle.packet_layer.specs.Channel.Request.{Taking, Releasing}
-use Rattle.switch_lines.specs.Direction.{releasable, carried_by, request_for}
-use Rattle.switch_lines.specs.Lines.{SwitchChannel, Joined, SwitchLine, changed, joined_at, with_nth_joined, with_joined, ask, front_at, refusal_at, places_on, places_from}
+use Rattle.switch_joins.specs.Direction.{releasable}
+use Rattle.switch_lines.specs.Lines.{SwitchChannel, Joined, SwitchLine, changed, joined_at, with_joined, ask, front_at, refusal_at, places_on, places_from}
 pub use Rattle.switch_lines.specs.OfLine.{places_by}
-use Rattle.switch_lines.specs.Relay.{moved, moved_joined, moved_front, moved_unless, relayed, relayed_from, all_relayed, most_moves}
+use Rattle.switch_lines.specs.Relay.{carried_by, request_for, moved, moved_joined, moved_front, moved_unless, relayed, relayed_from, all_relayed, most_moves}
+use Rattle.switch_joins.proofs.Slots.{set_size}
 
 -- how many channels the lines have
 abbrev pub counts : List SwitchLine → List ℕ
@@ -61,15 +61,11 @@ counts_changed n f [] same = refl
 counts_changed zero f (l ∷ ls) same = ap (λ k. k ∷ counts ls) (same l)
 counts_changed (suc n) f (l ∷ ls) same = ap (λ ks. length l.joined ∷ ks) (counts_changed n f ls same)
 
-set_length : (js : List (Option Joined)) (c : ℕ) (o : Option Joined) → length (with_nth_joined js c o) ≡ length js
-set_length js zero o = refl
-set_length js (suc i) o = length-set js i o
-
 pub counts_asked : (p : SwitchChannel) (q : Request) (ls : List SwitchLine) → counts (ask p q ls) ≡ counts ls
 counts_asked p q ls = counts_changed p.line _ ls (λ l. refl)
 
 pub counts_joined : (p : SwitchChannel) (o : Option Joined) (ls : List SwitchLine) → counts (with_joined p o ls) ≡ counts ls
-counts_joined p o ls = counts_changed p.line _ ls (λ l. set_length l.joined p.channel o)
+counts_joined p o ls = counts_changed p.line _ ls (λ l. set_size l.joined p.channel o)
 
 counts_unless : (r : Option Refusal) (t : Taken) (p : SwitchChannel) (j : Joined) (ls : List SwitchLine) → counts (moved_unless r t p j ls) ≡ counts ls
 counts_unless (Some r) t p j ls = refl

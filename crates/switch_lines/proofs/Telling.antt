@@ -1,14 +1,16 @@
 -- What the other leg of a join is told.
 use Rattle.std.proofs.Common.{◌≡◌, ℕ, ◌⊎◌, inl, inr, true, false, List, refl, sym, ap, ◌∙◌, Option, Some, None, option_map}
+use Rattle.std.specs.Prelude.{slice_get}
 use Rattle.packet_layer.specs.Packets.{Note, Reason}
 use Rattle.packet_layer.specs.Packets.Note.{Connected, Closed, WasReset, InterruptConfirmed, Covered}
 use Rattle.packet_layer.specs.Channel.Request.{Accept, Clearing, Resetting, Confirming}
-use Rattle.switch_lines.specs.Direction.{new_direction, covered_by}
+use Rattle.switch_joins.specs.Direction.{new_direction, covered_by}
 use Rattle.switch_lines.specs.Causes.{reset_cause, clear_cause, far_diagnostic}
-use Rattle.switch_lines.specs.Lines.{SwitchChannel, Joined, SwitchLine, same_place, joined_at, with_joined, ask}
+use Rattle.switch_lines.specs.Lines.{SwitchChannel, Joined, SwitchLine, is_trunk, same_place, joined_at, with_joined, ask}
 use Rattle.switch_lines.specs.Relay.{told, told_of, told_joined, with_kept, kept_anew, covered_on}
 use Rattle.switch_lines.specs.OfLine.{kept_at, freed_at}
-use Rattle.switch_lines.proofs.Places.{joined_asked, joined_here, joined_apart, kept_joined, kept_none, freed_joined, freed_kept, freed_none, decided, place_is}
+use Rattle.switch_lines.proofs.Places.{joined_asked, joined_here, joined_apart, kept_joined, kept_none, freed_joined, freed_kept, freed_none}
+use Rattle.switch_joins.proofs.Apart.{decided, place_is}
 use Rattle.switch_lines.proofs.Relaying.{joined_by, not_joined}
 
 pub tells_no_one : (n : Note) (p : SwitchChannel) (ls : List SwitchLine) → None ≡ option_map (λ j. j.other) (joined_at ls p) → ls ≡ told n p ls
@@ -26,11 +28,11 @@ pub tells_connected : (c : ℕ) (p q : SwitchChannel) (ls : List SwitchLine) →
 tells_connected c p q ls joined = tells (Connected c) p q ls (λ x. ask x Accept ls) joined (λ j e. refl)
 
 pub tells_closed : (c cause diagnostic : ℕ) (reason : Reason) (p q : SwitchChannel) (ls : List SwitchLine) → Some q ≡ option_map (λ j. j.other) (joined_at ls p) →
-    ask q (Clearing (clear_cause reason cause) (far_diagnostic reason diagnostic)) (with_joined q None (with_joined p None ls))
+    ask q (Clearing (clear_cause (is_trunk (slice_get ls p.line)) reason cause) (far_diagnostic reason diagnostic)) (with_joined q None (with_joined p None ls))
     ≡ told (Closed c cause diagnostic reason) p ls
 tells_closed c cause diagnostic reason p q ls joined =
     tells (Closed c cause diagnostic reason) p q ls
-    (λ x. ask x (Clearing (clear_cause reason cause) (far_diagnostic reason diagnostic)) (with_joined x None (with_joined p None ls))) joined (λ j e. refl)
+    (λ x. ask x (Clearing (clear_cause (is_trunk (slice_get ls p.line)) reason cause) (far_diagnostic reason diagnostic)) (with_joined x None (with_joined p None ls))) joined (λ j e. refl)
 
 pub tells_confirmed : (c : ℕ) (p q : SwitchChannel) (ls : List SwitchLine) → Some q ≡ option_map (λ j. j.other) (joined_at ls p) →
     ask q Confirming ls ≡ told (InterruptConfirmed c) p ls

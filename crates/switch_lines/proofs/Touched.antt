@@ -12,6 +12,7 @@ use Rattle.switch_lines.specs.Lines.{SwitchLine, changed}
 use Rattle.switch_lines.specs.Switch.{may_offer, raised, to_relink, offering_from}
 use Rattle.switch_lines.specs.Touched.{AreThere, changed_in, offering_in, first_to_relink}
 use Rattle.switch_lines.proofs.Changing.{changed_here, there}
+use Rattle.switch_joins.proofs.ChannelSets.{and_yes}
 
 -- ---- one line is taken out of a set
 
@@ -22,10 +23,6 @@ is_out s rest line first = first.others line ∙ ap (λ (b : Bool). has s line &
     and_no : (b : Bool) → (b && false) ≡ false
     and_no true = refl
     and_no false = refl
-
-and_yes : (b : Bool) → (b && true) ≡ b
-and_yes true = refl
-and_yes false = refl
 
 is_same : (s rest : NumberSet) (line n : ℕ) → IsFirstOf s line rest → (n ≡ line → ⊥) → has rest n ≡ has s n
 is_same s rest line n first apart = first.others n ∙ ap (λ (b : Bool). has s n && not b) (ne_eqb n line apart)

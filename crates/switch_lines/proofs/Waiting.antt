@@ -9,24 +9,27 @@ use Rattle.number_set.specs.NumberSet as numbers
 use Rattle.packet_layer.specs.Traffic.{Taken}
 use Rattle.packet_layer.specs.Channel.{Request, Refusal}
 use Rattle.packet_layer.specs.Channel.Request.{Taking, Releasing}
-use Rattle.packet_layer.specs.Layer.{Layer, channel_of, request_refusal}
+use Rattle.packet_layer.specs.Layer.{channel_of, request_refusal}
 use Rattle.packet_layer.specs.Layer as machine
 use Rattle.packet_end.specs.PacketEnd.{PacketEnd, asked, all_offered}
-use Rattle.switch_lines.specs.ChannelSet.{has, is_small, IsApart}
-use Rattle.switch_lines.specs.declared.channel_set.ChannelSet.{ChannelSet}
-use Rattle.switch_lines.specs.Direction.{Direction, request_for, releasable, released, carried_by}
+use Rattle.switch_joins.specs.ChannelSet.{has, is_small, IsApart}
+use Rattle.switch_joins.specs.declared.channel_set.ChannelSet.{ChannelSet}
+use Rattle.switch_joins.specs.Direction.{Direction, releasable, released}
 use Rattle.switch_lines.specs.Lines.{SwitchChannel, Joined, SwitchLine, same_place, changed, flat, nth_joined, with_nth_joined, joined_on, joined_at, ask, front_at, front_of_line, refusal_at, refusal_of_line}
-use Rattle.switch_lines.specs.OfLine.{joined_with, kept_on, released_if, freed_on}
-use Rattle.switch_lines.specs.Relay.{moved, moved_joined, moved_front, moved_unless, relayed, relayed_from, both_legs, most_moves}
+use Rattle.switch_lines.specs.OfLine.{kept_on, released_if, freed_on}
+use Rattle.switch_joins.specs.Joins.{joined_with}
+use Rattle.switch_lines.specs.Relay.{request_for, carried_by, moved, moved_joined, moved_front, moved_unless, relayed, relayed_from, both_legs, most_moves}
 use Rattle.switch_lines.specs.Switch.{with_end}
 use Rattle.switch_lines.specs.Touched.{changed_in}
-use Rattle.switch_lines.specs.Waiting.{other_at, AreInPairs, IsStuck, IsHeldBack, NothingElseMoves}
+use Rattle.switch_lines.specs.Waiting.{other_at, IsStuck, IsHeldBack, AreHeldBack, NothingElseMoves}
 use Rattle.switch_lines.proofs.Calmer.{same_layer, IsCalm, IsRelay, takes, sends, releases, sending_calm, releasing_calm, request_apart, relay_refused, all_offered_front}
 use Rattle.switch_lines.proofs.Changing.{there}
-use Rattle.switch_lines.proofs.Legs.{to_unless, to_from}
-use Rattle.switch_lines.proofs.Places.{decided, place_is}
+use Rattle.switch_lines.proofs.Legs.{to_unless}
+use Rattle.switch_joins.proofs.Apart.{decided, place_is}
+use Rattle.switch_joins.proofs.ChannelSets.{and_not_no}
 use Rattle.switch_lines.proofs.Relaying.{relayed_stays}
 use Rattle.switch_lines.proofs.Touched.{written_other, others_same}
+use Rattle.switch_lines.proofs.Places.{get_unchanged}
 
 abbrev Lines : Type 0
 Lines = List SwitchLine
@@ -74,13 +77,6 @@ none_changed_there f n [] e = refl
 none_changed_there f zero (y ∷ ys) e = absurd (none-some y (sym e))
 none_changed_there f (suc n) (y ∷ ys) e = none_changed_there f n ys e
 
-got_apart : {X : Type 0} (f : X → X) (n m : ℕ) (xs : List X) → (m ≡ n → ⊥) → slice_get (changed n f xs) m ≡ slice_get xs m
-got_apart f n m [] h = refl
-got_apart f zero zero (x ∷ xs) h = absurd (h refl)
-got_apart f zero (suc m) (x ∷ xs) h = refl
-got_apart f (suc n) zero (x ∷ xs) h = refl
-got_apart f (suc n) (suc m) (x ∷ xs) h = got_apart f n m xs (λ e. h (ap suc e))
-
 -- a line is changed, and its channel is calm
 changed_calm : (n : ℕ) (f : SwitchLine → SwitchLine) (ls : Lines) (x : SwitchChannel)
     → ((l : SwitchLine) → x.line ≡ n → (option_map (λ (j : Joined). j.other) (nth_joined (f l).joined x.channel) ≡ option_map (λ (j : Joined). j.other) (nth_joined l.joined x.channel)) × IsCalm l.end.layer (f l).end.layer x.channel)
@@ -96,7 +92,7 @@ changed_calm n f ls x calm = by_line (cases_eq x.line n)
 
     by_line : (x.line ≡ n) ⊎ (x.line ≡ n → ⊥) → IsCalmAt ls (changed n f ls) x
     by_line (inl same) = here (slice_get ls n) refl same
-    by_line (inr apart) = same_at ls (changed n f ls) x (got_apart f n x.line ls apart)
+    by_line (inr apart) = same_at ls (changed n f ls) x (get_unchanged n x.line f ls apart)
 
 pub got_written : (xs : Lines) (n : ℕ) (y : SwitchLine) → n < length xs → slice_get (set xs n y) n ≡ Some y
 got_written [] n y h = absurd (omega (arith, h))
@@ -208,42 +204,25 @@ slot_set [] i o j e = absurd (none-some j e)
 slot_set (x ∷ xs) zero o j e = (e, omega arith)
 slot_set (x ∷ xs) (suc i) o j e = let more = slot_set xs i o j e in (more.0, omega (arith, more.1))
 
-slot_apart : (js : List (Option Joined)) (i k : ℕ) (o : Option Joined) → (k ≡ i → ⊥) → slice_get (set js i o) k ≡ slice_get js k
-slot_apart [] i k o ne = refl
-slot_apart (j ∷ js) zero zero o ne = absurd (ne refl)
-slot_apart (j ∷ js) zero (suc k) o ne = refl
-slot_apart (j ∷ js) (suc i) zero o ne = refl
-slot_apart (j ∷ js) (suc i) (suc k) o ne = slot_apart js i k o (λ e. ne (ap suc e))
-
 pub nth_set : (js : List (Option Joined)) (c : ℕ) (o : Option Joined) (j : Joined) → nth_joined (with_nth_joined js c o) c ≡ Some j → (o ≡ Some j) × (c ≤ length js)
 nth_set js zero o j e = absurd (none-some j e)
 nth_set js (suc i) o j e = let more = slot_set js i o j e in (more.0, omega (arith, more.1))
 
-pub nth_apart : (js : List (Option Joined)) (c d : ℕ) (o : Option Joined) → (d ≡ c → ⊥) → nth_joined (with_nth_joined js c o) d ≡ nth_joined js d
-nth_apart js zero d o ne = refl
-nth_apart js (suc i) zero o ne = refl
-nth_apart js (suc i) (suc k) o ne = ap (λ x. flat x) (slot_apart js i k o (λ e. ne (ap suc e)))
-
 -- ---- what is left to relay
 
-kept : (s t r u : ChannelSet) (ls ms : Lines) → NothingElseMoves s r ls → ((p q : SwitchChannel) → other_at ms p ≡ Some q → other_at ls p ≡ Some q)
-    → ((p q : SwitchChannel) → other_at ls p ≡ Some q → other_at ls q ≡ Some p → has t p ≡ false → (has s p ≡ false) × IsCalmAt ls ms p × IsCalmAt ls ms q)
-    → ((x : SwitchChannel) → has r x ≡ true → has u x ≡ true) → NothingElseMoves t u ms
-kept s t r u ls ms i olds stays more = record {
-  small = λ p q e. i.small p q (olds p q e);
-  waits = λ p q e f out.
-      let a = stays p q (olds p q e) (olds q p f) out in
-      let h = i.waits p q (olds p q e) (olds q p f) a.0 in
-      (held p q a.1 a.2 h.0, held q p a.2 a.1 h.1);
-}
+-- what was held back still is
+still_held : (r : ChannelSet) (ls ms : Lines) (p q : SwitchChannel) → IsCalmAt ls ms p → IsCalmAt ls ms q → AreHeldBack r ls p q → AreHeldBack r ms p q
+still_held r ls ms p q a b h = (b.other ∙ h.0, held p q a b h.1, held q p b a h.2)
   where
-    held : (p q : SwitchChannel) → IsCalmAt ls ms p → IsCalmAt ls ms q → IsHeldBack r ls p q → IsHeldBack u ms p q
-    held p q a b h v e = let old = h v (a.front v e) in (b.refused v old.0, more q old.1)
+    held : (x y : SwitchChannel) → IsCalmAt ls ms x → IsCalmAt ls ms y → IsHeldBack r ls x y → IsHeldBack r ms x y
+    held x y c d k v e = let old = k v (c.front v e) in (d.refused v old.0, old.1)
 
 -- nothing new is to be relayed
 pub calm_kept : (s r : ChannelSet) (ls ms : Lines) → ((x : SwitchChannel) → IsCalmAt ls ms x) → NothingElseMoves s r ls → NothingElseMoves s r ms
-calm_kept s r ls ms calm i =
-    kept s s r r ls ms i (λ p q e. sym (calm p).other ∙ e) (λ p q e f out. (out, calm p, calm q)) (λ x h. h)
+calm_kept s r ls ms calm i = record {
+  small = λ p q e. i.small p q (sym (calm p).other ∙ e);
+  waits = λ p q e out. still_held r ls ms p q (calm p) (calm q) (i.waits p q (sym (calm p).other ∙ e) out);
+}
 
 -- some lines change, or all do, and all channels are calm
 pub some_kept : (s r : ChannelSet) (t : NumberSet) (f : SwitchLine → SwitchLine) (ls ms : Lines) → ms ≡ changed_in t f 0 ls
@@ -274,13 +253,15 @@ legs_apart s r ls x (Some z) p q i at e f a = (
 pub touched_kept : (s t r : ChannelSet) (ls ms : Lines) (x : SwitchChannel) (o : Option SwitchChannel) → o ≡ other_at ls x
     → ((p : SwitchChannel) → has t p ≡ false → (has s p ≡ false) × IsApart p x o) → ((y : SwitchChannel) → other_at ms y ≡ other_at ls y)
     → ((y : SwitchChannel) → is_small y ≡ true → same_place y x ≡ false → IsCalmAt ls ms y) → NothingElseMoves s r ls → NothingElseMoves t r ms
-touched_kept s t r ls ms x o is touches same calm i =
-    kept s t r r ls ms i (λ p q e. sym (same p) ∙ e)
-    (λ p q e f out.
-    let a = touches p out in
-    let b = legs_apart s r ls x o p q i is e f a.1 in
-    (a.0, by_place p (i.small p q e) b.0 (decided (same_place p x)), by_place q (i.small q p f) b.1 (decided (same_place q x))))
-    (λ y h. h)
+touched_kept s t r ls ms x o is touches same calm i = record {
+  small = λ p q e. i.small p q (sym (same p) ∙ e);
+  waits = λ p q e out.
+      let before = sym (same p) ∙ e in
+      let a = touches p out in
+      let h = i.waits p q before a.0 in
+      let b = legs_apart s r ls x o p q i is before h.0 a.1 in
+      still_held r ls ms p q (by_place p (i.small p q before) b.0 (decided (same_place p x))) (by_place q (i.small q p h.0) b.1 (decided (same_place q x))) h;
+}
   where
     by_place : (y : SwitchChannel) → is_small y ≡ true → (y ≡ x → ⊥) → (same_place y x ≡ true) ⊎ (same_place y x ≡ false) → IsCalmAt ls ms y
     by_place y small apart (inl here) = absurd (apart (place_is y x here))
@@ -288,12 +269,12 @@ touched_kept s t r ls ms x o is touches same calm i =
 
 -- a channel is joined, or its join ends
 pub joined_kept : (s t r : ChannelSet) (ls ms : Lines) (x : SwitchChannel) (o : Option SwitchChannel)
-    → ((p : SwitchChannel) → has t p ≡ false → (has s p ≡ false) × IsApart p x o)
+    → ((p : SwitchChannel) → has t p ≡ false → (has s p ≡ false) × IsApart p x (other_at ls x) × IsApart p x o)
     → ((y : SwitchChannel) → same_place y x ≡ false → IsCalmAt ls ms y)
     → ((q : SwitchChannel) → other_at ms x ≡ Some q → (o ≡ Some q) × (is_small x ≡ true)) → NothingElseMoves s r ls → NothingElseMoves t r ms
 joined_kept s t r ls ms x o touches calm new i = record {
   small = λ p q e. small p q e (decided (same_place p x));
-  waits = λ p q e f out. waits p q e f (touches p out) (decided (same_place p x)) (decided (same_place q x));
+  waits = λ p q e out. waits p q e (touches p out) (decided (same_place p x)) (decided (same_place q x));
 }
   where
     small : (p q : SwitchChannel) → other_at ms p ≡ Some q → (same_place p x ≡ true) ⊎ (same_place p x ≡ false) → is_small p ≡ true
@@ -301,32 +282,27 @@ joined_kept s t r ls ms x o touches calm new i = record {
         let at = place_is p x here in ap is_small at ∙ (new q (sym (ap (λ z. other_at ms z) at) ∙ e)).1
     small p q e (inr apart) = i.small p q (sym (calm p apart).other ∙ e)
 
-    held : (p q : SwitchChannel) → IsCalmAt ls ms p → IsCalmAt ls ms q → IsHeldBack r ls p q → IsHeldBack r ms p q
-    held p q a b h v e = let old = h v (a.front v e) in (b.refused v old.0, old.1)
-
-    waits : (p q : SwitchChannel) → other_at ms p ≡ Some q → other_at ms q ≡ Some p → (has s p ≡ false) × IsApart p x o
-        → (same_place p x ≡ true) ⊎ (same_place p x ≡ false) → (same_place q x ≡ true) ⊎ (same_place q x ≡ false)
-        → IsHeldBack r ms p q × IsHeldBack r ms q p
-    waits p q e f a (inl here) there =
+    waits : (p q : SwitchChannel) → other_at ms p ≡ Some q → (has s p ≡ false) × IsApart p x (other_at ls x) × IsApart p x o
+        → (same_place p x ≡ true) ⊎ (same_place p x ≡ false) → (same_place q x ≡ true) ⊎ (same_place q x ≡ false) → AreHeldBack r ms p q
+    waits p q e a (inl here) there =
         let at = place_is p x here in
         let n = new q (sym (ap (λ z. other_at ms z) at) ∙ e) in
-        let apart : IsApart p x (Some q) = subst (λ (v : Option SwitchChannel). IsApart p x v) n.0 a.1 in
+        let apart : IsApart p x (Some q) = subst (λ (v : Option SwitchChannel). IsApart p x v) n.0 a.2 in
         absurd (apart.0 n.1 at)
-    waits p q e f a (inr apart) (inl here) =
-        let at = place_is q x here in
-        let n = new p (sym (ap (λ z. other_at ms z) at) ∙ f) in
-        let other : IsApart p x (Some p) = subst (λ (v : Option SwitchChannel). IsApart p x v) n.0 a.1 in
-        absurd (other.1 (i.small p q (sym (calm p apart).other ∙ e)) refl)
-    waits p q e f a (inr apart) (inr away) =
-        let h = i.waits p q (sym (calm p apart).other ∙ e) (sym (calm q away).other ∙ f) a.0 in
-        (held p q (calm p apart) (calm q away) h.0, held q p (calm q away) (calm p apart) h.1)
+    waits p q e a (inr apart) (inl here) =
+        let before = sym (calm p apart).other ∙ e in
+        let back = sym (ap (λ z. other_at ls z) (place_is q x here)) ∙ (i.waits p q before a.0).0 in
+        let other : IsApart p x (Some p) = subst (λ (v : Option SwitchChannel). IsApart p x v) back a.1 in
+        absurd (other.1 (i.small p q before) refl)
+    waits p q e a (inr apart) (inr away) =
+        still_held r ls ms p q (calm p apart) (calm q away) (i.waits p q (sym (calm p apart).other ∙ e) a.0)
 
 -- both legs of a join are stuck: it is not to be relayed any more
 pub stopped : (s t r u : ChannelSet) (ls : Lines) (p q : SwitchChannel) → other_at ls p ≡ Some q → other_at ls q ≡ Some p → IsStuck ls p → IsStuck ls q
     → ((v : Taken) → front_at ls p ≡ Some v → has u q ≡ true) → ((v : Taken) → front_at ls q ≡ Some v → has u p ≡ true)
     → ((x : SwitchChannel) → has r x ≡ true → has u x ≡ true)
     → ((x : SwitchChannel) → has t x ≡ false → (has s x ≡ false) ⊎ (x ≡ p) ⊎ (x ≡ q)) → NothingElseMoves s r ls → NothingElseMoves t u ls
-stopped s t r u ls p q to back here there known_there known_here more out_of i = record { small = i.small; waits = λ x y e f out. by_place x y e f (out_of x out) }
+stopped s t r u ls p q to back here there known_there known_here more out_of i = record { small = i.small; waits = λ x y e out. by_place x y e (out_of x out) }
   where
     grown : (x y : SwitchChannel) → IsHeldBack r ls x y → IsHeldBack u ls x y
     grown x y h v e = let old = h v e in (old.0, more y old.1)
@@ -337,19 +313,28 @@ stopped s t r u ls p q to back here there known_there known_here more out_of i =
     backward : IsHeldBack u ls q p
     backward v e = (there p v back e, known_here v e)
 
-    by_place : (x y : SwitchChannel) → other_at ls x ≡ Some y → other_at ls y ≡ Some x → (has s x ≡ false) ⊎ (x ≡ p) ⊎ (x ≡ q)
-        → IsHeldBack u ls x y × IsHeldBack u ls y x
-    by_place x y e f (inl old) = let h = i.waits x y e f old in (grown x y h.0, grown y x h.1)
-    by_place x y e f (inr (inl at)) =
+    by_place : (x y : SwitchChannel) → other_at ls x ≡ Some y → (has s x ≡ false) ⊎ (x ≡ p) ⊎ (x ≡ q) → AreHeldBack u ls x y
+    by_place x y e (inl old) = let h = i.waits x y e old in (h.0, grown x y h.1, grown y x h.2)
+    by_place x y e (inr (inl at)) =
         let same : q ≡ y = same_Some q y (sym to ∙ sym (ap (λ z. other_at ls z) at) ∙ e) in
-        subst (λ (z : SwitchChannel). IsHeldBack u ls z y × IsHeldBack u ls y z) (sym at) (subst (λ (z : SwitchChannel). IsHeldBack u ls p z × IsHeldBack u ls z p) same (onward, backward))
-    by_place x y e f (inr (inr at)) =
+        subst (λ (z : SwitchChannel). AreHeldBack u ls z y) (sym at) (subst (λ (z : SwitchChannel). AreHeldBack u ls p z) same (back, onward, backward))
+    by_place x y e (inr (inr at)) =
         let same : p ≡ y = same_Some p y (sym back ∙ sym (ap (λ z. other_at ls z) at) ∙ e) in
-        subst (λ (z : SwitchChannel). IsHeldBack u ls z y × IsHeldBack u ls y z) (sym at) (subst (λ (z : SwitchChannel). IsHeldBack u ls q z × IsHeldBack u ls z q) same (backward, onward))
+        subst (λ (z : SwitchChannel). AreHeldBack u ls z y) (sym at) (subst (λ (z : SwitchChannel). AreHeldBack u ls q z) same (to, backward, onward))
+
+-- a channel that is not joined need not be relayed
+pub forgotten : (s t r : ChannelSet) (ls : Lines) (x : SwitchChannel) → other_at ls x ≡ None
+    → ((p : SwitchChannel) → has t p ≡ (has s p && not (is_small x && same_place p x))) → NothingElseMoves s r ls → NothingElseMoves t r ls
+forgotten s t r ls x none removes i = record { small = i.small; waits = λ p q e out. i.waits p q e (before p q e out (decided (same_place p x))) }
+  where
+    before : (p q : SwitchChannel) → other_at ls p ≡ Some q → has t p ≡ false → (same_place p x ≡ true) ⊎ (same_place p x ≡ false) → has s p ≡ false
+    before p q e out (inl here) = absurd (none-some q (sym none ∙ sym (ap (λ z. other_at ls z) (place_is p x here)) ∙ e))
+    before p q e out (inr apart) =
+        sym (removes p ∙ ap (λ (b : Bool). has s p && not (is_small x && b)) apart ∙ and_not_no (has s p) (is_small x)) ∙ out
 
 -- no channel is joined
 pub none_joined : (s r : ChannelSet) (ls : Lines) → ((p q : SwitchChannel) → other_at ls p ≡ Some q → ⊥) → NothingElseMoves s r ls
-none_joined s r ls none = record { small = λ p q e. absurd (none p q e); waits = λ p q e f out. absurd (none p q e) }
+none_joined s r ls none = record { small = λ p q e. absurd (none p q e); waits = λ p q e out. absurd (none p q e) }
 
 -- ---- stuck channels
 
@@ -406,7 +391,7 @@ refused_line n c q r x ls i e = by_line (cases_eq n x.line)
 
     by_line : (n ≡ x.line) ⊎ (n ≡ x.line → ⊥) → is_some (refusal_of_line (slice_get (ask x r ls) n) c (request_for q)) ≡ true
     by_line (inl same) = here (slice_get ls x.line) refl same
-    by_line (inr apart) = ap (λ (o : Option SwitchLine). is_some (refusal_of_line o c (request_for q))) (got_apart f x.line n ls apart) ∙ e
+    by_line (inr apart) = ap (λ (o : Option SwitchLine). is_some (refusal_of_line o c (request_for q))) (get_unchanged x.line n f ls apart) ∙ e
 
 -- a join that changes leaves all else
 joins_front : (n : ℕ) (f : SwitchLine → SwitchLine) (ls : Lines) (m c : ℕ) → ((l : SwitchLine) → (f l).end ≡ l.end)
@@ -468,26 +453,22 @@ relayed_stuck (suc most) x p ls stuck = relayed_stuck most x p (moved x ls) (mov
 
 -- ---- joins that are not to be relayed
 
-pub pairs_stay : (ps : List SwitchChannel) (ls : Lines) → AreInPairs ls → AreInPairs (relayed_from ps ls)
-pairs_stay ps ls pairs p q e = to_from ps ls q ∙ pairs p q (sym (to_from ps ls p) ∙ e)
-
-pub held_stuck : (s r : ChannelSet) (ls : Lines) (p q : SwitchChannel) → NothingElseMoves s r ls → AreInPairs ls → other_at ls p ≡ Some q → has s p ≡ false
+pub held_stuck : (s r : ChannelSet) (ls : Lines) (p q : SwitchChannel) → NothingElseMoves s r ls → other_at ls p ≡ Some q → has s p ≡ false
     → IsStuck ls p × IsStuck ls q
-held_stuck s r ls p q i pairs e out =
-    let f = pairs p q e in
-    let h = i.waits p q e f out in (
-      λ z t to front. subst (λ (y : SwitchChannel). is_some (refusal_at ls y (request_for t)) ≡ true) (same_Some q z (sym e ∙ to)) (h.0 t front).0,
-      λ z t to front. subst (λ (y : SwitchChannel). is_some (refusal_at ls y (request_for t)) ≡ true) (same_Some p z (sym f ∙ to)) (h.1 t front).0,
+held_stuck s r ls p q i e out =
+    let h = i.waits p q e out in (
+      λ z t to front. subst (λ (y : SwitchChannel). is_some (refusal_at ls y (request_for t)) ≡ true) (same_Some q z (sym e ∙ to)) (h.1 t front).0,
+      λ z t to front. subst (λ (y : SwitchChannel). is_some (refusal_at ls y (request_for t)) ≡ true) (same_Some p z (sym h.0 ∙ to)) (h.2 t front).0,
     )
 
-pub unmoved_join : (s r : ChannelSet) (ls : Lines) (p : SwitchChannel) → NothingElseMoves s r ls → AreInPairs ls → has s p ≡ false
+pub unmoved_join : (s r : ChannelSet) (ls : Lines) (p : SwitchChannel) → NothingElseMoves s r ls → has s p ≡ false
     → relayed_from (both_legs (joined_at ls p) p) ls ≡ ls
-unmoved_join s r ls p i pairs out = by_join (joined_at ls p) refl
+unmoved_join s r ls p i out = by_join (joined_at ls p) refl
   where
     by_join : (o : Option Joined) → joined_at ls p ≡ o → relayed_from (both_legs o p) ls ≡ ls
     by_join None e = refl
     by_join (Some j) e =
-        let both = held_stuck s r ls p j.other i pairs (ap (λ (o : Option Joined). option_map (λ (k : Joined). k.other) o) e) out in
+        let both = held_stuck s r ls p j.other i (ap (λ (o : Option Joined). option_map (λ (k : Joined). k.other) o) e) out in
         ap (λ (ms : Lines). relayed most_moves j.other ms) (stuck_unrelayed ls p most_moves both.0) ∙ stuck_unrelayed ls j.other most_moves both.1
 
 -- ---- packets are offered
@@ -523,11 +504,10 @@ pub offered_kept : (s r : ChannelSet) (t : NumberSet) (ls ms : Lines) → ms ≡
     → ((x : SwitchChannel) → is_small x ≡ true → numbers.has t x.line ≡ true → has r x ≡ false) → NothingElseMoves s r ls → NothingElseMoves s r ms
 offered_kept s r t ls ms is none i = subst (λ (ks : Lines). NothingElseMoves s r ks) (sym is) (record {
   small = λ p q e. i.small p q (sym (offered_other t ls p) ∙ e);
-  waits = λ p q e f out.
+  waits = λ p q e out.
       let there = sym (offered_other t ls p) ∙ e in
-      let back = sym (offered_other t ls q) ∙ f in
-      let h = i.waits p q there back out in
-      (held p q (i.small q p back) h.0, held q p (i.small p q there) h.1);
+      let h = i.waits p q there out in
+      (offered_other t ls q ∙ h.0, held p q (i.small q p h.0) h.1, held q p (i.small p q there) h.2);
 })
   where
     by_line : (q : SwitchChannel) (u : Taken) → is_small q ≡ true → has r q ≡ true → (numbers.has t q.line ≡ true) ⊎ (numbers.has t q.line ≡ false)
@@ -546,36 +526,16 @@ pub looked_at : (s t r u : ChannelSet) (ls : Lines) (x : SwitchChannel) → ((p 
     → ((p : SwitchChannel) → has u p ≡ (has r p && not (is_small x && same_place p x))) → NothingElseMoves s r ls → NothingElseMoves t u ls
 looked_at s t r u ls x touches removes i = record {
   small = i.small;
-  waits = λ p q e f out.
+  waits = λ p q e out.
       let a = touches p out in
-      let h = i.waits p q e f a.0 in
-      let b = legs_apart s r ls x (other_at ls x) p q i refl e f a.1 in
-      (held p q b.1 h.0, held q p b.0 h.1);
+      let h = i.waits p q e a.0 in
+      let b = legs_apart s r ls x (other_at ls x) p q i refl e h.0 a.1 in
+      (h.0, held p q b.1 h.1, held q p b.0 h.2);
 }
   where
     still : (q : SwitchChannel) → (q ≡ x → ⊥) → (same_place q x ≡ true) ⊎ (same_place q x ≡ false) → has r q ≡ true → has u q ≡ true
     still q apart (inl here) known = absurd (apart (place_is q x here))
-    still q apart (inr f) known = removes q ∙ ap₂ (λ (a b : Bool). a && not (is_small x && b)) known f ∙ not_and (is_small x)
-      where
-        not_and : (b : Bool) → (true && not (b && false)) ≡ true
-        not_and true = refl
-        not_and false = refl
+    still q apart (inr f) known = removes q ∙ ap₂ (λ (a b : Bool). a && not (is_small x && b)) known f ∙ and_not_no true (is_small x)
 
     held : (p q : SwitchChannel) → (q ≡ x → ⊥) → IsHeldBack r ls p q → IsHeldBack u ls p q
     held p q apart h v e = let old = h v e in (old.0, still q apart (decided (same_place q x)) old.1)
-
--- ---- pairs
-
-map_joined : (f : SwitchLine → SwitchLine) (ls : Lines) (n c : ℕ) → ((l : SwitchLine) → (f l).joined ≡ l.joined) → joined_on (slice_get (map f ls) n) c ≡ joined_on (slice_get ls n) c
-map_joined f [] n c same = refl
-map_joined f (l ∷ ls) zero c same = ap (λ (js : List (Option Joined)). nth_joined js c) (same l)
-map_joined f (l ∷ ls) (suc n) c same = map_joined f ls n c same
-
-pairs_offered : (ls : Lines) → AreInPairs ls → AreInPairs (map (with_end all_offered) ls)
-pairs_offered ls pairs p q e = same q ∙ pairs p q (sym (same p) ∙ e)
-  where
-    same : (x : SwitchChannel) → other_at (map (with_end all_offered) ls) x ≡ other_at ls x
-    same x = ap (λ (o : Option Joined). option_map (λ (j : Joined). j.other) o) (map_joined (with_end all_offered) ls x.line x.channel (λ l. refl))
-
-pub offered_pairs : (ls ms : Lines) → ms ≡ map (with_end all_offered) ls → AreInPairs ls → AreInPairs ms
-offered_pairs ls ms is pairs = subst (λ (ks : Lines). AreInPairs ks) (sym is) (pairs_offered ls pairs)

@@ -4,7 +4,7 @@ use Rattle.std.specs.Prelude.{ℕ, zero, suc, ◌*◌, if◌then◌else◌, List
 use Rattle.std.specs.List.{list_any}
 use Rattle.link_timers.specs.declared.timers.TimerId.{TimerId}
 use Rattle.lapb.specs.Machine.{Octets}
-use Rattle.packet_end.specs.PacketEnd.{received, after_timer, settled}
+use Rattle.packet_end.specs.PacketEnd.{received, after_timer, relinked, settled}
 use Rattle.address_routes.specs.Routes.{RouteMap}
 use Rattle.switch_lines.specs.Lines.{SwitchLine}
 use Rattle.switch_lines.specs.Relay.{relayed_from, legs_of}
@@ -39,4 +39,9 @@ on_frame_alone n octets s = record s {
 abbrev pub on_expiry_alone : (line : ℕ) → TimerId → Switch → Switch
 on_expiry_alone n id s = record s {
   lines = finished_alone s.routes n (acted s.routes n (λ e. after_timer e id) (all_begun s.lines));
+}
+
+abbrev pub relink_alone : (line : ℕ) → Switch → Switch
+relink_alone n s = record s {
+  lines = finished_alone s.routes n (acted s.routes n relinked (all_begun s.lines));
 }

@@ -1,4 +1,3 @@
-pub mod Direction
 pub mod Causes
 pub mod Lines
 pub mod Pooled
@@ -12,5 +11,4 @@ pub mod LineView
 pub mod LinesView
 pub mod Calling
 pub mod Making
-pub mod ChannelSet
 pub mod Waiting

@@ -1,24 +1,33 @@
 -- The lines of a switch, and the channels of them whose calls are joined.
-use Rattle.std.specs.Prelude.{ℕ, zero, suc, Bool, ◌&&◌, ◌==◌, List, [], ◌∷◌, ◌++◌, set, slice_get, Option, Some, None}
+use Rattle.std.specs.Prelude.{ℕ, zero, suc, List, [], ◌∷◌, ◌++◌, slice_get, Option, Some, None, Bool, false, is_none}
+use Rattle.link_timers.specs.declared.role.Role.{Role}
 use Rattle.packet_layer.specs.Traffic.{Taken}
 use Rattle.packet_layer.specs.Channel.{Request, Refusal}
 use Rattle.packet_layer.specs.Layer.{front_on, request_refusal}
 use Rattle.packet_end.specs.PacketEnd.{PacketEnd, asked}
 -- a logical channel of a line; lines are numbered from 0, channels from 1
-pub use Rattle.switch_lines.specs.declared.channels.SwitchChannel.{SwitchChannel}
+pub use Rattle.switch_joins.specs.declared.channels.SwitchChannel.{SwitchChannel}
 -- what a channel has whose call is joined to another one: that one, whether the call came in here, and the direction
 -- from here to there
-pub use Rattle.switch_lines.specs.declared.channels.Joined.{Joined}
+pub use Rattle.switch_joins.specs.declared.join.Joined.{Joined}
+pub use Rattle.switch_joins.specs.Joins.{same_place, flat, nth_joined, with_nth_joined}
 
-abbrev pub same_place : SwitchChannel → SwitchChannel → Bool
-same_place p q = (p.line == q.line) && (p.channel == q.channel)
-
--- a line: its end, the address that calls from it get as their calling address, and of its channels 1, 2 and so on
--- those that are joined
+-- a line: its end, the address that calls from it get as their calling address, if it has one, and of its channels 1, 2
+-- and so on those that are joined
 pub record SwitchLine : Type 0 where
   pub end : PacketEnd
-  pub address : List ℕ
+  pub address : Option (List ℕ)
   pub joined : List (Option Joined)
+
+-- the switch's role on a line
+abbrev pub role_on : Option SwitchLine → Option Role
+role_on None = None
+role_on (Some l) = Some l.end.layer.role
+
+-- a line without an address is a trunk: a switch is at its other end too
+abbrev pub is_trunk : Option SwitchLine → Bool
+is_trunk None = false
+is_trunk (Some l) = is_none l.address
 
 -- the n-th one is changed, if there is one
 abbrev pub changed : {X : Type 0} → ℕ → (X → X) → List X → List X
@@ -28,24 +37,12 @@ changed (suc n) f (x ∷ xs) = x ∷ changed n f xs
 
 -- ---- joined channels
 
-abbrev pub flat : {X : Type 0} → Option (Option X) → Option X
-flat None = None
-flat (Some o) = o
-
-abbrev pub nth_joined : List (Option Joined) → (channel : ℕ) → Option Joined
-nth_joined js zero = None
-nth_joined js (suc i) = flat (slice_get js i)
-
 abbrev pub joined_on : Option SwitchLine → (channel : ℕ) → Option Joined
 joined_on None c = None
 joined_on (Some l) c = nth_joined l.joined c
 
 abbrev pub joined_at : List SwitchLine → SwitchChannel → Option Joined
 joined_at ls p = joined_on (slice_get ls p.line) p.channel
-
-abbrev pub with_nth_joined : List (Option Joined) → (channel : ℕ) → Option Joined → List (Option Joined)
-with_nth_joined js zero o = js
-with_nth_joined js (suc i) o = set js i o
 
 abbrev pub with_joined : SwitchChannel → Option Joined → List SwitchLine → List SwitchLine
 with_joined p o ls = changed p.line (λ l. record l { joined = with_nth_joined l.joined p.channel o }) ls

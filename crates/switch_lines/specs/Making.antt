@@ -1,6 +1,5 @@
 -- How a switch is made.
 use Rattle.std.specs.Prelude.{◌≡◌, ℕ, ◌+◌, ◌≤◌, false, List, [], ◌∷◌, length, map, replicate, slice_get, Some, None}
-use Rattle.link_timers.specs.declared.role.Role.TheVariants.{Dce}
 use Rattle.packet_end.specs.Params.{AreParams}
 use Rattle.packet_end.specs.PacketEnd as end
 use Rattle.packet_end.specs.Pooled.{share_with}
@@ -26,9 +25,13 @@ abbrev pub MadeNot : List SwitchLineConfig → EndFault → Type 0
 MadeNot lines BadConfig = IsConfig lines → ⊥
 MadeNot lines OutOfMemory = IsConfig lines
 
--- a line without joins, of which the switch is the DCE
+-- a line without joins, at which the switch has its role
 abbrev pub made_line : SwitchLineConfig → SwitchLine
-made_line c = record { end = end.made Dce c.params; address = c.address; joined = replicate c.params.channels None }
+made_line c = record {
+  end = end.made c.role c.params;
+  address = c.address;
+  joined = replicate c.params.channels None;
+}
 
 -- the shares that lines have of the switch's pool, together
 abbrev pub shares_with : List SwitchLineConfig → ℕ

@@ -10,7 +10,7 @@ use Rattle.switch_lines.specs.Switch.{Switch, Answer, answer, heed, notes_of, wi
 use Rattle.switch_lines.specs.Switch.{all_begun}
 use Rattle.switch_lines.specs.Switch.Answer.{Clears, Joins}
 -- a call that was joined: the channel on which it came in, and the one on which it goes on
-pub use Rattle.switch_lines.specs.declared.channels.NewJoin.{NewJoin}
+pub use Rattle.switch_joins.specs.declared.channels.NewJoin.{NewJoin}
 
 -- a call that came in on p is joined where its answer is a channel
 abbrev pub join_of : Answer → SwitchChannel → List NewJoin
@@ -19,7 +19,7 @@ join_of (Joins q) p = record { came_in = p; placed = q } ∷ []
 
 -- what a note of a line joins, and what all of its notes do, in order
 abbrev pub joins_of_note : RouteMap → (line : ℕ) → Note → List SwitchLine → List NewJoin
-joins_of_note routes n (Incoming c parts) ls = join_of (answer routes ls parts) (record { line = n; channel = c })
+joins_of_note routes n (Incoming c parts) ls = join_of (answer routes ls n parts) (record { line = n; channel = c })
 joins_of_note routes n _ ls = []
 
 abbrev pub joins_of_notes : RouteMap → (line : ℕ) → List Note → List SwitchLine → List NewJoin

@@ -10,17 +10,14 @@ use Rattle.packet_layer.specs.Traffic.{Taken}
 use Rattle.packet_layer.specs.Traffic.Taken.{TakenInterrupt, TakenPacket}
 use Rattle.packet_layer.specs.Channel.Request.{Releasing, Interrupting, Sending, Taking}
 use Rattle.packet_end.specs.PacketEnd.{asked}
-use Rattle.switch_lines.specs.Direction.{Direction, releasable, released, carried}
-use Rattle.switch_lines.specs.Lines.{SwitchChannel, Joined, SwitchLine, nth_joined, with_nth_joined, changed, ask}
+use Rattle.switch_joins.specs.Direction.{Direction, releasable, released, carried}
+use Rattle.switch_joins.specs.Joins.{with_nth_kept}
+use Rattle.switch_lines.specs.Lines.{SwitchChannel, Joined, SwitchLine, nth_joined, changed, ask}
 use Rattle.switch_lines.specs.Switch.{notes_of}
 
--- a join with the direction from its channel changed
-abbrev pub joined_with : (Direction → Direction) → Option Joined → Option Joined
-joined_with f None = None
-joined_with f (Some j) = Some (record j { kept = f j.kept })
-
+-- the direction from a joined channel is changed
 abbrev pub kept_on : (channel : ℕ) → (Direction → Direction) → SwitchLine → SwitchLine
-kept_on c f l = record l { joined = with_nth_joined l.joined c (joined_with f (nth_joined l.joined c)) }
+kept_on c f l = record l { joined = with_nth_kept l.joined c f }
 
 -- what may be released on a joined channel is
 abbrev pub released_if : Option Joined → (channel : ℕ) → SwitchLine → SwitchLine

@@ -3,13 +3,14 @@ use Rattle.std.specs.Prelude.{ℕ, zero, suc, List, [], ◌∷◌, ◌++◌, sli
 use Rattle.packet_layer.specs.Packets.{Note}
 use Rattle.packet_layer.specs.Packets.Note.{Connected, Closed, WasReset, InterruptConfirmed, Covered}
 use Rattle.packet_layer.specs.Traffic.{Taken}
-use Rattle.packet_layer.specs.Channel.{Refusal}
+use Rattle.packet_layer.specs.Traffic.Taken.{TakenInterrupt, TakenPacket}
+use Rattle.packet_layer.specs.Channel.{Request, Refusal}
 use Rattle.packet_layer.specs.Channel.Request.{Accept, Clearing, Resetting, Taking, Releasing, Confirming}
-use Rattle.switch_lines.specs.Direction.{Direction, new_direction, releasable, released, covered_by, carried_by}
-use Rattle.switch_lines.specs.Direction.{request_for}
+use Rattle.packet_layer.specs.Channel.Request.{Sending, Interrupting}
+use Rattle.switch_joins.specs.Direction.{Direction, new_direction, releasable, released, covered_by, carried}
 use Rattle.switch_lines.specs.Causes.{reset_cause, clear_cause, far_diagnostic}
 use Rattle.switch_lines.specs.Lines.{SwitchChannel, Joined, SwitchLine, joined_at, with_joined, places, places_on, ask}
-use Rattle.switch_lines.specs.Lines.{front_at, refusal_at}
+use Rattle.switch_lines.specs.Lines.{is_trunk, front_at, refusal_at}
 
 -- the joined channel p with this direction to the other leg
 abbrev pub with_kept : SwitchChannel → Joined → Direction → List SwitchLine → List SwitchLine
@@ -20,6 +21,15 @@ abbrev pub freed : SwitchChannel → Joined → Direction → List SwitchLine �
 freed p j v ls = with_kept p j (released v) (ask p (Releasing (releasable v.held)) ls)
 
 -- ---- relay, from p to the other leg: what waits first is taken there and sent here, unless that is refused
+
+-- what is asked of the far leg for what is taken on the near leg, and what is kept of it
+abbrev pub request_for : Taken → Request
+request_for (TakenInterrupt octets) = Interrupting octets
+request_for (TakenPacket d) = Sending d
+
+abbrev pub carried_by : Taken → Direction → Direction
+carried_by (TakenInterrupt octets) v = v
+carried_by (TakenPacket d) v = carried d.delivery v
 
 abbrev pub moved_unless : Option Refusal → Taken → SwitchChannel → Joined → List SwitchLine → List SwitchLine
 moved_unless None t p j ls = freed p j (carried_by t j.kept) (ask j.other (request_for t) (ask p Taking ls))
@@ -91,7 +101,8 @@ covered_on n (Some j) p ls = freed p j (covered_by n j.kept) ls
 abbrev pub told_joined : Note → SwitchChannel → Joined → List SwitchLine → List SwitchLine
 told_joined (Connected c) p j ls = ask j.other Accept ls
 told_joined (Closed c cause diagnostic reason) p j ls =
-    ask j.other (Clearing (clear_cause reason cause) (far_diagnostic reason diagnostic))
+    ask j.other
+    (Clearing (clear_cause (is_trunk (slice_get ls p.line)) reason cause) (far_diagnostic reason diagnostic))
     (with_joined j.other None (with_joined p None ls))
 told_joined (WasReset c cause diagnostic reason) p j ls =
     kept_anew (joined_at ls j.other) j.other

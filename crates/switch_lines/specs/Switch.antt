@@ -1,7 +1,7 @@
 -- A switch: its lines and routes, and what each event makes of them.
-use Rattle.std.specs.Prelude.{ℕ, zero, suc, ◌*◌, Bool, true, false, ◌&&◌, if◌then◌else◌, List, [], ◌∷◌, length, map}
+use Rattle.std.specs.Prelude.{ℕ, zero, suc, ◌*◌, ◌==◌, Bool, true, false, ◌&&◌, if◌then◌else◌, List, [], ◌∷◌, length, map}
 use Rattle.std.specs.Prelude.{slice_get}
-use Rattle.std.specs.Prelude.{Option, Some, None, is_some}
+use Rattle.std.specs.Prelude.{Option, Some, None, is_some, unwrap_or}
 use Rattle.std.specs.List.{list_any, list_all}
 use Rattle.link_timers.specs.declared.timers.TimerId.{TimerId}
 use Rattle.lapb.specs.Machine.{Octets, can_offer}
@@ -16,8 +16,8 @@ use Rattle.packet_end.specs.PacketEnd.{PacketEnd, begun, received, after_timer, 
 use Rattle.packet_end.specs.PacketEnd.{all_offered}
 use Rattle.packet_end.specs.PacketEnd.{settled, elapsed, runs_at, due, without_first_frame, at_rest}
 use Rattle.address_routes.specs.Routes.{RouteMap, line_for}
-use Rattle.switch_lines.specs.Direction.{new_direction}
-use Rattle.switch_lines.specs.Lines.{SwitchChannel, SwitchLine, changed, with_joined, ask}
+use Rattle.switch_joins.specs.Direction.{new_direction}
+use Rattle.switch_lines.specs.Lines.{SwitchChannel, SwitchLine, changed, with_joined, ask, is_trunk}
 use Rattle.switch_lines.specs.Relay.{told, relayed_first}
 
 pub record Switch : Type 0 where
@@ -52,20 +52,26 @@ abbrev pub has_any : List ℕ → Bool
 has_any [] = false
 has_any (x ∷ xs) = true
 
--- the causes in their order: a facility, no route, no packet layer in r1, no free channel
-abbrev pub answer : RouteMap → List SwitchLine → CallParts → Answer
-answer routes ls parts =
-    if has_any parts.facilities then Clears invalid_facility else answer_by ls (line_for routes parts.called)
+-- the route of a call that came on a line: one back over a trunk is none
+abbrev pub route_from : (line : ℕ) → List SwitchLine → (route : Option ℕ) → Option ℕ
+route_from n ls None = None
+route_from n ls (Some to) = if (to == n) && is_trunk (slice_get ls n) then None else Some to
 
--- what goes on: the calling address is that of the line that the call came on
-abbrev pub address_of : Option SwitchLine → List ℕ
-address_of None = []
+-- the causes in their order: a facility, no route, no packet layer in r1, no free channel
+abbrev pub answer : RouteMap → List SwitchLine → (line : ℕ) → CallParts → Answer
+answer routes ls n parts =
+    if has_any parts.facilities then Clears invalid_facility
+    else answer_by ls (route_from n ls (line_for routes parts.called))
+
+-- what goes on: the calling address is that of the line that the call came on, on a trunk the one that the call has
+abbrev pub address_of : Option SwitchLine → Option (List ℕ)
+address_of None = None
 address_of (Some l) = l.address
 
 abbrev pub forwarded : List SwitchLine → (line : ℕ) → CallParts → CallParts
 forwarded ls n parts = record {
   called = parts.called;
-  calling = address_of (slice_get ls n);
+  calling = unwrap_or (address_of (slice_get ls n)) parts.calling;
   facilities = [];
   user_part = parts.user_part;
 }
@@ -86,7 +92,7 @@ answered (Joins q) p parts ls = with_join p q (place_call q.line (forwarded ls p
 -- ---- notes of a line, in order
 
 abbrev pub heed : RouteMap → (line : ℕ) → Note → List SwitchLine → List SwitchLine
-heed routes n (Incoming c parts) ls = answered (answer routes ls parts) (record { line = n; channel = c }) parts ls
+heed routes n (Incoming c parts) ls = answered (answer routes ls n parts) (record { line = n; channel = c }) parts ls
 heed routes n (Connected c) ls = told (Connected c) (record { line = n; channel = c }) ls
 heed routes n (Closed c cause diagnostic reason) ls =
     told (Closed c cause diagnostic reason) (record { line = n; channel = c }) ls
@@ -206,6 +212,10 @@ on_expiry n id s = record s {
 
 abbrev pub on_timer : (line : ℕ) → TimerId → Switch → Switch
 on_timer n id s = if timer_runs (slice_get s.lines n) id then on_expiry n id s else s
+
+-- the link of a line is set up anew
+abbrev pub relink : (line : ℕ) → Switch → Switch
+relink n s = record s { lines = finished s.routes n (acted s.routes n relinked (all_begun s.lines)) }
 
 -- all links are set up anew, and no call is left
 abbrev pub without_joins : SwitchLine → SwitchLine

@@ -3,18 +3,14 @@
 use Rattle.std.specs.Prelude.{◌≡◌, true, false, List, Option, Some, is_some}
 use Rattle.std.specs.Option.{option_map}
 use Rattle.packet_layer.specs.Traffic.{Taken}
-use Rattle.switch_lines.specs.ChannelSet.{has, is_small}
-use Rattle.switch_lines.specs.declared.channel_set.ChannelSet.{ChannelSet}
-use Rattle.switch_lines.specs.Direction.{request_for}
+use Rattle.switch_joins.specs.ChannelSet.{has, is_small}
+use Rattle.switch_joins.specs.declared.channel_set.ChannelSet.{ChannelSet}
+use Rattle.switch_lines.specs.Relay.{request_for}
 use Rattle.switch_lines.specs.Lines.{SwitchChannel, SwitchLine, joined_at, front_at, refusal_at}
 
 -- the channel that a channel is joined to, if it is
 abbrev pub other_at : List SwitchLine → SwitchChannel → Option SwitchChannel
 other_at ls p = option_map (λ j. j.other) (joined_at ls p)
-
--- each joined channel is joined to one that is joined to it
-abbrev pub AreInPairs : List SwitchLine → Type 0
-AreInPairs ls = (p q : SwitchChannel) → other_at ls p ≡ Some q → other_at ls q ≡ Some p
 
 -- what waits first on a joined channel is refused on the other leg
 abbrev pub IsStuck : List SwitchLine → SwitchChannel → Type 0
@@ -28,8 +24,12 @@ IsHeldBack refusing ls p q =
     (t : Taken) → front_at ls p ≡ Some t
     → (is_some (refusal_at ls q (request_for t)) ≡ true) × (has refusing q ≡ true)
 
--- on both legs of a join that is not to be relayed, what waits is held back
+-- p is joined to q, q to p, and what waits on either is held back
+abbrev pub AreHeldBack : (refusing : ChannelSet) → List SwitchLine → (p q : SwitchChannel) → Type 0
+AreHeldBack refusing ls p q =
+    (other_at ls q ≡ Some p) × IsHeldBack refusing ls p q × IsHeldBack refusing ls q p
+
+-- of a join that is not to be relayed, the two channels are joined to each other, and what waits on them is held back
 pub record NothingElseMoves (to_relay refusing : ChannelSet) (ls : List SwitchLine) : Type 0 where
   pub small : (p q : SwitchChannel) → other_at ls p ≡ Some q → is_small p ≡ true
-  pub waits : (p q : SwitchChannel) → other_at ls p ≡ Some q → other_at ls q ≡ Some p → has to_relay p ≡ false
-      → IsHeldBack refusing ls p q × IsHeldBack refusing ls q p
+  pub waits : (p q : SwitchChannel) → other_at ls p ≡ Some q → has to_relay p ≡ false → AreHeldBack refusing ls p q

@@ -6,7 +6,7 @@ ghost use Rattle.switch_lines.specs.Causes as spec;
 use packet_codec::{clear_cause, diagnostic, reset_cause};
 use packet_layer::Reason;
 
-/// The cause of a reset of the far leg: what the near leg's DTE said is handed on, and a procedure error found there is
+/// The cause of a reset of the far leg: what the near leg's partner said is handed on, and a procedure error found there is
 /// a remote one.
 pub(crate) fn far_reset_cause(reason: Reason, cause: u8) -> u8
     ensures { result ≡ spec.reset_cause (reason_of reason) cause }
@@ -17,14 +17,15 @@ pub(crate) fn far_reset_cause(reason: Reason, cause: u8) -> u8
     }
 }
 
-/// The cause of a clear of the far leg.
-pub(crate) fn far_clear_cause(reason: Reason, cause: u8) -> u8
-    ensures { result ≡ spec.clear_cause (reason_of reason) cause }
+/// The cause of a clear of the far leg: a Restart on a trunk comes from a switch, one on another line from its DTE.
+pub(crate) fn far_clear_cause(trunk: bool, reason: Reason, cause: u8) -> u8
+    ensures { result ≡ spec.clear_cause trunk (reason_of reason) cause }
 {
     match reason {
         Reason::FarEnd => cause,
         Reason::LocalFault => clear_cause::REMOTE_PROCEDURE_ERROR,
         Reason::LinkLost => clear_cause::OUT_OF_ORDER,
+        Reason::FarRestart if trunk => clear_cause::OUT_OF_ORDER,
         Reason::FarRestart => clear_cause::DTE_ORIGINATED,
         Reason::Cancelled => clear_cause::NUMBER_BUSY,
     }

@@ -4,19 +4,21 @@ ghost use Rattle.packet_end.specs.declared.fault.EndFault.TheVariants as fault_i
 ghost use Rattle.switch_lines.specs.Making.{IsLineConfig, IsConfig};
 
 use address_routes::Routes;
+use link_timers::Role;
 use packet_codec::Address;
 use packet_end::{EndFault, EndParams};
-
-/// The most lines of a switch.
-pub const MOST_LINES: usize = 64;
+use switch_joins::MOST_LINES;
 
 /// How a line of a switch is to be made.
 #[derive(Clone, Copy, PartialEq, Eq)]
 pub struct SwitchLineConfig {
     /// The parameters of the line, which does not stand.
     pub params: EndParams,
-    /// The address that calls from the line get as their calling address.
-    pub address: Address,
+    /// The switch's role on the line.
+    pub role: Role,
+    /// The address that calls from the line get as their calling address. A line without one is a trunk: a switch is
+    /// at its other end too.
+    pub address: Option<Address>,
 }
 
 /// How a switch is to be made.

@@ -2,14 +2,11 @@
 #![tactic(auto)]
 
 mod causes;
-mod channel_set;
-mod channels;
 mod config;
-mod direction;
 mod line;
 mod lines;
 
-pub use channels::{NewJoin, SwitchChannel};
-pub use config::{MOST_LINES, SwitchConfig, SwitchLineConfig, check_lines};
+pub use config::{SwitchConfig, SwitchLineConfig, check_lines};
 pub use lines::Lines;
 pub use packet_end::MOST_FRAMES;
+pub use switch_joins::{MOST_LINES, NewJoin, SwitchChannel};

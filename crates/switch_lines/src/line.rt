@@ -1,7 +1,7 @@
 //! A line of a switch: its end, and the channels of it that are joined.
-ghost use Rattle.std.specs.Prelude.{◌≡◌, ◌≤◌, ◌<◌, ◌∷◌, [], Some, None, IfOk, MatchResult, length, replicate};
-ghost use Rattle.std.specs.Prelude.{slice_get};
+ghost use Rattle.std.specs.Prelude.{◌≡◌, ◌≤◌, ◌<◌, ◌∷◌, [], Some, MatchResult, length, slice_get};
 ghost use Rattle.std.specs.Bool.{OnFalse, OnTrue};
+ghost use Rattle.std.specs.Option.{option_map};
 ghost use Rattle.flow_window.specs.Pool.{IsIn, Holds, Balances};
 ghost use Rattle.packet_channel.specs.Held.{Loses, datum_in};
 ghost use Rattle.packet_codec.specs.Packet.{IsCallValue};
@@ -18,13 +18,14 @@ ghost use Rattle.packet_end.specs.PacketEnd as end;
 ghost use Rattle.packet_end.specs.Pooled.{Serves, share_with};
 ghost use Rattle.packet_end.specs.Timing.{TimersAgree};
 ghost use Rattle.packet_end.specs.declared.fault.EndFault.TheVariants as fault_is;
+ghost use Rattle.switch_joins.specs.Direction.{after};
+ghost use Rattle.switch_joins.specs.Joins.{nth_joined, with_nth_joined};
+ghost use Rattle.switch_lines.specs.Lines.{is_trunk};
 ghost use Rattle.switch_lines.specs.Making.{made_line};
+ghost use Rattle.switch_lines.specs.OfLine.{kept_on, freed_on};
 ghost use Rattle.switch_lines.specs.Pooled.{on_line};
 ghost use Rattle.switch_lines.specs.Switch.{with_end, quieted, may_offer, without_joins, line_rests};
 
-mod joins;
-
-use crate::channels::ChannelJoin;
 use crate::config::SwitchLineConfig;
 use flow_window::pool::Pool;
 use frame_codec::FrameBuf;
@@ -32,16 +33,17 @@ use link_timers::{Role, TimerId};
 use packet_codec::{Address, CallData};
 use packet_end::{EndFault, MOST_FRAMES, PooledEnd};
 use packet_layer::{CallFault, Front, KeptPacket, LayerNote, Request, TakenBuf};
-use std::alloc::{AllocError, Global};
+use std::alloc::Global;
 use std::marker::Model;
+use switch_joins::{Change, Joined, Joins, SwitchChannel};
 
-/// A line of a switch: its end, the address that calls from it get as their calling address, and for each of its
-/// channels what it is joined to, if it is.
+/// A line of a switch: its end, the address that calls from it get as their calling address, which a trunk has not, and
+/// for each of its channels what it is joined to, if it is.
 #[derive(Drop)]
 pub struct SwitchLine {
     end: PooledEnd,
-    address: Address,
-    joined: Vec<ChannelJoin>,
+    address: Option<Address>,
+    joined: Joins,
 }
 
 impl Model for SwitchLine {
@@ -56,19 +58,8 @@ impl Model for SwitchLine {
     ghost invariant = { IsLine };
 }
 
-// So many places without a join.
-fn new_places(alloc: Global, count: u8) -> Result<Vec<ChannelJoin>, AllocError>
-    ensures { IfOk result (λ places. places.items ≡ replicate count None) }
-{
-    let mut places = Vec::new(alloc);
-    for _ in 0..count {
-        places.push(ChannelJoin::new())?;
-    }
-    Ok(places)
-}
-
 impl SwitchLine {
-    /// The DCE's end of a line, without joins. `OutOfMemory` comes for want of memory.
+    /// The switch's end of a line, without joins. `OutOfMemory` comes for want of memory.
     pub(crate) fn new(
         alloc: Global,
         config: SwitchLineConfig,
@@ -80,8 +71,8 @@ impl SwitchLine {
             (λ fault. fault ≡ fault_is.OutOfMemory) }
         ensures pool { Balances pool.old [] pool.new [] }
     {
-        let end = PooledEnd::new(alloc, Role::Dce, config.params, pool)?;
-        let joined = new_places(alloc, config.params.channels)?;
+        let end = PooledEnd::new(alloc, config.role, config.params, pool)?;
+        let joined = Joins::new(alloc, config.params.channels)?;
         Ok(SwitchLine {
             end,
             address: config.address,
@@ -94,14 +85,64 @@ impl SwitchLine {
         ensures count { result ≡ length self.now.line.joined }
         ensures most { result ≤ 32 }
     {
-        self.joined.len() as u8
+        self.joined.channels()
     }
 
-    /// The address that calls from the line get as their calling address.
-    pub(crate) fn address(&self) -> Address
+    /// The switch's role on the line.
+    pub(crate) fn role(&self) -> Role
+        ensures { result ≡ self.now.line.end.layer.role }
+    {
+        self.end.role()
+    }
+
+    /// The address that calls from the line get as their calling address, which a trunk has not.
+    pub(crate) fn address(&self) -> Option<Address>
         ensures { result ≡ self.now.line.address }
     {
         self.address
+    }
+
+    /// The channel that a channel is joined to, if it is.
+    pub(crate) fn other(&self, channel: u8) -> Option<SwitchChannel>
+        ensures { result ≡ option_map (λ j. j.other) (nth_joined self.now.line.joined channel) }
+    {
+        self.joined.other(channel)
+    }
+
+    /// Joins a channel, or ends its join.
+    pub(crate) fn set_joined(&mut self, channel: u8, joined: Option<Joined>)
+        ensures line { self.new
+            ≡ on_line (λ l. record l { joined = with_nth_joined l.joined channel joined }) self.old }
+        ensures few { length self.new.line.joined ≤ 32 }
+    {
+        self.joined.set(channel, joined);
+    }
+
+    /// Changes what is kept of the direction from a joined channel.
+    pub(crate) fn change(&mut self, channel: u8, change: Change)
+        ensures { self.new ≡ on_line (kept_on channel (after change)) self.old }
+    {
+        self.joined.change(channel, change);
+    }
+
+    /// Releases what may be released of the packets taken on a joined channel.
+    pub(crate) fn release(&mut self, channel: u8, pool: &mut Pool)
+        requires { Serves pool.old self.old.held self.old.share }
+        ensures line { self.new.line ≡ freed_on channel self.old.line }
+        ensures share { self.new.share ≡ self.old.share }
+        ensures pool { Balances pool.old self.old.held pool.new self.new.held }
+        ensures within { length self.new.held < self.new.share }
+    {
+        if let Some(count) = self.joined.release(channel) {
+            let _ = self.end.ask(channel, &Request::Release(count), pool);
+        }
+    }
+
+    /// Whether it is a trunk.
+    pub(crate) fn is_trunk(&self) -> bool
+        ensures { result ≡ is_trunk (Some self.now.line) }
+    {
+        self.address.is_none()
     }
 
     /// Begins an event.
@@ -287,9 +328,7 @@ impl SwitchLine {
         ensures within { length self.new.held < self.new.share }
     {
         self.end.restart(pool);
-        for place in self.joined.iter_mut() {
-            place.set(None);
-        }
+        self.joined.clear();
     }
 
     /// Takes the next frame that goes out, if there is one.

@@ -1,5 +1,5 @@
 //! The lines of a switch, and what is asked of their channels.
-ghost use Rattle.std.specs.Prelude.{◌≡◌, ◌≤◌, ◌<◌, ◌∷◌, [], length, map, slice_get, MatchResult};
+ghost use Rattle.std.specs.Prelude.{◌≡◌, ◌≤◌, ◌<◌, ◌∷◌, [], Some, length, map, slice_get, MatchResult};
 ghost use Rattle.std.specs.List.{list_all};
 ghost use Rattle.std.specs.Option.{option_map};
 ghost use Rattle.std.specs.Bool.{OnTrue, OnFalse};
@@ -7,9 +7,9 @@ ghost use Rattle.packet_layer.specs.RequestView.{request_of};
 ghost use Rattle.packet_layer.specs.TakenView.{maybe_front};
 ghost use Rattle.packet_end.specs.PacketEnd.{without_first_frame};
 ghost use Rattle.packet_end.specs.declared.fault.EndFault.TheVariants as fault_is;
-ghost use Rattle.switch_lines.specs.Direction.{after};
+ghost use Rattle.switch_joins.specs.Direction.{after};
 ghost use Rattle.switch_lines.specs.Making.{IsConfig, made_line, shares_with};
-ghost use Rattle.switch_lines.specs.Lines.{with_joined, ask, front_at, changed};
+ghost use Rattle.switch_lines.specs.Lines.{role_on, is_trunk, with_joined, ask, front_at, changed};
 ghost use Rattle.switch_lines.specs.Switch.{timer_runs, due_on, frames_on, with_end, line_rests};
 ghost use Rattle.switch_lines.specs.OfLine.{kept_at, freed_at, is_taken};
 ghost use Rattle.switch_lines.specs.Pooled.{plain};
@@ -24,20 +24,18 @@ mod reopening;
 mod telling;
 mod touched;
 
-use crate::channel_set::ChannelSet;
-use crate::channels::{Joined, SwitchChannel};
-use crate::config::{MOST_LINES, SwitchLineConfig};
-use crate::direction::Change;
+use crate::config::SwitchLineConfig;
 use crate::line::SwitchLine;
 use arrayvec::ArrayVec;
 use flow_window::pool::Pool;
 use frame_codec::{FrameBuf, MAX_INFORMATION};
-use link_timers::TimerId;
+use link_timers::{Role, TimerId};
 use number_set::NumberSet;
 use packet_end::{EndFault, MOST_FRAMES};
 use packet_layer::{Front, Request};
 use std::alloc::{AllocError, Global};
 use std::marker::Model;
+use switch_joins::{Change, ChannelSet, Joined, MOST_LINES, SwitchChannel};
 
 /// The most lines of a list: all of a switch, and one of them once more.
 const MOST_LISTED: usize = MOST_LINES + 1;
@@ -144,6 +142,14 @@ impl Lines {
         self.lines.len()
     }
 
+    /// The switch's role on a line.
+    pub fn role(&self, line: usize) -> Role
+        requires { line < length self.now }
+        ensures { role_on (slice_get self.now line) ≡ Some result }
+    {
+        self.lines[line].role()
+    }
+
     /// Whether a timer of a line runs, also with no tick left.
     pub fn is_running(&self, line: usize, id: TimerId) -> bool
         requires { line < length self.now }
@@ -204,11 +210,20 @@ impl Lines {
         other_of(&self.lines, place)
     }
 
+    // Whether a line is there and is a trunk.
+    fn is_trunk(&self, line: usize) -> bool
+        ensures { result ≡ is_trunk (slice_get self.now line) }
+    {
+        line < self.lines.len() && self.lines[line].is_trunk()
+    }
+
     // Joins a channel, or ends its join.
     fn set_joined(&mut self, place: SwitchChannel, joined: Option<Joined>)
         ensures { self.new ≡ with_joined place joined self.old }
     {
         if place.line < self.lines.len() {
+            self.to_relay
+                .insert_join(place, other_of(&self.lines, place));
             self.to_relay.insert_join(place, joined_to(&joined));
             self.lines[place.line].set_joined(place.channel, joined);
         }

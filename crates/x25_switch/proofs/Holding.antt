@@ -1,21 +1,23 @@
 -- What always holds of a switch holds after each event, in which its own joins alone are relayed.
-use Rattle.std.proofs.Common.{◌≡◌, ℕ, suc, ◌<◌, List, [], ◌∷◌, ap, subst, sym, refl, inl, ◌∙◌}
-use Rattle.std.specs.Prelude.{Bool, true, false, if◌then◌else◌, slice_get, slice_index}
+use Rattle.std.proofs.Common.{◌≡◌, ℕ, suc, ◌<◌, List, [], ◌∷◌, ap, subst, sym, refl, inl, ◌∙◌, arith}
+use Rattle.std.proofs.lemmas.Option.{none-some}
+use Rattle.std.specs.Prelude.{Bool, true, false, if◌then◌else◌, slice_get, Some, zero, length}
+use Rattle.link_timers.specs.declared.role.Role.{Role}
 use Rattle.link_timers.specs.declared.timers.TimerId.{TimerId}
-use Rattle.packet_end.specs.PacketEnd.{PacketEnd, received, after_timer}
+use Rattle.packet_end.specs.PacketEnd.{PacketEnd, received, after_timer, relinked}
 use Rattle.address_routes.specs.Routes.{RouteMap}
-use Rattle.switch_lines.specs.Lines.{SwitchLine}
-use Rattle.switch_lines.specs.Switch.{Switch, acted, all_begun, on_frame, timer_runs, on_expiry, on_timer}
+use Rattle.switch_lines.specs.Lines.{SwitchLine, role_on}
+use Rattle.switch_lines.specs.Switch.{Switch, acted, all_begun, on_frame, timer_runs, on_expiry, on_timer, relink}
 use Rattle.switch_lines.specs.Alone.{finished_alone}
 use Rattle.switch_laws.specs.World.{World}
 use Rattle.switch_laws.specs.Events.{Event, after_event, SwitchHolds, GoesOn, KeepsLegs}
-use Rattle.switch_laws.specs.Events.Event.{Arrives, Expires}
+use Rattle.switch_laws.specs.Events.Event.{Arrives, Expires, SetsUp}
 use Rattle.switch_laws.specs.Isolated.{LeavesOthers}
 use Rattle.switch_laws.specs.Joined.{HasRelayedAll}
 use Rattle.switch_laws.specs.Offers.{EndsKeepNothingBack}
-use Rattle.switch_laws.specs.Pairs.{JoinsByRoute, noted_in}
+use Rattle.switch_laws.specs.Pairs.{JoinsByRoute, JoinsNone, noted_in}
 use Rattle.switch_laws.specs.Sent.{AreAllSent}
-use Rattle.switch_laws.specs.Steps.Happening.{Brings, RunsOut}
+use Rattle.switch_laws.specs.Steps.Happening.{Brings, RunsOut, Relinks}
 use Rattle.switch_laws.proofs.Happening.{events_hold}
 use Rattle.switch_laws.proofs.Alone.{concerns_hold}
 use Rattle.switch_laws.proofs.Pairing.{pairs_hold}
@@ -85,6 +87,33 @@ timer_kept n id s t v w h e old =
     } in
     subst (λ (x : Switch). TimerKept n id x t) old (subst (λ (x : Switch). TimerKept n id s x) (sym e) k)
 
+pub record RelinkKept (n : ℕ) (s t : Switch) : Type 0 where
+  pub others : LeavesOthers n Relinks s t
+  pub relayed : HasRelayedAll t.lines
+  pub nothing_kept_back : EndsKeepNothingBack t.lines
+  pub routes : JoinsNone s.lines t.lines
+  pub legs : KeepsLegs (SetsUp n) s t
+  pub frames : AreAllSent n Relinks s t
+
+pub relink_kept : (n : ℕ) (s t v : Switch) (w : World) → SwitchHolds s w → t ≡ relink n s → s ≡ v → RelinkKept n v t
+relink_kept n s t v w h e old =
+    let a = events_hold.stays (SetsUp n) s w h in
+    let k : RelinkKept n s (relink n s) = record {
+      others = others_are_left.relinks n s w h;
+      relayed = a.holds.relayed;
+      nothing_kept_back = a.nothing_kept_back;
+      routes = pairs_hold.relink_joins_none n s;
+      legs = goes_on (SetsUp n) s (relink n s) refl;
+      frames = all_are_sent.relinks n s w h;
+    } in
+    subst (λ (x : Switch). RelinkKept n x t) old (subst (λ (x : Switch). RelinkKept n s x) (sym e) k)
+
+-- a line at which the switch has a role is there
+pub role_within : (n : ℕ) (r : Role) (ls : List SwitchLine) → role_on (slice_get ls n) ≡ Some r → n < length ls
+role_within n r [] e = absurd (none-some r e)
+role_within zero r (l ∷ ls) e = omega arith
+role_within (suc n) r (l ∷ ls) e = let h = role_within n r ls e in omega (arith, h)
+
 -- ---- an event, call by call
 
 abbrev pub of_lines : RouteMap → List SwitchLine → Switch
@@ -109,3 +138,8 @@ pub timer_is : (n : ℕ) (id : TimerId) (routes : RouteMap) (ls bs rs fs : List 
 timer_is n id routes ls bs rs fs w ran h begins acts ends =
     three_calls n (λ e. after_timer e id) routes ls bs rs fs begins acts ends ∙ (concerns_hold.timer_alone n id (of_lines routes ls) w h.joins h.relayed
     ∙ ap (λ (b : Bool). if b then on_expiry n id (of_lines routes ls) else of_lines routes ls) (sym ran))
+
+pub relink_is : (n : ℕ) (routes : RouteMap) (ls bs rs fs : List SwitchLine) (w : World) → SwitchHolds (of_lines routes ls) w
+    → bs ≡ all_begun ls → rs ≡ acted routes n relinked bs → fs ≡ finished_alone routes n rs → of_lines routes fs ≡ relink n (of_lines routes ls)
+relink_is n routes ls bs rs fs w h begins acts ends =
+    three_calls n relinked routes ls bs rs fs begins acts ends ∙ concerns_hold.relinks_alone n (of_lines routes ls) w h.joins h.relayed

@@ -1,26 +1,27 @@
 //! The switch and its events.
-ghost use Rattle.std.specs.Prelude.{◌≡◌, ◌≤◌, ◌<◌, ◌∷◌, [], length, MatchResult, slice_get};
+ghost use Rattle.std.specs.Prelude.{◌≡◌, ◌≤◌, ◌<◌, ◌∷◌, [], Some, length, MatchResult, slice_get};
 ghost use Rattle.std.specs.Bool.{OnTrue, OnFalse};
 ghost use Rattle.std.specs.Option.{option_map, option_to_list};
-ghost use Rattle.switch_lines.specs.Lines.{joined_at};
+ghost use Rattle.link_timers.specs.declared.role.Role.TheVariants.{Dte};
+ghost use Rattle.switch_lines.specs.Lines.{joined_at, role_on};
 ghost use Rattle.switch_lines.specs.Making.{made, IsConfig, MadeNot};
 ghost use Rattle.switch_lines.specs.NewJoins.{new_joins};
-ghost use Rattle.switch_lines.specs.Switch.{on_frame, on_timer, timer_runs, restart, elapse};
+ghost use Rattle.switch_lines.specs.Switch.{on_frame, on_timer, timer_runs, relink, restart, elapse};
 ghost use Rattle.switch_lines.specs.Switch.{without_frame, frames_on, due_on, switch_rests};
 ghost use Rattle.switch_lines.specs.Touched.{AreThere, HasAllFrames};
 ghost use Rattle.packet_end.specs.PacketEnd.{received, after_timer};
 ghost use Rattle.switch_laws.specs.Events.{KeepsLegs};
-ghost use Rattle.switch_laws.specs.Events.Event.{Arrives, Expires};
+ghost use Rattle.switch_laws.specs.Events.Event.{Arrives, Expires, SetsUp};
 ghost use Rattle.switch_laws.specs.Isolated.{LeavesOthers};
 ghost use Rattle.switch_laws.specs.Joined.{HasRelayedAll};
 ghost use Rattle.switch_laws.specs.Offers.{EndsKeepNothingBack};
-ghost use Rattle.switch_laws.specs.Pairs.{JoinsByRoute, noted_in};
+ghost use Rattle.switch_laws.specs.Pairs.{JoinsByRoute, JoinsNone, noted_in};
 ghost use Rattle.switch_laws.specs.Sent.{AreAllSent};
-ghost use Rattle.switch_laws.specs.Steps.Happening.{Brings, RunsOut};
+ghost use Rattle.switch_laws.specs.Steps.Happening.{Brings, RunsOut, Relinks};
 
 use address_routes::Routes;
 use frame_codec::FrameBuf;
-use link_timers::TimerId;
+use link_timers::{Role, TimerId};
 use number_set::NumberSet;
 use packet_end::EndFault;
 use std::alloc::Global;
@@ -29,8 +30,9 @@ use switch_lines::{
     Lines, MOST_FRAMES, MOST_LINES, NewJoin, SwitchChannel, SwitchConfig, check_lines,
 };
 
-/// A switch: the DCE on up to 64 lines, of which it joins calls (X.25 3 to 5). A call that comes in on one line goes on
-/// to the line of its route, and all that happens on the one is relayed to the other.
+/// A switch: the DCE or the DTE on each of up to 64 lines, of which it joins calls (X.25 3 to 5). A call that comes in on
+/// one line goes on to the line of its route, and all that happens on the one is relayed to the other. A line without an
+/// address is a trunk: a switch is at its other end too.
 ///
 /// Each call that changes it is one event, whose frames are then taken by `out`, before the next one; after it they are
 /// gone, as if the line had lost them.
@@ -82,6 +84,14 @@ impl Switch {
         self.lines.len()
     }
 
+    /// The switch's role on a line.
+    pub fn role(&self, line: usize) -> Role
+        requires { line < length self.now.lines }
+        ensures { role_on (slice_get self.now.lines line) ≡ Some result }
+    {
+        self.lines.role(line)
+    }
+
     /// Takes the octets of a frame that a line brings, and answers the call that it joined, if it did. A frame joins no
     /// more than one.
     ///
@@ -129,6 +139,27 @@ impl Switch {
         self.lines.on_timer(&self.routes, line, id);
         self.lines.finish(&self.routes, line);
         true
+    }
+
+    /// Sets the link of a line up anew on which the switch is the DTE (X.25 2.4.4): the calls of the line end, and none
+    /// is joined. While the link is being set up it goes on as it is.
+    ///
+    /// Each join of two other lines is as it was, unless one of the two was set up anew, since a fifth packet came to
+    /// be owed there. After it nothing waits that the other leg or the link takes. On each line all frames of the event
+    /// wait.
+    pub fn relink(&mut self, line: usize)
+        requires { role_on (slice_get self.old.lines line) ≡ Some Dte }
+        ensures switch { self.new ≡ relink line self.old }
+        ensures others { LeavesOthers line Relinks self.old self.new }
+        ensures relayed { HasRelayedAll self.new.lines }
+        ensures nothing_kept_back { EndsKeepNothingBack self.new.lines }
+        ensures routes { JoinsNone self.old.lines self.new.lines }
+        ensures legs { KeepsLegs (SetsUp line) self.old self.new }
+        ensures frames { AreAllSent line Relinks self.old self.new }
+    {
+        self.lines.begin();
+        self.lines.relink(&self.routes, line);
+        self.lines.finish(&self.routes, line);
     }
 
     /// Begins anew after a restart of the switch: no link is up, and no call is left.

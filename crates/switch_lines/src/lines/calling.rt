@@ -1,19 +1,19 @@
 //! Calls that come in (X.25 4.1).
 ghost use Rattle.std.specs.Prelude.{◌≡◌, IfOk, OnErr, slice_get};
 ghost use Rattle.std.specs.Option.{option_to_list};
+ghost use Rattle.address_routes.specs.Routes.{line_for};
 ghost use Rattle.packet_codec.specs.Packet.{IsCallValue};
 ghost use Rattle.packet_codec.specs.View.{call_view};
 ghost use Rattle.packet_layer.specs.Octets.{parts_of};
 ghost use Rattle.switch_lines.specs.Calling.{answer_of};
 ghost use Rattle.switch_lines.specs.NewJoins.{join_of};
-ghost use Rattle.switch_lines.specs.Switch.{answer, answer_on, answered, forwarded, place_call, with_join};
+ghost use Rattle.switch_lines.specs.Switch.{answer, answer_on, answered, route_from, forwarded, place_call, with_join};
 
-use crate::channels::{Joined, NewJoin, SwitchChannel};
-use crate::direction::Direction;
 use crate::lines::Lines;
 use address_routes::Routes;
-use packet_codec::{CallData, clear_cause, diagnostic};
+use packet_codec::{Address, CallData, clear_cause, diagnostic};
 use packet_layer::{CallFault, Request};
+use switch_joins::{Direction, Joined, NewJoin, SwitchChannel};
 
 impl Lines {
     // A call came in on a channel: it goes on and is joined, or is cleared. Answers the join.
@@ -25,9 +25,9 @@ impl Lines {
     ) -> Option<NewJoin>
         requires { IsCallValue (call_view call.now) }
         ensures join { option_to_list result
-            ≡ join_of (answer routes.now self.old (parts_of (call_view call.now))) place }
+            ≡ join_of (answer routes.now self.old place.line (parts_of (call_view call.now))) place }
         ensures lines { let parts = parts_of (call_view call.now) in
-            self.new ≡ answered (answer routes.now self.old parts) place parts self.old }
+            self.new ≡ answered (answer routes.now self.old place.line parts) place parts self.old }
     {
         match self.forward(routes, place.line, call) {
             Ok(other) => {
@@ -57,7 +57,7 @@ impl Lines {
         call: &CallData<'_>,
     ) -> Result<SwitchChannel, u8>
         requires { IsCallValue (call_view call.now) }
-        ensures answer { answer routes.now self.old (parts_of (call_view call.now)) ≡ answer_of result }
+        ensures answer { answer routes.now self.old line (parts_of (call_view call.now)) ≡ answer_of result }
         ensures ok { IfOk result (λ q. self.new
             ≡ place_call q.line (forwarded self.old line (parts_of (call_view call.now))) self.old) }
         ensures err { OnErr result (self.new ≡ self.old) }
@@ -65,27 +65,38 @@ impl Lines {
         if !call.facilities.is_empty() {
             return Err(clear_cause::INVALID_FACILITY);
         }
-        let Some(to) = routes.find(&call.called) else {
+        let Some(to) = self.route(routes, line, &call.called) else {
             return Err(clear_cause::NOT_OBTAINABLE);
         };
         let call = self.forwarded(line, call);
-        self.call(usize::from(to.0), &call)
+        self.call(to, &call)
     }
 
-    // A call as it goes on: the calling address is that of the line that it came on.
+    // The line that a call which came on a line goes on to, if it has a route: one back over a trunk is none.
+    fn route(&self, routes: &Routes, line: usize, called: &Address) -> Option<usize>
+        ensures { result ≡ route_from line self.now (line_for routes.now called.now) }
+    {
+        let to = usize::from(routes.find(called)?.0);
+        if to == line && self.is_trunk(line) {
+            return None;
+        }
+        Some(to)
+    }
+
+    // A call as it goes on: the calling address is that of the line that it came on, on a trunk the call's own.
     fn forwarded<'a>(&self, line: usize, call: &CallData<'a>) -> CallData<'a>
         requires { IsCallValue (call_view call.now) }
         ensures parts { parts_of (call_view result) ≡ forwarded self.now line (parts_of (call_view call.now)) }
         ensures fits { IsCallValue (call_view result) }
     {
-        let calling = if line < self.lines.len() {
-            Some(self.lines[line].address())
+        let address = if line < self.lines.len() {
+            self.lines[line].address()
         } else {
             None
         };
         CallData {
             called: call.called,
-            calling,
+            calling: address.or(call.calling),
             facilities: &[],
             user_data: call.user_data,
         }

@@ -8,11 +8,8 @@ ghost use Rattle.switch_lines.specs.NewJoins.{joins_acted};
 ghost use Rattle.switch_lines.specs.OfLine.{AreRead};
 ghost use Rattle.switch_lines.specs.Alone.{finished_alone, offered_alone};
 ghost use Rattle.switch_lines.specs.Switch.{acted, all_begun, all_relinked, relinks_of, to_relink, offering_from};
-ghost use Rattle.switch_lines.specs.Waiting.{AreInPairs};
 ghost use Rattle.switch_lines.specs.Switch.{may_offer, with_end, without_joins};
 
-use crate::channel_set::END_OF_CHANNELS;
-use crate::channels::{NewJoin, SwitchChannel};
 use crate::lines::reopening::reopen;
 use crate::lines::touched::{
     begin_lines, first_to_relink, offer_lines, restart_lines, settle_lines,
@@ -23,6 +20,7 @@ use arrayvec::ArrayVec;
 use link_timers::TimerId;
 use number_set::NumberSet;
 use packet_codec::logical_channel;
+use switch_joins::{END_OF_CHANNELS, NewJoin, SwitchChannel};
 
 /// The most packets that a link has unacknowledged.
 const MOST_PACKETS: usize = 7;
@@ -78,8 +76,8 @@ impl Lines {
         let _ = self.heed_line(routes, line);
     }
 
-    // Sets the link of a line up anew, and heeds what that tells.
-    fn relink(&mut self, routes: &Routes, line: usize)
+    /// Sets the link of a line up anew, and heeds what that tells.
+    pub fn relink(&mut self, routes: &Routes, line: usize)
         requires there { line < length self.old }
         requires read { AreRead self.old }
         ensures { self.new ≡ acted routes.now line end.relinked self.old }
@@ -93,7 +91,6 @@ impl Lines {
     /// line and of those, and offered to the links, and each line settles.
     pub fn finish(&mut self, routes: &Routes, line: usize)
         requires read { AreRead self.old }
-        requires pairs { AreInPairs (all_relinked (length self.old) routes.now self.old) }
         ensures { self.new ≡ finished_alone routes.now line self.old }
     {
         let mut concerned = ArrayVec::new();
@@ -146,7 +143,6 @@ impl Lines {
     // lines whose links took one, until the links take no more. Answers whether that was seen, in as many rounds as
     // links of at most seven packets need.
     fn relay_and_offer(&mut self, concerned: &LineList) -> bool
-        requires pairs { AreInPairs self.old }
         ensures lines { self.new ≡ offered_alone concerned.now.items self.old }
         ensures all { result ≡ true → list_any may_offer self.new ≡ false }
     {

@@ -8,10 +8,10 @@ ghost use Rattle.switch_lines.specs.NewJoins.{joins_of_note, joins_heeded};
 ghost use Rattle.switch_lines.specs.OfLine.{notes_on};
 ghost use Rattle.switch_lines.specs.Switch.{heed, notes_heeded, with_end};
 
-use crate::channels::{NewJoin, SwitchChannel};
 use crate::lines::Lines;
 use address_routes::Routes;
 use packet_layer::LayerNote;
+use switch_joins::{NewJoin, SwitchChannel};
 
 impl Lines {
     // Heeds all that the end of a line tells, and answers the first call that is joined then, if one is.

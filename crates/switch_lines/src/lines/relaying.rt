@@ -1,16 +1,15 @@
 //! The relay between the two legs of a join (X.25 4.3).
-ghost use Rattle.std.specs.Prelude.{◌≡◌, ◌<◌, Some, length, slice_get};
+ghost use Rattle.std.specs.Prelude.{◌≡◌, ◌<◌, None, Some, length, slice_get};
 ghost use Rattle.std.specs.Bool.{OnFalse, OnTrue};
 ghost use Rattle.switch_lines.specs.OfLine.{MovesFront};
 ghost use Rattle.switch_lines.specs.Alone.{relayed_alone};
 ghost use Rattle.switch_lines.specs.Lines.{joined_at, front_at};
-ghost use Rattle.switch_lines.specs.Waiting.{other_at, AreInPairs, IsStuck};
+ghost use Rattle.switch_lines.specs.Waiting.{other_at, IsStuck};
 ghost use Rattle.switch_lines.specs.Relay.{moved, relayed, most_moves, relayed_from, both_legs, legs_at, places_of};
 
-use crate::channels::SwitchChannel;
-use crate::direction::Change;
 use crate::lines::Lines;
 use packet_layer::{Request, TakenBuf};
+use switch_joins::{Change, SwitchChannel};
 
 /// The most that waits on a leg: a queue of eight packets, and an interrupt.
 const MOST_WAITING: usize = 9;
@@ -89,24 +88,38 @@ impl Lines {
         self.to_relay.remove(other);
     }
 
+    // A channel that is not joined is not to be relayed.
+    fn forget(&mut self, place: SwitchChannel)
+        requires { other_at self.old place ≡ None }
+        ensures { self.new ≡ self.old }
+    {
+        self.to_relay.remove(place);
+    }
+
+    // Whether a channel is joined to another one.
+    fn is_joined_to(&self, place: SwitchChannel, other: SwitchChannel) -> bool
+        ensures { OnTrue result (other_at self.now place ≡ Some other) }
+    {
+        self.other(place) == Some(other)
+    }
+
     // All that waits on a joined channel and on the other leg of its join goes on.
     fn relay_join(&mut self, place: SwitchChannel)
-        requires pairs { AreInPairs self.old }
         ensures { self.new ≡ relayed_from (both_legs (joined_at self.old place) place) self.old }
     {
         let Some(other) = self.other(place) else {
+            self.forget(place);
             return;
         };
         let all = self.relay_channel(place);
         let all_back = self.relay_channel(other);
-        if all && all_back {
+        if all && all_back && self.is_joined_to(other, place) {
             self.rest_join(place, other);
         }
     }
 
     // The same of all joined channels of a line: those that are to be relayed are all of which anything can go on.
     fn relay_line(&mut self, line: usize)
-        requires pairs { AreInPairs self.old }
         ensures { self.new ≡ relayed_from (legs_at (places_of line (slice_get self.old line)) self.old) self.old }
     {
         if line < self.lines.len() {
@@ -121,7 +134,6 @@ impl Lines {
 
     /// All that waits on the joins of these lines goes to the other leg, as far as that one takes it.
     pub(super) fn relay_lines(&mut self, lines: &[usize])
-        requires pairs { AreInPairs self.old }
         ensures { self.new ≡ relayed_alone lines.now self.old }
     {
         for line in lines {

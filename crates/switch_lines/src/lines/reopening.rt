@@ -1,15 +1,14 @@
 //! Channels that may take again what they refused.
 ghost use Rattle.std.specs.Prelude.{◌≡◌, ℕ, ◌<◌, true, false};
 ghost use Rattle.number_set.specs.NumberSet as numbers;
-ghost use Rattle.switch_lines.specs.ChannelSet.{has, is_small};
+ghost use Rattle.switch_joins.specs.ChannelSet.{has, is_small};
 ghost use Rattle.switch_lines.specs.Pooled.{plain};
 ghost use Rattle.switch_lines.specs.Waiting.{NothingElseMoves};
 
-use crate::channel_set::{ChannelSet, END_OF_CHANNELS};
-use crate::channels::SwitchChannel;
 use crate::line::SwitchLine;
 use crate::lines::other_of;
 use number_set::NumberSet;
+use switch_joins::{ChannelSet, END_OF_CHANNELS, SwitchChannel};
 
 // No channel of these lines is known to refuse anything: the joins of those that were are to be relayed.
 pub(super) fn reopen(

@@ -5,10 +5,9 @@ ghost use Rattle.packet_layer.specs.Packets.{Note as note};
 ghost use Rattle.switch_lines.specs.Relay.{told};
 
 use crate::causes::{far_clear_cause, far_diagnostic, far_reset_cause};
-use crate::channels::SwitchChannel;
-use crate::direction::Change;
 use crate::lines::Lines;
 use packet_layer::{Reason, Request};
+use switch_joins::{Change, SwitchChannel};
 
 impl Lines {
     // The call on a channel was accepted there.
@@ -36,10 +35,11 @@ impl Lines {
         let Some(other) = self.other(place) else {
             return;
         };
+        let trunk = self.is_trunk(place.line);
         self.set_joined(place, None);
         self.set_joined(other, None);
         let request = Request::Clear {
-            cause: far_clear_cause(reason, cause),
+            cause: far_clear_cause(trunk, reason, cause),
             diagnostic: far_diagnostic(reason, diagnostic),
         };
         self.ask(other, &request);

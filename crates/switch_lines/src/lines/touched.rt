@@ -8,12 +8,12 @@ ghost use Rattle.switch_lines.specs.Pooled.{plain, on_line, ArePooled};
 ghost use Rattle.switch_lines.specs.Switch.{with_end, without_joins};
 ghost use Rattle.switch_lines.specs.Touched.{AreThere, changed_in, offering_in, first_to_relink};
 
-use crate::config::MOST_LINES;
 use crate::line::SwitchLine;
 use crate::lines::LineList;
 use arrayvec::ArrayVec;
 use flow_window::pool::Pool;
 use number_set::NumberSet;
+use switch_joins::MOST_LINES;
 
 // Begins an event on these lines.
 pub(super) fn begin_lines(lines: &mut [SwitchLine], mut which: NumberSet)

@@ -1,5 +1,5 @@
 use Rattle.std.proofs.Common.{arith, ap}
-use Rattle.switch_lines.specs.Direction.{after}
+use Rattle.switch_joins.specs.Direction.{after}
 use Rattle.switch_lines.specs.OfLine.{kept_on}
 use Rattle.switch_lines.specs.Pooled.{PooledLine}
 use Rattle.switch_lines.proofs.Pooled.{one_changed, none_changed, joins_of_one, pooled_same}

@@ -1,5 +1,4 @@
-use Rattle.std.proofs.Common.{◌∙◌, ap, subst, sym, List}
-use Rattle.switch_lines.specs.Waiting.{AreInPairs}
+use Rattle.std.proofs.Common.{◌∙◌, ap, List}
 use Rattle.switch_lines.specs.Lines.{SwitchLine}
 use Rattle.switch_lines.specs.Switch.{to_relink}
 use Rattle.switch_lines.specs.Alone.{offered_alone}
@@ -12,8 +11,3 @@ settle-requires-clause-relinked c =
     ap (λ (ls : List SwitchLine). to_relink ls) (c.relay_and_offer-all_offered.ensures.lines
     ∙ ap (λ (ls : List SwitchLine). offered_alone concerned ls) c.relink_all.ensures.lines)
     ∙ none_to_relink c.args.routes.now concerned c.args.self.now
-
-pub relay_and_offer-all_offered-requires : goal.relay_and_offer-all_offered-requires
-relay_and_offer-all_offered-requires c = record {
-  pairs = subst (λ (ls : List SwitchLine). AreInPairs ls) (sym c.relink_all.ensures.lines) c.requires.pairs;
-}

@@ -3,9 +3,9 @@ use Rattle.std.specs.Prelude.{Option}
 use Rattle.packet_layer.specs.TakenView.{maybe_front}
 use Rattle.switch_lines.specs.Lines.{SwitchLine, front_of_line}
 use Rattle.switch_lines.specs.Pooled.{plain}
-use Rattle.switch_lines.proofs.Changing.{not_there}
 use Rattle.switch_lines.proofs.Pooled.{one_seen, plain_length, serves_one}
 use Rattle.switch_lines.proofs.lines.Lines.front.Goals as goal
+use Rattle.switch_joins.proofs.Slots.{get_outside}
 
 pub front-requires : goal.front-requires
 front-requires c =
@@ -23,4 +23,4 @@ pub returns-else-place-len : goal.returns-else-place-len
 returns-else-place-len c =
     let long = plain_length c.self.inside.lines.items in
     rw (← c.self.view_is) (sym (ap (λ (o : Option SwitchLine). maybe_front (front_of_line o c.args.place.channel))
-    (not_there (plain c.self.inside.lines.items) c.args.place.line (omega (arith, long)))))
+    (get_outside (plain c.self.inside.lines.items) c.args.place.line (omega (arith, long)))))

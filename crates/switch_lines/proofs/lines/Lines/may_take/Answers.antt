@@ -5,9 +5,9 @@ use Rattle.packet_channel.specs.declared.taken.Front.{Front}
 use Rattle.switch_lines.specs.Lines.{SwitchLine}
 use Rattle.switch_lines.specs.OfLine.{taken_on, taken_on_line}
 use Rattle.switch_lines.specs.Pooled.{PooledLine, plain}
-use Rattle.switch_lines.proofs.Changing.{not_there}
 use Rattle.switch_lines.proofs.Pooled.{one_seen, plain_length}
 use Rattle.switch_lines.proofs.lines.Lines.may_take.Goals as goal
+use Rattle.switch_joins.proofs.Slots.{get_outside}
 
 pub returns-in_default : goal.returns-in_default
 returns-in_default c =
@@ -16,7 +16,7 @@ returns-in_default c =
     let same = ap (λ (ps : List PooledLine). length ps) c.deref.ensures.value in
     let beyond = ltb-false c.args.place.line (length c.deref.result.now) (sym c.in_default.ensures.lookup.0) in
     rw (← c.self.view_is) (sym (ap (λ (o : Option SwitchLine). taken_on o c.args.place.channel c.args.front)
-    (not_there (plain items) c.args.place.line (omega (arith, long, same, beyond)))))
+    (get_outside (plain items) c.args.place.line (omega (arith, long, same, beyond)))))
 
 pub returns-in-Interrupt : goal.returns-in-Interrupt
 returns-in-Interrupt c =

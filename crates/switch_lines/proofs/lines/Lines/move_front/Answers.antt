@@ -7,12 +7,12 @@ use Rattle.packet_layer.specs.TakenView.{taken_in, buffers_in}
 use Rattle.packet_layer.specs.Traffic.{Taken as TakenValue}
 use Rattle.packet_layer.specs.Traffic.Taken.{TakenPacket}
 use Rattle.packet_end.specs.PacketEnd.{asked}
-use Rattle.switch_lines.specs.Direction.{carried}
+use Rattle.switch_joins.specs.Direction.{carried}
 use Rattle.switch_lines.specs.Lines.{SwitchLine, ask, front_of_line}
 use Rattle.switch_lines.specs.OfLine.{MovesFront, kept_at}
 use Rattle.switch_lines.specs.Pooled.{plain}
 use Rattle.switch_lines.specs.Switch.{with_end}
-use Rattle.switch_lines.proofs.Pooled.{one_changed, one_seen, one_touched, plain_length, handed_out, handed_in, none_in_hand, is_in_hand}
+use Rattle.switch_lines.proofs.Pooled.{one_changed, one_seen, one_touched, seen_within, handed_out, handed_in, none_in_hand, is_in_hand}
 use Rattle.switch_lines.proofs.Touched.{count_kept, count_written}
 use Rattle.switch_lines.specs.Waiting.{other_at}
 use Rattle.switch_lines.proofs.Calmer.{request_apart, sending_calm}
@@ -21,24 +21,22 @@ use Rattle.switch_lines.proofs.lines.Lines.move_front.Goals as goal
 
 pub invariant_of-self : goal.invariant_of-self
 invariant_of-self c =
-    let same = ap (λ (ls : List SwitchLine). length ls) c.self.view_is in
     let xs = c.self.inside.lines.items in
-    let long = plain_length xs in
-    let less : c.args.place.line < length xs = omega (arith, same, long, c.requires.there) in
+    let within = seen_within xs c.args.self.now c.args.place.line c.self.view_is c.requires.there in
     let n = c.args.place.line in
     let new = c.take_buf.new.self in
     record {
       most = count_kept xs n 64 new c.self.invariant.most;
-      rest = one_touched c.self.inside.touched c.insert.new.self c.self.inside.untaken xs n new less c.insert.ensures
+      rest = one_touched c.self.inside.touched c.insert.new.self c.self.inside.untaken xs n new within c.insert.ensures
           c.self.invariant.rest;
       moves = one_stirred c.self.inside.to_relay c.insert_join.new.self c.self.inside.refusing
           (with_end (λ e. asked e c.args.place.channel Taking)) xs xs n c.args.place.channel (Some c.args.other)
-          c.index_mut.result.now new less c.index_mut.ensures.value c.take_buf.ensures.line refl
+          c.index_mut.result.now new within c.index_mut.ensures.value c.take_buf.ensures.line refl
           (sym c.requires.joined ∙ ap (λ (ls : List SwitchLine). other_at ls c.args.place) (sym c.self.view_is))
           c.insert_join.ensures (λ l d. refl)
           (λ l d small apart. request_apart l.end.layer c.args.place.channel d Taking apart) c.self.invariant.moves;
       pooled = none_in_hand c.self.inside.pool _ (handed_out c.self.inside.pool xs n c.index_mut.result.now new []
-          c.self.invariant.pooled less c.index_mut.ensures.value
+          c.self.invariant.pooled within c.index_mut.ensures.value
           (λ w. c.in-Some-Interrupt.ensures.held w
           ∙ ap (λ x. weight w new.held + weight w (buffers_in x)) c.in-Some-Interrupt.field-0-is)
           c.take_buf.ensures.share c.take_buf.ensures.within);
@@ -46,58 +44,52 @@ invariant_of-self c =
 
 pub invariant_of-self-in-None : goal.invariant_of-self-in-None
 invariant_of-self-in-None c =
-    let same = ap (λ (ls : List SwitchLine). length ls) c.self.view_is in
     let xs = c.self.inside.lines.items in
-    let long = plain_length xs in
-    let less : c.args.place.line < length xs = omega (arith, same, long, c.requires.there) in
+    let within = seen_within xs c.args.self.now c.args.place.line c.self.view_is c.requires.there in
     let n = c.args.place.line in
     let new = c.take_buf.new.self in
     record {
       most = count_kept xs n 64 new c.self.invariant.most;
-      rest = one_touched c.self.inside.touched c.insert.new.self c.self.inside.untaken xs n new less c.insert.ensures
+      rest = one_touched c.self.inside.touched c.insert.new.self c.self.inside.untaken xs n new within c.insert.ensures
           c.self.invariant.rest;
       moves = one_stirred c.self.inside.to_relay c.insert_join.new.self c.self.inside.refusing
           (with_end (λ e. asked e c.args.place.channel Taking)) xs xs n c.args.place.channel (Some c.args.other)
-          c.index_mut.result.now new less c.index_mut.ensures.value c.take_buf.ensures.line refl
+          c.index_mut.result.now new within c.index_mut.ensures.value c.take_buf.ensures.line refl
           (sym c.requires.joined ∙ ap (λ (ls : List SwitchLine). other_at ls c.args.place) (sym c.self.view_is))
           c.insert_join.ensures (λ l d. refl)
           (λ l d small apart. request_apart l.end.layer c.args.place.channel d Taking apart) c.self.invariant.moves;
       pooled = none_in_hand c.self.inside.pool _ (handed_out c.self.inside.pool xs n c.index_mut.result.now new []
-          c.self.invariant.pooled less c.index_mut.ensures.value c.in-None.ensures.held
+          c.self.invariant.pooled within c.index_mut.ensures.value c.in-None.ensures.held
           c.take_buf.ensures.share c.take_buf.ensures.within);
     }
 
 pub send_packet-requires : goal.send_packet-requires
 send_packet-requires c =
-    let same = ap (λ (ls : List SwitchLine). length ls) c.self.view_is in
     let xs = c.self.inside.lines.items in
-    let long = plain_length xs in
-    let less : c.args.place.line < length xs = omega (arith, same, long, c.requires.there) in
+    let within = seen_within xs c.args.self.now c.args.place.line c.self.view_is c.requires.there in
     let new = c.take_buf.new.self in
     is_in_hand c.self.inside.pool _ c.in-Some-Data.packet.buffer
     (handed_out c.self.inside.pool xs c.args.place.line c.index_mut.result.now new (c.in-Some-Data.packet.buffer ∷ [])
-    c.self.invariant.pooled less c.index_mut.ensures.value
+    c.self.invariant.pooled within c.index_mut.ensures.value
     (λ w. c.in-Some-Data.ensures.held w
     ∙ ap (λ x. weight w new.held + weight w (buffers_in x)) c.in-Some-Data.field-0-is)
     c.take_buf.ensures.share c.take_buf.ensures.within)
 
 pub invariant_of-self-in-Some-Data : goal.invariant_of-self-in-Some-Data
 invariant_of-self-in-Some-Data c =
-    let same = ap (λ (ls : List SwitchLine). length ls) c.self.view_is in
     let xs = c.self.inside.lines.items in
-    let long = plain_length xs in
-    let less : c.args.place.line < length xs = omega (arith, same, long, c.requires.there) in
+    let within = seen_within xs c.args.self.now c.args.place.line c.self.view_is c.requires.there in
     let n = c.args.place.line in
     let m = c.args.other.line in
     let new = c.take_buf.new.self in
     let ys = set xs n new in
     let kept = count_written xs n new in
-    let inside : c.args.other.line < length ys = omega (arith, same, long, kept, c.requires.other) in
+    let inside : c.args.other.line < length ys = omega (arith, kept, seen_within xs c.args.self.now c.args.other.line c.self.view_is c.requires.other) in
     record {
       most = count_kept ys m 64 c.send_packet.new.self (count_kept xs n 64 new c.self.invariant.most);
       rest = one_touched c.insert.new.self c.insert-in-Some-Data.new.self c.self.inside.untaken ys m c.send_packet.new.self inside
           c.insert-in-Some-Data.ensures
-          (one_touched c.self.inside.touched c.insert.new.self c.self.inside.untaken xs n new less c.insert.ensures
+          (one_touched c.self.inside.touched c.insert.new.self c.self.inside.untaken xs n new within c.insert.ensures
           c.self.invariant.rest);
       moves = one_calm c.insert_join.new.self c.self.inside.refusing
           (with_end (λ e. asked e c.args.other.channel (Sending (datum_in c.in-Some-Data.packet)))) ys m
@@ -106,14 +98,14 @@ invariant_of-self-in-Some-Data c =
           (λ l d. (refl, sending_calm l.end.layer c.args.other.channel d (TakenPacket (datum_in c.in-Some-Data.packet))))
           (one_stirred c.self.inside.to_relay c.insert_join.new.self c.self.inside.refusing
           (with_end (λ e. asked e c.args.place.channel Taking)) xs xs n c.args.place.channel (Some c.args.other)
-          c.index_mut.result.now new less c.index_mut.ensures.value c.take_buf.ensures.line refl
+          c.index_mut.result.now new within c.index_mut.ensures.value c.take_buf.ensures.line refl
           (sym c.requires.joined ∙ ap (λ (ls : List SwitchLine). other_at ls c.args.place) (sym c.self.view_is))
           c.insert_join.ensures (λ l d. refl)
           (λ l d small apart. request_apart l.end.layer c.args.place.channel d Taking apart) c.self.invariant.moves);
       pooled = handed_in c.self.inside.pool c.send_packet.new.pool ys m c.index_mut-in-Some-Data.result.now
           c.send_packet.new.self c.in-Some-Data.packet.buffer
           (handed_out c.self.inside.pool xs n c.index_mut.result.now new (c.in-Some-Data.packet.buffer ∷ [])
-          c.self.invariant.pooled less c.index_mut.ensures.value
+          c.self.invariant.pooled within c.index_mut.ensures.value
           (λ w. c.in-Some-Data.ensures.held w
           ∙ ap (λ x. weight w new.held + weight w (buffers_in x)) c.in-Some-Data.field-0-is)
           c.take_buf.ensures.share c.take_buf.ensures.within)
@@ -123,28 +115,24 @@ invariant_of-self-in-Some-Data c =
 
 pub returns-in-None : goal.returns-in-None
 returns-in-None c =
-    let same = ap (λ (ls : List SwitchLine). length ls) c.self.view_is in
     let xs = c.self.inside.lines.items in
-    let long = plain_length xs in
-    let less : c.args.place.line < length xs = omega (arith, same, long, c.requires.there) in
+    let within = seen_within xs c.args.self.now c.args.place.line c.self.view_is c.requires.there in
     let n = c.args.place.line in
-    let seen = one_seen xs c.args.self.now n c.index_mut.result.now c.self.view_is less c.index_mut.ensures.value in
+    let seen = one_seen xs c.args.self.now n c.index_mut.result.now c.self.view_is within c.index_mut.ensures.value in
     let none = c.in-None.ensures.taken ∙ ap (λ (o : Option SwitchLine). front_of_line o c.args.place.channel) seen in
     subst (λ (o : Option TakenValue). MovesFront o c.args.place c.args.other c.args.self.now (plain (set xs n c.take_buf.new.self)))
     none tt
 
 pub returns-in-Some-Interrupt : goal.returns-in-Some-Interrupt
 returns-in-Some-Interrupt c =
-    let same = ap (λ (ls : List SwitchLine). length ls) c.self.view_is in
     let xs = c.self.inside.lines.items in
-    let long = plain_length xs in
-    let less : c.args.place.line < length xs = omega (arith, same, long, c.requires.there) in
+    let within = seen_within xs c.args.self.now c.args.place.line c.self.view_is c.requires.there in
     let n = c.args.place.line in
     let q = c.args.other in
     let new = c.take_buf.new.self in
-    let seen = one_seen xs c.args.self.now n c.index_mut.result.now c.self.view_is less c.index_mut.ensures.value in
+    let seen = one_seen xs c.args.self.now n c.index_mut.result.now c.self.view_is within c.index_mut.ensures.value in
     let taken = one_changed (with_end (λ e. asked e c.args.place.channel Taking)) xs c.args.self.now n c.index_mut.result.now
-    new c.self.view_is less c.index_mut.ensures.value c.take_buf.ensures.line in
+    new c.self.view_is within c.index_mut.ensures.value c.take_buf.ensures.line in
     let i = c.in-Some-Interrupt.interrupt in
     let front = ap (λ x. Some (taken_in x)) (sym c.in-Some-Interrupt.field-0-is) ∙ c.in-Some-Interrupt.ensures.taken
     ∙ ap (λ (o : Option SwitchLine). front_of_line o c.args.place.channel) seen in
@@ -159,21 +147,19 @@ returns-in-Some-Interrupt c =
 
 pub returns-in-Some-Data : goal.returns-in-Some-Data
 returns-in-Some-Data c =
-    let same = ap (λ (ls : List SwitchLine). length ls) c.self.view_is in
     let xs = c.self.inside.lines.items in
-    let long = plain_length xs in
-    let less : c.args.place.line < length xs = omega (arith, same, long, c.requires.there) in
+    let within = seen_within xs c.args.self.now c.args.place.line c.self.view_is c.requires.there in
     let n = c.args.place.line in
     let q = c.args.other in
     let new = c.take_buf.new.self in
-    let seen = one_seen xs c.args.self.now n c.index_mut.result.now c.self.view_is less c.index_mut.ensures.value in
+    let seen = one_seen xs c.args.self.now n c.index_mut.result.now c.self.view_is within c.index_mut.ensures.value in
     let taken = one_changed (with_end (λ e. asked e c.args.place.channel Taking)) xs c.args.self.now n c.index_mut.result.now
-    new c.self.view_is less c.index_mut.ensures.value c.take_buf.ensures.line in
+    new c.self.view_is within c.index_mut.ensures.value c.take_buf.ensures.line in
     let p = c.in-Some-Data.packet in
     let d = datum_in p in
     let ys = set xs n new in
     let kept = count_written xs n new in
-    let inside : c.args.other.line < length ys = omega (arith, same, long, kept, c.requires.other) in
+    let inside : c.args.other.line < length ys = omega (arith, kept, seen_within xs c.args.self.now c.args.other.line c.self.view_is c.requires.other) in
     let front = ap (λ x. Some (taken_in x)) (sym c.in-Some-Data.field-0-is) ∙ c.in-Some-Data.ensures.taken
     ∙ ap (λ (o : Option SwitchLine). front_of_line o c.args.place.channel) seen in
     let sent = one_changed (with_end (λ e. asked e q.channel (Sending d))) ys (plain ys) q.line

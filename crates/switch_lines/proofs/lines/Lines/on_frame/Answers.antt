@@ -1,10 +1,10 @@
-use Rattle.std.proofs.Common.{◌<◌, ◌∙◌, ap, arith, length, List, Option}
+use Rattle.std.proofs.Common.{◌∙◌, ap, arith, List, Option}
 use Rattle.packet_end.specs.PacketEnd as end
 use Rattle.switch_lines.specs.Lines.{SwitchLine}
 use Rattle.std.specs.Prelude.{slice_get}
 use Rattle.switch_lines.specs.NewJoins.{joins_heeded}
 use Rattle.switch_lines.specs.Switch.{notes_heeded, notes_of, with_end, quieted}
-use Rattle.switch_lines.proofs.Pooled.{one_changed, one_seen, one_touched, plain_length, pooled_set, serves_one}
+use Rattle.switch_lines.proofs.Pooled.{one_changed, one_seen, one_touched, seen_within, pooled_set, serves_one}
 use Rattle.switch_lines.proofs.Touched.{count_kept}
 use Rattle.std.proofs.Common.{refl}
 use Rattle.switch_lines.proofs.Calmer.{received_calm}
@@ -13,9 +13,7 @@ use Rattle.switch_lines.proofs.lines.Lines.on_frame.Goals as goal
 
 pub returns-clause-lines : goal.returns-clause-lines
 returns-clause-lines c =
-    let same = ap (λ (ls : List SwitchLine). length ls) c.self.view_is in
-    let long = plain_length c.self.inside.lines.items in
-    let within : c.args.line < length c.self.inside.lines.items = omega (arith, same, long, c.requires.there) in
+    let within = seen_within c.self.inside.lines.items c.args.self.now c.args.line c.self.view_is c.requires.there in
     c.heed_line.ensures.lines
     ∙ ap (λ (ls : List SwitchLine). notes_heeded c.args.routes.now c.args.line ls)
     (one_changed (with_end (λ e. end.received (quieted e) c.args.octets.now)) c.self.inside.lines.items
@@ -24,9 +22,7 @@ returns-clause-lines c =
 
 pub returns-clause-join : goal.returns-clause-join
 returns-clause-join c =
-    let same = ap (λ (ls : List SwitchLine). length ls) c.self.view_is in
-    let long = plain_length c.self.inside.lines.items in
-    let within : c.args.line < length c.self.inside.lines.items = omega (arith, same, long, c.requires.there) in
+    let within = seen_within c.self.inside.lines.items c.args.self.now c.args.line c.self.view_is c.requires.there in
     c.heed_line.ensures.join
     ∙ ap (λ (ls : List SwitchLine). slice_get (joins_heeded c.args.routes.now c.args.line ls) 0)
     (one_changed (with_end (λ e. end.received (quieted e) c.args.octets.now)) c.self.inside.lines.items
@@ -35,39 +31,36 @@ returns-clause-join c =
 
 pub invariant_of-self : goal.invariant_of-self
 invariant_of-self c =
-    let same = ap (λ (ls : List SwitchLine). length ls) c.self.view_is in
-    let long = plain_length c.self.inside.lines.items in
+    let within = seen_within c.self.inside.lines.items c.args.self.now c.args.line c.self.view_is c.requires.there in
     let xs = c.self.inside.lines.items in
     record {
       most = count_kept xs c.args.line 64 c.on_frame.new.self c.self.invariant.most;
       rest = one_touched c.self.inside.touched c.insert.new.self c.self.inside.untaken xs c.args.line
-          c.on_frame.new.self (omega (arith, same, long, c.requires.there)) c.insert.ensures c.self.invariant.rest;
+          c.on_frame.new.self within c.insert.ensures c.self.invariant.rest;
       moves = one_stirred c.self.inside.to_relay c.insert_join.new.self c.self.inside.refusing
           (with_end (λ e. end.received (quieted e) c.args.octets.now)) xs c.deref.result.now
           c.args.line c.named_in-channel.result c.other_of.result c.index_mut.result.now c.on_frame.new.self
-          (omega (arith, same, long, c.requires.there))
+          within
           c.index_mut.ensures.value c.on_frame.ensures.line c.deref.ensures.value c.other_of.ensures c.insert_join.ensures
           (λ l d. refl)
           (λ l d small apart. received_calm l.end c.args.octets.now d (λ i. omega (arith, c.type_inv.octets i))
           (λ named. apart (c.named_in-channel.ensures d named small)))
           c.self.invariant.moves;
       pooled = pooled_set c.self.inside.pool c.on_frame.new.pool c.self.inside.lines.items c.args.line c.index_mut.result.now c.on_frame.new.self
-          c.self.invariant.pooled (omega (arith, same, long, c.requires.there)) c.index_mut.ensures.value c.on_frame.ensures.pool c.on_frame.ensures.share
+          c.self.invariant.pooled within c.index_mut.ensures.value c.on_frame.ensures.pool c.on_frame.ensures.share
           c.on_frame.ensures.within;
     }
 
 pub on_frame-requires-clause-pool : goal.on_frame-requires-clause-pool
 on_frame-requires-clause-pool c =
-    let same = ap (λ (ls : List SwitchLine). length ls) c.self.view_is in
-    let long = plain_length c.self.inside.lines.items in
-    serves_one c.self.inside.pool c.self.inside.lines.items c.args.line c.index_mut.result.now c.self.invariant.pooled (omega (arith, same, long, c.requires.there))
+    let within = seen_within c.self.inside.lines.items c.args.self.now c.args.line c.self.view_is c.requires.there in
+    serves_one c.self.inside.pool c.self.inside.lines.items c.args.line c.index_mut.result.now c.self.invariant.pooled within
     c.index_mut.ensures.value
 
 pub on_frame-requires-clause-read : goal.on_frame-requires-clause-read
 on_frame-requires-clause-read c =
-    let same = ap (λ (ls : List SwitchLine). length ls) c.self.view_is in
-    let long = plain_length c.self.inside.lines.items in
+    let within = seen_within c.self.inside.lines.items c.args.self.now c.args.line c.self.view_is c.requires.there in
     ap (λ (o : Option SwitchLine). notes_of o)
     (one_seen c.self.inside.lines.items c.args.self.now c.args.line c.index_mut.result.now c.self.view_is
-    (omega (arith, same, long, c.requires.there)) c.index_mut.ensures.value)
+    within c.index_mut.ensures.value)
     ∙ c.requires.read c.args.line

@@ -1,12 +1,8 @@
--- What is left of the rounds makes the same lines as all of them did at the beginning, and the joins are in pairs.
+-- What is left of the rounds makes the same lines as all of them did at the beginning.
 use Rattle.std.proofs.Common.{◌≡◌, ◌-◌}
-use Rattle.switch_lines.specs.Waiting.{AreInPairs}
 use Rattle.switch_lines.specs.Alone.{offered_alone}
 use Rattle.switch_lines.proofs.Ending.{rounds_after}
 use Rattle.switch_lines.proofs.lines.Lines.relay_and_offer.Given as goal
 
 abbrev pub invariant-loop : goal.invariant-loop
-invariant-loop l = record {
-  left : rounds_after (l.end - l.counter) l.self ≡ offered_alone l.concerned.items l.fn.self;
-  pairs : AreInPairs l.self;
-}
+invariant-loop l = rounds_after (l.end - l.counter) l.self ≡ offered_alone l.concerned.items l.fn.self

@@ -20,10 +20,7 @@ rest_join-requires-clause-joined c =
     ∙ sym c.in-Some.ensures
 
 pub rest_join-requires-clause-back : goal.rest_join-requires-clause-back
-rest_join-requires-clause-back c =
-    still_joined c.args.self.now c.relay_channel-all.new.self c.relay_channel-all_back.new.self c.args.place
-    c.in-Some.other c.in-Some.other c.relay_channel-all.ensures.lines c.relay_channel-all_back.ensures.lines
-    ∙ c.requires.pairs c.args.place c.in-Some.other (sym c.in-Some.ensures)
+rest_join-requires-clause-back c = c.if-is_joined_to.ensures
 
 pub rest_join-requires-clause-stuck : goal.rest_join-requires-clause-stuck
 rest_join-requires-clause-stuck c =

@@ -1,11 +1,10 @@
 use Rattle.std.proofs.Common.{◌-◌, ◌+◌, ap, refl, subst, sym, ◌∙◌, arith, length, List}
-use Rattle.switch_lines.specs.Lines.{SwitchChannel, SwitchLine, joined_at}
-use Rattle.switch_lines.specs.Relay.{both_legs}
+use Rattle.switch_lines.specs.Lines.{SwitchLine}
 use Rattle.switch_lines.specs.Pooled.{plain}
-use Rattle.switch_lines.specs.Waiting.{AreInPairs, NothingElseMoves}
+use Rattle.switch_lines.specs.Waiting.{NothingElseMoves}
 use Rattle.switch_lines.proofs.Pooled.{plain_get, plain_length}
 use Rattle.switch_lines.proofs.Legs.{from_channel, this_channel, left_out, none_left_over, whole_line, no_line}
-use Rattle.switch_lines.proofs.Waiting.{unmoved_join, pairs_stay}
+use Rattle.switch_lines.proofs.Waiting.{unmoved_join}
 use Rattle.switch_lines.proofs.lines.Lines.relay_line.Goals as goal
 
 pub loop-channel-init : goal.loop-channel-init
@@ -18,7 +17,6 @@ loop-channel-init c =
           (plain_get items c.args.line c.index.result.now c.index.ensures) c.channels-end.ensures.count refl;
       least = omega arith;
       most = omega arith;
-      pairs = c.requires.pairs;
     }
 
 pub loop-channel-preserved : goal.loop-channel-preserved
@@ -32,18 +30,16 @@ loop-channel-preserved c =
     let ls = c.loop-channel.self in
     let i = c.loop-channel.invariant in
     let found = c.in-Some.ensures in
-    let this : SwitchChannel = record { line = n; channel = channel } in
     let moves = subst (λ (ks : List SwitchLine). NothingElseMoves s r ks) c.self-in-loop-channel.view_is
     c.self-in-loop-channel.invariant.moves in
     record {
       left = ap (λ (ms : List SwitchLine). from_channel n (channel + 1) end ms) c.relay_join.ensures
           ∙ this_channel n channel end ls found.1
           ∙ sym (left_out (channel - next) n next channel end ls (omega (arith, found.0)) (omega (arith, found.1))
-          (λ e least less. unmoved_join s r ls (record { line = n; channel = e }) moves i.pairs (found.2 e least less)))
+          (λ e least less. unmoved_join s r ls (record { line = n; channel = e }) moves (found.2 e least less)))
           ∙ i.left;
       least = omega arith;
       most = omega (arith, found.1);
-      pairs = subst (λ (ms : List SwitchLine). AreInPairs ms) (sym c.relay_join.ensures) (pairs_stay (both_legs (joined_at ls this) this) ls i.pairs);
     }
 
 pub returns-in_default : goal.returns-in_default
@@ -58,7 +54,7 @@ returns-in_default c =
     let moves = subst (λ (ks : List SwitchLine). NothingElseMoves s r ks) c.self-in-loop-channel.view_is
     c.self-in-loop-channel.invariant.moves in
     sym (left_out (end - next) n next end end ls (omega (arith, i.most)) (omega arith)
-    (λ e least less. unmoved_join s r ls (record { line = n; channel = e }) moves i.pairs
+    (λ e least less. unmoved_join s r ls (record { line = n; channel = e }) moves
     (c.in_default.ensures e least less)) ∙ none_left_over n end ls) ∙ i.left
 
 pub returns-else-line-len : goal.returns-else-line-len

@@ -2,7 +2,6 @@
 use Rattle.std.proofs.Common.{◌≡◌, ◌≤◌, ◌-◌}
 use Rattle.std.specs.Prelude.{slice_get}
 use Rattle.switch_lines.specs.Relay.{relayed_from, legs_at, places_of}
-use Rattle.switch_lines.specs.Waiting.{AreInPairs}
 use Rattle.switch_lines.proofs.Legs.{from_channel}
 use Rattle.switch_lines.proofs.lines.Lines.relay_line.Given as goal
 
@@ -12,7 +11,6 @@ invariant-loop-channel l = record {
       ≡ relayed_from (legs_at (places_of l.line (slice_get l.fn.self l.line)) l.fn.self) l.fn.self;
   least : 1 ≤ l.next;
   most : l.next ≤ l.end;
-  pairs : AreInPairs l.self;
 }
 
 abbrev pub decreases-loop-channel : goal.decreases-loop-channel

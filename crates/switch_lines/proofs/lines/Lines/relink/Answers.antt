@@ -1,8 +1,8 @@
-use Rattle.std.proofs.Common.{◌<◌, ◌∙◌, ap, arith, length, List, Option}
+use Rattle.std.proofs.Common.{◌∙◌, ap, List, Option}
 use Rattle.packet_end.specs.PacketEnd as end
 use Rattle.switch_lines.specs.Lines.{SwitchLine}
 use Rattle.switch_lines.specs.Switch.{notes_heeded, notes_of, with_end, quieted}
-use Rattle.switch_lines.proofs.Pooled.{one_changed, one_seen, one_touched, plain_length, pooled_set, serves_one}
+use Rattle.switch_lines.proofs.Pooled.{one_changed, one_seen, one_touched, seen_within, pooled_set, serves_one}
 use Rattle.switch_lines.proofs.Touched.{count_kept}
 use Rattle.std.proofs.Common.{refl}
 use Rattle.switch_lines.proofs.Calmer.{relinked_calm}
@@ -11,9 +11,7 @@ use Rattle.switch_lines.proofs.lines.Lines.relink.Goals as goal
 
 pub returns : goal.returns
 returns c =
-    let same = ap (λ (ls : List SwitchLine). length ls) c.self.view_is in
-    let long = plain_length c.self.inside.lines.items in
-    let within : c.args.line < length c.self.inside.lines.items = omega (arith, same, long, c.requires.there) in
+    let within = seen_within c.self.inside.lines.items c.args.self.now c.args.line c.self.view_is c.requires.there in
     c.heed_line.ensures.lines
     ∙ ap (λ (ls : List SwitchLine). notes_heeded c.args.routes.now c.args.line ls)
     (one_changed (with_end (λ e. end.relinked (quieted e))) c.self.inside.lines.items c.args.self.now c.args.line
@@ -22,33 +20,30 @@ returns c =
 
 pub invariant_of-self : goal.invariant_of-self
 invariant_of-self c =
-    let same = ap (λ (ls : List SwitchLine). length ls) c.self.view_is in
-    let long = plain_length c.self.inside.lines.items in
+    let within = seen_within c.self.inside.lines.items c.args.self.now c.args.line c.self.view_is c.requires.there in
     let xs = c.self.inside.lines.items in
     record {
       most = count_kept xs c.args.line 64 c.relink.new.self c.self.invariant.most;
       rest = one_touched c.self.inside.touched c.insert.new.self c.self.inside.untaken xs c.args.line c.relink.new.self
-          (omega (arith, same, long, c.requires.there)) c.insert.ensures c.self.invariant.rest;
+          within c.insert.ensures c.self.invariant.rest;
       moves = one_calm c.self.inside.to_relay c.self.inside.refusing (with_end (λ e. end.relinked (quieted e))) xs
-          c.args.line c.index_mut.result.now c.relink.new.self (omega (arith, same, long, c.requires.there))
+          c.args.line c.index_mut.result.now c.relink.new.self within
           c.index_mut.ensures.value c.relink.ensures.line (λ l d. (refl, relinked_calm l.end d)) c.self.invariant.moves;
       pooled = pooled_set c.self.inside.pool c.relink.new.pool c.self.inside.lines.items c.args.line c.index_mut.result.now c.relink.new.self
-          c.self.invariant.pooled (omega (arith, same, long, c.requires.there)) c.index_mut.ensures.value c.relink.ensures.pool c.relink.ensures.share
+          c.self.invariant.pooled within c.index_mut.ensures.value c.relink.ensures.pool c.relink.ensures.share
           c.relink.ensures.within;
     }
 
 pub relink-requires-clause-pool : goal.relink-requires-clause-pool
 relink-requires-clause-pool c =
-    let same = ap (λ (ls : List SwitchLine). length ls) c.self.view_is in
-    let long = plain_length c.self.inside.lines.items in
-    serves_one c.self.inside.pool c.self.inside.lines.items c.args.line c.index_mut.result.now c.self.invariant.pooled (omega (arith, same, long, c.requires.there))
+    let within = seen_within c.self.inside.lines.items c.args.self.now c.args.line c.self.view_is c.requires.there in
+    serves_one c.self.inside.pool c.self.inside.lines.items c.args.line c.index_mut.result.now c.self.invariant.pooled within
     c.index_mut.ensures.value
 
 pub relink-requires-clause-read : goal.relink-requires-clause-read
 relink-requires-clause-read c =
-    let same = ap (λ (ls : List SwitchLine). length ls) c.self.view_is in
-    let long = plain_length c.self.inside.lines.items in
+    let within = seen_within c.self.inside.lines.items c.args.self.now c.args.line c.self.view_is c.requires.there in
     ap (λ (o : Option SwitchLine). notes_of o)
     (one_seen c.self.inside.lines.items c.args.self.now c.args.line c.index_mut.result.now c.self.view_is
-    (omega (arith, same, long, c.requires.there)) c.index_mut.ensures.value)
+    within c.index_mut.ensures.value)
     ∙ c.requires.read c.args.line

@@ -1,9 +1,9 @@
 use Rattle.std.proofs.Common.{◌≡◌, ◌∙◌, refl, subst, sym, true, List, Some}
 use Rattle.packet_layer.specs.Traffic.{Taken}
-use Rattle.switch_lines.specs.ChannelSet.{has, is_small}
+use Rattle.switch_joins.specs.ChannelSet.{has, is_small}
 use Rattle.switch_lines.specs.Lines.{SwitchLine, same_place, front_at}
 use Rattle.switch_lines.specs.Waiting.{NothingElseMoves}
-use Rattle.switch_lines.proofs.ChannelSets.{still_in, added_in, taken_out}
+use Rattle.switch_joins.proofs.ChannelSets.{still_in, added_in, taken_out}
 use Rattle.switch_lines.proofs.Moving.{place_same, shown_waits}
 use Rattle.switch_lines.proofs.Waiting.{stopped}
 use Rattle.switch_lines.proofs.lines.Lines.rest_join.Goals as goal

@@ -1,6 +1,8 @@
-use Rattle.std.proofs.Common.{arith, ap}
-use Rattle.switch_lines.specs.Lines.{with_nth_joined}
-use Rattle.switch_lines.specs.Pooled.{PooledLine}
+use Rattle.std.proofs.Common.{arith, ap, subst, ◌∙◌, Option, List}
+use Rattle.switch_joins.specs.ChannelSet.{IsApart}
+use Rattle.switch_lines.specs.Lines.{SwitchChannel, with_nth_joined}
+use Rattle.switch_lines.specs.Pooled.{PooledLine, plain}
+use Rattle.switch_lines.specs.Waiting.{other_at}
 use Rattle.switch_lines.proofs.Pooled.{one_changed, none_changed, joins_of_one, pooled_same}
 use Rattle.switch_lines.proofs.Touched.{count_kept}
 use Rattle.switch_lines.proofs.Moving.{one_joined}
@@ -29,11 +31,19 @@ invariant_of-self c =
       rest = joins_of_one c.self.inside.touched c.self.inside.untaken xs n c.index_mut.result.now new (omega arith)
           c.index_mut.ensures.value
           (ap (λ (p : PooledLine). p.line.end) c.set_joined.ensures.line) c.self.invariant.rest;
-      moves = one_joined c.self.inside.to_relay c.insert_join.new.self c.self.inside.refusing xs n c.args.place.channel
+      moves = one_joined c.self.inside.to_relay c.insert_join-then-place-len.new.self c.self.inside.refusing xs n c.args.place.channel
           c.args.joined c.joined_to.result c.index_mut.result.now new (omega arith)
           (omega (arith, c.self.invariant.most)) c.index_mut.ensures.value
           (ap (λ (p : PooledLine). p.line) c.set_joined.ensures.line) c.set_joined.ensures.few c.joined_to.ensures
-          c.insert_join.ensures c.self.invariant.moves;
+          (λ p out.
+          let second = c.insert_join-then-place-len.ensures p out in
+          let first = c.insert_join.ensures p second.0 in (
+            first.0,
+            subst (λ (o : Option SwitchChannel). IsApart p c.args.place o)
+                (c.other_of.ensures ∙ ap (λ (ys : List PooledLine). other_at (plain ys) c.args.place) c.deref.ensures.value) first.1,
+            second.1,
+          ))
+          c.self.invariant.moves;
       pooled = pooled_same c.self.inside.pool (λ l. record l { joined = with_nth_joined l.joined c.args.place.channel c.args.joined }) c.self.inside.lines.items c.args.place.line c.index_mut.result.now c.set_joined.new.self
           c.self.invariant.pooled (omega arith) c.index_mut.ensures.value c.set_joined.ensures.line;
     }

@@ -1,7 +1,7 @@
 -- No channel of the lines so far is known to refuse anything, and nothing else is left to relay.
 use Rattle.std.proofs.Common.{◌≡◌, true, false}
 use Rattle.number_set.specs.NumberSet as numbers
-use Rattle.switch_lines.specs.ChannelSet.{has, is_small}
+use Rattle.switch_joins.specs.ChannelSet.{has, is_small}
 use Rattle.switch_lines.specs.Lines.{SwitchChannel}
 use Rattle.switch_lines.specs.Pooled.{plain}
 use Rattle.switch_lines.specs.Waiting.{NothingElseMoves}

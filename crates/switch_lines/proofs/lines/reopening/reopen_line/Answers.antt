@@ -1,9 +1,9 @@
 use Rattle.std.proofs.Common.{◌≡◌, ◌<◌, ◌≤◌, ◌⊎◌, inl, inr, ℕ, Bool, false, true, not, ◌&&◌, ◌∙◌, ap, subst, sym, arith, Option}
 use Rattle.std.proofs.lemmas.Bool.{cases_lt}
-use Rattle.switch_lines.specs.ChannelSet.{has, is_small, IsApart}
+use Rattle.switch_joins.specs.ChannelSet.{has, is_small, IsApart}
 use Rattle.switch_lines.specs.Lines.{SwitchChannel, same_place}
 use Rattle.switch_lines.specs.Pooled.{plain}
-use Rattle.switch_lines.proofs.ChannelSets.{is_so_small, never_in}
+use Rattle.switch_joins.proofs.ChannelSets.{is_so_small, never_in}
 use Rattle.switch_lines.proofs.Moving.{place_same}
 use Rattle.switch_lines.proofs.Waiting.{looked_at}
 use Rattle.switch_lines.proofs.lines.reopening.reopen_line.Goals as goal

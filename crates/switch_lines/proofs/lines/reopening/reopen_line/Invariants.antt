@@ -1,6 +1,6 @@
 -- No channel below the next one is known to refuse anything, and nothing else is left to relay.
 use Rattle.std.proofs.Common.{◌≡◌, ◌<◌, ◌≤◌, ◌-◌, false}
-use Rattle.switch_lines.specs.ChannelSet.{has}
+use Rattle.switch_joins.specs.ChannelSet.{has}
 use Rattle.switch_lines.specs.Lines.{SwitchChannel}
 use Rattle.switch_lines.specs.Pooled.{plain}
 use Rattle.switch_lines.specs.Waiting.{NothingElseMoves}

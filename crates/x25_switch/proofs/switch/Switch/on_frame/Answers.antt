@@ -1,14 +1,12 @@
-use Rattle.std.proofs.Common.{◌∙◌, ap, sym, subst, arith, length, List}
+use Rattle.std.proofs.Common.{◌∙◌, ap, sym, subst, List}
 use Rattle.std.specs.Prelude.{slice_get}
 use Rattle.packet_end.specs.PacketEnd as end
 use Rattle.switch_lines.specs.Lines.{SwitchLine}
 use Rattle.switch_lines.specs.NewJoins.{joins_acted, new_joins}
 use Rattle.switch_lines.specs.OfLine.{AreRead}
-use Rattle.switch_lines.specs.Switch.{Switch, acted, all_relinked, on_frame}
-use Rattle.switch_lines.specs.Waiting.{AreInPairs}
+use Rattle.switch_lines.specs.Switch.{Switch, on_frame}
 use Rattle.switch_lines.proofs.Heeding.{begun_read, acted_read}
 use Rattle.switch_laws.specs.Events.Event.{Arrives}
-use Rattle.switch_laws.proofs.Alone.{frame_pairs}
 use Rattle.x25_switch.specs.SwitchView.{switch_of}
 use Rattle.x25_switch.proofs.Holding.{of_lines, holds_after, frame_is, frame_kept}
 use Rattle.switch_laws.proofs.NewJoins.{one_told}
@@ -18,18 +16,13 @@ pub on_frame-joined-requires-clause-read : goal.on_frame-joined-requires-clause-
 on_frame-joined-requires-clause-read c =
     subst (λ (ls : List SwitchLine). AreRead ls) (sym c.begin.ensures) (begun_read c.self.inside.lines)
 
-pub finish-requires-clause-read : goal.finish-requires-clause-read
-finish-requires-clause-read c =
-    let read : AreRead c.begin.new.self = subst (λ (ls : List SwitchLine). AreRead ls) (sym c.begin.ensures) (begun_read c.self.inside.lines) in
-    subst (λ (ls : List SwitchLine). AreRead ls) (sym c.on_frame-joined.ensures.lines)
-    (acted_read c.self.inside.routes c.args.line (λ e. end.received e c.args.octets.now) c.begin.new.self read)
-
-pub finish-requires-clause-pairs : goal.finish-requires-clause-pairs
-finish-requires-clause-pairs c =
-    let routes = c.self.inside.routes in
-    subst (λ (ls : List SwitchLine). AreInPairs (all_relinked (length ls) routes ls))
-    (sym (c.on_frame-joined.ensures.lines ∙ ap (λ (ls : List SwitchLine). acted routes c.args.line (λ e. end.received e c.args.octets.now) ls) c.begin.ensures))
-    (frame_pairs c.args.line c.args.octets.now (switch_of c.self.inside) c.self.invariant.legs c.self.invariant.holds.joins)
+pub finish-requires : goal.finish-requires
+finish-requires c = record {
+  read =
+      let read : AreRead c.begin.new.self = subst (λ (ls : List SwitchLine). AreRead ls) (sym c.begin.ensures) (begun_read c.self.inside.lines) in
+      subst (λ (ls : List SwitchLine). AreRead ls) (sym c.on_frame-joined.ensures.lines)
+      (acted_read c.self.inside.routes c.args.line (λ e. end.received e c.args.octets.now) c.begin.new.self read);
+}
 
 pub invariant_of-self : goal.invariant_of-self
 invariant_of-self c =

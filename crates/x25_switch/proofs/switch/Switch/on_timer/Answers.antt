@@ -1,13 +1,11 @@
-use Rattle.std.proofs.Common.{◌≡◌, ◌∙◌, ap, sym, subst, true, length, List}
+use Rattle.std.proofs.Common.{◌≡◌, ◌∙◌, ap, sym, subst, true, List}
 use Rattle.std.specs.Prelude.{slice_get}
 use Rattle.packet_end.specs.PacketEnd as end
 use Rattle.switch_lines.specs.Lines.{SwitchLine}
 use Rattle.switch_lines.specs.OfLine.{AreRead}
-use Rattle.switch_lines.specs.Switch.{Switch, acted, all_relinked, timer_runs, on_timer}
-use Rattle.switch_lines.specs.Waiting.{AreInPairs}
+use Rattle.switch_lines.specs.Switch.{Switch, timer_runs, on_timer}
 use Rattle.switch_lines.proofs.Heeding.{begun_read, acted_read}
 use Rattle.switch_laws.specs.Events.Event.{Expires}
-use Rattle.switch_laws.proofs.Alone.{timer_pairs}
 use Rattle.x25_switch.specs.SwitchView.{switch_of}
 use Rattle.x25_switch.proofs.Holding.{of_lines, holds_after, timer_is, timer_kept}
 use Rattle.x25_switch.proofs.switch.Switch.on_timer.Goals as goal
@@ -16,19 +14,13 @@ pub on_timer-requires-clause-read : goal.on_timer-requires-clause-read
 on_timer-requires-clause-read c =
     subst (λ (ls : List SwitchLine). AreRead ls) (sym c.begin.ensures) (begun_read c.self.inside.lines)
 
-pub finish-requires-clause-read : goal.finish-requires-clause-read
-finish-requires-clause-read c =
-    let read : AreRead c.begin.new.self = subst (λ (ls : List SwitchLine). AreRead ls) (sym c.begin.ensures) (begun_read c.self.inside.lines) in
-    subst (λ (ls : List SwitchLine). AreRead ls) (sym c.on_timer.ensures)
-    (acted_read c.self.inside.routes c.args.line (λ e. end.after_timer e c.args.id) c.begin.new.self read)
-
-pub finish-requires-clause-pairs : goal.finish-requires-clause-pairs
-finish-requires-clause-pairs c =
-    let routes = c.self.inside.routes in
-    subst (λ (ls : List SwitchLine). AreInPairs (all_relinked (length ls) routes ls))
-    (sym (c.on_timer.ensures ∙ ap (λ (ls : List SwitchLine). acted routes c.args.line (λ e. end.after_timer e c.args.id) ls) c.begin.ensures))
-    (timer_pairs c.args.line c.args.id (switch_of c.self.inside) c.self.invariant.legs
-    c.self.invariant.holds.joins)
+pub finish-requires : goal.finish-requires
+finish-requires c = record {
+  read =
+      let read : AreRead c.begin.new.self = subst (λ (ls : List SwitchLine). AreRead ls) (sym c.begin.ensures) (begun_read c.self.inside.lines) in
+      subst (λ (ls : List SwitchLine). AreRead ls) (sym c.on_timer.ensures)
+      (acted_read c.self.inside.routes c.args.line (λ e. end.after_timer e c.args.id) c.begin.new.self read);
+}
 
 pub invariant_of-self : goal.invariant_of-self
 invariant_of-self c =

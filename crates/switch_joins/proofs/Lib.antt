@@ -1,0 +1,4 @@
+pub mod Apart
+pub mod ChannelSets
+pub mod Directions
+pub mod Slots

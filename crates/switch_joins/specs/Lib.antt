@@ -1,0 +1,3 @@
+pub mod Direction
+pub mod Joins
+pub mod ChannelSet

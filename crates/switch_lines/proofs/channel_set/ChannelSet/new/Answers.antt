@@ -1,5 +1,0 @@
-use Rattle.switch_lines.proofs.ChannelSets.{none_there}
-use Rattle.switch_lines.proofs.channel_set.ChannelSet.new.Goals as goal
-
-pub returns : goal.returns
-returns c = λ p. none_there 64 p.line c.new.result p.channel c.new.ensures

@@ -1,6 +1,0 @@
--- The places so far.
-use Rattle.std.proofs.Common.{◌≡◌, None, replicate}
-use Rattle.switch_lines.proofs.line.new_places.Given as goal
-
-abbrev pub invariant-loop : goal.invariant-loop
-invariant-loop l = l.places.items ≡ replicate l.counter None
