@@ -10,7 +10,7 @@ use Rattle.packet_host.specs.Host.{call_parts}
 use Rattle.x25_pad.specs.Pad as pad
 use Rattle.x25_pad.specs.Pad.{PadState}
 use Rattle.x25_pad.specs.Ports as port
-use Rattle.node_laws.specs.Holds.{PadHolds}
+use Rattle.node_laws.specs.Courses.{PadHolds}
 use Rattle.node_laws.specs.RecordClauses.{HoldsAfter}
 use Rattle.node_laws.proofs.Holding as pad_law
 use Rattle.call_records.specs.Book.{Book}
@@ -83,6 +83,7 @@ typed-drained p b h =
     record {
       typed = record { book = h.typed.book; read = h.typed.read; unread = h.typed.unread; ports = h.typed.ports; alone = h.typed.alone; calls = h.typed.calls };
       occasions = h.occasions;
+      led = h.led;
       said = h.said;
     }
 
@@ -92,6 +93,7 @@ typed-told p b h =
     record {
       typed = record { book = h.typed.book; read = h.typed.read; unread = h.typed.unread; ports = h.typed.ports; alone = h.typed.alone; calls = h.typed.calls };
       occasions = h.occasions;
+      led = h.led;
       said = h.said;
     }
 

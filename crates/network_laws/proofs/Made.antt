@@ -1,5 +1,5 @@
 -- What holds of a line of a network holds at the making, and has what it promises.
-use Rattle.std.proofs.Common.{◌≡◌, ◌≢◌, ℕ, Bool, true, false, ◌++◌, Some, refl, sym, ap, ◌∙◌, subst}
+use Rattle.std.proofs.Common.{◌≡◌, ◌≢◌, ℕ, Bool, true, false, List, ◌++◌, Some, refl, sym, ap, ◌∙◌, subst}
 use Rattle.std.specs.Prelude.{slice_get}
 use Rattle.link_timers.specs.declared.role.Role.TheVariants.{Dte, Dce}
 use Rattle.lapb.specs.Line.{chosen}
@@ -13,8 +13,9 @@ use Rattle.book_laws.specs.Headline.{BookHolds}
 use Rattle.line_record_laws.specs.Kept.{Setting, Kept}
 use Rattle.node_laws.specs.Quiet.{IsQuiet}
 use Rattle.node_laws.specs.Clauses.{first_line}
-use Rattle.node_laws.specs.Sending.{HasSent}
-use Rattle.line_nodes.specs.Node.{NodeState, Pad, Host, end_of, is_pad, drained, frames_of}
+use Rattle.x25_pad.specs.Pad.{PadState}
+use Rattle.node_laws.specs.Courses.{IsRecordOf, PadSends}
+use Rattle.line_nodes.specs.Node.{NodeState, Pad, end_of, drained, frames_of}
 use Rattle.memory_line.specs.declared.line.Direction.TheVariants.{FromDte, FromDce}
 use Rattle.memory_line.specs.Lines.{Flights, no_flights, LineService}
 use Rattle.net_events.specs.OneLine.{LineState}
@@ -30,14 +31,14 @@ use Rattle.node_laws.proofs.Holding as pad_law
 
 -- ---- the promise
 
-typed-so : (n : NodeState) (b : Book) → NodeHolds Dte n b → is_pad n ≡ true → (i : ℕ) (r : RecordValue)
-    → slice_get b.records i ≡ Some r → r.node ≡ b.dte.node → HasSent r
-typed-so (Pad p) b h e i r at node = pad_law.sent_law Dte p b h i r at node
-typed-so (Host x) b h e i r at node = absurd (cc)
+-- records of a PAD, as a register has them
+pub sends_line : (L : LineService) (s : LineState) → IsLine L s → (p : PadState) → s.dte ≡ Pad p → (place : ℕ) (records : List RecordValue)
+    → ((i : ℕ) (r : RecordValue) → slice_get records i ≡ Some r → r.node ≡ place → IsRecordOf Dte s.book r) → PadSends Dte p place records
+sends_line L s n p is place records of = pad_law.sent_law Dte p s.book (subst (λ (m : NodeState). NodeHolds Dte m s.book) is n.typed) place records of
 
-pub typed_line : (L : LineService) (s : LineState) → IsLine L s → is_pad s.dte ≡ true → (i : ℕ) (r : RecordValue)
-    → slice_get s.book.records i ≡ Some r → r.node ≡ s.dte_place → HasSent r
-typed_line L s n pad i r at node = typed-so s.dte s.book n.typed pad i r at (node ∙ sym n.dte_node)
+pub typed_line : (L : LineService) (s : LineState) → IsLine L s → (p : PadState) → s.dte ≡ Pad p → PadSends Dte p s.dte_place s.book.records
+typed_line L s n p is =
+    sends_line L s n p is s.dte_place s.book.records (λ i r at node. record { number = i; own = r; there = at; node = node ∙ sym n.dte_node; same = refl })
 
 pub book_line : (L : LineService) (s : LineState) → IsLine L s → L.faithful → BookHolds s.book
 book_line L s n f = let k = n.kept f in keeping_law.holds_kept k.setting s.book (line_of s) k.kept
@@ -56,6 +57,7 @@ made-typed (NewPad params terminals) l dte_node dce_node apart are is =
     record {
       typed = record { book = h.typed.book; read = h.typed.read; unread = h.typed.unread; ports = h.typed.ports; alone = h.typed.alone; calls = h.typed.calls };
       occasions = h.occasions;
+      led = h.led;
       said = h.said;
     }
 made-typed NewHost l dte_node dce_node apart are is = tt

@@ -5,7 +5,8 @@ use Rattle.std.proofs.Common.{refl, sym, ◌∙◌, ap, subst, inl, arith}
 use Rattle.std.proofs.lemmas.List.{length-set, length-map}
 use Rattle.link_timers.specs.declared.role.Role.{Role}
 use Rattle.link_timers.specs.declared.role.Role.TheVariants.{Dte, Dce}
-use Rattle.packet_end.specs.PacketEnd.{PacketEnd, finished, received}
+use Rattle.link_timers.specs.declared.timers.TimerId.TheVariants.{T1}
+use Rattle.packet_end.specs.PacketEnd.{PacketEnd, finished, received, runs_at, after_timer}
 use Rattle.packet_end.specs.Params.{AreParams}
 use Rattle.x25_pad.specs.Pad as pad
 use Rattle.x25_pad.specs.Pad.{PadState, all_heard}
@@ -22,21 +23,22 @@ use Rattle.line_nodes.specs.declared.terminal.TerminalEvent.{TerminalEvent}
 use Rattle.line_nodes.specs.declared.terminal.TerminalEvent.TheVariants.{Key, Break, Idle, Print}
 use Rattle.net_events.specs.OneLine.{LineState, node_at, direction_to}
 use Rattle.net_events.specs.NodeEvents.{NodeEvent, Happened, IsFor, LeftBy, turn_of}
-use Rattle.net_events.specs.NodeEvents.NodeEvent.{Hears, Asks, Says, Takes, AtTerminal}
+use Rattle.net_events.specs.NodeEvents.NodeEvent.{Hears, Expires, Asks, Says, Takes, AtTerminal}
 use Rattle.net_events.specs.Opening.{new_dte, new_dce, AreSent}
 use Rattle.network_laws.specs.IsLine.{IsLine}
 use Rattle.network_laws.specs.PadRun.{Act, after_arrival, after_act, after_event, after, all_put, first, first_frames, new_pad, params}
-use Rattle.network_laws.specs.PadRun.Act.{Arrives, Does, Asked, Tells, TakesNext}
+use Rattle.network_laws.specs.PadRun.Act.{Arrives, IsLost, RunsOut, Does, Asked, Tells, TakesNext}
 use Rattle.network_laws.specs.PadRun.{dialled_run, standing_run, IsAct, AllAre, PadRunLaw}
 use Rattle.std.proofs.lemmas.Option.{same_Some, none-some}
 use Rattle.packet_layer.specs.Packets.{Note}
 use Rattle.packet_layer.specs.Traffic.{Taken}
 use Rattle.packet_layer.specs.Layer.{front_on}
-use Rattle.line_nodes.specs.LineTurns.{hears}
+use Rattle.line_nodes.specs.Turn.{told, unchanged}
+use Rattle.line_nodes.specs.LineTurns.{hears, expires}
 use Rattle.line_nodes.specs.Terminals.{at_terminal}
 use Rattle.line_nodes.specs.HostTurns.{host_takes, taken_turn}
 use Rattle.network_laws.proofs.PadRows.{dialled_book, dialled_texts, standing_book, standing_texts, dialled_said, standing_said}
-use Rattle.network_laws.proofs.Lines.{happened_line}
+use Rattle.network_laws.proofs.Lines.{happened_line, lost_line}
 use Rattle.network_laws.proofs.Made.{made_lines}
 
 -- ---- frames that are put, of which none is lost
@@ -146,6 +148,17 @@ pad_does : (n : NodeState) (event : TerminalEvent) (b : Book) → IsPadNode n �
 pad_does (Pad p) event b h = same_count (count p) (count (after_terminal 0 event p)) (count_terminal 0 event p) h
 pad_does (Host e) event b h = absurd h
 
+pad_expires : (n : NodeState) (b : Book) → IsPadNode n → IsPadNode (drained (expires Dte n T1 b).node)
+pad_expires (Pad p) b h = by (runs_at p.line.end T1)
+  where
+    q : PadState
+    q = pad.with_end (after_timer (pad.begun p).line.end T1) (pad.begun p)
+
+    by : (v : Bool) → IsPadNode (drained (if v then told Dte (Pad (if v then pad.line_event q else p)) b else unchanged (Pad p) b).node)
+    by true = same_count (count p) (count (pad.line_event q)) (count_line q) h
+    by false = h
+pad_expires (Host e) b h = absurd h
+
 host_hears : (n : NodeState) (octets : List ℕ) (b : Book) → IsHostNode n → IsHostNode (drained (hears Dce n octets b).node)
 host_hears (Pad p) octets b h = absurd h
 host_hears (Host e) octets b h = tt
@@ -175,6 +188,8 @@ may_arrive (Some octets) role s h = arrived role octets s h
 
 are_after : (act : Act) (s : LineState) → Are s → Are (after_act act s)
 are_after (Arrives role) s h = may_arrive (slice_get (flying (direction_to role) s.flights) 0) role s h
+are_after (IsLost role) s h = record { dte = h.dte; dce = h.dce }
+are_after RunsOut s h = record { dte = pad_expires s.dte s.book h.dte; dce = h.dce }
 are_after (Does event) s h = record { dte = pad_does s.dte event s.book h.dte; dce = h.dce }
 are_after (Asked r) s h = record { dte = h.dte; dce = tt }
 are_after (Tells octets) s h = record { dte = h.dte; dce = tt }
@@ -208,6 +223,8 @@ frame_arrives role s octets (Some other) is at =
 
 is_act : (act : Act) (s : LineState) → Are s → IsAct lossless_service act s
 is_act (Arrives role) s h = λ octets at. frame_arrives role s octets (slice_get (flying (direction_to role) s.flights) 0) at at
+is_act (IsLost role) s h = refl
+is_act RunsOut s h = put_all (Expires T1) Dte s.flights s tt refl
 is_act (Does event) s h = put_all (AtTerminal 0 event) Dte s.flights s (has_terminal s.dte h.dte) refl
 is_act (Asked r) s h = put_all (Asks 1 r) Dce s.flights s (is_host s.dce h.dce) refl
 is_act (Tells octets) s h = put_all (Says 1 octets true false) Dce s.flights s (is_host s.dce h.dce) refl
@@ -226,6 +243,8 @@ may_hold (Some octets) role s at h n =
 
 holds_after : (act : Act) (s : LineState) → Are s → IsLine lossless_service s → IsLine lossless_service (after_act act s)
 holds_after (Arrives role) s h n = may_hold (slice_get (flying (direction_to role) s.flights) 0) role s refl h n
+holds_after (IsLost role) s h n = lost_line lossless_service (direction_to role) s (without_first (direction_to role) s.flights) n (λ f. refl)
+holds_after RunsOut s h n = happened_line lossless_service (Expires T1) Dte s (after_act RunsOut s) n (is_act RunsOut s h)
 holds_after (Does event) s h n = happened_line lossless_service (AtTerminal 0 event) Dte s (after_act (Does event) s) n (is_act (Does event) s h)
 holds_after (Asked r) s h n = happened_line lossless_service (Asks 1 r) Dce s (after_act (Asked r) s) n (is_act (Asked r) s h)
 holds_after (Tells octets) s h n = happened_line lossless_service (Says 1 octets true false) Dce s (after_act (Tells octets) s) n (is_act (Tells octets) s h)

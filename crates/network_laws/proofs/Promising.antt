@@ -9,23 +9,23 @@ use Rattle.call_records.specs.Records.{RecordValue}
 use Rattle.call_records.specs.Book.{Book, side_of}
 use Rattle.book_laws.specs.Headline.{BookHolds, HaveRecords, has_call}
 use Rattle.node_laws.specs.Quiet.{IsQuiet}
-use Rattle.node_laws.specs.Sending.{HasSent}
+use Rattle.node_laws.specs.Courses.{IsSeenAs}
 use Rattle.register_laws.specs.Law.{IsOfBook, IsAtNoOther}
 use Rattle.register_laws.proofs.Seeing.{present_seen, came_seen}
 use Rattle.register_laws.proofs.Having.{records_seen, callee_seen}
 use Rattle.register_laws.proofs.Promising.{promised, of_one_line, paired_seen}
 use Rattle.line_record_laws.specs.Kept.{end_at}
 use Rattle.line_record_laws.proofs.Keeping as keeping_law
-use Rattle.line_nodes.specs.Node.{end_of, is_pad}
+use Rattle.line_nodes.specs.Node.{NodeState, end_of, is_pad}
 use Rattle.memory_line.specs.Lines.{LineService}
 use Rattle.net_events.specs.OneLine.{LineState}
 use Rattle.network_laws.specs.IsLine.{line_of, IsLine, IsKept}
 use Rattle.net_events.specs.Network.{PlacedNode, NetNode, User, NetLine, Network, place_at, StandsAtLine}
 use Rattle.net_events.proofs.Users.{same_user}
 use Rattle.network_laws.specs.IsNetwork.{line_state, LineHolds, IsNetwork}
-use Rattle.network_laws.specs.Promise.{EndHolds, PlacedHolds, NetworkHolds}
+use Rattle.network_laws.specs.Promise.{EndHolds, PlacedHolds, PadsSend, NetworkHolds}
 use Rattle.network_laws.proofs.Answering.{came_kept, paired_kept, placed_kept, records_kept}
-use Rattle.network_laws.proofs.Made.{book_line, typed_line}
+use Rattle.network_laws.proofs.Made.{book_line, sends_line}
 use Rattle.network_laws.proofs.Networks.{book_there, placed, there_is, line_there}
 use Rattle.network_laws.proofs.Confirming.{says_confirmed}
 use Rattle.network_laws.proofs.Counting.{shows_counts}
@@ -129,31 +129,33 @@ at_no_other L s n place p at j b there ends =
 
 -- a PAD is at the DTE
 pad_place : (L : LineService) (nodes : List NetNode) (line : ℕ) (l : NetLine) (b : Book) (place : ℕ) (p : PlacedNode) (h : LineHolds L nodes line l b) → slice_get nodes place ≡ Some (User p)
-    → is_pad p.node ≡ true → (l.dte ≡ place) ⊎ (l.dce ≡ place) → (l.dte ≡ place) × (is_pad h.dte.node ≡ true)
+    → is_pad p.node ≡ true → (l.dte ≡ place) ⊎ (l.dce ≡ place) → (l.dte ≡ place) × (h.dte.node ≡ p.node)
 pad_place L nodes line l b place p h at pad (inl e) =
     let same : p ≡ h.dte = same_user p h.dte (sym at ∙ ap (λ k. slice_get nodes k) (sym e) ∙ h.dte_there) in
-    (e, ap (λ (x : PlacedNode). is_pad x.node) (sym same) ∙ pad)
+    (e, ap (λ (x : PlacedNode). x.node) (sym same))
 pad_place L nodes line l b place p h at pad (inr e) =
     let same : p ≡ h.dce = same_user p h.dce (sym at ∙ ap (λ k. slice_get nodes k) (sym e) ∙ h.dce_there) in
     let no : is_pad p.node ≡ false = ap (λ (x : PlacedNode). is_pad x.node) same ∙ h.holds.host in
     absurd (let bad : true ≡ false = sym pad ∙ no in cc)
 
-typed_record : (b : Book) (n : ℕ) (r : RecordValue) (w : IsOfBook b n r) → HasSent w.own → HasSent r
-typed_record b n r w h = subst HasSent (sym w.same) (record { typed = h.typed; occasions = h.occasions; said = record { messages = h.said.messages; told = h.said.told; interrupts = h.said.interrupts } })
-
-typed_holds : (L : LineService) (s : Network) (n : IsNetwork L s) → L.faithful → (place : ℕ) (p : PlacedNode) (i : ℕ) (r : RecordValue) → slice_get s.nodes place ≡ Some (User p)
-    → is_pad p.node ≡ true → slice_get s.register.records i ≡ Some r → r.node ≡ place → HasSent r
-typed_holds L s n f place p i r at pad there node =
+pads_send : (L : LineService) (s : Network) (n : IsNetwork L s) → L.faithful → PadsSend s
+pads_send L s n f place p q at pad =
     let st : StandsAtLine s.lines place p = n.nodes place (User p) at in
     let b = book_there L s n p.line st.line st.there in
     let h : LineHolds L s.nodes p.line st.line b.0 = n.lines p.line st.line b.0 st.there b.1 in
-    let is = pad_place L s.nodes p.line st.line b.0 place p h at pad st.at_end in
-    let w : IsOfBook b.0 i r =
+    let is = pad_place L s.nodes p.line st.line b.0 place p h at (ap (λ (m : NodeState). is_pad m) pad) st.at_end in
+    sends_line L (line_state st.line h.dte h.dce b.0) h.holds q (is.1 ∙ pad) place s.register.records
+    (λ i r there node.
+    (let w : IsOfBook b.0 i r =
     of_one_line s.register n.books p.line b.0 i r n.seen (books_hold L s n f) b.1
     (subst (λ (k : ℕ). IsAtNoOther p.line k n.books) (sym node) (at_no_other L s n place p at)) there in
-    typed_record b.0 i r w
-    (typed_line L (line_state st.line h.dte h.dce b.0) h.holds is.1 w.place w.own w.own_there
-    (sym (ap (λ (x : RecordValue). x.node) w.same) ∙ node ∙ sym is.0))
+    record {
+      number = w.place;
+      own = w.own;
+      there = w.own_there;
+      node = sym (ap (λ (x : RecordValue). x.node) w.same) ∙ node ∙ sym is.0 ∙ sym h.holds.dte_node;
+      same = subst (λ (x : RecordValue). IsSeenAs w.own x) (sym w.same) refl;
+    }))
 
 -- ---- what the records count
 
@@ -184,6 +186,6 @@ holds_network L s n f = record {
   records = records_seen s.register n.books n.seen (have_their_records L s n f);
   ends = end_holds L s n f;
   placed = placed_holds L s n f;
-  typed = typed_holds L s n f;
+  pads = pads_send L s n f;
   counts = counts_hold L s n f;
 }

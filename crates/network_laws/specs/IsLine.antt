@@ -5,13 +5,13 @@ use Rattle.link_timers.specs.declared.role.Role.TheVariants.{Dte}
 use Rattle.line_laws.specs.Line.{Line}
 use Rattle.line_record_laws.specs.Kept.{Setting, Kept}
 use Rattle.node_laws.specs.Quiet.{IsQuiet}
-use Rattle.node_laws.specs.Holds.{PadHolds}
+use Rattle.node_laws.specs.Courses.{PadHolds}
 use Rattle.call_records.specs.Book.{Book}
 use Rattle.line_nodes.specs.Node.{NodeState, Pad, Host, end_of, is_pad}
 use Rattle.memory_line.specs.Lines.{LineService}
 use Rattle.net_events.specs.OneLine.{LineState}
 
--- on each of its calls a PAD has sent what its terminals typed, and what it had occasion to say of itself
+-- on each of its calls a PAD has sent what its terminals typed, and what it had occasion to say of itself in one course
 abbrev pub NodeHolds : Role → NodeState → Book → Type 0
 NodeHolds role (Pad p) b = PadHolds role p b
 NodeHolds role (Host e) b = Unit {0}

@@ -6,7 +6,6 @@ pub use Rattle.net_events.specs.AtSwitch
 pub use Rattle.net_events.specs.OneLine
 pub use Rattle.net_events.specs.Opening
 pub use Rattle.node_laws.specs.Quiet
-pub use Rattle.node_laws.specs.Sending
 pub mod IsLine
 pub mod LineLaw
 pub mod PadRun

@@ -1,13 +1,14 @@
 -- The law of a line of a network: it holds from the making on, whatever happens at its nodes and on it.
-use Rattle.std.specs.Prelude.{◌≡◌, ◌≢◌, ℕ, true, slice_get, Some}
+use Rattle.std.specs.Prelude.{◌≡◌, ◌≢◌, ℕ}
 use Rattle.link_timers.specs.declared.role.Role.{Role}
+use Rattle.link_timers.specs.declared.role.Role.TheVariants.{Dte}
 use Rattle.packet_end.specs.Params.{AreParams}
 use Rattle.packet_end.specs.declared.params.EndParams.{EndParams}
-use Rattle.call_records.specs.Records.{RecordValue}
 use Rattle.call_records.specs.Book.{made_book}
 use Rattle.book_laws.specs.Headline.{BookHolds}
-use Rattle.node_laws.specs.Sending.{HasSent}
-use Rattle.line_nodes.specs.Node.{is_pad, drained, node_elapsed}
+use Rattle.x25_pad.specs.Pad.{PadState}
+use Rattle.node_laws.specs.Courses.{PadSends}
+use Rattle.line_nodes.specs.Node.{Pad, drained, node_elapsed}
 use Rattle.memory_line.specs.declared.line.Direction.{Direction}
 use Rattle.memory_line.specs.Lines.{Flights, without_first, LineService}
 use Rattle.net_events.specs.OneLine.{LineState}
@@ -58,7 +59,8 @@ TimeLaw L = (s : LineState) (ticks : ℕ) → IsLine L s → IsLine L (elapsed t
 abbrev pub BookLaw : LineService → Type 0
 BookLaw L = (s : LineState) → IsLine L s → L.faithful → BookHolds s.book
 
--- and on any line what a PAD sent on each call is what its terminals typed, and what it had occasion to say of itself
+-- and on any line what a PAD sent on each call is what its terminals typed, and what it had occasion to say of itself,
+-- in one course of events that leads to it
 abbrev pub TypedLaw : LineService → Type 0
-TypedLaw L = (s : LineState) → IsLine L s → is_pad s.dte ≡ true
-    → (n : ℕ) (r : RecordValue) → slice_get s.book.records n ≡ Some r → r.node ≡ s.dte_place → HasSent r
+TypedLaw L = (s : LineState) → IsLine L s → (p : PadState) → s.dte ≡ Pad p
+    → PadSends Dte p s.dte_place s.book.records

@@ -1,12 +1,13 @@
 -- Two worked runs of a line between a PAD of two terminals and a host. From the making on: the first terminal dials the
 -- host and is connected, types with a deletion, the host reads a parameter by a message of X.29 and is answered, and
 -- resets the call. And on a call that stands: it is reset while text is held, which goes with what is typed behind the
--- reset, a break is told by an interrupt and an indication, the command INT sends another interrupt, and the terminal
--- clears the call.
+-- reset; the frame with it is lost, T1 expires, and it is sent again; a break is told by an interrupt and an indication,
+-- the command INT sends another interrupt, and the terminal clears the call.
 use Rattle.std.specs.Prelude.{◌≡◌, ℕ, zero, suc, Bool, true, false, List, [], ◌∷◌, ◌++◌, map, slice_get}
 use Rattle.std.specs.Prelude.{Option, Some, None}
 use Rattle.link_timers.specs.declared.role.Role.{Role}
 use Rattle.link_timers.specs.declared.role.Role.TheVariants.{Dte, Dce}
+use Rattle.link_timers.specs.declared.timers.TimerId.TheVariants.{T1}
 use Rattle.epochs.specs.Item.{DataPacket}
 use Rattle.epochs.specs.Epoch.{SentEpoch, TakenEpoch, nothing_sent, nothing_taken}
 use Rattle.pad_editing.specs.Edited.{key}
@@ -22,7 +23,7 @@ use Rattle.line_nodes.specs.declared.terminal.TerminalEvent.{TerminalEvent}
 use Rattle.line_nodes.specs.declared.terminal.TerminalEvent.TheVariants.{Key, Break, Print}
 use Rattle.net_events.specs.OneLine.{LineState, node_at, with_turn, direction_of, direction_to}
 use Rattle.net_events.specs.NodeEvents.{NodeEvent, Happened, turn_of}
-use Rattle.net_events.specs.NodeEvents.NodeEvent.{Hears, Asks, Says, Takes, AtTerminal}
+use Rattle.net_events.specs.NodeEvents.NodeEvent.{Hears, Expires, Asks, Says, Takes, AtTerminal}
 use Rattle.net_events.specs.Opening.{NewDte, NewPad, new_dte, new_dce}
 use Rattle.pad_terminal.specs.Terminal.{made}
 use Rattle.node_laws.specs.Occasions.{Occasion, TookMessage, HadBreak, HadCommand}
@@ -57,11 +58,14 @@ first_frames standing =
 abbrev pub first : (standing : Bool) → LineState
 first standing = made_line 0 1 new_pad (params standing) (first_frames standing)
 
--- ---- what happens: the first frame in flight to a node arrives, something happens at the first terminal, or the host
--- asks something of the call on channel 1, sends a message of X.29 there, or takes what waits
+-- ---- what happens: the first frame in flight to a node arrives or is lost, T1 of the PAD expires, something happens at
+-- the first terminal, or the host asks something of the call on channel 1, sends a message of X.29 there, or takes what
+-- waits
 
 pub data Act : Type 0 where
   Arrives : Role → Act
+  IsLost : Role → Act
+  RunsOut : Act
   Does : TerminalEvent → Act
   Asked : Request → Act
   Tells : List ℕ → Act
@@ -79,6 +83,8 @@ after_arrival (Some octets) role s =
 
 abbrev pub after_act : Act → LineState → LineState
 after_act (Arrives role) s = after_arrival (slice_get (flying (direction_to role) s.flights) 0) role s
+after_act (IsLost role) s = record s { flights = without_first (direction_to role) s.flights }
+after_act RunsOut s = after_event (Expires T1) Dte s.flights s
 after_act (Does event) s = after_event (AtTerminal 0 event) Dte s.flights s
 after_act (Asked r) s = after_event (Asks 1 r) Dce s.flights s
 after_act (Tells octets) s = after_event (Says 1 octets true false) Dce s.flights s
@@ -153,9 +159,9 @@ dialled_run = connecting ++ typing ++ reading ++ answering ++ resetting
 abbrev pub holding : List Act
 holding = types begun ++ Asked (Resetting 0 0) ∷ rounds 2
 
--- what ends the text is typed behind the reset
+-- what ends the text is typed behind the reset; the frame is lost, and after a poll it is sent again
 abbrev pub ending : List Act
-ending = types ended ++ rounds 1 ++ TakesNext ∷ rounds 2
+ending = types ended ++ IsLost Dce ∷ RunsOut ∷ rounds 2 ++ TakesNext ∷ rounds 2
 
 -- a break, of which the host takes the interrupt and the indication
 abbrev pub breaking : List Act
@@ -287,6 +293,8 @@ abbrev pub IsAct : LineService → Act → LineState → Type 0
 IsAct L (Arrives role) s =
     (octets : List ℕ) → slice_get (flying (direction_to role) s.flights) 0 ≡ Some octets
     → Happened L (Hears octets) role s (after_act (Arrives role) s)
+IsAct L (IsLost role) s = after_act (IsLost role) s ≡ record s { flights = without_first (direction_to role) s.flights }
+IsAct L RunsOut s = Happened L (Expires T1) Dte s (after_act RunsOut s)
 IsAct L (Does event) s = Happened L (AtTerminal 0 event) Dte s (after_act (Does event) s)
 IsAct L (Asked r) s = Happened L (Asks 1 r) Dce s (after_act (Asked r) s)
 IsAct L (Tells octets) s = Happened L (Says 1 octets true false) Dce s (after_act (Tells octets) s)
@@ -306,7 +314,7 @@ pub record RunIs (L : LineService) (standing : Bool) (acts : List Act) (pad host
   pub said : HasSaid occasions pad
   pub shown : shown acts (first standing) ≡ texts
 
--- on a line that loses nothing
+-- on a line that loses no frame as it is put
 pub record PadRunLaw : Type 0 where
   pub dialled :
       RunIs lossless_service false dialled_run dialled_pad dialled_host dialled_occasions (first_text ∷ [])

@@ -1,18 +1,20 @@
 -- What a network promises.
 use Rattle.std.specs.Prelude.{◌≡◌, ℕ, true, false, length, slice_get, Some, is_some}
 use Rattle.link_timers.specs.declared.role.Role.{Role}
+use Rattle.link_timers.specs.declared.role.Role.TheVariants.{Dte}
 use Rattle.packet_layer.specs.Channel.{Channel, may_accept, in_transfer}
 use Rattle.packet_layer.specs.Layer.{channel_of}
+use Rattle.x25_pad.specs.Pad.{PadState}
 use Rattle.call_records.specs.Records.{RecordValue}
 use Rattle.call_records.specs.Book.{Slot, side_of, slot_at}
 use Rattle.call_records.specs.Register.{Register, book_at}
 use Rattle.book_laws.specs.Headline.{has_call, IsPaired, HasCallee}
 use Rattle.node_laws.specs.Quiet.{IsQuiet}
-use Rattle.node_laws.specs.Sending.{HasSent}
+use Rattle.node_laws.specs.Courses.{PadSends}
 use Rattle.line_record_laws.specs.Confirmed.{SaysConfirmed}
 use Rattle.line_record_laws.specs.Counted.{ShowsCounts, HasItsEpochs}
 use Rattle.register_laws.specs.Promise.{RegisterHolds, HasRecords}
-use Rattle.line_nodes.specs.Node.{end_of, is_pad}
+use Rattle.line_nodes.specs.Node.{Pad, end_of}
 use Rattle.net_events.specs.Network.{PlacedNode, User, NetLine, Network, place_at}
 
 -- the register's slot of a channel at the end of a role of a line
@@ -55,6 +57,14 @@ pub record PlacedHolds (s : Network) (line : ℕ) (l : NetLine) (role : Role) : 
       → in_transfer ch.state ≡ true → is_some (its_slot line role channel s.register).caller ≡ false
       → HasCallee (book_at line s.register) role channel
 
+-- for each PAD there is one course of events, at it and at the other end of its line, which leads to it as it is. What a
+-- terminal sent on a call is, block for block with its end, what the editing rules make of the keys and idle times of
+-- the call; what else the PAD sent are, one each and in order, the answers to the messages that it took and the
+-- indications of breaks in this course, and its interrupts are those of breaks and of INT
+abbrev pub PadsSend : Network → Type 0
+PadsSend s = (place : ℕ) (n : PlacedNode) (p : PadState) → slice_get s.nodes place ≡ Some (User n) → n.node ≡ Pad p
+    → PadSends Dte p place s.register.records
+
 pub record NetworkHolds (s : Network) : Type 0 where
   -- for each pair what one end took matches what the other one sent, both ways, and the pair is right; no record is in
   -- two pairs, and each that took anything is in one
@@ -65,11 +75,8 @@ pub record NetworkHolds (s : Network) : Type 0 where
   pub ends : (line : ℕ) (l : NetLine) (role : Role) → slice_get s.lines line ≡ Some l → EndHolds s line l role
   -- at each end a call in data transfer that was placed there is in a pair
   pub placed : (line : ℕ) (l : NetLine) (role : Role) → slice_get s.lines line ≡ Some l → PlacedHolds s line l role
-  -- what a PAD's terminal sent on a call is, block for block with its end, what its editing rules make of the keys and
-  -- idle times; else the PAD sent what some list of occasions asks for, in order, whose messages are those that it
-  -- took. Which breaks and commands came, and with which parameters, is not said here
-  pub typed : (place : ℕ) (n : PlacedNode) (i : ℕ) (r : RecordValue) → slice_get s.nodes place ≡ Some (User n)
-      → is_pad n.node ≡ true → slice_get s.register.records i ≡ Some r → r.node ≡ place → HasSent r
+  -- each PAD sent what was typed, and of itself what it had occasion to say
+  pub pads : PadsSend s
   -- each record, open or closed, has the epochs that the packet layer of its node counted: packets, interrupts, and how
   -- many packets a P(R) covered and how many were released, with nothing cut
   pub counts : (place : ℕ) (n : PlacedNode) (i : ℕ) (r : RecordValue) → slice_get s.nodes place ≡ Some (User n)

@@ -17,11 +17,11 @@ pub fn one_line_law<L: Line>()
     ensures typed { TypedLaw L.service }
 {}
 
-/// Two runs of a PAD and a host on a line that loses nothing, by computation. The law of the line speaks of both from
-/// the making on. One is dialled, connected, typed with a deletion, a parameter read by the host (X.29), reset; the
-/// other, on a call that stands, is a reset while text is held, a break, the command INT, cleared. Records and pair are
-/// what was typed, answered and told, with the occasions of what the PAD said of itself. What the terminal is shown are
-/// its echo and the service signals (X.28).
+/// Two runs of a PAD and a host on a line, by computation. The law of the line speaks of both from the making on. One
+/// is dialled, connected, typed with a deletion, a parameter read by the host (X.29), reset; the other, on a call that
+/// stands, is a reset while text is held, a frame that is lost and sent again after a poll, a break, the command INT,
+/// cleared. Records and pair are what was typed, answered and told, with the occasions of what the PAD said of itself.
+/// What the terminal is shown are its echo and the service signals (X.28).
 pub fn pad_run_law()
     ensures { PadRunLaw }
 {}

@@ -26,7 +26,6 @@ use Rattle.x25_pad.specs.Ports as port
 use Rattle.x25_pad.specs.Ports.{PortState, AtLine}
 use Rattle.x25_pad.specs.Pad as pad
 use Rattle.x25_pad.specs.Pad.{PadState}
-use Rattle.x25_pad.specs.declared.call.Call.{Call}
 use Rattle.x25_pad.specs.declared.line.PadLine.{PadLine}
 
 module _ (P : PacketEnd → Type 0) (asks : (e : PacketEnd) (channel : ℕ) (r : ask) → P e → P (end.asked e channel r))
@@ -34,22 +33,22 @@ module _ (P : PacketEnd → Type 0) (asks : (e : PacketEnd) (channel : ℕ) (r :
   abbrev pub At : AtLine → Type 0
   At a = P a.line.end
 
-  on_call_at : (act : Call → AtLine → AtLine) (o : Option Call) (a : AtLine) → ((call : Call) → At (act call a)) → At a → At (port.on_call act o a)
+  on_call_at : (act : ℕ → AtLine → AtLine) (o : Option ℕ) (a : AtLine) → ((call : ℕ) → At (act call a)) → At a → At (port.on_call act o a)
   on_call_at act None a f h = h
   on_call_at act (Some call) a f h = f call
 
   clear_at : (a : AtLine) → At a → At (port.on_call port.clears a.port.call a)
-  clear_at a h = on_call_at port.clears a.port.call a (λ call. asks a.line.end call.channel (ask.Clearing 0 0) h) h
+  clear_at a h = on_call_at port.clears a.port.call a (λ call. asks a.line.end call (ask.Clearing 0 0) h) h
 
-  send_at : (octets : List ℕ) (qualified : Bool) (call : Call) (a : AtLine) → At a → At (port.sends octets qualified call a)
-  send_at octets qualified call a h = asks a.line.end call.channel (ask.Sending (line.datum octets qualified)) h
+  send_at : (octets : List ℕ) (qualified : Bool) (call : ℕ) (a : AtLine) → At a → At (port.sends octets qualified call a)
+  send_at octets qualified call a h = asks a.line.end call (ask.Sending (line.datum octets qualified)) h
 
   does_at : (r : Request) (a : AtLine) → At a → At (port.does r a)
   does_at (request.Call s) a h = places a.line.end (line.call_parts s.address s.user_data.items) h
   does_at request.Clear a h = clear_at a h
   does_at request.Interrupt a h =
-      on_call_at port.interrupts a.port.call a (λ call. asks a.line.end call.channel (ask.Interrupting (line.interrupt_octet ∷ [])) h) h
-  does_at request.Reset a h = on_call_at port.resets a.port.call a (λ call. asks a.line.end call.channel (ask.Resetting 0 0) h) h
+      on_call_at port.interrupts a.port.call a (λ call. asks a.line.end call (ask.Interrupting (line.interrupt_octet ∷ [])) h) h
+  does_at request.Reset a h = on_call_at port.resets a.port.call a (λ call. asks a.line.end call (ask.Resetting 0 0) h) h
 
   asked_at : (o : Option Request) (a : AtLine) → At a → At (port.does_asked o a)
   asked_at None a h = h
@@ -59,9 +58,9 @@ module _ (P : PacketEnd → Type 0) (asks : (e : PacketEnd) (channel : ℕ) (r :
   tells_at None a h = h
   tells_at (Some m) a h = on_call_at (port.sends (octets_of m) true) a.port.call a (λ call. send_at (octets_of m) true call a h) h
 
-  edit_at : (step : Step) (block : Option (List ℕ)) (call : Call) (a : AtLine) → At a → At (port.edits step block call a)
+  edit_at : (step : Step) (block : Option (List ℕ)) (call : ℕ) (a : AtLine) → At a → At (port.edits step block call a)
   edit_at step None call a h = h
-  edit_at step (Some text) call a h = asks a.line.end call.channel (ask.Sending (line.datum text false)) h
+  edit_at step (Some text) call a h = asks a.line.end call (ask.Sending (line.datum text false)) h
 
   handles_at : (answer : InputAnswer) (step : Step) (a : AtLine) → At a → At (port.handles answer step a)
   handles_at input.Dropped step a h = h
@@ -83,14 +82,14 @@ module _ (P : PacketEnd → Type 0) (asks : (e : PacketEnd) (channel : ℕ) (r :
       replies_at answered.reply (record a { port = port.with_terminal answered.terminal a.port }) h
   datum_at d false a h = h
 
-  taking_at : (taken : Taken) (call : Call) (a : AtLine) → At a → At (port.after_taking taken call (port.takes taken call a))
+  taking_at : (taken : Taken) (call : ℕ) (a : AtLine) → At a → At (port.after_taking taken call (port.takes taken call a))
   taking_at (TakenInterrupt octets) call a h =
-      asks (end.asked a.line.end call.channel ask.Taking) call.channel ask.Confirming (asks a.line.end call.channel ask.Taking h)
+      asks (end.asked a.line.end call ask.Taking) call ask.Confirming (asks a.line.end call ask.Taking h)
   taking_at (TakenPacket d) call a h =
       datum_at d d.qualified (port.releases (ask.Releasing 1) call (port.takes (TakenPacket d) call a))
-      (asks (end.asked a.line.end call.channel ask.Taking) call.channel (ask.Releasing 1) (asks a.line.end call.channel ask.Taking h))
+      (asks (end.asked a.line.end call ask.Taking) call (ask.Releasing 1) (asks a.line.end call ask.Taking h))
 
-  next_at : (o : Option Call) (taken : Option Taken) (p : PortState) (l : PadLine) → At (record { port = record p { call = o }; line = l })
+  next_at : (o : Option ℕ) (taken : Option Taken) (p : PortState) (l : PadLine) → At (record { port = record p { call = o }; line = l })
       → At (port.after_taken taken (port.with_taken taken (record { port = record p { call = o }; line = l })))
   next_at o None p l h = h
   next_at None (Some taken) p l h = h

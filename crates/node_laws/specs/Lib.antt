@@ -2,6 +2,7 @@ pub use Rattle.line_nodes.specs.Node
 pub use Rattle.x25_pad_laws.specs.Occasions
 pub use Rattle.x25_pad_laws.specs.Sending
 pub use Rattle.x25_pad_laws.specs.Holds
+pub use Rattle.x25_pad_laws.specs.Courses
 pub use Rattle.x25_pad_laws.specs.RecordClauses
 pub mod Nodes
 pub mod Clauses

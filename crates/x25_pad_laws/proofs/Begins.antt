@@ -11,7 +11,7 @@ use Rattle.packet_layer.specs.Layer.{nth_channel, standing_channels}
 use Rattle.line_record_laws.specs.Headline.{has_call}
 use Rattle.call_records.specs.Records.{RecordValue, new_record}
 use Rattle.call_records.specs.Book.{Book, Slot, free_slot, nth_slot, with_nth, new_book, standing_book, made_book}
-use Rattle.x25_pad.specs.Ports.{PortState, has_channel, new_port, call_on}
+use Rattle.x25_pad.specs.Ports.{PortState, has_channel, new_port}
 use Rattle.x25_pad_laws.specs.Sending.{HasTyped}
 use Rattle.x25_pad_laws.specs.Holds.{node_at, HasItsRecords, HasEachOnce, IsPort, IsOn}
 use Rattle.x25_pad_laws.specs.Holds.{PadTypes}
@@ -105,7 +105,7 @@ made_apart Dce dte_node dce_node channels false h e = h (sym e)
 -- ---- the ports
 
 new_is_port : (params : List ℕ) (standing : Bool) → IsPort (new_port params (if standing then Some 1 else None))
-new_is_port params true = record { free = λ e. absurd (none-some (call_on 1) (sym e)); bare = λ e. absurd (true≢false e); empty = λ e. refl; short = omega arith }
+new_is_port params true = record { free = λ e. absurd (none-some 1 (sym e)); bare = λ e. absurd (true≢false e); empty = λ e. refl; short = omega arith }
 new_is_port params false = record { free = λ e. refl; bare = λ e. refl; empty = λ e. refl; short = omega arith }
 
 others_are : (n : ℕ) (x : PortState) (j : ℕ) (q : PortState) → slice_get (replicate n x) j ≡ Some q → x ≡ q
@@ -143,7 +143,7 @@ standing_call : (standing : Bool) (params : List ℕ) (channels c : ℕ) → 1 �
 standing_call false params channels c some on = absurd (true≢false (sym on))
 standing_call true params zero c some on = absurd (omega arith)
 standing_call true params (suc channels) c some on =
-    ap (λ (k : ℕ). has_call (nth_channel (standing_channels true (replicate (suc channels) closed_channel)) k)) (sym (same_channel (call_on 1) c on))
+    ap (λ (k : ℕ). has_call (nth_channel (standing_channels true (replicate (suc channels) closed_channel)) k)) (sym (same_channel 1 c on))
 
 pub made_types : (role : Role) (c : PadConfig) (dte_node dce_node channels : ℕ) → (dte_node ≡ dce_node → ⊥) → IsConfig c
     → PadTypes role (made c) (made_book dte_node dce_node channels c.line.standing)

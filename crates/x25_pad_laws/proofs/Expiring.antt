@@ -40,11 +40,10 @@ use Rattle.x25_pad.specs.Ports as port
 use Rattle.x25_pad.specs.Ports.{PortState, AtLine, brought, has_expired}
 use Rattle.x25_pad.specs.Pad as pad
 use Rattle.x25_pad.specs.Pad.{PadState, all_heard}
-use Rattle.x25_pad.specs.declared.call.Call.{Call}
 use Rattle.x25_pad.specs.declared.line.PadLine.{PadLine}
 use Rattle.x25_pad_laws.specs.Expiry.{idle_count, due_count, ExpiryLaw, ApartLaw}
 use Rattle.x25_pad_laws.specs.Standing.{drained}
-use Rattle.x25_pad_laws.proofs.Ports.{found_at, changed_for, heard_connected, heard_cleared, heard_reset, heard_confirmed, heard_none, heard_more}
+use Rattle.x25_pad_laws.proofs.Ports.{found_at, changed_for, heard_connected, heard_cleared, heard_reset, heard_none, heard_more}
 
 -- ---- what happens at a terminal leaves all timers but its own, and that is put as the event puts it
 
@@ -52,7 +51,7 @@ module _ (left : Option ℕ) (times link_times : Places) where
   abbrev pub Stays : AtLine → Type 0
   Stays a = (a.port.idle_left ≡ left) × (a.line.end.timers ≡ times) × (a.line.end.line.timers ≡ link_times)
 
-  on_call_stays : (act : Call → AtLine → AtLine) (o : Option Call) (a : AtLine) → ((call : Call) → Stays (act call a)) → Stays a → Stays (port.on_call act o a)
+  on_call_stays : (act : ℕ → AtLine → AtLine) (o : Option ℕ) (a : AtLine) → ((call : ℕ) → Stays (act call a)) → Stays a → Stays (port.on_call act o a)
   on_call_stays act None a f h = h
   on_call_stays act (Some call) a f h = f call
 
@@ -74,7 +73,7 @@ module _ (left : Option ℕ) (times link_times : Places) where
   tells_stays None a h = h
   tells_stays (Some m) a h = on_call_stays (port.sends (octets_of m) true) a.port.call a (λ call. h) h
 
-  block_stays : (block : Option (List ℕ)) (call : Call) (a : AtLine) → Stays a → Stays (port.block_sent block call a)
+  block_stays : (block : Option (List ℕ)) (call : ℕ) (a : AtLine) → Stays a → Stays (port.block_sent block call a)
   block_stays None call a h = h
   block_stays (Some text) call a h = h
 
@@ -98,11 +97,11 @@ module _ (left : Option ℕ) (times link_times : Places) where
       replies_stay answered.reply (record a { port = port.with_terminal answered.terminal a.port }) h
   datum_stays d false a h = h
 
-  taking_stays : (taken : Taken) (call : Call) (a : AtLine) → Stays a → Stays (port.after_taking taken call (port.takes taken call a))
+  taking_stays : (taken : Taken) (call : ℕ) (a : AtLine) → Stays a → Stays (port.after_taking taken call (port.takes taken call a))
   taking_stays (TakenInterrupt octets) call a h = h
   taking_stays (TakenPacket d) call a h = datum_stays d d.qualified (port.releases (Releasing 1) call (port.takes (TakenPacket d) call a)) h
 
-  next_stays : (o : Option Call) (taken : Option Taken) (p : PortState) (l : PadLine) → Stays (record { port = record p { call = o }; line = l })
+  next_stays : (o : Option ℕ) (taken : Option Taken) (p : PortState) (l : PadLine) → Stays (record { port = record p { call = o }; line = l })
       → Stays (port.after_taken taken (port.with_taken taken (record { port = record p { call = o }; line = l })))
   next_stays o None p l h = h
   next_stays None (Some taken) p l h = h
@@ -255,7 +254,7 @@ one_count (Incoming d parts) ports = ap idle_count (heard_none ports)
 one_count (Connected d) ports = ap idle_count (heard_connected d ports) ∙ count_for ports (pad.holder d ports) _ (λ p. refl)
 one_count (Closed d cause diagnostic reason) ports = ap idle_count (heard_cleared d cause diagnostic reason ports) ∙ count_for ports (pad.holder d ports) _ (λ p. refl)
 one_count (WasReset d cause diagnostic reason) ports = ap idle_count (heard_reset d cause diagnostic reason ports) ∙ count_for ports (pad.holder d ports) _ (λ p. refl)
-one_count (InterruptConfirmed d) ports = ap idle_count (heard_confirmed d ports) ∙ count_for ports (pad.holder d ports) _ (λ p. refl)
+one_count (InterruptConfirmed d) ports = ap idle_count (heard_none ports)
 one_count (Covered d count) ports = ap idle_count (heard_none ports)
 
 heard_count : (ns : List Note) (ports : List PortState) → idle_count (all_heard (all_learnt ns) ports) ≡ idle_count ports

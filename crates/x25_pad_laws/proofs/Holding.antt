@@ -1,5 +1,5 @@
 -- The events of a PAD keep what holds of it and of the book: what was typed was sent, and what the PAD said of itself is what it had occasion to say.
-use Rattle.std.specs.Prelude.{◌≡◌, ℕ, zero, suc, Bool, true, false, not, ◌&&◌, if◌then◌else◌, List, [], ◌∷◌, ◌++◌, slice_get, Option, Some, None}
+use Rattle.std.specs.Prelude.{◌≡◌, ℕ, zero, suc, Bool, true, false, ◌&&◌, if◌then◌else◌, List, [], ◌∷◌, ◌++◌, slice_get, Option, Some, None}
 use Rattle.std.specs.Option.{option_map_or}
 use Rattle.std.proofs.Common.{inl, inr, refl, sym, ap, subst, ◌∙◌, append-nil, append_assoc}
 use Rattle.std.proofs.lemmas.Bool.{eqb-true}
@@ -14,6 +14,7 @@ use Rattle.packet_layer.specs.Traffic.Taken.{TakenInterrupt, TakenPacket}
 use Rattle.packet_layer.specs.Channel.{Refusal}
 use Rattle.packet_layer.specs.Channel.Request.{Releasing}
 use Rattle.packet_layer.specs.Layer.{channel_given}
+use Rattle.packet_end.specs.PacketEnd as end
 use Rattle.packet_end.specs.PacketEnd.{received, after_timer, relinked, finished, runs_at}
 use Rattle.packet_laws.specs.Readable.{Every}
 use Rattle.call_records.specs.Records.{RecordValue, new_record}
@@ -47,13 +48,14 @@ use Rattle.x25_pad.specs.Ports.{PortState, AtLine}
 use Rattle.x25_pad.specs.Pad as pad
 use Rattle.x25_pad.specs.Pad.{PadState, acted, at_port}
 use Rattle.x25_pad.specs.Making.{made}
-use Rattle.x25_pad.specs.declared.call.Call.{Call}
 use Rattle.x25_pad.specs.declared.line.PadLine.{PadLine}
 use Rattle.x25_pad_laws.specs.Occasions.{Occasion, TookMessage, HadBreak, HadCommand, messages_taken, answer_in, asks_indication, told_at, all_told, all_interrupts}
-use Rattle.x25_pad_laws.specs.Sending.{qualified_messages, IsOfPad, OfPadLaw, HasSaid}
-use Rattle.x25_pad_laws.specs.Holds.{TextOf, PadTypes, HaveSaid, PadHolds}
+use Rattle.x25_pad_laws.specs.Sending.{qualified_messages, IsOfPad, OfPadLaw, HasTyped, HasSaid}
+use Rattle.x25_pad_laws.specs.Holds.{TextOf, PadTypes, HaveSaid}
+use Rattle.x25_pad_laws.specs.Standing.{drained}
 use Rattle.x25_pad_laws.specs.RecordClauses.{SentLaw, MadeHolds, KeyHolds, BreakHolds, PrintHolds, FrameHolds, RelinkHolds, TimerHolds, RestartHolds, TimeHolds, DrainedHolds, FarHolds}
-use Rattle.x25_pad_laws.specs.Happening.{PadEvent, HasKey, HasBreak, HasIdleTime, HasPrinting, HasFrame, HasExpiry, HasRelink, HasRestart, HasTicks, after_event, by_key, by_break, by_printing, occasions_of, meets, at_terminal, is_record, grown, writes_after, OccasionLaw, Happening, Here, There, Course, happened, all_happened, beginning, CourseLaw}
+use Rattle.x25_pad_laws.specs.Happening.{PadEvent, HasKey, HasBreak, HasIdleTime, HasPrinting, HasFrame, HasExpiry, HasRelink, HasRestart, HasTicks, after_event, by_key, by_break, by_printing, occasions_of, meets, at_terminal, is_record, grown, writes_after, OccasionLaw}
+use Rattle.x25_pad_laws.specs.Courses.{Happening, Here, There, Course, happened, IsCourse, begins, goes_on, CourseLaw, IsSeenAs, IsRecordOf, HasSentIn, PadHolds}
 use Rattle.x25_pad_laws.proofs.Asking.{noted, noted_append}
 use Rattle.x25_pad_laws.proofs.Begins.{made_types}
 use Rattle.x25_pad_laws.proofs.Keeping.{key_types, break_types, print_types, frame_types, relink_types, timer_types, idle_types, restart_types, time_types, drained_types, far_types}
@@ -119,26 +121,26 @@ module _ (role : Role) where
   abbrev SplitsAt : AtLine → Type 0
   SplitsAt a = Splits a.line.notes
 
-  resets_plain : (o : Option Call) (a : AtLine) → PlainAt a → PlainAt (port.on_call port.resets o a)
+  resets_plain : (o : Option ℕ) (a : AtLine) → PlainAt a → PlainAt (port.on_call port.resets o a)
   resets_plain None a h = h
-  resets_plain (Some call) a h = plain_unless a.line.notes _ (notes.WasReset call.channel) (reset_plain role call.channel) h
+  resets_plain (Some call) a h = plain_unless a.line.notes _ (notes.WasReset call) (reset_plain role call) h
 
-  interrupts_plain : (o : Option Call) (a : AtLine) → PlainAt a → PlainAt (port.on_call port.interrupts o a)
+  interrupts_plain : (o : Option ℕ) (a : AtLine) → PlainAt a → PlainAt (port.on_call port.interrupts o a)
   interrupts_plain None a h = h
   interrupts_plain (Some call) a h =
-      plain_unless a.line.notes _ (notes.Interrupted call.channel (line.interrupt_octet ∷ [])) (interrupted_plain role call.channel (line.interrupt_octet ∷ [])) h
+      plain_unless a.line.notes _ (notes.Interrupted call (line.interrupt_octet ∷ [])) (interrupted_plain role call (line.interrupt_octet ∷ [])) h
 
-  sends_plain : (octets : List ℕ) (q : Bool) (o : Option Call) (a : AtLine) → PlainAt a → PlainAt (port.on_call (port.sends octets q) o a)
+  sends_plain : (octets : List ℕ) (q : Bool) (o : Option ℕ) (a : AtLine) → PlainAt a → PlainAt (port.on_call (port.sends octets q) o a)
   sends_plain octets q None a h = h
-  sends_plain octets q (Some call) a h = plain_unless a.line.notes _ (notes.Sent call.channel (datum octets q)) (sent_plain role call.channel octets q) h
+  sends_plain octets q (Some call) a h = plain_unless a.line.notes _ (notes.Sent call (datum octets q)) (sent_plain role call octets q) h
 
   tells_plain : (o : Option Message) (a : AtLine) → PlainAt a → PlainAt (port.tells o a)
   tells_plain None a h = h
   tells_plain (Some m) a h = sends_plain (octets_of m) true a.port.call a h
 
-  clears_split : (o : Option Call) (a : AtLine) → PlainAt a → SplitsAt (port.on_call port.clears o a)
+  clears_split : (o : Option ℕ) (a : AtLine) → PlainAt a → SplitsAt (port.on_call port.clears o a)
   clears_split None a h = plain_splits a.line.notes h
-  clears_split (Some call) a h = mute_unless a.line.notes _ (notes.Cleared call.channel) tt h
+  clears_split (Some call) a h = mute_unless a.line.notes _ (notes.Cleared call) tt h
 
   placed_split : (ns : List PadNote) (o : Option ℕ) (address : List ℕ) → ArePlain ns → Splits (ns ++ line.placed_note o address)
   placed_split ns None address h = mute_splits ns [] h tt
@@ -151,15 +153,15 @@ module _ (role : Role) where
   does_split (Some request.Interrupt) a h = plain_splits _ (interrupts_plain a.port.call a h)
   does_split (Some request.Reset) a h = plain_splits _ (resets_plain a.port.call a h)
 
-  block_plain : (block : Option (List ℕ)) (call : Call) (a : AtLine) → PlainAt a → PlainAt (port.block_sent block call a)
+  block_plain : (block : Option (List ℕ)) (call : ℕ) (a : AtLine) → PlainAt a → PlainAt (port.block_sent block call a)
   block_plain None call a h = h
-  block_plain (Some block) call a h = plain_unless a.line.notes _ (notes.Sent call.channel (datum block false)) (sent_plain role call.channel block false) h
+  block_plain (Some block) call a h = plain_unless a.line.notes _ (notes.Sent call (datum block false)) (sent_plain role call block false) h
 
-  edits_plain : (step : Step) (block : Option (List ℕ)) (o : Option Call) (a : AtLine) → PlainAt a → PlainAt (port.on_call (port.edits step block) o a)
+  edits_plain : (step : Step) (block : Option (List ℕ)) (o : Option ℕ) (a : AtLine) → PlainAt a → PlainAt (port.on_call (port.edits step block) o a)
   edits_plain step block None a h = h
   edits_plain step block (Some call) a h =
-      block_plain block call (record a { line = record a.line { notes = a.line.notes ++ notes.Edited call.channel step ∷ [] } })
-      (one_plain a.line.notes (notes.Edited call.channel step) (edited_plain role call.channel step) h)
+      block_plain block call (record a { line = record a.line { notes = a.line.notes ++ notes.Edited call step ∷ [] } })
+      (one_plain a.line.notes (notes.Edited call step) (edited_plain role call step) h)
 
   handles_split : (answer : InputAnswer) (step : Step) (a : AtLine) → PlainAt a → SplitsAt (port.handles answer step a)
   handles_split input.Dropped step a h = plain_splits a.line.notes h
@@ -203,9 +205,9 @@ module _ (role : Role) where
   request_plain : (params : List ℕ) (call : CallCondition) → PlainRequest (breaks.request_of params call)
   request_plain params call =
       either PlainRequest (acts_on_break params action.Reset) (if call.reset_pending then None else Some request.Reset)
-      (if acts_on_break params action.Interrupt && not call.reset_pending && not call.interrupt_pending then Some request.Interrupt else None)
+      (if acts_on_break params action.Interrupt && call.may_interrupt then Some request.Interrupt else None)
       (either PlainRequest call.reset_pending None (Some request.Reset) tt tt)
-      (either PlainRequest (acts_on_break params action.Interrupt && not call.reset_pending && not call.interrupt_pending) (Some request.Interrupt) None tt tt)
+      (either PlainRequest (acts_on_break params action.Interrupt && call.may_interrupt) (Some request.Interrupt) None tt tt)
 
   answer_plain : (call : CallCondition) (t : TerminalState) → PlainAnswer (breaks.answer_of call t)
   answer_plain call t =
@@ -230,14 +232,14 @@ module _ (role : Role) where
       replies_split answered.reply (record a { port = port.with_terminal answered.terminal a.port }) h
   datum_split d false a h = plain_splits a.line.notes h
 
-  taking_split : (taken : Taken) (call : Call) (a : AtLine) → PlainAt a → SplitsAt (port.after_taking taken call (port.takes taken call a))
+  taking_split : (taken : Taken) (call : ℕ) (a : AtLine) → PlainAt a → SplitsAt (port.after_taking taken call (port.takes taken call a))
   taking_split (TakenInterrupt octets) call a h =
-      plain_splits _ (one_plain a.line.notes (notes.Took call.channel (TakenInterrupt octets)) (took_plain role call.channel (TakenInterrupt octets)) h)
+      plain_splits _ (one_plain a.line.notes (notes.Took call (TakenInterrupt octets)) (took_plain role call (TakenInterrupt octets)) h)
   taking_split (TakenPacket d) call a h =
       datum_split d d.qualified (port.releases (Releasing 1) call (port.takes (TakenPacket d) call a))
-      (one_plain a.line.notes (notes.Took call.channel (TakenPacket d)) (took_plain role call.channel (TakenPacket d)) h)
+      (one_plain a.line.notes (notes.Took call (TakenPacket d)) (took_plain role call (TakenPacket d)) h)
 
-  next_split : (o : Option Call) (taken : Option Taken) (p : PortState) (l : PadLine) → ArePlain l.notes
+  next_split : (o : Option ℕ) (taken : Option Taken) (p : PortState) (l : PadLine) → ArePlain l.notes
       → SplitsAt (port.after_taken taken (port.with_taken taken (record { port = record p { call = o }; line = l })))
   next_split o None p l h = plain_splits l.notes h
   next_split None (Some taken) p l h = plain_splits l.notes h
@@ -326,9 +328,9 @@ unheld role p b h n e channel = by (slot_at role channel b).present refl
 none_at : (number : ℕ) (test : ℕ → Bool) (why : AtLine → List Occasion) (p : PadState) → ((channel : ℕ) → test channel ≡ false) → at_terminal number test why p ≡ []
 none_at number test why p none = by (slice_get p.ports number)
   where
-    met : (o : Option Call) (l : List Occasion) → (if meets test o then l else []) ≡ []
+    met : (o : Option ℕ) (l : List Occasion) → (if meets test o then l else []) ≡ []
     met None l = refl
-    met (Some call) l = ap (λ (v : Bool). if v then l else []) (none call.channel)
+    met (Some call) l = ap (λ (v : Bool). if v then l else []) (none call)
 
     by : (o : Option PortState) → option_map_or (λ q. if meets test q.call then why (record { port = q; line = p.line }) else []) o [] ≡ []
     by None = refl
@@ -402,14 +404,16 @@ module _ (event : PadEvent) (role : Role) (p : PadState) (b : Book) (os : ℕ �
       (sym (ap (λ (l : List PadNote). noted role l b) s.is ∙ noted_append role s.plain s.mute b))
       (mute_list (λ n. grown os event p role b n) role s.mute s.are_mute (noted role s.plain b) plain_said)
 
+-- no occasion more
+nothing_more : (role : Role) (b : Book) (os : ℕ → List Occasion) → HaveSaid os role b → HaveSaid (λ n. os n ++ []) role b
+nothing_more role b os h = record {
+  said = λ n r e own. subst (λ (l : List Occasion). HasSaid l r) (sym (append-nil (os n))) (h.said n r e own);
+  none = λ n e. append-nil (os n) ∙ h.none n e;
+}
+
 -- of a restart nothing is noted, and nothing is said
 restart_said : (role : Role) (p : PadState) (b : Book) (os : ℕ → List Occasion) → HaveSaid os role b → HaveSaid (λ n. grown os HasRestart p role b n) role (all_written role (writes_after HasRestart p) b)
-restart_said role p b os said =
-    let h = all_closed_said os role role b said in
-    record {
-      said = λ n r e own. subst (λ (l : List Occasion). HasSaid l r) (sym (append-nil (os n))) (h.said n r e own);
-      none = λ n e. append-nil (os n) ∙ h.none n e;
-    }
+restart_said role p b os said = nothing_more role (all_written role (writes_after HasRestart p) b) os (all_closed_said os role role b said)
 
 pub occasions_grow : OccasionLaw
 occasions_grow HasRestart role p b os nothing types said = restart_said role p b os said
@@ -428,53 +432,105 @@ occasions_grow (HasTicks ticks) role p b os nothing types said = noted_said (Has
 unread_types : (role : Role) (p : PadState) (b : Book) → PadTypes role p b → PadTypes role (without_notes p) b
 unread_types role p b h = record { book = h.book; read = h.read; unread = h.unread; ports = h.ports; alone = h.alone; calls = h.calls }
 
+sent_so : (role : Role) (p : PadState) (b : Book) (h : PadHolds role p b) (r : RecordValue) → IsRecordOf role b r → HasSentIn role (record { pad = drained p; book = b; occasions = h.occasions }) r
+sent_so role p b h r o =
+    let said = h.said.said o.number o.own o.there o.node in
+    let sent : (z : RecordValue) → IsSeenAs o.own z → HasTyped z × HasSaid (h.occasions o.number) z = λ z same.
+    subst (λ (x : RecordValue). HasTyped x × HasSaid (h.occasions o.number) x) (sym same)
+    (h.typed.book.sent o.number o.own o.there o.node, record { messages = said.messages; told = said.told; interrupts = said.interrupts }) in
+    record { of_pad = o; typed = (sent r o.same).0; said = (sent r o.same).1 }
+
 pub sent_law : SentLaw
-sent_law role p b h n r e own = record { typed = h.typed.book.sent n r e own; occasions = h.occasions n; said = h.said.said n r e own }
+sent_law role p b h place records of = record {
+  course = record { pad = drained p; book = b; occasions = h.occasions };
+  led = h.led;
+  pad = refl;
+  sent = λ i r at node. sent_so role p b h r (of i r at node);
+}
 
 -- an event that begins anew, whatever is left of the last one
 begins_anew : (event : PadEvent) (role : Role) (p : PadState) (b : Book) (h : PadHolds role p b) → PadTypes role (after_event event (without_notes p)) (noted role (after_event event (without_notes p)).line.notes b)
+    → IsCourse role (record { pad = drained (after_event event (without_notes p)); book = noted role (after_event event (without_notes p)).line.notes b; occasions = λ n. grown h.occasions event (without_notes p) role b n })
     → PadHolds role (after_event event (without_notes p)) (noted role (after_event event (without_notes p)).line.notes b)
-begins_anew event role p b h types = record {
+begins_anew event role p b h types led = record {
   typed = types;
   occasions = λ n. grown h.occasions event (without_notes p) role b n;
+  led = led;
   said = noted_said event role (without_notes p) b h.occasions refl (unread_types role p b h.typed) h.said;
 }
 
 pub key_kept : KeyHolds
-key_kept role p number octet b h = begins_anew (HasKey number octet) role p b h (key_types role p number octet b h.typed)
+key_kept role p number octet b h = begins_anew (HasKey number octet) role p b h (key_types role p number octet b h.typed) (goes_on h.led (Here (HasKey number octet)))
 
 pub break_kept : BreakHolds
-break_kept role p number b h = begins_anew (HasBreak number) role p b h (break_types role p number b h.typed)
+break_kept role p number b h = begins_anew (HasBreak number) role p b h (break_types role p number b h.typed) (goes_on h.led (Here (HasBreak number)))
 
 pub print_kept : PrintHolds
-print_kept role p number b h = begins_anew (HasPrinting number) role p b h (print_types role p number b h.typed)
+print_kept role p number b h = begins_anew (HasPrinting number) role p b h (print_types role p number b h.typed) (goes_on h.led (Here (HasPrinting number)))
 
 pub frame_kept : FrameHolds
-frame_kept role p octets b h = begins_anew (HasFrame octets) role p b h (frame_types role p octets b h.typed)
+frame_kept role p octets b h = begins_anew (HasFrame octets) role p b h (frame_types role p octets b h.typed) (goes_on h.led (Here (HasFrame octets)))
 
 pub relink_kept : RelinkHolds
-relink_kept role p b h = begins_anew HasRelink role p b h (relink_types role p b h.typed)
+relink_kept role p b h = begins_anew HasRelink role p b h (relink_types role p b h.typed) (goes_on h.led (Here HasRelink))
+
+-- an expiry is the same where no frame waits
+timer_drained : (p : PadState) (id : TimerId) → p.line.notes ≡ []
+    → (drained (pad.after_timer (drained p) id) ≡ drained (pad.after_timer p id)) × ((pad.after_timer (drained p) id).line.notes ≡ (pad.after_timer p id).line.notes)
+timer_drained p (Idle number) none = by (pad.runs_idle_timer number p)
+  where
+    by : (v : Bool) → let after : PadState → PadState = λ q. if v then pad.terminal_event number port.after_idle q else q in
+        (drained (after (drained p)) ≡ drained (after p)) × ((after (drained p)).line.notes ≡ (after p).line.notes)
+    by true = (refl, refl)
+    by false = (refl, sym none)
+timer_drained p id none = by (end.runs_at p.line.end id)
+  where
+    by : (v : Bool) → let after : PadState → PadState = λ q. if v then pad.line_event (pad.with_expiry q id) else q in
+        (drained (after (drained p)) ≡ drained (after p)) × ((after (drained p)).line.notes ≡ (after p).line.notes)
+    by true = (refl, refl)
+    by false = (refl, sym none)
+
+timer_led : (role : Role) (p : PadState) (id : TimerId) (b : Book) → p.line.notes ≡ [] → (h : PadHolds role p b)
+    → IsCourse role (record { pad = drained (pad.after_timer p id); book = noted role (pad.after_timer p id).line.notes b; occasions = λ n. grown h.occasions (HasExpiry id) p role b n })
+timer_led role p id b none h =
+    let same = timer_drained p id none in
+    let os : ℕ → List Occasion = λ n. grown h.occasions (HasExpiry id) p role b n in
+    subst (λ (q : PadState). IsCourse role (record { pad = q; book = noted role (pad.after_timer p id).line.notes b; occasions = os })) same.0
+    (subst (λ (ns : List PadNote). IsCourse role (record { pad = drained (pad.after_timer (drained p) id); book = noted role ns b; occasions = os })) same.1
+    (goes_on h.led (Here (HasExpiry id))))
 
 pub timer_kept : TimerHolds
 timer_kept role p id b none h = record {
   typed = timer_types role p id b none h.typed;
   occasions = λ n. grown h.occasions (HasExpiry id) p role b n;
+  led = timer_led role p id b none h;
   said = noted_said (HasExpiry id) role p b h.occasions none h.typed h.said;
 }
 
 pub restart_kept : RestartHolds
-restart_kept role p b h = record { typed = restart_types role p b h.typed; occasions = h.occasions; said = all_closed_said h.occasions role role b h.said }
+restart_kept role p b h = record {
+  typed = restart_types role p b h.typed;
+  occasions = λ n. grown h.occasions HasRestart p role b n;
+  led = goes_on h.led (Here HasRestart);
+  said = restart_said role p b h.occasions h.said;
+}
 
 pub time_kept : TimeHolds
-time_kept role p ticks b h = record { typed = time_types role p ticks b h.typed; occasions = h.occasions; said = h.said }
+time_kept role p ticks b h = record {
+  typed = time_types role p ticks b h.typed;
+  occasions = λ n. grown h.occasions (HasTicks ticks) p role b n;
+  led = goes_on h.led (Here (HasTicks ticks));
+  said = nothing_more role b h.occasions h.said;
+}
 
 pub drained_kept : DrainedHolds
-drained_kept role p b h = record { typed = drained_types role p b h.typed; occasions = h.occasions; said = h.said }
+drained_kept role p b h = record { typed = drained_types role p b h.typed; occasions = h.occasions; led = h.led; said = h.said }
 
 pub far_kept : FarHolds
 far_kept role p writes b h = record {
   typed = far_types role p writes b h.typed;
   occasions = h.occasions;
+  led = goes_on h.led (There writes);
   said = far_said h.occasions role (TextOf p.ports) writes b h.typed.book h.said;
 }
 
@@ -493,6 +549,7 @@ pub made_kept : MadeHolds
 made_kept role c dte_node dce_node channels differ config = record {
   typed = made_types role c dte_node dce_node channels differ config;
   occasions = λ n. [];
+  led = begins c dte_node dce_node channels differ config;
   said = new_said role dte_node dce_node channels c.line.standing;
 }
 
@@ -527,20 +584,16 @@ stands_after role (There writes) s h = record {
   said = far_said s.occasions role (TextOf s.pad.ports) writes s.book h.types.book h.said;
 }
 
-all_stand : (role : Role) (hs : List Happening) (s : Course) → Stands role s → Stands role (all_happened role hs s)
-all_stand role [] s h = h
-all_stand role (x ∷ xs) s h = all_stand role xs (happened role x s) (stands_after role x s h)
+all_stand : (role : Role) (s : Course) → IsCourse role s → Stands role s
+all_stand role _ (begins c dte_node dce_node channels differ config) = record {
+  nothing = refl;
+  types = drained_types role (made c) (made_book dte_node dce_node channels c.line.standing) (made_types role c dte_node dce_node channels differ config);
+  said = new_said role dte_node dce_node channels c.line.standing;
+}
+all_stand role _ (goes_on {s = s} led h) = stands_after role h s (all_stand role s led)
 
 pub course_is : CourseLaw
-course_is role c dte_node dce_node channels hs differ config n r e own =
-    let b : Book = made_book dte_node dce_node channels c.line.standing in
-    let first : Stands role (beginning c dte_node dce_node channels) = record {
-      nothing = refl;
-      types = drained_types role (made c) b (made_types role c dte_node dce_node channels differ config);
-      said = new_said role dte_node dce_node channels c.line.standing;
-    } in
-    let h = all_stand role hs (beginning c dte_node dce_node channels) first in
-    (h.types.book.sent n r e own, h.said.said n r e own)
+course_is role s led n r e own = (let h = all_stand role s led in (h.types.book.sent n r e own, h.said.said n r e own))
 
 -- ---- what a PAD tells
 

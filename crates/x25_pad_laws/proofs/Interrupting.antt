@@ -1,13 +1,14 @@
 -- The interrupts that a PAD sends in an event are those that its occasions ask for.
-use Rattle.std.specs.Prelude.{◌≡◌, ℕ, Bool, true, false, not, ◌&&◌, if◌then◌else◌, List, [], ◌∷◌, ◌++◌, Option, Some, None, is_some, ◌||◌, Result, Ok, Err}
+use Rattle.std.specs.Prelude.{◌≡◌, ℕ, Bool, true, false, not, ◌&&◌, if◌then◌else◌, List, [], ◌∷◌, ◌++◌, Option, Some, None, is_some, Result, Ok, Err}
 use Rattle.std.proofs.Common.{refl, sym, ap, ◌∙◌, append-nil}
 use Rattle.pad_editing.specs.Edited.{Step, key, idle, after_key}
 use Rattle.packet_layer.specs.Packets.{Datum}
-use Rattle.packet_layer.specs.Traffic.{Taken}
+use Rattle.packet_layer.specs.Traffic.{Taken, interrupt_pending}
 use Rattle.packet_layer.specs.Traffic.Taken.{TakenInterrupt, TakenPacket}
-use Rattle.packet_layer.specs.Channel.{Refusal}
+use Rattle.packet_layer.specs.Channel.{Channel, Refusal, in_transfer, refused_if}
 use Rattle.packet_layer.specs.Channel.Request.{Interrupting, Releasing}
-use Rattle.packet_layer.specs.Layer.{request_refusal, channel_given}
+use Rattle.packet_layer.specs.Layer.{request_refusal, refusal_at, channel_given, channel_of}
+use Rattle.packet_layer.specs.Interrupting.{may_interrupt_at}
 use Rattle.x3_params.specs.Settings.{acts_on_break, recall_character}
 use Rattle.x3_params.specs.Table.{profile_numbered}
 use Rattle.x3_params.specs.declared.profile.Profile.{Profile}
@@ -35,12 +36,12 @@ use Rattle.pad_terminal.specs.declared.answers.Request.TheVariants as request
 use Rattle.x25_pad.specs.Notes as notes
 use Rattle.x25_pad.specs.Notes.{PadNote, unless_refused}
 use Rattle.x25_pad.specs.Line as line
-use Rattle.x25_pad.specs.Line.{condition, datum}
+use Rattle.x25_pad.specs.Line.{condition}
 use Rattle.x25_pad.specs.Ports as port
-use Rattle.x25_pad.specs.Ports.{PortState, AtLine}
-use Rattle.x25_pad.specs.declared.call.Call.{Call}
+use Rattle.x25_pad.specs.Ports.{AtLine}
+use Rattle.x25_pad.specs.declared.line.PadLine.{PadLine}
 use Rattle.x25_pad_laws.specs.Occasions.{Occasion, HadBreak, HadCommand, indication, asks_interrupt, all_interrupts}
-use Rattle.x25_pad_laws.specs.Happening.{by_key, by_line, by_break, by_taking, by_printing, meets, is_pending, refuses_interrupt, asks_for_interrupt}
+use Rattle.x25_pad_laws.specs.Happening.{by_key, by_line, by_break, by_taking, by_printing, meets, is_pending, asks_for_interrupt}
 use Rattle.x25_pad_laws.proofs.Telling.{Octets, interrupt_in, all_in, IsKind, IsSaidBy, nothing_noted, either, tells_silent, break_answer_by, one_more, silent_more, placed_says, clears_says, resets_says, edits_say}
 
 -- ---- interrupts
@@ -72,15 +73,15 @@ abbrev one_interrupt : Octets
 one_interrupt = (line.interrupt_octet ∷ []) ∷ []
 
 -- an interrupt goes where the packet layer takes it
-interrupt_goes : (test : ℕ → Bool) (o : Option Call) (a : AtLine)
-    → all_in (interrupt_in test) (port.on_call port.interrupts o a).line.notes ≡ all_in (interrupt_in test) a.line.notes ++ (if meets test o && not (refuses_interrupt o a.line) then one_interrupt else [])
+interrupt_goes : (test : ℕ → Bool) (o : Option ℕ) (a : AtLine)
+    → all_in (interrupt_in test) (port.on_call port.interrupts o a).line.notes ≡ all_in (interrupt_in test) a.line.notes ++ (if meets test o && not (is_pending o a.line) then one_interrupt else [])
 interrupt_goes test None a = sym (append-nil (all_in (interrupt_in test) a.line.notes))
-interrupt_goes test (Some call) a = by (request_refusal a.line.end.layer call.channel (Interrupting (line.interrupt_octet ∷ []))) (test call.channel) refl
+interrupt_goes test (Some call) a = by (request_refusal a.line.end.layer call (Interrupting (line.interrupt_octet ∷ []))) (test call) refl
   where
     note : PadNote
-    note = notes.Interrupted call.channel (line.interrupt_octet ∷ [])
+    note = notes.Interrupted call (line.interrupt_octet ∷ [])
 
-    by : (o : Option Refusal) (v : Bool) → test call.channel ≡ v
+    by : (o : Option Refusal) (v : Bool) → test call ≡ v
         → all_in (interrupt_in test) (a.line.notes ++ unless_refused o note) ≡ all_in (interrupt_in test) a.line.notes ++ (if v && not (is_some o) then one_interrupt else [])
     by None v e = one_more (interrupt_in test) a.line.notes note ∙ ap (λ (l : Octets). all_in (interrupt_in test) a.line.notes ++ l) (ap (λ (w : Bool). if w then one_interrupt else []) e ∙ with_true v)
       where
@@ -93,11 +94,27 @@ interrupt_goes test (Some call) a = by (request_refusal a.line.end.layer call.ch
         with_false true = refl
         with_false false = refl
 
--- it is asked for where neither is pending by what the PAD knows; then it goes where the packet layer takes it
-command_goes : (test : ℕ → Bool) (x : AtLine) (connected reset_pending interrupt_pending : Bool) → x.line.notes ≡ []
-    → all_in (interrupt_in test) (port.does_asked (if connected && not reset_pending && not interrupt_pending then Some request.Interrupt else None) x).line.notes
-    ≡ all_interrupts (if meets test x.port.call then (if connected && not (reset_pending || (interrupt_pending || refuses_interrupt x.port.call x.line)) then HadCommand ∷ [] else []) else [])
-command_goes test x connected reset_pending interrupt_pending nothing = by connected reset_pending interrupt_pending
+-- what the terminal knows is what the packet layer answers
+may_is : (o : Option ℕ) (l : PadLine) → (condition o l).may_interrupt ≡ not (is_pending o l)
+may_is None l = refl
+may_is (Some channel) l = at (channel_of l.end.layer channel)
+  where
+    by : (t r p : Bool)
+        → ((t && not r) && not p) ≡ not (is_some (refused_if (not t) Refusal.NoCall (refused_if r Refusal.IsResetting (refused_if p Refusal.InterruptPending None))))
+    by true true p = refl
+    by true false true = refl
+    by true false false = refl
+    by false r p = refl
+
+    at : (o : Option Channel) → may_interrupt_at o ≡ not (is_some (refusal_at l.end.layer.role (Interrupting (line.interrupt_octet ∷ [])) o))
+    at None = refl
+    at (Some ch) = by (in_transfer ch.state) ch.resetting (interrupt_pending ch.traffic)
+
+-- it is asked for where the packet layer takes it
+command_goes : (test : ℕ → Bool) (x : AtLine) (connected may : Bool) → may ≡ not (is_pending x.port.call x.line) → x.line.notes ≡ []
+    → all_in (interrupt_in test) (port.does_asked (if connected && may then Some request.Interrupt else None) x).line.notes
+    ≡ all_interrupts (if meets test x.port.call then (if connected && not (is_pending x.port.call x.line) then HadCommand ∷ [] else []) else [])
+command_goes test x connected may is nothing = by connected may is
   where
     none : all_in (interrupt_in test) x.line.notes ≡ []
     none = nothing_noted (interrupt_in test) x.line.notes nothing
@@ -111,14 +128,15 @@ command_goes test x connected reset_pending interrupt_pending nothing = by conne
     where_met true false = refl
     where_met false z = refl
 
-    by : (k r i : Bool) → all_in (interrupt_in test) (port.does_asked (if k && not r && not i then Some request.Interrupt else None) x).line.notes
-        ≡ all_interrupts (if meets test x.port.call then (if k && not (r || (i || refuses_interrupt x.port.call x.line)) then HadCommand ∷ [] else []) else [])
-    by false r i = none ∙ unless_met (meets test x.port.call)
-    by true true i = none ∙ unless_met (meets test x.port.call)
-    by true false true = none ∙ unless_met (meets test x.port.call)
-    by true false false =
-        interrupt_goes test x.port.call x ∙ ap (λ (l : Octets). l ++ (if meets test x.port.call && not (refuses_interrupt x.port.call x.line) then one_interrupt else [])) none
-        ∙ where_met (meets test x.port.call) (refuses_interrupt x.port.call x.line)
+    by : (k m : Bool) → m ≡ not (is_pending x.port.call x.line)
+        → all_in (interrupt_in test) (port.does_asked (if k && m then Some request.Interrupt else None) x).line.notes
+        ≡ all_interrupts (if meets test x.port.call then (if k && not (is_pending x.port.call x.line) then HadCommand ∷ [] else []) else [])
+    by false m is = none ∙ unless_met (meets test x.port.call)
+    by true false is =
+        none ∙ unless_met (meets test x.port.call) ∙ ap (λ (v : Bool). all_interrupts (if meets test x.port.call then (if v then HadCommand ∷ [] else []) else [])) is
+    by true true is =
+        interrupt_goes test x.port.call x ∙ ap (λ (l : Octets). l ++ (if meets test x.port.call && not (is_pending x.port.call x.line) then one_interrupt else [])) none
+        ∙ where_met (meets test x.port.call) (is_pending x.port.call x.line)
 
 -- ---- a command line
 
@@ -151,11 +169,6 @@ asked_request : (may : Bool) → (commands.asked may request.Interrupt).request 
 asked_request true = refl
 asked_request false = refl
 
-may_is : (k r i : Bool) → ((k && not r) && not i) ≡ (k && not r && not i)
-may_is true true i = refl
-may_is true false i = refl
-may_is false r i = refl
-
 line_goes : (test : ℕ → Bool) (line : List ℕ) (t : TerminalState) (x : AtLine) → x.line.notes ≡ []
     → all_in (interrupt_in test) (port.does_asked (request_of_line line (condition x.port.call x.line) t) x).line.notes
     ≡ all_interrupts (if meets test x.port.call then by_line (Some line) (is_pending x.port.call x.line) t else [])
@@ -176,9 +189,8 @@ line_goes test line t x nothing = by (command_of line)
         ≡ all_interrupts (if meets test x.port.call then (if asks_for_interrupt r && is_connected t.mode && not (is_pending x.port.call x.line) then HadCommand ∷ [] else []) else [])
     by (Ok command.Interrupt) =
         ap (λ (o : Option Request). all_in (interrupt_in test) (port.does_asked o x).line.notes)
-        (asked_request (commands.may_interrupt (condition x.port.call x.line) t)
-        ∙ ap (λ (v : Bool). if v then Some request.Interrupt else None) (may_is (is_connected t.mode) (condition x.port.call x.line).reset_pending (condition x.port.call x.line).interrupt_pending))
-        ∙ command_goes test x (is_connected t.mode) (condition x.port.call x.line).reset_pending (condition x.port.call x.line).interrupt_pending nothing
+        (asked_request (commands.may_interrupt (condition x.port.call x.line) t))
+        ∙ command_goes test x (is_connected t.mode) (condition x.port.call x.line).may_interrupt (may_is x.port.call x.line) nothing
     by (Ok command.Empty) = unasked_by command.Empty tt (meets test x.port.call)
     by (Ok command.Status) = unasked_by command.Status tt (meets test x.port.call)
     by (Ok command.Clear) = unasked_by command.Clear tt (meets test x.port.call)
@@ -270,30 +282,30 @@ break_occasion true params pending = refl
 break_occasion false params pending = refl
 
 -- with a reset, with an interrupt, or with neither
-request_goes : (test : ℕ → Bool) (x : AtLine) → x.line.notes ≡ [] → (r i reset_pending interrupt_pending : Bool)
+request_goes : (test : ℕ → Bool) (x : AtLine) → x.line.notes ≡ [] → (r i reset_pending may : Bool) → may ≡ not (is_pending x.port.call x.line)
     → all_in (interrupt_in test) (port.does_asked (if r then (if reset_pending then None else Some request.Reset)
-    else if i && not reset_pending && not interrupt_pending then Some request.Interrupt else None) x).line.notes
-    ≡ of_break (meets test x.port.call) (i && not r && not (reset_pending || (interrupt_pending || refuses_interrupt x.port.call x.line)))
-request_goes test x nothing true true true ip = nothing_noted (interrupt_in test) x.line.notes nothing ∙ unasked_for (meets test x.port.call)
-request_goes test x nothing true false true ip = nothing_noted (interrupt_in test) x.line.notes nothing ∙ unasked_for (meets test x.port.call)
-request_goes test x nothing true true false ip =
+    else if i && may then Some request.Interrupt else None) x).line.notes
+    ≡ of_break (meets test x.port.call) (i && not r && not (is_pending x.port.call x.line))
+request_goes test x nothing true true true may is = nothing_noted (interrupt_in test) x.line.notes nothing ∙ unasked_for (meets test x.port.call)
+request_goes test x nothing true false true may is = nothing_noted (interrupt_in test) x.line.notes nothing ∙ unasked_for (meets test x.port.call)
+request_goes test x nothing true true false may is =
     resets_says (interrupt_in test) (interrupts_kind test) x.port.call x ∙ nothing_noted (interrupt_in test) x.line.notes nothing ∙ unasked_for (meets test x.port.call)
-request_goes test x nothing true false false ip =
+request_goes test x nothing true false false may is =
     resets_says (interrupt_in test) (interrupts_kind test) x.port.call x ∙ nothing_noted (interrupt_in test) x.line.notes nothing ∙ unasked_for (meets test x.port.call)
-request_goes test x nothing false false rp ip = nothing_noted (interrupt_in test) x.line.notes nothing ∙ unasked_for (meets test x.port.call)
-request_goes test x nothing false true true ip = nothing_noted (interrupt_in test) x.line.notes nothing ∙ unasked_for (meets test x.port.call)
-request_goes test x nothing false true false true = nothing_noted (interrupt_in test) x.line.notes nothing ∙ unasked_for (meets test x.port.call)
-request_goes test x nothing false true false false =
+request_goes test x nothing false false pending may is = nothing_noted (interrupt_in test) x.line.notes nothing ∙ unasked_for (meets test x.port.call)
+request_goes test x nothing false true pending false is =
+    nothing_noted (interrupt_in test) x.line.notes nothing ∙ unasked_for (meets test x.port.call) ∙ ap (of_break (meets test x.port.call)) is
+request_goes test x nothing false true pending true is =
     interrupt_goes test x.port.call x
-    ∙ ap (λ (l : Octets). l ++ (if meets test x.port.call && not (refuses_interrupt x.port.call x.line) then one_interrupt else [])) (nothing_noted (interrupt_in test) x.line.notes nothing)
-    ∙ where_taken (meets test x.port.call) (refuses_interrupt x.port.call x.line)
+    ∙ ap (λ (l : Octets). l ++ (if meets test x.port.call && not (is_pending x.port.call x.line) then one_interrupt else [])) (nothing_noted (interrupt_in test) x.line.notes nothing)
+    ∙ where_taken (meets test x.port.call) (is_pending x.port.call x.line)
 
 -- by parameter 7
 break_request : (test : ℕ → Bool) (x : AtLine) (params : List ℕ) → x.line.notes ≡ []
     → all_in (interrupt_in test) (port.does_asked (breaks.request_of params (condition_of x)) x).line.notes
     ≡ all_interrupts (if meets test x.port.call then HadBreak params (is_pending x.port.call x.line) ∷ [] else [])
 break_request test x params nothing =
-    request_goes test x nothing (acts_on_break params action.Reset) (acts_on_break params action.Interrupt) (condition_of x).reset_pending (condition_of x).interrupt_pending
+    request_goes test x nothing (acts_on_break params action.Reset) (acts_on_break params action.Interrupt) (condition_of x).reset_pending (condition_of x).may_interrupt (may_is x.port.call x.line)
     ∙ break_occasion (meets test x.port.call) params (is_pending x.port.call x.line)
 
 break_goes : (test : ℕ → Bool) (connected asks full : Bool) (r : Option Request) (m : Message) (os : List Occasion) (x : AtLine) → x.line.notes ≡ []
@@ -344,12 +356,12 @@ print_interrupts test a nothing = by a.port.call (port.taken_of a)
     datum_is d true x = (let answered = messages.after_octets d.octets x.port.terminal in replied answered.reply (record x { port = port.with_terminal answered.terminal x.port }))
     datum_is d false x = refl
 
-    taking_is : (taken : Taken) (call : Call) (x : AtLine) → all_in (interrupt_in test) (port.after_taking taken call (port.takes taken call x)).line.notes ≡ all_in (interrupt_in test) x.line.notes
-    taking_is (TakenInterrupt octets) call x = silent_more (interrupt_in test) x.line.notes (notes.Took call.channel (TakenInterrupt octets)) refl
+    taking_is : (taken : Taken) (call : ℕ) (x : AtLine) → all_in (interrupt_in test) (port.after_taking taken call (port.takes taken call x)).line.notes ≡ all_in (interrupt_in test) x.line.notes
+    taking_is (TakenInterrupt octets) call x = silent_more (interrupt_in test) x.line.notes (notes.Took call (TakenInterrupt octets)) refl
     taking_is (TakenPacket d) call x =
-        datum_is d d.qualified (port.releases (Releasing 1) call (port.takes (TakenPacket d) call x)) ∙ silent_more (interrupt_in test) x.line.notes (notes.Took call.channel (TakenPacket d)) refl
+        datum_is d d.qualified (port.releases (Releasing 1) call (port.takes (TakenPacket d) call x)) ∙ silent_more (interrupt_in test) x.line.notes (notes.Took call (TakenPacket d)) refl
 
-    by : (o : Option Call) (x : Option Taken)
+    by : (o : Option ℕ) (x : Option Taken)
         → all_in (interrupt_in test) (port.after_taken x (port.with_taken x (record { port = record (port.with_terminal (calls.without_text a.port.terminal) a.port) { call = o }; line = a.line }))).line.notes
         ≡ all_interrupts (if meets test o then by_taking x a.port.terminal else [])
     by o None = none ∙ taking_none (meets test o) None

@@ -19,10 +19,9 @@ use Rattle.x25_pad.specs.Notes.{PadNote}
 use Rattle.x25_pad.specs.Line as line
 use Rattle.x25_pad.specs.Line.{all_learnt, last_incoming}
 use Rattle.x25_pad.specs.Ports as port
-use Rattle.x25_pad.specs.Ports.{PortState, AtLine, has_channel, call_on}
+use Rattle.x25_pad.specs.Ports.{PortState, AtLine, has_channel}
 use Rattle.x25_pad.specs.Pad as pad
 use Rattle.x25_pad.specs.Pad.{PadState, all_heard, changed_at, at_port, acted}
-use Rattle.x25_pad.specs.declared.call.Call.{Call}
 use Rattle.x25_pad.specs.declared.line.PadLine.{PadLine}
 use Rattle.x25_pad_laws.specs.Holds.{BookHolds, IsPort, IsOn, TextOf, PadTypes}
 use Rattle.pad_records.specs.Writing.{writes_of}
@@ -212,7 +211,7 @@ module _ (role : Role) (b : Book) where
         (closes_holds role (TextOf p.ports) role channel (noted role p.line.notes b) (heard_book p.line (Some channel) p.ports h)) (heard_book p.line (Some channel) p.ports h);
   }
 
-  is_free : (o : Option Call) → is_none o ≡ true → o ≡ None
+  is_free : (o : Option ℕ) → is_none o ≡ true → o ≡ None
   is_free None h = refl
   is_free (Some call) h = absurd (true≢false (sym h))
 
@@ -255,14 +254,14 @@ module _ (role : Role) (b : Book) where
 
       connects_port : IsPort (port.connects channel found.0)
       connects_port = record {
-        free = λ e. absurd (none-some (call_on channel) (sym e));
+        free = λ e. absurd (none-some channel (sym e));
         bare = λ e. absurd (true≢false e);
         empty = λ e. absurd (true≢false e);
         short = (h.each number found.0 found.1).short;
       }
 
       channel_is : (c : ℕ) (q : PortState) → q ≡ port.connects channel found.0 → has_channel q.call c ≡ true → channel ≡ c
-      channel_is c q is on = same_channel (call_on channel) c (ap (λ (z : PortState). has_channel z.call c) (sym is) ∙ on)
+      channel_is c q is on = same_channel channel c (ap (λ (z : PortState). has_channel z.call c) (sym is) ∙ on)
 
       unheld : (c j : ℕ) (q : PortState) → channel ≡ c → IsOn p.ports j c q → ⊥
       unheld c j q is on = (h.came channel refl).2 j q (subst (λ (k : ℕ). IsOn p.ports j k q) (sym is) on)

@@ -11,10 +11,9 @@ use Rattle.x25_pad.specs.Ports as port
 use Rattle.x25_pad.specs.Ports.{PortState, AtLine, has_channel, text_taken}
 use Rattle.x25_pad.specs.Pad as pad
 use Rattle.x25_pad.specs.Pad.{PadState, acted, changed_at, holder, print_taken}
-use Rattle.x25_pad.specs.declared.call.Call.{Call}
 use Rattle.x25_pad.specs.declared.line.PadLine.{PadLine}
 use Rattle.x25_pad_laws.specs.Own.{OwnPacketLaw, OwnTextLaw, OthersStayLaw, LearnsOwnLaw}
-use Rattle.x25_pad_laws.proofs.Ports.{found_at, changed_for, heard_connected, heard_cleared, heard_reset, heard_confirmed, heard_none}
+use Rattle.x25_pad_laws.proofs.Ports.{found_at, changed_for, heard_connected, heard_cleared, heard_reset, heard_none}
 
 -- ---- what is taken
 
@@ -26,9 +25,9 @@ takeable_is (Some y) full x e = unless_is (port.is_qualified y && full) e
     unless_is true e = absurd (none-some x e)
     unless_is false e = e
 
-next_is : (o : Option Call) (a : AtLine) (x : Taken) → port.next_on o a ≡ Some x → (call : Call) × (o ≡ Some call) × (front_on a.line.end.layer call.channel ≡ Some x)
+next_is : (o : Option ℕ) (a : AtLine) (x : Taken) → port.next_on o a ≡ Some x → (call : ℕ) × (o ≡ Some call) × (front_on a.line.end.layer call ≡ Some x)
 next_is None a x e = absurd (none-some x e)
-next_is (Some call) a x e = (call, refl, takeable_is (front_on a.line.end.layer call.channel) _ x e)
+next_is (Some call) a x e = (call, refl, takeable_is (front_on a.line.end.layer call) _ x e)
 
 shown_is : (v : Bool) (o : Option Taken) (x : Taken) → (if v then o else None) ≡ Some x → o ≡ Some x
 shown_is true o x e = e
@@ -92,5 +91,5 @@ learns_own ports number q (Closed d cause diagnostic reason) at off =
     ap (λ (ps : List PortState). slice_get ps number) (heard_cleared d cause diagnostic reason ports) ∙ changed_on_other ports d number q _ at off
 learns_own ports number q (WasReset d cause diagnostic reason) at off =
     ap (λ (ps : List PortState). slice_get ps number) (heard_reset d cause diagnostic reason ports) ∙ changed_on_other ports d number q _ at off
-learns_own ports number q (InterruptConfirmed d) at off = ap (λ (ps : List PortState). slice_get ps number) (heard_confirmed d ports) ∙ changed_on_other ports d number q _ at off
+learns_own ports number q (InterruptConfirmed d) at off = ap (λ (ps : List PortState). slice_get ps number) (heard_none ports) ∙ at
 learns_own ports number q (Covered d count) at off = ap (λ (ps : List PortState). slice_get ps number) (heard_none ports) ∙ at

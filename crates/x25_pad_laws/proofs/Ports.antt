@@ -16,9 +16,8 @@ use Rattle.call_records.specs.Book.{Book, all_told, told, closes, renews, covers
 use Rattle.pad_terminal.specs.Calls as calls
 use Rattle.x25_pad.specs.Line.{learnt_of, all_learnt, last_incoming}
 use Rattle.x25_pad.specs.Ports as port
-use Rattle.x25_pad.specs.Ports.{PortState, has_channel, call_on}
+use Rattle.x25_pad.specs.Ports.{PortState, has_channel}
 use Rattle.x25_pad.specs.Pad.{changed_at, holder, one_learnt, all_heard}
-use Rattle.x25_pad.specs.declared.call.Call.{Call}
 use Rattle.x25_pad_laws.specs.Holds.{BookHolds, IsPort, IsOn, TextOf}
 use Rattle.x25_pad_laws.proofs.Channels.{Tells, IncomingLast}
 use Rattle.x25_pad_laws.proofs.Layers.{call_at}
@@ -101,11 +100,8 @@ connected_by d p = port.connects d p
 abbrev pub cleared_by : (cause : ℕ) → PortState → PortState
 cleared_by cause p = record p { terminal = calls.cleared cause p.terminal; call = None }
 
-abbrev pub reset_by : (channel cause : ℕ) → PortState → PortState
-reset_by d cause p = record p { terminal = calls.reset cause p.terminal; call = Some (call_on d) }
-
-abbrev pub confirmed_by : (channel : ℕ) → PortState → PortState
-confirmed_by d p = record p { call = Some (call_on d) }
+abbrev pub reset_by : (cause : ℕ) → PortState → PortState
+reset_by cause p = record p { terminal = calls.reset cause p.terminal }
 
 -- the port that has its call on the channel changes, if there is one
 abbrev pub changed_for : Option ℕ → (PortState → PortState) → List PortState → List PortState
@@ -131,19 +127,11 @@ heard_cleared d cause diagnostic reason ports = by (holder d ports) refl
     by None h = rw h refl
     by (Some i) h = rw h refl
 
-pub heard_reset : (d cause diagnostic : ℕ) (reason : Reason) (ports : List PortState) → all_heard (learnt_of (WasReset d cause diagnostic reason)) ports ≡ changed_on d (reset_by d cause) ports
+pub heard_reset : (d cause diagnostic : ℕ) (reason : Reason) (ports : List PortState) → all_heard (learnt_of (WasReset d cause diagnostic reason)) ports ≡ changed_on d (reset_by cause) ports
 unfolding all_heard
 heard_reset d cause diagnostic reason ports = by (holder d ports) refl
   where
-    by : (o : Option ℕ) → holder d ports ≡ o → all_heard (learnt_of (WasReset d cause diagnostic reason)) ports ≡ changed_on d (reset_by d cause) ports
-    by None h = rw h refl
-    by (Some i) h = rw h refl
-
-pub heard_confirmed : (d : ℕ) (ports : List PortState) → all_heard (learnt_of (InterruptConfirmed d)) ports ≡ changed_on d (confirmed_by d) ports
-unfolding all_heard
-heard_confirmed d ports = by (holder d ports) refl
-  where
-    by : (o : Option ℕ) → holder d ports ≡ o → all_heard (learnt_of (InterruptConfirmed d)) ports ≡ changed_on d (confirmed_by d) ports
+    by : (o : Option ℕ) → holder d ports ≡ o → all_heard (learnt_of (WasReset d cause diagnostic reason)) ports ≡ changed_on d (reset_by cause) ports
     by None h = rw h refl
     by (Some i) h = rw h refl
 
@@ -167,17 +155,13 @@ LearnsBy d f =
     (p : PortState) → has_channel p.call d ≡ true → IsPort p
     → IsPort (f p) × ((c : ℕ) → has_channel (f p).call c ≡ true → (has_channel p.call c ≡ true) × ((f p).terminal.held ≡ p.terminal.held))
 
-on_channel : (p : PortState) (d c : ℕ) → has_channel p.call d ≡ true → has_channel (Some (call_on d)) c ≡ true → has_channel p.call c ≡ true
-on_channel p d c on e = subst (λ (k : ℕ). has_channel p.call k ≡ true) (same_channel (call_on d) c e) on
-
-has_one : (o : Option Call) (d : ℕ) → has_channel o d ≡ true → o ≡ None → ⊥
-has_one None d h e = true≢false (sym h)
-has_one (Some call) d h e = none-some call (sym e)
+on_channel : (p : PortState) (d c : ℕ) → has_channel p.call d ≡ true → has_channel (Some d) c ≡ true → has_channel p.call c ≡ true
+on_channel p d c on e = subst (λ (k : ℕ). has_channel p.call k ≡ true) (same_channel d c e) on
 
 connected_learns : (d : ℕ) → LearnsBy d (connected_by d)
 connected_learns d p on h = (
   record {
-    free = λ e. absurd (none-some (call_on d) (sym e));
+    free = λ e. absurd (none-some d (sym e));
     bare = λ e. absurd (true≢false e);
     empty = λ e. absurd (true≢false e);
     short = h.short;
@@ -190,17 +174,9 @@ cleared_learns d cause p on h =
     let over = ended_is _ p.terminal in
     (port_over (calls.cleared cause p.terminal) p.idle_left over.0 over.1, λ c e. absurd (true≢false (sym e)))
 
-reset_learns : (d cause : ℕ) → LearnsBy d (reset_by d cause)
-reset_learns d cause p on h = (
-  port_same p (calls.reset cause p.terminal) (Some (call_on d)) p.idle_left (refl, refl) (λ e. absurd (none-some (call_on d) (sym e))) (λ e. absurd (has_one p.call d on e)) h,
-  λ c e. (on_channel p d c on e, refl),
-)
-
-confirmed_learns : (d : ℕ) → LearnsBy d (confirmed_by d)
-confirmed_learns d p on h = (
-  port_same p p.terminal (Some (call_on d)) p.idle_left (refl, refl) (λ e. absurd (none-some (call_on d) (sym e))) (λ e. absurd (has_one p.call d on e)) h,
-  λ c e. (on_channel p d c on e, refl),
-)
+reset_learns : (d cause : ℕ) → LearnsBy d (reset_by cause)
+reset_learns d cause p on h =
+    (port_same p (calls.reset cause p.terminal) p.call p.idle_left (refl, refl) (λ e. e) (λ e. e) h, λ c e. (e, refl))
 
 -- the port that has its call on the channel learns, and no other one has
 abbrev LearntCases : (channel : ℕ) → (PortState → PortState) → List PortState → List PortState → Type 0
@@ -346,13 +322,19 @@ one_heard role l (Closed d cause diagnostic reason) ns incoming ports b h =
     (closed_on l ns d cause diagnostic reason ports h.alone h.each) h.last (λ X k. closes_holds role X role d b k) h)
 one_heard role l (WasReset d cause diagnostic reason) ns incoming ports b h =
     subst (λ (ps : List PortState). HeardHolds role l ns incoming ps (renews role d b)) (sym (heard_reset d cause diagnostic reason ports))
-    (learnt_holds role l (WasReset d cause diagnostic reason) ns incoming d (reset_by d cause) ports b (renews role d b) (reset_learns d cause)
-    (plain_on l (WasReset d cause diagnostic reason) ns d (reset_by d cause) ports (reset_learns d cause) h.alone h.each (λ c had t. t)) h.last
+    (learnt_holds role l (WasReset d cause diagnostic reason) ns incoming d (reset_by cause) ports b (renews role d b) (reset_learns d cause)
+    (plain_on l (WasReset d cause diagnostic reason) ns d (reset_by cause) ports (reset_learns d cause) h.alone h.each (λ c had t. t)) h.last
     (λ X k. quiet_at role X b role d with_epoch epoch_quiet k) h)
 one_heard role l (InterruptConfirmed d) ns incoming ports b h =
-    subst (λ (ps : List PortState). HeardHolds role l ns incoming ps b) (sym (heard_confirmed d ports))
-    (learnt_holds role l (InterruptConfirmed d) ns incoming d (confirmed_by d) ports b b (confirmed_learns d)
-    (plain_on l (InterruptConfirmed d) ns d (confirmed_by d) ports (confirmed_learns d) h.alone h.each (λ c had t. t)) h.last (λ X k. k) h)
+    subst (λ (ps : List PortState). HeardHolds role l ns incoming ps b) (sym (heard_none ports))
+    (record {
+      each = h.each;
+      alone = h.alone;
+      tells = h.tells;
+      came = λ c e. not_nil (InterruptConfirmed d) ns _ (h.came c e).0;
+      last = h.last;
+      book = h.book;
+    })
 one_heard role l (Covered d count) ns incoming ports b h =
     subst (λ (ps : List PortState). HeardHolds role l ns incoming ps (covers role d count b)) (sym (heard_none ports))
     (record {

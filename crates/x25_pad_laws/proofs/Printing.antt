@@ -28,7 +28,6 @@ use Rattle.x25_pad.specs.Notes as notes
 use Rattle.x25_pad.specs.Line as line
 use Rattle.x25_pad.specs.Ports as port
 use Rattle.x25_pad.specs.Ports.{PortState, AtLine}
-use Rattle.x25_pad.specs.declared.call.Call.{Call}
 use Rattle.x25_pad.specs.declared.line.PadLine.{PadLine}
 use Rattle.x25_pad.proofs.Blocks.{key_blocks, idle_blocks}
 use Rattle.x25_pad_laws.specs.Holds.{BookHolds}
@@ -109,32 +108,32 @@ module _ (role : Role) (b : Book) (Others : ℕ → List ℕ → Type 0) where
   datum_holds d false a h = terminal_same role b Others a (calls.displayed d.octets a.port.terminal) a.port.idle_left (refl, refl) h
 
   -- it is let go by a request that does not clear
-  lets_go_holds : (taken : Taken) (r : LayerRequest) (call : Call) (a : AtLine) → ((cause diagnostic : ℕ) → r ≡ Clearing cause diagnostic → ⊥) → Holds a → Holds (port.releases r call (port.takes taken call a))
+  lets_go_holds : (taken : Taken) (r : LayerRequest) (call : ℕ) (a : AtLine) → ((cause diagnostic : ℕ) → r ≡ Clearing cause diagnostic → ⊥) → Holds a → Holds (port.releases r call (port.takes taken call a))
   lets_go_holds taken r call a f h =
       let l : Layer = a.line.end.layer in
-      let m : Layer = request l call.channel Taking in
-      let keeps : (c : ℕ) → call_at l c ≡ true → call_at (request m call.channel r) c ≡ true =
-      λ c e. request_keeps role b Others m call.channel c r f (request_keeps role b Others l call.channel c Taking (λ cause diagnostic x. absurd cc) e) in
+      let m : Layer = request l call Taking in
+      let keeps : (c : ℕ) → call_at l c ≡ true → call_at (request m call r) c ≡ true =
+      λ c e. request_keeps role b Others m call c r f (request_keeps role b Others l call c Taking (λ cause diagnostic x. absurd cc) e) in
       let X : ℕ → List ℕ → Type 0 = Joined role b Others a.port.call a.port.terminal.held in
       let x : Book = noted role a.line.notes b in
       record {
         port = h.port;
         read = h.read;
-        unread = request_notes m call.channel r (request_notes l call.channel Taking h.unread);
+        unread = request_notes m call r (request_notes l call Taking h.unread);
         others = λ c t o. keeps c (h.others c t o);
         own = λ c e. keeps c (h.own c e);
         alone = h.alone;
         book =
-            subst (λ (z : Book). BookHolds role X z) (sym (noted_append role a.line.notes (notes.Took call.channel taken ∷ []) b))
-            (let_go_holds role X role call.channel taken (takes role call.channel (Some taken) x) (takes_holds role X role call.channel (Some taken) x h.book));
+            subst (λ (z : Book). BookHolds role X z) (sym (noted_append role a.line.notes (notes.Took call taken ∷ []) b))
+            (let_go_holds role X role call taken (takes role call (Some taken) x) (takes_holds role X role call (Some taken) x h.book));
       }
 
-  taking_holds : (taken : Taken) (call : Call) (a : AtLine) → Holds a → Holds (port.after_taking taken call (port.takes taken call a))
+  taking_holds : (taken : Taken) (call : ℕ) (a : AtLine) → Holds a → Holds (port.after_taking taken call (port.takes taken call a))
   taking_holds (TakenInterrupt octets) call a h = lets_go_holds (TakenInterrupt octets) Confirming call a (λ cause diagnostic x. absurd cc) h
   taking_holds (TakenPacket d) call a h =
       datum_holds d d.qualified (port.releases (Releasing 1) call (port.takes (TakenPacket d) call a)) (lets_go_holds (TakenPacket d) (Releasing 1) call a (λ cause diagnostic x. absurd cc) h)
 
-  next_holds : (o : Option Call) (taken : Option Taken) (p : PortState) (l : PadLine) → Holds (record { port = record p { call = o }; line = l })
+  next_holds : (o : Option ℕ) (taken : Option Taken) (p : PortState) (l : PadLine) → Holds (record { port = record p { call = o }; line = l })
       → Holds (port.after_taken taken (port.with_taken taken (record { port = record p { call = o }; line = l })))
   next_holds o None p l h = h
   next_holds None (Some taken) p l h = h

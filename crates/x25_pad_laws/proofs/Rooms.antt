@@ -40,7 +40,6 @@ use Rattle.x25_pad.specs.Ports as port
 use Rattle.x25_pad.specs.Ports.{PortState, AtLine}
 use Rattle.x25_pad.specs.Pad as pad
 use Rattle.x25_pad.specs.Pad.{PadState}
-use Rattle.x25_pad.specs.declared.call.Call.{Call}
 use Rattle.x25_pad_laws.specs.Rooms.{NeedsTwoAtMost, KeyRoom, BreakRoom, PrintRoom, IdleRoom, FrameRoom, RelinkRoom, TimerRoom}
 
 -- ---- lists of notes
@@ -141,19 +140,19 @@ fits_took_cleared channel taken o on rest room pairs two h = (omega (arith, two)
 -- ---- what a terminal asks
 
 module _ (q : PortState) (e : PacketEnd) (told : e.notes ≡ []) where
-  on_call_fits : (act : Call → AtLine → AtLine) (o : Option Call) → ((call : Call) → FitsAt (act call (bare q e))) → FitsAt (port.on_call act o (bare q e))
+  on_call_fits : (act : ℕ → AtLine → AtLine) (o : Option ℕ) → ((call : ℕ) → FitsAt (act call (bare q e))) → FitsAt (port.on_call act o (bare q e))
   on_call_fits act None f = (fits_none, told)
   on_call_fits act (Some call) f = f call
 
   does_fits : (r : Request) → FitsAt (port.does r (bare q e))
   does_fits (request.Call s) = (fits_placed (channel_given e.layer e.layer.phase) s.address, told)
   does_fits request.Clear =
-      on_call_fits port.clears q.call (λ call. (fits_cleared (request_refusal e.layer call.channel (ask.Clearing 0 0)) call.channel, told))
+      on_call_fits port.clears q.call (λ call. (fits_cleared (request_refusal e.layer call (ask.Clearing 0 0)) call, told))
   does_fits request.Interrupt =
       on_call_fits port.interrupts q.call
-      (λ call. (fits_interrupted (request_refusal e.layer call.channel (ask.Interrupting (line.interrupt_octet ∷ []))) call.channel (line.interrupt_octet ∷ []), told))
+      (λ call. (fits_interrupted (request_refusal e.layer call (ask.Interrupting (line.interrupt_octet ∷ []))) call (line.interrupt_octet ∷ []), told))
   does_fits request.Reset =
-      on_call_fits port.resets q.call (λ call. (fits_reset (request_refusal e.layer call.channel (ask.Resetting 0 0)) call.channel, told))
+      on_call_fits port.resets q.call (λ call. (fits_reset (request_refusal e.layer call (ask.Resetting 0 0)) call, told))
 
   asked_fits : (o : Option Request) → FitsAt (port.does_asked o (bare q e))
   asked_fits None = (fits_none, told)
@@ -163,14 +162,14 @@ module _ (q : PortState) (e : PacketEnd) (told : e.notes ≡ []) where
   tells_fits None = (fits_none, told)
   tells_fits (Some m) =
       on_call_fits (port.sends (octets_of m) true) q.call
-      (λ call. (fits_sent (request_refusal e.layer call.channel (ask.Sending (line.datum (octets_of m) true))) call.channel (line.datum (octets_of m) true), told))
+      (λ call. (fits_sent (request_refusal e.layer call (ask.Sending (line.datum (octets_of m) true))) call (line.datum (octets_of m) true), told))
 
   -- ---- a key, and the end of an idle time
 
-  block_fits : (step : Step) (block : Option (List ℕ)) (call : Call) → FitsAt (port.edits step block call (bare q e))
+  block_fits : (step : Step) (block : Option (List ℕ)) (call : ℕ) → FitsAt (port.edits step block call (bare q e))
   block_fits step None call = ((λ rest room pairs two h. (omega (arith, two), h (room - 1) pairs)), told)
   block_fits step (Some text) call =
-      (fits_edited call.channel step (request_refusal e.layer call.channel (ask.Sending (line.datum text false))) (line.datum text false), told)
+      (fits_edited call step (request_refusal e.layer call (ask.Sending (line.datum text false))) (line.datum text false), told)
 
   handles_fits : (answer : InputAnswer) (step : Step) → FitsAt (port.handles answer step (bare q e))
   handles_fits input.Dropped step = (fits_none, told)
@@ -181,12 +180,12 @@ module _ (q : PortState) (e : PacketEnd) (told : e.notes ≡ []) where
 
 -- an interrupt, and then an indication of break; where the call is reset there is none
 module _ (q : PortState) (e : PacketEnd) (told : e.notes ≡ []) (m : Message) where
-  interrupt_told : (o : Option Call) → FitsAt (port.tells (Some m) (port.on_call port.interrupts o (bare (record q { call = o }) e)))
+  interrupt_told : (o : Option ℕ) → FitsAt (port.tells (Some m) (port.on_call port.interrupts o (bare (record q { call = o }) e)))
   interrupt_told None = (fits_none, told)
   interrupt_told (Some call) = (
-    fits_interrupt_told (request_refusal e.layer call.channel (ask.Interrupting (line.interrupt_octet ∷ [])))
-        (request_refusal (end.asked e call.channel (ask.Interrupting (line.interrupt_octet ∷ []))).layer call.channel (ask.Sending (line.datum (octets_of m) true)))
-        call.channel call.channel (line.interrupt_octet ∷ []) (line.datum (octets_of m) true),
+    fits_interrupt_told (request_refusal e.layer call (ask.Interrupting (line.interrupt_octet ∷ [])))
+        (request_refusal (end.asked e call (ask.Interrupting (line.interrupt_octet ∷ []))).layer call (ask.Sending (line.datum (octets_of m) true)))
+        call call (line.interrupt_octet ∷ []) (line.datum (octets_of m) true),
     told,
   )
 
@@ -211,7 +210,7 @@ answers_fit : (q : PortState) (e : PacketEnd) → e.notes ≡ [] → (dropped co
 answers_fit q e told true connected params call = (fits_none, told)
 answers_fit q e told false true params call =
     break_fits q e told (Rattle.x29_messages.specs.declared.message.Message.TheVariants.IndicationOfBreak (record { items = breaks.discard_pairs params }))
-    (acts_on_break params action.Reset) call.reset_pending (acts_on_break params action.Interrupt && not call.reset_pending && not call.interrupt_pending) (acts_on_break params action.Indication)
+    (acts_on_break params action.Reset) call.reset_pending (acts_on_break params action.Interrupt && call.may_interrupt) (acts_on_break params action.Indication)
 answers_fit q e told false false params call = (fits_none, told)
 
 -- ---- what is shown
@@ -220,14 +219,14 @@ module _ (q : PortState) (e : PacketEnd) (told : e.notes ≡ []) (channel : ℕ)
   abbrev took : PortState → PacketEnd → AtLine
   took p f = record { port = p; line = record { end = f; notes = notes.Took channel taken ∷ [] } }
 
-  reply_sent : (m : Message) (o : Option Call) (p : PortState) (f : PacketEnd) → f.notes ≡ [] → FitsAt (port.on_call (port.sends (octets_of m) true) o (took p f))
+  reply_sent : (m : Message) (o : Option ℕ) (p : PortState) (f : PacketEnd) → f.notes ≡ [] → FitsAt (port.on_call (port.sends (octets_of m) true) o (took p f))
   reply_sent m None p f is = (fits_took channel taken, is)
   reply_sent m (Some call) p f is =
-      (fits_took_sent channel taken (request_refusal f.layer call.channel (ask.Sending (line.datum (octets_of m) true))) call.channel (line.datum (octets_of m) true), is)
+      (fits_took_sent channel taken (request_refusal f.layer call (ask.Sending (line.datum (octets_of m) true))) call (line.datum (octets_of m) true), is)
 
-  reply_cleared : (o : Option Call) (p : PortState) (f : PacketEnd) → f.notes ≡ [] → FitsAt (port.on_call port.clears o (took p f))
+  reply_cleared : (o : Option ℕ) (p : PortState) (f : PacketEnd) → f.notes ≡ [] → FitsAt (port.on_call port.clears o (took p f))
   reply_cleared None p f is = (fits_took channel taken, is)
-  reply_cleared (Some call) p f is = (fits_took_cleared channel taken (request_refusal f.layer call.channel (ask.Clearing 0 0)) call.channel, is)
+  reply_cleared (Some call) p f is = (fits_took_cleared channel taken (request_refusal f.layer call (ask.Clearing 0 0)) call, is)
 
   replies_fit : (answer : Reply) (p : PortState) (f : PacketEnd) → f.notes ≡ [] → FitsAt (port.replies answer (took p f))
   replies_fit reply.Nothing p f is = (fits_took channel taken, is)
@@ -240,12 +239,12 @@ module _ (q : PortState) (e : PacketEnd) (told : e.notes ≡ []) (channel : ℕ)
       replies_fit answered.reply (port.with_terminal answered.terminal p) f is
   datum_fits d false p f is = (fits_took channel taken, is)
 
-taking_fits : (taken : Taken) (call : Call) (q : PortState) (e : PacketEnd) → e.notes ≡ [] → FitsAt (port.after_taking taken call (port.takes taken call (bare q e)))
-taking_fits (TakenInterrupt octets) call q e told = (fits_took call.channel (TakenInterrupt octets), told)
+taking_fits : (taken : Taken) (call : ℕ) (q : PortState) (e : PacketEnd) → e.notes ≡ [] → FitsAt (port.after_taking taken call (port.takes taken call (bare q e)))
+taking_fits (TakenInterrupt octets) call q e told = (fits_took call (TakenInterrupt octets), told)
 taking_fits (TakenPacket d) call q e told =
-    datum_fits q e told call.channel (TakenPacket d) d d.qualified q (end.asked (end.asked e call.channel ask.Taking) call.channel (ask.Releasing 1)) told
+    datum_fits q e told call (TakenPacket d) d d.qualified q (end.asked (end.asked e call ask.Taking) call (ask.Releasing 1)) told
 
-next_fits : (o : Option Call) (taken : Option Taken) (q : PortState) (e : PacketEnd) → e.notes ≡ []
+next_fits : (o : Option ℕ) (taken : Option Taken) (q : PortState) (e : PacketEnd) → e.notes ≡ []
     → FitsAt (port.after_taken taken (port.with_taken taken (bare (record q { call = o }) e)))
 next_fits o None q e told = (fits_none, told)
 next_fits None (Some taken) q e told = (fits_none, told)

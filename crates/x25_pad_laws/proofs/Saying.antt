@@ -9,9 +9,8 @@ use Rattle.x29_messages.specs.MessageForm.{octets_of}
 use Rattle.x29_messages.specs.declared.message.Message.{Message}
 use Rattle.x25_pad.specs.Notes.{PadNote}
 use Rattle.x25_pad.specs.Ports as port
-use Rattle.x25_pad.specs.Ports.{PortState, AtLine}
 use Rattle.x25_pad.specs.Pad as pad
-use Rattle.x25_pad.specs.Pad.{PadState, acted, at_port}
+use Rattle.x25_pad.specs.Pad.{PadState}
 use Rattle.x25_pad_laws.specs.Occasions.{Occasion, TookMessage, HadBreak, HadCommand, messages_taken, told_at, all_told, interrupts_at, all_interrupts}
 use Rattle.x25_pad_laws.specs.Happening.{PadEvent, HasKey, HasBreak, HasIdleTime, HasPrinting, HasFrame, HasExpiry, HasRelink, HasRestart, HasTicks, after_event, occasions_of, by_key, by_break, by_printing}
 use Rattle.x25_pad_laws.proofs.Telling.{Octets, message_in, told_in, interrupt_in, all_in, IsKind, messages_kind, told_kind, nothing_noted, key_says, told_octets, break_messages, break_told, print_told, print_messages, line_says, event_says, silent_says}

@@ -36,7 +36,6 @@ use Rattle.x25_pad.specs.Ports as port
 use Rattle.x25_pad.specs.Ports.{PortState, AtLine}
 use Rattle.x25_pad.specs.Pad as pad
 use Rattle.x25_pad.specs.Pad.{PadState, acted, at_port}
-use Rattle.x25_pad.specs.declared.call.Call.{Call}
 use Rattle.x25_pad.specs.declared.line.PadLine.{PadLine}
 use Rattle.x25_pad_laws.specs.Occasions.{Occasion, TookMessage, HadBreak, HadCommand, messages_taken, answer_in, indication, all_told}
 use Rattle.x25_pad_laws.specs.Happening.{by_key, by_line, by_break, by_taking, by_printing, at_terminal, meets, is_pending, line_ended}
@@ -153,18 +152,18 @@ module _ (f : PadNote → Octets) (kind : IsKind f) where
   placed_says ns None address = ap (λ (l : List PadNote). all_in f l) (append-nil ns)
   placed_says ns (Some channel) address = silent_more f ns (notes.Placed channel address) (kind.placed channel address)
 
-  pub clears_says : (o : Option Call) (a : AtLine) → all_in f (port.on_call port.clears o a).line.notes ≡ all_in f a.line.notes
+  pub clears_says : (o : Option ℕ) (a : AtLine) → all_in f (port.on_call port.clears o a).line.notes ≡ all_in f a.line.notes
   clears_says None a = refl
-  clears_says (Some call) a = silent_unless f a.line.notes _ (notes.Cleared call.channel) (kind.cleared call.channel)
+  clears_says (Some call) a = silent_unless f a.line.notes _ (notes.Cleared call) (kind.cleared call)
 
-  pub resets_says : (o : Option Call) (a : AtLine) → all_in f (port.on_call port.resets o a).line.notes ≡ all_in f a.line.notes
+  pub resets_says : (o : Option ℕ) (a : AtLine) → all_in f (port.on_call port.resets o a).line.notes ≡ all_in f a.line.notes
   resets_says None a = refl
-  resets_says (Some call) a = silent_unless f a.line.notes _ (notes.WasReset call.channel) (kind.reset call.channel)
+  resets_says (Some call) a = silent_unless f a.line.notes _ (notes.WasReset call) (kind.reset call)
 
-  interrupts_say : NoInterrupts f → (o : Option Call) (a : AtLine) → all_in f (port.on_call port.interrupts o a).line.notes ≡ all_in f a.line.notes
+  interrupts_say : NoInterrupts f → (o : Option ℕ) (a : AtLine) → all_in f (port.on_call port.interrupts o a).line.notes ≡ all_in f a.line.notes
   interrupts_say silent None a = refl
   interrupts_say silent (Some call) a =
-      silent_unless f a.line.notes _ (notes.Interrupted call.channel (line.interrupt_octet ∷ [])) (silent call.channel (line.interrupt_octet ∷ []))
+      silent_unless f a.line.notes _ (notes.Interrupted call (line.interrupt_octet ∷ [])) (silent call (line.interrupt_octet ∷ []))
 
   does_says : NoInterrupts f → (o : Option Request) (a : AtLine) → all_in f (port.does_asked o a).line.notes ≡ all_in f a.line.notes
   does_says silent None a = refl
@@ -173,15 +172,15 @@ module _ (f : PadNote → Octets) (kind : IsKind f) where
   does_says silent (Some request.Interrupt) a = interrupts_say silent a.port.call a
   does_says silent (Some request.Reset) a = resets_says a.port.call a
 
-  block_says : (block : Option (List ℕ)) (call : Call) (a : AtLine) → all_in f (port.block_sent block call a).line.notes ≡ all_in f a.line.notes
+  block_says : (block : Option (List ℕ)) (call : ℕ) (a : AtLine) → all_in f (port.block_sent block call a).line.notes ≡ all_in f a.line.notes
   block_says None call a = refl
-  block_says (Some block) call a = silent_unless f a.line.notes _ (notes.Sent call.channel (datum block false)) (kind.block call.channel block)
+  block_says (Some block) call a = silent_unless f a.line.notes _ (notes.Sent call (datum block false)) (kind.block call block)
 
-  pub edits_say : (step : Step) (block : Option (List ℕ)) (o : Option Call) (a : AtLine) → all_in f (port.on_call (port.edits step block) o a).line.notes ≡ all_in f a.line.notes
+  pub edits_say : (step : Step) (block : Option (List ℕ)) (o : Option ℕ) (a : AtLine) → all_in f (port.on_call (port.edits step block) o a).line.notes ≡ all_in f a.line.notes
   edits_say step block None a = refl
   edits_say step block (Some call) a =
-      block_says block call (record a { line = record a.line { notes = a.line.notes ++ notes.Edited call.channel step ∷ [] } })
-      ∙ silent_more f a.line.notes (notes.Edited call.channel step) (kind.edited call.channel step)
+      block_says block call (record a { line = record a.line { notes = a.line.notes ++ notes.Edited call step ∷ [] } })
+      ∙ silent_more f a.line.notes (notes.Edited call step) (kind.edited call step)
 
   handles_says : NoInterrupts f → (answer : InputAnswer) (step : Step) (a : AtLine) → all_in f (port.handles answer step a).line.notes ≡ all_in f a.line.notes
   handles_says silent input.Dropped step a = refl
@@ -258,22 +257,22 @@ pub tells_silent : (f : PadNote → Octets) → NoneSent f → (o : Option Messa
 tells_silent f none None a = refl
 tells_silent f none (Some m) a = by a.port.call
   where
-    by : (o : Option Call) → all_in f (port.on_call (port.sends (octets_of m) true) o a).line.notes ≡ all_in f a.line.notes
+    by : (o : Option ℕ) → all_in f (port.on_call (port.sends (octets_of m) true) o a).line.notes ≡ all_in f a.line.notes
     by None = refl
-    by (Some call) = silent_unless f a.line.notes _ (notes.Sent call.channel (datum (octets_of m) true)) (none call.channel (octets_of m))
+    by (Some call) = silent_unless f a.line.notes _ (notes.Sent call (datum (octets_of m) true)) (none call (octets_of m))
 
 -- with room in the send queue it is sent
-abbrev HasRoom : Option Call → PadLine → Type 0
+abbrev HasRoom : Option ℕ → PadLine → Type 0
 HasRoom None l = Unit {0}
-HasRoom (Some call) l = (room l.end.layer call.channel == 0) ≡ false
+HasRoom (Some call) l = (room l.end.layer call == 0) ≡ false
 
-sends_told : (test : ℕ → Bool) (m : Message) (o : Option Call) (a : AtLine) → IsShort m → HasRoom o a.line
+sends_told : (test : ℕ → Bool) (m : Message) (o : Option ℕ) (a : AtLine) → IsShort m → HasRoom o a.line
     → all_in (told_in test) (port.on_call (port.sends (octets_of m) true) o a).line.notes
     ≡ all_in (told_in test) a.line.notes ++ (if meets test o then octets_of m ∷ [] else [])
 sends_told test m None a short free = sym (append-nil (all_in (told_in test) a.line.notes))
 sends_told test m (Some call) a short free =
-    let note : PadNote = notes.Sent call.channel (datum (octets_of m) true) in
-    ap (λ (o : Option Refusal). all_in (told_in test) (a.line.notes ++ unless_refused o note)) (message_taken a.line.end.layer call.channel (octets_of m) free short)
+    let note : PadNote = notes.Sent call (datum (octets_of m) true) in
+    ap (λ (o : Option Refusal). all_in (told_in test) (a.line.notes ++ unless_refused o note)) (message_taken a.line.end.layer call (octets_of m) free short)
     ∙ one_more (told_in test) a.line.notes note
 
 -- ---- a break
@@ -303,7 +302,7 @@ unasked : (v : Bool) (l : Octets) → l ≡ [] → l ≡ told_octets (if v then 
 unasked true l e = e
 unasked false l e = e
 
-has_room : (o : Option Call) (l : PadLine) → (condition o l).queue_full ≡ false → HasRoom o l
+has_room : (o : Option ℕ) (l : PadLine) → (condition o l).queue_full ≡ false → HasRoom o l
 has_room None l e = absurd (true≢false e)
 has_room (Some call) l e = e
 
@@ -318,29 +317,31 @@ break_answer_by connected asks full r m =
     else if connected then break_answer.Taken (record { request = r; indication = if asks then Some m else None })
     else break_answer.Taken (record { request = None; indication = None })
 
-tells_beside : (test : ℕ → Bool) (r : Option Request) (m : Message) (o : Option Call) (x : AtLine) → x.port.call ≡ o → IsBeside r → IsShort m → HasRoom o x.line
+tells_beside : (test : ℕ → Bool) (r : Option Request) (m : Message) (o : Option ℕ) (x : AtLine) → x.port.call ≡ o → IsBeside r → IsShort m → HasRoom o x.line
     → all_in (told_in test) (port.tells (Some m) (port.does_asked r x)).line.notes ≡ all_in (told_in test) x.line.notes ++ (if meets test o then octets_of m ∷ [] else [])
 tells_beside test None m o x is nothing_beside short free =
-    subst (λ (c : Option Call). all_in (told_in test) (port.on_call (port.sends (octets_of m) true) c x).line.notes ≡ all_in (told_in test) x.line.notes ++ (if meets test o then octets_of m ∷ [] else []))
+    subst (λ (c : Option ℕ). all_in (told_in test) (port.on_call (port.sends (octets_of m) true) c x).line.notes ≡ all_in (told_in test) x.line.notes ++ (if meets test o then octets_of m ∷ [] else []))
     (sym is) (sends_told test m o x short free)
 tells_beside test (Some (request.Call s)) m o x is beside short free = elim beside [ ]
 tells_beside test (Some request.Clear) m o x is beside short free = elim beside [ ]
 tells_beside test (Some request.Reset) m o x is beside short free = elim beside [ ]
 tells_beside test (Some request.Interrupt) m o x is interrupt_beside short free =
-    subst (λ (c : Option Call). all_in (told_in test) (port.tells (Some m) (port.on_call port.interrupts c x)).line.notes ≡ all_in (told_in test) x.line.notes ++ (if meets test o then octets_of m ∷ [] else []))
+    subst (λ (c : Option ℕ). all_in (told_in test) (port.tells (Some m) (port.on_call port.interrupts c x)).line.notes ≡ all_in (told_in test) x.line.notes ++ (if meets test o then octets_of m ∷ [] else []))
     (sym is) (by o free is)
   where
-    by : (o : Option Call) → HasRoom o x.line → x.port.call ≡ o → all_in (told_in test) (port.tells (Some m) (port.on_call port.interrupts o x)).line.notes
+    by : (o : Option ℕ) → HasRoom o x.line → x.port.call ≡ o → all_in (told_in test) (port.tells (Some m) (port.on_call port.interrupts o x)).line.notes
         ≡ all_in (told_in test) x.line.notes ++ (if meets test o then octets_of m ∷ [] else [])
     by None free is =
-        subst (λ (c : Option Call). all_in (told_in test) (port.on_call (port.sends (octets_of m) true) c x).line.notes ≡ all_in (told_in test) x.line.notes ++ (if meets test None then octets_of m ∷ [] else []))
+        subst (λ (c : Option ℕ). all_in (told_in test) (port.on_call (port.sends (octets_of m) true) c x).line.notes ≡ all_in (told_in test) x.line.notes ++ (if meets test None then octets_of m ∷ [] else []))
         (sym is) (sends_told test m None x short tt)
     by (Some call) free is =
         let after : AtLine = port.interrupts call x in
-        sends_told test m (Some (record call { interrupt_pending = true })) after short
-        (ap (λ (n : ℕ). n == 0) (request_room x.line.end.layer call.channel (Interrupting (line.interrupt_octet ∷ [])) (interrupting_keeps (line.interrupt_octet ∷ []))) ∙ free)
+        subst (λ (c : Option ℕ). all_in (told_in test) (port.on_call (port.sends (octets_of m) true) c after).line.notes ≡ all_in (told_in test) x.line.notes ++ (if meets test (Some call) then octets_of m ∷ [] else []))
+        (sym is)
+        (sends_told test m (Some call) after short
+        (ap (λ (n : ℕ). n == 0) (request_room x.line.end.layer call (Interrupting (line.interrupt_octet ∷ [])) (interrupting_keeps (line.interrupt_octet ∷ []))) ∙ free)
         ∙ ap (λ (l : Octets). l ++ (if meets test (Some call) then octets_of m ∷ [] else []))
-        (silent_unless (told_in test) x.line.notes _ (notes.Interrupted call.channel (line.interrupt_octet ∷ [])) refl)
+        (silent_unless (told_in test) x.line.notes _ (notes.Interrupted call (line.interrupt_octet ∷ [])) refl))
 
 break_by : (test : ℕ → Bool) (connected asks full : Bool) (r : Option Request) (m : Message) (os : List Occasion) (x : AtLine) → x.line.notes ≡ [] → told_octets os ≡ map octets_of (if asks then m ∷ [] else [])
     → IsShort m → (asks ≡ true → IsBeside r) → (full ≡ false → HasRoom x.port.call x.line)
@@ -360,7 +361,7 @@ request_beside : (params : List ℕ) (call : CallCondition) → breaks.indicates
 request_beside params call asks = by (acts_on_break params action.Indication) (acts_on_break params action.Reset) asks
   where
     by : (i r : Bool) → (i && not r) ≡ true
-        → IsBeside (if r then (if call.reset_pending then None else Some request.Reset) else if acts_on_break params action.Interrupt && not call.reset_pending && not call.interrupt_pending then Some request.Interrupt else None)
+        → IsBeside (if r then (if call.reset_pending then None else Some request.Reset) else if acts_on_break params action.Interrupt && call.may_interrupt then Some request.Interrupt else None)
     by true true h = absurd (true≢false (sym h))
     by false r h = absurd (true≢false (sym h))
     by true false h = either IsBeside _ (Some request.Interrupt) None interrupt_beside nothing_beside
@@ -390,12 +391,12 @@ room_of true (Some x) true taken e q = by (port.is_qualified x) refl e
     by true is f = absurd (none-some taken f)
     by false is f = sym q ∙ ap port.is_qualified (sym (same_Some x taken f)) ∙ is
 
-taken_room : (p : PortState) (o : Option Call) (l : PadLine) (taken : Taken) → port.taken_of (record { port = record p { call = o }; line = l }) ≡ Some taken → port.is_qualified taken ≡ true → HasRoom o l
+taken_room : (p : PortState) (o : Option ℕ) (l : PadLine) (taken : Taken) → port.taken_of (record { port = record p { call = o }; line = l }) ≡ Some taken → port.is_qualified taken ≡ true → HasRoom o l
 taken_room p None l taken e q = tt
-taken_room p (Some call) l taken e q = room_of (may_show p.terminal) (front_on l.end.layer call.channel) (condition (Some call) l).queue_full taken e q
+taken_room p (Some call) l taken e q = room_of (may_show p.terminal) (front_on l.end.layer call) (condition (Some call) l).queue_full taken e q
 
 -- a reply goes where there is room for it
-replies_told : (test : ℕ → Bool) (r : Reply) (call : Call) (p : PortState) (l : PadLine) → ReplyIsShort r → HasRoom (Some call) l
+replies_told : (test : ℕ → Bool) (r : Reply) (call : ℕ) (p : PortState) (l : PadLine) → ReplyIsShort r → HasRoom (Some call) l
     → all_in (told_in test) (port.replies r (record { port = record p { call = Some call }; line = l })).line.notes
     ≡ all_in (told_in test) l.notes ++ (if meets test (Some call) then map octets_of (answer_in r ++ []) else [])
 replies_told test reply.Nothing call p l short free = sym (none (meets test (Some call)))
@@ -405,7 +406,7 @@ replies_told test reply.Nothing call p l short free = sym (none (meets test (Som
     none false = append-nil (all_in (told_in test) l.notes)
 replies_told test (reply.Message m) call p l short free = sends_told test m (Some call) (record { port = record p { call = Some call }; line = l }) short free
 replies_told test reply.Clear call p l short free =
-    silent_unless (told_in test) l.notes _ (notes.Cleared call.channel) refl ∙ sym (none (meets test (Some call)))
+    silent_unless (told_in test) l.notes _ (notes.Cleared call) refl ∙ sym (none (meets test (Some call)))
   where
     none : (v : Bool) → all_in (told_in test) l.notes ++ (if v then [] else []) ≡ all_in (told_in test) l.notes
     none true = append-nil (all_in (told_in test) l.notes)
@@ -416,15 +417,15 @@ released_room l c free =
     ap (λ (n : ℕ). n == 0) (request_room (request l c Taking) c (Releasing 1) (releasing_keeps 1) ∙ request_room l c Taking taking_keeps) ∙ free
 
 -- what is taken of a call that the terminal has
-module _ (test : ℕ → Bool) (call : Call) (p : PortState) (l : PadLine) (nothing : l.notes ≡ []) where
+module _ (test : ℕ → Bool) (call : ℕ) (p : PortState) (l : PadLine) (nothing : l.notes ≡ []) where
   abbrev here : AtLine
   here = record { port = record p { call = Some call }; line = l }
 
   abbrev took : Taken → AtLine
   took taken = port.takes taken call here
 
-  took_silent : (f : PadNote → Octets) (taken : Taken) → f (notes.Took call.channel taken) ≡ [] → all_in f (took taken).line.notes ≡ []
-  took_silent f taken e = silent_more f l.notes (notes.Took call.channel taken) e ∙ nothing_noted f l.notes nothing
+  took_silent : (f : PadNote → Octets) (taken : Taken) → f (notes.Took call taken) ≡ [] → all_in f (took taken).line.notes ≡ []
+  took_silent f taken e = silent_more f l.notes (notes.Took call taken) e ∙ nothing_noted f l.notes nothing
 
   abbrev v : Bool
   v = meets test (Some call)
@@ -436,7 +437,7 @@ module _ (test : ℕ → Bool) (call : Call) (p : PortState) (l : PadLine) (noth
   datum_told d true t is free =
       let answered = messages.after_octets d.octets p.terminal in
       let after : PadLine = (port.releases (Releasing 1) call (took (TakenPacket d))).line in
-      replies_told test answered.reply call (record p { terminal = answered.terminal }) after (reply_short d.octets p.terminal) (released_room l.end.layer call.channel (free refl))
+      replies_told test answered.reply call (record p { terminal = answered.terminal }) after (reply_short d.octets p.terminal) (released_room l.end.layer call (free refl))
       ∙ ap (λ (x : Octets). x ++ (if v then map octets_of (answer_in answered.reply ++ []) else [])) (took_silent (told_in test) (TakenPacket d) refl)
       ∙ if_told v (TookMessage d.octets (calls.without_text t) ∷ []) (map octets_of (answer_in answered.reply ++ []))
       (ap (λ (u : TerminalState). map octets_of (answer_in (messages.after_octets d.octets u).reply ++ [])) (sym is))
@@ -449,8 +450,8 @@ module _ (test : ℕ → Bool) (call : Call) (p : PortState) (l : PadLine) (noth
   -- the message itself is noted as it is taken
   replies_silent : (r : Reply) (q : PortState) (m : PadLine) → all_in (message_in test) (port.replies r (record { port = record q { call = Some call }; line = m })).line.notes ≡ all_in (message_in test) m.notes
   replies_silent reply.Nothing q m = refl
-  replies_silent (reply.Message x) q m = silent_unless (message_in test) m.notes _ (notes.Sent call.channel (datum (octets_of x) true)) refl
-  replies_silent reply.Clear q m = silent_unless (message_in test) m.notes _ (notes.Cleared call.channel) refl
+  replies_silent (reply.Message x) q m = silent_unless (message_in test) m.notes _ (notes.Sent call (datum (octets_of x) true)) refl
+  replies_silent reply.Clear q m = silent_unless (message_in test) m.notes _ (notes.Cleared call) refl
 
   datum_silent : (d : Datum) (q : Bool) → all_in (message_in test) (port.after_datum d q (port.releases (Releasing 1) call (took (TakenPacket d)))).line.notes ≡ all_in (message_in test) (took (TakenPacket d)).line.notes
   datum_silent d false = refl
@@ -460,8 +461,8 @@ module _ (test : ℕ → Bool) (call : Call) (p : PortState) (l : PadLine) (noth
 
   took_message : (d : Datum) (t : TerminalState) → all_in (message_in test) (took (TakenPacket d)).line.notes ≡ messages_taken (if v then by_taking (Some (TakenPacket d)) t else [])
   took_message d t =
-      one_more (message_in test) l.notes (notes.Took call.channel (TakenPacket d))
-      ∙ ap (λ (x : Octets). x ++ message_in test (notes.Took call.channel (TakenPacket d))) (nothing_noted (message_in test) l.notes nothing)
+      one_more (message_in test) l.notes (notes.Took call (TakenPacket d))
+      ∙ ap (λ (x : Octets). x ++ message_in test (notes.Took call (TakenPacket d))) (nothing_noted (message_in test) l.notes nothing)
       ∙ by d.qualified v
     where
       by : (q w : Bool) → (if q && w then d.octets ∷ [] else []) ≡ messages_taken (if w then (if q then TookMessage d.octets (calls.without_text t) ∷ [] else []) else [])
@@ -478,7 +479,7 @@ module _ (test : ℕ → Bool) (call : Call) (p : PortState) (l : PadLine) (noth
 pub print_told : (test : ℕ → Bool) (a : AtLine) → IsSaidBy (told_in test) told_octets test port.after_print by_printing a
 print_told test a nothing = by a.port.call (port.taken_of a) refl
   where
-    by : (o : Option Call) (x : Option Taken) → port.taken_of (record { port = record a.port { call = o }; line = a.line }) ≡ x
+    by : (o : Option ℕ) (x : Option Taken) → port.taken_of (record { port = record a.port { call = o }; line = a.line }) ≡ x
         → all_in (told_in test) (port.after_taken x (port.with_taken x (record { port = record (port.with_terminal (calls.without_text a.port.terminal) a.port) { call = o }; line = a.line }))).line.notes
         ≡ told_octets (if meets test o then by_taking x a.port.terminal else [])
     by o None e = unasked (meets test o) _ (nothing_noted (told_in test) a.line.notes nothing)
@@ -490,7 +491,7 @@ print_told test a nothing = by a.port.call (port.taken_of a) refl
 pub print_messages : (test : ℕ → Bool) (a : AtLine) → IsSaidBy (message_in test) messages_taken test port.after_print by_printing a
 print_messages test a nothing = by a.port.call (port.taken_of a)
   where
-    by : (o : Option Call) (x : Option Taken)
+    by : (o : Option ℕ) (x : Option Taken)
         → all_in (message_in test) (port.after_taken x (port.with_taken x (record { port = record (port.with_terminal (calls.without_text a.port.terminal) a.port) { call = o }; line = a.line }))).line.notes
         ≡ messages_taken (if meets test o then by_taking x a.port.terminal else [])
     by o None = by_none (message_in test) messages_taken (meets test o) a.line.notes [] refl refl (nothing_noted (message_in test) a.line.notes nothing)

@@ -38,7 +38,6 @@ use Rattle.x25_pad.specs.Line as line
 use Rattle.x25_pad.specs.Ports as port
 use Rattle.x25_pad.specs.Ports.{PortState, AtLine}
 use Rattle.x25_pad.specs.Pad.{PadState, at_port, acted}
-use Rattle.x25_pad.specs.declared.call.Call.{Call}
 use Rattle.x25_pad.specs.declared.line.PadLine.{PadLine}
 use Rattle.x25_pad_laws.proofs.Selecting.{Fits, FitsAny, line_fits}
 use Rattle.x25_pad_laws.proofs.Asking.{Runs, sent_runs, cleared_runs, reset_runs, interrupted_runs, placed_runs, edited_runs, taken_runs}
@@ -99,22 +98,22 @@ module _ (s : Setting) (b : Book) (role : Role) (you : PacketEnd) (going coming 
   abbrev pub RunsAt : AtLine → Type 0
   RunsAt a = Runs s b role you going coming a.line
 
-  on_call_runs : (act : Call → AtLine → AtLine) (o : Option Call) (a : AtLine) → ((call : Call) → RunsAt (act call a)) → RunsAt a → RunsAt (port.on_call act o a)
+  on_call_runs : (act : ℕ → AtLine → AtLine) (o : Option ℕ) (a : AtLine) → ((call : ℕ) → RunsAt (act call a)) → RunsAt a → RunsAt (port.on_call act o a)
   on_call_runs act None a f h = h
   on_call_runs act (Some call) a f h = f call
 
   places_runs : (a : AtLine) (asked : Request) → Fits asked → RunsAt a → RunsAt (port.does asked a)
   places_runs a (request.Call selection) fits h = placed_runs s b role you going coming selection a.line fits h
-  places_runs a request.Clear fits h = on_call_runs port.clears a.port.call a (λ call. cleared_runs s b role you going coming call.channel a.line h) h
-  places_runs a request.Interrupt fits h = on_call_runs port.interrupts a.port.call a (λ call. interrupted_runs s b role you going coming call.channel a.line h) h
-  places_runs a request.Reset fits h = on_call_runs port.resets a.port.call a (λ call. reset_runs s b role you going coming call.channel a.line h) h
+  places_runs a request.Clear fits h = on_call_runs port.clears a.port.call a (λ call. cleared_runs s b role you going coming call a.line h) h
+  places_runs a request.Interrupt fits h = on_call_runs port.interrupts a.port.call a (λ call. interrupted_runs s b role you going coming call a.line h) h
+  places_runs a request.Reset fits h = on_call_runs port.resets a.port.call a (λ call. reset_runs s b role you going coming call a.line h) h
 
   asked_any : (o : Option Request) (a : AtLine) → FitsAny o → RunsAt a → RunsAt (port.does_asked o a)
   asked_any None a fits h = h
   asked_any (Some r) a fits h = places_runs a r fits h
 
-  sends_runs : (octets : List ℕ) (qualified : Bool) (call : Call) (a : AtLine) → RunsAt a → RunsAt (port.sends octets qualified call a)
-  sends_runs octets qualified call a h = sent_runs s b role you going coming call.channel octets qualified a.line h
+  sends_runs : (octets : List ℕ) (qualified : Bool) (call : ℕ) (a : AtLine) → RunsAt a → RunsAt (port.sends octets qualified call a)
+  sends_runs octets qualified call a h = sent_runs s b role you going coming call octets qualified a.line h
 
   tells_runs : (message : Option Message) (a : AtLine) → RunsAt a → RunsAt (port.tells message a)
   tells_runs None a h = h
@@ -122,7 +121,7 @@ module _ (s : Setting) (b : Book) (role : Role) (you : PacketEnd) (going coming 
 
   -- ---- keys and idle times
 
-  block_runs : (block : Option (List ℕ)) (call : Call) (a : AtLine) → RunsAt a → RunsAt (port.block_sent block call a)
+  block_runs : (block : Option (List ℕ)) (call : ℕ) (a : AtLine) → RunsAt a → RunsAt (port.block_sent block call a)
   block_runs None call a h = h
   block_runs (Some block) call a h = sends_runs block false call a h
 
@@ -130,8 +129,8 @@ module _ (s : Setting) (b : Book) (role : Role) (you : PacketEnd) (going coming 
   handles_runs input.Dropped step a fits h = h
   handles_runs (input.Edited block) step a fits h =
       on_call_runs (port.edits step block) a.port.call a
-      (λ call. block_runs block call (record a { line = record a.line { notes = a.line.notes ++ Edited call.channel step ∷ [] } })
-      (edited_runs s b role you going coming call.channel step a.line h)) h
+      (λ call. block_runs block call (record a { line = record a.line { notes = a.line.notes ++ Edited call step ∷ [] } })
+      (edited_runs s b role you going coming call step a.line h)) h
   handles_runs (input.Taken asked) step a fits h = asked_any asked a fits h
 
   pub key_runs : (o : ℕ) (a : AtLine) → RunsAt a → RunsAt (port.after_key o a)
@@ -164,7 +163,7 @@ module _ (s : Setting) (b : Book) (role : Role) (you : PacketEnd) (going coming 
   replies_runs : (answer : Reply) (a : AtLine) → RunsAt a → RunsAt (port.replies answer a)
   replies_runs reply.Nothing a h = h
   replies_runs (reply.Message message) a h = tells_runs (Some message) a h
-  replies_runs reply.Clear a h = on_call_runs port.clears a.port.call a (λ call. cleared_runs s b role you going coming call.channel a.line h) h
+  replies_runs reply.Clear a h = on_call_runs port.clears a.port.call a (λ call. cleared_runs s b role you going coming call a.line h) h
 
   message_runs : (octets : List ℕ) (a : AtLine) → RunsAt a → RunsAt (port.after_message octets a)
   message_runs octets a h =
@@ -175,20 +174,20 @@ module _ (s : Setting) (b : Book) (role : Role) (you : PacketEnd) (going coming 
   datum_runs d true a h = message_runs d.octets a h
   datum_runs d false a h = h
 
-  taking_runs : (taken : Taken) (call : Call) (a : AtLine) → front_on a.line.end.layer call.channel ≡ Some taken → RunsAt a
+  taking_runs : (taken : Taken) (call : ℕ) (a : AtLine) → front_on a.line.end.layer call ≡ Some taken → RunsAt a
       → RunsAt (port.after_taking taken call (port.takes taken call a))
-  taking_runs (TakenInterrupt octets) call a is h = taken_runs s b role you going coming call.channel (TakenInterrupt octets) a.line is h
+  taking_runs (TakenInterrupt octets) call a is h = taken_runs s b role you going coming call (TakenInterrupt octets) a.line is h
   taking_runs (TakenPacket d) call a is h =
       datum_runs d d.qualified (port.releases (Releasing 1) call (port.takes (TakenPacket d) call a))
-      (taken_runs s b role you going coming call.channel (TakenPacket d) a.line is h)
+      (taken_runs s b role you going coming call (TakenPacket d) a.line is h)
 
-  next_runs : (o : Option Call) (taken : Option Taken) (p : PortState) (l : PadLine) → taken ≡ port.next_on o (record { port = p; line = l }) → Runs s b role you going coming l
+  next_runs : (o : Option ℕ) (taken : Option Taken) (p : PortState) (l : PadLine) → taken ≡ port.next_on o (record { port = p; line = l }) → Runs s b role you going coming l
       → RunsAt (port.after_taken taken (port.with_taken taken (record { port = record p { call = o }; line = l })))
   next_runs o None p l is h = h
   next_runs None (Some taken) p l is h = h
   next_runs (Some call) (Some taken) p l is h =
       taking_runs taken call (record { port = record p { call = Some call }; line = l })
-      (front_is (front_on l.end.layer call.channel) _ taken (sym is)) h
+      (front_is (front_on l.end.layer call) _ taken (sym is)) h
     where
       front_is : (o : Option Taken) (full : Bool) (x : Taken) → port.takeable o full ≡ Some x → o ≡ Some x
       front_is None full x e = absurd (none-some x e)
@@ -204,7 +203,7 @@ module _ (s : Setting) (b : Book) (role : Role) (you : PacketEnd) (going coming 
   print_by true p l h =
       next_runs p.call (port.next_on p.call (record { port = p; line = l })) (port.with_terminal (calls.without_text p.terminal) p) l (next_same p.call) h
     where
-      next_same : (o : Option Call) → port.next_on o (record { port = p; line = l }) ≡ port.next_on o (record { port = port.with_terminal (calls.without_text p.terminal) p; line = l })
+      next_same : (o : Option ℕ) → port.next_on o (record { port = p; line = l }) ≡ port.next_on o (record { port = port.with_terminal (calls.without_text p.terminal) p; line = l })
       next_same None = refl
       next_same (Some call) = refl
   print_by false p l h = h

@@ -27,8 +27,7 @@ use Rattle.x25_pad.specs.Notes.{PadNote}
 use Rattle.x25_pad.specs.Line as line
 use Rattle.x25_pad.specs.Line.{asked, call_parts, datum, interrupt_octet}
 use Rattle.x25_pad.specs.Ports as port
-use Rattle.x25_pad.specs.Ports.{PortState, AtLine, has_channel, call_on}
-use Rattle.x25_pad.specs.declared.call.Call.{Call}
+use Rattle.x25_pad.specs.Ports.{PortState, AtLine, has_channel}
 use Rattle.x25_pad.specs.declared.line.PadLine.{PadLine}
 use Rattle.pad_records.specs.Writing.{write_of}
 use Rattle.x25_pad_laws.specs.Holds.{BookHolds, IsPort}
@@ -41,7 +40,7 @@ use Rattle.x25_pad_laws.proofs.Modes.{Same, Follows, InputFollows, ended_is}
 -- ---- ports
 
 -- the text stays, and so does the call
-pub port_same : (q : PortState) (u : TerminalState) (call : Option Call) (left : Option ℕ) → Same q.terminal u → (call ≡ None → q.call ≡ None) → (q.call ≡ None → call ≡ None) → IsPort q
+pub port_same : (q : PortState) (u : TerminalState) (call : Option ℕ) (left : Option ℕ) → Same q.terminal u → (call ≡ None → q.call ≡ None) → (q.call ≡ None → call ≡ None) → IsPort q
     → IsPort (record { terminal = u; call = call; idle_left = left })
 port_same q u call left s here there h = record {
   free = λ e. s.1 ∙ h.free (here e);
@@ -55,7 +54,7 @@ pub port_over : (u : TerminalState) (left : Option ℕ) → u.held ≡ [] → ha
 port_over u left none free = record { free = λ e. free; bare = λ e. refl; empty = λ e. none; short = subst (λ (t : List ℕ). length t < limit) (sym none) (omega arith) }
 
 -- a call that begins
-port_new : (u : TerminalState) (c : Call) (left : Option ℕ) → length u.held < limit → has_call u.mode ≡ true → IsPort (record { terminal = u; call = Some c; idle_left = left })
+port_new : (u : TerminalState) (c : ℕ) (left : Option ℕ) → length u.held < limit → has_call u.mode ≡ true → IsPort (record { terminal = u; call = Some c; idle_left = left })
 port_new u c left short there = record {
   free = λ e. absurd (none-some c (sym e));
   bare = λ e. absurd (true≢false (sym there ∙ e));
@@ -63,21 +62,21 @@ port_new u c left short there = record {
   short = short;
 }
 
-pub same_channel : (c : Call) (d : ℕ) → has_channel (Some c) d ≡ true → c.channel ≡ d
-same_channel c d h = eqb-true c.channel d h
+pub same_channel : (c : ℕ) (d : ℕ) → has_channel (Some c) d ≡ true → c ≡ d
+same_channel c d h = eqb-true c d h
 
-pub on_itself : (c : Call) → has_channel (Some c) c.channel ≡ true
-on_itself c = by (c.channel == c.channel) refl
+pub on_itself : (c : ℕ) → has_channel (Some c) c ≡ true
+on_itself c = by (c == c) refl
   where
-    by : (v : Bool) → (c.channel == c.channel) ≡ v → v ≡ true
+    by : (v : Bool) → (c == c) ≡ v → v ≡ true
     by true e = refl
-    by false e = absurd (eqb-false c.channel c.channel e refl)
+    by false e = absurd (eqb-false c c e refl)
 
 -- ---- a terminal at the line, beside others of which texts are held
 
 module _ (role : Role) (b : Book) (Others : ℕ → List ℕ → Type 0) where
   -- its own text, or that of another
-  abbrev pub Joined : Option Call → List ℕ → ℕ → List ℕ → Type 0
+  abbrev pub Joined : Option ℕ → List ℕ → ℕ → List ℕ → Type 0
   Joined call held c t = Others c t ⊎ ((has_channel call c ≡ true) × (held ≡ t))
 
   -- what holds of the others
@@ -185,48 +184,38 @@ module _ (role : Role) (b : Book) (Others : ℕ → List ℕ → Type 0) where
       → AtHolds (port.on_call port.clears a.port.call (record { port = record { terminal = u; call = a.port.call; idle_left = left }; line = a.line }))
   clears_holds a u left none free h = by a.port.call refl
     where
-      by : (o : Option Call) → a.port.call ≡ o → AtHolds (port.on_call port.clears o (record { port = record { terminal = u; call = o; idle_left = left }; line = a.line }))
+      by : (o : Option ℕ) → a.port.call ≡ o → AtHolds (port.on_call port.clears o (record { port = record { terminal = u; call = o; idle_left = left }; line = a.line }))
       by None e = over_holds a.line u left none free (others_hold a h)
       by (Some call) e =
-          over_holds (line.cleared call.channel a.line) u left none free
-          (cleared_others a.line call.channel (λ t o. h.alone call.channel t o (ap (λ (x : Option Call). has_channel x call.channel) e ∙ on_itself call)) (others_hold a h))
+          over_holds (line.cleared call a.line) u left none free
+          (cleared_others a.line call (λ t o. h.alone call t o (ap (λ (x : Option ℕ). has_channel x call) e ∙ on_itself call)) (others_hold a h))
 
   resets_holds : (a : AtLine) → AtHolds a → AtHolds (port.on_call port.resets a.port.call a)
-  resets_holds a h = by a.port.call refl
+  resets_holds a h = by a.port.call
     where
-      by : (o : Option Call) → a.port.call ≡ o → AtHolds (port.on_call port.resets o a)
-      by None e = h
-      by (Some call) e =
-          let l : AtLine = record a { line = line.reset call.channel a.line } in
-          port_changes l (record a.port { call = Some (call_on call.channel) })
-          (port_same a.port a.port.terminal (Some (call_on call.channel)) a.port.idle_left (refl, refl) (λ n. absurd (none-some (call_on call.channel) (sym n))) (λ n. absurd (none-some call (sym n ∙ e))) h.port)
-          (λ c on. ap (λ (x : Option Call). has_channel x c) e ∙ on) refl
-          (asked_holds call.channel (Resetting 0 0) (notes.WasReset call.channel) a (λ cause diagnostic x. absurd cc) (λ X x k. quiet_at role X x role call.channel with_epoch epoch_quiet k) h)
+      by : (o : Option ℕ) → AtHolds (port.on_call port.resets o a)
+      by None = h
+      by (Some call) = asked_holds call (Resetting 0 0) (notes.WasReset call) a (λ cause diagnostic x. absurd cc) (λ X x k. quiet_at role X x role call with_epoch epoch_quiet k) h
 
   interrupts_holds : (a : AtLine) → AtHolds a → AtHolds (port.on_call port.interrupts a.port.call a)
-  interrupts_holds a h = by a.port.call refl
+  interrupts_holds a h = by a.port.call
     where
-      by : (o : Option Call) → a.port.call ≡ o → AtHolds (port.on_call port.interrupts o a)
-      by None e = h
-      by (Some call) e =
-          let l : AtLine = record a { line = line.interrupted call.channel a.line } in
-          port_changes l (record a.port { call = Some (record call { interrupt_pending = true }) })
-          (port_same a.port a.port.terminal (Some (record call { interrupt_pending = true })) a.port.idle_left (refl, refl) (λ n. absurd (none-some (record call { interrupt_pending = true }) (sym n)))
-          (λ n. absurd (none-some call (sym n ∙ e))) h.port)
-          (λ c on. ap (λ (x : Option Call). has_channel x c) e ∙ on) refl
-          (asked_holds call.channel (Interrupting (interrupt_octet ∷ [])) (notes.Interrupted call.channel (interrupt_octet ∷ [])) a (λ cause diagnostic x. absurd cc)
-          (λ X x k. quiet_at role X x role call.channel _ (interrupt_quiet (interrupt_octet ∷ [])) k) h)
+      by : (o : Option ℕ) → AtHolds (port.on_call port.interrupts o a)
+      by None = h
+      by (Some call) =
+          asked_holds call (Interrupting (interrupt_octet ∷ [])) (notes.Interrupted call (interrupt_octet ∷ [])) a (λ cause diagnostic x. absurd cc)
+          (λ X x k. quiet_at role X x role call _ (interrupt_quiet (interrupt_octet ∷ [])) k) h
 
   -- ---- messages
 
   pub tells_holds : (m : Message) (a : AtLine) → AtHolds a → AtHolds (port.tells (Some m) a)
   tells_holds m a h = by a.port.call
     where
-      by : (o : Option Call) → AtHolds (port.on_call (port.sends (octets_of m) true) o a)
+      by : (o : Option ℕ) → AtHolds (port.on_call (port.sends (octets_of m) true) o a)
       by None = h
       by (Some call) =
-          asked_holds call.channel (Sending (datum (octets_of m) true)) (notes.Sent call.channel (datum (octets_of m) true)) a (λ cause diagnostic x. absurd cc)
-          (λ X x k. quiet_at role X x role call.channel (with_sent (packet_of (datum (octets_of m) true))) (message_quiet m) k) h
+          asked_holds call (Sending (datum (octets_of m) true)) (notes.Sent call (datum (octets_of m) true)) a (λ cause diagnostic x. absurd cc)
+          (λ X x k. quiet_at role X x role call (with_sent (packet_of (datum (octets_of m) true))) (message_quiet m) k) h
 
   -- ---- a call that is placed, from a terminal without one that holds no text
 
@@ -248,19 +237,19 @@ module _ (role : Role) (b : Book) (Others : ℕ → List ℕ → Type 0) where
         book = subst (λ (z : Book). BookHolds role Others z) (sym (noted_append role l.notes [] b)) h.book;
       })
   places_by l s u left (Some channel) refusal given none there h = record {
-    port = port_new u (call_on channel) left (subst (λ (t : List ℕ). length t < limit) (sym none) (omega arith)) there;
+    port = port_new u channel left (subst (λ (t : List ℕ). length t < limit) (sym none) (omega arith)) there;
     read = h.read;
     unread = call_unread l s h;
     others = λ c t o. call_keeps l.end.layer (call_parts s.address s.user_data.items) c (h.calls c t o);
-    own = λ c e. ap (λ (k : ℕ). call_at (end.called l.end (call_parts s.address s.user_data.items)).layer k) (sym (same_channel (call_on channel) c e))
+    own = λ c e. ap (λ (k : ℕ). call_at (end.called l.end (call_parts s.address s.user_data.items)).layer k) (sym (same_channel channel c e))
         ∙ call_here l.end.layer (call_parts s.address s.user_data.items) channel given;
-    alone = λ c t o e. not_free t (subst (λ (k : ℕ). Others k t) (sym (same_channel (call_on channel) c e)) o);
+    alone = λ c t o e. not_free t (subst (λ (k : ℕ). Others k t) (sym (same_channel channel c e)) o);
     book =
-        subst (λ (z : Book). BookHolds role (Joined (Some (call_on channel)) u.held) z) (sym (noted_append role l.notes (notes.Placed channel s.address ∷ []) b))
-        (opens_holds role Others (Joined (Some (call_on channel)) u.held) (noted role l.notes b) role channel _ _ (address_of s.address) None refl
+        subst (λ (z : Book). BookHolds role (Joined (Some channel) u.held) z) (sym (noted_append role l.notes (notes.Placed channel s.address ∷ []) b))
+        (opens_holds role Others (Joined (Some channel) u.held) (noted role l.notes b) role channel _ _ (address_of s.address) None refl
         (λ d t y. elim y [
           | inl o ↦ inl o
-          | inr m ↦ inr (refl, sym (same_channel (call_on channel) d m.0))
+          | inr m ↦ inr (refl, sym (same_channel channel d m.0))
         ])
         (λ is t y. elim y [
           | inl o ↦ absurd (not_free t o)
@@ -278,7 +267,7 @@ module _ (role : Role) (b : Book) (Others : ℕ → List ℕ → Type 0) where
   does_holds None a u left f h = terminal_same a u left f h
   does_holds (Some (request.Call s)) a u left f h =
       let none : a.port.call ≡ None = h.port.bare f.0 in
-      subst (λ (o : Option Call). AtHolds (port.places s (record { port = record { terminal = u; call = o; idle_left = left }; line = a.line }))) (sym none)
+      subst (λ (o : Option ℕ). AtHolds (port.places s (record { port = record { terminal = u; call = o; idle_left = left }; line = a.line }))) (sym none)
       (places_by a.line s u left (channel_given a.line.end.layer a.line.end.layer.phase) (call_refusal a.line.end.layer a.line.end.layer.phase) refl (f.1 ∙ h.port.empty f.0) f.2 (others_hold a h))
   does_holds (Some request.Clear) a u left f h = clears_holds a u left f.0 f.1 h
   does_holds (Some request.Interrupt) a u left f h = interrupts_holds (record { port = record { terminal = u; call = a.port.call; idle_left = left }; line = a.line }) (terminal_same a u left f h)
@@ -290,47 +279,47 @@ module _ (role : Role) (b : Book) (Others : ℕ → List ℕ → Type 0) where
   block_short None text h e = absurd (none-some text e)
   block_short (Some block) text h e = subst (λ (t : List ℕ). length t ≤ 128) (same_Some block text e) h.1
 
-  sent_block : (text : List ℕ) (call : Call) (l : PadLine) → request_refusal l.end.layer call.channel (Sending (datum text false)) ≡ None →
-      (line.sent call.channel text false l).notes ≡ l.notes ++ notes.Sent call.channel (datum text false) ∷ []
-  sent_block text call l none = ap (λ (o : Option Refusal). l.notes ++ notes.unless_refused o (notes.Sent call.channel (datum text false))) none
+  sent_block : (text : List ℕ) (call : ℕ) (l : PadLine) → request_refusal l.end.layer call (Sending (datum text false)) ≡ None →
+      (line.sent call text false l).notes ≡ l.notes ++ notes.Sent call (datum text false) ∷ []
+  sent_block text call l none = ap (λ (o : Option Refusal). l.notes ++ notes.unless_refused o (notes.Sent call (datum text false))) none
 
   -- the step, and the block that it ends, are noted
-  abbrev step_line : Step → Call → PadLine → PadLine
-  step_line step call l = record l { notes = l.notes ++ notes.Edited call.channel step ∷ [] }
+  abbrev step_line : Step → ℕ → PadLine → PadLine
+  step_line step call l = record l { notes = l.notes ++ notes.Edited call step ∷ [] }
 
-  edited_book : (block : Option (List ℕ)) (step : Step) (call : Call) (p : PortState) (l : PadLine)
-      → ((text : List ℕ) → block ≡ Some text → request_refusal l.end.layer call.channel (Sending (datum text false)) ≡ None)
-      → noted role (port.block_sent block call (record { port = p; line = step_line step call l })).line.notes b ≡ with_block block role call.channel (edits role call.channel step (noted role l.notes b))
-  edited_book None step call p l none = noted_append role l.notes (notes.Edited call.channel step ∷ []) b
+  edited_book : (block : Option (List ℕ)) (step : Step) (call : ℕ) (p : PortState) (l : PadLine)
+      → ((text : List ℕ) → block ≡ Some text → request_refusal l.end.layer call (Sending (datum text false)) ≡ None)
+      → noted role (port.block_sent block call (record { port = p; line = step_line step call l })).line.notes b ≡ with_block block role call (edits role call step (noted role l.notes b))
+  edited_book None step call p l none = noted_append role l.notes (notes.Edited call step ∷ []) b
   edited_book (Some text) step call p l none =
       ap (λ (ns : List PadNote). noted role ns b) (sent_block text call (step_line step call l) (none text refl))
-      ∙ noted_append role (step_line step call l).notes (notes.Sent call.channel (datum text false) ∷ []) b
-      ∙ ap (λ (z : Book). sends role call.channel (datum text false) z) (noted_append role l.notes (notes.Edited call.channel step ∷ []) b)
+      ∙ noted_append role (step_line step call l).notes (notes.Sent call (datum text false) ∷ []) b
+      ∙ ap (λ (z : Book). sends role call (datum text false) z) (noted_append role l.notes (notes.Edited call step ∷ []) b)
 
-  abbrev BlockKeeps : Option (List ℕ) → Call → PortState → PadLine → Type 0
+  abbrev BlockKeeps : Option (List ℕ) → ℕ → PortState → PadLine → Type 0
   BlockKeeps block call p l =
       let m : PadLine = (port.block_sent block call (record { port = p; line = l })).line in
       ((l.end.layer.notes ≡ [] → m.end.layer.notes ≡ []) × ((d : ℕ) → call_at l.end.layer d ≡ true → call_at m.end.layer d ≡ true) × (m.end.notes ≡ l.end.notes))
 
-  block_keeps : (block : Option (List ℕ)) (call : Call) (p : PortState) (l : PadLine) → BlockKeeps block call p l
+  block_keeps : (block : Option (List ℕ)) (call : ℕ) (p : PortState) (l : PadLine) → BlockKeeps block call p l
   block_keeps None call p l = (λ e. e, λ d h. h, refl)
   block_keeps (Some text) call p l = (
-    λ e. request_notes l.end.layer call.channel (Sending (datum text false)) e,
-    λ d h. request_keeps l.end.layer call.channel d (Sending (datum text false)) (λ cause diagnostic x. absurd cc) h,
+    λ e. request_notes l.end.layer call (Sending (datum text false)) e,
+    λ d h. request_keeps l.end.layer call d (Sending (datum text false)) (λ cause diagnostic x. absurd cc) h,
     refl,
   )
 
-  block_port : (block : Option (List ℕ)) (call : Call) (p : PortState) (l : PadLine) → (port.block_sent block call (record { port = p; line = l })).port ≡ p
+  block_port : (block : Option (List ℕ)) (call : ℕ) (p : PortState) (l : PadLine) → (port.block_sent block call (record { port = p; line = l })).port ≡ p
   block_port None call p l = refl
   block_port (Some text) call p l = refl
 
-  edits_with : (block : Option (List ℕ)) (step : Step) (call : Call) (a : AtLine) (q : PortState) → a.port.call ≡ Some call → q.call ≡ Some call → IsPort q
+  edits_with : (block : Option (List ℕ)) (step : Step) (call : ℕ) (a : AtLine) (q : PortState) → a.port.call ≡ Some call → q.call ≡ Some call → IsPort q
       → q.terminal.held ≡ (effect_of step a.port.terminal.held).held → (effect_of step a.port.terminal.held).block ≡ block
-      → ((text : List ℕ) → block ≡ Some text → request_refusal a.line.end.layer call.channel (Sending (datum text false)) ≡ None) → AtHolds a
+      → ((text : List ℕ) → block ≡ Some text → request_refusal a.line.end.layer call (Sending (datum text false)) ≡ None) → AtHolds a
       → AtHolds (record { port = q; line = (port.block_sent block call (record { port = q; line = step_line step call a.line })).line })
   edits_with block step call a q was is port_is text ends none h =
       let keeps = block_keeps block call q (step_line step call a.line) in
-      let on : (c : ℕ) → has_channel q.call c ≡ true → has_channel a.port.call c ≡ true = λ c e. ap (λ (o : Option Call). has_channel o c) (was ∙ sym is) ∙ e in
+      let on : (c : ℕ) → has_channel q.call c ≡ true → has_channel a.port.call c ≡ true = λ c e. ap (λ (o : Option ℕ). has_channel o c) (was ∙ sym is) ∙ e in
       record {
         port = port_is;
         read = keeps.2 ∙ h.read;
@@ -340,18 +329,18 @@ module _ (role : Role) (b : Book) (Others : ℕ → List ℕ → Type 0) where
         alone = λ c t o e. h.alone c t o (on c e);
         book =
             subst (λ (z : Book). BookHolds role (Joined q.call q.terminal.held) z) (sym (edited_book block step call q a.line none))
-            (edited_holds role (Joined a.port.call a.port.terminal.held) (Joined q.call q.terminal.held) (noted role a.line.notes b) call.channel step block a.port.terminal.held
-            (inr (ap (λ (o : Option Call). has_channel o call.channel) was ∙ on_itself call, refl)) ends
+            (edited_holds role (Joined a.port.call a.port.terminal.held) (Joined q.call q.terminal.held) (noted role a.line.notes b) call step block a.port.terminal.held
+            (inr (ap (λ (o : Option ℕ). has_channel o call) was ∙ on_itself call, refl)) ends
             (λ d t y. elim y [
-              | inl o ↦ inr (λ e. h.alone d t o (ap (λ (x : Option Call). has_channel x d) was ∙ subst (λ (k : ℕ). has_channel (Some call) k ≡ true) (sym e) (on_itself call)), inl o)
-              | inr m ↦ inl (sym (same_channel call d (ap (λ (o : Option Call). has_channel o d) (sym is) ∙ m.0)), sym m.1 ∙ text)
+              | inl o ↦ inr (λ e. h.alone d t o (ap (λ (x : Option ℕ). has_channel x d) was ∙ subst (λ (k : ℕ). has_channel (Some call) k ≡ true) (sym e) (on_itself call)), inl o)
+              | inr m ↦ inl (sym (same_channel call d (ap (λ (o : Option ℕ). has_channel o d) (sym is) ∙ m.0)), sym m.1 ∙ text)
             ]) h.book);
       }
 
   -- ---- a key, or an idle time
 
   pub handles_holds : (answer : InputAnswer) (step : Step) (a : AtLine) (u : TerminalState) → InputFollows answer step a.port.terminal u
-      → ((text : List ℕ) (call : Call) → answer ≡ input.Edited (Some text) → a.port.call ≡ Some call → length text ≤ 128 → request_refusal a.line.end.layer call.channel (Sending (datum text false)) ≡ None)
+      → ((text : List ℕ) (call : ℕ) → answer ≡ input.Edited (Some text) → a.port.call ≡ Some call → length text ≤ 128 → request_refusal a.line.end.layer call (Sending (datum text false)) ≡ None)
       → AtHolds a → AtHolds (port.handles answer step (record { port = record { terminal = u; call = a.port.call; idle_left = None }; line = a.line }))
   handles_holds input.Dropped step a u f none h = terminal_same a u None f h
   handles_holds (input.Taken o) step a u f none h = does_holds o a u None f h
@@ -360,7 +349,7 @@ module _ (role : Role) (b : Book) (Others : ℕ → List ℕ → Type 0) where
       bounds : AreBounded (effect_of step a.port.terminal.held)
       bounds = effect_of_bounds step a.port.terminal.held h.port.short
 
-      by : (o : Option Call) → a.port.call ≡ o → AtHolds (port.on_call (port.edits step block) o (record { port = record { terminal = u; call = o; idle_left = None }; line = a.line }))
+      by : (o : Option ℕ) → a.port.call ≡ o → AtHolds (port.on_call (port.edits step block) o (record { port = record { terminal = u; call = o; idle_left = None }; line = a.line }))
       by None e = absurd (true≢false (sym f.0 ∙ h.port.free e))
       by (Some call) e =
           let q : PortState = record { terminal = u; call = Some call; idle_left = None } in

@@ -1,17 +1,15 @@
 -- What happens to a PAD, one event after the other, and what that is an occasion to say on a call.
-use Rattle.std.specs.Prelude.{◌≡◌, ℕ, Bool, true, false, not, ◌&&◌, ◌||◌, ◌==◌, if◌then◌else◌, List, [], ◌∷◌, ◌++◌}
+use Rattle.std.specs.Prelude.{◌≡◌, ℕ, Bool, true, false, not, ◌&&◌, ◌==◌, if◌then◌else◌, List, [], ◌∷◌, ◌++◌}
 use Rattle.std.specs.Prelude.{slice_get, Option, Some, None, is_some, Result, Ok}
 use Rattle.std.specs.Option.{option_map_or}
 use Rattle.link_timers.specs.declared.role.Role.{Role}
-use Rattle.link_timers.specs.Role.{other_of}
 use Rattle.link_timers.specs.declared.timers.TimerId.{TimerId}
 use Rattle.lapb.specs.Machine.{Octets}
 use Rattle.packet_layer.specs.Channel.Request.{Interrupting}
 use Rattle.packet_layer.specs.Layer.{request_refusal}
 use Rattle.packet_layer.specs.Traffic.{Taken}
 use Rattle.packet_layer.specs.Traffic.Taken.{TakenInterrupt, TakenPacket}
-use Rattle.call_records.specs.Records.{RecordValue}
-use Rattle.call_records.specs.Book.{Book, slot_at, made_book}
+use Rattle.call_records.specs.Book.{Book, slot_at}
 use Rattle.call_records.specs.Writes.{Write, all_written}
 use Rattle.call_records.specs.Writes.Write.{AllClosed}
 use Rattle.x28_commands.specs.Reading.{command_of}
@@ -21,20 +19,15 @@ use Rattle.x28_commands.specs.declared.fault.CommandFault.{CommandFault}
 use Rattle.pad_terminal.specs.Terminal.{TerminalState, is_connected, is_data_transfer}
 use Rattle.pad_terminal.specs.Calls.{without_text}
 use Rattle.pad_terminal.specs.CommandLine as command_line
-use Rattle.x25_pad.specs.Line.{condition, interrupt_octet}
+use Rattle.x25_pad.specs.Line.{interrupt_octet}
 use Rattle.x25_pad.specs.Ports as port
 use Rattle.x25_pad.specs.Ports.{AtLine}
-use Rattle.x25_pad.specs.declared.call.Call.{Call}
 use Rattle.x25_pad.specs.declared.line.PadLine.{PadLine}
 use Rattle.x25_pad.specs.Pad.{PadState, begun, terminal_event, after_idle, after_frame, after_timer, after_relink}
 use Rattle.x25_pad.specs.Pad.{restarted, elapsed}
-use Rattle.x25_pad.specs.Making.{made, IsConfig}
-use Rattle.x25_pad.specs.declared.config.PadConfig.{PadConfig}
-use Rattle.x25_pad_laws.specs.Standing.{drained}
 use Rattle.pad_records.specs.Writing.{writes_of}
 use Rattle.x25_pad_laws.specs.Occasions.{Occasion, TookMessage, HadBreak, HadCommand}
-use Rattle.x25_pad_laws.specs.Sending.{HasTyped, HasSaid}
-use Rattle.x25_pad_laws.specs.Holds.{node_at, PadTypes, HaveSaid}
+use Rattle.x25_pad_laws.specs.Holds.{PadTypes, HaveSaid}
 
 -- ---- events
 
@@ -73,16 +66,11 @@ abbrev pub asks_for_interrupt : Result Command CommandFault → Bool
 asks_for_interrupt (Ok command.Interrupt) = true
 asks_for_interrupt _ = false
 
--- the packet layer takes no interrupt of the call
-abbrev pub refuses_interrupt : Option Call → PadLine → Bool
-refuses_interrupt None l = true
-refuses_interrupt (Some call) l =
-    is_some (request_refusal l.end.layer call.channel (Interrupting (interrupt_octet ∷ [])))
-
--- an interrupt or a reset that the PAD sent is not confirmed
-abbrev pub is_pending : Option Call → PadLine → Bool
-is_pending call l =
-    (condition call l).reset_pending || ((condition call l).interrupt_pending || refuses_interrupt call l)
+-- the packet layer takes no interrupt: there is no call, or an interrupt or a reset that the PAD sent is not confirmed
+abbrev pub is_pending : (call : Option ℕ) → PadLine → Bool
+is_pending None l = true
+is_pending (Some channel) l =
+    is_some (request_refusal l.end.layer channel (Interrupting (interrupt_octet ∷ [])))
 
 -- the command INT is carried out in a call, if neither is pending
 abbrev pub by_line : Option (List ℕ) → (pending : Bool) → TerminalState → List Occasion
@@ -110,9 +98,9 @@ abbrev pub by_printing : AtLine → List Occasion
 by_printing a = by_taking (port.taken_of a) a.port.terminal
 
 -- the channel of a call, if there is one, meets a test
-abbrev pub meets : (test : ℕ → Bool) → Option Call → Bool
+abbrev pub meets : (test : ℕ → Bool) → Option ℕ → Bool
 meets test None = false
-meets test (Some call) = test call.channel
+meets test (Some call) = test call
 
 -- at the terminal of this number, if the channel of its call meets the test
 abbrev pub at_terminal : (number : ℕ) → (test : ℕ → Bool) → (AtLine → List Occasion) → PadState → List Occasion
@@ -145,7 +133,7 @@ abbrev pub writes_after : PadEvent → PadState → List Write
 writes_after HasRestart p = AllClosed ∷ []
 writes_after event p = writes_of (after_event event p).line.notes
 
--- ---- the laws
+-- ---- the law
 
 -- of one event, if nothing of the last one is unread: each record said what its occasions ask for, with those of the
 -- event, whatever they were before
@@ -153,41 +141,3 @@ abbrev pub OccasionLaw : Type 0
 OccasionLaw = (event : PadEvent) (role : Role) (p : PadState) (b : Book) (occasions : ℕ → List Occasion)
     → p.line.notes ≡ [] → PadTypes role p b → HaveSaid occasions role b
     → HaveSaid (λ n. grown occasions event p role b n) role (all_written role (writes_after event p) b)
-
--- an event at the PAD, whose notes are then read and whose frames go, or what is written at the other end
-pub data Happening : Type 0 where
-  Here : PadEvent → Happening
-  There : List Write → Happening
-
-pub record Course : Type 0 where
-  pub pad : PadState
-  pub book : Book
-  pub occasions : ℕ → List Occasion
-
-abbrev pub happened : Role → Happening → Course → Course
-happened role (Here event) s = record {
-  pad = drained (after_event event s.pad);
-  book = all_written role (writes_after event s.pad) s.book;
-  occasions = λ n. grown s.occasions event s.pad role s.book n;
-}
-happened role (There writes) s = record s { book = all_written (other_of role) writes s.book }
-
-abbrev pub all_happened : Role → List Happening → Course → Course
-all_happened role [] s = s
-all_happened role (h ∷ hs) s = all_happened role hs (happened role h s)
-
--- a PAD as it is made, on a line between two nodes
-abbrev pub beginning : PadConfig → (dte_node dce_node channels : ℕ) → Course
-beginning c dte_node dce_node channels = record {
-  pad = drained (made c);
-  book = made_book dte_node dce_node channels c.line.standing;
-  occasions = λ n. [];
-}
-
--- of every list of events: each record of the PAD has sent what was typed, and of itself what its occasions ask for
-abbrev pub CourseLaw : Type 0
-CourseLaw = (role : Role) (c : PadConfig) (dte_node dce_node channels : ℕ) (happenings : List Happening)
-    → (dte_node ≡ dce_node → ⊥) → IsConfig c
-    → let s = all_happened role happenings (beginning c dte_node dce_node channels) in
-    (n : ℕ) (r : RecordValue) → slice_get s.book.records n ≡ Some r → r.node ≡ node_at role s.book
-    → HasTyped r × HasSaid (s.occasions n) r

@@ -85,8 +85,3 @@ pub record HaveSaid (occasions : ℕ → List Occasion) (role : Role) (b : Book)
   pub said : (n : ℕ) (r : RecordValue) → slice_get b.records n ≡ Some r → r.node ≡ node_at role b
       → HasSaid (occasions n) r
   pub none : (n : ℕ) → slice_get b.records n ≡ None → occasions n ≡ []
-
-pub record PadHolds (role : Role) (p : PadState) (b : Book) : Type 0 where
-  pub typed : PadTypes role p b
-  pub occasions : ℕ → List Occasion
-  pub said : HaveSaid occasions role b

@@ -5,6 +5,7 @@ pub mod Sending
 pub mod Holds
 pub mod RecordClauses
 pub mod Happening
+pub mod Courses
 pub mod Own
 pub mod Expiry
 pub mod Rooms

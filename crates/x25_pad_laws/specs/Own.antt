@@ -7,13 +7,12 @@ use Rattle.packet_layer.specs.Layer.{front_on}
 use Rattle.x25_pad.specs.Line.{learnt_of}
 use Rattle.x25_pad.specs.Ports.{PortState, AtLine, has_channel, text_taken}
 use Rattle.x25_pad.specs.Pad.{PadState, at_port, print_taken, print_text, all_heard}
-use Rattle.x25_pad.specs.declared.call.Call.{Call}
 
 -- printing at a terminal takes what waits first on the channel of its own call
 abbrev pub OwnPacketLaw : Type 0
 OwnPacketLaw = (p : PadState) (number : ℕ) (q : PortState) (x : Taken) → slice_get p.ports number ≡ Some q
     → print_taken number p ≡ Some x
-    → (call : Call) × (q.call ≡ Some call) × (front_on p.line.end.layer call.channel ≡ Some x)
+    → (call : ℕ) × (q.call ≡ Some call) × (front_on p.line.end.layer call ≡ Some x)
 
 -- it gives the terminal's own text that waits, and then what that packet shows
 abbrev pub OwnTextLaw : Type 0

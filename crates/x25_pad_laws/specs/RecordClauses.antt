@@ -16,15 +16,15 @@ use Rattle.x25_pad.specs.Making.{made, IsConfig}
 use Rattle.x25_pad.specs.declared.config.PadConfig.{PadConfig}
 use Rattle.pad_records.specs.Writing.{writes_of}
 use Rattle.x25_pad_laws.specs.Standing.{drained}
-use Rattle.x25_pad_laws.specs.Sending.{HasSent}
-use Rattle.x25_pad_laws.specs.Holds.{PadHolds, node_at}
+use Rattle.x25_pad_laws.specs.Courses.{IsRecordOf, PadSends, PadHolds}
 
 -- ---- what it says, and the making
 
--- on each of its calls a PAD sent what its terminal typed, and of itself what its occasions ask for
+-- on each of its calls a PAD sent what its terminal typed, and of itself what its occasions ask for, all in one course
 abbrev pub SentLaw : Type 0
-SentLaw = (role : Role) (p : PadState) (b : Book) → PadHolds role p b
-    → (n : ℕ) (r : RecordValue) → slice_get b.records n ≡ Some r → r.node ≡ node_at role b → HasSent r
+SentLaw = (role : Role) (p : PadState) (b : Book) → PadHolds role p b → (place : ℕ) (records : List RecordValue)
+    → ((i : ℕ) (r : RecordValue) → slice_get records i ≡ Some r → r.node ≡ place → IsRecordOf role b r)
+    → PadSends role p place records
 
 -- a PAD that is made for a line between two nodes, with a call that stands or none
 abbrev pub MadeHolds : Type 0

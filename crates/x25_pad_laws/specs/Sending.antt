@@ -79,9 +79,3 @@ pub record HasSaid (occasions : List Occasion) (r : RecordValue) : Type 0 where
 -- the user items of all epochs are, for each block that the editing rules make of the steps, its octets and an end
 abbrev pub HasTyped : RecordValue → Type 0
 HasTyped r = user_items (items_sent r) ≡ user_messages (edited r.steps)
-
--- that is what it sent, and all
-pub record HasSent (r : RecordValue) : Type 0 where
-  pub typed : HasTyped r
-  pub occasions : List Occasion
-  pub said : HasSaid occasions r

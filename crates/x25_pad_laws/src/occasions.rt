@@ -1,4 +1,5 @@
-ghost use Rattle.x25_pad_laws.specs.Happening.{OccasionLaw, CourseLaw};
+ghost use Rattle.x25_pad_laws.specs.Happening.{OccasionLaw};
+ghost use Rattle.x25_pad_laws.specs.Courses.{CourseLaw};
 ghost use Rattle.x25_pad_laws.specs.Sending.{OfPadLaw};
 
 /// The law of what a PAD says of itself, over definitions alone. On each call the qualified packets that it sends are
