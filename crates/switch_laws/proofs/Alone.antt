@@ -1,29 +1,29 @@
 -- Where nothing waits elsewhere, the joins of the lines of an event are all that have to be relayed.
-use Rattle.std.proofs.Common.{◌≡◌, ℕ, zero, suc, ◌*◌, ◌⊎◌, inl, inr, Bool, true, false, ◌||◌, ◌==◌, if◌then◌else◌, List, [], ◌∷◌, ◌++◌, map, length, Option, Some, None, option_map, refl, sym, ap, subst, ◌∙◌, true≢false}
+use Rattle.std.proofs.Common.{◌≡◌, ℕ, zero, suc, ◌*◌, ◌⊎◌, inl, inr, Bool, true, false, ◌||◌, ◌==◌, if◌then◌else◌, List, [], ◌∷◌, ◌++◌, map, length, Option, Some, None, refl, sym, ap, subst, ◌∙◌, true≢false}
 use Rattle.std.specs.Prelude.{slice_get}
 use Rattle.std.specs.List.{list_any}
 use Rattle.std.proofs.lemmas.Bool.{eqb-true}
-use Rattle.std.proofs.lemmas.Option.{none-some, same_Some}
-use Rattle.link_timers.specs.declared.timers.TimerId.{TimerId}
-use Rattle.packet_end.specs.PacketEnd.{PacketEnd, received, after_timer, settled}
-use Rattle.switch_lines.specs.declared.channels.SwitchChannel.{SwitchChannel}
-use Rattle.switch_lines.specs.declared.channels.Joined.{Joined}
+use Rattle.std.proofs.lemmas.Option.{none-some}
+use Rattle.packet_end.specs.PacketEnd.{settled}
+use Rattle.switch_joins.specs.declared.channels.SwitchChannel.{SwitchChannel}
+use Rattle.switch_joins.specs.declared.join.Joined.{Joined}
 use Rattle.switch_lines.specs.Lines.{SwitchLine, joined_at, places}
 use Rattle.switch_lines.specs.Relay.{relayed_from, places_of, both_legs, legs_at, legs_of, relayed_first}
-use Rattle.switch_lines.specs.Switch.{Switch, with_end, acted, all_begun, may_offer, offering_from, offered_from, lines_first, rounds, on_frame, on_expiry}
-use Rattle.switch_lines.specs.Waiting.{other_at, AreInPairs}
-use Rattle.switch_lines.specs.Alone.{relayed_alone, rounds_alone, on_frame_alone, on_expiry_alone}
+use Rattle.switch_lines.specs.Switch.{Switch, with_end, acted, all_begun, may_offer, offering_from, offered_from, lines_first, rounds, finished}
+use Rattle.switch_lines.specs.Alone.{relayed_alone, rounds_alone, finished_alone}
 use Rattle.switch_lines.proofs.Rounds.{from_both}
 use Rattle.switch_laws.specs.World.{World}
 use Rattle.switch_laws.specs.Joined.{IsSwitch, HasRelayedAll, has_place_on}
+use Rattle.switch_laws.specs.Steps.{Happening, does}
+use Rattle.switch_laws.specs.Steps.Happening.{Brings, RunsOut, Relinks}
 use Rattle.switch_laws.specs.Concern.{is_one_of, joined_to, is_concerned, HasRelayedBut, before_relay, ConcernLaw}
-use Rattle.switch_laws.proofs.Lists.{decided, place_is}
 use Rattle.switch_laws.proofs.Places.{joined_place}
 use Rattle.switch_laws.proofs.Rounds.{from_lines, offers_all}
 use Rattle.switch_laws.proofs.Relaying.{StuckAt, Among, relays_from, among_here, among_left, among_right, among_nth}
 use Rattle.switch_laws.proofs.Relaying.Among.{first, later}
-use Rattle.switch_laws.proofs.Concerning.{stuck_stays, relays, frame, timer, offers, event_but, before_right, offered_but}
-use Rattle.switch_laws.proofs.Finishing.{begun_right, came, ran, offers_from}
+use Rattle.switch_laws.proofs.Concerning.{stuck_stays, relays, relays_own, offers, event_but, before_right, offered_but}
+use Rattle.switch_laws.proofs.Finishing.{begun_right, happens, offers_from}
+use Rattle.switch_joins.proofs.Apart.{decided, place_is}
 
 -- ---- both legs of a join of these lines are among those that are relayed
 
@@ -108,51 +108,25 @@ alone (suc most) lines ls w i but =
 
 -- ---- events
 
-event_alone : (n : ℕ) (f : PacketEnd → PacketEnd) (s : Switch) (w v : World) → IsSwitch (all_begun s.lines) w → IsSwitch (acted s.routes n f (all_begun s.lines)) v → HasRelayedAll s.lines
-    → map (with_end settled) (rounds_alone (7 * length (before_relay n f s)) (lines_first n s.routes (acted s.routes n f (all_begun s.lines))) (before_relay n f s))
-    ≡ map (with_end settled) (rounds (7 * length (before_relay n f s)) (lines_first n s.routes (acted s.routes n f (all_begun s.lines))) (before_relay n f s))
-event_alone n f s w v i k all =
-    let rs = before_relay n f s in
-    let r = before_right n f s v k in
-    ap (λ (ms : List SwitchLine). map (with_end settled) ms) (alone (7 * length rs) (lines_first n s.routes (acted s.routes n f (all_begun s.lines))) rs r.world r.right (event_but n f s w v i k all))
-
-frame_alone : (n : ℕ) (octets : List ℕ) (s : Switch) (w : World) → IsSwitch s.lines w → HasRelayedAll s.lines → on_frame_alone n octets s ≡ on_frame n octets s
-frame_alone n octets s w i all =
+event_alone : (n : ℕ) (what : Happening) (s : Switch) (w : World) → IsSwitch s.lines w → HasRelayedAll s.lines
+    → record s { lines = finished_alone s.routes n (acted s.routes n (does what) (all_begun s.lines)) } ≡ record s { lines = finished s.routes n (acted s.routes n (does what) (all_begun s.lines)) }
+event_alone n what s w i all =
     let b = begun_right s.lines w i in
-    let c = came n octets s.routes s.lines w i in
-    ap (λ (ms : List SwitchLine). record s { lines = ms }) (event_alone n (λ e. received e octets) s b.world c.world b.right c.right all)
-
-timer_alone : (n : ℕ) (id : TimerId) (s : Switch) (w : World) → IsSwitch s.lines w → HasRelayedAll s.lines → on_expiry_alone n id s ≡ on_expiry n id s
-timer_alone n id s w i all =
-    let b = begun_right s.lines w i in
-    let c = ran n id s.routes s.lines w i in
-    ap (λ (ms : List SwitchLine). record s { lines = ms }) (event_alone n (λ e. after_timer e id) s b.world c.world b.right c.right all)
-
--- ---- before the relay of an event the joins are in pairs
-
-in_pairs : (ls : List SwitchLine) (w : World) → IsSwitch ls w → AreInPairs ls
-in_pairs ls w i p q e = by_join (joined_at ls p) refl e
-  where
-    by_join : (o : Option Joined) → joined_at ls p ≡ o → option_map (λ (j : Joined). j.other) o ≡ Some q → other_at ls q ≡ Some p
-    by_join None f g = absurd (none-some q g)
-    by_join (Some j) f g =
-        let z = i.joined p j f in
-        ap (λ (x : SwitchChannel). other_at ls x) (sym (same_Some j.other q g))
-        ∙ ap (λ (o : Option Joined). option_map (λ (k : Joined). k.other) o) z.joined ∙ ap (λ (x : SwitchChannel). Some x) z.back
-
-pub frame_pairs : (n : ℕ) (octets : List ℕ) (s : Switch) (w : World) → IsSwitch s.lines w
-    → AreInPairs (before_relay n (λ e. received e octets) s)
-frame_pairs n octets s w i =
-    let c = came n octets s.routes s.lines w i in
-    let r = before_right n (λ e. received e octets) s c.world c.right in
-    in_pairs (before_relay n (λ e. received e octets) s) r.world r.right
-
-pub timer_pairs : (n : ℕ) (id : TimerId) (s : Switch) (w : World) → IsSwitch s.lines w
-    → AreInPairs (before_relay n (λ e. after_timer e id) s)
-timer_pairs n id s w i =
-    let c = ran n id s.routes s.lines w i in
-    let r = before_right n (λ e. after_timer e id) s c.world c.right in
-    in_pairs (before_relay n (λ e. after_timer e id) s) r.world r.right
+    let c = happens n what s.routes s.lines w i in
+    let rs = before_relay n (does what) s in
+    let first = lines_first n s.routes (acted s.routes n (does what) (all_begun s.lines)) in
+    let r = before_right n (does what) s c.world c.right in
+    ap (λ (ms : List SwitchLine). record s { lines = map (with_end settled) ms })
+    (alone (7 * length rs) first rs r.world r.right (event_but n (does what) s b.world c.world b.right c.right all))
 
 pub concerns_hold : ConcernLaw
-concerns_hold = record { relays = relays; frame = frame; timer = timer; offers = offers; frame_alone = frame_alone; timer_alone = timer_alone }
+concerns_hold = record {
+  relays = relays;
+  frame = λ n octets s w i all. relays_own n (Brings octets) s w i all;
+  timer = λ n id s w i all. relays_own n (RunsOut id) s w i all;
+  relinks = λ n s w i all. relays_own n Relinks s w i all;
+  offers = offers;
+  frame_alone = λ n octets s w i all. event_alone n (Brings octets) s w i all;
+  timer_alone = λ n id s w i all. event_alone n (RunsOut id) s w i all;
+  relinks_alone = λ n s w i all. event_alone n Relinks s w i all;
+}

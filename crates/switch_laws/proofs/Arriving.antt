@@ -9,7 +9,7 @@ use Rattle.packet_layer.specs.Traffic.{Heard, hears as hears_in}
 use Rattle.packet_layer.specs.Traffic.Heard.{Keeps, Confirms, Wrong}
 use Rattle.packet_layer.specs.Channel.{CallState, Channel, Step, received, unreadable, had_call, after_heard}
 use Rattle.packet_layer.specs.Channel.CallState.{Ready, OwnWaiting, FarWaiting, Transfer, Collision, OwnClear}
-use Rattle.switch_lines.specs.declared.channels.SwitchChannel.{SwitchChannel}
+use Rattle.switch_joins.specs.declared.channels.SwitchChannel.{SwitchChannel}
 use Rattle.switch_laws.proofs.Outcomes.{ch_in}
 
 -- one of them says that a call came in on the channel

@@ -12,25 +12,27 @@ use Rattle.packet_layer.specs.Channel.CallState.{Ready, OwnWaiting, FarWaiting, 
 use Rattle.packet_layer.specs.Layer.{Layer, channel_of, channel_given, on_found, request, call}
 use Rattle.packet_laws.proofs.Line.Lines.{nth_same}
 use Rattle.address_routes.specs.Routes.{RouteMap, line_for}
-use Rattle.switch_lines.specs.Direction.{Direction, new_direction, releasable, released}
+use Rattle.switch_joins.specs.Direction.{Direction, new_direction, releasable, released}
 use Rattle.switch_lines.specs.Causes.{clear_cause, reset_cause, far_diagnostic}
-use Rattle.switch_lines.specs.declared.channels.SwitchChannel.{SwitchChannel}
-use Rattle.switch_lines.specs.declared.channels.Joined.{Joined}
-use Rattle.switch_lines.specs.Lines.{SwitchLine, same_place, changed, joined_at, with_joined, ask}
+use Rattle.switch_joins.specs.declared.channels.SwitchChannel.{SwitchChannel}
+use Rattle.switch_joins.specs.declared.join.Joined.{Joined}
+use Rattle.switch_lines.specs.Lines.{SwitchLine, same_place, changed, joined_at, with_joined, ask, is_trunk}
 use Rattle.switch_lines.specs.Relay.{freed, kept_anew, covered_on, told_joined, told_of}
-use Rattle.switch_lines.specs.Switch.{Answer, answer, answered, forwarded, place_call, has_any, heed, heed_all}
+use Rattle.switch_lines.specs.Switch.{Answer, answer, answered, forwarded, place_call, has_any, route_from, heed, heed_all}
 use Rattle.switch_lines.specs.Switch.Answer.{Clears, Joins}
 use Rattle.switch_laws.specs.World.{Shown, shown_as, shown_on, shown_at, layers_of}
 use Rattle.switch_laws.specs.World.Act.{Asks, Calls}
 use Rattle.switch_laws.specs.Joined.{has_place}
 use Rattle.switch_laws.specs.Calls.{HasCall, CallsAreJoined}
 use Rattle.switch_laws.proofs.Legs.{not_refused, not_false}
-use Rattle.switch_laws.proofs.Lists.{map_changed, decided, place_is, same_as}
-use Rattle.switch_laws.proofs.Places.{joined_kept, joined_asked, joined_here, joined_apart, joined_place, place_after, place_joined, layers_asked, some_there, there_after}
+use Rattle.switch_laws.proofs.Lists.{map_changed, same_as}
+use Rattle.switch_laws.proofs.Places.{joined_here, joined_place, place_after, place_joined, layers_asked, some_there, there_after}
 use Rattle.switch_laws.proofs.SettingUp.{accepts_call, IsFreePlace, IsAnswer, answer_by_is, answer_if, layer_there}
 use Rattle.switch_laws.proofs.Staying.{asked_beside, joined_beside, placed_beside, line_beside, differ, free_shown}
 use Rattle.switch_laws.proofs.Coming.{at}
 use Rattle.switch_laws.proofs.Arriving.{Arrives}
+use Rattle.switch_joins.proofs.Apart.{decided, place_is}
+use Rattle.switch_lines.proofs.Places.{joined_kept, joined_asked, joined_apart}
 
 -- ---- a request makes no call
 
@@ -227,7 +229,7 @@ before_closed n c cause diagnostic reason ns i ls b = record {
     q = i.other
 
     r : Request
-    r = Clearing (clear_cause reason cause) (far_diagnostic reason diagnostic)
+    r = Clearing (clear_cause (is_trunk (slice_get ls n)) reason cause) (far_diagnostic reason diagnostic)
 
     l1 : List SwitchLine
     l1 = with_joined p None ls
@@ -245,7 +247,7 @@ before_closed n c cause diagnostic reason ns i ls b = record {
     same x = (keeps_asked q r l2).there x ∙ (ap (λ (o : Option Shown). is_some o) (joined_beside q None l1 x) ∙ ap (λ (o : Option Shown). is_some o) (joined_beside p None ls x))
 
     by_place : (x : SwitchChannel) → HasCall ms x → (same_place x q ≡ true) ⊎ (same_place x q ≡ false) → (same_place x p ≡ true) ⊎ (same_place x p ≡ false) → (is_some (joined_at ms x) ≡ true) ⊎ Arrives n ns x
-    by_place x h (inl t) u = absurd (cleared_none q (clear_cause reason cause) (far_diagnostic reason diagnostic) l2 (subst (λ (y : SwitchChannel). HasCall ms y) (place_is x q t) h))
+    by_place x h (inl t) u = absurd (cleared_none q (clear_cause (is_trunk (slice_get ls n)) reason cause) (far_diagnostic reason diagnostic) l2 (subst (λ (y : SwitchChannel). HasCall ms y) (place_is x q t) h))
     by_place x h (inr f) (inl t) = let is = place_is x p t in inr (subst (λ (y : SwitchChannel). Arrives n ns y) (sym is) (b.closing.0 (subst (λ (y : SwitchChannel). HasCall ls y) is (old x h))))
     by_place x h (inr f) (inr g) =
         elim (b.calls x (old x h)) [
@@ -366,7 +368,7 @@ less n note ns ls f g h b = record {
 }
 
 before_heed : (routes : RouteMap) (n : ℕ) (note : Note) (ns : List Note) (ls : List SwitchLine) → CallsBefore n (note ∷ ns) ls → CallsBefore n ns (heed routes n note ls)
-before_heed routes n (Incoming c parts) ns ls b = before_answered n c (answer routes ls parts) parts ns ls (answer_if (has_any parts.facilities) ls _ _ (answer_by_is ls (line_for routes parts.called))) b
+before_heed routes n (Incoming c parts) ns ls b = before_answered n c (answer routes ls n parts) parts ns ls (answer_if (has_any parts.facilities) ls _ _ (answer_by_is ls (route_from n ls (line_for routes parts.called)))) b
 before_heed routes n (Closed c cause diagnostic reason) ns ls b = before_over n c cause diagnostic reason (joined_at ls (at n c)) ns ls b
 before_heed routes n (Connected c) ns ls b = before_told n c (Connected c) (joined_at ls (at n c)) ns ls tt (less n (Connected c) ns ls (λ x a. a) (λ k. k) (λ k. k) b)
 before_heed routes n (WasReset c cause diagnostic reason) ns ls b =

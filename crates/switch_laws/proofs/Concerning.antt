@@ -2,22 +2,20 @@
 use Rattle.std.proofs.Common.{◌≡◌, ℕ, zero, suc, ◌+◌, ◌&&◌, map, arith, option_map, ◌⊎◌, inl, inr, Bool, true, false, ◌||◌, ◌==◌, if◌then◌else◌, List, [], ◌∷◌, length, Option, Some, None, is_some, refl, sym, ap, subst, ◌∙◌, true≢false}
 use Rattle.std.specs.Prelude.{slice_get}
 use Rattle.std.proofs.lemmas.Bool.{eq-eqb}
-use Rattle.link_timers.specs.declared.timers.TimerId.{TimerId}
 use Rattle.lapb.specs.Machine.{can_offer}
 use Rattle.packet_layer.specs.Packets.{Note}
 use Rattle.packet_layer.specs.Traffic.{Taken, front}
 use Rattle.packet_layer.specs.Channel.{Channel, Request, Refusal, refusal}
 use Rattle.packet_layer.specs.Layer.{Layer, channel_of, next_packet, refusal_at as refusal_of_channel, front_at as front_of_channel}
-use Rattle.packet_end.specs.PacketEnd.{PacketEnd, begun, received, after_timer, relinked}
+use Rattle.packet_end.specs.PacketEnd.{PacketEnd, begun, relinked}
 use Rattle.packet_end.proofs.Offering.{no_room, no_packet}
 use Rattle.address_routes.specs.Routes.{RouteMap}
-use Rattle.switch_lines.specs.Direction.{request_for}
-use Rattle.switch_lines.specs.declared.channels.SwitchChannel.{SwitchChannel}
-use Rattle.switch_lines.specs.declared.channels.Joined.{Joined}
+use Rattle.switch_joins.specs.declared.channels.SwitchChannel.{SwitchChannel}
+use Rattle.switch_joins.specs.declared.join.Joined.{Joined}
 use Rattle.switch_lines.specs.Lines.{SwitchLine, same_place, joined_on, joined_at, front_at, front_of_line, refusal_at, refusal_of_line, places}
-use Rattle.switch_lines.specs.Relay.{moved_joined, moved_front, moved_unless, relayed, relayed_from, all_relayed, most_moves}
+use Rattle.switch_lines.specs.Relay.{request_for, moved_joined, moved_front, moved_unless, relayed, relayed_from, all_relayed, most_moves}
 use Rattle.switch_lines.specs.Switch.{Switch, acted, all_begun, may_offer, offering_from, offered_from, to_relink, relinked_at, all_relinked, relinks_of}
-use Rattle.switch_laws.specs.Steps.{acts_of_all}
+use Rattle.switch_laws.specs.Steps.{Happening, does, acts_of_all}
 use Rattle.switch_laws.specs.Steps.Happening.{Relinks}
 use Rattle.switch_laws.specs.EventSteps.{relayed_steps, all_relinked_steps}
 use Rattle.switch_laws.specs.World.{World, Shown, shown_as, shown_on, shown_at, layers_of}
@@ -25,7 +23,7 @@ use Rattle.switch_laws.specs.Joined.{IsSwitch, Becomes, HasRelayedAll}
 use Rattle.switch_laws.specs.Stays.{IsNone}
 use Rattle.switch_laws.specs.Pairs.{WasJoined, IsNewJoin}
 use Rattle.switch_laws.specs.Concern.{is_one_of, joined_to, is_concerned, concerned, relayed_on, HasRelayedBut, lines_of_event, before_relay, RelaysItsOwn}
-use Rattle.switch_laws.proofs.Lists.{decided, place_is, not_equal, get_map}
+use Rattle.switch_laws.proofs.Lists.{not_equal, get_map}
 use Rattle.switch_laws.proofs.Rounds.{offers_line, in_turn}
 use Rattle.switch_lines.proofs.Relaying.{relayed_stays}
 use Rattle.switch_laws.proofs.Relaying.{StuckAt, VisitedBy, visited}
@@ -33,7 +31,8 @@ use Rattle.switch_laws.proofs.Staying.{IsOther, acted_beside}
 use Rattle.switch_laws.proofs.Turning.{relinked_effect, acted_right}
 use Rattle.switch_laws.proofs.Keeping.{layers_on_ends, joined_on_ends}
 use Rattle.switch_laws.proofs.Newness.{before_joins}
-use Rattle.switch_laws.proofs.Finishing.{begun_right, came, ran, none_relinks, all_relinks, offers_from}
+use Rattle.switch_laws.proofs.Finishing.{begun_right, happens, none_relinks, all_relinks, offers_from}
+use Rattle.switch_joins.proofs.Apart.{decided, place_is}
 
 -- ---- joins that are passed over
 
@@ -155,7 +154,7 @@ unconcerned lines ls p j e f =
 -- ---- an event
 
 -- a join of two other lines was there before
-was_joined : (n : ℕ) (routes : RouteMap) (ls : List SwitchLine) (p : SwitchChannel) (j : Joined) → (p.line ≡ n → ⊥) → (j.other.line ≡ n → ⊥) → {notes : List Note} → WasJoined ls p j ⊎ IsNewJoin routes n notes p j → WasJoined ls p j
+was_joined : (n : ℕ) (routes : RouteMap) (ls : List SwitchLine) (p : SwitchChannel) (j : Joined) → (p.line ≡ n → ⊥) → (j.other.line ≡ n → ⊥) → {notes : List Note} → WasJoined ls p j ⊎ IsNewJoin routes n notes ls p j → WasJoined ls p j
 was_joined n routes ls p j here there (inl a) = a
 was_joined n routes ls p j here there (inr h) = absurd (by_caller j.came_in (ap (λ (x : SwitchChannel). x.line) h.came_on))
   where
@@ -195,21 +194,12 @@ pub before_right : (n : ℕ) (f : PacketEnd → PacketEnd) (s : Switch) (v : Wor
     → Becomes (acts_of_all (all_relinked_steps (length (acted s.routes n f (all_begun s.lines))) s.routes (acted s.routes n f (all_begun s.lines))) (acted s.routes n f (all_begun s.lines))) (acted s.routes n f (all_begun s.lines)) v (before_relay n f s)
 before_right n f s v k = let ms = acted s.routes n f (all_begun s.lines) in all_relinks (length ms) s.routes ms v k
 
-pub frame : (n : ℕ) (octets : List ℕ) (s : Switch) (w : World) → IsSwitch s.lines w → HasRelayedAll s.lines
-    → RelaysItsOwn n (λ e. received e octets) s
-frame n octets s w i all =
+pub relays_own : (n : ℕ) (what : Happening) (s : Switch) (w : World) → IsSwitch s.lines w → HasRelayedAll s.lines → RelaysItsOwn n (does what) s
+relays_own n what s w i all =
     let b = begun_right s.lines w i in
-    let c = came n octets s.routes s.lines w i in
-    let r = before_right n (λ e. received e octets) s c.world c.right in
-    relays (lines_of_event n (λ e. received e octets) s) (before_relay n (λ e. received e octets) s) r.world r.right (event_but n (λ e. received e octets) s b.world c.world b.right c.right all)
-
-pub timer : (n : ℕ) (id : TimerId) (s : Switch) (w : World) → IsSwitch s.lines w → HasRelayedAll s.lines
-    → RelaysItsOwn n (λ e. after_timer e id) s
-timer n id s w i all =
-    let b = begun_right s.lines w i in
-    let c = ran n id s.routes s.lines w i in
-    let r = before_right n (λ e. after_timer e id) s c.world c.right in
-    relays (lines_of_event n (λ e. after_timer e id) s) (before_relay n (λ e. after_timer e id) s) r.world r.right (event_but n (λ e. after_timer e id) s b.world c.world b.right c.right all)
+    let c = happens n what s.routes s.lines w i in
+    let r = before_right n (does what) s c.world c.right in
+    relays (lines_of_event n (does what) s) (before_relay n (does what) s) r.world r.right (event_but n (does what) s b.world c.world b.right c.right all)
 
 -- ---- packets are offered
 

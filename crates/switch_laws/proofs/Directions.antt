@@ -3,7 +3,7 @@ use Rattle.std.proofs.Common.{◌≡◌, ℕ, zero, suc, ◌+◌, ◌-◌, ◌<�
 use Rattle.epochs.specs.Item.{Item, items_of, all_items}
 use Rattle.epochs.proofs.Prefixes.{all_items-append}
 use Rattle.packet_layer.specs.Packets.{Datum}
-use Rattle.switch_lines.specs.Direction.{Direction, new_direction, one_more, carried, covered_by, releasable, unreleasable, released}
+use Rattle.switch_joins.specs.Direction.{Direction, new_direction, one_more, carried, covered_by, releasable, unreleasable, released}
 use Rattle.switch_laws.specs.Clause.{Handled, packets_of, made_of, Turned, AreTurned, TakenPart, SentPart, Carries, AreCovered, needs, IsDirection}
 
 -- ---- packets that were handled

@@ -18,9 +18,9 @@ use Rattle.packet_layer.specs.Layer.Phase.{NoSession, OwnRestart, PacketReady}
 use Rattle.packet_layer.specs.Layer.Timer.{RestartTimer, CallTimer, ResetTimer, ClearTimer}
 use Rattle.packet_laws.specs.History.{Epoch}
 use Rattle.address_routes.specs.Routes.{RouteMap}
-use Rattle.switch_lines.specs.Direction.{Direction}
-use Rattle.switch_lines.specs.declared.channels.SwitchChannel.{SwitchChannel}
-use Rattle.switch_lines.specs.declared.channels.Joined.{Joined}
+use Rattle.switch_joins.specs.Direction.{Direction}
+use Rattle.switch_joins.specs.declared.channels.SwitchChannel.{SwitchChannel}
+use Rattle.switch_joins.specs.declared.join.Joined.{Joined}
 use Rattle.switch_lines.specs.Lines.{SwitchLine, same_place, joined_at}
 use Rattle.switch_lines.specs.Switch.{heed}
 use Rattle.switch_laws.specs.Leg.{Leg, stepped, heard, misheard, heard_epoch}
@@ -29,7 +29,6 @@ use Rattle.switch_laws.specs.Join as join
 use Rattle.switch_laws.specs.World.{World, Shown, shown_of, shown_as, shown_on, shown_at, layers_of, Act, MayHappen, world_after, leg_after, line_of, closed, restarted, came_in, ran_out, cleared_if}
 use Rattle.switch_laws.specs.World.Act.{Comes, Expires, GoesUp, GoesDown}
 use Rattle.switch_laws.specs.Joined.{IsPair, IsOver, IsSwitchBefore, IsSwitch, Reached, HasActed, IsTold, notes_made, has_place}
-use Rattle.switch_laws.proofs.Lists.{decided}
 use Rattle.switch_laws.proofs.Places.{some_there}
 use Rattle.switch_laws.proofs.Layers.{seen, opened_shown}
 use Rattle.switch_laws.specs.EventSteps.{heed_steps, heed_all_steps}
@@ -42,6 +41,7 @@ use Rattle.switch_laws.proofs.Outcomes.Outcome.{ends}
 use Rattle.switch_laws.proofs.Arriving.{StepCalls, received_calls, unreadable_calls, cleared_calls}
 use Rattle.switch_laws.proofs.SettingUp.{pair_call}
 use Rattle.switch_laws.proofs.Coming.{at, always, Came, comes, becomes_then, becomes_by, Heeded, After}
+use Rattle.switch_joins.proofs.Apart.{decided}
 
 -- ---- the effect of an act on its layer
 

@@ -3,20 +3,19 @@ use Rattle.std.proofs.Common.{true≢false, ◌≡◌, ℕ, zero, suc, ◌*◌, 
 use Rattle.std.specs.Prelude.{slice_get}
 use Rattle.std.specs.List.{list_any}
 use Rattle.std.proofs.lemmas.Option.{none-some, same_Some}
-use Rattle.link_timers.specs.declared.timers.TimerId.{TimerId}
-use Rattle.lapb.specs.Machine.{Octets, can_offer}
-use Rattle.lapb.specs.Octets as link_octets
+use Rattle.lapb.specs.Machine.{can_offer}
 use Rattle.packet_layer.specs.Packets.{Packet}
 use Rattle.packet_layer.specs.Channel.{Channel, CallState, had_call, Request, Refusal, may_accept, waits_for_call}
-use Rattle.switch_lines.specs.Direction.{request_for}
 use Rattle.packet_layer.specs.Layer.{Layer, next_packet, channel_of, unread, link_down}
-use Rattle.packet_end.specs.PacketEnd.{PacketEnd, begun, received, after_timer, relinked, with_next, offered, all_offered, settled, elapsed}
+use Rattle.packet_end.specs.PacketEnd.{PacketEnd, begun, relinked, with_next, offered, all_offered, settled, elapsed}
 use Rattle.address_routes.specs.Routes.{RouteMap}
-use Rattle.switch_lines.specs.declared.channels.SwitchChannel.{SwitchChannel}
-use Rattle.switch_lines.specs.declared.channels.Joined.{Joined}
+use Rattle.switch_joins.specs.declared.channels.SwitchChannel.{SwitchChannel}
+use Rattle.switch_joins.specs.declared.join.Joined.{Joined}
 use Rattle.switch_lines.specs.Lines.{SwitchLine, changed, flat, nth_joined, joined_on, front_of_line, refusal_of_line}
-use Rattle.switch_lines.specs.Relay.{relayed_first}
-use Rattle.switch_lines.specs.Switch.{Switch, with_end, acted, to_relink, relinked_at, all_relinked, relinks_of, all_offered_on, may_offer, offering_from, offered_from, lines_first, rounds, finished, all_begun, on_frame, on_expiry, restart, without_joins}
+use Rattle.switch_lines.specs.Relay.{request_for, relayed_first}
+use Rattle.switch_lines.specs.Switch.{Switch, with_end, acted, to_relink, relinked_at, all_relinked, relinks_of}
+use Rattle.switch_lines.specs.Switch.{all_offered_on, may_offer, offering_from, offered_from, lines_first, rounds}
+use Rattle.switch_lines.specs.Switch.{finished, all_begun, restart, without_joins}
 use Rattle.switch_laws.specs.Leg.{Leg, gave}
 use Rattle.switch_laws.specs.Join.{Join, gives}
 use Rattle.switch_laws.specs.World.{World, Shown, Agrees, IsCallLeg, closed, shown_as, shown_on, shown_at, layers_of, world_after, gave_if}
@@ -36,17 +35,18 @@ use Rattle.switch_laws.proofs.Staying.{acted_stays, stay_rounds}
 use Rattle.switch_laws.specs.Calls.{CallsAreJoined, HasCall}
 use Rattle.switch_laws.proofs.Joining.{acted_calls}
 use Rattle.switch_laws.proofs.Keeping.{layers_on_ends, joined_on_ends, ends_keep, finished_calls}
-use Rattle.switch_laws.proofs.Offered.{frame_offered, timer_offered}
+use Rattle.switch_laws.proofs.Offered.{event_offered}
 use Rattle.switch_laws.proofs.Legs.{leg_gave}
 use Rattle.switch_laws.proofs.Joins.{gives_right, turned_join}
-use Rattle.switch_laws.proofs.Lists.{decided}
-use Rattle.switch_laws.proofs.Places.{joined_kept, place_after, some_there, line_there, shown_there}
+use Rattle.switch_laws.proofs.Places.{place_after, some_there, line_there, shown_there}
 use Rattle.switch_laws.proofs.Frame.{reached_there, reached_world}
 use Rattle.switch_laws.proofs.Relaying.{relayed_first_right, relayed_first_stuck}
 use Rattle.switch_laws.proofs.Leading.{acts_lead, relayed_first_leads, offered_leads, rounds_leads, relinked_leads, all_relinked_leads, acted_leads}
 use Rattle.switch_laws.proofs.Coming.{becomes_same, becomes_then, becomes_by}
 use Rattle.switch_laws.proofs.Effects.{steady, leg_on_line, leg_elsewhere}
-use Rattle.switch_laws.proofs.Turning.{changed_at, changed_none, changed_twice, changed_same, got_changed, layer_got, layers_changed, acted_right, relinked_effect, received_effect, timer_effect}
+use Rattle.switch_laws.proofs.Turning.{changed_at, changed_none, changed_twice, changed_same, got_changed, layer_got, layers_changed, acted_right, relinked_effect, does_effect}
+use Rattle.switch_joins.proofs.Apart.{decided}
+use Rattle.switch_lines.proofs.Places.{joined_kept}
 
 -- ---- a packet goes to a link
 
@@ -307,42 +307,28 @@ begun_line n [] line e = absurd (none-some line e)
 begun_line zero (l ∷ ls) line e = (l, (refl, same_Some _ line e))
 begun_line (suc n) (l ∷ ls) line e = begun_line n ls line e
 
-pub came : (n : ℕ) (octets : Octets) (routes : RouteMap) (ls : List SwitchLine) (w : World) → IsSwitch ls w
-    → Becomes (acts_of_all (acted_steps routes n (Brings octets) (all_begun ls)) (all_begun ls)) ls w (acted routes n (λ e. received e octets) (all_begun ls))
-came n octets routes ls w i =
+pub happens : (n : ℕ) (what : Happening) (routes : RouteMap) (ls : List SwitchLine) (w : World) → IsSwitch ls w
+    → Becomes (acts_of_all (acted_steps routes n what (all_begun ls)) (all_begun ls)) ls w (acted routes n (does what) (all_begun ls))
+happens n what routes ls w i =
     let a = begun_right ls w i in
-    becomes_then ls (all_begun ls) _ w a.world a.reached
-    (acted_right routes n (Brings octets) (all_begun ls) a.world a.right (λ line e. received_effect n octets line.end))
-
-pub ran : (n : ℕ) (id : TimerId) (routes : RouteMap) (ls : List SwitchLine) (w : World) → IsSwitch ls w
-    → Becomes (acts_of_all (acted_steps routes n (RunsOut id) (all_begun ls)) (all_begun ls)) ls w (acted routes n (λ e. after_timer e id) (all_begun ls))
-ran n id routes ls w i =
-    let a = begun_right ls w i in
-    becomes_then ls (all_begun ls) _ w a.world a.reached (acted_right routes n (RunsOut id) (all_begun ls) a.world a.right (λ line e. timer_effect n id line.end))
+    becomes_then ls (all_begun ls) _ w a.world a.reached (acted_right routes n what (all_begun ls) a.world a.right (λ line e. does_effect n what line.end))
 
 -- the acts at the line and those of the end of the event, one after the other
-event_right : (n : ℕ) (what : Happening) (s : Switch) (w v : World) → Reached (acts_of_all (acted_steps s.routes n what (all_begun s.lines)) (all_begun s.lines)) s.lines w (acted s.routes n (does what) (all_begun s.lines)) v
+event_reached : (n : ℕ) (what : Happening) (s : Switch) (w v : World) → Reached (acts_of_all (acted_steps s.routes n what (all_begun s.lines)) (all_begun s.lines)) s.lines w (acted s.routes n (does what) (all_begun s.lines)) v
     → Becomes (acts_of_all (finished_steps s.routes n (acted s.routes n (does what) (all_begun s.lines))) (acted s.routes n (does what) (all_begun s.lines))) (acted s.routes n (does what) (all_begun s.lines)) v
     (finished s.routes n (acted s.routes n (does what) (all_begun s.lines)))
     → Becomes (event_acts s.routes n what s.lines) s.lines w (finished s.routes n (acted s.routes n (does what) (all_begun s.lines)))
-event_right n what s w v r b =
+event_reached n what s w v r b =
     subst (λ (acts : List Act). Becomes acts s.lines w (finished s.routes n (acted s.routes n (does what) (all_begun s.lines))))
     (acts_lead (acted_steps s.routes n what (all_begun s.lines)) (finished_steps s.routes n (acted s.routes n (does what) (all_begun s.lines))) (all_begun s.lines) (acted s.routes n (does what) (all_begun s.lines)) (acted_leads s.routes n what (all_begun s.lines)))
     (becomes_then s.lines (acted s.routes n (does what) (all_begun s.lines)) _ w v r b)
 
-pub frame_right : (n : ℕ) (octets : Octets) (s : Switch) (w : World) → IsSwitch s.lines w → Becomes (event_acts s.routes n (Brings octets) s.lines) s.lines w (on_frame n octets s).lines
-frame_right n octets s w i =
-    let a = came n octets s.routes s.lines w i in event_right n (Brings octets) s w a.world a.reached (finished_right s.routes n _ a.world a.right)
+pub event_right : (n : ℕ) (what : Happening) (s : Switch) (w : World) → IsSwitch s.lines w → Becomes (event_acts s.routes n what s.lines) s.lines w (finished s.routes n (acted s.routes n (does what) (all_begun s.lines)))
+event_right n what s w i =
+    let a = happens n what s.routes s.lines w i in event_reached n what s w a.world a.reached (finished_right s.routes n _ a.world a.right)
 
-pub frame_stuck : (n : ℕ) (octets : Octets) (s : Switch) (w : World) → IsSwitch s.lines w → HasRelayedAll (on_frame n octets s).lines
-frame_stuck n octets s w i = let a = came n octets s.routes s.lines w i in finished_stuck s.routes n _ a.world a.right
-
-pub timer_right : (n : ℕ) (id : TimerId) (s : Switch) (w : World) → IsSwitch s.lines w → Becomes (event_acts s.routes n (RunsOut id) s.lines) s.lines w (on_expiry n id s).lines
-timer_right n id s w i =
-    let a = ran n id s.routes s.lines w i in event_right n (RunsOut id) s w a.world a.reached (finished_right s.routes n _ a.world a.right)
-
-pub timer_stuck : (n : ℕ) (id : TimerId) (s : Switch) (w : World) → IsSwitch s.lines w → HasRelayedAll (on_expiry n id s).lines
-timer_stuck n id s w i = let a = ran n id s.routes s.lines w i in finished_stuck s.routes n _ a.world a.right
+pub event_stuck : (n : ℕ) (what : Happening) (s : Switch) (w : World) → IsSwitch s.lines w → HasRelayedAll (finished s.routes n (acted s.routes n (does what) (all_begun s.lines)))
+event_stuck n what s w i = let a = happens n what s.routes s.lines w i in finished_stuck s.routes n _ a.world a.right
 
 -- ---- a restart
 
@@ -420,9 +406,9 @@ relinks_leave (suc most) (Some n) routes ls w t i p j e a b =
     ap (λ (x : Option ℕ). joined_at (all_relinked most routes (relinked_at x routes ls)) p) t
     ∙ relinks_leave most (to_relink ms) routes ms c.world refl c.right p j kept a.1 b.1
 
-event_leaves : (n : ℕ) (f : PacketEnd → PacketEnd) (s : Switch) (w v : World) → IsSwitch (all_begun s.lines) w → IsSwitch (acted s.routes n f (all_begun s.lines)) v
+leaves_others : (n : ℕ) (f : PacketEnd → PacketEnd) (s : Switch) (w v : World) → IsSwitch (all_begun s.lines) w → IsSwitch (acted s.routes n f (all_begun s.lines)) v
     → OthersStay (n ∷ relinked_in n f s) s.lines (finished s.routes n (acted s.routes n f (all_begun s.lines)))
-event_leaves n f s w v i k p j e a b =
+leaves_others n f s w v i k p j e a b =
     let ls = acted s.routes n f (all_begun s.lines) in
     let begun_ : joined_at (all_begun s.lines) p ≡ Some j = joined_on_ends begun s.lines p.line p.channel ∙ e in
     let here : joined_at ls p ≡ Some j = acted_stays s.routes n f (all_begun s.lines) w i p j (record { joined = begun_; here = a.0; there = b.0 }) in
@@ -432,33 +418,21 @@ event_leaves n f s w v i k p j e a b =
     let last = stay_rounds (7 * length rs) first rs p j then_ in
     record { kept = last.kept; joined = joined_on_ends settled (all_offered_on first rs) p.line p.channel ∙ last.joined }
 
-frame_leaves : (n : ℕ) (octets : Octets) (s : Switch) (w : World) → IsSwitch s.lines w → OthersStay (n ∷ relinked_in n (λ e. received e octets) s) s.lines (on_frame n octets s).lines
-frame_leaves n octets s w i =
+event_leaves : (n : ℕ) (what : Happening) (s : Switch) (w : World) → IsSwitch s.lines w
+    → OthersStay (n ∷ relinked_in n (does what) s) s.lines (finished s.routes n (acted s.routes n (does what) (all_begun s.lines)))
+event_leaves n what s w i =
     let b = begun_right s.lines w i in
-    let c = came n octets s.routes s.lines w i in
-    event_leaves n (λ e. received e octets) s b.world c.world b.right c.right
-
-timer_leaves : (n : ℕ) (id : TimerId) (s : Switch) (w : World) → IsSwitch s.lines w → OthersStay (n ∷ relinked_in n (λ e. after_timer e id) s) s.lines (on_expiry n id s).lines
-timer_leaves n id s w i =
-    let b = begun_right s.lines w i in
-    let c = ran n id s.routes s.lines w i in
-    event_leaves n (λ e. after_timer e id) s b.world c.world b.right c.right
+    let c = happens n what s.routes s.lines w i in
+    leaves_others n (does what) s b.world c.world b.right c.right
 
 -- ---- channels with calls are joined
 
-frame_calls : (n : ℕ) (octets : Octets) (s : Switch) (w : World) → IsSwitch s.lines w → CallsAreJoined s.lines → CallsAreJoined (on_frame n octets s).lines
-frame_calls n octets s w i all =
+pub event_calls : (n : ℕ) (what : Happening) (s : Switch) (w : World) → IsSwitch s.lines w → CallsAreJoined s.lines → CallsAreJoined (finished s.routes n (acted s.routes n (does what) (all_begun s.lines)))
+event_calls n what s w i all =
     let b = begun_right s.lines w i in
-    let c = came n octets s.routes s.lines w i in
+    let c = happens n what s.routes s.lines w i in
     finished_calls s.routes n _ c.world c.right
-    (acted_calls s.routes n (Brings octets) (all_begun s.lines) b.world b.right (λ line e. received_effect n octets line.end) (ends_keep begun s.lines (λ e. refl) all))
-
-timer_calls : (n : ℕ) (id : TimerId) (s : Switch) (w : World) → IsSwitch s.lines w → CallsAreJoined s.lines → CallsAreJoined (on_expiry n id s).lines
-timer_calls n id s w i all =
-    let b = begun_right s.lines w i in
-    let c = ran n id s.routes s.lines w i in
-    finished_calls s.routes n _ c.world c.right
-    (acted_calls s.routes n (RunsOut id) (all_begun s.lines) b.world b.right (λ line e. timer_effect n id line.end) (ends_keep begun s.lines (λ e. refl) all))
+    (acted_calls s.routes n what (all_begun s.lines) b.world b.right (λ line e. does_effect n what line.end) (ends_keep begun s.lines (λ e. refl) all))
 
 restart_calls : (s : Switch) (w : World) → IsSwitch s.lines w → (p : SwitchChannel) → HasCall (restart s).lines p → ⊥
 restart_calls s w i p h =
@@ -470,16 +444,21 @@ same_end_layers ticks ls w i = same_ends (λ e. elapsed e ticks) ls w (λ e. ref
 
 pub turns : TurnLaw
 turns = record {
-  frame = frame_right;
-  frame_keeps_nothing_back = frame_stuck;
-  timer = timer_right;
-  timer_keeps_nothing_back = timer_stuck;
-  frame_offers = frame_offered;
-  timer_offers = timer_offered;
-  frame_joins_calls = frame_calls;
-  timer_joins_calls = timer_calls;
-  frame_leaves_others = frame_leaves;
-  timer_leaves_others = timer_leaves;
+  frame = λ n octets s w i. event_right n (Brings octets) s w i;
+  frame_keeps_nothing_back = λ n octets s w i. event_stuck n (Brings octets) s w i;
+  timer = λ n id s w i. event_right n (RunsOut id) s w i;
+  timer_keeps_nothing_back = λ n id s w i. event_stuck n (RunsOut id) s w i;
+  relinks = λ n s w i. event_right n Relinks s w i;
+  relink_keeps_nothing_back = λ n s w i. event_stuck n Relinks s w i;
+  frame_offers = λ n octets s h. event_offered n (Brings octets) s h;
+  timer_offers = λ n id s h. event_offered n (RunsOut id) s h;
+  relink_offers = λ n s h. event_offered n Relinks s h;
+  frame_joins_calls = λ n octets s w i all. event_calls n (Brings octets) s w i all;
+  timer_joins_calls = λ n id s w i all. event_calls n (RunsOut id) s w i all;
+  relink_joins_calls = λ n s w i all. event_calls n Relinks s w i all;
+  frame_leaves_others = λ n octets s w i. event_leaves n (Brings octets) s w i;
+  timer_leaves_others = λ n id s w i. event_leaves n (RunsOut id) s w i;
+  relink_leaves_others = λ n s w i. event_leaves n Relinks s w i;
   restarts = restart_right;
   restart_ends_calls = restart_calls;
   elapses = λ ticks s w i. same_end_layers ticks s.lines w i;

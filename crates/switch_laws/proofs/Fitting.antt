@@ -3,7 +3,7 @@ use Rattle.std.proofs.Common.{◌≡◌, ℕ, zero, suc, ◌≤◌, arith, Bool,
 use Rattle.std.specs.Prelude.{slice_get}
 use Rattle.std.specs.List.{list_any}
 use Rattle.std.proofs.lemmas.Option.{none-some, same_Some}
-use Rattle.link_timers.specs.declared.role.Role.TheVariants.{Dce}
+use Rattle.link_timers.specs.declared.role.Role.{Role}
 use Rattle.link_timers.specs.declared.timers.TimerId.{TimerId}
 use Rattle.link_timers.specs.declared.timers.TimerId.TheVariants.{T1}
 use Rattle.lapb.specs.declared.note.Note as link_note
@@ -165,10 +165,10 @@ restarted_fit [] = tt
 restarted_fit (l ∷ ls) =
     (none_kept _ (line.restarted l.end.line).link.queue (made_queue l.end.line.link.role l.end.line.link.k l.end.line.link.n2), restarted_fit ls)
 
-made_fits : (standing : Bool) (k n2 : ℕ) → Fits (line.made Dce k n2 standing).link
-made_fits true k n2 = omega arith
-made_fits false k n2 = none_kept _ (line.made Dce k n2 false).link.queue (made_queue Dce k n2)
+made_fits : (role : Role) (standing : Bool) (k n2 : ℕ) → Fits (line.made role k n2 standing).link
+made_fits role true k n2 = omega arith
+made_fits role false k n2 = none_kept _ (line.made role k n2 false).link.queue (made_queue role k n2)
 
 pub made_fit : (lines : List SwitchLineConfig) → AreFit (links_of (map made_line lines))
 made_fit [] = tt
-made_fit (c ∷ cs) = (made_fits c.params.standing c.params.k c.params.n2, made_fit cs)
+made_fit (c ∷ cs) = (made_fits c.role c.params.standing c.params.k c.params.n2, made_fit cs)

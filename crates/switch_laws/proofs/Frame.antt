@@ -5,9 +5,9 @@ use Rattle.packet_layer.specs.Packets.{Note}
 use Rattle.packet_layer.specs.Channel.{Request}
 use Rattle.packet_layer.specs.Layer.{Layer}
 use Rattle.packet_laws.specs.Readable.{Every}
-use Rattle.switch_lines.specs.Direction.{Direction}
-use Rattle.switch_lines.specs.declared.channels.SwitchChannel.{SwitchChannel}
-use Rattle.switch_lines.specs.declared.channels.Joined.{Joined}
+use Rattle.switch_joins.specs.Direction.{Direction}
+use Rattle.switch_joins.specs.declared.channels.SwitchChannel.{SwitchChannel}
+use Rattle.switch_joins.specs.declared.join.Joined.{Joined}
 use Rattle.switch_lines.specs.Lines.{SwitchLine, same_place, joined_at, with_joined, ask}
 use Rattle.switch_laws.specs.Leg.{Leg}
 use Rattle.switch_laws.specs.World.{World, IsWorld, shown_at, layers_of, Act, MayHappen, MayAsk, after_act, after_acts, world_after, world_after_all}
@@ -15,9 +15,11 @@ use Rattle.switch_laws.specs.World.Act.{Asks}
 use Rattle.switch_laws.specs.Joined.IsPair.{connected, waiting}
 use Rattle.switch_laws.specs.Joined.{WaitsFor, IsPair, IsOver, IsJoinedAt, IsSwitchBefore, has_place, Reached}
 use Rattle.switch_laws.proofs.Joins.{turned_join}
-use Rattle.switch_laws.proofs.Lists.{decided, place_is, same_as}
+use Rattle.switch_laws.proofs.Lists.{same_as}
 use Rattle.switch_laws.proofs.Layers.{world_acts_all}
-use Rattle.switch_laws.proofs.Places.{joined_asked, joined_apart, place_after, place_joined, layers_asked, layers_joined, leg_apart, there_after}
+use Rattle.switch_laws.proofs.Places.{place_after, place_joined, layers_asked, layers_joined, leg_apart, there_after}
+use Rattle.switch_joins.proofs.Apart.{decided, place_is}
+use Rattle.switch_lines.proofs.Places.{joined_asked, joined_apart}
 
 -- ---- reached by acts
 

@@ -31,11 +31,10 @@ use Rattle.packet_laws.specs.Readable.{Every}
 use Rattle.packet_laws.proofs.Line.Lines.{nth_other}
 use Rattle.packet_end.specs.PacketEnd.{PacketEnd, heeded, after_packet, expired, runs_at, relinked, settled, all_offered}
 use Rattle.address_routes.specs.Routes.{RouteMap}
-use Rattle.switch_lines.specs.declared.channels.SwitchChannel.{SwitchChannel}
-use Rattle.switch_lines.specs.declared.channels.Joined.{Joined}
+use Rattle.switch_joins.specs.declared.channels.SwitchChannel.{SwitchChannel}
+use Rattle.switch_joins.specs.declared.join.Joined.{Joined}
 use Rattle.switch_lines.specs.Lines.{SwitchLine, changed, joined_at, front_at, refusal_at}
-use Rattle.switch_lines.specs.Direction.{request_for}
-use Rattle.switch_lines.specs.Relay.{moved, relayed, places_first, relayed_first, most_moves}
+use Rattle.switch_lines.specs.Relay.{request_for, moved, relayed, places_first, relayed_first, most_moves}
 use Rattle.switch_lines.specs.Switch.{Switch, with_end, without_notes, notes_of, quieted, acted, all_begun, to_relink, relinked_at, all_relinked, may_offer, offering_from, offered_from, lines_first, rounds, finished, frames_on, timer_runs, on_expiry}
 use Rattle.switch_laws.specs.World.{World, Act, layers_of, layer_after, after_act, after_acts}
 use Rattle.switch_laws.specs.World.Act.{Comes, Expires, GoesUp, GoesDown, Calls, Gives, Reads}
@@ -48,16 +47,18 @@ use Rattle.switch_laws.specs.EventSteps.{moved_unless_steps, moved_front_steps, 
 use Rattle.packet_end.specs.Sending.{answer_frames, expiry_frames, relink_frames, last_frames}
 use Rattle.packet_end.proofs.Sending.{answer_few, expiry_few, timer_few, relink_few, all_offered_frames}
 use Rattle.switch_laws.specs.Sent.{happening_frames, frames_at, step_frames, all_frames, AreAllSent, SentLaw}
-use Rattle.switch_laws.proofs.Lists.{decided, not_equal, get_changed, get_unchanged, get_map, map_unchanged}
+use Rattle.switch_laws.proofs.Lists.{not_equal, get_changed, get_map, map_unchanged}
 use Rattle.switch_laws.proofs.Frame.{acts_then}
 use Rattle.switch_laws.proofs.Rounds.{lines_of, first_lines}
 use Rattle.switch_laws.proofs.Leading.{Leads, acted_leads, all_relinked_leads, rounds_leads}
 use Rattle.switch_laws.proofs.Turning.{relinked_effect, acted_right}
-use Rattle.switch_laws.proofs.Finishing.{came, ran}
-use Rattle.switch_laws.proofs.Offered.{AreSmall, heed_all_lines, all_relinked_ks, act_ks, begun_ks, small_links, received_k, timer_k}
+use Rattle.switch_laws.proofs.Finishing.{happens}
+use Rattle.switch_laws.proofs.Offered.{AreSmall, heed_all_lines, all_relinked_ks, act_ks, begun_ks, small_links, does_k}
 use Rattle.switch_laws.proofs.Happening.{links_small, rounds_ks}
 use Rattle.switch_laws.proofs.Owing.{IsMild, AreMild, IsAsking, heed_all_asks, asking_mild, acted_mild, OnLine, on_or_not, asks, relink_asks}
 use Rattle.switch_laws.proofs.Fitting.{fit_list, fit_each, acted_fits, all_relinked_fits, rounds_fit, begun_fits}
+use Rattle.switch_joins.proofs.Apart.{decided}
+use Rattle.switch_lines.proofs.Places.{get_unchanged}
 
 -- ---- what waits on a line
 
@@ -597,26 +598,30 @@ event_sends n what s w b small = record { all = λ m. (sent m).0; most = λ m. (
         )
 
 -- the links are of a switch that holds
-small_queues : (n : ℕ) (what : Happening) (s : Switch) (w : World) → SwitchHolds s w → (f : (e : PacketEnd) → (does what (quieted e)).line.link.k ≡ e.line.link.k)
+small_queues : (n : ℕ) (what : Happening) (s : Switch) (w : World) → SwitchHolds s w
     → SmallQueues (rounds (7 * length (all_relinked (length (acted s.routes n (does what) (all_begun s.lines))) s.routes (acted s.routes n (does what) (all_begun s.lines))))
     (lines_first n s.routes (acted s.routes n (does what) (all_begun s.lines)))
     (all_relinked (length (acted s.routes n (does what) (all_begun s.lines))) s.routes (acted s.routes n (does what) (all_begun s.lines))))
-small_queues n what s w h f k l e =
+small_queues n what s w h k l e =
     let bs = all_begun s.lines in
     let ms = acted s.routes n (does what) bs in
     let rs = all_relinked (length ms) s.routes ms in
     let xs = rounds (7 * length rs) (lines_first n s.routes ms) rs in
     let fits = fit_each xs (rounds_fit (7 * length rs) (lines_first n s.routes ms) rs (all_relinked_fits (length ms) s.routes ms (acted_fits s.routes n what bs (begun_fits s.lines (fit_list s.lines h.fitting))))) k l e in
     let small = links_small xs
-    (subst (λ (ys : List ℕ). AreSmall ys) (sym (rounds_ks (7 * length rs) (lines_first n s.routes ms) rs ∙ (all_relinked_ks (length ms) s.routes ms ∙ (act_ks s.routes n (does what) bs f ∙ begun_ks s.lines)))) (small_links s.lines h.links)) k l e in
+    (subst (λ (ys : List ℕ). AreSmall ys) (sym (rounds_ks (7 * length rs) (lines_first n s.routes ms) rs ∙ (all_relinked_ks (length ms) s.routes ms ∙ (act_ks s.routes n (does what) bs (λ x. does_k what x) ∙ begun_ks s.lines)))) (small_links s.lines h.links)) k l e in
     omega (arith, fits, small)
 
+happening_sends : (n : ℕ) (what : Happening) (s : Switch) (w : World) → SwitchHolds s w → AreAllSent n what s (record s { lines = finished s.routes n (acted s.routes n (does what) (all_begun s.lines)) })
+happening_sends n what s w h = event_sends n what s w (happens n what s.routes s.lines w h.joins) (small_queues n what s w h)
+
 timer_sends : (n : ℕ) (id : TimerId) (s : Switch) (w : World) → SwitchHolds s w → (runs : Bool) → runs ≡ true → AreAllSent n (RunsOut id) s (if runs then on_expiry n id s else s)
-timer_sends n id s w h true e = event_sends n (RunsOut id) s w (ran n id s.routes s.lines w h.joins) (small_queues n (RunsOut id) s w h (λ e. timer_k id e))
+timer_sends n id s w h true e = happening_sends n (RunsOut id) s w h
 timer_sends n id s w h false e = absurd (true≢false (sym e))
 
 pub all_are_sent : SentLaw
 all_are_sent = record {
-  frame = λ n octets s w h. event_sends n (Brings octets) s w (came n octets s.routes s.lines w h.joins) (small_queues n (Brings octets) s w h (λ e. received_k octets e));
+  frame = λ n octets s w h. happening_sends n (Brings octets) s w h;
   timer = λ n id s w h e. timer_sends n id s w h (timer_runs (slice_get s.lines n) id) e;
+  relinks = λ n s w h. happening_sends n Relinks s w h;
 }

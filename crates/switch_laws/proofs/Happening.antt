@@ -5,7 +5,7 @@ use Rattle.std.proofs.Common.{◌∙◌, true≢false}
 use Rattle.std.specs.Prelude.{slice_get}
 use Rattle.std.specs.List.{list_any}
 use Rattle.std.proofs.lemmas.Option.{none-some, same_Some}
-use Rattle.link_timers.specs.declared.role.Role.TheVariants.{Dce}
+use Rattle.link_timers.specs.declared.role.Role.{Role}
 use Rattle.link_timers.specs.declared.timers.TimerId.{TimerId}
 use Rattle.lapb.specs.declared.phase.Phase.{Phase}
 use Rattle.lapb.specs.declared.phase.Phase.TheVariants as phase
@@ -18,45 +18,46 @@ use Rattle.packet_layer.specs.Channel.{Refusal, Channel, closed_channel, had_cal
 use Rattle.packet_layer.specs.Layer.{Layer, channel_of, nth_channel, standing_channels, start_phase, next_in}
 use Rattle.packet_layer.specs.Layer.{next_packet}
 use Rattle.packet_laws.specs.History.{empty_epoch}
-use Rattle.packet_end.specs.PacketEnd.{PacketEnd, HasOfferedAll, received, after_timer, all_offered, settled, elapsed}
+use Rattle.packet_end.specs.PacketEnd.{PacketEnd, HasOfferedAll, all_offered, settled, elapsed}
 use Rattle.packet_end.specs.PacketEnd.{without_first_frame}
 use Rattle.address_routes.specs.Routes.{RouteMap}
-use Rattle.switch_lines.specs.Direction.{request_for}
-use Rattle.switch_lines.specs.declared.channels.SwitchChannel.{SwitchChannel}
-use Rattle.switch_lines.specs.declared.channels.Joined.{Joined}
+use Rattle.switch_joins.specs.declared.channels.SwitchChannel.{SwitchChannel}
+use Rattle.switch_joins.specs.declared.join.Joined.{Joined}
 use Rattle.switch_lines.specs.declared.config.SwitchLineConfig.{SwitchLineConfig}
 use Rattle.switch_lines.specs.Lines.{SwitchLine, changed, flat, nth_joined, joined_on, joined_at}
-use Rattle.switch_lines.specs.Relay.{relayed_first}
+use Rattle.switch_lines.specs.Relay.{request_for, relayed_first}
 use Rattle.switch_lines.specs.Making.{IsConfig, IsLineConfig, made, made_line}
 use Rattle.switch_lines.specs.Switch.{Switch, with_end, acted, all_begun, all_relinked, all_offered_on, finished}
-use Rattle.switch_lines.specs.Switch.{may_offer, offering_from, offered_from, lines_first, rounds, on_frame, timer_runs, on_expiry, on_timer}
+use Rattle.switch_lines.specs.Switch.{may_offer, offering_from, offered_from, lines_first, rounds, timer_runs, on_expiry, on_timer}
 use Rattle.switch_lines.specs.Switch.{restart, elapse, without_joins, to_relink, raised}
 use Rattle.switch_laws.specs.Offers.{HaveSmallLinks, EndsKeepNothingBack}
 use Rattle.switch_laws.specs.Leg.{Leg}
 use Rattle.switch_laws.specs.Calls.{CallsAreJoined}
 use Rattle.switch_laws.specs.World.{World, Shown, Agrees, shown_as, shown_on, shown_at, layers_of, closed}
 use Rattle.switch_laws.specs.Joined.{IsSwitch, Becomes, Reached, has_nth, has_place_on, HasRelayedAll}
-use Rattle.switch_laws.specs.Events.{Event, after_event, SwitchHolds, AfterEvent, AfterExpiry, HoldsOn, window_of}
+use Rattle.switch_laws.specs.Events.{Event, after_event, SwitchHolds, AfterEvent, AfterExpiry, HoldsOn, window_of, role_of}
 use Rattle.switch_laws.specs.Events.{new_legs, EventLaw}
-use Rattle.switch_laws.specs.Steps.Happening.{Brings, RunsOut}
+use Rattle.switch_laws.specs.Steps.{Happening, does}
+use Rattle.switch_laws.specs.Steps.Happening.{Brings, RunsOut, Relinks}
 use Rattle.switch_laws.specs.EventSteps.{event_acts}
-use Rattle.switch_laws.specs.Events.Event.{Arrives, Expires, Restarts, Elapses, Departs}
+use Rattle.switch_laws.specs.Events.Event.{Arrives, Expires, SetsUp, Restarts, Elapses, Departs}
 use Rattle.switch_laws.specs.Events.HoldsOn.{ended, goes_on}
 use Rattle.switch_laws.proofs.Standing.{start_good}
 use Rattle.switch_laws.proofs.Links.{relink_keeps_k}
 use Rattle.switch_laws.proofs.Lists.{map_unchanged}
-use Rattle.switch_laws.proofs.Places.{joined_kept, place_after}
+use Rattle.switch_laws.proofs.Places.{place_after}
 use Rattle.switch_laws.proofs.Effects.{steady}
 use Rattle.switch_laws.proofs.Rounds.{lines_of, first_lines, grows}
 use Rattle.switch_laws.proofs.Offered.{ks, AreSmall, acted_ks, act_ks, all_relinked_ks, begun_ks, small_links}
-use Rattle.switch_laws.proofs.Offered.{received_k, timer_k}
+use Rattle.switch_laws.proofs.Offered.{does_k, event_offered}
 use Rattle.switch_laws.proofs.Keeping.{ends_keep, layers_on_ends, joined_on_ends}
 use Rattle.switch_lines.proofs.Relinking.{ends_ask, same_asking}
 use Rattle.switch_laws.proofs.Relinking.{finished_end}
 use Rattle.switch_laws.proofs.Concerning.{same_front, same_refusal}
 use Rattle.switch_laws.proofs.Coming.{begins_right}
-use Rattle.switch_laws.proofs.Finishing.{turns, restarted_joined}
+use Rattle.switch_laws.proofs.Finishing.{turns, event_right, event_stuck, event_calls, restarted_joined}
 use Rattle.switch_laws.proofs.Fitting.{fit_list, fit_each, all_fit, same_fit, event_fits, restarted_fit, made_fit}
+use Rattle.switch_lines.proofs.Places.{joined_kept}
 
 -- ---- sizes of links
 
@@ -226,24 +227,32 @@ first_steady = record { layer = λ e. refl; link = λ e. refl }
 
 -- ---- events
 
+-- whatever happens at the end of a line
+happening_holds : (n : ℕ) (what : Happening) (s : Switch) (w : World) (h : SwitchHolds s w) →
+    SwitchHolds (record s { lines = finished s.routes n (acted s.routes n (does what) (all_begun s.lines)) })
+    (event_right n what s w h.joins).world
+happening_holds n what s w h =
+    let ls = acted s.routes n (does what) (all_begun s.lines) in
+    record {
+      joins = (event_right n what s w h.joins).right;
+      calls = event_calls n what s w h.joins h.calls;
+      relayed = event_stuck n what s w h.joins;
+      offered = none_offer (finished s.routes n ls) (event_offered n what s h.links);
+      no_relink = finished_end s.routes n ls;
+      links = same_links s.lines (finished s.routes n ls)
+          (finished_ks s.routes n ls ∙ (act_ks s.routes n (does what) (all_begun s.lines) (λ e. does_k what e)
+          ∙ begun_ks s.lines)) h.links;
+      fitting = event_fits s.routes n what s.lines h.fitting;
+    }
+
 pub expiry_stays : (n : ℕ) (id : TimerId) (s : Switch) (w : World) → SwitchHolds s w → AfterExpiry n id s w
 expiry_stays n id s w h =
-    let b = turns.timer n id s w h.joins in
+    let b = event_right n (RunsOut id) s w h.joins in
     record {
       world = b.world;
       moved = b.reached;
-      holds = record {
-        joins = b.right;
-        calls = turns.timer_joins_calls n id s w h.joins h.calls;
-        relayed = turns.timer_keeps_nothing_back n id s w h.joins;
-        offered = none_offer (on_expiry n id s).lines (turns.timer_offers n id s h.links);
-        no_relink = finished_end s.routes n (acted s.routes n (λ e. after_timer e id) (all_begun s.lines));
-        links = same_links s.lines (on_expiry n id s).lines
-            (finished_ks s.routes n _ ∙ (act_ks s.routes n (λ e. after_timer e id) (all_begun s.lines)
-            (λ e. timer_k id e) ∙ begun_ks s.lines)) h.links;
-        fitting = event_fits s.routes n (RunsOut id) s.lines h.fitting;
-      };
-      nothing_kept_back = turns.timer_offers n id s h.links;
+      holds = happening_holds n (RunsOut id) s w h;
+      nothing_kept_back = event_offered n (RunsOut id) s h.links;
     }
 
 nothing_moved : (s : Switch) (w : World) → Reached [] s.lines w s.lines w
@@ -275,24 +284,22 @@ either_stays n id s w h false ran =
 
 stays : (event : Event) (s : Switch) (w : World) → SwitchHolds s w → AfterEvent event s w
 stays (Arrives n octets) s w h =
-    let b = turns.frame n octets s w h.joins in
+    let b = event_right n (Brings octets) s w h.joins in
     record {
       world = b.world;
       moved = b.reached;
-      holds = record {
-        joins = b.right;
-        calls = turns.frame_joins_calls n octets s w h.joins h.calls;
-        relayed = turns.frame_keeps_nothing_back n octets s w h.joins;
-        offered = none_offer (on_frame n octets s).lines (turns.frame_offers n octets s h.links);
-        no_relink = finished_end s.routes n (acted s.routes n (λ e. received e octets) (all_begun s.lines));
-        links = same_links s.lines (on_frame n octets s).lines
-            (finished_ks s.routes n _ ∙ (act_ks s.routes n (λ e. received e octets) (all_begun s.lines)
-            (λ e. received_k octets e) ∙ begun_ks s.lines)) h.links;
-        fitting = event_fits s.routes n (Brings octets) s.lines h.fitting;
-      };
-      nothing_kept_back = turns.frame_offers n octets s h.links;
+      holds = happening_holds n (Brings octets) s w h;
+      nothing_kept_back = event_offered n (Brings octets) s h.links;
     }
 stays (Expires n id) s w h = either_stays n id s w h (timer_runs (slice_get s.lines n) id) refl
+stays (SetsUp n) s w h =
+    let b = event_right n Relinks s w h.joins in
+    record {
+      world = b.world;
+      moved = b.reached;
+      holds = happening_holds n Relinks s w h;
+      nothing_kept_back = event_offered n Relinks s h.links;
+    }
 stays Restarts s w h = record {
   world = λ x. closed (w x);
   moved = refl;
@@ -346,8 +353,8 @@ closed_nth zero (suc i) ch e = absurd (none-some ch e)
 closed_nth (suc n) (suc zero) ch e = sym (same_Some closed_channel ch e)
 closed_nth (suc n) (suc (suc i)) ch e = closed_nth n (suc i) ch e
 
-abbrev new_leg : (window : ℕ) → Leg
-new_leg window = record { role = Dce; window = window; channel = closed_channel; before = []; epoch = empty_epoch }
+abbrev new_leg : Role → (window : ℕ) → Leg
+new_leg role window = record { role = role; window = window; channel = closed_channel; before = []; epoch = empty_epoch }
 
 new_channel : (standing : Bool) (n c : ℕ) (ch : Channel) → standing ≡ false →
     nth_channel (standing_channels standing (replicate n closed_channel)) c ≡ Some ch → ch ≡ closed_channel
@@ -369,14 +376,14 @@ AreConfigs lines = (n : ℕ) (c : SwitchLineConfig) → slice_get lines n ≡ So
 
 new_agrees : (lines : List SwitchLineConfig) (n c : ℕ) (s : Shown) → AreConfigs lines →
     shown_on (slice_get (layers_of (map made_line lines)) n) c ≡ Some s →
-    Agrees s (new_leg (window_of (slice_get lines n)))
+    Agrees s (new_leg (role_of (slice_get lines n)) (window_of (slice_get lines n)))
 new_agrees [] n c s are e = absurd (none-some s e)
 new_agrees (x ∷ xs) zero c s are e =
     let is = are 0 x refl in
     record {
       shown = new_shown (made_line x).end.layer (channel_of (made_line x).end.layer c) s
           (λ ch f. new_channel x.params.standing x.params.channels c ch is.not_standing f) e;
-      leg = start_good (new_leg x.params.window) is.params.layer.window_most
+      leg = start_good (new_leg x.role x.params.window) is.params.layer.window_most
           (record { not_resetting = refl; traffic = refl; before = refl; epoch = refl });
     }
 new_agrees (x ∷ xs) (suc n) c s are e = new_agrees xs n c s (λ m y f. are (suc m) y f) e
@@ -423,15 +430,15 @@ new_joined [] n c = refl
 new_joined (x ∷ xs) zero c = none_new x.params.channels c
 new_joined (x ∷ xs) (suc n) c = new_joined xs n c
 
-new_k : (k n2 : ℕ) (standing : Bool) → (line.made Dce k n2 standing).link.k ≡ k
-new_k k n2 true = refl
-new_k k n2 false = relink_keeps_k (link.new Dce k n2 false)
+new_k : (role : Role) (k n2 : ℕ) (standing : Bool) → (line.made role k n2 standing).link.k ≡ k
+new_k role k n2 true = refl
+new_k role k n2 false = relink_keeps_k (link.new role k n2 false)
 
 new_links : (lines : List SwitchLineConfig) → AreConfigs lines → HaveSmallLinks (map made_line lines)
 new_links [] are n l e = absurd (none-some l e)
 new_links (x ∷ xs) are zero l e =
     subst (λ (y : SwitchLine). y.end.line.link.k ≤ 7) (same_Some (made_line x) l e)
-    (subst (λ (k : ℕ). k ≤ 7) (sym (new_k x.params.k x.params.n2 x.params.standing)) (are 0 x refl).params.link.k_most)
+    (subst (λ (k : ℕ). k ≤ 7) (sym (new_k x.role x.params.k x.params.n2 x.params.standing)) (are 0 x refl).params.link.k_most)
 new_links (x ∷ xs) are (suc n) l e = new_links xs (λ m y f. are (suc m) y f) n l e
 
 unready : (standing : Bool) (l : Layer) → standing ≡ false → (next_in (start_phase standing) false l).packet ≡ None

@@ -13,7 +13,7 @@ use Rattle.packet_laws.specs.History.{logged_heard}
 use Rattle.packet_laws.specs.Counts.{NamesAfter, NamesCounts}
 use Rattle.packet_laws.proofs.Naming.{counts_hold}
 use Rattle.packet_laws.proofs.Numbers.{covered_within}
-use Rattle.switch_lines.specs.Direction.{covered_by}
+use Rattle.switch_joins.specs.Direction.{covered_by}
 use Rattle.switch_laws.specs.Leg.{Leg, IsLeg, asked, asked_unless, stepped}
 use Rattle.switch_laws.specs.Clause.{taken_part, sent_part}
 use Rattle.switch_laws.specs.Way.{Way, Holds, IsRight, freed}

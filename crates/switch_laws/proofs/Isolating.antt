@@ -16,16 +16,15 @@ use Rattle.packet_laws.proofs.Line.Lines.{nth_other}
 use Rattle.packet_end.specs.End.{End}
 use Rattle.packet_end.specs.PacketEnd.{PacketEnd, offered, with_next, HasOfferedAll}
 use Rattle.packet_end.proofs.Offering.{no_room}
-use Rattle.switch_lines.specs.Direction.{releasable, released, carried_by, request_for}
-use Rattle.switch_lines.specs.declared.channels.SwitchChannel.{SwitchChannel}
-use Rattle.switch_lines.specs.declared.channels.Joined.{Joined}
+use Rattle.switch_joins.specs.Direction.{releasable, released}
+use Rattle.switch_joins.specs.declared.channels.SwitchChannel.{SwitchChannel}
+use Rattle.switch_joins.specs.declared.join.Joined.{Joined}
 use Rattle.switch_lines.specs.Lines.{SwitchLine, same_place, joined_at, with_joined, ask, front_at, refusal_at}
-use Rattle.switch_lines.specs.Relay.{moved, moved_unless, moved_front, moved_joined, relayed, relayed_from, places_first, relayed_first, most_moves}
+use Rattle.switch_lines.specs.Relay.{carried_by, request_for, moved, moved_unless, moved_front, moved_joined, relayed, relayed_from, places_first, relayed_first, most_moves}
 use Rattle.switch_lines.specs.Switch.{may_offer, to_relink, raised, offering_from, offered_from, rounds}
 use Rattle.switch_laws.specs.World.{World, Shown, shown_as, shown_on, shown_at, layers_of}
 use Rattle.switch_laws.specs.Joined.{IsSwitch}
-use Rattle.switch_laws.proofs.Lists.{decided, place_is, same_as, map_unchanged}
-use Rattle.switch_laws.proofs.Places.{joined_asked, joined_apart}
+use Rattle.switch_laws.proofs.Lists.{same_as, map_unchanged}
 use Rattle.switch_laws.proofs.Rounds.{lines_of, first_lines, from_lines, offers_line, offers_all, any_may}
 use Rattle.switch_laws.proofs.Relaying.{StuckAt, visited}
 use Rattle.switch_laws.proofs.Staying.{stay_moved, asked_beside, joined_beside}
@@ -33,6 +32,8 @@ use Rattle.switch_laws.proofs.Concerning.{SameShown, same_front, same_refusal, s
 use Rattle.switch_laws.proofs.Finishing.{offers_from}
 use Rattle.switch_laws.proofs.Offered.{HaveOfferedAll, none_may}
 use Rattle.switch_laws.proofs.Owing.{found_phase, phase_of}
+use Rattle.switch_joins.proofs.Apart.{decided, place_is}
+use Rattle.switch_lines.proofs.Places.{joined_asked, joined_apart}
 
 -- ---- a channel from which no packet goes to its line: the link takes none, there is no session, or it has none
 

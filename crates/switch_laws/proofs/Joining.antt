@@ -11,8 +11,8 @@ use Rattle.packet_layer.specs.Channel.{CallState, Channel, Step, had_call}
 use Rattle.packet_layer.specs.Layer.{Layer, channel_of, closing_notes}
 use Rattle.packet_laws.specs.History.{Epoch}
 use Rattle.address_routes.specs.Routes.{RouteMap}
-use Rattle.switch_lines.specs.declared.channels.SwitchChannel.{SwitchChannel}
-use Rattle.switch_lines.specs.declared.channels.Joined.{Joined}
+use Rattle.switch_joins.specs.declared.channels.SwitchChannel.{SwitchChannel}
+use Rattle.switch_joins.specs.declared.join.Joined.{Joined}
 use Rattle.switch_lines.specs.Lines.{SwitchLine, same_place, changed, joined_at}
 use Rattle.switch_lines.specs.Switch.{heed_all, with_end, notes_of, without_notes, quieted, acted}
 use Rattle.switch_laws.specs.Leg.{Leg, stepped}
@@ -21,8 +21,7 @@ use Rattle.switch_laws.specs.Steps.{Happening, does, happening_acts}
 use Rattle.switch_laws.specs.World.{Act, World, Shown, shown_of, shown_as, shown_on, shown_at, layers_of, world_after_all}
 use Rattle.switch_laws.specs.Joined.{IsSwitch, has_place}
 use Rattle.switch_laws.specs.Calls.{HasCall, CallsAreJoined}
-use Rattle.switch_laws.proofs.Lists.{decided, place_is}
-use Rattle.switch_laws.proofs.Places.{some_there, joined_kept, place_after}
+use Rattle.switch_laws.proofs.Places.{some_there, place_after}
 use Rattle.switch_laws.proofs.Layers.{opened_shown, seen}
 use Rattle.switch_laws.proofs.Frame.{reached_there, reached_world}
 use Rattle.switch_laws.proofs.Outcomes.{AreOf}
@@ -32,6 +31,8 @@ use Rattle.switch_laws.proofs.Effects.Effect.{nothing, closes_all, on_one}
 use Rattle.switch_laws.proofs.Arriving.{Arrives, EndsArrive}
 use Rattle.switch_laws.proofs.Calling.{Closing, IncomingLast, CallsBefore, heed_calls}
 use Rattle.switch_laws.proofs.Turning.{EndEffect, LineEffect, changed_twice, got_changed, layer_got, layers_changed, reads_first, acted_none}
+use Rattle.switch_joins.proofs.Apart.{decided, place_is}
+use Rattle.switch_lines.proofs.Places.{joined_kept}
 
 -- ---- notes
 

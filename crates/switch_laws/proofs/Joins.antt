@@ -6,7 +6,7 @@ use Rattle.packet_layer.specs.Traffic.{Traffic, front, fresh, interrupt_pending}
 use Rattle.packet_layer.specs.Channel.{CallState, Refusal, refusal, refused_if, in_transfer}
 use Rattle.packet_layer.specs.Channel.Request.{Resetting}
 use Rattle.packet_laws.specs.History.{Epoch, empty_epoch}
-use Rattle.switch_lines.specs.Direction.{new_direction}
+use Rattle.switch_joins.specs.Direction.{new_direction}
 use Rattle.switch_laws.specs.Leg.{Leg, asked, asked_unless, connected, gave}
 use Rattle.switch_laws.specs.Clause.{Carries, Passed, IsDirection, taken_part, sent_part}
 use Rattle.switch_laws.specs.Way.{Way, IsRight, IsStuck, relayed}

@@ -14,22 +14,23 @@ use Rattle.packet_layer.specs.Layer.Phase.{NoSession, OwnRestart, PacketReady}
 use Rattle.packet_laws.proofs.Line.Lines.{nth_same, nth_other}
 use Rattle.packet_end.specs.PacketEnd.{PacketEnd, relinked, with_next, offered, all_offered, settled}
 use Rattle.address_routes.specs.Routes.{RouteMap}
-use Rattle.switch_lines.specs.Direction.{carried_by, request_for}
-use Rattle.switch_lines.specs.declared.channels.SwitchChannel.{SwitchChannel}
-use Rattle.switch_lines.specs.declared.channels.Joined.{Joined}
+use Rattle.switch_joins.specs.declared.channels.SwitchChannel.{SwitchChannel}
+use Rattle.switch_joins.specs.declared.join.Joined.{Joined}
 use Rattle.switch_lines.specs.Lines.{SwitchLine, changed, joined_on, joined_at, ask, front_at, refusal_at}
-use Rattle.switch_lines.specs.Relay.{moved, moved_unless, moved_front, moved_joined, relayed, relayed_from, places_first, relayed_first, most_moves}
+use Rattle.switch_lines.specs.Relay.{carried_by, request_for, moved, moved_unless, moved_front, moved_joined, relayed, relayed_from, places_first, relayed_first, most_moves}
 use Rattle.switch_lines.specs.Switch.{with_end, acted, to_relink, relinked_at, all_relinked, may_offer, offering_from, offered_from, rounds, all_offered_on, lines_first, finished}
 use Rattle.switch_laws.specs.Steps.Happening.{Relinks}
 use Rattle.switch_laws.specs.World.{World, Shown, shown_as, shown_on, shown_at, layers_of}
 use Rattle.switch_laws.specs.World.Act.{Gives}
 use Rattle.switch_laws.specs.Joined.{IsSwitch}
 use Rattle.switch_laws.specs.Calls.{HasCall, CallsAreJoined}
-use Rattle.switch_laws.proofs.Lists.{decided, not_equal, get_unchanged, map_changed}
-use Rattle.switch_laws.proofs.Places.{joined_kept, place_after, there_after}
+use Rattle.switch_laws.proofs.Lists.{not_equal, map_changed}
+use Rattle.switch_laws.proofs.Places.{place_after, there_after}
 use Rattle.switch_laws.proofs.Calling.{Keeps, keeps_same, keeps_then, keeps_asked, keeps_freed, shown_in}
 use Rattle.switch_laws.proofs.Turning.{changed_at, changed_none, changed_twice, changed_same, acted_right, relinked_effect}
 use Rattle.switch_laws.proofs.Joining.{acted_calls}
+use Rattle.switch_joins.proofs.Apart.{decided}
+use Rattle.switch_lines.proofs.Places.{get_unchanged, joined_kept}
 
 -- ---- relays
 

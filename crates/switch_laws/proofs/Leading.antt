@@ -9,12 +9,11 @@ use Rattle.packet_layer.specs.Traffic.{Taken}
 use Rattle.packet_layer.specs.Channel.{Refusal}
 use Rattle.packet_layer.specs.Channel.Request.{Resetting}
 use Rattle.address_routes.specs.Routes.{RouteMap}
-use Rattle.switch_lines.specs.Direction.{request_for}
 use Rattle.switch_lines.specs.Causes.{reset_cause, far_diagnostic}
-use Rattle.switch_lines.specs.declared.channels.SwitchChannel.{SwitchChannel}
-use Rattle.switch_lines.specs.declared.channels.Joined.{Joined}
+use Rattle.switch_joins.specs.declared.channels.SwitchChannel.{SwitchChannel}
+use Rattle.switch_joins.specs.declared.join.Joined.{Joined}
 use Rattle.switch_lines.specs.Lines.{SwitchLine, changed, joined_at, ask, front_at, refusal_at}
-use Rattle.switch_lines.specs.Relay.{moved, moved_unless, moved_front, moved_joined, relayed, relayed_from, places_first, relayed_first, told_joined, told_of, kept_anew, covered_on, most_moves}
+use Rattle.switch_lines.specs.Relay.{request_for, moved, moved_unless, moved_front, moved_joined, relayed, relayed_from, places_first, relayed_first, told_joined, told_of, kept_anew, covered_on, most_moves}
 use Rattle.switch_lines.specs.Switch.{Answer, answer, answered, heed, heed_all, notes_of, with_end, quieted, acted, to_relink, relinked_at, all_relinked, may_offer, offering_from, offered_from, rounds, lines_first, finished, all_begun}
 use Rattle.switch_lines.specs.Switch.Answer.{Clears, Joins}
 use Rattle.switch_laws.specs.Steps.{Happening, does, Step, lines_after, lines_after_all, acts_of, acts_of_all}
@@ -94,7 +93,7 @@ channel_leads : (n c : ℕ) (note : Note) (ls : List SwitchLine) → Leads (on_c
 channel_leads n c note ls = told_leads (joined_at ls (record { line = n; channel = c })) note (record { line = n; channel = c }) ls
 
 pub heed_leads : (routes : RouteMap) (n : ℕ) (note : Note) (ls : List SwitchLine) → Leads (heed_steps routes n note ls) ls (heed routes n note ls)
-heed_leads routes n (Incoming c parts) ls = answered_leads (answer routes ls parts) (record { line = n; channel = c }) parts ls
+heed_leads routes n (Incoming c parts) ls = answered_leads (answer routes ls n parts) (record { line = n; channel = c }) parts ls
 heed_leads routes n (Connected c) ls = channel_leads n c (Connected c) ls
 heed_leads routes n (Closed c cause diagnostic reason) ls = channel_leads n c (Closed c cause diagnostic reason) ls
 heed_leads routes n (WasReset c cause diagnostic reason) ls = channel_leads n c (WasReset c cause diagnostic reason) ls

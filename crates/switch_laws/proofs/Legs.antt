@@ -1,5 +1,5 @@
 -- What the switch asks of a leg, what comes on it and what goes to its line keeps what always holds of it.
-use Rattle.std.proofs.Common.{◌≡◌, ℕ, zero, suc, ◌+◌, ◌≤◌, Bool, true, false, cond, not, ◌&&◌, ◌||◌, List, [], ◌∷◌, length, Option, Some, None, is_some, refl, sym, ap, ap₂, ◌∙◌, arith, true≢false, nat_le, nat_lt, ◌-◌, ◌%◌, ◌==◌, length-append}
+use Rattle.std.proofs.Common.{◌≡◌, ℕ, zero, suc, ◌+◌, ◌≤◌, Bool, true, false, cond, not, ◌&&◌, ◌||◌, List, [], ◌∷◌, length, Option, Some, None, is_some, refl, sym, ap, ap₂, ◌∙◌, arith, true≢false, nat_le, nat_lt, ◌-◌, ◌%◌, ◌==◌}
 use Rattle.std.proofs.lemmas.Bool.{leb-true, le-leb}
 use Rattle.std.proofs.lemmas.Option.{none-some}
 use Rattle.link_timers.specs.declared.role.Role.{Role}
@@ -11,7 +11,6 @@ use Rattle.packet_layer.specs.Channel.{CallState, Request, Refusal, refusal, ref
 use Rattle.packet_layer.specs.Channel.CallState.{Transfer}
 use Rattle.packet_layer.specs.Channel.Request.{Sending, Interrupting, Taking, Releasing, Confirming}
 use Rattle.packet_laws.specs.History.{Epoch, empty_epoch, logged}
-use Rattle.packet_laws.specs.Counts.{NamesCounts}
 use Rattle.packet_laws.proofs.Numbers.{unreleased_is}
 use Rattle.packet_laws.proofs.Naming.{counts_hold}
 use Rattle.packet_laws.proofs.Call.Saying.{by_cond, and_parts}

@@ -10,12 +10,14 @@ pub mod Places
 pub mod Frame
 pub mod Relaying
 pub mod Leading
+pub mod Addresses
 pub mod Telling
 pub mod Outcomes
 pub mod SettingUp
 pub mod Coming
 pub mod Effects
 pub mod Running
+pub mod TrunkRunning
 pub mod Turning
 pub mod Finishing
 pub mod NewJoins

@@ -11,12 +11,11 @@ use Rattle.packet_layer.specs.Channel.{CallState, Channel, had_call}
 use Rattle.packet_layer.specs.Layer.{Layer, channel_of, closing_notes, unread}
 use Rattle.address_routes.specs.Routes.{RouteMap}
 use Rattle.lapb.specs.Machine.{Octets}
-use Rattle.lapb.specs.Octets as link_octets
-use Rattle.switch_lines.specs.declared.channels.SwitchChannel.{SwitchChannel}
+use Rattle.switch_joins.specs.declared.channels.SwitchChannel.{SwitchChannel}
 use Rattle.switch_lines.specs.Lines.{SwitchLine, changed}
 use Rattle.switch_lines.specs.Switch.{Switch, Answer, answer, heed, notes_of, with_end, without_notes, quieted, all_begun}
 use Rattle.switch_lines.specs.Switch.Answer.{Clears, Joins}
-use Rattle.switch_lines.specs.declared.channels.NewJoin.{NewJoin}
+use Rattle.switch_joins.specs.declared.channels.NewJoin.{NewJoin}
 use Rattle.switch_lines.specs.NewJoins.{join_of, joins_of_notes, new_joins}
 use Rattle.switch_laws.specs.Leg.{Leg}
 use Rattle.switch_laws.specs.Steps.{does}
@@ -40,7 +39,7 @@ single_answer (Joins q) p = refl
 single_of : (routes : RouteMap) (n d : ℕ) (role : Role) (s : CallState) (ns : List Note) (ls : List SwitchLine) → AreOf d role s ns → Single (joins_of_notes routes n ns ls)
 single_of routes n d role s [] ls of = refl
 single_of routes n d role s (Incoming c parts ∷ ns) ls of =
-    subst (λ (more : List Note). Single (join_of (answer routes ls parts) (at n c) ++ joins_of_notes routes n more (heed routes n (Incoming c parts) ls))) (sym of.1.1) (single_answer (answer routes ls parts) (at n c))
+    subst (λ (more : List Note). Single (join_of (answer routes ls n parts) (at n c) ++ joins_of_notes routes n more (heed routes n (Incoming c parts) ls))) (sym of.1.1) (single_answer (answer routes ls n parts) (at n c))
 single_of routes n d role s (Connected c ∷ ns) ls of = single_of routes n d role s ns (heed routes n (Connected c) ls) of.1
 single_of routes n d role s (Closed c cause diagnostic reason ∷ ns) ls of = single_of routes n d role s ns (heed routes n (Closed c cause diagnostic reason) ls) of.1
 single_of routes n d role s (WasReset c cause diagnostic reason ∷ ns) ls of = single_of routes n d role s ns (heed routes n (WasReset c cause diagnostic reason) ls) of.1

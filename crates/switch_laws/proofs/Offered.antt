@@ -21,14 +21,16 @@ use Rattle.packet_layer.specs.Layer.{next_packet}
 use Rattle.packet_end.specs.PacketEnd.{PacketEnd, received, heeded, after_packet, after_timer, expired, runs_at, relinked, settled, HasOfferedAll, KeepsNothingBack}
 use Rattle.packet_end.proofs.Offering.{silent_all_offered, settled_all_offered}
 use Rattle.address_routes.specs.Routes.{RouteMap}
-use Rattle.switch_lines.specs.Direction.{Direction, releasable}
-use Rattle.switch_lines.specs.declared.channels.SwitchChannel.{SwitchChannel}
-use Rattle.switch_lines.specs.declared.channels.Joined.{Joined}
+use Rattle.switch_joins.specs.Direction.{Direction, releasable}
+use Rattle.switch_joins.specs.declared.channels.SwitchChannel.{SwitchChannel}
+use Rattle.switch_joins.specs.declared.join.Joined.{Joined}
 use Rattle.switch_lines.specs.Lines.{SwitchLine, changed, joined_at, with_joined}
 use Rattle.switch_lines.specs.Relay.{freed, kept_anew, covered_on, told_joined, told_of}
-use Rattle.switch_lines.specs.Switch.{Switch, Answer, answer, answered, forwarded, place_call, heed, heed_all, with_end, notes_of, without_notes, quieted, acted, to_relink, relinked_at, all_relinked, may_offer, all_offered_on, lines_first, finished, all_begun, on_frame, on_expiry}
+use Rattle.switch_lines.specs.Switch.{Switch, Answer, answer, answered, forwarded, place_call, heed, heed_all, with_end, notes_of, without_notes, quieted, acted, to_relink, relinked_at, all_relinked, may_offer, all_offered_on, lines_first, finished, all_begun}
 use Rattle.switch_lines.specs.Switch.Answer.{Clears, Joins}
 use Rattle.switch_laws.specs.Offers.{HaveSmallLinks, EndsKeepNothingBack}
+use Rattle.switch_laws.specs.Steps.{Happening, does}
+use Rattle.switch_laws.specs.Steps.Happening.{Brings, RunsOut, Relinks}
 use Rattle.switch_laws.proofs.Lists.{map_unchanged}
 use Rattle.switch_laws.proofs.Links.{octets_keep_k, relink_keeps_k, t1_keeps_k}
 use Rattle.switch_laws.proofs.Rounds.{lines_of, asked_lines, joined_lines, total, Small, rounds_offer, any_may}
@@ -64,7 +66,7 @@ answered_lines (Clears cause) p parts ls = asked_lines p (Clearing cause _) ls
 answered_lines (Joins q) p parts ls = joined_lines q _ _ ∙ (joined_lines p _ (place_call q.line (forwarded ls p.line parts) ls) ∙ map_unchanged (λ l. l.end.line) _ q.line ls (λ l. refl))
 
 heed_lines : (routes : RouteMap) (n : ℕ) (note : Note) (ls : List SwitchLine) → lines_of (heed routes n note ls) ≡ lines_of ls
-heed_lines routes n (Incoming c parts) ls = answered_lines (answer routes ls parts) _ parts ls
+heed_lines routes n (Incoming c parts) ls = answered_lines (answer routes ls n parts) _ parts ls
 heed_lines routes n (Connected c) ls = told_of_lines _ (Connected c) _ ls
 heed_lines routes n (Closed c cause diagnostic reason) ls = told_of_lines _ (Closed c cause diagnostic reason) _ ls
 heed_lines routes n (WasReset c cause diagnostic reason) ls = told_of_lines _ (WasReset c cause diagnostic reason) _ ls
@@ -99,7 +101,7 @@ brought_k Up (Some octets) e k is = is
 brought_k Down None e k is = is
 brought_k Down (Some octets) e k is = is
 
-pub received_k : (octets : Octets) (e : PacketEnd) → (received (quieted e) octets).line.link.k ≡ e.line.link.k
+received_k : (octets : Octets) (e : PacketEnd) → (received (quieted e) octets).line.link.k ≡ e.line.link.k
 received_k octets e =
     brought_k (link_octets.on_octets e.line.link octets).note (link_octets.on_octets e.line.link octets).accepted (record (quieted e) { line = line.received e.line octets }) e.line.link.k (octets_keep_k e.line.link octets)
 
@@ -111,11 +113,16 @@ by_bool : {X : Type 0} (P : X → Type 0) (b : Bool) (x y : X) → P x → P y �
 by_bool P true x y f g = f
 by_bool P false x y f g = g
 
-pub timer_k : (id : TimerId) (e : PacketEnd) → (after_timer (quieted e) id).line.link.k ≡ e.line.link.k
+timer_k : (id : TimerId) (e : PacketEnd) → (after_timer (quieted e) id).line.link.k ≡ e.line.link.k
 timer_k id e = by_bool (λ (f : PacketEnd). f.line.link.k ≡ e.line.link.k) (runs_at (quieted e) id) _ _ (expired_k id e) refl
 
 relinked_k : (e : PacketEnd) → (relinked (quieted e)).line.link.k ≡ e.line.link.k
 relinked_k e = relink_keeps_k e.line.link
+
+pub does_k : (what : Happening) (e : PacketEnd) → (does what (quieted e)).line.link.k ≡ e.line.link.k
+does_k (Brings octets) e = received_k octets e
+does_k (RunsOut id) e = timer_k id e
+does_k Relinks e = relinked_k e
 
 relinked_at_ks : (o : Option ℕ) (routes : RouteMap) (ls : List SwitchLine) → ks (lines_of (relinked_at o routes ls)) ≡ ks (lines_of ls)
 relinked_at_ks None routes ls = refl
@@ -203,12 +210,7 @@ finished_offered routes n ls small =
     let s : AreSmall (ks (lines_of rs)) = subst (λ (xs : List ℕ). AreSmall xs) (sym (all_relinked_ks (length ls) routes ls)) small in
     settled_offered (all_offered_on first rs) (none_may (all_offered_on first rs) (rounds_offer (7 * length rs) first rs (small_ends rs s) (within rs)))
 
-pub frame_offered : (n : ℕ) (octets : Octets) (s : Switch) → HaveSmallLinks s.lines → EndsKeepNothingBack (on_frame n octets s).lines
-frame_offered n octets s h =
-    finished_offered s.routes n (acted s.routes n (λ e. received e octets) (all_begun s.lines))
-    (subst (λ (xs : List ℕ). AreSmall xs) (sym (act_ks s.routes n (λ e. received e octets) (all_begun s.lines) (λ e. received_k octets e) ∙ begun_ks s.lines)) (small_links s.lines h))
-
-pub timer_offered : (n : ℕ) (id : TimerId) (s : Switch) → HaveSmallLinks s.lines → EndsKeepNothingBack (on_expiry n id s).lines
-timer_offered n id s h =
-    finished_offered s.routes n (acted s.routes n (λ e. after_timer e id) (all_begun s.lines))
-    (subst (λ (xs : List ℕ). AreSmall xs) (sym (act_ks s.routes n (λ e. after_timer e id) (all_begun s.lines) (λ e. timer_k id e) ∙ begun_ks s.lines)) (small_links s.lines h))
+pub event_offered : (n : ℕ) (what : Happening) (s : Switch) → HaveSmallLinks s.lines → EndsKeepNothingBack (finished s.routes n (acted s.routes n (does what) (all_begun s.lines)))
+event_offered n what s h =
+    finished_offered s.routes n (acted s.routes n (does what) (all_begun s.lines))
+    (subst (λ (xs : List ℕ). AreSmall xs) (sym (act_ks s.routes n (does what) (all_begun s.lines) (λ e. does_k what e) ∙ begun_ks s.lines)) (small_links s.lines h))

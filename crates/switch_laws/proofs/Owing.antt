@@ -19,8 +19,8 @@ use Rattle.packet_layer.specs.Events.{timer_named}
 use Rattle.packet_laws.specs.Readable.{Every}
 use Rattle.packet_end.specs.PacketEnd.{PacketEnd, runs_at, relinked}
 use Rattle.address_routes.specs.Routes.{RouteMap}
-use Rattle.switch_lines.specs.declared.channels.SwitchChannel.{SwitchChannel}
-use Rattle.switch_lines.specs.declared.channels.Joined.{Joined}
+use Rattle.switch_joins.specs.declared.channels.SwitchChannel.{SwitchChannel}
+use Rattle.switch_joins.specs.declared.join.Joined.{Joined}
 use Rattle.switch_lines.specs.Lines.{SwitchLine, changed, joined_at}
 use Rattle.switch_lines.specs.Switch.{Switch, Answer, answer, heed, notes_of, with_end, quieted, acted, all_begun, to_relink, raised, relinked_at, all_relinked, relinks_of, lines_first}
 use Rattle.switch_lines.specs.Switch.Answer.{Clears, Joins}
@@ -34,9 +34,11 @@ use Rattle.switch_laws.specs.EventSteps.{anew_steps, covered_steps, told_joined_
 use Rattle.switch_laws.specs.Stays.{relinked_in}
 use Rattle.switch_laws.specs.Concern.{is_one_of}
 use Rattle.switch_laws.specs.Isolated.{fifth_on, fifth_placed, makes_fifth, CameToOwe}
-use Rattle.switch_laws.proofs.Lists.{decided, not_equal, get_changed, get_unchanged}
+use Rattle.switch_laws.proofs.Lists.{not_equal, get_changed}
 use Rattle.switch_laws.proofs.Leading.{acts_lead, acted_leads, all_relinked_leads}
 use Rattle.switch_laws.proofs.Turning.{relinked_effect, acted_right}
+use Rattle.switch_joins.proofs.Apart.{decided}
+use Rattle.switch_lines.proofs.Places.{get_unchanged}
 
 -- ---- acts that leave a line its session
 
@@ -154,7 +156,7 @@ answered_asks (Clears cause) p parts ls = (tt, tt)
 answered_asks (Joins q) p parts ls = (tt, (tt, (tt, tt)))
 
 heed_asks : (routes : RouteMap) (n : ℕ) (note : Note) (ls : List SwitchLine) → Every IsAsking (heed_steps routes n note ls)
-heed_asks routes n (Incoming c parts) ls = answered_asks (answer routes ls parts) _ parts ls
+heed_asks routes n (Incoming c parts) ls = answered_asks (answer routes ls n parts) _ parts ls
 heed_asks routes n (Connected c) ls = told_asks _ (Connected c) _ ls
 heed_asks routes n (Closed c cause diagnostic reason) ls = told_asks _ (Closed c cause diagnostic reason) _ ls
 heed_asks routes n (WasReset c cause diagnostic reason) ls = told_asks _ (WasReset c cause diagnostic reason) _ ls

@@ -1,5 +1,5 @@
 -- Joins, channels and legs by place, after what the switch does at one place.
-use Rattle.std.proofs.Common.{◌≡◌, ℕ, zero, suc, ◌⊎◌, inl, inr, Bool, true, false, if◌then◌else◌, ◌&&◌, ◌==◌, List, [], ◌∷◌, map, set, length, Option, Some, None, is_some, refl, sym, ap, subst, ◌∙◌, true≢false, option_map}
+use Rattle.std.proofs.Common.{◌≡◌, ℕ, zero, suc, ◌⊎◌, inl, inr, Bool, true, false, if◌then◌else◌, ◌&&◌, ◌==◌, List, [], ◌∷◌, map, set, length, Option, Some, None, is_some, refl, sym, ap, ◌∙◌, true≢false, option_map}
 use Rattle.std.specs.Prelude.{slice_get}
 use Rattle.std.proofs.lemmas.Option.{none-some, same_Some}
 use Rattle.std.proofs.lemmas.Bool.{eq-eqb}
@@ -13,27 +13,17 @@ use Rattle.packet_layer.specs.Layer.{Layer, Phase, Timer, Next, nth_channel, cha
 use Rattle.packet_layer.specs.Layer.Phase.{NoSession, OwnRestart, PacketReady}
 use Rattle.packet_layer.specs.Layer.Timer.{RestartTimer, CallTimer, ResetTimer, ClearTimer}
 use Rattle.packet_laws.proofs.Call.Saying.{by_cond}
-use Rattle.switch_lines.specs.declared.channels.SwitchChannel.{SwitchChannel}
-use Rattle.switch_lines.specs.declared.channels.Joined.{Joined}
+use Rattle.switch_joins.specs.declared.channels.SwitchChannel.{SwitchChannel}
+use Rattle.switch_joins.specs.declared.join.Joined.{Joined}
 use Rattle.switch_lines.specs.Lines.{SwitchLine, same_place, changed, flat, nth_joined, joined_on, joined_at, with_nth_joined, with_joined, ask, front_of_line, refusal_of_line}
 use Rattle.switch_laws.specs.Leg.{asked}
 use Rattle.switch_laws.specs.World.{World, Shown, shown_as, shown_on, shown_at, layers_of, Act, after_act, world_after, layer_after, leg_after, line_of}
 use Rattle.switch_laws.specs.World.Act.{Asks, Comes, Expires, GoesUp, GoesDown, Calls, Gives, Reads}
 use Rattle.switch_laws.specs.Joined.{has_nth, has_place_on, has_place}
-use Rattle.switch_laws.proofs.Lists.{map_changed, map_unchanged, decided, apart_by, get_unchanged, get_map}
+use Rattle.switch_laws.proofs.Lists.{map_changed, map_unchanged, get_map}
+use Rattle.switch_joins.proofs.Apart.{decided}
 
 -- ---- joins
-
-pub joined_kept : (n m c : ℕ) (f : SwitchLine → SwitchLine) (ls : List SwitchLine) → ((l : SwitchLine) → (f l).joined ≡ l.joined)
-    → joined_on (slice_get (changed n f ls) m) c ≡ joined_on (slice_get ls m) c
-joined_kept n m c f [] same = refl
-joined_kept zero zero c f (l ∷ ls) same = ap (λ js. nth_joined js c) (same l)
-joined_kept zero (suc m) c f (l ∷ ls) same = refl
-joined_kept (suc n) zero c f (l ∷ ls) same = refl
-joined_kept (suc n) (suc m) c f (l ∷ ls) same = joined_kept n m c f ls same
-
-pub joined_asked : (p : SwitchChannel) (q : Request) (x : SwitchChannel) (ls : List SwitchLine) → joined_at (ask p q ls) x ≡ joined_at ls x
-joined_asked p q x ls = joined_kept p.line x.line x.channel _ ls (λ l. refl)
 
 set_here : (js : List (Option Joined)) (i : ℕ) (o : Option Joined) → is_some (slice_get js i) ≡ true → flat (slice_get (set js i o) i) ≡ o
 set_here [] i o e = absurd (true≢false (sym e))
@@ -52,32 +42,6 @@ line_here (suc n) c o (l ∷ ls) e = line_here n c o ls e
 
 pub joined_here : (p : SwitchChannel) (o : Option Joined) (ls : List SwitchLine) → has_place ls p ≡ true → joined_at (with_joined p o ls) p ≡ o
 joined_here p o ls e = line_here p.line p.channel o ls e
-
-set_apart : (js : List (Option Joined)) (i k : ℕ) (o : Option Joined) → (k ≡ i → ⊥) → slice_get (set js i o) k ≡ slice_get js k
-set_apart [] i k o ne = refl
-set_apart (j ∷ js) zero zero o ne = absurd (ne refl)
-set_apart (j ∷ js) zero (suc k) o ne = refl
-set_apart (j ∷ js) (suc i) zero o ne = refl
-set_apart (j ∷ js) (suc i) (suc k) o ne = set_apart js i k o (λ e. ne (ap suc e))
-
-nth_apart : (js : List (Option Joined)) (c d : ℕ) (o : Option Joined) → (d ≡ c → ⊥) → nth_joined (with_nth_joined js c o) d ≡ nth_joined js d
-nth_apart js zero d o ne = refl
-nth_apart js (suc i) zero o ne = refl
-nth_apart js (suc i) (suc k) o ne = ap (λ x. flat x) (set_apart js i k o (λ e. ne (ap suc e)))
-
-line_apart : (n c d : ℕ) (o : Option Joined) (ls : List SwitchLine) → (d ≡ c → ⊥)
-    → joined_on (slice_get (changed n (λ l. record l { joined = with_nth_joined l.joined c o }) ls) n) d ≡ joined_on (slice_get ls n) d
-line_apart n c d o [] ne = refl
-line_apart zero c d o (l ∷ ls) ne = nth_apart l.joined c d o ne
-line_apart (suc n) c d o (l ∷ ls) ne = line_apart n c d o ls ne
-
-pub joined_apart : (p : SwitchChannel) (o : Option Joined) (x : SwitchChannel) (ls : List SwitchLine) → same_place x p ≡ false → joined_at (with_joined p o ls) x ≡ joined_at ls x
-joined_apart p o x ls e = by_place (apart_by x p e)
-  where
-    by_place : (x.line ≡ p.line → ⊥) ⊎ ((x.line ≡ p.line) × (x.channel ≡ p.channel → ⊥)) → joined_at (with_joined p o ls) x ≡ joined_at ls x
-    by_place (inl ne) = ap (λ l. joined_on l x.channel) (get_unchanged p.line x.line _ ls ne)
-    by_place (inr h) =
-        subst (λ (k : ℕ). joined_on (slice_get (with_joined p o ls) k) x.channel ≡ joined_on (slice_get ls k) x.channel) (sym h.0) (line_apart p.line p.channel x.channel o ls h.1)
 
 -- a joined channel has a place
 nth_place : (js : List (Option Joined)) (c : ℕ) (j : Joined) → nth_joined js c ≡ Some j → has_nth js c ≡ true

@@ -9,11 +9,11 @@ use Rattle.packet_layer.specs.Traffic.Taken.{TakenInterrupt, TakenPacket}
 use Rattle.packet_layer.specs.Channel.{CallState, Request, Refusal, refusal, in_transfer, waits_for_call}
 use Rattle.packet_layer.specs.Channel.CallState.{Ready, OwnWaiting, FarWaiting, Transfer, Collision, OwnClear}
 use Rattle.packet_layer.specs.Channel.Request.{Taking, Releasing}
-use Rattle.switch_lines.specs.Direction.{Direction, releasable, released, carried_by, request_for}
-use Rattle.switch_lines.specs.declared.channels.SwitchChannel.{SwitchChannel}
-use Rattle.switch_lines.specs.declared.channels.Joined.{Joined}
+use Rattle.switch_joins.specs.Direction.{Direction, releasable, released}
+use Rattle.switch_joins.specs.declared.channels.SwitchChannel.{SwitchChannel}
+use Rattle.switch_joins.specs.declared.join.Joined.{Joined}
 use Rattle.switch_lines.specs.Lines.{SwitchLine, same_place, joined_at, ask, front_at, refusal_at, places, places_on, places_from}
-use Rattle.switch_lines.specs.Relay.{moved, moved_joined, moved_front, moved_unless, relayed, relayed_from, all_relayed, legs_of, places_first, relayed_first, most_moves}
+use Rattle.switch_lines.specs.Relay.{carried_by, request_for, moved, moved_joined, moved_front, moved_unless, relayed, relayed_from, all_relayed, legs_of, places_first, relayed_first, most_moves}
 use Rattle.switch_lines.proofs.Relaying.{relayed_stays}
 use Rattle.switch_laws.specs.Leg.{Leg, asked}
 use Rattle.switch_laws.specs.Way.{Way}
@@ -27,11 +27,13 @@ use Rattle.switch_laws.specs.Steps.{Step, acts_of_all}
 use Rattle.switch_laws.specs.EventSteps.{moved_unless_steps, moved_front_steps, moved_joined_steps, relayed_steps, relayed_from_steps, all_relayed_steps, relayed_first_steps}
 use Rattle.switch_laws.proofs.Leading.{acts_lead, moved_leads, relayed_leads}
 use Rattle.switch_laws.proofs.Joins.{there_right}
-use Rattle.switch_laws.proofs.Lists.{decided, place_is, same_as}
+use Rattle.switch_laws.proofs.Lists.{same_as}
 use Rattle.switch_laws.proofs.Ways.{Beside, relayed_beside, relayed_stuck, same_refusal}
 use Rattle.switch_laws.proofs.Standing.{accepts_before}
-use Rattle.switch_laws.proofs.Places.{joined_asked, joined_here, joined_apart, joined_place, front_is, refusal_is, some_there, leg_asked, leg_apart}
+use Rattle.switch_laws.proofs.Places.{joined_here, joined_place, front_is, refusal_is, some_there, leg_asked, leg_apart}
 use Rattle.switch_laws.proofs.Frame.{Touches, touches_none, touches_then, touches_turned, touches_asked, touches_joined, reached_there, reached_none, reached_then, other_apart, Pairing, pairing, pair_kept, apart_turned}
+use Rattle.switch_joins.proofs.Apart.{decided, place_is}
+use Rattle.switch_lines.proofs.Places.{joined_asked, joined_apart}
 
 -- ---- what is seen at the lines is the legs
 

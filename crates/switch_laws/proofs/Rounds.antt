@@ -11,13 +11,14 @@ use Rattle.packet_layer.specs.Layer.{Next, next_packet}
 use Rattle.packet_layer.specs.Events.{written_packet}
 use Rattle.packet_end.specs.PacketEnd.{PacketEnd, offered, all_offered, with_next}
 use Rattle.packet_end.proofs.Offering.{takes_none, longer, one_offered}
-use Rattle.switch_lines.specs.Direction.{releasable, carried_by, request_for}
-use Rattle.switch_lines.specs.declared.channels.SwitchChannel.{SwitchChannel}
-use Rattle.switch_lines.specs.declared.channels.Joined.{Joined}
+use Rattle.switch_joins.specs.Direction.{releasable}
+use Rattle.switch_joins.specs.declared.channels.SwitchChannel.{SwitchChannel}
+use Rattle.switch_joins.specs.declared.join.Joined.{Joined}
 use Rattle.switch_lines.specs.Lines.{SwitchLine, changed, joined_at, with_joined, ask, front_at, refusal_at}
-use Rattle.switch_lines.specs.Relay.{moved, moved_unless, moved_front, moved_joined, relayed, relayed_from, places_first, relayed_first, most_moves}
+use Rattle.switch_lines.specs.Relay.{carried_by, request_for, moved, moved_unless, moved_front, moved_joined, relayed, relayed_from, places_first, relayed_first, most_moves}
 use Rattle.switch_lines.specs.Switch.{with_end, may_offer, offering_from, offered_from, rounds}
-use Rattle.switch_laws.proofs.Lists.{map_unchanged, and_both, decided}
+use Rattle.switch_laws.proofs.Lists.{map_unchanged}
+use Rattle.switch_joins.proofs.Apart.{and_both, decided}
 
 -- ---- the relay changes no link
 

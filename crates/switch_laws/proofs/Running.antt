@@ -1,5 +1,5 @@
 -- The run of one join, and the switch of two lines.
-use Rattle.std.proofs.Common.{◌≡◌, ℕ, zero, suc, ◌≤◌, nat_lt, true, List, [], ◌∷◌, Option, Some, None, is_some, refl, sym, ap, subst, ◌∙◌, arith, true≢false}
+use Rattle.std.proofs.Common.{◌≡◌, ℕ, zero, suc, ◌≤◌, true, List, [], ◌∷◌, Option, Some, None, is_some, refl, sym, ap, subst, ◌∙◌, arith, true≢false}
 use Rattle.std.proofs.lemmas.Option.{none-some, same_Some}
 use Rattle.link_timers.specs.declared.role.Role.TheVariants.{Dce}
 use Rattle.packet_layer.specs.Packets.Body.{Data, Interrupt, InterruptConfirmation, ReceiveReady, Reset}
@@ -9,15 +9,15 @@ use Rattle.packet_end.specs.PacketEnd as offers
 use Rattle.switch_lines.specs.Relay.{most_moves}
 use Rattle.std.specs.Prelude.{slice_get}
 use Rattle.switch_lines.specs.declared.config.SwitchLineConfig.{SwitchLineConfig}
-use Rattle.switch_lines.specs.declared.channels.SwitchChannel.{SwitchChannel}
+use Rattle.switch_joins.specs.declared.channels.SwitchChannel.{SwitchChannel}
 use Rattle.switch_lines.specs.Making.{IsConfig, IsLineConfig}
-use Rattle.switch_lines.specs.declared.channels.Joined.{Joined}
+use Rattle.switch_joins.specs.declared.join.Joined.{Joined}
 use Rattle.switch_lines.specs.Lines.{joined_at}
 use Rattle.switch_laws.specs.Join.{IsJoin, turned, hears, gives}
 use Rattle.switch_laws.specs.World.{Shown, Agrees, shown_at, shown_of, layers_of}
 use Rattle.switch_laws.specs.Joined.{IsSwitch, has_place}
 use Rattle.switch_laws.specs.Events.{new_legs}
-use Rattle.switch_laws.specs.Run.{started, letter, carried, covered, interrupted, confirmed, reset, two_lines, no_calls, parameters, config, configs, new_switch, sabm, restart_request, call_request, events, RunLaw}
+use Rattle.switch_laws.specs.Run.{started, letter, carried, covered, interrupted, confirmed, reset, two_lines, no_calls, parameters, config, configs, new_switch, events, RunLaw}
 use Rattle.switch_laws.proofs.Happening.{events_hold}
 use Rattle.switch_laws.proofs.Joins.{join_begins, both_right, gives_right, turned_join}
 use Rattle.switch_laws.proofs.Hearing.{hears_right}
@@ -95,13 +95,13 @@ switch_right = record {
   joined = λ x j e. absurd (none-some j (subst (λ (o : Option Joined). o ≡ Some j) (none_joined x.line x.channel) e));
 }
 
-parameters_right : AreParams parameters
+pub parameters_right : AreParams parameters
 parameters_right = record {
   link = record { k_least = omega arith; k_most = omega arith; n2_least = omega arith; n2_most = omega arith };
   layer = record { channels_least = omega arith; channels_most = omega arith; window_least = omega arith; window_most = omega arith };
 }
 
-config_right : (address : List ℕ) → IsLineConfig (config address)
+pub config_right : (address : List ℕ) → IsLineConfig (config address)
 config_right address = record { params = parameters_right; not_standing = refl }
 
 each_config : (n : ℕ) (c : SwitchLineConfig) → slice_get configs n ≡ Some c → IsLineConfig c

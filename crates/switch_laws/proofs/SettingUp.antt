@@ -15,22 +15,25 @@ use Rattle.packet_layer.specs.Layer.{Layer, Phase, channel_of, channel_given}
 use Rattle.packet_laws.proofs.Call.Saying.{and_parts}
 use Rattle.packet_laws.proofs.Line.Outcomes.{free_is, given_ready}
 use Rattle.address_routes.specs.Routes.{RouteMap, line_for}
-use Rattle.switch_lines.specs.Direction.{new_direction}
-use Rattle.switch_lines.specs.declared.channels.SwitchChannel.{SwitchChannel}
-use Rattle.switch_lines.specs.declared.channels.Joined.{Joined}
-use Rattle.switch_lines.specs.Lines.{SwitchLine, same_place, joined_at, with_joined, ask}
-use Rattle.switch_lines.specs.Switch.{Answer, answer, answer_by, answer_on, answer_free, answered, forwarded, place_call, with_join, heed, has_any}
+use Rattle.switch_joins.specs.Direction.{new_direction}
+use Rattle.switch_joins.specs.declared.channels.SwitchChannel.{SwitchChannel}
+use Rattle.switch_joins.specs.declared.join.Joined.{Joined}
+use Rattle.switch_lines.specs.Lines.{SwitchLine, same_place, joined_at, with_joined, ask, is_trunk}
+use Rattle.switch_lines.specs.Switch.{Answer, answer, answer_by, answer_on, answer_free, answered, forwarded}
+use Rattle.switch_lines.specs.Switch.{place_call, with_join, heed, has_any, route_from}
 use Rattle.switch_lines.specs.Switch.Answer.{Clears, Joins}
 use Rattle.switch_laws.specs.Leg.{Leg, stepped}
 use Rattle.switch_laws.specs.World.{World, Shown, shown_as, shown_on, shown_at, layers_of, world_after, leg_after, placed_if, is_channel}
 use Rattle.switch_laws.specs.World.Act.{Asks, Calls}
 use Rattle.switch_laws.specs.Joined.{WaitsFor, IsPair, IsJoinedAt, IsSwitch, Becomes}
 use Rattle.switch_laws.specs.Joined.IsPair.{connected, waiting}
-use Rattle.switch_laws.proofs.Lists.{decided, place_is, map_changed, get_map}
-use Rattle.switch_laws.proofs.Places.{joined_asked, joined_kept, joined_here, joined_apart, place_after}
+use Rattle.switch_laws.proofs.Lists.{map_changed, get_map}
+use Rattle.switch_laws.proofs.Places.{joined_here, place_after}
 use Rattle.switch_laws.specs.Steps.{acts_of_all}
 use Rattle.switch_laws.specs.EventSteps.{answered_steps, heed_steps}
 use Rattle.switch_laws.proofs.Frame.{Touches, touches_then, touches_turned, touches_asked, touches_joined, reached_there, frame, apart_turned}
+use Rattle.switch_joins.proofs.Apart.{decided, place_is}
+use Rattle.switch_lines.proofs.Places.{joined_asked, joined_kept, joined_apart}
 
 -- ---- a joined channel has a call
 
@@ -256,7 +259,7 @@ pub incoming_right : (routes : RouteMap) (n c : ℕ) (parts : CallParts) (ls : L
     → is_some (shown_at (layers_of ls) (record { line = n; channel = c })) ≡ true
     → may_accept (w (record { line = n; channel = c })).role (w (record { line = n; channel = c })).channel.state ≡ true → Becomes (acts_of_all (heed_steps routes n (Incoming c parts) ls) ls) ls w (heed routes n (Incoming c parts) ls)
 incoming_right routes n c parts ls w i none there accepts =
-    answers (answer routes ls parts) (record { line = n; channel = c }) parts ls w (answer_if (has_any parts.facilities) ls _ _ (answer_by_is ls (line_for routes parts.called))) i none there accepts
+    answers (answer routes ls n parts) (record { line = n; channel = c }) parts ls w (answer_if (has_any parts.facilities) ls _ _ (answer_by_is ls (route_from n ls (line_for routes parts.called)))) i none there accepts
 
 -- ---- by the routes
 
@@ -279,5 +282,26 @@ with_facility : (b : Bool) (cause : ℕ) (ls : List SwitchLine) (o : Option ℕ)
 with_facility true cause ls o q e = absurd cc
 with_facility false cause ls o q e = by_line ls o q e
 
-pub joins_by_route : (routes : RouteMap) (ls : List SwitchLine) (parts : CallParts) (q : SwitchChannel) → answer routes ls parts ≡ Joins q → line_for routes parts.called ≡ Some q.line
-joins_by_route routes ls parts q e = with_facility (has_any parts.facilities) _ ls (line_for routes parts.called) q e
+-- the route of a call that came on line n is that of its address, and does not lead back over a trunk
+record IsOnward (n : ℕ) (ls : List SwitchLine) (o : Option ℕ) (k : ℕ) : Type 0 where
+  route : o ≡ Some k
+  onward : ((k == n) && is_trunk (slice_get ls n)) ≡ false
+
+onward : (n : ℕ) (ls : List SwitchLine) (o : Option ℕ) (k : ℕ) → route_from n ls o ≡ Some k → IsOnward n ls o k
+onward n ls None k e = absurd (none-some k e)
+onward n ls (Some to) k e = by_trunk ((to == n) && is_trunk (slice_get ls n)) refl e
+  where
+    by_trunk : (b : Bool) → ((to == n) && is_trunk (slice_get ls n)) ≡ b → (if b then None else Some to) ≡ Some k → IsOnward n ls (Some to) k
+    by_trunk true is f = absurd (none-some k f)
+    by_trunk false is f = record { route = f; onward = subst (λ (x : ℕ). ((x == n) && is_trunk (slice_get ls n)) ≡ false) (same_Some to k f) is }
+
+answered_onward : (routes : RouteMap) (ls : List SwitchLine) (n : ℕ) (parts : CallParts) (q : SwitchChannel) → answer routes ls n parts ≡ Joins q → IsOnward n ls (line_for routes parts.called) q.line
+answered_onward routes ls n parts q e =
+    onward n ls (line_for routes parts.called) q.line (with_facility (has_any parts.facilities) _ ls (route_from n ls (line_for routes parts.called)) q e)
+
+pub joins_by_route : (routes : RouteMap) (ls : List SwitchLine) (n : ℕ) (parts : CallParts) (q : SwitchChannel) → answer routes ls n parts ≡ Joins q → line_for routes parts.called ≡ Some q.line
+joins_by_route routes ls n parts q e = (answered_onward routes ls n parts q e).route
+
+pub not_back : (routes : RouteMap) (ls : List SwitchLine) (n : ℕ) (parts : CallParts) (q : SwitchChannel) → answer routes ls n parts ≡ Joins q → q.line ≡ n → is_trunk (slice_get ls n) ≡ false
+not_back routes ls n parts q e same =
+    ap (λ (b : Bool). b && is_trunk (slice_get ls n)) (sym (eq-eqb q.line n same)) ∙ (answered_onward routes ls n parts q e).onward

@@ -14,22 +14,29 @@ use Rattle.packet_laws.proofs.Line.Lines.{nth_other}
 use Rattle.packet_laws.proofs.Line.Outcomes.{free_is, given_ready}
 use Rattle.packet_end.specs.PacketEnd.{PacketEnd, all_offered}
 use Rattle.address_routes.specs.Routes.{RouteMap, line_for}
-use Rattle.switch_lines.specs.Direction.{Direction, new_direction, releasable, released, carried_by, request_for}
+use Rattle.switch_joins.specs.Direction.{Direction, new_direction, releasable, released}
 use Rattle.switch_lines.specs.Causes.{clear_cause, reset_cause, far_diagnostic}
-use Rattle.switch_lines.specs.declared.channels.SwitchChannel.{SwitchChannel}
-use Rattle.switch_lines.specs.declared.channels.Joined.{Joined}
+use Rattle.switch_joins.specs.declared.channels.SwitchChannel.{SwitchChannel}
+use Rattle.switch_joins.specs.declared.join.Joined.{Joined}
 use Rattle.switch_lines.specs.Lines.{SwitchLine, same_place, changed, joined_at, with_joined, ask, front_at, refusal_at}
-use Rattle.switch_lines.specs.Relay.{freed, kept_anew, covered_on, told_joined, told_of, moved, moved_unless, moved_front, moved_joined, relayed, relayed_from, places_first, relayed_first, most_moves}
-use Rattle.switch_lines.specs.Switch.{Answer, answer, answered, forwarded, place_call, has_any, heed, heed_all, with_end, notes_of, without_notes, quieted, acted, may_offer, offering_from, offered_from, rounds}
+use Rattle.switch_lines.specs.Lines.{is_trunk}
+use Rattle.switch_lines.specs.Relay.{carried_by, request_for, freed, kept_anew, covered_on, told_joined, told_of, moved}
+use Rattle.switch_lines.specs.Relay.{moved_unless, moved_front, moved_joined, relayed, relayed_from, places_first}
+use Rattle.switch_lines.specs.Relay.{relayed_first, most_moves}
+use Rattle.switch_lines.specs.Switch.{Answer, answer, answered, forwarded, place_call, has_any, heed, heed_all}
+use Rattle.switch_lines.specs.Switch.{with_end, notes_of, without_notes, quieted, acted, may_offer, offering_from}
+use Rattle.switch_lines.specs.Switch.{offered_from, rounds, route_from}
 use Rattle.switch_lines.specs.Switch.Answer.{Clears, Joins}
 use Rattle.switch_laws.specs.World.{World, Shown, shown_as, shown_on, shown_at, layers_of}
 use Rattle.switch_laws.specs.Joined.{IsSwitch, has_place}
 use Rattle.switch_laws.specs.Stays.{Stay}
-use Rattle.switch_laws.proofs.Lists.{decided, place_is, apart_by, get_unchanged, get_map, map_changed}
-use Rattle.switch_laws.proofs.Places.{joined_kept, joined_asked, joined_here, joined_apart, joined_place, place_joined, layers_asked, layers_joined, some_there}
+use Rattle.switch_laws.proofs.Lists.{get_map, map_changed}
+use Rattle.switch_laws.proofs.Places.{joined_here, joined_place, place_joined, layers_asked, layers_joined, some_there}
 use Rattle.switch_laws.proofs.SettingUp.{IsFreePlace, IsAnswer, answer_by_is, answer_if, pair_call, layer_there, ready_no_call}
 use Rattle.switch_laws.proofs.Coming.{at}
 use Rattle.switch_laws.proofs.Turning.{changed_twice}
+use Rattle.switch_joins.proofs.Apart.{decided, place_is, apart_by}
+use Rattle.switch_lines.proofs.Places.{get_unchanged, joined_kept, joined_asked, joined_apart}
 
 -- ---- a channel beside those that something is asked of
 
@@ -177,7 +184,7 @@ beside_told n c note i ls ms got b = by_note note
     by_note : (x : Note) → Beside n ls (told_joined x p0 i ms)
     by_note (Incoming d parts) = b
     by_note (Connected d) = beside_asked n ls ms q Accept there b
-    by_note (Closed d cause diagnostic reason) = closed_ (Clearing (clear_cause reason cause) (far_diagnostic reason diagnostic))
+    by_note (Closed d cause diagnostic reason) = closed_ (Clearing (clear_cause (is_trunk (slice_get ms n)) reason cause) (far_diagnostic reason diagnostic))
     by_note (WasReset d cause diagnostic reason) = reset_ (Resetting (reset_cause reason cause) (far_diagnostic reason diagnostic)) (joined_at ms q) refl
     by_note (InterruptConfirmed d) = beside_asked n ls ms q Confirming there b
     by_note (Covered d m) = beside_covered n m (joined_at ms q) ls ms q refl there b
@@ -249,7 +256,7 @@ beside_answered n c (Joins q) parts ls ms calls f b =
 
 beside_heed : (routes : RouteMap) (n : ℕ) (note : Note) (ls ms : List SwitchLine) → HaveCalls n ls → Beside n ls ms → Beside n ls (heed routes n note ms)
 beside_heed routes n (Incoming c parts) ls ms calls b =
-    beside_answered n c (answer routes ms parts) parts ls ms calls (answer_if (has_any parts.facilities) ms _ _ (answer_by_is ms (line_for routes parts.called))) b
+    beside_answered n c (answer routes ms n parts) parts ls ms calls (answer_if (has_any parts.facilities) ms _ _ (answer_by_is ms (route_from n ms (line_for routes parts.called)))) b
 beside_heed routes n (Connected c) ls ms calls b = beside_told_of n c (Connected c) (joined_at ms (at n c)) ls ms refl b
 beside_heed routes n (Closed c cause diagnostic reason) ls ms calls b = beside_told_of n c (Closed c cause diagnostic reason) (joined_at ms (at n c)) ls ms refl b
 beside_heed routes n (WasReset c cause diagnostic reason) ls ms calls b = beside_told_of n c (WasReset c cause diagnostic reason) (joined_at ms (at n c)) ls ms refl b

@@ -1,15 +1,16 @@
 -- What the switch is told of a joined channel.
 use Rattle.std.proofs.Common.{◌≡◌, ℕ, ◌⊎◌, inl, inr, false, List, [], ◌∷◌, ◌++◌, Option, Some, None, refl, sym, ap, subst, ◌∙◌, true≢false}
+use Rattle.std.specs.Prelude.{slice_get}
 use Rattle.std.proofs.lemmas.Option.{none-some}
 use Rattle.packet_layer.specs.Packets.{Note, Reason}
 use Rattle.packet_layer.specs.Packets.Note.{Incoming, Connected, Closed, WasReset, InterruptConfirmed, Covered}
 use Rattle.packet_layer.specs.Channel.{Request}
 use Rattle.packet_layer.specs.Channel.Request.{Clearing, Resetting, Releasing, Confirming}
-use Rattle.switch_lines.specs.Direction.{Direction, new_direction, releasable, released, covered_by}
+use Rattle.switch_joins.specs.Direction.{Direction, new_direction, releasable, released, covered_by}
 use Rattle.switch_lines.specs.Causes.{reset_cause, clear_cause, far_diagnostic}
-use Rattle.switch_lines.specs.declared.channels.SwitchChannel.{SwitchChannel}
-use Rattle.switch_lines.specs.declared.channels.Joined.{Joined}
-use Rattle.switch_lines.specs.Lines.{SwitchLine, same_place, joined_at, with_joined, ask}
+use Rattle.switch_joins.specs.declared.channels.SwitchChannel.{SwitchChannel}
+use Rattle.switch_joins.specs.declared.join.Joined.{Joined}
+use Rattle.switch_lines.specs.Lines.{SwitchLine, same_place, joined_at, with_joined, ask, is_trunk}
 use Rattle.switch_lines.specs.Relay.{told, told_of, told_joined, covered_on, kept_anew}
 use Rattle.switch_laws.specs.Leg.{Leg, asked}
 use Rattle.switch_laws.specs.Join.{Join}
@@ -20,8 +21,9 @@ use Rattle.switch_laws.specs.Joined.{IsOver, IsSwitchBefore, Reached}
 use Rattle.switch_laws.specs.Steps.{Step, acts_of_all}
 use Rattle.switch_laws.specs.EventSteps.{anew_steps, covered_steps, told_joined_steps, told_steps}
 use Rattle.switch_laws.proofs.Lists.{same_as}
-use Rattle.switch_laws.proofs.Places.{joined_asked, joined_here, joined_apart, joined_place, leg_asked, leg_apart}
+use Rattle.switch_laws.proofs.Places.{joined_here, joined_place, leg_asked, leg_apart}
 use Rattle.switch_laws.proofs.Frame.{Touches, touches_none, touches_then, touches_turned, touches_asked, touches_joined, reached_there, Pairing, pairing, pair_ended}
+use Rattle.switch_lines.proofs.Places.{joined_asked, joined_apart}
 
 -- ---- asked at the other leg
 
@@ -235,7 +237,7 @@ closes_joined n c cause diagnostic reason ns ls w j k i s = record {
     q = j.other
 
     r : Request
-    r = Clearing (clear_cause reason cause) (far_diagnostic reason diagnostic)
+    r = Clearing (clear_cause (is_trunk (slice_get ls n)) reason cause) (far_diagnostic reason diagnostic)
 
     l1 : List SwitchLine
     l1 = with_joined p None ls

@@ -23,21 +23,23 @@ use Rattle.packet_laws.proofs.Call.Saying.{by_cond}
 use Rattle.switch_laws.specs.Steps.{Happening, does, note_acts, heard_acts, packet_acts, timer_acts, expiry_acts, happening_acts, on_line, acts_of_all}
 use Rattle.switch_laws.specs.Steps.Happening.{Brings, RunsOut, Relinks}
 use Rattle.switch_laws.specs.EventSteps.{heed_all_steps, acted_steps}
-use Rattle.switch_laws.proofs.Lists.{decided, get_map}
+use Rattle.switch_laws.proofs.Lists.{get_map}
 use Rattle.packet_end.specs.PacketEnd.{PacketEnd, heeded, after_packet, expired, runs_at}
 use Rattle.address_routes.specs.Routes.{RouteMap}
-use Rattle.switch_lines.specs.declared.channels.SwitchChannel.{SwitchChannel}
+use Rattle.switch_joins.specs.declared.channels.SwitchChannel.{SwitchChannel}
 use Rattle.switch_lines.specs.Lines.{SwitchLine, changed, joined_at}
 use Rattle.switch_lines.specs.Switch.{heed_all, with_end, notes_of, without_notes, notes_heeded, quieted, acted}
 use Rattle.switch_laws.specs.Leg.{Leg}
 use Rattle.switch_laws.specs.World.{World, layers_of, Act, MayHappen, after_act, after_acts, world_after, world_after_all, layer_after, leg_after, line_of, came_in}
 use Rattle.switch_laws.specs.World.Act.{Comes, Expires, GoesUp, GoesDown, Reads}
 use Rattle.switch_laws.specs.Joined.{IsSwitch, Reached, Becomes, has_place}
-use Rattle.switch_laws.proofs.Places.{joined_kept, place_after}
+use Rattle.switch_laws.proofs.Places.{place_after}
 use Rattle.switch_laws.proofs.Frame.{acts_then, world_then, every_then}
 use Rattle.switch_laws.proofs.Effects.{Effect, effect, effect_right, steady, leg_on_line, leg_elsewhere}
 use Rattle.switch_laws.proofs.Effects.Effect.{nothing, closes_all, on_one}
 use Rattle.switch_laws.proofs.Coming.{After}
+use Rattle.switch_joins.proofs.Apart.{decided}
+use Rattle.switch_lines.proofs.Places.{joined_kept}
 
 -- ---- lists
 
@@ -307,3 +309,8 @@ both_cond P false as_ bs e f p q = q
 pub timer_effect : (n : ℕ) (id : TimerId) (e : PacketEnd) → EndEffect n (RunsOut id) e
 timer_effect n id e =
     both_cond (λ (acts : List Act) (y : PacketEnd). LineEffect acts n (unread e.layer) y.layer y.notes) (runs_at (quieted e) id) _ _ _ _ (expired_effect_ n id e) (no_effect n (unread e.layer))
+
+pub does_effect : (n : ℕ) (what : Happening) (e : PacketEnd) → EndEffect n what e
+does_effect n (Brings octets) e = received_effect n octets e
+does_effect n (RunsOut id) e = timer_effect n id e
+does_effect n Relinks e = relinked_effect n e

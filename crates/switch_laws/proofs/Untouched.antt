@@ -6,8 +6,8 @@ use Rattle.lapb.specs.Machine.{Link}
 use Rattle.packet_layer.specs.Layer.{Layer}
 use Rattle.packet_end.specs.PacketEnd.{PacketEnd, begun, relinked, settled}
 use Rattle.address_routes.specs.Routes.{RouteMap}
-use Rattle.switch_lines.specs.declared.channels.SwitchChannel.{SwitchChannel}
-use Rattle.switch_lines.specs.declared.channels.Joined.{Joined}
+use Rattle.switch_joins.specs.declared.channels.SwitchChannel.{SwitchChannel}
+use Rattle.switch_joins.specs.declared.join.Joined.{Joined}
 use Rattle.switch_lines.specs.Lines.{SwitchLine, changed, joined_at}
 use Rattle.switch_lines.specs.Switch.{Switch, with_end, without_notes, notes_of, quieted, acted, all_begun, to_relink, relinked_at, all_relinked, relinks_of, lines_first, rounds, finished, timer_runs, on_expiry}
 use Rattle.switch_laws.specs.World.{World, layers_of, shown_at}
@@ -19,15 +19,17 @@ use Rattle.switch_laws.specs.Stays.{IsNone, relinked_in}
 use Rattle.switch_laws.specs.Concern.{is_one_of, lines_of_event}
 use Rattle.switch_laws.specs.Events.{SwitchHolds}
 use Rattle.switch_laws.specs.Isolated.{IsUntouched, WasTooMuch, LeavesOthers, IsolationLaw}
-use Rattle.switch_laws.proofs.Lists.{decided, get_map, get_unchanged}
+use Rattle.switch_laws.proofs.Lists.{get_map}
 use Rattle.switch_laws.proofs.Staying.{IsOther, acted_beside}
 use Rattle.switch_laws.proofs.Turning.{relinked_effect, acted_right}
 use Rattle.switch_laws.proofs.Keeping.{layers_on_ends, joined_on_ends}
-use Rattle.switch_laws.proofs.Finishing.{begun_right, came, ran, none_relinks, relinks_leave}
+use Rattle.switch_laws.proofs.Finishing.{begun_right, happens, none_relinks, relinks_leave}
 use Rattle.switch_laws.proofs.Offered.{heed_all_lines}
 use Rattle.switch_laws.proofs.Concerning.{relinks_beside, none_of, before_right}
 use Rattle.switch_laws.proofs.Owing.{acted_mild, acts_phase, phase_of, event_came}
 use Rattle.switch_laws.proofs.Isolating.{SameLine, still_mute, links_of, same_links, Waits, IsLeft, rounds_left, all_mute}
+use Rattle.switch_joins.proofs.Apart.{decided}
+use Rattle.switch_lines.proofs.Places.{get_unchanged}
 
 -- ---- the link and the phase of another line, up to the relays
 
@@ -150,10 +152,13 @@ untouched n what s w b h p j e here there =
       there = ap (λ (ys : List Layer). shown_at ys j.other) (layers_on_ends settled ks (λ y. refl)) ∙ x.shown_there;
     }
 
-leaves : (n : ℕ) (what : Happening) (s : Switch) (w : World) → ActsOn n what s w → SwitchHolds s w
+leaves : (n : ℕ) (what : Happening) (s : Switch) (w : World) → SwitchHolds s w
     → LeavesOthers n what s (record { routes = s.routes; lines = finished s.routes n (Acted n what s) })
-leaves n what s w b h p j e here there = by_lines (decided (is_one_of set_up p.line)) (decided (is_one_of set_up j.other.line))
+leaves n what s w h p j e here there = by_lines (decided (is_one_of set_up p.line)) (decided (is_one_of set_up j.other.line))
   where
+    b : ActsOn n what s w
+    b = happens n what s.routes s.lines w h.joins
+
     set_up : List ℕ
     set_up = relinked_in n (does what) s
 
@@ -169,11 +174,12 @@ leaves n what s w b h p j e here there = by_lines (decided (is_one_of set_up p.l
 -- ---- an expiry, whether the timer runs or not
 
 expiry_leaves : (n : ℕ) (id : TimerId) (s : Switch) (w : World) → SwitchHolds s w → (runs : Bool) → LeavesOthers n (RunsOut id) s (if runs then on_expiry n id s else s)
-expiry_leaves n id s w h true = leaves n (RunsOut id) s w (ran n id s.routes s.lines w h.joins) h
+expiry_leaves n id s w h true = leaves n (RunsOut id) s w h
 expiry_leaves n id s w h false = λ p j e here there. inl (record { joined = e; here = refl; there = refl })
 
 pub others_are_left : IsolationLaw
 others_are_left = record {
-  frame = λ n octets s w h. leaves n (Brings octets) s w (came n octets s.routes s.lines w h.joins) h;
+  frame = λ n octets s w h. leaves n (Brings octets) s w h;
   timer = λ n id s w h. expiry_leaves n id s w h (timer_runs (slice_get s.lines n) id);
+  relinks = λ n s w h. leaves n Relinks s w h;
 }

@@ -1,5 +1,5 @@
 -- One direction of a join: the clause stays over all that the switch relays and releases, and the most moves leave nothing.
-use Rattle.std.proofs.Common.{◌≡◌, ℕ, zero, suc, ◌+◌, ◌≤◌, ◌<◌, Bool, true, false, cond, if◌then◌else◌, not, List, [], ◌∷◌, ◌++◌, length, length-append, append-nil, Option, Some, None, is_some, refl, sym, ap, subst, ◌∙◌, arith, true≢false, nat_le, nat_lt, ◌||◌, ◌==◌}
+use Rattle.std.proofs.Common.{◌≡◌, ℕ, zero, suc, ◌+◌, ◌≤◌, ◌<◌, Bool, true, false, cond, if◌then◌else◌, not, List, [], ◌∷◌, length, append-nil, Option, Some, None, is_some, refl, sym, ap, subst, ◌∙◌, arith, true≢false, nat_le, nat_lt, ◌||◌, ◌==◌}
 use Rattle.std.proofs.lemmas.Bool.{leb-false}
 use Rattle.std.proofs.lemmas.Option.{none-some, same_Some}
 use Rattle.link_timers.specs.declared.role.Role.{Role}
@@ -12,13 +12,13 @@ use Rattle.packet_layer.specs.Channel.CallState.{Transfer}
 use Rattle.packet_layer.specs.Channel.Request.{Sending, Interrupting, Taking, Releasing}
 use Rattle.packet_laws.specs.History.{Epoch}
 use Rattle.packet_laws.proofs.Numbers.{gone_is}
-use Rattle.switch_lines.specs.Direction.{Direction, releasable, released, carried_by, request_for}
+use Rattle.switch_joins.specs.Direction.{Direction, releasable, released}
 use Rattle.switch_laws.specs.Leg.{Leg, IsLeg, asked, asked_unless}
 use Rattle.switch_laws.specs.Clause.{TakenPart, SentPart, taken_part, sent_part, Passed, IsDirection}
 use Rattle.switch_laws.specs.Way.{Way, Holds, IsRight, IsStuck, freed, moved, moved_front, moved_unless, relayed}
 use Rattle.switch_laws.proofs.Directions.{carried_items, direction_interrupts, direction_carries, direction_released, releasable_within, releasable_none}
 use Rattle.switch_laws.proofs.Legs.{not_refused, none_of_or, asked_as, taking_allowed, releasing_allowed, release_allowed, arrived_within, leg_taken, leg_released, leg_sent, leg_interrupted}
-use Rattle.switch_lines.specs.Relay.{most_moves}
+use Rattle.switch_lines.specs.Relay.{carried_by, request_for, most_moves}
 
 -- ---- what a direction sees of its two legs
 

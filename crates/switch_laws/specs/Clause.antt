@@ -4,7 +4,7 @@ use Rattle.std.specs.Prelude.{◌≡◌, ℕ, ◌+◌, ◌-◌, ◌≤◌, true,
 use Rattle.epochs.specs.Item.{Item, items_of, all_items}
 use Rattle.packet_layer.specs.Packets.{Datum}
 use Rattle.packet_laws.specs.History.{Epoch}
-use Rattle.switch_lines.specs.Direction.{Direction}
+use Rattle.switch_joins.specs.Direction.{Direction}
 
 -- ---- a packet, and what it made due
 

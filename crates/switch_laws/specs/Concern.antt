@@ -6,14 +6,14 @@ use Rattle.link_timers.specs.declared.timers.TimerId.{TimerId}
 use Rattle.packet_layer.specs.Traffic.{Taken}
 use Rattle.packet_end.specs.PacketEnd as end
 use Rattle.packet_end.specs.PacketEnd.{PacketEnd}
-use Rattle.switch_lines.specs.Direction.{request_for}
-use Rattle.switch_lines.specs.declared.channels.SwitchChannel.{SwitchChannel}
-use Rattle.switch_lines.specs.declared.channels.Joined.{Joined}
+use Rattle.switch_lines.specs.Relay.{request_for}
+use Rattle.switch_joins.specs.declared.channels.SwitchChannel.{SwitchChannel}
+use Rattle.switch_joins.specs.declared.join.Joined.{Joined}
 use Rattle.switch_lines.specs.Lines.{SwitchLine, joined_at, front_at, refusal_at, places}
 use Rattle.switch_lines.specs.Relay.{relayed_from, all_relayed}
 use Rattle.switch_lines.specs.Switch.{Switch, acted, all_begun, all_relinked, offered_from, offering_from, on_frame}
-use Rattle.switch_lines.specs.Switch.{on_expiry}
-use Rattle.switch_lines.specs.Alone.{on_frame_alone, on_expiry_alone}
+use Rattle.switch_lines.specs.Switch.{on_expiry, relink}
+use Rattle.switch_lines.specs.Alone.{on_frame_alone, on_expiry_alone, relink_alone}
 use Rattle.switch_laws.specs.World.{World}
 use Rattle.switch_laws.specs.Joined.{IsSwitch, HasRelayedAll}
 use Rattle.switch_laws.specs.Stays.{relinked_in}
@@ -65,9 +65,13 @@ pub record ConcernLaw : Type 0 where
       → HasRelayedAll s.lines → RelaysItsOwn n (λ e. end.received e octets) s
   pub timer : (n : ℕ) (id : TimerId) (s : Switch) (w : World) → IsSwitch s.lines w → HasRelayedAll s.lines
       → RelaysItsOwn n (λ e. end.after_timer e id) s
+  pub relinks : (n : ℕ) (s : Switch) (w : World) → IsSwitch s.lines w → HasRelayedAll s.lines
+      → RelaysItsOwn n end.relinked s
   pub offers : (ls : List SwitchLine) (w : World) → IsSwitch ls w → HasRelayedAll ls
       → all_relayed (offered_from (length ls) 0 ls) ≡ relayed_on (offering_from 0 ls) (offered_from (length ls) 0 ls)
   pub frame_alone : (n : ℕ) (octets : List ℕ) (s : Switch) (w : World) → IsSwitch s.lines w
       → HasRelayedAll s.lines → on_frame_alone n octets s ≡ on_frame n octets s
   pub timer_alone : (n : ℕ) (id : TimerId) (s : Switch) (w : World) → IsSwitch s.lines w → HasRelayedAll s.lines
       → on_expiry_alone n id s ≡ on_expiry n id s
+  pub relinks_alone : (n : ℕ) (s : Switch) (w : World) → IsSwitch s.lines w → HasRelayedAll s.lines
+      → relink_alone n s ≡ relink n s

@@ -10,12 +10,13 @@ use Rattle.packet_layer.specs.Traffic.{Taken}
 use Rattle.packet_layer.specs.Channel.{Refusal}
 use Rattle.packet_layer.specs.Channel.Request.{Accept, Clearing, Resetting, Taking, Releasing, Confirming}
 use Rattle.address_routes.specs.Routes.{RouteMap}
-use Rattle.switch_lines.specs.Direction.{Direction, new_direction, releasable, released, covered_by, carried_by}
-use Rattle.switch_lines.specs.Direction.{request_for}
+use Rattle.switch_joins.specs.Direction.{Direction, new_direction, releasable, released, covered_by}
+use Rattle.switch_lines.specs.Relay.{carried_by}
+use Rattle.switch_lines.specs.Relay.{request_for}
 use Rattle.switch_lines.specs.Causes.{reset_cause, clear_cause, far_diagnostic}
-use Rattle.switch_lines.specs.declared.channels.SwitchChannel.{SwitchChannel}
-use Rattle.switch_lines.specs.declared.channels.Joined.{Joined}
-use Rattle.switch_lines.specs.Lines.{SwitchLine, changed, joined_at, places, front_at, refusal_at}
+use Rattle.switch_joins.specs.declared.channels.SwitchChannel.{SwitchChannel}
+use Rattle.switch_joins.specs.declared.join.Joined.{Joined}
+use Rattle.switch_lines.specs.Lines.{SwitchLine, changed, joined_at, places, front_at, refusal_at, is_trunk}
 use Rattle.switch_lines.specs.Relay.{moved, relayed, places_first, relayed_first, most_moves}
 use Rattle.switch_lines.specs.Switch.{Answer, answer, forwarded, heed, notes_of, with_end, quieted, acted, to_relink}
 use Rattle.switch_lines.specs.Switch.{relinked_at, all_relinked, may_offer, offering_from, offered_from}
@@ -71,7 +72,8 @@ abbrev pub told_joined_steps : Note → SwitchChannel → Joined → List Switch
 told_joined_steps (Connected c) p j ls = Asks j.other Accept ∷ []
 told_joined_steps (Closed c cause diagnostic reason) p j ls =
     Keeps p None ∷ Keeps j.other None
-    ∷ Asks j.other (Clearing (clear_cause reason cause) (far_diagnostic reason diagnostic)) ∷ []
+    ∷ Asks j.other
+    (Clearing (clear_cause (is_trunk (slice_get ls p.line)) reason cause) (far_diagnostic reason diagnostic)) ∷ []
 told_joined_steps (WasReset c cause diagnostic reason) p j ls =
     Asks j.other (Resetting (reset_cause reason cause) (far_diagnostic reason diagnostic))
     ∷ (anew_steps (Some j) p ++ anew_steps (joined_at ls j.other) j.other)
@@ -96,7 +98,7 @@ on_channel n c note ls =
 
 abbrev pub heed_steps : RouteMap → (line : ℕ) → Note → List SwitchLine → List Step
 heed_steps routes n (Incoming c parts) ls =
-    answered_steps (answer routes ls parts) (record { line = n; channel = c }) parts ls
+    answered_steps (answer routes ls n parts) (record { line = n; channel = c }) parts ls
 heed_steps routes n (Connected c) ls = on_channel n c (Connected c) ls
 heed_steps routes n (Closed c cause diagnostic reason) ls = on_channel n c (Closed c cause diagnostic reason) ls
 heed_steps routes n (WasReset c cause diagnostic reason) ls = on_channel n c (WasReset c cause diagnostic reason) ls

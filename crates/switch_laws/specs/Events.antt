@@ -1,6 +1,7 @@
 -- The events of a switch: from its making on, whatever happens, the laws speak of it.
 use Rattle.std.specs.Prelude.{◌≡◌, ℕ, true, false, if◌then◌else◌, List, [], ◌∷◌, slice_get, Option, Some, None}
 use Rattle.std.specs.List.{list_any}
+use Rattle.link_timers.specs.declared.role.Role.{Role}
 use Rattle.link_timers.specs.declared.role.Role.TheVariants.{Dce}
 use Rattle.link_timers.specs.declared.timers.TimerId.{TimerId}
 use Rattle.packet_layer.specs.Channel.{closed_channel}
@@ -9,19 +10,21 @@ use Rattle.address_routes.specs.Routes.{RouteMap}
 use Rattle.switch_lines.specs.declared.config.SwitchLineConfig.{SwitchLineConfig}
 use Rattle.switch_lines.specs.Lines.{SwitchLine}
 use Rattle.switch_lines.specs.Making.{IsConfig, made}
-use Rattle.switch_lines.specs.Switch.{Switch, on_frame, timer_runs, on_expiry, on_timer, restart, elapse, without_frame}
-use Rattle.switch_lines.specs.Switch.{to_relink, may_offer}
+use Rattle.switch_lines.specs.Switch.{Switch, on_frame, timer_runs, on_expiry, on_timer, relink, restart, elapse}
+use Rattle.switch_lines.specs.Switch.{without_frame, to_relink, may_offer}
 use Rattle.switch_laws.specs.Calls.{CallsAreJoined}
 use Rattle.switch_laws.specs.Offers.{HaveSmallLinks, HaveFittingLinks, EndsKeepNothingBack}
 use Rattle.switch_laws.specs.World.{World, Act, closed}
-use Rattle.switch_laws.specs.Steps.Happening.{Brings, RunsOut}
+use Rattle.switch_laws.specs.Steps.Happening.{Brings, RunsOut, Relinks}
 use Rattle.switch_laws.specs.EventSteps.{event_acts}
 use Rattle.switch_laws.specs.Joined.{IsSwitch, Reached, HasRelayedAll}
 
--- a frame comes on a line, a timer of a line expires, the switch begins anew, ticks pass, a frame of a line is taken
+-- a frame comes on a line, a timer of a line expires, the link of a line is set up anew, the switch begins anew, ticks
+-- pass, a frame of a line is taken
 pub data Event : Type 0 where
   Arrives : (line : ℕ) → (octets : List ℕ) → Event
   Expires : (line : ℕ) → TimerId → Event
+  SetsUp : (line : ℕ) → Event
   Restarts : Event
   Elapses : (ticks : ℕ) → Event
   Departs : (line : ℕ) → Event
@@ -29,6 +32,7 @@ pub data Event : Type 0 where
 abbrev pub after_event : Event → Switch → Switch
 after_event (Arrives n octets) s = on_frame n octets s
 after_event (Expires n id) s = on_timer n id s
+after_event (SetsUp n) s = relink n s
 after_event Restarts s = restart s
 after_event (Elapses ticks) s = elapse ticks s
 after_event (Departs n) s = without_frame n s
@@ -56,6 +60,7 @@ abbrev pub acts_of_event : Event → Switch → List Act
 acts_of_event (Arrives n octets) s = event_acts s.routes n (Brings octets) s.lines
 acts_of_event (Expires n id) s =
     if timer_runs (slice_get s.lines n) id then event_acts s.routes n (RunsOut id) s.lines else []
+acts_of_event (SetsUp n) s = event_acts s.routes n Relinks s.lines
 acts_of_event event s = []
 
 -- the packet layers and the legs move together, by these acts; in a restart all legs close
@@ -63,11 +68,12 @@ abbrev pub LegsMove : Event → Switch → World → List SwitchLine → World �
 LegsMove Restarts s w ms v = v ≡ (λ x. closed (w x))
 LegsMove event s w ms v = Reached (acts_of_event event s) s.lines w ms v
 
--- after a frame, and after an expiry of a timer that ran, nothing is kept back in the packet layers and at the links
--- either
+-- after a frame, after an expiry of a timer that ran, and after a link is set up anew, nothing is kept back in the
+-- packet layers and at the links either
 abbrev pub NothingIsKeptBack : Event → Switch → List SwitchLine → Type 0
 NothingIsKeptBack (Arrives n octets) s ms = EndsKeepNothingBack ms
 NothingIsKeptBack (Expires n id) s ms = timer_runs (slice_get s.lines n) id ≡ true → EndsKeepNothingBack ms
+NothingIsKeptBack (SetsUp n) s ms = EndsKeepNothingBack ms
 NothingIsKeptBack event s ms = Unit {0}
 
 pub record AfterEvent (event : Event) (s : Switch) (w : World) : Type 0 where
@@ -104,9 +110,13 @@ abbrev pub window_of : Option SwitchLineConfig → ℕ
 window_of None = 0
 window_of (Some c) = c.params.window
 
+abbrev pub role_of : Option SwitchLineConfig → Role
+role_of None = Dce
+role_of (Some c) = c.role
+
 abbrev pub new_legs : List SwitchLineConfig → World
 new_legs lines = λ x. record {
-  role = Dce;
+  role = role_of (slice_get lines x.line);
   window = window_of (slice_get lines x.line);
   channel = closed_channel;
   before = [];

@@ -1,18 +1,18 @@
--- What an event on one line of a switch leaves of the calls of other lines.
+-- What an event on one line leaves of the calls of others.
 use Rattle.std.specs.Prelude.{◌≡◌, ℕ, Bool, true, false, ◌&&◌, nat_le, ◌⊎◌, List, [], ◌∷◌, length, slice_get}
 use Rattle.std.specs.Prelude.{Option, Some, None, is_some}
 use Rattle.link_timers.specs.declared.timers.TimerId.{TimerId}
 use Rattle.packet_layer.specs.Packets.{CallParts}
 use Rattle.packet_layer.specs.Channel.{Channel, Step, requested, placing}
 use Rattle.packet_layer.specs.Layer.{Layer, channel_of, channel_given}
-use Rattle.switch_lines.specs.declared.channels.SwitchChannel.{SwitchChannel}
-use Rattle.switch_lines.specs.declared.channels.Joined.{Joined}
+use Rattle.switch_joins.specs.declared.channels.SwitchChannel.{SwitchChannel}
+use Rattle.switch_joins.specs.declared.join.Joined.{Joined}
 use Rattle.switch_lines.specs.Lines.{SwitchLine, joined_at}
-use Rattle.switch_lines.specs.Switch.{Switch, on_frame, on_timer}
+use Rattle.switch_lines.specs.Switch.{Switch, on_frame, on_timer, relink}
 use Rattle.switch_laws.specs.World.{World, Act, line_of, after_act, layers_of, shown_at}
 use Rattle.switch_laws.specs.World.Act.{Asks, Calls}
 use Rattle.switch_laws.specs.Steps.{Happening, does}
-use Rattle.switch_laws.specs.Steps.Happening.{Brings, RunsOut}
+use Rattle.switch_laws.specs.Steps.Happening.{Brings, RunsOut, Relinks}
 use Rattle.switch_laws.specs.EventSteps.{event_acts}
 use Rattle.switch_laws.specs.Stays.{relinked_in}
 use Rattle.switch_laws.specs.Concern.{is_one_of}
@@ -64,9 +64,10 @@ LeavesOthers n what old new = (p : SwitchChannel) (j : Joined) → joined_at old
     → (j.other.line ≡ n → ⊥)
     → IsUntouched p j old.lines new.lines ⊎ (WasTooMuch n what old p.line ⊎ WasTooMuch n what old j.other.line)
 
--- so it is, whatever frame comes on the line, and whatever timer of it expires
+-- so it is, whatever frame comes on the line, whatever timer of it expires, and where its link is set up anew
 pub record IsolationLaw : Type 0 where
   pub frame : (n : ℕ) (octets : List ℕ) (s : Switch) (w : World) → SwitchHolds s w
       → LeavesOthers n (Brings octets) s (on_frame n octets s)
   pub timer : (n : ℕ) (id : TimerId) (s : Switch) (w : World) → SwitchHolds s w
       → LeavesOthers n (RunsOut id) s (on_timer n id s)
+  pub relinks : (n : ℕ) (s : Switch) (w : World) → SwitchHolds s w → LeavesOthers n Relinks s (relink n s)

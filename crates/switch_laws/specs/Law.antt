@@ -1,5 +1,5 @@
 -- What holds of the relay of a switch, and of its joins, whatever its partners send.
-use Rattle.std.specs.Prelude.{◌≡◌, ℕ, ◌≤◌, Bool, true, List, [], ◌∷◌, slice_get, Some, None, is_some}
+use Rattle.std.specs.Prelude.{◌≡◌, ℕ, ◌≤◌, Bool, true, false, List, [], ◌∷◌, slice_get, Some, None, is_some}
 use Rattle.link_timers.specs.declared.role.Role.{Role}
 use Rattle.link_timers.specs.declared.timers.TimerId.{TimerId}
 use Rattle.epochs.specs.Item.{all_items}
@@ -8,11 +8,11 @@ use Rattle.packet_layer.specs.Channel.{received, unreadable}
 use Rattle.packet_layer.specs.Channel.CallState.{Transfer}
 use Rattle.packet_layer.specs.Layer.{Layer}
 use Rattle.address_routes.specs.Routes.{RouteMap, line_for}
-use Rattle.switch_lines.specs.Direction.{new_direction}
-use Rattle.switch_lines.specs.declared.channels.SwitchChannel.{SwitchChannel}
-use Rattle.switch_lines.specs.Lines.{SwitchLine, joined_at}
+use Rattle.switch_joins.specs.Direction.{new_direction}
+use Rattle.switch_joins.specs.declared.channels.SwitchChannel.{SwitchChannel}
+use Rattle.switch_lines.specs.Lines.{SwitchLine, joined_at, is_trunk}
 use Rattle.switch_lines.specs.Relay.{all_relayed, most_moves}
-use Rattle.switch_lines.specs.Switch.{Switch, answer, heed_all, on_frame, on_expiry, restart, elapse}
+use Rattle.switch_lines.specs.Switch.{Switch, answer, heed_all, on_frame, on_expiry, relink, restart, elapse}
 use Rattle.switch_lines.specs.Switch.Answer.{Joins}
 use Rattle.switch_laws.specs.Leg.{connected}
 use Rattle.switch_laws.specs.Way.{Way, Holds, IsRight, IsStuck, freed, moved, relayed}
@@ -23,7 +23,7 @@ use Rattle.switch_laws.specs.Stays.{OthersStay, relinked_in}
 use Rattle.switch_laws.specs.Offers.{HaveSmallLinks, EndsKeepNothingBack}
 use Rattle.switch_laws.specs.World.{closed, World, IsWorld, layers_of, shown_at, Act, line_of}
 use Rattle.switch_laws.specs.Steps.{acts_of_all}
-use Rattle.switch_laws.specs.Steps.Happening.{Brings, RunsOut}
+use Rattle.switch_laws.specs.Steps.Happening.{Brings, RunsOut, Relinks}
 use Rattle.switch_laws.specs.EventSteps.{all_relayed_steps, heed_all_steps, event_acts}
 use Rattle.switch_laws.specs.Joined.{IsSwitch, Becomes, HasRelayedAll, HasActed, IsTold, notes_made, has_place}
 
@@ -59,7 +59,7 @@ pub record JoinLaw : Type 0 where
 
 -- all joins: they hold over the relay on all lines, after which nothing is kept back, and over all that a line brings,
 -- once its notes are heeded: packets and what cannot be read, timers, sessions of the link that begin and end. A call
--- that comes in goes on to the line of the longest prefix of its called address
+-- that comes in goes on to the line of the longest prefix of its called address, and never back over a trunk
 pub record SwitchLaw : Type 0 where
   pub begins : (ls : List SwitchLine) (w : World) → IsWorld (layers_of ls) w
       → ((x : SwitchChannel) → is_some (shown_at (layers_of ls) x) ≡ true → has_place ls x ≡ true)
@@ -71,8 +71,10 @@ pub record SwitchLaw : Type 0 where
       → slice_get (layers_of ls) (line_of act) ≡ Some l → HasActed act ls ms → IsSwitch ls w
       → Becomes (act ∷ acts_of_all (heed_all_steps routes (line_of act) (notes_made act (Some l)) ms) ms) ls w
       (heed_all routes (line_of act) (notes_made act (Some l)) ms)
-  pub routes : (routes : RouteMap) (ls : List SwitchLine) (parts : CallParts) (q : SwitchChannel)
-      → answer routes ls parts ≡ Joins q → line_for routes parts.called ≡ Some q.line
+  pub routes : (routes : RouteMap) (ls : List SwitchLine) (n : ℕ) (parts : CallParts) (q : SwitchChannel)
+      → answer routes ls n parts ≡ Joins q → line_for routes parts.called ≡ Some q.line
+  pub not_back : (routes : RouteMap) (ls : List SwitchLine) (n : ℕ) (parts : CallParts) (q : SwitchChannel)
+      → answer routes ls n parts ≡ Joins q → q.line ≡ n → is_trunk (slice_get ls n) ≡ false
 
 -- whole events: after each of them, by the acts that it is, all joins hold, and nothing is kept back, on legs, in
 -- packet layers and at links with a k of at most 7; each channel that has a call is joined; a join of two other lines
@@ -86,18 +88,27 @@ pub record TurnLaw : Type 0 where
       → Becomes (event_acts s.routes n (RunsOut id) s.lines) s.lines w (on_expiry n id s).lines
   pub timer_keeps_nothing_back : (n : ℕ) (id : TimerId) (s : Switch) (w : World) → IsSwitch s.lines w
       → HasRelayedAll (on_expiry n id s).lines
+  pub relinks : (n : ℕ) (s : Switch) (w : World) → IsSwitch s.lines w
+      → Becomes (event_acts s.routes n Relinks s.lines) s.lines w (relink n s).lines
+  pub relink_keeps_nothing_back : (n : ℕ) (s : Switch) (w : World) → IsSwitch s.lines w
+      → HasRelayedAll (relink n s).lines
   pub frame_offers : (n : ℕ) (octets : List ℕ) (s : Switch) → HaveSmallLinks s.lines
       → EndsKeepNothingBack (on_frame n octets s).lines
   pub timer_offers : (n : ℕ) (id : TimerId) (s : Switch) → HaveSmallLinks s.lines
       → EndsKeepNothingBack (on_expiry n id s).lines
+  pub relink_offers : (n : ℕ) (s : Switch) → HaveSmallLinks s.lines → EndsKeepNothingBack (relink n s).lines
   pub frame_joins_calls : (n : ℕ) (octets : List ℕ) (s : Switch) (w : World) → IsSwitch s.lines w
       → CallsAreJoined s.lines → CallsAreJoined (on_frame n octets s).lines
   pub timer_joins_calls : (n : ℕ) (id : TimerId) (s : Switch) (w : World) → IsSwitch s.lines w
       → CallsAreJoined s.lines → CallsAreJoined (on_expiry n id s).lines
+  pub relink_joins_calls : (n : ℕ) (s : Switch) (w : World) → IsSwitch s.lines w → CallsAreJoined s.lines
+      → CallsAreJoined (relink n s).lines
   pub frame_leaves_others : (n : ℕ) (octets : List ℕ) (s : Switch) (w : World) → IsSwitch s.lines w
       → OthersStay (n ∷ relinked_in n (λ e. end.received e octets) s) s.lines (on_frame n octets s).lines
   pub timer_leaves_others : (n : ℕ) (id : TimerId) (s : Switch) (w : World) → IsSwitch s.lines w
       → OthersStay (n ∷ relinked_in n (λ e. end.after_timer e id) s) s.lines (on_expiry n id s).lines
+  pub relink_leaves_others : (n : ℕ) (s : Switch) (w : World) → IsSwitch s.lines w
+      → OthersStay (n ∷ relinked_in n end.relinked s) s.lines (relink n s).lines
   pub restarts : (s : Switch) (w : World) → IsSwitch s.lines w → IsSwitch (restart s).lines (λ x. closed (w x))
   pub restart_ends_calls : (s : Switch) (w : World) → IsSwitch s.lines w → (p : SwitchChannel)
       → HasCall (restart s).lines p → ⊥

@@ -15,5 +15,6 @@ pub mod Pairs
 pub mod Concern
 pub mod Law
 pub mod Run
+pub mod TrunkRun
 pub mod Isolated
 pub mod Sent

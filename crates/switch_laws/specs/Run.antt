@@ -8,7 +8,7 @@ use Rattle.packet_laws.specs.History.{empty_epoch}
 use Rattle.std.specs.FinMap.{empty}
 use Rattle.packet_end.specs.PacketEnd.{made}
 use Rattle.packet_end.specs.declared.params.EndParams.{EndParams}
-use Rattle.switch_lines.specs.Direction.{new_direction}
+use Rattle.switch_joins.specs.Direction.{new_direction}
 use Rattle.switch_lines.specs.declared.config.SwitchLineConfig.{SwitchLineConfig}
 use Rattle.switch_lines.specs.Lines.{SwitchLine}
 use Rattle.switch_lines.specs.Making.{IsConfig, made as made_switch}
@@ -54,7 +54,7 @@ abbrev pub parameters : EndParams
 parameters = record { k = 7; n2 = 3; channels = 2; window = 2; standing = false }
 
 abbrev pub line : (address : List ℕ) → SwitchLine
-line address = record { end = made Dce parameters; address = address; joined = None ∷ None ∷ [] }
+line address = record { end = made Dce parameters; address = Some address; joined = None ∷ None ∷ [] }
 
 abbrev pub two_lines : List SwitchLine
 two_lines = line (1 ∷ []) ∷ line (2 ∷ []) ∷ []
@@ -65,7 +65,7 @@ no_calls = λ x. record { role = Dce; window = 2; channel = closed_channel; befo
 -- ---- the same two lines as they are made, and a call with a facility that comes on line 0
 
 abbrev pub config : (address : List ℕ) → SwitchLineConfig
-config address = record { params = parameters; address = address }
+config address = record { params = parameters; role = Dce; address = Some address }
 
 abbrev pub configs : List SwitchLineConfig
 configs = config (1 ∷ []) ∷ config (2 ∷ []) ∷ []

@@ -1,4 +1,4 @@
--- What an event of a switch sends on each of its lines: the frames of its steps, of which none is lost.
+-- What an event of a switch sends: on each line the frames of its steps, of which none is lost.
 use Rattle.std.specs.Prelude.{◌≡◌, ℕ, ◌≤◌, true, ◌==◌, if◌then◌else◌, List, [], ◌∷◌, ◌++◌, length, slice_get}
 use Rattle.std.specs.Prelude.{Option, Some, None}
 use Rattle.link_timers.specs.declared.timers.TimerId.{TimerId}
@@ -6,7 +6,7 @@ use Rattle.lapb.specs.Machine.{Octets}
 use Rattle.packet_end.specs.PacketEnd.{PacketEnd}
 use Rattle.packet_end.specs.Sending.{answer_frames, timer_frames, relink_frames, last_frames}
 use Rattle.switch_lines.specs.Lines.{SwitchLine}
-use Rattle.switch_lines.specs.Switch.{Switch, frames_on, timer_runs, on_frame, on_timer}
+use Rattle.switch_lines.specs.Switch.{Switch, frames_on, timer_runs, on_frame, on_timer, relink}
 use Rattle.switch_laws.specs.Steps.{Happening, Step, lines_after}
 use Rattle.switch_laws.specs.Steps.Happening.{Brings, RunsOut, Relinks}
 use Rattle.switch_laws.specs.Steps.Step.{Happens, Settles}
@@ -41,9 +41,10 @@ pub record AreAllSent (n : ℕ) (what : Happening) (old new : Switch) : Type 0 w
       ≡ all_frames m (event_steps old.routes n what old.lines) old.lines
   pub most : (m : ℕ) → length (all_frames m (event_steps old.routes n what old.lines) old.lines) ≤ 9
 
--- so it is, whatever frame comes, and whatever timer that runs expires
+-- so it is, whatever frame comes, whatever timer that runs expires, and where a link is set up anew
 pub record SentLaw : Type 0 where
   pub frame : (n : ℕ) (octets : List ℕ) (s : Switch) (w : World) → SwitchHolds s w
       → AreAllSent n (Brings octets) s (on_frame n octets s)
   pub timer : (n : ℕ) (id : TimerId) (s : Switch) (w : World) → SwitchHolds s w
       → timer_runs (slice_get s.lines n) id ≡ true → AreAllSent n (RunsOut id) s (on_timer n id s)
+  pub relinks : (n : ℕ) (s : Switch) (w : World) → SwitchHolds s w → AreAllSent n Relinks s (relink n s)

@@ -1,4 +1,5 @@
--- The steps of an event of a switch at the ends of its lines, and the acts of their packet layers that each step is.
+-- The steps of an event of a switch: what is done at the ends of its lines, and the acts of their packet layers that
+-- each step is.
 use Rattle.std.specs.Prelude.{ℕ, zero, suc, if◌then◌else◌, List, [], ◌∷◌, ◌++◌, map, slice_get, Option, Some, None}
 use Rattle.std.specs.Prelude.{is_some}
 use Rattle.link_timers.specs.declared.timers.TimerId.{TimerId}
@@ -14,8 +15,8 @@ use Rattle.packet_layer.specs.Layer.{Timer, next_packet}
 use Rattle.packet_layer.specs.Events.{timer_named}
 use Rattle.packet_end.specs.PacketEnd as end
 use Rattle.packet_end.specs.PacketEnd.{PacketEnd, runs_at, with_next, all_offered, begun, settled, elapsed}
-use Rattle.switch_lines.specs.declared.channels.SwitchChannel.{SwitchChannel}
-use Rattle.switch_lines.specs.declared.channels.Joined.{Joined}
+use Rattle.switch_joins.specs.declared.channels.SwitchChannel.{SwitchChannel}
+use Rattle.switch_joins.specs.declared.join.Joined.{Joined}
 use Rattle.switch_lines.specs.Lines.{SwitchLine, changed, with_joined, ask}
 use Rattle.switch_lines.specs.Switch.{with_end, quieted, without_notes, place_call}
 use Rattle.switch_laws.specs.World.{Act}

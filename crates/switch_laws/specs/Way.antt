@@ -4,7 +4,8 @@ use Rattle.packet_layer.specs.Traffic.{Taken, front, interrupt_pending}
 use Rattle.packet_layer.specs.Channel.{Refusal, refusal}
 use Rattle.packet_layer.specs.Channel.Request.{Taking, Releasing, Confirming}
 use Rattle.packet_layer.specs.Channel.CallState.{Transfer}
-use Rattle.switch_lines.specs.Direction.{Direction, releasable, released, carried_by, covered_by, request_for}
+use Rattle.switch_joins.specs.Direction.{Direction, releasable, released, covered_by}
+use Rattle.switch_lines.specs.Relay.{carried_by, request_for}
 use Rattle.switch_laws.specs.Leg.{Leg, IsLeg, asked}
 use Rattle.switch_laws.specs.Clause.{Passed, IsDirection, taken_part, sent_part}
 

@@ -14,7 +14,7 @@ use Rattle.packet_layer.specs.Layer.{unread, runs, link_up, link_down, request, 
 use Rattle.packet_layer.specs.Layer.Phase.{PacketReady}
 use Rattle.packet_layer.specs.Layer.Timer.{RestartTimer, CallTimer, ResetTimer, ClearTimer}
 use Rattle.packet_laws.specs.History.{empty_epoch}
-use Rattle.switch_lines.specs.declared.channels.SwitchChannel.{SwitchChannel}
+use Rattle.switch_joins.specs.declared.channels.SwitchChannel.{SwitchChannel}
 use Rattle.switch_lines.specs.Lines.{SwitchLine, changed}
 use Rattle.switch_laws.specs.Leg.{Leg, IsLeg, asked, stepped, heard, misheard, gave}
 

@@ -6,6 +6,7 @@ ghost use Rattle.switch_laws.specs.Law.{JoinLaw, RelayLaw, SwitchLaw, TurnLaw};
 ghost use Rattle.switch_laws.specs.Pairs.{PairLaw};
 ghost use Rattle.switch_laws.specs.Run.{RunLaw};
 ghost use Rattle.switch_laws.specs.Sent.{SentLaw};
+ghost use Rattle.switch_laws.specs.TrunkRun.{TrunkRunLaw};
 
 /// One direction of a join, over the definitions of the layer and of the switch alone: what the switch sends on the far
 /// leg is what it takes on the near leg, item by item, and packet by packet on lines of one size; a packet with D = 1 is
@@ -29,14 +30,14 @@ pub fn switch_law()
     ensures { SwitchLaw }
 {}
 
-/// What becomes of a call that comes in, with the causes for which it is cleared in their order; and a channel has a
-/// call exactly while it is joined, and then the other leg has one too.
+/// What becomes of a call that comes in, with the causes for which it is cleared in their order, and with which calling
+/// address it goes on; and a channel has a call exactly while it is joined, and then the other leg has one too.
 pub fn pair_law()
     ensures { PairLaw }
 {}
 
-/// Whole events of a switch, whatever octets come on its lines: all joins hold after each of them, and nothing waits on
-/// a leg that the other leg takes.
+/// Whole events of a switch, whatever octets come on its lines, and where it sets a link up anew: all joins hold after
+/// each of them, and nothing waits on a leg that the other leg takes.
 pub fn turn_law()
     ensures { TurnLaw }
 {}
@@ -47,7 +48,7 @@ pub fn concern_law()
     ensures { ConcernLaw }
 {}
 
-/// What comes on one line of a switch leaves each join of two other lines untouched, with what the switch keeps for it
+/// What happens on one line of a switch leaves each join of two other lines untouched, with what the switch keeps for it
 /// and the channels of both its legs; or one of the two lines was set up anew in the event, and there a fifth packet
 /// came to be owed.
 pub fn isolation_law()
@@ -56,7 +57,7 @@ pub fn isolation_law()
 
 /// What waits to go out on each line after an event is the frames of the event's steps, all of them and in order: the
 /// answer to what happened there, what is sent if the link is set up anew, and what goes at the end. They are nine at
-/// most, for no link is set up anew twice in an event.
+/// most, for at its end no link is set up anew twice.
 pub fn sent_law()
     ensures { SentLaw }
 {}
@@ -67,7 +68,9 @@ pub fn switch_events_law()
     ensures { EventLaw }
 {}
 
-/// A run of one join, and a switch of two lines without calls: they meet what the laws above ask for.
+/// A run of one join, and a switch of two lines without calls; and a run of a switch with a trunk at which it is the
+/// DTE: they meet what the laws above ask for.
 pub fn run_law()
-    ensures { RunLaw }
+    ensures join { RunLaw }
+    ensures trunk { TrunkRunLaw }
 {}

@@ -6,11 +6,10 @@ use Rattle.packet_layer.specs.Packets.Note.{Incoming, Connected, Closed, WasRese
 use Rattle.packet_layer.specs.Traffic.{Taken}
 use Rattle.packet_layer.specs.Channel.{Refusal}
 use Rattle.address_routes.specs.Routes.{RouteMap}
-use Rattle.switch_lines.specs.Direction.{request_for}
-use Rattle.switch_lines.specs.declared.channels.SwitchChannel.{SwitchChannel}
-use Rattle.switch_lines.specs.declared.channels.Joined.{Joined}
+use Rattle.switch_joins.specs.declared.channels.SwitchChannel.{SwitchChannel}
+use Rattle.switch_joins.specs.declared.join.Joined.{Joined}
 use Rattle.switch_lines.specs.Lines.{SwitchLine, changed, joined_at, front_at, refusal_at}
-use Rattle.switch_lines.specs.Relay.{moved, relayed, places_first, relayed_first, most_moves}
+use Rattle.switch_lines.specs.Relay.{request_for, moved, relayed, places_first, relayed_first, most_moves}
 use Rattle.switch_lines.specs.Switch.{Answer, answer, heed, notes_of, with_end, quieted, to_relink, relinked_at, all_relinked, may_offer, offering_from, offered_from, lines_first}
 use Rattle.switch_lines.specs.Switch.Answer.{Clears, Joins}
 use Rattle.switch_laws.specs.Steps.{does, Step, lines_after}
@@ -84,7 +83,7 @@ channel-later : (n c : ℕ) (note : Note) (ls : List SwitchLine) → AreLater (o
 channel-later n c note ls = told-later (joined_at ls (record { line = n; channel = c })) note (record { line = n; channel = c }) ls
 
 heed-later : (routes : RouteMap) (n : ℕ) (note : Note) (ls : List SwitchLine) → AreLater (heed_steps routes n note ls)
-heed-later routes n (Incoming c parts) ls = answered-later (answer routes ls parts) (record { line = n; channel = c }) parts ls
+heed-later routes n (Incoming c parts) ls = answered-later (answer routes ls n parts) (record { line = n; channel = c }) parts ls
 heed-later routes n (Connected c) ls = channel-later n c (Connected c) ls
 heed-later routes n (Closed c cause diagnostic reason) ls = channel-later n c (Closed c cause diagnostic reason) ls
 heed-later routes n (WasReset c cause diagnostic reason) ls = channel-later n c (WasReset c cause diagnostic reason) ls

@@ -2,7 +2,6 @@
 use Rattle.std.specs.Prelude.{◌≡◌, ℕ, zero, suc, Bool, true, false, if◌then◌else◌, List, [], ◌∷◌, length, map, drop, slice_get, Option, Some, None}
 use Rattle.std.proofs.Common.{refl, sym, ap, subst, ◌∙◌}
 use Rattle.std.proofs.lemmas.Option.{none-some, same_Some}
-use Rattle.link_timers.specs.declared.role.Role.TheVariants.{Dce}
 use Rattle.link_timers.specs.declared.timers.TimerId.{TimerId}
 use Rattle.lapb.specs.Machine.{Octets}
 use Rattle.packet_end.specs.PacketEnd.{PacketEnd, elapsed, without_first_frame}
@@ -17,10 +16,10 @@ use Rattle.switch_lines.specs.Lines.{SwitchLine, changed}
 use Rattle.switch_lines.specs.Making.{made_line}
 use Rattle.switch_lines.specs.Switch.{Switch, with_end, raised, to_relink, acted, all_begun, finished, timer_runs, on_expiry, without_joins}
 use Rattle.switch_laws.specs.Steps.{Happening, does}
-use Rattle.switch_laws.specs.Steps.Happening.{Brings, RunsOut}
+use Rattle.switch_laws.specs.Steps.Happening.{Brings, RunsOut, Relinks}
 use Rattle.switch_laws.proofs.Relinking.{finished_end}
 use Rattle.switch_record_laws.specs.Kept.{all_frames_out}
-use Rattle.switch_quiet_laws.specs.Quiet.{AreQuiet, IsQuietSwitch, drained, all_gone_out, GoneOutLaw, FrameQuietLaw, TimerQuietLaw, RestartQuietLaw, TimeQuietLaw, OutQuietLaw, MakingQuietLaw}
+use Rattle.switch_quiet_laws.specs.Quiet.{AreQuiet, IsQuietSwitch, drained, all_gone_out, GoneOutLaw, FrameQuietLaw, TimerQuietLaw, RelinkQuietLaw, RestartQuietLaw, TimeQuietLaw, OutQuietLaw, MakingQuietLaw}
 use Rattle.switch_quiet_laws.proofs.Ends.{IsRead, EndStays}
 use Rattle.switch_quiet_laws.proofs.Lines.{LinesStay}
 use Rattle.switch_quiet_laws.proofs.Events.{event-stays}
@@ -69,6 +68,9 @@ event-quiet routes n what ls q =
 pub frame-quiet : FrameQuietLaw
 frame-quiet n octets s q = event-quiet s.routes n (Brings octets) s.lines q
 
+pub relink-quiet : RelinkQuietLaw
+relink-quiet n s q = event-quiet s.routes n Relinks s.lines q
+
 abbrev KeepsQuiet : (SwitchLine → SwitchLine) → Type 0
 KeepsQuiet f = (l : SwitchLine) → IsQuiet (Host l.end) → IsQuiet (Host (f l).end)
 
@@ -98,7 +100,7 @@ pub restart-quiet : RestartQuietLaw
 restart-quiet s = all-quiet without_joins s.lines (λ l. out-quiet (without_joins l) (record { notes = refl; unread = refl }) refl (restarted-apart l.end))
 
 pub made-quiet : MakingQuietLaw
-made-quiet routes lines = all-quiet made_line lines (λ c. out-quiet (made_line c) (record { notes = refl; unread = refl }) refl (made-apart Dce c.params))
+made-quiet routes lines = all-quiet made_line lines (λ c. out-quiet (made_line c) (record { notes = refl; unread = refl }) refl (made-apart c.role c.params))
 
 -- ---- time, and a frame that is taken
 

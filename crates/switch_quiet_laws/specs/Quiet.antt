@@ -8,7 +8,7 @@ use Rattle.node_laws.specs.Quiet.{IsQuiet}
 use Rattle.switch_lines.specs.declared.config.SwitchLineConfig.{SwitchLineConfig}
 use Rattle.switch_lines.specs.Lines.{SwitchLine}
 use Rattle.switch_lines.specs.Making.{made}
-use Rattle.switch_lines.specs.Switch.{Switch, on_frame, on_timer, restart, elapse, without_frame}
+use Rattle.switch_lines.specs.Switch.{Switch, on_frame, on_timer, relink, restart, elapse, without_frame}
 use Rattle.switch_record_laws.specs.Kept.{all_frames_out}
 use Rattle.switch_record_laws.specs.Tied.{gone_out}
 
@@ -44,6 +44,9 @@ FrameQuietLaw = (n : ℕ) (octets : Octets) (s : Switch) → IsQuietSwitch s →
 abbrev pub TimerQuietLaw : Type 0
 TimerQuietLaw = (n : ℕ) (id : TimerId) (s : Switch) → IsQuietSwitch s → IsQuietSwitch (drained (on_timer n id s))
 
+abbrev pub RelinkQuietLaw : Type 0
+RelinkQuietLaw = (n : ℕ) (s : Switch) → IsQuietSwitch s → IsQuietSwitch (drained (relink n s))
+
 -- from any state
 abbrev pub RestartQuietLaw : Type 0
 RestartQuietLaw = (s : Switch) → IsQuietSwitch (drained (restart s))
@@ -54,7 +57,7 @@ TimeQuietLaw = (ticks : ℕ) (s : Switch) → IsQuietSwitch s → IsQuietSwitch 
 abbrev pub OutQuietLaw : Type 0
 OutQuietLaw = (n : ℕ) (s : Switch) → IsQuietSwitch s → IsQuietSwitch (without_frame n s)
 
--- ---- the making, of any lines
+-- ---- the making, of any lines, whatever the switch's role on each
 
 abbrev pub MakingQuietLaw : Type 0
 MakingQuietLaw = (routes : RouteMap) (lines : List SwitchLineConfig) → IsQuietSwitch (drained (made routes lines))

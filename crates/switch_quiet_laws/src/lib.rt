@@ -1,8 +1,8 @@
 //! That a switch is quiet between two events, whatever its lines bring, and that what is due at it comes to an end.
 #![tactic(auto)]
 
-ghost use Rattle.switch_quiet_laws.specs.Quiet.{FrameQuietLaw, TimerQuietLaw, RestartQuietLaw, TimeQuietLaw};
-ghost use Rattle.switch_quiet_laws.specs.Quiet.{OutQuietLaw, MakingQuietLaw, GoneOutLaw};
+ghost use Rattle.switch_quiet_laws.specs.Quiet.{FrameQuietLaw, TimerQuietLaw, RelinkQuietLaw, RestartQuietLaw};
+ghost use Rattle.switch_quiet_laws.specs.Quiet.{TimeQuietLaw, OutQuietLaw, MakingQuietLaw, GoneOutLaw};
 ghost use Rattle.switch_quiet_laws.specs.Due.{SwitchFewerLaw};
 ghost use Rattle.switch_quiet_laws.specs.Run.{RunLaw};
 
@@ -11,6 +11,7 @@ ghost use Rattle.switch_quiet_laws.specs.Run.{RunLaw};
 pub fn switch_quiet_law()
     ensures frames { FrameQuietLaw }
     ensures timers { TimerQuietLaw }
+    ensures relinks { RelinkQuietLaw }
     ensures restarts { RestartQuietLaw }
     ensures elapses { TimeQuietLaw }
 
@@ -29,7 +30,8 @@ pub fn switch_due_law()
     ensures { SwitchFewerLaw }
 {}
 
-/// T1 expires on a line of a switch of two lines, and a link is set up on the other one.
+/// T1 expires on a line of a switch of two lines, and a link is set up on the other one; of a trunk at which a switch is
+/// the DTE T1 expires too, and its link is set up anew.
 pub fn quiet_run_law()
     ensures { RunLaw }
 {}

@@ -1,10 +1,11 @@
-use Rattle.switch_quiet_laws.proofs.Quieting.{frame-quiet, timer-quiet, restart-quiet, time-quiet, out-keeps, gone-out, made-quiet}
+use Rattle.switch_quiet_laws.proofs.Quieting.{frame-quiet, timer-quiet, relink-quiet, restart-quiet, time-quiet, out-keeps, gone-out, made-quiet}
 use Rattle.switch_quiet_laws.proofs.switch_quiet_law.Goals as goal
 
 pub returns : goal.returns
 returns c = record {
   frames = frame-quiet;
   timers = timer-quiet;
+  relinks = relink-quiet;
   restarts = restart-quiet;
   elapses = time-quiet;
   out = out-keeps;
