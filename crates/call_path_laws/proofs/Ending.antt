@@ -9,7 +9,7 @@ use Rattle.call_records.specs.Records.{RecordValue, HopValue, PairValue}
 use Rattle.call_records.specs.Book.{Book, slot_at}
 use Rattle.call_records.specs.Register.{book_at}
 use Rattle.book_laws.specs.Headline.{HasCallee}
-use Rattle.book_laws.proofs.Basics.{get_there, twice}
+use Rattle.book_laws.proofs.Basics.{get_there}
 use Rattle.book_laws.proofs.Placed.{pair_is}
 use Rattle.register_laws.specs.Seen.{positions, IsNumbered, renumbered, LineIsSeen}
 use Rattle.register_laws.proofs.Steps.{same_place}
@@ -18,8 +18,8 @@ use Rattle.register_laws.proofs.Seeing.{line_within, present_seen, came_seen, Of
 use Rattle.register_laws.proofs.Promising.{Numbered, numbered, paired_seen}
 use Rattle.register_laws.proofs.Having.{records_seen, callee_seen}
 use Rattle.call_path_laws.specs.World.{Origin, placing, World, Plan}
-use Rattle.call_path_laws.specs.Seen.{IsJoined, kind, numbers, Begins, BeginsIf, PresentIsSeen, CallerIsSeen, SlotIsSeen, Way, shown, RecordIsShown, PairCame, Seen}
-use Rattle.call_path_laws.specs.Seen.Way.{here, onward}
+use Rattle.call_path_laws.specs.Seen.{kind, numbers, Begins, BeginsIf, PresentIsSeen, CallerIsSeen, SlotIsSeen, Way, shown, RecordIsShown, PairCame, Seen}
+use Rattle.call_path_laws.specs.Seen.Way.{here}
 use Rattle.call_path_laws.specs.Lines.{LinesSeen, OriginsSeen}
 use Rattle.call_path_laws.specs.Ends.{IsOf, IsOfPresent, EndIsSeen, IsOfUser, EndLaw, UserLaw, OpenLaw}
 use Rattle.call_path_laws.proofs.Ways.{get_map, one_first, numbered_user}
@@ -104,25 +104,15 @@ module _ (plan : Plan) (w : World) (s : Seen plan w) where
 
   -- ---- a call that a user placed, and that goes on from a switch
 
-  -- the call came in at the other end of the line
-  pub callee_origin : (line : ℕ) (role : Role) (channel : ℕ) → line < length w.whole.lines → (h : HasCallee (book_at line w.whole) role channel) → (o : Origin) × ((slice_get w.origins h.callee ≡ Some o) × ((o.caller ≡ Some h.caller) × ((o.line ≡ line) × (o.role ≡ other_of role))))
-  callee_origin line role channel less h =
-      let c : PairCame plan w.origins s.kinds h.place (record { caller = h.caller; callee = h.callee }) = s.pairs.came h.place (record { caller = h.caller; callee = h.callee }) h.there in
-      let placer : placing line role ≡ placing c.origin.line (other_of c.origin.role) =
-      same_Some (placing line role) (placing c.origin.line (other_of c.origin.role)) (sym (((s.sides line role less).slot channel).placed_origin h.caller h.placed) ∙ s.records.callers h.callee h.caller c.origin c.there c.came) in
-      (c.origin, (c.there, (c.came, (ap (λ (o : Origin). o.line) (sym placer), sym (twice c.origin.role) ∙ ap (λ (o : Origin). other_of o.role) (sym placer)))))
-
-  -- where the one with which it goes on was accepted by a user, it is in a pair
-  pub placed_onward : (line : ℕ) (role : Role) (channel : ℕ) → line < length w.whole.lines → plan.has_user line role ≡ true → plan.has_user line (other_of role) ≡ false → (h : HasCallee (book_at line w.whole) role channel) → (far place callee : ℕ) → IsJoined w.joins h.callee far
+  -- if one on its way onward was accepted by a user, it is in a pair
+  pub placed_along : (line : ℕ) (role : Role) (channel : ℕ) → line < length w.whole.lines → plan.has_user line role ≡ true → plan.has_user line (other_of role) ≡ false → (h : HasCallee (book_at line w.whole) role channel) → (far place callee : ℕ) → Way w.origins w.joins h.caller far
       → slice_get w.whole.pairs place ≡ Some (record { caller = far; callee = callee }) → (o : Origin) → slice_get w.origins callee ≡ Some o → plan.has_user o.line o.role ≡ true → HasCallee (book_at line w.register) role channel
-  placed_onward line role channel less user switch h far place callee joined there o made accepts =
+  placed_along line role channel less user switch h far place callee way there o made accepts =
       let pair : PairValue = record { caller = far; callee = callee } in
       let slot : SlotIsSeen plan w.origins w.joins line role (slot_at role channel (book_at line w.register)) (slot_at role channel (book_at line w.whole)) = (s.sides line role less).slot channel in
       let present : IsNumbered (numbers plan w.origins) (slot_at role channel (book_at line w.register)).present (slot_at role channel (book_at line w.whole)).present = subst (λ (u : Bool). PresentIsSeen u (numbers plan w.origins) (slot_at role channel (book_at line w.register)).present (slot_at role channel (book_at line w.whole)).present) user slot.present in
       let n : StandsFor (numbers plan w.origins) (slot_at role channel (book_at line w.register)).present h.caller = stands_for (numbers plan w.origins) (slot_at role channel (book_at line w.register)).present (slot_at role channel (book_at line w.whole)).present h.caller h.present present in
       let held : Beginning (slot_at role channel (book_at line w.register)).placed h.caller = beginning (slot_at role channel (book_at line w.register)).placed (slot_at role channel (book_at line w.whole)).placed h.caller h.placed slot.placed in
-      let came = callee_origin line role channel less h in
-      let way : Way w.origins w.joins h.caller far = onward h.callee far here (record { origin = came.0; there = came.1.0; came = came.1.1.0 }) joined in
       let c : PairCame plan w.origins s.kinds place pair = s.pairs.came place pair there in
       let its : c.origin ≡ o = same_Some c.origin o (sym c.there ∙ made) in
       let p : PairFor plan w s place pair = pair_for plan w s place pair there c (ap (λ (x : Origin). plan.has_user x.line x.role) its ∙ accepts) in

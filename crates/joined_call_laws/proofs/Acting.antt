@@ -21,8 +21,8 @@ use Rattle.call_records.specs.Book.{Book, Slot, slot_at, told, all_told, closes}
 use Rattle.call_records.specs.Writes.Write.{Told}
 use Rattle.book_laws.proofs.Basics.{number_is}
 use Rattle.book_laws.proofs.Writing.{slot_changed}
-use Rattle.switch_lines.specs.declared.channels.SwitchChannel.{SwitchChannel}
-use Rattle.switch_lines.specs.declared.channels.Joined.{Joined}
+use Rattle.switch_joins.specs.declared.channels.SwitchChannel.{SwitchChannel}
+use Rattle.switch_joins.specs.declared.join.Joined.{Joined}
 use Rattle.switch_lines.specs.Lines.{SwitchLine, same_place, changed, joined_at, ask}
 use Rattle.switch_lines.specs.Switch.{heed, heed_all, with_end, without_notes, quieted}
 use Rattle.switch_laws.specs.Leg.{Leg, stepped}
@@ -35,13 +35,13 @@ use Rattle.switch_laws.specs.EventSteps.{told_steps, heed_steps, heed_all_steps}
 use Rattle.switch_laws.proofs.Coming.{at, never_both}
 use Rattle.switch_laws.proofs.Relaying.{waiting_before}
 use Rattle.switch_lines.specs.Relay.{told_of}
-use Rattle.switch_laws.proofs.Lists.{decided, place_is, same_as}
+use Rattle.switch_laws.proofs.Lists.{same_as}
 use Rattle.switch_laws.proofs.Leading.{heed_leads}
 use Rattle.switch_laws.proofs.Layers.{seen, opened_shown, world_acts_all}
 use Rattle.switch_laws.proofs.Outcomes.{AreOf, Outcome}
 use Rattle.switch_laws.proofs.Outcomes.Outcome.{ends, connects, waits, goes_on}
 use Rattle.switch_laws.proofs.Telling.{GoesOn}
-use Rattle.switch_laws.proofs.Places.{joined_kept, place_after, some_there}
+use Rattle.switch_laws.proofs.Places.{place_after, some_there}
 use Rattle.switch_laws.proofs.Effects.{Effect, IsStep}
 use Rattle.switch_laws.proofs.Effects.Effect.{nothing, closes_all, on_one}
 use Rattle.switch_laws.proofs.SettingUp.{pair_call}
@@ -67,6 +67,8 @@ use Rattle.switch_record_laws.specs.Kept.{Partners, AreKept}
 use Rattle.joined_call_laws.proofs.Closing.{Side, IsAbsent, TouchesAt, touched_slot, SameEpochs, epochs_itself, epochs_then, relayed_same, closed_there, closed_absent}
 use Rattle.joined_call_laws.proofs.Telling.{InHand, Marks, Told as ToldOne, closed_told, IsClosing, closings_told, marks_calls}
 use Rattle.joined_call_laws.proofs.Answering.{alone_walk}
+use Rattle.switch_joins.proofs.Apart.{decided, place_is}
+use Rattle.switch_lines.proofs.Places.{joined_kept}
 
 -- ---- what notes write
 
@@ -285,7 +287,7 @@ module _ (routes : RouteMap) (n : ℕ) (what : Happening) (ls : List SwitchLine)
 
   -- ---- with the joined calls
 
-  module _ (cs : List JoinedCall) (a : AreCalls ls bs cs) (given : List (List ℕ)) (same_lines : addresses ls ≡ given) (R : Books → List JoinedCall → Type 0) (keeps : KeptQuietly R) (sends : KeptSending R) (accepts : KeptAccepting R) (joins : KeptJoining routes given R) (kept : R bs cs)
+  module _ (cs : List JoinedCall) (a : AreCalls ls bs cs) (given : List (Option (List ℕ))) (same_lines : addresses ls ≡ given) (R : Books → List JoinedCall → Type 0) (keeps : KeptQuietly R) (sends : KeptSending R) (accepts : KeptAccepting R) (joins : KeptJoining routes given R) (kept : R bs cs)
       (ps : Partners) (lines_kept : AreKept ps (books_by (Happens n what) ls bs) (lines_after (Happens n what) ls)) where
     lines_ms : addresses ms ≡ given
     lines_ms = addresses_led (Happens n what ∷ []) ls ms given refl same_lines

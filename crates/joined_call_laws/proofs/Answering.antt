@@ -18,12 +18,12 @@ use Rattle.address_routes.specs.Routes.{RouteMap, line_for}
 use Rattle.call_records.specs.Book.{Book, slot_at}
 use Rattle.call_records.specs.Carried.{placed_on}
 use Rattle.book_laws.proofs.Basics.{get_before, get_last}
-use Rattle.switch_lines.specs.Direction.{new_direction}
-use Rattle.switch_lines.specs.declared.channels.SwitchChannel.{SwitchChannel}
-use Rattle.switch_lines.specs.declared.channels.Joined.{Joined}
+use Rattle.switch_joins.specs.Direction.{new_direction}
+use Rattle.switch_joins.specs.declared.channels.SwitchChannel.{SwitchChannel}
+use Rattle.switch_joins.specs.declared.join.Joined.{Joined}
 use Rattle.switch_lines.specs.Lines.{SwitchLine, same_place, joined_at, with_joined, ask}
 use Rattle.switch_lines.specs.Relay.{told, told_of}
-use Rattle.switch_lines.specs.Switch.{Answer, answer, answered, forwarded, place_call, heed, heed_all, has_any}
+use Rattle.switch_lines.specs.Switch.{Answer, answer, route_from, answered, forwarded, place_call, heed, heed_all, has_any}
 use Rattle.switch_lines.specs.Switch.Answer.{Clears, Joins}
 use Rattle.switch_laws.specs.Leg.{Leg}
 use Rattle.switch_laws.specs.World.{Act, Shown, layers_of, shown_at, shown_on, shown_as}
@@ -32,10 +32,9 @@ use Rattle.switch_laws.specs.Steps.{Step}
 use Rattle.switch_laws.specs.Steps.Step.{Asks, Places, Keeps}
 use Rattle.switch_laws.specs.EventSteps.{told_steps, answered_steps, heed_steps, heed_all_steps}
 use Rattle.switch_laws.proofs.Coming.{at}
-use Rattle.switch_laws.proofs.Lists.{decided, place_is}
 use Rattle.switch_laws.proofs.Outcomes.{AreOf}
-use Rattle.switch_laws.proofs.Places.{joined_kept, joined_asked, joined_here, joined_apart, place_after, place_joined}
-use Rattle.switch_laws.proofs.SettingUp.{IsFreePlace, IsAnswer, layer_there, answer_by_is, answer_if, joins_by_route, ready_no_call}
+use Rattle.switch_laws.proofs.Places.{joined_here, place_after, place_joined}
+use Rattle.switch_laws.proofs.SettingUp.{IsFreePlace, IsAnswer, layer_there, answer_by_is, answer_if, joins_by_route, not_back, ready_no_call}
 use Rattle.switch_record_laws.specs.Records.{call_on, leg_if, Has}
 use Rattle.switch_record_laws.specs.Written.{Books, writes_at}
 use Rattle.switch_record_laws.proofs.Cells.{Touches, touches_none, touches_new}
@@ -47,6 +46,8 @@ use Rattle.switch_record_laws.proofs.Calming.{addresses}
 use Rattle.joined_call_laws.proofs.Following.{CameIn, KeptQuietly, KeptJoining, And, steps_keep}
 use Rattle.switch_laws.specs.Pairs.{IsNoted}
 use Rattle.joined_call_laws.proofs.Closing.{if_apart, TouchesAt, clear_touches, touched_slot}
+use Rattle.switch_joins.proofs.Apart.{decided, place_is}
+use Rattle.switch_lines.proofs.Places.{joined_kept, joined_asked, joined_apart}
 
 -- ---- a joined channel has a present record, and so has one with a call
 
@@ -279,14 +280,14 @@ module _ (p q : SwitchChannel) (parts : CallParts) (ls : List SwitchLine) (bs : 
 
 -- ---- answered
 
-module _ (routes : RouteMap) (given : List (List ℕ)) (R : Books → List JoinedCall → Type 0) (keeps : KeptQuietly R) (joins : KeptJoining routes given R) where
+module _ (routes : RouteMap) (given : List (Option (List ℕ))) (R : Books → List JoinedCall → Type 0) (keeps : KeptQuietly R) (joins : KeptJoining routes given R) where
   clears_walk : (cause : ℕ) (p : SwitchChannel) (ls : List SwitchLine) (bs : Books) (cs : List JoinedCall) → Mutual ls → joined_at ls p ≡ None → AreCalls ls bs cs → R bs cs
       → Walked (And AreCalls R) (Asks p (Clearing cause no_information) ∷ []) ls bs cs (ask p (Clearing cause no_information) ls)
   clears_walk cause p ls bs cs m none a r =
       let ss : List Step = Asks p (Clearing cause no_information) ∷ [] in
       walked_quiet (And AreCalls R) ss ls bs cs (ask p (Clearing cause no_information) ls) refl refl (cleared cause p ls bs cs m none a, steps_keep R keeps ss ls bs cs (tt, tt) r)
 
-  answers_walk : (v : Answer) (p : SwitchChannel) (parts : CallParts) (ls : List SwitchLine) (bs : Books) (cs : List JoinedCall) → answer routes ls parts ≡ v → IsAnswer ls v → Mutual ls → Beside ls bs → HavePlaces ls → AreCalls ls bs cs → joined_at ls p ≡ None
+  answers_walk : (v : Answer) (p : SwitchChannel) (parts : CallParts) (ls : List SwitchLine) (bs : Books) (cs : List JoinedCall) → answer routes ls p.line parts ≡ v → IsAnswer ls v → Mutual ls → Beside ls bs → HavePlaces ls → AreCalls ls bs cs → joined_at ls p ≡ None
       → is_some (shown_at (layers_of ls) p) ≡ true → CameIn p parts bs → addresses ls ≡ given → R bs cs → Walked (And AreCalls R) (answered_steps v p parts ls) ls bs cs (answered v p parts ls)
   answers_walk (Clears cause) p parts ls bs cs is f m b places a none was came same r = clears_walk cause p ls bs cs m none a r
   answers_walk (Joins q) p parts ls bs cs is f m b places a none was came same r =
@@ -303,7 +304,8 @@ module _ (routes : RouteMap) (given : List (List ℕ)) (R : Books → List Joine
             came_in = came;
             not_joined = none;
             free = f;
-            routed = joins_by_route routes ls parts q is;
+            routed = joins_by_route routes ls p.line parts q is;
+            not_back = λ back. not_back routes ls p.line parts q is back;
             apart = apart p q to ls bs b none came.number came.present f;
             lines = same;
             there = was;
@@ -314,7 +316,7 @@ module _ (routes : RouteMap) (given : List (List ℕ)) (R : Books → List Joine
   pub incoming_walk : (n c : ℕ) (parts : CallParts) (ls : List SwitchLine) (bs : Books) (cs : List JoinedCall) → Mutual ls → Beside ls bs → HavePlaces ls → AreCalls ls bs cs → joined_at ls (at n c) ≡ None
       → is_some (shown_at (layers_of ls) (at n c)) ≡ true → CameIn (at n c) parts bs → addresses ls ≡ given → R bs cs → Walked (And AreCalls R) (heed_steps routes n (Incoming c parts) ls) ls bs cs (heed routes n (Incoming c parts) ls)
   incoming_walk n c parts ls bs cs m b places a none there came same r =
-      answers_walk (answer routes ls parts) (at n c) parts ls bs cs refl (answer_if (has_any parts.facilities) ls _ _ (answer_by_is ls (line_for routes parts.called))) m b places a none there came same r
+      answers_walk (answer routes ls n parts) (at n c) parts ls bs cs refl (answer_if (has_any parts.facilities) ls _ _ (answer_by_is ls (route_from n ls (line_for routes parts.called)))) m b places a none there came same r
 
   -- ---- all notes of a channel that is not joined
 

@@ -16,13 +16,12 @@ use Rattle.packet_layer.specs.Layer.{Layer, channel_of, request_refusal, refusal
 use Rattle.call_records.specs.Records.{RecordValue, with_closed, changed_at}
 use Rattle.call_records.specs.Book.{Book, Slot, nth_slot, with_nth, slot_at, with_slot, with_change, changed, closes}
 use Rattle.call_records.specs.Carried.{unless_refused}
-use Rattle.switch_lines.specs.declared.channels.SwitchChannel.{SwitchChannel}
+use Rattle.switch_joins.specs.declared.channels.SwitchChannel.{SwitchChannel}
 use Rattle.switch_lines.specs.Lines.{SwitchLine, same_place}
 use Rattle.switch_laws.specs.Leg.{Leg}
 use Rattle.switch_laws.specs.World.{Act, layers_of, shown_at, shown_on}
 use Rattle.switch_laws.specs.Joined.{IsOver}
 use Rattle.switch_laws.specs.Steps.Step.{Asks}
-use Rattle.switch_laws.proofs.Lists.{decided, apart_by}
 use Rattle.switch_record_laws.specs.Records.{AreApart, AreRecords, call_on, leg_if, Has}
 use Rattle.switch_record_laws.specs.Written.{Books, writes_at, books_after_all}
 use Rattle.switch_record_laws.specs.Relayed.{RelayedTo, AreRelayed}
@@ -33,6 +32,7 @@ use Rattle.joined_call_laws.specs.Calls.{present_at, books_by}
 use Rattle.joined_call_laws.proofs.Steady.{books_rest}
 use Rattle.joined_call_laws.proofs.Following.{callers_in, CameIn}
 use Rattle.joined_call_laws.proofs.Walking.{Beside}
+use Rattle.switch_joins.proofs.Apart.{decided, apart_by}
 
 -- ---- a record that closes keeps its epochs
 

@@ -1,16 +1,16 @@
 -- Whole events of a switch.
-use Rattle.std.specs.Prelude.{◌≡◌, ℕ, zero, suc, ◌*◌, ◌⊎◌, Bool, true, false, List, [], ◌∷◌, ◌++◌, length, map, slice_get, Option, Some, None}
+use Rattle.std.specs.Prelude.{◌≡◌, ℕ, zero, suc, ◌*◌, ◌⊎◌, true, List, [], ◌∷◌, ◌++◌, length, map, slice_get, Option, Some, None}
 use Rattle.std.proofs.Common.{inl, inr, refl, sym, ap, subst, ◌∙◌}
 use Rattle.std.proofs.lemmas.Option.{none-some, same_Some}
-use Rattle.link_timers.specs.declared.role.Role.TheVariants.{Dte, Dce}
+use Rattle.link_timers.specs.declared.role.Role.TheVariants.{Dce}
 use Rattle.packet_layer.specs.Layer.{Layer, link_down, closing_notes}
-use Rattle.packet_laws.specs.Readable.{Every, AreOctets}
+use Rattle.packet_laws.specs.Readable.{Every}
 use Rattle.packet_end.specs.PacketEnd.{begun}
 use Rattle.address_routes.specs.Routes.{RouteMap}
-use Rattle.switch_lines.specs.declared.channels.SwitchChannel.{SwitchChannel}
-use Rattle.switch_lines.specs.declared.channels.Joined.{Joined}
+use Rattle.switch_joins.specs.declared.channels.SwitchChannel.{SwitchChannel}
+use Rattle.switch_joins.specs.declared.join.Joined.{Joined}
 use Rattle.switch_lines.specs.Lines.{SwitchLine, changed}
-use Rattle.switch_lines.specs.Switch.{Switch, with_end, acted, to_relink, relinked_at, all_relinked, lines_first, rounds, finished, all_begun, quieted, notes_of, without_notes, heed_all, on_frame, on_expiry}
+use Rattle.switch_lines.specs.Switch.{Switch, with_end, acted, to_relink, relinked_at, all_relinked, lines_first, rounds, finished, all_begun, quieted, notes_of, without_notes, heed_all, on_frame, on_expiry, relink}
 use Rattle.switch_laws.specs.World.{World, Act, layers_of, after_acts}
 use Rattle.switch_laws.specs.Joined.{IsSwitch, Becomes}
 use Rattle.switch_laws.specs.Steps.{Step, Happening, does, lines_after, lines_after_all, on_line, happening_acts, acts_of, acts_of_all}
@@ -23,10 +23,9 @@ use Rattle.switch_laws.proofs.Turning.{EndEffect, acted_right, relinked_effect, 
 use Rattle.switch_laws.proofs.Keeping.{layers_on_ends}
 use Rattle.switch_record_laws.specs.Written.{Books, books_after_all, HaveRecords}
 use Rattle.switch_record_laws.proofs.Acts.{acts_write}
-use Rattle.std.specs.Prelude.{◌==◌, if◌then◌else◌, ◌+◌, is_some}
+use Rattle.std.specs.Prelude.{◌+◌, is_some}
 use Rattle.std.proofs.Common.{ap₂, true≢false, arith}
 use Rattle.link_timers.specs.declared.role.Role.{Role}
-use Rattle.lapb.specs.Octets as link_octets
 use Rattle.packet_layer.specs.Packets.{Note, Reason}
 use Rattle.packet_layer.specs.Packets.Note.{Incoming, Connected, Closed, WasReset, InterruptConfirmed, Covered}
 use Rattle.packet_layer.specs.Packets.Reason.{LinkLost}
@@ -34,7 +33,6 @@ use Rattle.packet_layer.specs.Channel.{Channel, had_call}
 use Rattle.packet_layer.specs.Layer.{channel_of}
 use Rattle.call_records.specs.Records.{RecordValue}
 use Rattle.call_records.specs.Book.{Book, slot_at, all_told, closes}
-use Rattle.call_records.specs.Writes.{Write, all_written}
 use Rattle.call_records.specs.Writes.Write.{Told}
 use Rattle.book_laws.proofs.Writing.{closed_all}
 use Rattle.switch_lines.specs.NewJoins.{joins_acted}
@@ -46,7 +44,6 @@ use Rattle.switch_laws.specs.Events.{new_legs}
 use Rattle.switch_laws.specs.Steps.Step.{Elapses}
 use Rattle.switch_laws.proofs.Finishing.{restarted_joined}
 use Rattle.switch_laws.proofs.Happening.{events_hold}
-use Rattle.switch_laws.proofs.Places.{joined_kept}
 use Rattle.switch_laws.proofs.SettingUp.{pair_call}
 use Rattle.switch_laws.proofs.Turning.{received_effect, timer_effect}
 use Rattle.switch_record_laws.specs.Kept.{all_frames_out}
@@ -56,32 +53,32 @@ use Rattle.switch_record_laws.specs.Rests.{Rests}
 use Rattle.switch_record_laws.specs.Tied.{Histories, IsTied, happened, restarted, gone_out}
 use Rattle.switch_record_laws.specs.Written.{restart_writes, restarted_books}
 use Rattle.switch_record_laws.proofs.Cells.{touches_closed, here_or_not}
-use Rattle.switch_record_laws.proofs.Partner.{writes_keep}
 use Rattle.switch_record_laws.proofs.Relaying.{joins_relay}
 use Rattle.switch_record_laws.proofs.Resting.{event_rests}
 use Rattle.joined_call_laws.specs.Calls.{present_at, Stands, HasEnded, StandsOrEnded}
-use Rattle.joined_call_laws.specs.Law.{join_of_call, calls_in, BeginCalls, FrameCalls, TimerCalls, ElapseCalls, RestartCalls, OutCalls, written_there, PartnerCalls, HasRelayed, RelayedCalls, NewJoinsLaw, CallsLaw}
+use Rattle.joined_call_laws.specs.Law.{join_of_call, calls_in, BeginCalls, FrameCalls, TimerCalls, RelinkCalls, ElapseCalls, RestartCalls, OutCalls, HasRelayed, RelayedCalls, NewJoinsLaw, CallsLaw}
 use Rattle.joined_call_laws.proofs.Steady.{shape, ended_same}
 use Rattle.joined_call_laws.proofs.Closing.{SameEpochs, epochs_itself, relayed_same, closed_none, RestsWith, records_at}
 use Rattle.joined_call_laws.proofs.Telling.{IsClosing}
 use Rattle.joined_call_laws.proofs.Answering.{record_call}
 use Rattle.joined_call_laws.proofs.Following.{addresses_led, KeptQuietly, KeptSending, KeptAccepting, KeptJoining, And, step_quiet, steady_keep}
-use Rattle.lapb.specs.Machine.{Octets}
 use Rattle.std.proofs.Common.{append-nil}
 use Rattle.switch_record_laws.specs.Kept.{Partners, AreKept, partners_after, partners_after_all, IsFit, AreFit, ReadsOctets}
 use Rattle.switch_record_laws.proofs.Stepping.{steps_kept}
 use Rattle.switch_record_laws.proofs.Calming.{addresses, Addressed, addressed, addressed_then, calm_fit, heeded_calm}
 use Rattle.joined_call_laws.proofs.Acting.{closed_epochs, closing_only}
-use Rattle.joined_call_laws.proofs.NewCalls.{calls_then, acted_as_said, finished_none, timer_joins_none, no_calls}
+use Rattle.joined_call_laws.proofs.NewCalls.{calls_then, acted_as_said, finished_none, timer_joins_none, relink_joins_none, no_calls}
 use Rattle.joined_call_laws.specs.Calls.{JoinedCall, books_by, books_by_all, calls_of_all, AreCalls}
 use Rattle.joined_call_laws.proofs.Steady.{Mutual, switch_mutual, IsMildAct, acts_slots, books_rest, every_map, calls_same, AreSteady, steady_same, steady_then, steadies_same, steadies_none, rounds_steady, mutual_both}
 use Rattle.joined_call_laws.proofs.Walking.{books_are, leads_first, leads_then, Walked, walked_then, walked_quiet, Beside}
 use Rattle.joined_call_laws.proofs.Acting.{heeded_walk}
+use Rattle.joined_call_laws.proofs.Outside.{happened_outside, writes_hold}
+use Rattle.switch_lines.proofs.Places.{joined_kept}
 
 -- ---- a switch at which all is right
 
 -- its joins hold, its lines are kept, its present records are its legs, and these are the joined calls
-pub record Good (given : List (List ℕ)) (ls : List SwitchLine) (bs : Books) (cs : List JoinedCall) : Type 0 where
+pub record Good (given : List (Option (List ℕ))) (ls : List SwitchLine) (bs : Books) (cs : List JoinedCall) : Type 0 where
   pub legs : World
   pub switch : IsSwitch ls legs
   pub records : HaveRecords (layers_of ls) legs bs
@@ -94,7 +91,7 @@ pub record Good (given : List (List ℕ)) (ls : List SwitchLine) (bs : Books) (c
 begun_records : (ls : List SwitchLine) (w : World) (bs : Books) → HaveRecords (layers_of ls) w bs → HaveRecords (layers_of (all_begun ls)) w bs
 begun_records ls w bs h = subst (λ (ys : List Layer). HaveRecords ys w bs) (sym (layers_on_ends begun ls (λ e. refl))) h
 
-module _ (routes : RouteMap) (given : List (List ℕ)) (R : Books → List JoinedCall → Type 0) (keeps : KeptQuietly R) (sends : KeptSending R) (accepts : KeptAccepting R) (joins : KeptJoining routes given R) where
+module _ (routes : RouteMap) (given : List (Option (List ℕ))) (R : Books → List JoinedCall → Type 0) (keeps : KeptQuietly R) (sends : KeptSending R) (accepts : KeptAccepting R) (joins : KeptJoining routes given R) where
   -- steps after which the joins hold, and the calls are as they lead to
   good_after : (steps : List Step) (ls ms : List SwitchLine) (bs : Books) (cs : List JoinedCall) (x : Good given ls bs cs) → AreFit steps x.partners → Becomes (acts_of_all steps ls) ls x.legs ms → Walked (And AreCalls R) steps ls bs cs ms
       → Walked (And (Good given) R) steps ls bs cs ms
@@ -254,6 +251,11 @@ unfolding nothing_beside
 timer_calls n id s h cs i a =
     (calls_after nothing_beside (λ acts ys bs ds q r. tt) (λ p q j ls bs ds g m a e r. tt) (λ p j ls bs ds c r. tt) n (RunsOut id) s (on_expiry n id s) h cs (λ p q parts ls bs ds j r. tt) refl (λ line e. timer_effect n id line.end) tt tt i a tt).0
 
+relink_calls : RelinkCalls
+unfolding nothing_beside
+relink_calls n s h cs i a =
+    (calls_after nothing_beside (λ acts ys bs ds q r. tt) (λ p q j ls bs ds g m a e r. tt) (λ p j ls bs ds c r. tt) n Relinks s (relink n s) h cs (λ p q parts ls bs ds j r. tt) refl (λ line e. relinked_effect n line.end) tt tt i a tt).0
+
 -- ---- the calls that an event joins
 
 event_as_said : (n : ℕ) (what : Happening) (s : Switch) (h : Histories) → IsTied s h → ((line : SwitchLine) → slice_get (all_begun s.lines) n ≡ Some line → EndEffect n what line.end)
@@ -273,6 +275,7 @@ new_joins_law : NewJoinsLaw
 new_joins_law = record {
   frames = λ n octets s h are i. event_as_said n (Brings octets) s h i (λ line e. received_effect n octets line.end);
   timers = λ n id s h i. no_calls (calls_in n (RunsOut id) s h) (event_as_said n (RunsOut id) s h i (λ line e. timer_effect n id line.end) ∙ timer_joins_none s.routes n id (all_begun s.lines));
+  relinks = λ n s h i. no_calls (calls_in n Relinks s h) (event_as_said n Relinks s h i (λ line e. relinked_effect n line.end) ∙ relink_joins_none s.routes n (all_begun s.lines));
 }
 
 -- ---- the others
@@ -296,29 +299,6 @@ out_calls n s h cs i a =
       slots = λ x j e. refl;
       rests = λ k m r y. y;
     }) a
-
--- what the other end of a line writes
-partner_slot : (ws : List Write) (b : Book) (c : ℕ) → (slot_at Dce c (all_written Dte ws b)).present ≡ (slot_at Dce c b).present
-partner_slot ws b c = writes_keep (λ (y : Book). (slot_at Dce c y).present ≡ (slot_at Dce c b).present) Dte (λ y z t e. t.touches.slots Dce c (λ h. dce_dte h.0) ∙ e) ws b refl
-  where
-    dce_dte : Dce ≡ Dte → ⊥
-    dce_dte e = absurd cc
-
-partner_calls : PartnerCalls
-partner_calls n ws s h cs i a =
-    calls_same s.lines s.lines h.books (written_there n ws h.books) cs (switch_mutual s.lines h.legs i.holds.joins) (record {
-      joins = λ x. refl;
-      slots = λ x j e. by_line x (x.line == n);
-      rests = λ k m r y. rests k m r (k == n) y;
-    }) a
-  where
-    by_line : (x : SwitchChannel) (v : Bool) → (slot_at Dce x.channel (if v then all_written Dte ws (h.books x.line) else h.books x.line)).present ≡ present_at x h.books
-    by_line x true = partner_slot ws (h.books x.line) x.channel
-    by_line x false = refl
-
-    rests : (k m : ℕ) (r : RecordValue) (v : Bool) → Rests m r (h.books k) → Rests m r (if v then all_written Dte ws (h.books k) else h.books k)
-    rests k m r true y = event_rests Dte ws m r (h.books k) y
-    rests k m r false y = y
 
 -- ---- a restart
 
@@ -418,10 +398,12 @@ calls_hold = record {
   begins = begin_calls;
   frames = frame_calls;
   timers = timer_calls;
+  relinks = relink_calls;
   elapses = elapse_calls;
   restarts = restart_calls;
   out = out_calls;
-  partner = partner_calls;
+  outside = happened_outside;
+  writes = writes_hold;
   relayed = relayed_calls;
   new = new_joins_law;
 }

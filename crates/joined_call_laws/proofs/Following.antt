@@ -15,7 +15,7 @@ use Rattle.packet_layer.specs.Packets.Note.{Incoming, Connected, Closed, WasRese
 use Rattle.packet_layer.specs.Octets.{heard}
 use Rattle.packet_layer.specs.Channel.{CallState, Channel, Request, may_accept, in_transfer, requested}
 use Rattle.packet_layer.specs.Channel.Request.{Accept, Clearing, Resetting, Sending, Interrupting, Stopping, Taking, Releasing, Confirming}
-use Rattle.packet_layer.specs.Layer.{Layer, Timer, channel_of, channel_given, next_packet}
+use Rattle.packet_layer.specs.Layer.{Layer, Timer, channel_of, channel_given, next_packet, unread}
 use Rattle.packet_layer.specs.Events.{timer_named}
 use Rattle.packet_laws.specs.Readable.{Every}
 use Rattle.packet_end.specs.PacketEnd.{PacketEnd, runs_at, with_next}
@@ -23,7 +23,7 @@ use Rattle.address_routes.specs.Routes.{RouteMap, line_for}
 use Rattle.call_records.specs.Records.{RecordValue, PairValue, new_record, with_covered, with_epoch}
 use Rattle.call_records.specs.Book.{Book, Slot, side_of, slot_at, told, all_told, address_of, closes, with_record}
 use Rattle.book_laws.specs.Told.{World, Move, after_move, after_all, all_callers, made_callers}
-use Rattle.book_laws.specs.Headline.{IsIn, IsPaired, HasCallee, AreAnswered, CallsHold}
+use Rattle.book_laws.specs.Headline.{IsIn, IsPaired, HasCallee, AreAnswered, CallsHold, layer_at}
 use Rattle.book_laws.proofs.Basics.{get_last}
 use Rattle.book_laws.proofs.BookHolds.{calls_hold, callers_recorded}
 use Rattle.book_laws.proofs.Answered.{are_answered}
@@ -36,15 +36,16 @@ use Rattle.packet_laws.proofs.Line.Arriving.{packet_same}
 use Rattle.book_laws.specs.Told.Move.{Happens, Edits}
 use Rattle.book_laws.proofs.Writing.{slot_here}
 use Rattle.switch_record_laws.specs.Line.{Line}
-use Rattle.switch_record_laws.specs.Kept.{Setting, Kept, beginning}
-use Rattle.switch_lines.specs.declared.channels.SwitchChannel.{SwitchChannel}
-use Rattle.switch_lines.specs.declared.channels.Joined.{Joined}
-use Rattle.switch_lines.specs.Lines.{SwitchLine, changed, same_place, joined_at}
+use Rattle.switch_record_laws.specs.Kept.{Setting, Kept, beginning, end_at}
+use Rattle.switch_record_laws.specs.Turned.{sight}
+use Rattle.switch_joins.specs.declared.channels.SwitchChannel.{SwitchChannel}
+use Rattle.switch_joins.specs.declared.join.Joined.{Joined}
+use Rattle.switch_lines.specs.Lines.{SwitchLine, is_trunk, changed, same_place, joined_at}
 use Rattle.switch_lines.specs.Switch.{forwarded, with_end, quieted}
 use Rattle.switch_laws.specs.World.{Act, Shown, shown_as, shown_on, shown_at, layers_of}
 use Rattle.switch_laws.proofs.Lists.{get_map, map_unchanged}
 use Rattle.switch_record_laws.proofs.Calming.{addresses}
-use Rattle.switch_record_laws.specs.Kept.{Partners, AreKept, line_with}
+use Rattle.switch_record_laws.specs.Kept.{Partners, AreKept, line_of_ends, line_with}
 use Rattle.switch_laws.specs.Pairs.{IsNoted}
 use Rattle.switch_laws.specs.Steps.{Step, Happening, does, lines_after, lines_after_all, acts_of, happening_acts, note_acts, heard_acts, packet_acts, timer_acts, expiry_acts, offer_acts, on_line}
 use Rattle.switch_laws.specs.Steps.Happening.{Brings, RunsOut, Relinks}
@@ -80,14 +81,15 @@ pub record CameIn (p : SwitchChannel) (parts : CallParts) (bs : Books) : Type 0 
   pub far : it.far ≡ address_of parts.calling
   pub alone : (m : ℕ) → slice_get (callers_in (bs p.line)) m ≡ Some (Some caller) → m ≡ number
 
--- the calls before it, and the two channels
-pub record Joining (routes : RouteMap) (given : List (List ℕ)) (p q : SwitchChannel) (parts : CallParts) (ls : List SwitchLine) (bs : Books) (cs : List JoinedCall) : Type 0 where
+-- the calls before it, and the two channels; it does not go back over a trunk
+pub record Joining (routes : RouteMap) (given : List (Option (List ℕ))) (p q : SwitchChannel) (parts : CallParts) (ls : List SwitchLine) (bs : Books) (cs : List JoinedCall) : Type 0 where
   pub calls : AreCalls ls bs cs
   pub beside : Beside ls bs
   pub came_in : CameIn p parts bs
   pub not_joined : joined_at ls p ≡ None
   pub free : IsFreePlace ls q
   pub routed : line_for routes parts.called ≡ Some q.line
+  pub not_back : q.line ≡ p.line → is_trunk (slice_get ls p.line) ≡ false
   pub apart : same_place p q ≡ false
   pub lines : addresses ls ≡ given
   pub there : is_some (shown_at (layers_of ls) p) ≡ true
@@ -96,7 +98,7 @@ pub record Joining (routes : RouteMap) (given : List (List ℕ)) (p q : SwitchCh
 
 on_ends : (f : PacketEnd → PacketEnd) (ls : List SwitchLine) → addresses (map (with_end f) ls) ≡ addresses ls
 on_ends f [] = refl
-on_ends f (l ∷ ls) = ap (λ (as_ : List (List ℕ)). l.address ∷ as_) (on_ends f ls)
+on_ends f (l ∷ ls) = ap (λ (as_ : List (Option (List ℕ))). l.address ∷ as_) (on_ends f ls)
 
 step_addresses : (s : Step) (ls : List SwitchLine) → addresses (lines_after s ls) ≡ addresses ls
 step_addresses (Asks p q) ls = map_unchanged (λ l. l.address) _ p.line ls (λ l. refl)
@@ -112,7 +114,7 @@ pub steps_addresses : (steps : List Step) (ls : List SwitchLine) → addresses (
 steps_addresses [] ls = refl
 steps_addresses (s ∷ more) ls = steps_addresses more (lines_after s ls) ∙ step_addresses s ls
 
-pub addresses_led : (steps : List Step) (ls ms : List SwitchLine) (given : List (List ℕ)) → lines_after_all steps ls ≡ ms → addresses ls ≡ given → addresses ms ≡ given
+pub addresses_led : (steps : List Step) (ls ms : List SwitchLine) (given : List (Option (List ℕ))) → lines_after_all steps ls ≡ ms → addresses ls ≡ given → addresses ms ≡ given
 addresses_led steps ls ms given e f = ap (λ (ks : List SwitchLine). addresses ks) (sym e) ∙ (steps_addresses steps ls ∙ f)
 
 -- ---- what is kept beside
@@ -160,7 +162,7 @@ pub record Connecting (p : SwitchChannel) (j : Joined) (ls : List SwitchLine) (b
 abbrev pub KeptAccepting : (Books → List JoinedCall → Type 0) → Type 0
 KeptAccepting R = (p : SwitchChannel) (j : Joined) (ls : List SwitchLine) (bs : Books) (cs : List JoinedCall) → Connecting p j ls bs cs → R bs cs → R (books_by (Asks j.other Accept) ls bs) cs
 
-abbrev pub KeptJoining : RouteMap → List (List ℕ) → (Books → List JoinedCall → Type 0) → Type 0
+abbrev pub KeptJoining : RouteMap → List (Option (List ℕ)) → (Books → List JoinedCall → Type 0) → Type 0
 KeptJoining routes given R = (p q : SwitchChannel) (parts : CallParts) (ls : List SwitchLine) (bs : Books) (cs : List JoinedCall) → (j : Joining routes given p q parts ls bs cs) → R bs cs
     → R (books_by (Places q.line (forwarded ls p.line parts)) ls bs) (cs ++ record { near = p; far = q; came_in = j.came_in.number; placed = length (bs q.line).records } ∷ [])
 
@@ -322,13 +324,18 @@ noted_accepts d role s parts (WasReset c cause diagnostic reason ∷ ns) of n = 
 noted_accepts d role s parts (InterruptConfirmed c ∷ ns) of n = noted_accepts d role s parts ns of.1 (elim n [ inl e ↦ absurd cc | inr more ↦ more ])
 noted_accepts d role s parts (Covered c k ∷ ns) of n = noted_accepts d role s parts ns of.1 (elim n [ inl e ↦ absurd cc | inr more ↦ more ])
 
--- ---- a call that the DCE may accept came from one that the DTE placed, and one in data transfer is in a pair
+-- ---- a call that an end may accept came from one that the other end placed, and one in data transfer is in a pair
 
-pub kept_answered : (s : Setting) (b : Book) (l : Line) (c : ℕ) (ch : Channel) → Kept s b l → channel_of l.dce.layer c ≡ Some ch → may_accept Dce ch.state ≡ true → is_some (slot_at Dce c b).caller ≡ true
-kept_answered s b l c ch k e may =
+-- the layer of an end, but for notes that it has not read
+layer_kept : (s : Setting) (role : Role) (b : Book) (l : Line) → (k : Kept s b l) → unread (layer_at role (after_all k.moves (beginning s))) ≡ (end_at role l).layer
+layer_kept s Dte b l k = k.joint.mine.layer
+layer_kept s Dce b l k = k.joint.yours.layer
+
+kept_answered : (s : Setting) (role : Role) (b : Book) (l : Line) (c : ℕ) (ch : Channel) → Kept s b l → channel_of (end_at role l).layer c ≡ Some ch → may_accept role ch.state ≡ true → is_some (slot_at role c b).caller ≡ true
+kept_answered s role b l c ch k e may =
     let a : AreAnswered (after_all k.moves (beginning s)) =
     are_answered s.dte_node s.dce_node s.dte.channels s.dte.window s.dte.standing k.setting.dte.layer.channels_least k.setting.dte.layer.window_most k.moves k.allowed in
-    subst (λ (x : Book). is_some (slot_at Dce c x).caller ≡ true) k.book (a.came Dce c ch (ap (λ (y : Layer). channel_of y c) k.joint.yours.layer ∙ e) may)
+    subst (λ (x : Book). is_some (slot_at role c x).caller ≡ true) k.book (a.came role c ch (ap (λ (y : Layer). channel_of y c) (layer_kept s role b l k) ∙ e) may)
 
 -- no two records came in from the same one
 kept_once : (s : Setting) (b : Book) (l : Line) → Kept s b l → (m n x : ℕ) → slice_get (callers_in b) m ≡ Some (Some x) → slice_get (callers_in b) n ≡ Some (Some x) → m ≡ n
@@ -347,13 +354,16 @@ kept_once s b l k m n x = subst (λ (y : Book). slice_get (callers_in y) m ≡ S
     once e f = calls.once m n x (ap (λ (cs : List (Option ℕ)). slice_get cs m) (sym are) ∙ e) (ap (λ (cs : List (Option ℕ)). slice_get cs n) (sym are) ∙ f)
 
 -- the present record of a channel, in a pair
-pub record Answered (c : ℕ) (b : Book) : Type 0 where
+pub record AnsweredAt (role : Role) (c : ℕ) (b : Book) : Type 0 where
   pub number : ℕ
-  pub present : (slot_at Dce c b).present ≡ Some number
+  pub present : (slot_at role c b).present ≡ Some number
   pub answered : IsInPair b number
 
-kept_connected : (s : Setting) (b : Book) (l : Line) (c : ℕ) (ch : Channel) → Kept s b l → channel_of l.dce.layer c ≡ Some ch → in_transfer ch.state ≡ true → Answered c b
-kept_connected s b l c ch k e up = subst (λ (x : Book). Answered c x) k.book (by_caller (is_some (slot_at Dce c w.book).caller) refl)
+abbrev pub Answered : (channel : ℕ) → Book → Type 0
+Answered c b = AnsweredAt Dce c b
+
+kept_connected : (s : Setting) (role : Role) (b : Book) (l : Line) (c : ℕ) (ch : Channel) → Kept s b l → channel_of (end_at role l).layer c ≡ Some ch → in_transfer ch.state ≡ true → AnsweredAt role c b
+kept_connected s role b l c ch k e up = subst (λ (x : Book). AnsweredAt role c x) k.book (by_caller (is_some (slot_at role c w.book).caller) refl)
   where
     w : World
     w = after_all k.moves (beginning s)
@@ -361,15 +371,15 @@ kept_connected s b l c ch k e up = subst (λ (x : Book). Answered c x) k.book (b
     a : AreAnswered w
     a = are_answered s.dte_node s.dce_node s.dte.channels s.dte.window s.dte.standing k.setting.dte.layer.channels_least k.setting.dte.layer.window_most k.moves k.allowed
 
-    there : channel_of w.line.you.layer c ≡ Some ch
-    there = ap (λ (y : Layer). channel_of y c) k.joint.yours.layer ∙ e
+    there : channel_of (layer_at role w) c ≡ Some ch
+    there = ap (λ (y : Layer). channel_of y c) (layer_kept s role b l k) ∙ e
 
-    by_caller : (v : Bool) → is_some (slot_at Dce c w.book).caller ≡ v → Answered c w.book
+    by_caller : (v : Bool) → is_some (slot_at role c w.book).caller ≡ v → AnsweredAt role c w.book
     by_caller true f =
-        let h : IsPaired (slot_at Dce c w.book) w.book.pairs = a.paired Dce c ch there up f in
+        let h : IsPaired (slot_at role c w.book) w.book.pairs = a.paired role c ch there up f in
         record { number = h.callee; present = h.present; answered = record { place = h.place; pair = record { caller = h.caller; callee = h.callee }; there = h.there; is_in = inr refl } }
     by_caller false f =
-        let h : HasCallee w.book Dce c = a.placed Dce c ch there up f in
+        let h : HasCallee w.book role c = a.placed role c ch there up f in
         record { number = h.caller; present = h.present; answered = record { place = h.place; pair = record { caller = h.caller; callee = h.callee }; there = h.there; is_in = inl refl } }
 
 up_role : (v : Bool) (n : ℕ) (w : layers.Line) → (if v then record w { me = layers.begun n w.me } else w).me.layer.role ≡ w.me.layer.role
@@ -414,17 +424,37 @@ other_stays (layer_event.Expires t) w = refl
 other_stays layer_event.Offers w = refl
 other_stays layer_event.Arrives w = arrives_other w.me.session w
 
-move_role : (m : Move) (v : World) → (after_move m v).line.you.layer.role ≡ v.line.you.layer.role
-move_role (Happens (Here event)) v = ap (λ (e : layers.End). e.layer.role) (other_stays event v.line)
-move_role (Happens (There event)) v = mine_role event (layers.turned v.line)
-move_role (Edits role channel step) v = refl
+move_role : (role : Role) (m : Move) (v : World) → (layer_at role (after_move m v)).role ≡ (layer_at role v).role
+move_role Dte (Happens (Here event)) v = mine_role event v.line
+move_role Dce (Happens (Here event)) v = ap (λ (e : layers.End). e.layer.role) (other_stays event v.line)
+move_role Dte (Happens (There event)) v = ap (λ (e : layers.End). e.layer.role) (other_stays event (layers.turned v.line))
+move_role Dce (Happens (There event)) v = mine_role event (layers.turned v.line)
+move_role Dte (Edits side channel step) v = refl
+move_role Dce (Edits side channel step) v = refl
 
-moves_role : (ms : List Move) (v : World) → (after_all ms v).line.you.layer.role ≡ v.line.you.layer.role
-moves_role [] v = refl
-moves_role (m ∷ ms) v = moves_role ms (after_move m v) ∙ move_role m v
+moves_role : (role : Role) (ms : List Move) (v : World) → (layer_at role (after_all ms v)).role ≡ (layer_at role v).role
+moves_role role [] v = refl
+moves_role role (m ∷ ms) v = moves_role role ms (after_move m v) ∙ move_role role m v
 
-kept_dce : (s : Setting) (b : Book) (l : Line) → Kept s b l → l.dce.layer.role ≡ Dce
-kept_dce s b l k = sym (ap (λ (y : Layer). y.role) k.joint.yours.layer) ∙ moves_role k.moves (beginning s)
+kept_role : (s : Setting) (role : Role) (b : Book) (l : Line) → Kept s b l → (end_at role l).layer.role ≡ role
+kept_role s Dte b l k = sym (ap (λ (y : Layer). y.role) (layer_kept s Dte b l k)) ∙ moves_role Dte k.moves (beginning s)
+kept_role s Dce b l k = sym (ap (λ (y : Layer). y.role) (layer_kept s Dce b l k)) ∙ moves_role Dce k.moves (beginning s)
+
+-- ---- the same for the switch's end, in its own sight
+
+may_answer : (s : Setting) (role : Role) (b : Book) (l : Line) (c : ℕ) (ch : Channel) → Kept s b l → channel_of (end_at role l).layer c ≡ Some ch → may_accept (end_at role l).layer.role ch.state ≡ true → is_some (slot_at role c b).caller ≡ true
+may_answer s role b l c ch k e may = kept_answered s role b l c ch k e (ap (λ (r : Role). may_accept r ch.state) (sym (kept_role s role b l k)) ∙ may)
+
+own_answered : (s : Setting) (role : Role) (b : Book) (e o : PacketEnd) (up down : List Octets) (c : ℕ) (ch : Channel) → Kept s (sight role b) (line_of_ends role e o up down) → channel_of e.layer c ≡ Some ch → may_accept e.layer.role ch.state ≡ true
+    → is_some (slot_at Dce c b).caller ≡ true
+own_answered s Dte b e o up down c ch k there may = may_answer s Dte (sight Dte b) (line_of_ends Dte e o up down) c ch k there may
+own_answered s Dce b e o up down c ch k there may = may_answer s Dce b (line_of_ends Dce e o up down) c ch k there may
+
+own_connected : (s : Setting) (role : Role) (b : Book) (e o : PacketEnd) (up down : List Octets) (c : ℕ) (ch : Channel) → Kept s (sight role b) (line_of_ends role e o up down) → channel_of e.layer c ≡ Some ch → in_transfer ch.state ≡ true → Answered c b
+own_connected s Dte b e o up down c ch k there open_ =
+    let a : AnsweredAt Dte c (sight Dte b) = kept_connected s Dte (sight Dte b) (line_of_ends Dte e o up down) c ch k there open_ in
+    record { number = a.number; present = a.present; answered = record { place = a.answered.place; pair = a.answered.pair; there = a.answered.there; is_in = a.answered.is_in } }
+own_connected s Dce b e o up down c ch k there open_ = kept_connected s Dce b (line_of_ends Dce e o up down) c ch k there open_
 
 -- the line of a channel that is there
 pub record OnLine (ls : List SwitchLine) (x : SwitchChannel) (shown : Shown) : Type 0 where
@@ -453,16 +483,16 @@ line_of_shown ls x shown e = by_line (slice_get ls x.line) refl
 pub lines_answered : (ps : Partners) (bs : Books) (ls : List SwitchLine) (x : SwitchChannel) (shown : Shown) → AreKept ps bs ls → shown_at (layers_of ls) x ≡ Some shown → may_accept shown.role shown.channel.state ≡ true → is_some (slot_at Dce x.channel (bs x.line)).caller ≡ true
 lines_answered ps bs ls x shown k e may =
     let o = line_of_shown ls x shown e in
-    let kept = k x.line o.line o.there in
-    let dce = kept_dce (ps x.line).setting (bs x.line) (line_with (ps x.line) o.line.end) kept in
-    kept_answered (ps x.line).setting (bs x.line) (line_with (ps x.line) o.line.end) x.channel shown.channel kept o.channel (ap (λ (r : Role). may_accept r shown.channel.state) (sym dce ∙ o.role) ∙ may)
+    let p = ps x.line in
+    own_answered p.setting p.role (bs x.line) o.line.end p.other p.up p.down x.channel shown.channel (k x.line o.line o.there) o.channel (ap (λ (r : Role). may_accept r shown.channel.state) o.role ∙ may)
 
 pub lines_once : (ps : Partners) (bs : Books) (ls : List SwitchLine) (x : SwitchChannel) (shown : Shown) → AreKept ps bs ls → shown_at (layers_of ls) x ≡ Some shown → (m n y : ℕ) → slice_get (callers_in (bs x.line)) m ≡ Some (Some y) → slice_get (callers_in (bs x.line)) n ≡ Some (Some y) → m ≡ n
 lines_once ps bs ls x shown k e =
     let o = line_of_shown ls x shown e in
-    kept_once (ps x.line).setting (bs x.line) (line_with (ps x.line) o.line.end) (k x.line o.line o.there)
+    kept_once (ps x.line).setting (sight (ps x.line).role (bs x.line)) (line_with (ps x.line) o.line.end) (k x.line o.line o.there)
 
 pub lines_connected : (ps : Partners) (bs : Books) (ls : List SwitchLine) (x : SwitchChannel) (shown : Shown) → AreKept ps bs ls → shown_at (layers_of ls) x ≡ Some shown → in_transfer shown.channel.state ≡ true → Answered x.channel (bs x.line)
 lines_connected ps bs ls x shown k e up =
     let o = line_of_shown ls x shown e in
-    kept_connected (ps x.line).setting (bs x.line) (line_with (ps x.line) o.line.end) x.channel shown.channel (k x.line o.line o.there) o.channel up
+    let p = ps x.line in
+    own_connected p.setting p.role (bs x.line) o.line.end p.other p.up p.down x.channel shown.channel (k x.line o.line o.there) o.channel up

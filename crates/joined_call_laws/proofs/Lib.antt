@@ -1,6 +1,7 @@
 pub use Rattle.switch_record_laws.proofs.Cells
 pub use Rattle.switch_record_laws.proofs.Notes
 pub use Rattle.switch_record_laws.proofs.Partner
+pub use Rattle.switch_record_laws.proofs.Turned
 pub use Rattle.switch_record_laws.proofs.Resting
 pub use Rattle.switch_record_laws.proofs.Making
 pub use Rattle.switch_record_laws.proofs.Calming
@@ -14,4 +15,5 @@ pub mod Telling
 pub mod Answering
 pub mod Acting
 pub mod NewCalls
+pub mod Outside
 pub mod Eventing

@@ -22,11 +22,11 @@ use Rattle.packet_end.specs.PacketEnd.{PacketEnd, heeded, expired, runs_at}
 use Rattle.packet_end.specs.End.{End}
 use Rattle.address_routes.specs.Routes.{RouteMap, line_for}
 use Rattle.switch_lines.specs.Causes.{clear_cause, far_diagnostic}
-use Rattle.switch_lines.specs.declared.channels.SwitchChannel.{SwitchChannel}
-use Rattle.switch_lines.specs.declared.channels.Joined.{Joined}
-use Rattle.switch_lines.specs.Lines.{SwitchLine, changed, joined_at, with_joined}
+use Rattle.switch_joins.specs.declared.channels.SwitchChannel.{SwitchChannel}
+use Rattle.switch_joins.specs.declared.join.Joined.{Joined}
+use Rattle.switch_lines.specs.Lines.{SwitchLine, is_trunk, changed, joined_at, with_joined}
 use Rattle.switch_lines.specs.Relay.{told, told_of}
-use Rattle.switch_lines.specs.Switch.{Answer, answer, forwarded, heed, has_any, notes_of, with_end, quieted, to_relink, relinked_at, all_relinked, lines_first, rounds}
+use Rattle.switch_lines.specs.Switch.{Answer, answer, route_from, forwarded, heed, has_any, notes_of, with_end, quieted, to_relink, relinked_at, all_relinked, lines_first, rounds}
 use Rattle.switch_lines.specs.Switch.Answer.{Clears, Joins}
 use Rattle.switch_lines.specs.NewJoins.{join_of, joins_of_notes, joins_acted}
 use Rattle.switch_laws.specs.World.{World, Shown, layers_of, shown_at, shown_on, shown_as, shown_of}
@@ -44,7 +44,7 @@ use Rattle.switch_laws.proofs.Outcomes.Outcome.{ends, connects, waits, goes_on}
 use Rattle.switch_laws.proofs.Effects.{Effect}
 use Rattle.switch_laws.proofs.Effects.Effect.{nothing, closes_all, on_one}
 use Rattle.switch_laws.proofs.Finishing.{all_relinks}
-use Rattle.switch_laws.proofs.Places.{joined_asked, joined_here, joined_apart, joined_place}
+use Rattle.switch_laws.proofs.Places.{joined_here, joined_place}
 use Rattle.switch_laws.proofs.SettingUp.{IsAnswer, answer_by_is, answer_if, pair_call}
 use Rattle.switch_laws.proofs.Turning.{EndEffect, got_changed, changed_none}
 use Rattle.switch_record_laws.specs.Opened.{HasSlot}
@@ -58,6 +58,7 @@ use Rattle.joined_call_laws.proofs.Closing.{clear_touches, touched_slot}
 use Rattle.joined_call_laws.proofs.Telling.{IsClosing}
 use Rattle.joined_call_laws.proofs.Answering.{joins_lead}
 use Rattle.joined_call_laws.proofs.Acting.{closing_only, goes_plain, got_layer, here_book, joined_ms, beside_ms, mutual_ms}
+use Rattle.switch_lines.proofs.Places.{joined_asked, joined_apart}
 
 -- ---- steps, one list after the other
 
@@ -165,11 +166,11 @@ untold routes note n c d ns ls bs e none h =
 alone_as_said : (routes : RouteMap) (n c : ℕ) (role : Role) (s : CallState) (ns : List Note) (ls : List SwitchLine) (bs : Books) → AreOf c role s ns → Unjoined n c ns ls bs → JoinsAsSaid routes n ns ls bs
 alone_as_said routes n c role s [] ls bs of i = refl
 alone_as_said routes n c role s (Incoming d parts ∷ ns) ls bs of i =
-    let v = answer routes ls parts in
+    let v = answer routes ls n parts in
     let came = i.came parts (inl (ap (λ (k : ℕ). Incoming k parts) of.0)) in
     subst (λ (more : List Note). map join_of_call (calls_of_all (heed_steps routes n (Incoming d parts) ls ++ heed_all_steps routes n more (heed routes n (Incoming d parts) ls)) ls bs) ≡ join_of v (at n d) ++ joins_of_notes routes n more (heed routes n (Incoming d parts) ls)) (sym of.1.1)
     (ap (λ (ss : List Step). map join_of_call (calls_of_all ss ls bs)) (append-nil (heed_steps routes n (Incoming d parts) ls))
-    ∙ (answered_as_said v (at n d) parts ls bs came.0 (answer_if (has_any parts.facilities) ls _ _ (answer_by_is ls (line_for routes parts.called))) i.beside
+    ∙ (answered_as_said v (at n d) parts ls bs came.0 (answer_if (has_any parts.facilities) ls _ _ (answer_by_is ls (route_from n ls (line_for routes parts.called)))) i.beside
     (ap (λ (k : ℕ). joined_at ls (at n k)) of.0 ∙ i.none) (ap (λ (k : ℕ). present_at (at n k) bs) of.0 ∙ came.1)
     ∙ sym (append-nil (join_of v (at n d)))))
 alone_as_said routes n c role s (Connected d ∷ ns) ls bs of i = untold routes (Connected d) n c d ns ls bs of.0 i.none (alone_as_said routes n c role s ns ls bs of.1 (later n c (Connected d) ns ls bs i))
@@ -192,7 +193,7 @@ closed_leaves (Some j) n c cause diagnostic reason ns ls bs e m b came =
     let pair : Paired ls p j = m p j e in
     let l1 = with_joined p None ls in
     let l2 = with_joined q None l1 in
-    let k = clear_cause reason cause in
+    let k = clear_cause (is_trunk (slice_get ls n)) reason cause in
     let d = far_diagnostic reason diagnostic in
     record {
       beside = beside_step (Asks q (Clearing k d)) l2 bs (tt, tt) (beside_step (Keeps q None) l1 bs tt (beside_step (Keeps p None) ls bs tt b));
@@ -369,6 +370,14 @@ timers_other (suc n) id (x ∷ ls) = timers_other n id ls
 
 pub timer_joins_none : (routes : RouteMap) (n : ℕ) (id : TimerId) (ls : List SwitchLine) → joins_acted routes n (does (RunsOut id)) ls ≡ []
 timer_joins_none routes n id ls = others_join_none routes n _ (lines_after (Happens n (RunsOut id)) ls) (timers_other n id ls)
+
+relinked_other : (n : ℕ) (ls : List SwitchLine) → Every IsOther (notes_of (slice_get (changed n (with_end (λ e. does Relinks (quieted e))) ls) n))
+relinked_other n [] = tt
+relinked_other zero (x ∷ ls) = closings_other 1 LinkLost x.end.layer.channels
+relinked_other (suc n) (x ∷ ls) = relinked_other n ls
+
+pub relink_joins_none : (routes : RouteMap) (n : ℕ) (ls : List SwitchLine) → joins_acted routes n (does Relinks) ls ≡ []
+relink_joins_none routes n ls = others_join_none routes n _ (lines_after (Happens n Relinks) ls) (relinked_other n ls)
 
 -- ---- calls that are no places
 

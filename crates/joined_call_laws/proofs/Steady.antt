@@ -19,13 +19,13 @@ use Rattle.call_records.specs.Records.{RecordValue, with_sent, with_interrupt_se
 use Rattle.call_records.specs.Book.{Book, Slot, slot_at, with_pair, takes, changed}
 use Rattle.call_records.specs.Carried.{carried, unless_refused}
 use Rattle.book_laws.proofs.Writing.{slot_changed}
-use Rattle.switch_lines.specs.Direction.{new_direction, releasable, carried_by, covered_by, request_for}
+use Rattle.switch_joins.specs.Direction.{new_direction, releasable, covered_by}
 use Rattle.switch_lines.specs.Causes.{reset_cause, far_diagnostic}
-use Rattle.switch_lines.specs.declared.channels.SwitchChannel.{SwitchChannel}
-use Rattle.switch_lines.specs.declared.channels.Joined.{Joined}
+use Rattle.switch_joins.specs.declared.channels.SwitchChannel.{SwitchChannel}
+use Rattle.switch_joins.specs.declared.join.Joined.{Joined}
 use Rattle.switch_lines.specs.Lines.{SwitchLine, same_place, joined_at, with_joined, ask, refusal_at}
 use Rattle.switch_lines.specs.Lines as lines
-use Rattle.switch_lines.specs.Relay.{moved, relayed, places_first, relayed_first, most_moves}
+use Rattle.switch_lines.specs.Relay.{carried_by, request_for, moved, relayed, places_first, relayed_first, most_moves}
 use Rattle.switch_lines.specs.Switch.{heed, may_offer, offering_from, offered_from}
 use Rattle.switch_laws.specs.Joined.{IsSwitch, has_place}
 use Rattle.switch_laws.specs.World.{World, Act, layers_of, shown_at, line_of, after_act}
@@ -34,13 +34,14 @@ use Rattle.switch_laws.specs.Steps.Step.{Asks, Places, Keeps, Happens, Offers, B
 use Rattle.switch_laws.specs.EventSteps.{moved_unless_steps, moved_front_steps, moved_joined_steps, relayed_steps, relayed_from_steps, relayed_first_steps, anew_steps, covered_steps, told_joined_steps, told_steps, heed_steps, heed_all_steps, offered_steps, rounds_steps}
 use Rattle.switch_laws.proofs.Coming.{at}
 use Rattle.switch_laws.proofs.Leading.{Leads, moved_leads, relayed_leads, relayed_first_leads, offered_leads, heed_leads}
-use Rattle.switch_laws.proofs.Lists.{decided, place_is}
-use Rattle.switch_laws.proofs.Places.{joined_kept, joined_asked, joined_here, joined_apart, joined_place}
+use Rattle.switch_laws.proofs.Places.{joined_here, joined_place}
 use Rattle.switch_laws.proofs.Keeping.{joined_on_ends}
 use Rattle.switch_record_laws.specs.Written.{Books, may_release_on, request_writes, writes, writes_at, books_after, books_after_all}
 use Rattle.switch_record_laws.specs.Rests.{Rests}
 use Rattle.switch_record_laws.proofs.Resting.{acts_rest}
 use Rattle.joined_call_laws.specs.Calls.{JoinedCall, present_at, made_call, calls_of, books_by, books_by_all, calls_of_all, Stands, HasEnded, StandsOrEnded, AreCalls}
+use Rattle.switch_joins.proofs.Apart.{decided, place_is}
+use Rattle.switch_lines.proofs.Places.{joined_kept, joined_asked, joined_apart}
 
 -- ---- joins, but for what is kept of them
 

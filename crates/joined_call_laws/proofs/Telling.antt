@@ -10,9 +10,9 @@ use Rattle.packet_laws.specs.Readable.{Every}
 use Rattle.address_routes.specs.Routes.{RouteMap}
 use Rattle.call_records.specs.Records.{RecordValue}
 use Rattle.switch_lines.specs.Causes.{clear_cause, far_diagnostic}
-use Rattle.switch_lines.specs.declared.channels.SwitchChannel.{SwitchChannel}
-use Rattle.switch_lines.specs.declared.channels.Joined.{Joined}
-use Rattle.switch_lines.specs.Lines.{SwitchLine, same_place, joined_at, with_joined, ask}
+use Rattle.switch_joins.specs.declared.channels.SwitchChannel.{SwitchChannel}
+use Rattle.switch_joins.specs.declared.join.Joined.{Joined}
+use Rattle.switch_lines.specs.Lines.{SwitchLine, is_trunk, same_place, joined_at, with_joined, ask}
 use Rattle.switch_lines.specs.Relay.{told_of}
 use Rattle.switch_lines.specs.Switch.{heed, heed_all}
 use Rattle.switch_laws.specs.World.{Act, layers_of, shown_at}
@@ -20,8 +20,8 @@ use Rattle.switch_laws.specs.Joined.{IsOver}
 use Rattle.switch_laws.specs.Steps.Step.{Asks, Keeps}
 use Rattle.switch_laws.specs.EventSteps.{told_steps, heed_steps, heed_all_steps}
 use Rattle.switch_laws.proofs.Coming.{at}
-use Rattle.switch_laws.proofs.Lists.{decided, place_is, same_as}
-use Rattle.switch_laws.proofs.Places.{joined_asked, joined_here, joined_apart, joined_place, place_joined, place_after}
+use Rattle.switch_laws.proofs.Lists.{same_as}
+use Rattle.switch_laws.proofs.Places.{joined_here, joined_place, place_joined, place_after}
 use Rattle.switch_record_laws.specs.Written.{Books}
 use Rattle.switch_record_laws.specs.Relayed.{AreRelayed}
 use Rattle.joined_call_laws.specs.Calls.{JoinedCall, present_at, books_by, Stands, HasEnded, AreCalls}
@@ -29,6 +29,8 @@ use Rattle.joined_call_laws.proofs.Steady.{Paired, Mutual, HavePlaces, books_res
 use Rattle.joined_call_laws.proofs.Walking.{Beside, beside_step, there_step, Walked, walked_then, walked_quiet}
 use Rattle.joined_call_laws.proofs.Following.{CameIn, KeptQuietly, And, steps_keep}
 use Rattle.joined_call_laws.proofs.Closing.{epochs_itself, relayed_same, Side, Held, RestsWith, side_stays, came_stays, side_clears, side_rests, records_at}
+use Rattle.switch_joins.proofs.Apart.{decided, place_is}
+use Rattle.switch_lines.proofs.Places.{joined_asked, joined_apart}
 
 -- ---- the joined calls while notes of line n are still to be told
 
@@ -73,7 +75,7 @@ module _ (n c cause diagnostic : ℕ) (reason : Reason) (ns : List Note) (ls : L
   first = Closed c cause diagnostic reason
 
   abbrev r : Request
-  r = Clearing (clear_cause reason cause) (far_diagnostic reason diagnostic)
+  r = Clearing (clear_cause (is_trunk (slice_get ls n)) reason cause) (far_diagnostic reason diagnostic)
 
   abbrev l1 : List SwitchLine
   l1 = with_joined p None ls
@@ -173,7 +175,7 @@ module _ (n c cause diagnostic : ℕ) (reason : Reason) (ns : List Note) (ls : L
   side_else : (x : SwitchChannel) (k : ℕ) (it : RecordValue) → same_place x p ≡ false → same_place x q ≡ false → Side n (first ∷ ns) bs x k it → Side n ns bs' x k it
   side_else x k it a b s =
       fewer_side n first ns bs' x k it (λ o. over_else x a o) (λ o. over_more x o)
-      (side_stays n (first ∷ ns) (clear_cause reason cause) (far_diagnostic reason diagnostic) q x k it l2 bs b (records_at l2 bs q beside2 q_there).1.1.1.apart s)
+      (side_stays n (first ∷ ns) (clear_cause (is_trunk (slice_get ls n)) reason cause) (far_diagnostic reason diagnostic) q x k it l2 bs b (records_at l2 bs q beside2 q_there).1.1.1.apart s)
 
   stays_in_hand : (d : JoinedCall) → same_place d.near p ≡ false → same_place d.near q ≡ false → InHand n (first ∷ ns) ls bs d → InHand n ns ms bs' d
   stays_in_hand d a b h =
@@ -193,7 +195,7 @@ module _ (n c cause diagnostic : ℕ) (reason : Reason) (ns : List Note) (ls : L
   clears_side : (x : SwitchChannel) (k : ℕ) (it : RecordValue) → x ≡ q → Side n (first ∷ ns) bs x k it → RestsWith bs' x k it
   clears_side x k it e s =
       subst (λ (y : SwitchChannel). RestsWith bs' y k it) (sym e)
-      (side_clears n (first ∷ ns) (clear_cause reason cause) (far_diagnostic reason diagnostic) q k it l2 bs beside2 q_there (subst (λ (y : SwitchChannel). Side n (first ∷ ns) bs y k it) e s))
+      (side_clears n (first ∷ ns) (clear_cause (is_trunk (slice_get ls n)) reason cause) (far_diagnostic reason diagnostic) q k it l2 bs beside2 q_there (subst (λ (y : SwitchChannel). Side n (first ∷ ns) bs y k it) e s))
 
   rests_side : (x : SwitchChannel) (k : ℕ) (it : RecordValue) → x ≡ p → Side n (first ∷ ns) bs x k it → RestsWith bs' x k it
   rests_side x k it e s = record { now = it; rests = side_rests n (first ∷ ns) (Act.Asks q r ∷ []) x k it l2 bs (over_p x e) s; epochs = epochs_itself it }
@@ -234,7 +236,7 @@ module _ (n c cause diagnostic : ℕ) (reason : Reason) (ns : List Note) (ls : L
 
   -- a call that came in on the channel itself
   came_then : (parts : CallParts) → CameIn p parts bs → CameIn p parts bs'
-  came_then parts i = came_stays (clear_cause reason cause) (far_diagnostic reason diagnostic) q p parts l2 bs pair.apart (records_at l2 bs q beside2 q_there).1.1.1.apart i
+  came_then parts i = came_stays (clear_cause (is_trunk (slice_get ls n)) reason cause) (far_diagnostic reason diagnostic) q p parts l2 bs pair.apart (records_at l2 bs q beside2 q_there).1.1.1.apart i
 
 -- ---- one note
 

@@ -3,7 +3,7 @@ use Rattle.std.specs.Prelude.{◌≡◌, List, [], ◌∷◌, ◌++◌, is_some}
 use Rattle.std.proofs.Common.{refl, sym, ap, subst, ◌∙◌, append_assoc, append-nil}
 use Rattle.packet_layer.specs.Layer.{Layer}
 use Rattle.packet_laws.specs.Readable.{Every}
-use Rattle.switch_lines.specs.declared.channels.SwitchChannel.{SwitchChannel}
+use Rattle.switch_joins.specs.declared.channels.SwitchChannel.{SwitchChannel}
 use Rattle.switch_lines.specs.Lines.{SwitchLine}
 use Rattle.switch_laws.specs.World.{World, IsWorld, Act, MayHappen, layers_of, shown_at, after_act, after_acts, world_after_all}
 use Rattle.switch_laws.specs.Steps.{Step, lines_after, lines_after_all, acts_of, acts_of_all}

@@ -12,7 +12,7 @@ use Rattle.call_records.specs.Writes.Write.{Placed}
 use Rattle.call_records.specs.Register.{Register, LinePlan, ChannelEnd, free_ends, book_at, with_book, written_at, all_written_at, holder_at, goes_on, handed_on, no_parts}
 use Rattle.call_records.specs.Register.{with_standing_call, with_free_line, with_line, with_lines, made_register}
 use Rattle.call_records.specs.Register.{empty_register}
-use Rattle.switch_lines.specs.declared.channels.NewJoin.{NewJoin}
+use Rattle.switch_joins.specs.declared.channels.NewJoin.{NewJoin}
 use Rattle.call_path_laws.specs.OwnAddresses.{HaveOwnAddresses}
 use Rattle.call_path_laws.proofs.OwnAddresses.{made_owns, written_owns, handed_owns}
 use Rattle.network_laws.specs.NodeEvents.{NodeEvent}

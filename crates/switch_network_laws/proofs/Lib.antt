@@ -10,6 +10,7 @@ pub mod PromiseUsers
 pub mod PromiseAny
 pub mod FewerAny
 pub mod RestAny
+pub mod OneSwitch
 pub mod Standing
 pub mod UsersLine
 pub mod UsersWrites
@@ -17,7 +18,6 @@ pub mod UsersHeld
 pub mod UsersEvents
 pub mod UsersTime
 pub mod UsersAny
-mod SwitchWriting
 mod SwitchSending
 mod SwitchMoving
 pub mod SwitchStanding

@@ -8,13 +8,13 @@ use Rattle.link_timers.specs.declared.role.Role.{Role}
 use Rattle.link_timers.specs.declared.role.Role.TheVariants.{Dte, Dce}
 use Rattle.lapb.specs.Line.{chosen}
 use Rattle.packet_codec.specs.Address.{MayBeDigits}
+use Rattle.packet_codec.specs.Digits.{digits_or_none}
 use Rattle.packet_layer.specs.Layer.{Layer}
 use Rattle.packet_layer.specs.Layer as layers
 use Rattle.address_routes.specs.Routes.{line_for}
-use Rattle.call_records.specs.Book.{Book, side_of, new_book}
+use Rattle.call_records.specs.Book.{Book, side_of, new_book, address_of}
 use Rattle.call_records.specs.Register.{LinePlan, planned_book, empty_register, book_at}
 use Rattle.book_laws.proofs.Basics.{get_there}
-use Rattle.line_record_laws.specs.Kept.{Kept}
 use Rattle.network_laws.specs.Node.{NodeState, end_of, drained}
 use Rattle.memory_line.specs.Lines.{Flights, LineService}
 use Rattle.switch_lines.specs.declared.config.SwitchLineConfig.{SwitchLineConfig}
@@ -24,14 +24,16 @@ use Rattle.switch_lines.specs.Switch.{Switch}
 use Rattle.switch_laws.specs.Events.{new_legs}
 use Rattle.switch_path_laws.specs.Records.{AreRecords}
 use Rattle.switch_path_laws.specs.Written.{Books}
-use Rattle.switch_path_laws.specs.Kept.{Partner, Partners, line_with, sent_on}
+use Rattle.switch_path_laws.specs.Kept.{Partner, Partners, KeptWith, sent_on}
 use Rattle.switch_path_laws.specs.Tied.{Histories, IsTied}
 use Rattle.switch_path_laws.proofs.Making.{made_records}
 use Rattle.switch_path_laws.proofs.Tying.{tied_holds}
 use Rattle.call_path_laws.specs.World.{made_world}
 use Rattle.call_path_laws.specs.Lines.{free_book}
-use Rattle.switch_path_laws.specs.Network.{network_line, IsOther, AreAmong, IsPlanned}
-use Rattle.switch_path_laws.proofs.Events.{network_holds}
+use Rattle.switch_path_laws.specs.Sight.{network_line}
+use Rattle.switch_path_laws.specs.Network.{IsOther}
+use Rattle.switch_path_laws.proofs.Eventing.{calls_hold}
+use Rattle.switch_network_laws.proofs.OneSwitch.{IsOnePlan, begin_one}
 use Rattle.network_laws.specs.Network.{PlacedNode, PlacedSwitch, NetNode, NetLine, Network, place_at}
 use Rattle.network_laws.proofs.Users.{same_user, same_planned}
 use Rattle.network_laws.specs.Opening.{NewNode, NewSwitch, Planned, PlannedUser, PlannedSwitch, NewLine, NetPlan, IsDcePlan, IsLinePlan, IsSwitchPlan, IsPlan, IsMade, line_config, own_configs, line_plan, placed_switch, new_dte}
@@ -79,7 +81,7 @@ no_address plan is line l there user = let p : IsLinePlan plan.nodes line l = is
     by (PlannedSwitch d) got stands = absurd (let no : true ≡ false = sym user ∙ ap is_user got in cc)
 
 planned : (plan : NetPlan) (place : ℕ) (n : NewSwitch) → IsPlan plan → slice_get plan.nodes place ≡ Some (PlannedSwitch n)
-    → IsPlanned (plan_of plan n) (length (plans_of plan)) n.lines (made n.routes (own_configs n.lines plan.lines))
+    → IsOnePlan (plan_of plan n) place (length (plans_of plan)) n.lines (made n.routes (own_configs n.lines plan.lines))
 planned plan place n is at = record {
   lines = sym c.count ∙ sym (length-map (own_configs n.lines plan.lines) made_line);
   apart = λ i j less within same.
@@ -87,14 +89,14 @@ planned plan place n is at = record {
       let y = get_there n.lines j within in
       let one : y.0 ≡ x.0 = sym (line_named n.lines j y.0 y.1) ∙ sym same ∙ line_named n.lines i x.0 x.1 in
       sw.apart i j x.0 x.1 (y.1 ∙ ap Some one);
-  user_end = λ own less. refl;
+  user_end = λ line less. refl;
   switch_end = λ own less. let o = line_at own less in ap (λ (x : Option NewLine). dce_is_user plan.nodes x) o.there ∙ ap (λ k. is_user (slice_get plan.nodes k)) o.at_dce ∙ ap is_user at;
-  one_switch = λ i j less within. dce_at i less ∙ sym (dce_at j within);
+  placed = dce_at;
   address = λ own l got.
       let x = unmapped made_line (own_configs n.lines plan.lines) own l got in
       let b = c.back own x.0 x.1 in
       ap (λ (y : SwitchLine). y.address) x.2 ∙ ap (λ (y : SwitchLineConfig). y.address) b.3
-      ∙ ap address_on (sym b.1.there ∙ ap (λ k. slice_get plan.lines k) (sym (line_named n.lines own b.0 b.2)));
+      ∙ ap (λ (o : Option NewLine). address_of (address_on o)) (sym b.1.there ∙ ap (λ k. slice_get plan.lines k) (sym (line_named n.lines own b.0 b.2)));
   addressed = λ own less none.
       let o = line_at own less in
       let empty : o.l.address ≡ [] = ap address_on (sym o.there) ∙ none in
@@ -106,7 +108,6 @@ planned plan place n is at = record {
       ap (λ (xs : List ℕ). option_and_then (λ (k : ℕ). slice_get n.lines k) (line_for n.routes xs)) (digits_of called)
       ∙ (ap (λ (o : Option ℕ). option_and_then (λ (k : ℕ). slice_get n.lines k) o) routed ∙ (x.1 ∙ ap (λ (k : ℕ). Some k) (sym (line_named n.lines own x.0 x.1))));
   others = others;
-  switches = place ∷ [];
   tree = record {
     few = omega arith;
     at_switch = at_switch;
@@ -151,9 +152,8 @@ planned plan place n is at = record {
     at_switch line Dte e = absurd (true≢false e)
     at_switch line Dce e = (0, omega arith, sym (switch_is line (slice_get plan.lines line) refl e))
 
-    others : (line : ℕ) (role : Role) → line < length (plans_of plan) → IsOther n.lines line → (plan_of plan n).has_user line role ≡ true
-    others line Dte less other = refl
-    others line Dce less other =
+    others : (line : ℕ) → line < length (plans_of plan) → IsOther n.lines line → (plan_of plan n).has_user line Dce ≡ true
+    others line less other =
         let x = get_there plan.lines line (let many = length-map plan.lines line_plan in omega arith) in
         ap (λ (o : Option NewLine). dce_is_user plan.nodes o) x.1 ∙ (other_user plan place n is at line x.0 x.1 other).0
 
@@ -174,7 +174,7 @@ own_book_is : (plan : NetPlan) (n : NewSwitch) (own line : ℕ) (l : NewLine) �
 own_book_is plan n own line l at there =
     ap (λ k. book_or (slice_get (map free_book (plans_of plan)) k)) (line_named n.lines own line at) ∙ ap book_or (free_there plan line l there)
 
-among : (plan : NetPlan) (place : ℕ) (n : NewSwitch) → IsPlan plan → slice_get plan.nodes place ≡ Some (PlannedSwitch n) → AreAmong n.lines (own_books plan n) (map free_book (plans_of plan))
+among : (plan : NetPlan) (place : ℕ) (n : NewSwitch) → IsPlan plan → slice_get plan.nodes place ≡ Some (PlannedSwitch n) → (own : ℕ) → own < length n.lines → slice_get (map free_book (plans_of plan)) (network_line n.lines own) ≡ Some (own_books plan n own)
 among plan place n is at own less =
     let x = get_there n.lines own less in
     let o = own_line plan place n is at own x.0 x.1 in
@@ -192,8 +192,8 @@ tied L plan s is m place n at ps each =
     (λ own l got.
     let x = unmapped made_line (own_configs n.lines plan.lines) own l got in
     let b = c.back own x.0 x.1 in
-    let address : l.address ≡ b.1.l.address = ap (λ (y : SwitchLine). y.address) x.2 ∙ ap (λ (y : SwitchLineConfig). y.address) b.3 in
-    subst (λ (xs : List ℕ). MayBeDigits xs) (sym address) (b.1.digits.1, b.1.digits.2))
+    let address : l.address ≡ address_of b.1.l.address = ap (λ (y : SwitchLine). y.address) x.2 ∙ ap (λ (y : SwitchLineConfig). y.address) b.3 in
+    subst (λ (xs : List ℕ). MayBeDigits xs) (sym (ap digits_or_none address ∙ digits_of b.1.l.address)) (b.1.digits.1, b.1.digits.2))
     (λ own l got.
     let x = unmapped made_line (own_configs n.lines plan.lines) own l got in
     let b = c.back own x.0 x.1 in
@@ -201,8 +201,8 @@ tied L plan s is m place n at ps each =
     let one : b.0 ≡ q.line = same_Some b.0 q.line (sym b.2 ∙ q.at) in
     let same : b.1.l ≡ q.o.l = same_Some b.1.l q.o.l (sym b.1.there ∙ ap (λ k. slice_get plan.lines k) one ∙ q.o.there) in
     let line : l ≡ made_line (line_config q.o.l) = x.2 ∙ ap made_line (b.3 ∙ ap line_config same) in
-    subst (λ (y : Book). Kept (ps own).setting y (line_with (ps own) l.end)) (sym (own_book_is plan n own q.line q.o.l q.at q.o.there))
-    (subst (λ (y : SwitchLine). Kept (ps own).setting (free_book (line_plan q.o.l)) (line_with (ps own) y.end)) (sym line) q.kept))
+    subst (λ (y : Book). KeptWith (ps own) y l.end) (sym (own_book_is plan n own q.line q.o.l q.at q.o.there))
+    (subst (λ (y : SwitchLine). KeptWith (ps own) (free_book (line_plan q.o.l)) y.end) (sym line) q.kept))
     (λ own layer got.
     let z = unmapped (λ (y : SwitchLine). y.end.layer) (map made_line (own_configs n.lines plan.lines)) own layer got in
     let x = unmapped made_line (own_configs n.lines plan.lines) own z.0 z.1 in
@@ -213,7 +213,7 @@ tied L plan s is m place n at ps each =
     subst (λ (y : Book). AreRecords Dce layer legs y) (sym (own_book_is plan n own b.0 o.l b.2 o.there))
     (subst (λ (y : Layer). AreRecords Dce y legs (free_book (line_plan o.l))) (sym is_layer)
     (subst (λ (v : Bool). AreRecords Dce (layers.made Dce o.l.params.channels o.l.params.window v) legs (free_book (line_plan o.l))) (sym o.free)
-    (made_records Dce o.l.params.channels o.l.params.window o.l.dte o.l.dce legs))))
+    (made_records Dce Dce o.l.params.channels o.l.params.window o.l.dte o.l.dce legs))))
   where
     c : Configs plan place n
     c = configs plan place n is at
@@ -305,17 +305,18 @@ begun : (L : LineService) (plan : NetPlan) (s : Network) (is : IsPlan plan) (m :
     → AreApart s.nodes → IsHeld L s (placed_switch n plan.lines)
 begun L plan s is m place n at f apart =
     let first = get_there n.lines 0 (let few = (is.nodes place (PlannedSwitch n) at).least in omega arith) in
-    let ps = all_partners n.lines (PartnerMade L plan s m place n) (partner_made L plan s is m place n at f 0 first.0 first.1).0 (partner_made L plan s is m place n at f) in
+    let one = partner_made L plan s is m place n at f 0 first.0 first.1 in
+    let ps = all_partners n.lines (PartnerMade L plan s m place n) one.0 (partner_made L plan s is m place n at f) (λ p. p.role ≡ Dce) one.1.role (λ own p q. q.role) in
     let h : Histories = histories_of plan n ps.0 in
     let switch : Switch = made n.routes (own_configs n.lines plan.lines) in
     let free : List Book = map free_book (plans_of plan) in
-    let i = network_holds.begins (plan_of plan n) n.lines n.routes (own_configs n.lines plan.lines) (plans_of plan) h (is_config plan place n is at) (planned plan place n is at)
+    let i = begin_one (plan_of plan n) place n.lines (plans_of plan) switch h (planned plan place n is at)
     (are_between plan n 0 plan.lines (λ j l there. let same : 0 + j ≡ j = omega arith in ap (λ k. slice_get plan.lines k) same ∙ there))
-    (among plan place n is at) (tied L plan s is m place n at ps.0 ps.1) in
+    (among plan place n is at) ps.2 (tied L plan s is m place n at ps.0 ps.1) (calls_hold.begins n.routes (own_configs n.lines plan.lines) h.books (is_config plan place n is at)) in
     let a = all_stand (plan_of plan n) n.lines switch h [] free (made_world (plans_of plan)) (map (λ line. []) (plans_of plan)) 0 (plans_of plan) (may_stand plan place n is at) i in
     let c : Configs plan place n = configs plan place n is at in
     let b : Sent (plan_of plan n) n.lines (AreIn s n) switch a.histories [] a.books a.world a.traces =
-    all_sent network_holds.out (plan_of plan n) n.lines (AreIn s n) switch a.histories [] a.books a.world a.traces
+    all_sent (plan_of plan n) n.lines (AreIn s n) switch a.histories [] a.books a.world a.traces
     (λ own l got.
     let x = unmapped made_line (own_configs n.lines plan.lines) own l got in
     let e = c.back own x.0 x.1 in

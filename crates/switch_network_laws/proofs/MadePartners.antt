@@ -9,13 +9,13 @@ use Rattle.packet_end.specs.PacketEnd as end
 use Rattle.packet_end.specs.PacketEnd.{PacketEnd}
 use Rattle.call_records.specs.Book.{Book, made_book}
 use Rattle.line_laws.specs.Line.{Sends, made}
-use Rattle.line_record_laws.specs.Kept.{Setting, Kept}
+use Rattle.line_record_laws.specs.Kept.{Setting}
 use Rattle.line_record_laws.specs.Happens.{sent}
 use Rattle.line_record_laws.proofs.Keeping.{made_kept, silent_kept}
 use Rattle.network_laws.specs.Node.{end_of, drained, frames_of}
 use Rattle.memory_line.specs.declared.line.Direction.TheVariants.{FromDte, FromDce}
 use Rattle.memory_line.specs.Lines.{Flights, no_flights, LineService}
-use Rattle.switch_path_laws.specs.Kept.{Partner, Partners, line_with}
+use Rattle.switch_path_laws.specs.Kept.{Partner, Partners, KeptWith}
 use Rattle.call_path_laws.specs.Lines.{free_book}
 use Rattle.network_laws.specs.Network.{Network}
 use Rattle.network_laws.specs.Opening.{NewSwitch, NewLine, NetPlan, IsPlan, PlannedSwitch, new_dte, new_dce, line_plan, AreSent, IsMade}
@@ -28,10 +28,11 @@ pub record PartnerMade (L : LineService) (plan : NetPlan) (s : Network) (m : IsM
   pub line : ℕ
   pub at : slice_get n.lines own ≡ Some line
   pub o : OwnLine plan place line
-  pub kept : Kept p.setting (free_book (line_plan o.l)) (line_with p (end.made Dce o.l.params))
+  pub role : p.role ≡ Dce
+  pub kept : KeptWith p (free_book (line_plan o.l)) (end.made Dce o.l.params)
   -- which of the first frames of the switch are not lost
   pub sent : List Bool
-  pub dte_is : p.dte ≡ end_of (drained (new_dte o.is.dte.as_dte o.l.params))
+  pub dte_is : p.other ≡ end_of (drained (new_dte o.is.dte.as_dte o.l.params))
   pub up : p.up ≡ (m.lines line o.l o.there).flights.from_dte
   pub down : p.down ++ chosen sent (end.made Dce o.l.params).line.frames ≡ (m.lines line o.l o.there).flights.from_dce
 
@@ -39,7 +40,8 @@ pub record PartnerMade (L : LineService) (plan : NetPlan) (s : Network) (m : IsM
 abbrev partner_then : NewLine → List Bool → Partner
 partner_then l kept = record {
   setting = setting-of l.dte l.dce l.params;
-  dte = sent (end.made Dte l.params);
+  role = Dce;
+  other = sent (end.made Dte l.params);
   up = chosen kept (end.made Dte l.params).line.frames;
   down = [];
 }
@@ -48,11 +50,11 @@ free_then : (l : NewLine) → l.params.standing ≡ false → made_book l.dte l.
 free_then l none = ap (λ (b : Bool). made_book l.dte l.dce l.params.channels b) none
 
 kept_then : (plan : NetPlan) (place line : ℕ) (o : OwnLine plan place line) (kept : List Bool)
-    → Kept (setting-of o.l.dte o.l.dce o.l.params) (free_book (line_plan o.l)) (line_with (partner_then o.l kept) (end.made Dce o.l.params))
+    → KeptWith (partner_then o.l kept) (free_book (line_plan o.l)) (end.made Dce o.l.params)
 kept_then plan place line o kept =
     let s : Setting = setting-of o.l.dte o.l.dce o.l.params in
     let book : Book = made_book o.l.dte o.l.dce o.l.params.channels o.l.params.standing in
-    subst (λ (b : Book). Kept s b (line_with (partner_then o.l kept) (end.made Dce o.l.params))) (free_then o.l o.free)
+    subst (λ (b : Book). KeptWith (partner_then o.l kept) b (end.made Dce o.l.params)) (free_then o.l o.free)
     (silent_kept s book (made o.l.params o.l.params) Dte (Sends kept) tt
     (made_kept s (record { dte = o.is.params; dce = o.is.params; alike = record { channels = refl; window = refl; standing = refl } })))
 
@@ -78,6 +80,7 @@ partner_made L plan s is m place n at f own line own_at =
         line = line;
         at = own_at;
         o = o;
+        role = refl;
         kept = kept_then plan place line o up.kept;
         sent = down.kept;
         dte_is = ap (λ (e : PacketEnd). sent e) (sym first) ∙ sym (end-drained (new_dte d l.params));
@@ -97,7 +100,17 @@ chosen_has : (at : List ℕ) (P : ℕ → Partner → Type 0) (other : Partner) 
 chosen_has at P other each own None e line is = absurd (none-some line is)
 chosen_has at P other each own (Some x) e line is = (each own x e).1
 
-pub all_partners : (at : List ℕ) (P : ℕ → Partner → Type 0) → Partner → ((own line : ℕ) → slice_get at own ≡ Some line → (p : Partner) × P own p)
-    → (ps : Partners) × ((own line : ℕ) → slice_get at own ≡ Some line → P own (ps own))
-all_partners at P other each =
-    ((λ own. chosen_by at P other each own (slice_get at own) refl), λ own line is. chosen_has at P other each own (slice_get at own) refl line is)
+-- what each has that may be chosen
+chosen_so : (at : List ℕ) (P : ℕ → Partner → Type 0) (Q : Partner → Type 0) (other : Partner) (each : (own line : ℕ) → slice_get at own ≡ Some line → (p : Partner) × P own p) (own : ℕ) (o : Option ℕ) (e : slice_get at own ≡ o)
+    → Q other → ((k : ℕ) (p : Partner) → P k p → Q p) → Q (chosen_by at P other each own o e)
+chosen_so at P Q other each own None e beside has = beside
+chosen_so at P Q other each own (Some line) e beside has = has own (each own line e).0 (each own line e).1
+
+pub all_partners : (at : List ℕ) (P : ℕ → Partner → Type 0) (other : Partner) → ((own line : ℕ) → slice_get at own ≡ Some line → (p : Partner) × P own p)
+    → (Q : Partner → Type 0) → Q other → ((k : ℕ) (p : Partner) → P k p → Q p)
+    → (ps : Partners) × ((own line : ℕ) → slice_get at own ≡ Some line → P own (ps own)) × ((own : ℕ) → Q (ps own))
+all_partners at P other each Q beside has = (
+  (λ own. chosen_by at P other each own (slice_get at own) refl),
+  λ own line is. chosen_has at P other each own (slice_get at own) refl line is,
+  λ own. chosen_so at P Q other each own (slice_get at own) refl beside has,
+)

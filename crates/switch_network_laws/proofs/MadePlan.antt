@@ -6,6 +6,7 @@ use Rattle.link_timers.specs.declared.role.Role.{Role}
 use Rattle.link_timers.specs.declared.role.Role.TheVariants.{Dte, Dce}
 use Rattle.packet_codec.specs.Address.{AreDigits}
 use Rattle.address_routes.specs.Routes.{line_for}
+use Rattle.packet_codec.specs.Digits.{digits_or_none}
 use Rattle.call_records.specs.Book.{address_of}
 use Rattle.book_laws.proofs.Basics.{get_there}
 use Rattle.switch_lines.specs.declared.config.SwitchLineConfig.{SwitchLineConfig}
@@ -53,19 +54,15 @@ abbrev pub address_on : Option NewLine → List ℕ
 address_on None = []
 address_on (Some l) = l.address
 
-abbrev pub digits_in : Option (List ℕ) → List ℕ
-digits_in None = []
-digits_in (Some digits) = digits
-
 abbrev pub plan_of : NetPlan → NewSwitch → Plan
 plan_of plan n = record {
   node = λ line role. end_place (length plan.nodes) (slice_get plan.lines line) role;
   has_user = λ line role. user_at plan line role;
   address = λ line. address_on (slice_get plan.lines line);
-  route = λ place called. option_and_then (λ own. slice_get n.lines own) (line_for n.routes (digits_in called));
+  route = λ place called. option_and_then (λ own. slice_get n.lines own) (line_for n.routes (digits_or_none called));
 }
 
-pub digits_of : (called : List ℕ) → digits_in (address_of called) ≡ called
+pub digits_of : (called : List ℕ) → digits_or_none (address_of called) ≡ called
 digits_of [] = refl
 digits_of (digit ∷ digits) = refl
 

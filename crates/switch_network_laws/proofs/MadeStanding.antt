@@ -19,7 +19,7 @@ use Rattle.switch_path_laws.specs.Calls.{JoinedCall}
 use Rattle.call_path_laws.specs.World.{Origin, World, Plan}
 use Rattle.call_path_laws.specs.Lines.{free_book}
 use Rattle.switch_path_laws.specs.Network.{IsOther}
-use Rattle.switch_path_laws.specs.Network as paths
+use Rattle.switch_network_laws.specs.OneSwitch as paths
 use Rattle.switch_network_laws.proofs.UsersWrites.{line_named, after_other}
 
 -- ---- lines that are not there yet

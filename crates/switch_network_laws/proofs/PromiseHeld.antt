@@ -1,7 +1,7 @@
 -- What holds of a network with a switch has, on faithful lines, all that the network promises.
-use Rattle.std.proofs.Common.{◌≡◌, ◌≢◌, ℕ, true, false, List, length, Some, refl, sym, ap, ◌∙◌, subst, inr, [], arith}
-use Rattle.std.specs.Prelude.{slice_get}
-use Rattle.std.proofs.lemmas.Option.{slice_get_within}
+use Rattle.std.proofs.Common.{◌≡◌, ◌≢◌, ℕ, true, false, List, length, Some, refl, sym, ap, ◌∙◌, subst, inl, inr, [], arith}
+use Rattle.std.specs.Prelude.{◌⊎◌, slice_get}
+use Rattle.std.proofs.lemmas.Option.{same_Some, slice_get_within}
 use Rattle.link_timers.specs.declared.role.Role.{Role}
 use Rattle.link_timers.specs.declared.role.Role.TheVariants.{Dte, Dce}
 use Rattle.packet_layer.specs.Layer.{channel_of}
@@ -10,7 +10,6 @@ use Rattle.call_records.specs.Records.{RecordValue}
 use Rattle.call_records.specs.Book.{Book, side_of}
 use Rattle.call_records.specs.Register.{Register, book_at}
 use Rattle.book_laws.specs.Headline.{HaveRecords, HasCallee, has_call}
-use Rattle.network_laws.specs.Sending.{HasSent}
 use Rattle.register_laws.specs.Promise.{HasRecords}
 use Rattle.line_record_laws.specs.Kept.{end_at}
 use Rattle.line_record_laws.specs.Confirmed.{SaysConfirmed}
@@ -25,15 +24,18 @@ use Rattle.call_path_laws.specs.Seen.{address_at, SideIsSeen}
 use Rattle.call_path_laws.specs.Promise.{PathsHold}
 use Rattle.call_path_laws.proofs.Ending.{ends_seen, users_own, open_seen}
 use Rattle.switch_path_laws.specs.Law as paths
-use Rattle.switch_path_laws.proofs.Events.{network_holds}
+use Rattle.switch_path_laws.proofs.Begins.{network_holds}
+use Rattle.switch_path_laws.specs.Sight.{only_at}
+use Rattle.switch_path_laws.specs.Network.{placed_at}
+use Rattle.switch_network_laws.proofs.OneSwitch.{of_one}
 use Rattle.network_laws.specs.Node.{NodeState, end_of, is_pad}
 use Rattle.memory_line.specs.Lines.{LineService}
 use Rattle.network_laws.specs.OneLine.{LineState}
-use Rattle.network_laws.specs.Network.{PlacedNode, NetNode, User, Switching, NetLine, Network, place_at}
+use Rattle.network_laws.specs.Network.{PlacedNode, NetNode, User, Switching, NetLine, Network, place_at, StandsAtLine}
 use Rattle.network_laws.specs.IsLine.{line_of, IsLine, IsKept}
-use Rattle.network_laws.specs.Promise.{EndHolds, PlacedHolds}
+use Rattle.network_laws.specs.Promise.{EndHolds, PlacedHolds, PadsSend}
 use Rattle.network_laws.proofs.Answering.{came_kept, paired_kept, placed_kept, records_kept}
-use Rattle.network_laws.proofs.Made.{typed_line}
+use Rattle.network_laws.proofs.Made.{sends_line}
 use Rattle.switch_network_laws.specs.IsSwitched.{ends_state, LineStands, IsHeld, IsSwitched, IsAddressed}
 use Rattle.switch_network_laws.specs.Histories.{HasUserAt, HistoriesHold}
 use Rattle.switch_network_laws.specs.Promise.{NetworkPromise}
@@ -79,8 +81,8 @@ module _ (L : LineService) (s : Network) (p : IsSwitched L s) (f : L.faithful) w
   paths_hold : PathsHold held.plan s.register
   paths_hold =
       subst (λ (g : Register). PathsHold held.plan g) held.register
-      (network_holds.promise held.plan p.switch.lines p.switch.switch held.histories held.calls held.books held.world held.traces held.network
-      (λ line b other there. book_kept line b there))
+      (network_holds.promise held.plan (λ k. p.switch.lines) (only_at held.network.place (of_one p.switch.switch held.histories)) (placed_at held.network.place held.calls) held.network.lines held.books held.world held.traces held.network.network
+      (λ line b users there. book_kept line b there))
 
   book_records : (line : ℕ) (b : Book) → slice_get held.books line ≡ Some b → HaveRecords b
   book_records line b there = let k = book_kept line b there in records_kept k.setting b k.line k.kept
@@ -88,7 +90,7 @@ module _ (L : LineService) (s : Network) (p : IsSwitched L s) (f : L.faithful) w
   records_hold : HasRecords s.register
   records_hold =
       subst (λ (g : Register). HasRecords g) held.register
-      (open_seen held.plan held.world held.books held.traces held.network.seen.seen held.network.seen.lines book_records)
+      (open_seen held.plan held.world held.books held.traces held.network.network.seen.seen held.network.network.seen.lines book_records)
 
   -- ---- the ends at which users stand
 
@@ -96,7 +98,7 @@ module _ (L : LineService) (s : Network) (p : IsSwitched L s) (f : L.faithful) w
       → EndIsSeen held.plan line role b s.register
   end_seen line l role b at there user =
       subst (λ (g : Register). EndIsSeen held.plan line role b g) held.register
-      (ends_seen held.plan held.world held.books held.traces line b role held.network.seen.seen held.network.seen.lines there
+      (ends_seen held.plan held.world held.books held.traces line b role held.network.network.seen.seen held.network.network.seen.lines there
       (held.plan_is.user line l role (User user.0) at user.1))
 
   own_node : (role : Role) (l : NetLine) (dte dce : NodeState) (b : Book) → IsLine L (ends_state l dte dce b) → (side_of role b).node ≡ place_at role l
@@ -158,7 +160,7 @@ module _ (L : LineService) (s : Network) (p : IsSwitched L s) (f : L.faithful) w
       → HasCallee b role channel → HasCallee (book_at line s.register) role channel
   placed_in_register line l role b channel at there user has =
       subst (λ (g : Register). HasCallee (book_at line g) role channel) held.register
-      (network_holds.placed held.plan p.switch.lines p.switch.switch held.histories held.calls held.books held.world held.traces held.network line b role channel there
+      (network_holds.placed held.plan (λ k. p.switch.lines) (only_at held.network.place (of_one p.switch.switch held.histories)) (placed_at held.network.place held.calls) held.network.lines held.books held.world held.traces held.network.network line b role channel there
       (held.plan_is.user line l role (User user.0) at user.1) has)
 
   placed_holds : (line : ℕ) (l : NetLine) (role : Role) → slice_get s.lines line ≡ Some l → HasUserAt s l role → PlacedHolds s line l role
@@ -179,37 +181,41 @@ module _ (L : LineService) (s : Network) (p : IsSwitched L s) (f : L.faithful) w
 
   -- ---- what a PAD typed
 
-  typed_record : (own r : RecordValue) → IsOf own r → HasSent own → HasSent r
-  typed_record own r same h =
-      subst HasSent (sym same) (record { typed = h.typed; occasions = h.occasions; said = record { messages = h.said.messages; told = h.said.told; interrupts = h.said.interrupts } })
-
   same_node : (own r : RecordValue) → IsOf own r → r.node ≡ own.node
   same_node own r same = ap (λ (x : RecordValue). x.node) same
 
   -- a PAD is at the DTE
-  typed_at : (line : ℕ) (l : NetLine) (role : Role) (b : Book) (n : PlacedNode) (i : ℕ) (own : RecordValue) → LineHas line l b
-      → slice_get s.nodes (place_at role l) ≡ Some (User n) → is_pad n.node ≡ true → slice_get b.records i ≡ Some own → own.node ≡ place_at role l → HasSent own
-  typed_at line l Dte b n i own h at pad there node =
-      let u = user_end s.nodes line l h.stands Dte n at in
-      typed_line L (ends_state l h.stands.dte.node h.stands.dce b) h.holds (ap (λ (x : NodeState). is_pad x) u.node_is ∙ pad) i own there node
-  typed_at line l Dce b n i own h at pad there node =
-      let u = user_end s.nodes line l h.stands Dce n at in
-      let no : is_pad n.node ≡ false = ap (λ (x : NodeState). is_pad x) (sym u.node_is) ∙ h.stands.host in
+  pad_at_dte : (place : ℕ) (n : PlacedNode) (l : NetLine) (h : LineStands s.nodes n.line l) → slice_get s.nodes place ≡ Some (User n) → is_pad n.node ≡ true
+      → (l.dte ≡ place) ⊎ (l.dce ≡ place) → (l.dte ≡ place) × (h.dte.node ≡ n.node)
+  pad_at_dte place n l h at pad (inl e) = (e, (user_end s.nodes n.line l h Dte n (ap (λ (k : ℕ). slice_get s.nodes k) e ∙ at)).node_is)
+  pad_at_dte place n l h at pad (inr e) =
+      let u = user_end s.nodes n.line l h Dce n (ap (λ (k : ℕ). slice_get s.nodes k) e ∙ at) in
+      let no : is_pad n.node ≡ false = ap (λ (x : NodeState). is_pad x) (sym u.node_is) ∙ h.host in
       absurd (let bad : true ≡ false = sym pad ∙ no in cc)
 
-  typed_holds : (place : ℕ) (n : PlacedNode) (i : ℕ) (r : RecordValue) → slice_get s.nodes place ≡ Some (User n) → is_pad n.node ≡ true
-      → slice_get s.register.records i ≡ Some r → r.node ≡ place → HasSent r
-  typed_holds place n i r at pad there node =
-      let o : IsOfUser held.plan held.books r =
-      users_own held.plan held.world held.books held.traces i r held.network.seen.seen held.network.seen.lines
+  pads_send : PadsSend s
+  pads_send place n q at pad =
+      let st : StandsAtLine s.lines place n = p.nodes place (User n) at in
+      let b = its_book n.line st.line st.there in
+      let h : LineHas n.line st.line b.0 = line_has n.line st.line b.0 st.there b.1 in
+      let is = pad_at_dte place n st.line h.stands at (ap (λ (m : NodeState). is_pad m) pad) st.at_end in
+      sends_line L (ends_state st.line h.stands.dte.node h.stands.dce b.0) h.holds q (is.1 ∙ pad) place s.register.records
+      (λ i r there node.
+      (let o : IsOfUser held.plan held.books r =
+      users_own held.plan held.world held.books held.traces i r held.network.network.seen.seen held.network.network.seen.lines
       (ap (λ (g : Register). slice_get g.records i) held.register ∙ there) in
       let l = its_line o.line o.line_book o.line_there in
       let where_is : r.node ≡ place_at o.role l.0 = o.node ∙ held.plan_is.node o.line l.0 o.role l.1 in
       let here : place_at o.role l.0 ≡ place = sym where_is ∙ node in
-      typed_record o.own r o.same
-      (typed_at o.line l.0 o.role o.line_book n o.place o.own (line_has o.line l.0 o.line_book l.1 o.line_there)
-      (ap (λ (k : ℕ). slice_get s.nodes k) here ∙ at) pad o.own_there
-      (sym (same_node o.own r o.same) ∙ where_is))
+      let line_is : n.line ≡ o.line = (user_end s.nodes o.line l.0 (p.lines o.line l.0 l.1) o.role n (ap (λ (k : ℕ). slice_get s.nodes k) here ∙ at)).line_is in
+      let book_is : o.line_book ≡ b.0 = same_Some o.line_book b.0 (sym o.line_there ∙ ap (λ (k : ℕ). slice_get held.books k) (sym line_is) ∙ b.1) in
+      record {
+        number = o.place;
+        own = o.own;
+        there = ap (λ (c : Book). slice_get c.records o.place) (sym book_is) ∙ o.own_there;
+        node = sym (same_node o.own r o.same) ∙ node ∙ sym is.0 ∙ sym h.holds.dte_node;
+        same = o.same;
+      }))
 
   -- where the plan has a user at an end of a line, one stands there
   user_there : (line : ℕ) (l : NetLine) (role : Role) → slice_get s.lines line ≡ Some l → held.plan.has_user line role ≡ true → HasUserAt s l role
@@ -223,7 +229,7 @@ module _ (L : LineService) (s : Network) (p : IsSwitched L s) (f : L.faithful) w
   of_users : (i : ℕ) (r : RecordValue) → slice_get s.register.records i ≡ Some r → (n : PlacedNode) × (slice_get s.nodes r.node ≡ Some (User n))
   of_users i r there =
       let o : IsOfUser held.plan held.books r =
-      users_own held.plan held.world held.books held.traces i r held.network.seen.seen held.network.seen.lines
+      users_own held.plan held.world held.books held.traces i r held.network.network.seen.seen held.network.network.seen.lines
       (ap (λ (g : Register). slice_get g.records i) held.register ∙ there) in
       let l = its_line o.line o.line_book o.line_there in
       let u : HasUserAt s l.0 o.role = user_there o.line l.0 o.role l.1 o.user in
@@ -256,8 +262,8 @@ module _ (L : LineService) (s : Network) (p : IsSwitched L s) (f : L.faithful) w
 
   all_histories : (hs : List LineHistory) × HistoriesHold s hs
   all_histories =
-      let seen = held.network.seen.seen in
-      let alike = held.network.seen.lines in
+      let seen = held.network.network.seen.seen in
+      let alike = held.network.network.seen.lines in
       histories_hold s held.books held.count line_led of_users
       (subst (λ (g : Register). (i : ℕ) (r : RecordValue) → slice_get g.records i ≡ Some r → IsOwned held.books r) held.register
       (all_owned held.plan held.world held.books held.traces seen alike))
@@ -270,11 +276,11 @@ module _ (L : LineService) (s : Network) (p : IsSwitched L s) (a : IsAddressed s
 
   seen_side : (line : ℕ) (l : NetLine) (role : Role) → slice_get s.lines line ≡ Some l → SideIsSeen (held L s p f).plan (held L s p f).world.origins (held L s p f).world.joins line role (side_of role (book_at line (held L s p f).world.register)) (side_of role (book_at line (held L s p f).world.whole))
   seen_side line l role at =
-      (held L s p f).network.seen.seen.sides line role
-      (let within = slice_get_within s.lines line l at in let seen = (held L s p f).network.seen.seen.lines in let same = ap (λ (g : Register). length g.lines) (held L s p f).register in let count = a.registered in omega arith)
+      (held L s p f).network.network.seen.seen.sides line role
+      (let within = slice_get_within s.lines line l at in let seen = (held L s p f).network.network.seen.seen.lines in let same = ap (λ (g : Register). length g.lines) (held L s p f).register in let count = a.registered in omega arith)
 
   no_address : (line : ℕ) (l : NetLine) (role : Role) → slice_get s.lines line ≡ Some l → HasUserAt s l Dce → address_at (held L s p f).plan line role ≡ []
-  no_address line l Dte at user = (held L s p f).network.planned.alike line (inr ((held L s p f).plan_is.user line l Dce (User user.0) at user.1))
+  no_address line l Dte at user = (held L s p f).network.network.alike line (inr ((held L s p f).plan_is.user line l Dce (User user.0) at user.1))
   no_address line l Dce at user = refl
 
   all_ends : AreEnds s
@@ -295,7 +301,7 @@ module _ (L : LineService) (s : Network) (p : IsSwitched L s) (a : IsAddressed s
     records = (records_hold L s p f);
     ends = (end_holds L s p f);
     placed = (placed_holds L s p f);
-    typed = (typed_holds L s p f);
+    pads = (pads_send L s p f);
     histories = (all_histories L s p f).0;
     kept = (all_histories L s p f).1;
     own = a.own;

@@ -305,7 +305,7 @@ module _ (L : LineService) (s : Network) (n : IsNetwork L s) (a : IsAddressed s)
     records = holds.records;
     ends = λ line l role at user. holds.ends line l role at;
     placed = λ line l role at user. holds.placed line l role at;
-    typed = holds.typed;
+    pads = holds.pads;
     histories = all_histories.0;
     kept = all_histories.1;
     own = a.own;

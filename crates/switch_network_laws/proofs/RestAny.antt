@@ -1,10 +1,16 @@
 -- Where a network is at rest, with a switch or without one, nothing is missing.
-use Rattle.std.proofs.Common.{◌≡◌, ℕ, true, zero, suc, Bool, List, [], ◌∷◌, Some, sym, ap, ◌∙◌, subst}
+use Rattle.std.proofs.Common.{◌≡◌, ℕ, ◌<◌, true, zero, suc, Bool, List, [], ◌∷◌, Some, sym, ap, ◌∙◌, subst}
 use Rattle.std.specs.Prelude.{slice_get}
 use Rattle.std.specs.List.{list_all}
 use Rattle.std.proofs.lemmas.Option.{same_Some, none-some}
 use Rattle.std.proofs.lemmas.Bool.{and_parts}
+use Rattle.link_timers.specs.declared.role.Role.{Role}
+use Rattle.link_timers.specs.declared.role.Role.TheVariants.{Dce}
 use Rattle.packet_end.specs.PacketEnd.{PacketEnd, at_rest}
+use Rattle.line_laws.specs.Line.{Line}
+use Rattle.line_laws.specs.Rest.{AreAtRest}
+use Rattle.book_laws.proofs.Basics.{get_there}
+use Rattle.switch_lines.specs.Lines.{SwitchLine}
 use Rattle.call_records.specs.Book.{Book}
 use Rattle.call_records.specs.Register.{Register}
 use Rattle.book_laws.specs.Rest.{NothingMissing}
@@ -13,8 +19,12 @@ use Rattle.network_laws.specs.Quiet.{IsQuiet}
 use Rattle.network_laws.specs.Node.{NodeState, node_rests}
 use Rattle.memory_line.specs.Lines.{LineService}
 use Rattle.switch_lines.specs.Switch.{line_rests}
-use Rattle.switch_path_laws.specs.Law.{SwitchRests}
-use Rattle.switch_path_laws.proofs.Events.{network_holds}
+use Rattle.switch_path_laws.specs.Kept.{Partner, line_of_ends}
+use Rattle.switch_path_laws.specs.Sight.{only_at, Standing}
+use Rattle.switch_path_laws.specs.Network.{IsAtSwitch, placed_at}
+use Rattle.switch_path_laws.specs.Law.{SwitchesRest}
+use Rattle.switch_path_laws.proofs.Begins.{network_holds}
+use Rattle.switch_network_laws.proofs.OneSwitch.{of_one, its_plan, its_sight}
 use Rattle.network_laws.specs.OneLine.{LineState}
 use Rattle.network_laws.specs.Network.{NetNode, User, Switching, Network}
 use Rattle.network_laws.specs.IsLine.{line_of}
@@ -37,7 +47,7 @@ all_at test (y ∷ xs) (suc i) x all e = all_at test xs i x (and_parts (test y) 
 
 module _ (L : LineService) (s : Network) (p : IsSwitched L s) (f : L.faithful) (rests : AreAllAtRest s.nodes) where
   -- both ends of each line of the switch
-  own_rests : SwitchRests p.switch.switch (held L s p f).histories
+  own_rests : (own : ℕ) (x : SwitchLine) → slice_get p.switch.switch.lines own ≡ Some x → AreAtRest ((held L s p f).histories.partners own).other x.end
   own_rests own x at =
       let o : OwnLine s p.switch own x = own_line L s p own x at in
       let partner : IsPartner ((held L s p f).histories.partners own) o.line_is o.stands.dte.node =
@@ -48,6 +58,21 @@ module _ (L : LineService) (s : Network) (p : IsSwitched L s) (f : L.faithful) (
         no_relink_at_dte = ap (λ (e : PacketEnd). e.layer.relink) partner.dte_is ∙ o.stands.dte_quiet.settled;
         no_relink_at_dce = (subst IsQuiet o.end o.stands.dce_quiet).settled;
       }
+
+  -- they are the lines with a switch at an end
+  switch_rests : SwitchesRest (held L s p f).plan (held L s p f).network.lines (held L s p f).books
+  switch_rests line role less switch =
+      let h : IsHeld L s p.switch = held L s p f in
+      let i = h.network in
+      let e : IsAtSwitch (λ k. p.switch.lines) (only_at i.place (of_one p.switch.switch h.histories)) (h.plan.node line role) line role = i.network.ends line role less switch in
+      let own : ℕ = e.own in
+      let x = get_there p.switch.switch.lines own (subst (λ (k : ℕ). own < k) (its_plan h.plan p.switch.lines p.switch.switch h.histories h.calls h.books h.world h.traces i).lines e.within) in
+      let q : Partner = h.histories.partners own in
+      let line_is : line_of_ends Dce x.0.end q.other q.up q.down ≡ (i.lines line).line =
+      ap (λ (r : Role). line_of_ends r x.0.end q.other q.up q.down) (sym (i.roles own))
+      ∙ (ap (λ (v : Standing). v.line) ((its_sight h.plan p.switch.lines p.switch.switch h.histories h.calls h.books h.world h.traces i own e.within).line_is x.0 x.1)
+      ∙ ap (λ (k : ℕ). (i.lines k).line) e.line_is) in
+      subst (λ (l : Line). AreAtRest l.dte l.dce) line_is (own_rests own x.0 x.1)
 
   -- a node at rest is so at its end of a line, and so is a switch
   end_rests : (line place : ℕ) (x : NodeState) → EndStands s.nodes line place x → node_rests x ≡ true
@@ -73,8 +98,8 @@ module _ (L : LineService) (s : Network) (p : IsSwitched L s) (f : L.faithful) (
   rest_held =
       let h : IsHeld L s p.switch = held L s p f in
       subst (λ (g : Register). NothingMissing g.records g.pairs) h.register
-      (network_holds.rest h.plan p.switch.lines p.switch.switch h.histories h.calls h.books h.world h.traces h.network own_rests
-      (λ line b other there. line_rests_so line b there))
+      (network_holds.rest h.plan (λ k. p.switch.lines) (only_at h.network.place (of_one p.switch.switch h.histories)) (placed_at h.network.place h.calls) h.network.lines h.books h.world h.traces h.network.network switch_rests
+      (λ line b users there. line_rests_so line b there))
 
 -- ---- any network
 

@@ -9,7 +9,7 @@ use Rattle.network_laws.specs.Node.{NodeState, is_pad, end_of, frames_of, node_r
 use Rattle.memory_line.specs.declared.line.Direction.TheVariants.{FromDte, FromDce}
 use Rattle.memory_line.specs.Lines.{Flights, lossless_service, no_flights, without_first, ArePut}
 use Rattle.network_laws.specs.NodeEvents.{NodeEvent, Hears, Calls, Asks, Says, Takes, Expires, Relinks, Restarts, Refuses, AtTerminal, IsFor, LeftBy}
-use Rattle.network_laws.specs.Network.{PlacedNode, PlacedSwitch, NetLine, NetNode, Network, User, Switching, HappenedAt}
+use Rattle.network_laws.specs.Network.{PlacedNode, PlacedSwitch, NetLine, NetNode, Network, User, Switching, HappenedAt, LostAt}
 use Rattle.network_laws.specs.AtSwitch.{SwitchEvent, SwitchHappened, OwnLineServed, switched, waiting_on}
 use Rattle.network_laws.specs.AtSwitch as at_switch
 use Rattle.packet_end.specs.PacketEnd as offers
@@ -21,15 +21,15 @@ use Rattle.network_laws.specs.Rest.{AreAtRest}
 use Rattle.switch_network_laws.specs.Rest.{AreAllAtRest}
 use Rattle.switch_network_laws.specs.IsSwitched.{IsAny}
 use Rattle.switch_network_laws.proofs.MadeHeld.{made_any}
-use Rattle.switch_network_laws.proofs.UsersAny.{event_any}
+use Rattle.switch_network_laws.proofs.UsersAny.{event_any, loss_any}
 use Rattle.switch_network_laws.proofs.SwitchEvents.{switch_event_holds}
 use Rattle.switch_network_laws.proofs.RestAny.{rest_any}
 use Rattle.switch_lines.specs.Lines.{SwitchLine, changed}
-use Rattle.switch_lines.specs.declared.channels.SwitchChannel.{SwitchChannel}
-use Rattle.switch_lines.specs.Switch.{Answer, answer, answer_by, answered, has_any, heed_all, notes_of, without_notes, quieted, with_end, all_begun, finished}
+use Rattle.switch_joins.specs.declared.channels.SwitchChannel.{SwitchChannel}
+use Rattle.switch_lines.specs.Switch.{Answer, answer, answer_by, route_from, answered, has_any, heed_all, notes_of, without_notes, quieted, with_end, all_begun, finished}
 use Rattle.switch_lines.specs.Switch.Answer.{Clears}
 use Rattle.switch_lines.specs.NewJoins.{join_of, joins_of_notes}
-use Rattle.switch_lines.specs.declared.channels.NewJoin.{NewJoin}
+use Rattle.switch_joins.specs.declared.channels.NewJoin.{NewJoin}
 use Rattle.packet_end.specs.PacketEnd.{received}
 use Rattle.packet_layer.specs.Packets.{CallParts, Note}
 use Rattle.packet_layer.specs.Packets.Note.{Incoming}
@@ -41,7 +41,7 @@ use Rattle.std.proofs.lemmas.Cmp.{nat_list_cmp_total}
 use Rattle.network_laws.specs.Opening.{NewLine, NewSwitch, Planned, IsPlan, IsLinePlan, IsNodePlan, HasDceAt, IsMade, NodeIsMade, LineIsMade, AreSent, placed_new, new_dte, new_dce}
 use Rattle.network_laws.specs.Opening.NewDte.{NewHost}
 use Rattle.network_laws.specs.Opening.Planned.{PlannedUser, PlannedSwitch}
-use Rattle.switch_network_laws.specs.Run.{TwoHosts, Act, First, Second, FromFirst, ToFirst, FromSecond, ToSecond, network, put_all, at_first, at_second, heard_by_switch, from_first, from_second, to_first, to_second, after_act, after_acts, is_for, are_octets, may_arrive, may_act, may_all, parameters, plan, new_host, new_line, new_switch, first_frames, host, routes, with_switch, flies_nothing, is_at_rest, is_one, are_two, has_come_to_rest, start, calling, talking, placed, rested, Goes, stays, by_user, by_switch, RunLaw}
+use Rattle.switch_network_laws.specs.Run.{TwoHosts, Act, IsLost, First, Second, FromFirst, ToFirst, FromSecond, ToSecond, network, put_all, at_first, at_second, heard_by_switch, from_first, from_second, to_first, to_second, after_act, after_acts, is_for, are_octets, may_arrive, may_act, may_all, parameters, plan, new_host, new_line, new_switch, first_frames, host, routes, with_switch, flies_nothing, is_at_rest, is_one, are_two, has_come_to_rest, start, calling, talking, placed, rested, Goes, stays, by_user, by_switch, by_loss, RunLaw}
 
 -- ---- frames are put
 
@@ -84,7 +84,7 @@ for_it (Asks channel r) n h = not_pad (is_pad n) h
 for_it (Says channel octets qualified delivery) n h = not_pad (is_pad n) h
 for_it (Takes channel) n h = not_pad (is_pad n) h
 for_it (Hears octets) n h = absurd cc
-for_it (Expires id) n h = absurd cc
+for_it (Expires id) n h = tt
 for_it Relinks n h = absurd cc
 for_it Restarts n h = absurd cc
 for_it (Refuses channel) n h = absurd cc
@@ -101,7 +101,7 @@ left_so (Asks channel r) n f h = refl
 left_so (Says channel octets qualified delivery) n f h = refl
 left_so (Takes channel) n f h = refl
 left_so (Hears octets) n f h = absurd cc
-left_so (Expires id) n f h = absurd cc
+left_so (Expires id) n f h = refl
 left_so Relinks n f h = absurd cc
 left_so Restarts n f h = absurd cc
 left_so (Refuses channel) n f h = absurd cc
@@ -235,7 +235,17 @@ from_second_goes t (octets ∷ rest) e may =
     ((λ same. (head t.far.from_dte octets rest e, refl)), (λ other. absurd (other refl))))
     stays
 
+first_lost : (t : TwoHosts) → LostAt lossless_service 0 FromDte (network t) (network (after_act IsLost t))
+first_lost t = record {
+  line_is = record { dte = 0; dce = 2; channels = 1; flights = t.near };
+  line_there = refl;
+  flights = without_first FromDte t.near;
+  rest = λ f. refl;
+  others = refl;
+}
+
 act_goes : (act : Act) (t : TwoHosts) → may_act act t ≡ true → Goes (network t) (network (after_act act t))
+act_goes IsLost t may = by_loss 0 FromDte (first_lost t) stays
 act_goes (First event) t may = by_user event 0 Dte (first_turn event t.near t (for_it event t.first may) (left_so event t.first t.near may)) stays
 act_goes (Second event) t may = by_user event 1 Dte (second_turn event t.far t (for_it event t.second may) (left_so event t.second t.far may)) stays
 act_goes FromFirst t may = from_first_goes t t.near.from_dte refl may
@@ -247,6 +257,7 @@ then_goes : {s mid t : Network} → Goes s mid → Goes mid t → Goes s t
 then_goes stays n = n
 then_goes (by_user event line role h m) n = by_user event line role h (then_goes m n)
 then_goes (by_switch event place h m) n = by_switch event place h (then_goes m n)
+then_goes (by_loss line d h m) n = by_loss line d h (then_goes m n)
 
 all_go : (acts : List Act) (t : TwoHosts) → may_all acts t ≡ true → Goes (network t) (network (after_acts acts t))
 all_go [] t may = stays
@@ -381,21 +392,22 @@ answered_with octets parts route t =
     (join_of (answer_by (noted_lines octets t) route) its_place ++ []) (without_first FromDte t.near) t.far t
 
 heeded_call : (routes : RouteMap) (parts : CallParts) (route : Option ℕ) (ls : List SwitchLine) (notes : List Note)
-    → notes ≡ Incoming 1 parts ∷ [] → has_any parts.facilities ≡ false → line_for routes parts.called ≡ route
+    → notes ≡ Incoming 1 parts ∷ [] → has_any parts.facilities ≡ false → line_for routes parts.called ≡ route → route_from 0 ls route ≡ route
     → (heed_all routes 0 notes ls ≡ answered (answer_by ls route) its_place parts ls) × (joins_of_notes routes 0 notes ls ≡ join_of (answer_by ls route) its_place ++ [])
-heeded_call routes parts route ls notes are none found =
+heeded_call routes parts route ls notes are none found onward =
     subst (λ (xs : List Note). (heed_all routes 0 xs ls ≡ answered (answer_by ls route) its_place parts ls) × (joins_of_notes routes 0 xs ls ≡ join_of (answer_by ls route) its_place ++ [])) (sym are)
-    (ap (λ (a : Answer). answered a its_place parts ls) (answers routes ls parts route none found), ap (λ (a : Answer). join_of a its_place ++ []) (answers routes ls parts route none found))
+    (ap (λ (a : Answer). answered a its_place parts ls) answers, ap (λ (a : Answer). join_of a its_place ++ []) answers)
   where
-    answers : (routes : RouteMap) (ls : List SwitchLine) (parts : CallParts) (route : Option ℕ) → has_any parts.facilities ≡ false → line_for routes parts.called ≡ route → answer routes ls parts ≡ answer_by ls route
-    answers routes ls parts route none found =
-        ap (λ (b : Bool). if b then Clears 3 else answer_by ls (line_for routes parts.called)) none ∙ ap (λ (o : Option ℕ). answer_by ls o) found
+    answers : answer routes ls 0 parts ≡ answer_by ls route
+    answers =
+        ap (λ (b : Bool). if b then Clears 3 else answer_by ls (route_from 0 ls (line_for routes parts.called))) none
+        ∙ ap (λ (o : Option ℕ). answer_by ls (route_from 0 ls o)) found ∙ ap (λ (o : Option ℕ). answer_by ls o) onward
 
 call_heard : (octets : List ℕ) (parts : CallParts) (route : Option ℕ) (t : TwoHosts) → t.near.from_dte ≡ octets ∷ []
     → notes_of (slice_get (heard_lines octets t) 0) ≡ Incoming 1 parts ∷ [] → has_any parts.facilities ≡ false → line_for t.switch.routes parts.called ≡ route
-    → after_act FromFirst t ≡ answered_with octets parts route t
-call_heard octets parts route t first are none found =
-    let both = heeded_call t.switch.routes parts route (noted_lines octets t) (notes_of (slice_get (heard_lines octets t) 0)) are none found in
+    → route_from 0 (noted_lines octets t) route ≡ route → after_act FromFirst t ≡ answered_with octets parts route t
+call_heard octets parts route t first are none found onward =
+    let both = heeded_call t.switch.routes parts route (noted_lines octets t) (notes_of (slice_get (heard_lines octets t) 0)) are none found onward in
     ap (λ (l : List (List ℕ)). from_first l t) first
     ∙ ap (λ (ls : List SwitchLine). with_switch (record t.switch { lines = finished t.switch.routes 0 ls }) (joins_of_notes t.switch.routes 0 (notes_of (slice_get (heard_lines octets t) 0)) (noted_lines octets t)) (without_first FromDte t.near) t.far t) both.0
     ∙ ap (λ (js : List NewJoin). with_switch (record t.switch { lines = finished t.switch.routes 0 (answered (answer_by (noted_lines octets t) route) its_place parts (noted_lines octets t)) }) js (without_first FromDte t.near) t.far t) both.1
@@ -423,7 +435,7 @@ unfolding offers.all_offered offers.finished relaying.most_moves
 routes_stay = refl
 
 goes_on : after_act FromFirst placed ≡ answered_with call_frame its_parts (Some 1) placed
-goes_on = call_heard call_frame its_parts (Some 1) placed is_placed is_noted refl (ap (λ (r : RouteMap). line_for r (2 ∷ [])) routes_stay ∙ has_route)
+goes_on = call_heard call_frame its_parts (Some 1) placed is_placed is_noted refl (ap (λ (r : RouteMap). line_for r (2 ∷ [])) routes_stay ∙ has_route) refl
 
 may_talk : may_all talking (answered_with call_frame its_parts (Some 1) placed) ≡ true
 unfolding offers.all_offered offers.finished relaying.most_moves
@@ -510,6 +522,7 @@ any_after : {s t : Network} → Goes s t → IsAny lossless_service s → IsAny 
 any_after stays any = any
 any_after {s} (by_user {mid = mid} event line role h m) any = any_after m (event_any lossless_service event line role s mid any h)
 any_after {s} (by_switch {mid = mid} event place h m) any = any_after m (switch_event_holds lossless_service event place s mid any h)
+any_after {s} (by_loss {mid = mid} line d h m) any = any_after m (loss_any lossless_service line d s mid any h)
 
 any_network : IsAny lossless_service (network rested)
 any_network = any_after goes (made_any lossless_service plan (network start) planned made_so)

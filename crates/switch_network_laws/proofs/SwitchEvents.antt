@@ -3,7 +3,6 @@ use Rattle.std.proofs.Common.{◌≡◌, ◌≢◌, ℕ, Some, sym, ap, subst, �
 use Rattle.std.specs.Prelude.{◌⊎◌, slice_get}
 use Rattle.book_laws.proofs.Basics.{get_set, set_here}
 use Rattle.memory_line.specs.Lines.{LineService}
-use Rattle.switch_path_laws.proofs.Events.{network_holds}
 use Rattle.switch_quiet_laws.specs.Quiet.{IsQuietSwitch}
 use Rattle.network_laws.specs.AtSwitch.{SwitchEvent, switched, switch_drained, SwitchHappened}
 use Rattle.network_laws.specs.Network.{PlacedSwitch, NetNode, Switching, Network, StandsAtLines, Stands}
@@ -25,7 +24,7 @@ switched_network L event place s t i d = record {
       let w = was_line L event d.node s.lines t.lines d.lines line l at in
       stands_then event s.nodes place d.node d.node_there quiet line w.l l w.dte w.dce (i.lines line w.l w.there);
   nodes = λ at m there. stands_by at m (get_set s.nodes place (Switching (switch_after event d.node)) at m there);
-  holds = λ f. held_then network_holds L event place d.node s t.lines t.register f d.node_there stands i.lines d.has_line d.lines d.register
+  holds = λ f. held_then L event place d.node s t.lines t.register f d.node_there stands i.lines d.has_line d.lines d.register
       (subst (IsHeld L s) switch_is (i.holds f));
 }
   where

@@ -15,11 +15,11 @@ use Rattle.line_record_laws.specs.Kept.{Kept}
 use Rattle.network_laws.specs.Node.{NodeState, Pad, Host, end_of}
 use Rattle.memory_line.specs.Lines.{LineService}
 use Rattle.network_laws.proofs.Holding as pad_law
-use Rattle.switch_path_laws.specs.Kept.{Partner, line_with, sent_on}
-use Rattle.call_path_laws.specs.World.{Plan}
-use Rattle.switch_path_laws.specs.Network.{found_line, IsOther}
-use Rattle.switch_path_laws.specs.Network as paths
-use Rattle.switch_path_laws.specs.Law.{SwitchPathLaw}
+use Rattle.switch_path_laws.specs.Kept.{Partner, KeptWith, sent_on}
+use Rattle.call_path_laws.specs.World.{Origin, World, Plan}
+use Rattle.switch_path_laws.specs.Sight.{found_line}
+use Rattle.switch_path_laws.specs.Network.{IsOther}
+use Rattle.switch_path_laws.specs.Law.{IsWritten}
 use Rattle.network_laws.specs.AtSwitch.{SwitchEvent, switched, switch_drained, joins_of, HasOwnLine, LinesServed, all_handed}
 use Rattle.network_laws.specs.Network.{PlacedNode, PlacedSwitch, NetNode, Switching, NetLine, Network, StandsAtLines, place_at}
 use Rattle.network_laws.proofs.Users.{same_user}
@@ -27,7 +27,12 @@ use Rattle.network_laws.specs.IsLine.{NodeHolds, line_of, IsLine}
 use Rattle.network_laws.proofs.Shapes.{writes_stay}
 use Rattle.switch_network_laws.specs.Plans.{has_users, goes_on_at, IsPlanOf}
 use Rattle.switch_network_laws.specs.IsSwitched.{ends_state, LineStands, IsPartner, IsHeld}
-use Rattle.switch_network_laws.proofs.SwitchWriting.{IsWritten}
+use Rattle.switch_network_laws.proofs.OneSwitch.{dce_line, as_dce, its_tied}
+use Rattle.switch_network_laws.proofs.OneSwitch as one
+use Rattle.switch_network_laws.specs.OneSwitch.{IsNetwork}
+use Rattle.switch_lines.specs.Switch.{Switch}
+use Rattle.switch_path_laws.specs.Tied.{Histories}
+use Rattle.switch_path_laws.specs.Calls.{JoinedCall}
 use Rattle.switch_network_laws.proofs.SwitchMoving.{addresses_stay, Moved, moved}
 use Rattle.switch_network_laws.proofs.SwitchSending.{Sent, all_sent}
 use Rattle.switch_network_laws.proofs.Standing.{same_switch}
@@ -91,14 +96,14 @@ typed_far : (n : NodeState) (ws : List Write) (b : Book) → NodeHolds Dte n b �
 typed_far (Pad p) ws b h = pad_law.far_kept Dte p ws b h
 typed_far (Host e) ws b h = tt
 
-typed_then : (n m : NodeState) (b c : Book) → n ≡ m → IsWritten b c → NodeHolds Dte n b → NodeHolds Dte m c
+typed_then : (n m : NodeState) (b c : Book) → n ≡ m → IsWritten Dce b c → NodeHolds Dte n b → NodeHolds Dte m c
 typed_then n m b c same w h =
     subst (λ (x : NodeState). NodeHolds Dte x c) same (subst (NodeHolds Dte n) (sym w.is) (typed_far n w.writes b h))
 
-slots_then : (role : Role) (b c : Book) → IsWritten b c → length (side_of role c).slots ≡ length (side_of role b).slots
+slots_then : (role : Role) (b c : Book) → IsWritten Dce b c → length (side_of role c).slots ≡ length (side_of role b).slots
 slots_then role b c w = ap (λ (x : Book). length (side_of role x).slots) w.is ∙ ap (λ (x : ℕ × ℕ). x.1) (writes_stay Dce w.writes b role)
 
-node_then : (role : Role) (b c : Book) → IsWritten b c → (side_of role c).node ≡ (side_of role b).node
+node_then : (role : Role) (b c : Book) → IsWritten Dce b c → (side_of role c).node ≡ (side_of role b).node
 node_then role b c w = ap (λ (x : Book). (side_of role x).node) w.is ∙ ap (λ (x : ℕ × ℕ). x.0) (writes_stay Dce w.writes b role)
 
 line_is : (a b : Line) → a.dte ≡ b.dte → a.dce ≡ b.dce → a.up ≡ b.up → a.down ≡ b.down → a ≡ b
@@ -106,9 +111,9 @@ line_is a b p q r t = λ i. record { dte = p i; dce = q i; up = r i; down = t i 
 
 -- the line with its book, of what stands at its ends then
 own_line : (L : LineService) (l l' : NetLine) (dte dce : NodeState) (b c : Book) (e : PacketEnd) (p : Partner) → IsLine L (ends_state l dte dce b)
-    → l'.dte ≡ l.dte → l'.dce ≡ l.dce → IsWritten b c → (nodes : List NetNode) (line : ℕ) (h : LineStands nodes line l') → dte ≡ h.dte.node → h.dce ≡ Host e
-    → IsPartner p l' h.dte.node → Kept p.setting c (line_with p e) → IsLine L (ends_state l' h.dte.node h.dce c)
-own_line L l l' dte dce b c e p i dte_is dce_is w nodes line h same end q k = record {
+    → l'.dte ≡ l.dte → l'.dce ≡ l.dce → IsWritten Dce b c → (nodes : List NetNode) (line : ℕ) (h : LineStands nodes line l') → dte ≡ h.dte.node → h.dce ≡ Host e
+    → IsPartner p l' h.dte.node → p.role ≡ Dce → KeptWith p c e → IsLine L (ends_state l' h.dte.node h.dce c)
+own_line L l l' dte dce b c e p i dte_is dce_is w nodes line h same end q role k = record {
   apart = h.apart;
   dte_node = node_then Dte b c w ∙ (i.dte_node ∙ sym dte_is);
   dce_node = node_then Dce b c w ∙ (i.dce_node ∙ sym dce_is);
@@ -118,7 +123,7 @@ own_line L l l' dte dce b c e p i dte_is dce_is w nodes line h same end q k = re
   kept = λ f. record {
     setting = p.setting;
     kept = subst (Kept p.setting c)
-        (line_is (line_with p e) (line_of (ends_state l' h.dte.node h.dce c)) q.dte_is (ap end_of (sym end)) q.up q.down) k;
+        (line_is (dce_line p e) (line_of (ends_state l' h.dte.node h.dce c)) q.dte_is (ap end_of (sym end)) q.up q.down) (as_dce p c e role k);
   };
 }
 
@@ -131,22 +136,21 @@ none_other lines line none k less e =
     none k (x.1 ∙ ap (λ (m : ℕ). Some m) (sym (ap found_line x.1) ∙ e))
 
 -- the book of an own line
-book_of_own : (lines : List ℕ) (books : List Book) (bs : ℕ → Book) (own line : ℕ) → paths.AreAmong lines bs books → slice_get lines own ≡ Some line
-    → slice_get books line ≡ Some (bs own)
-book_of_own lines books bs own line among at =
-    ap (λ (k : ℕ). slice_get books k) (sym (ap found_line at)) ∙ among own (slice_get_within lines own line at)
+book_of_own : (plan : Plan) (at : List ℕ) (s : Switch) (h : Histories) (cs : List JoinedCall) (books : List Book) (w : World) (traces : List (List Origin)) (own line : ℕ) → IsNetwork plan at s h cs books w traces → slice_get at own ≡ Some line → slice_get books line ≡ Some (h.books own)
+book_of_own plan at s h cs books w traces own line i is =
+    ap (λ (k : ℕ). slice_get books k) (sym (ap found_line is)) ∙ one.its_book plan at s h cs books w traces i own (slice_get_within at own line is)
 
 -- the network after the event
 abbrev pub network_then : SwitchEvent → (place : ℕ) → PlacedSwitch → List NetLine → Register → Network → Network
 network_then event place n after g s = record { nodes = nodes_then event place n s.nodes; lines = after; register = g }
 
-pub held_then : SwitchPathLaw → (L : LineService) (event : SwitchEvent) (place : ℕ) (n : PlacedSwitch) (s : Network) (after : List NetLine) (g : Register) → L.faithful
+pub held_then : (L : LineService) (event : SwitchEvent) (place : ℕ) (n : PlacedSwitch) (s : Network) (after : List NetLine) (g : Register) → L.faithful
     → slice_get s.nodes place ≡ Some (Switching n) → StandsAtLines s.lines place n → ((line : ℕ) (l : NetLine) → slice_get s.lines line ≡ Some l → LineStands s.nodes line l)
     → HasOwnLine event (length n.lines) → LinesServed L event n s.lines after → g ≡ all_handed n.lines (joins_of event n.switch) s.register
     → IsHeld L s n → IsHeld L (network_then event place n after g s) (switch_after event n)
-held_then law L event place n s after g f there st stand has served register held = record {
+held_then L event place n s after g f there st stand has served register held = record {
   books = gone.books;
-  count = gone.others.count ∙ (held.count ∙ sym served.count);
+  count = gone.count ∙ (held.count ∙ sym served.count);
   lines = λ line l book at book_at h. line_by line l book at book_at h (own_or_none n.lines line);
   channels = λ line l book role at book_at. channels_by line l book role at book_at (own_or_none n.lines line);
   plan = held.plan;
@@ -160,12 +164,12 @@ held_then law L event place n s after g f there st stand has served register hel
   partners = λ own line l own_is at h. partner own line l own_is at h;
 }
   where
-    gone : Moved held.plan n.lines event n.switch held.histories held.books held.world held.traces
-    gone = moved law held.plan n.lines event n.switch held.histories held.calls held.books held.world held.traces
+    gone : Moved held.plan n.lines event n.switch held.histories held.books held.world
+    gone = moved held.plan n.lines event n.switch held.histories held.calls held.books held.world held.traces
         (may_come L event s.nodes n s.lines after held.histories f stand has served held.partners) held.network
 
     sent : Sent held.plan n.lines (Fits (nodes_then event place n s.nodes) after n) (switched event n.switch) gone.histories gone.calls gone.books gone.world gone.traces
-    sent = all_sent law.out held.plan n.lines (Fits (nodes_then event place n s.nodes) after n) (switched event n.switch) gone.histories gone.calls gone.books gone.world gone.traces
+    sent = all_sent held.plan n.lines (Fits (nodes_then event place n s.nodes) after n) (switched event n.switch) gone.histories gone.calls gone.books gone.world gone.traces
         (λ own x at.
         let p = picked L event s.nodes place n s.lines after held.histories.partners f st.count stand served held.partners own x at in
         (p.0, subst (λ (q : Partner). Fits (nodes_then event place n s.nodes) after n own (sent_on x p.0 q)) (sym (gone.partners own)) p.1)) gone.network
@@ -183,12 +187,12 @@ held_then law L event place n s after g f there st stand has served register hel
     was : (line : ℕ) (l : NetLine) → slice_get after line ≡ Some l → WasLine s.lines line l
     was line l at = was_line L event n s.lines after served line l at
 
-    written : (own : ℕ) → IsWritten (held.histories.books own) (sent.histories.books own)
-    written own = subst (λ (bs : ℕ → Book). IsWritten (held.histories.books own) (bs own)) (sym sent.books_are) (gone.written own)
+    written : (own : ℕ) → IsWritten Dce (held.histories.books own) (sent.histories.books own)
+    written own = subst (λ (bs : ℕ → Book). IsWritten Dce (held.histories.books own) (bs own)) (sym sent.books_are) (gone.written own)
 
     is_own : (own line : ℕ) (book : Book) → slice_get n.lines own ≡ Some line → slice_get gone.books line ≡ Some book → sent.histories.books own ≡ book
     is_own own line book own_is at =
-        same_Some (sent.histories.books own) book (sym (book_of_own n.lines gone.books sent.histories.books own line sent.network.seen.among own_is) ∙ at)
+        same_Some (sent.histories.books own) book (sym (book_of_own held.plan n.lines (switch_drained (switched event n.switch)) sent.histories gone.calls gone.books gone.world gone.traces own line sent.network own_is) ∙ at)
 
     at_switch : (own line : ℕ) (l : NetLine) → slice_get n.lines own ≡ Some line → slice_get after line ≡ Some l → l.dce ≡ place
     at_switch own line l own_is at =
@@ -207,14 +211,14 @@ held_then law L event place n s after g f there st stand has served register hel
         let less : own < length (switch_drained (switched event n.switch)).lines = omega (arith, within, many, count) in
         let x = get_there (switch_drained (switched event n.switch)).lines own less in
         own_line L w.l l before.dte.node before.dce (held.histories.books own) (sent.histories.books own) x.0.end (sent.histories.partners own)
-        (held.lines line w.l (held.histories.books own) w.there (book_of_own n.lines held.books held.histories.books own line held.network.seen.among own_is) before)
+        (held.lines line w.l (held.histories.books own) w.there (book_of_own held.plan n.lines n.switch held.histories held.calls held.books held.world held.traces own line held.network own_is) before)
         w.dte w.dce (written own) (nodes_then event place n s.nodes) line h
         (ap (λ (m : PlacedNode). m.node) (same_user before.dte h.dte
         (sym before.dte_there ∙ (ap (λ (k : ℕ). slice_get s.nodes k) (sym w.dte) ∙ dte_was event s.nodes place l.dte n h.dte h.dte_there))))
         (switch_end (nodes_then event place n s.nodes) place (switch_after event n) (set_here s.nodes place (Switching (switch_after event n)) (Switching n) there) st.apart
         line l.dce h.dce (at_switch own line l own_is at) h.dce_there own x.0 own_is x.1)
-        (partner own line l own_is at h)
-        (sent.network.tied.kept own x.0 x.1)
+        (partner own line l own_is at h) (sent.network.roles own)
+        ((its_tied held.plan n.lines (switch_drained (switched event n.switch)) sent.histories gone.calls gone.books gone.world gone.traces sent.network).kept own x.0 x.1)
 
     line_by : (line : ℕ) (l : NetLine) (book : Book) → slice_get after line ≡ Some l → slice_get gone.books line ≡ Some book
         → (h : LineStands (nodes_then event place n s.nodes) line l)
@@ -222,7 +226,7 @@ held_then law L event place n s after g f there st stand has served register hel
     line_by line l book at book_at h (inl own) =
         subst (λ (c : Book). IsLine L (ends_state l h.dte.node h.dce c)) (is_own own.0 line book own.1 book_at) (line_of_own own.0 line l own.1 at h)
     line_by line l book at book_at h (inr none) =
-        held.lines line l book (sym (served.others line none) ∙ at) (sym (gone.others.same line (none_other n.lines line none)) ∙ book_at)
+        held.lines line l book (sym (served.others line none) ∙ at) (sym (gone.same line (none_other n.lines line none)) ∙ book_at)
         (other_stood event s.nodes place n line l none h)
 
     channels_by : (line : ℕ) (l : NetLine) (book : Book) (role : Role) → slice_get after line ≡ Some l → slice_get gone.books line ≡ Some book
@@ -231,7 +235,7 @@ held_then law L event place n s after g f there st stand has served register hel
         let w = was line l at in
         ap (λ (b : Book). length (side_of role b).slots) (sym (is_own own.0 line book own.1 book_at))
         ∙ (slots_then role (held.histories.books own.0) (sent.histories.books own.0) (written own.0)
-        ∙ (held.channels line w.l (held.histories.books own.0) role w.there (book_of_own n.lines held.books held.histories.books own.0 line held.network.seen.among own.1)
+        ∙ (held.channels line w.l (held.histories.books own.0) role w.there (book_of_own held.plan n.lines n.switch held.histories held.calls held.books held.world held.traces own.0 line held.network own.1)
         ∙ sym w.channels))
     channels_by line l book role at book_at (inr none) =
-        held.channels line l book role (sym (served.others line none) ∙ at) (sym (gone.others.same line (none_other n.lines line none)) ∙ book_at)
+        held.channels line l book role (sym (served.others line none) ∙ at) (sym (gone.same line (none_other n.lines line none)) ∙ book_at)

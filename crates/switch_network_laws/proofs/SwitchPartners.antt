@@ -137,7 +137,7 @@ first_of (y ∷ ys) x e = ap (λ (z : Octets). z ∷ ys) (same_Some y x e)
 
 pub may_come : (L : LineService) (event : SwitchEvent) (nodes : List NetNode) (n : PlacedSwitch) (before after : List NetLine) (h : Histories) → L.faithful
     → ((line : ℕ) (l : NetLine) → slice_get before line ≡ Some l → LineStands nodes line l) → HasOwnLine event (length n.lines)
-    → LinesServed L event n before after → ArePartners nodes before n h.partners → MayCome event h
+    → LinesServed L event n before after → ArePartners nodes before n h.partners → MayCome n.lines event h
 may_come L (Hears own octets) nodes n before after h f stand has served partners =
     let line = get_there n.lines own has.0 in
     let v = served.own_lines own line.0 line.1 in
@@ -145,4 +145,9 @@ may_come L (Hears own octets) nodes n before after h f stand has served partners
     let p : IsPartner (h.partners own) v.line_is (stand line.0 v.line_is v.line_there).dte.node = partners own line.0 v.line_is line.1 v.line_there (stand line.0 v.line_is v.line_there) in
     (has.1, (drop 1 v.line_is.flights.from_dte, p.up ∙ first_of v.line_is.flights.from_dte octets first))
 may_come L (Expires own id) nodes n before after h f stand has served partners = tt
-may_come L Restarts nodes n before after h f stand has served partners = tt
+may_come L Restarts nodes n before after h f stand has served partners = λ own less.
+    let line = get_there n.lines own less in
+    let v = served.own_lines own line.0 line.1 in
+    let there : LineStands nodes line.0 v.line_is = stand line.0 v.line_is v.line_there in
+    let p : IsPartner (h.partners own) v.line_is there.dte.node = partners own line.0 v.line_is line.1 v.line_there there in
+    ap (λ (e : PacketEnd). other_after line_law.Restarts e) p.dte_is ∙ (went (end_of there.dte.node) there.dte_quiet.node.sent ∙ sym p.dte_is)

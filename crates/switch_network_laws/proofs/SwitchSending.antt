@@ -11,10 +11,10 @@ use Rattle.switch_path_laws.specs.Kept.{Partner, all_frames_out, sent_on}
 use Rattle.switch_path_laws.specs.Tied.{Histories, gone_out, sent_out}
 use Rattle.switch_path_laws.specs.Calls.{JoinedCall}
 use Rattle.call_path_laws.specs.World.{Origin, World, Plan}
-use Rattle.switch_path_laws.specs.Network.{IsNetwork}
-use Rattle.switch_path_laws.specs.Law.{OutLaw}
 use Rattle.switch_quiet_laws.specs.Quiet.{all_gone_out, drained}
 use Rattle.switch_quiet_laws.proofs.Quieting.{gone-out}
+use Rattle.switch_network_laws.specs.OneSwitch.{IsNetwork}
+use Rattle.switch_network_laws.proofs.OneSwitch.{out_one}
 
 -- ---- one line
 
@@ -51,10 +51,10 @@ record Gone (plan : Plan) (at : List ℕ) (count n : ℕ) (Q : ℕ → Partner �
 abbrev Picks : (from : ℕ) → (Q : ℕ → Partner → Type 0) → Switch → Histories → Type 0
 Picks n Q s h = (k : ℕ) (l : SwitchLine) → n ≤ k → slice_get s.lines k ≡ Some l → (kept : List Bool) × Q k (sent_on l kept (h.partners k))
 
-all_go : OutLaw → (plan : Plan) (at : List ℕ) (count n : ℕ) (Q : ℕ → Partner → Type 0) (s : Switch) (h : Histories) (cs : List JoinedCall) (books : List Book) (w : World)
+all_go : (plan : Plan) (at : List ℕ) (count n : ℕ) (Q : ℕ → Partner → Type 0) (s : Switch) (h : Histories) (cs : List JoinedCall) (books : List Book) (w : World)
     (traces : List (List Origin)) → n + count ≡ length s.lines → Picks n Q s h → IsNetwork plan at s h cs books w traces
     → Gone plan at count n Q s h cs books w traces
-all_go out plan at zero n Q s h cs books w traces total picks i = record {
+all_go plan at zero n Q s h cs books w traces total picks i = record {
   histories = h;
   books_are = refl;
   network = i;
@@ -66,14 +66,14 @@ all_go out plan at zero n Q s h cs books w traces total picks i = record {
     within_lines [] k l e = absurd (none-some l e)
     within_lines (x ∷ ls) zero l e = omega arith
     within_lines (x ∷ ls) (suc k) l e = let less = within_lines ls k l e in omega (arith, less)
-all_go out plan at (suc count) n Q s h cs books w traces total picks i =
+all_go plan at (suc count) n Q s h cs books w traces total picks i =
     let less : n < length s.lines = omega (arith, total) in
     let l = get_there s.lines n less in
     let here : n ≤ n = omega arith in
     let pick = picks n l.0 here l.1 in
     let after : Histories = sent_out n l.0 pick.0 h in
-    let rest = all_go out plan at count (suc n) Q (gone_out n s) after cs books w traces (many count n s.lines total)
-    (later n l.0 pick.0) (out plan at n l.0 pick.0 s h cs books w traces l.1 i) in
+    let rest = all_go plan at count (suc n) Q (gone_out n s) after cs books w traces (many count n s.lines total)
+    (later n l.0 pick.0) (out_one plan at n l.0 pick.0 s h cs books w traces l.1 i) in
     let own : rest.histories.partners n ≡ sent_on l.0 pick.0 (h.partners n) =
     rest.before n (let x : n < suc n = omega arith in x) ∙ sent_here n l.0 pick.0 h in
     record {
@@ -105,12 +105,12 @@ pub record Sent (plan : Plan) (at : List ℕ) (Q : ℕ → Partner → Type 0) (
   pub network : IsNetwork plan at (drained s) histories cs books w traces
   pub fits : (k : ℕ) (l : SwitchLine) → slice_get s.lines k ≡ Some l → Q k (histories.partners k)
 
-pub all_sent : OutLaw → (plan : Plan) (at : List ℕ) (Q : ℕ → Partner → Type 0) (s : Switch) (h : Histories) (cs : List JoinedCall) (books : List Book) (w : World)
+pub all_sent : (plan : Plan) (at : List ℕ) (Q : ℕ → Partner → Type 0) (s : Switch) (h : Histories) (cs : List JoinedCall) (books : List Book) (w : World)
     (traces : List (List Origin))
     → ((k : ℕ) (l : SwitchLine) → slice_get s.lines k ≡ Some l → (kept : List Bool) × Q k (sent_on l kept (h.partners k)))
     → IsNetwork plan at s h cs books w traces → Sent plan at Q s h cs books w traces
-all_sent out plan at Q s h cs books w traces picks i =
-    let g = all_go out plan at (length s.lines) 0 Q s h cs books w traces (total s.lines) (λ k l least there. picks k l there) i in
+all_sent plan at Q s h cs books w traces picks i =
+    let g = all_go plan at (length s.lines) 0 Q s h cs books w traces (total s.lines) (λ k l least there. picks k l there) i in
     record {
       histories = g.histories;
       books_are = g.books_are;

@@ -14,7 +14,8 @@ use Rattle.network_laws.specs.Node.{NodeState, Host, end_of, drained}
 use Rattle.memory_line.specs.declared.line.Direction.{Direction}
 use Rattle.memory_line.specs.Lines.{Flights, LineService}
 use Rattle.switch_lines.specs.Lines.{SwitchLine}
-use Rattle.switch_path_laws.specs.Kept.{Partner, line_with}
+use Rattle.switch_path_laws.specs.Kept.{Partner}
+use Rattle.switch_network_laws.proofs.OneSwitch.{dce_line}
 use Rattle.switch_path_laws.specs.Network.{IsOther}
 use Rattle.network_laws.specs.NodeEvents.{NodeEvent, turn_of}
 use Rattle.network_laws.specs.Network.{PlacedNode, PlacedSwitch, NetNode, User, Switching, NetLine, Network, place_at, net_turn, HappenedAt, LostAt, StandsAtLines, IsDceOf}
@@ -54,9 +55,9 @@ user_other L s n line l u at there own less named =
 -- at the DTE, which with the end at the DCE is kept then
 writes_dte : (L : LineService) (s : Network) (n : IsSwitched L s) (held : IsHeld L s n.switch) (line : ℕ) (l : NetLine) (h : LineStands s.nodes line l) (ws : List Write) (b : Book) (p : Partner)
     → slice_get s.lines line ≡ Some l → slice_get held.books line ≡ Some b
-    → Kept p.setting (all_written Dte ws b) (line_with p (end_of h.dce))
+    → p.role ≡ Dce → Kept p.setting (all_written Dte ws b) (dce_line p (end_of h.dce))
     → AfterWrites held.plan n.switch.lines n.switch.switch held.calls line Dte ws held.books b held.world.register held.histories.partners p
-writes_dte L s n held line l h ws b p at there kept = by h.dce_there.node h.dce_there.there h.dce_there.end
+writes_dte L s n held line l h ws b p at there role kept = by h.dce_there.node h.dce_there.there h.dce_there.end
   where
     own_end : PlacedSwitch → Type 0
     own_end m = (own : ℕ) × (x : SwitchLine) × (slice_get m.lines own ≡ Some line) × (slice_get m.switch.lines own ≡ Some x) × (h.dce ≡ Host x.end)
@@ -69,7 +70,7 @@ writes_dte L s n held line l h ws b p at there kept = by h.dce_there.node h.dce_
     by (Switching m) at_m end =
         let e : own_end n.switch = subst own_end (one_switch L s n l.dce m at_m) end in
         after_partner held.plan n.switch.lines e.0 line e.1 p ws b n.switch.switch held.histories held.calls held.books held.world held.traces
-        e.3 e.2 there (subst (λ (x : NodeState). Kept p.setting (all_written Dte ws b) (line_with p (end_of x))) e.4 kept) held.network
+        e.3 e.2 there role (subst (λ (x : NodeState). Kept p.setting (all_written Dte ws b) (dce_line p (end_of x))) e.4 kept) held.network
 
 -- at the DCE, where a node with users is
 writes_dce : (L : LineService) (s : Network) (n : IsSwitched L s) (held : IsHeld L s n.switch) (line : ℕ) (l : NetLine) (u : PlacedNode) (ws : List Write) (b : Book) (p : Partner)
@@ -81,7 +82,7 @@ writes_dce L s n held line l u ws b p at there at_u =
 
 -- the node at the DTE, with the frames in flight, as the switch's partner
 abbrev partner_of : Setting → NodeState → Flights → Partner
-partner_of setting dte flights = record { setting = setting; dte = end_of dte; up = flights.from_dte; down = flights.from_dce }
+partner_of setting dte flights = record { setting = setting; role = Dce; other = end_of dte; up = flights.from_dte; down = flights.from_dce }
 
 -- the book of a line
 pub book_of : (L : LineService) (s : Network) (n : PlacedSwitch) (held : IsHeld L s n) (line : ℕ) (l : NetLine) → slice_get s.lines line ≡ Some l
@@ -156,7 +157,7 @@ held_then L event line Dte s t n d f held =
     (nodes_after s.lines s.nodes (nodes_then event line Dte d.node l s) line l (record l { flights = d.flights }) d.line_there refl refl w n.nodes))
     (stands_then L event line Dte s t n d) turned
     (channels_stay L s n.switch held line l b.0 Dte ws d.line_there b.1)
-    (writes_dte L s n held line l h ws b.0 p d.line_there b.1 k.kept)
+    (writes_dte L s n held line l h ws b.0 p d.line_there b.1 refl k.kept)
     (record { dte_is = refl; up = refl; down = refl })
 held_then L event line Dce s t n d f held =
     let l = d.line_is in
@@ -220,7 +221,7 @@ held_lost L line d s t n w f held =
     let p : Partner = partner_of k.setting h.dte.node w.flights in
     held_after L s n held s.nodes line l w.flights Dte [] b.0 p w.line_there b.1 (same_nodes s.nodes line) (are_apart s.lines s.nodes n.nodes)
     (flown s.nodes line l w.flights h) lost (λ side. held.channels line l b.0 side w.line_there b.1)
-    (writes_dte L s n held line l h [] b.0 p w.line_there b.1 k.kept)
+    (writes_dte L s n held line l h [] b.0 p w.line_there b.1 refl k.kept)
     (record { dte_is = refl; up = refl; down = refl })
 
 pub lost_switched : (L : LineService) (line : ℕ) (d : Direction) (s t : Network) → IsSwitched L s → LostAt L line d s t → IsSwitched L t

@@ -16,7 +16,7 @@ use Rattle.switch_path_laws.specs.Kept.{Partner}
 use Rattle.switch_path_laws.specs.Tied.{Histories}
 use Rattle.switch_path_laws.specs.Calls.{JoinedCall}
 use Rattle.call_path_laws.specs.World.{Origin, World, Plan}
-use Rattle.switch_path_laws.specs.Network as paths
+use Rattle.switch_network_laws.specs.OneSwitch as paths
 use Rattle.network_laws.specs.Network.{PlacedNode, NetNode, User, Switching, NetLine, Network, place_at}
 use Rattle.network_laws.proofs.Users.{same_user}
 use Rattle.network_laws.specs.IsLine.{IsLine}
@@ -73,7 +73,7 @@ pub address_kept : (plan : Plan) (at : List ℕ) (s : Switch) (h : Histories) (c
     → paths.IsNetwork plan at s h cs books w traces → w.register ≡ g → length books ≡ length lines
     → (k : ℕ) (m : NetLine) → slice_get lines k ≡ Some m → plan.address k ≡ (book_at k g).dte.address
 address_kept plan at s h cs books w traces g lines i same count k m there =
-    sym (i.seen.seen.sides k Dte (let within = slice_get_within lines k m there in let c = i.seen.lines.seen.lines in omega arith)).seen_address
+    sym (i.network.seen.seen.sides k Dte (let within = slice_get_within lines k m there in let c = i.network.seen.lines.seen.lines in omega arith)).seen_address
     ∙ ap (λ (x : Register). (book_at k x).dte.address) same
 
 -- ---- on faithful lines

@@ -4,7 +4,7 @@ use Rattle.std.specs.Prelude.{slice_get, option_and_then}
 use Rattle.std.proofs.lemmas.Option.{same_Some, slice_get_within}
 use Rattle.std.proofs.lemmas.List.{length-map}
 use Rattle.std.proofs.lemmas.Bool.{cases_eq}
-use Rattle.link_timers.specs.declared.role.Role.TheVariants.{Dte}
+use Rattle.link_timers.specs.declared.role.Role.TheVariants.{Dte, Dce}
 use Rattle.address_routes.specs.Routes.{RouteMap, line_for}
 use Rattle.packet_end.specs.PacketEnd as end
 use Rattle.packet_end.specs.PacketEnd.{PacketEnd}
@@ -18,12 +18,12 @@ use Rattle.network_laws.specs.Node.{NodeState, Pad, Host, end_of, is_pad, node_e
 use Rattle.memory_line.specs.Lines.{LineService}
 use Rattle.switch_lines.specs.Lines.{SwitchLine}
 use Rattle.switch_lines.specs.Switch.{Switch, elapse, with_end}
-use Rattle.switch_path_laws.specs.Kept.{Partner, Partners, line_with}
+use Rattle.switch_path_laws.specs.Kept.{Partner, Partners}
+use Rattle.switch_network_laws.proofs.OneSwitch.{dce_line, as_dce, its_plan, its_tied, elapse_one}
 use Rattle.switch_path_laws.specs.Tied.{Histories}
 use Rattle.switch_path_laws.specs.Calls.{JoinedCall}
 use Rattle.call_path_laws.specs.World.{Origin, World, Plan}
-use Rattle.switch_path_laws.specs.Network as paths
-use Rattle.switch_path_laws.proofs.Events.{network_holds}
+use Rattle.switch_network_laws.specs.OneSwitch as paths
 use Rattle.network_laws.specs.Network.{PlacedNode, PlacedSwitch, NetNode, User, Switching, NetLine, Network, Stands, elapsed_node, all_elapsed}
 use Rattle.network_laws.proofs.Users.{not_switch}
 use Rattle.network_laws.specs.IsLine.{IsLine}
@@ -52,19 +52,20 @@ record Repartnered (plan : Plan) (at : List ℕ) (s : Switch) (cs : List JoinedC
 -- each with the line that it is kept on
 abbrev AllKept : (at : List ℕ) → Switch → List Book → Partners → Type 0
 AllKept at s books ps = (own line : ℕ) (l : SwitchLine) (b : Book) → slice_get at own ≡ Some line → slice_get s.lines own ≡ Some l
-    → slice_get books line ≡ Some b → Kept (ps own).setting b (line_with (ps own) l.end)
+    → slice_get books line ≡ Some b → ((ps own).role ≡ Dce) × Kept (ps own).setting b (dce_line (ps own) l.end)
 
 one_more : (plan : Plan) (at : List ℕ) (s : Switch) (cs : List JoinedCall) (old : List Book) (g : Register) (ps : Partners) (n : ℕ) → AllKept at s old ps → n < length at
     → Repartnered plan at s cs old g ps n → Repartnered plan at s cs old g ps (suc n)
 one_more plan at s cs old g ps n kept less r =
     let x = get_there at n less in
     let line : ℕ = x.0 in
-    let l = get_there s.lines n (subst (λ (k : ℕ). n < k) r.network.planned.lines less) in
+    let l = get_there s.lines n (subst (λ (k : ℕ). n < k) (its_plan plan at s r.histories cs r.books r.world r.traces r.network).lines less) in
     let b : Book = r.histories.books n in
     let there : slice_get r.books line ≡ Some b = own_book plan at s r.histories cs r.books r.world r.traces n line x.1 r.network in
+    let k = kept n line l.0 b x.1 l.1 (sym (r.same line) ∙ there) in
     let a : AfterWrites plan at s cs line Dte [] r.books b r.world.register r.histories.partners (ps n) =
     after_partner plan at n line l.0 (ps n) [] b s r.histories cs r.books r.world r.traces l.1 x.1 there
-    (kept n line l.0 b x.1 l.1 (sym (r.same line) ∙ there)) r.network in
+    k.0 k.1 r.network in
     record {
       histories = a.histories;
       books = a.books;
@@ -81,7 +82,7 @@ one_more plan at s cs old g ps n kept less r =
         | inl e ↦ a.partner own (ap (λ i. slice_get at i) e ∙ x.1) ∙ ap (λ (i : ℕ). ps i) (sym e)
         | inr ne ↦
             let y = get_there at own within in
-            let apart : y.0 ≢ line = λ e. ne (r.network.planned.apart own n within less (line_named at own y.0 y.1 ∙ e ∙ sym (line_named at n line x.1))) in
+            let apart : y.0 ≢ line = λ e. ne ((its_plan plan at s r.histories cs r.books r.world r.traces r.network).apart own n within less (line_named at own y.0 y.1 ∙ e ∙ sym (line_named at n line x.1))) in
             a.partners own y.0 y.1 apart ∙ r.partners own (omega arith) within
       ];
     }
@@ -189,7 +190,7 @@ plan_elapsed s ticks plan is = record {
 -- ---- on faithful lines
 
 abbrev elapsed_partner : (ticks : ℕ) → Partner → Partner
-elapsed_partner ticks p = record p { dte = end.elapsed p.dte ticks }
+elapsed_partner ticks p = record p { other = end.elapsed p.other ticks }
 
 abbrev elapsed_switch : (ticks : ℕ) → PlacedSwitch → PlacedSwitch
 elapsed_switch ticks n = record n { switch = elapse ticks n.switch }
@@ -201,9 +202,13 @@ all_kept plan at s h cs books w traces ticks i own line l b is got there =
     let o = unmapped (with_end (λ e. end.elapsed e ticks)) s.lines own l got in
     let same : h.books own ≡ b = same_Some (h.books own) b (sym (own_book plan at s h cs books w traces own line is i) ∙ there) in
     let p : Partner = h.partners own in
-    let kept : Kept p.setting b (line_with p o.0.end) = subst (λ (c : Book). Kept p.setting c (line_with p o.0.end)) same (i.tied.kept own o.0 o.1) in
-    subst (λ (x : SwitchLine). Kept p.setting b (line_with (elapsed_partner ticks p) x.end)) (sym o.2)
-    (making_law.elapses_keeps p.setting b (line_with p o.0.end) ticks kept).kept
+    let role : p.role ≡ Dce = i.roles own in
+    let kept : Kept p.setting b (dce_line p o.0.end) =
+    subst (λ (c : Book). Kept p.setting c (dce_line p o.0.end)) same (as_dce p (h.books own) o.0.end role ((its_tied plan at s h cs books w traces i).kept own o.0 o.1)) in (
+      role,
+      subst (λ (x : SwitchLine). Kept p.setting b (dce_line (elapsed_partner ticks p) x.end)) (sym o.2)
+          (making_law.elapses_keeps p.setting b (dce_line p o.0.end) ticks kept).kept,
+    )
 
 changed_partners : (plan : Plan) (at : List ℕ) (s : Switch) (h : Histories) (cs : List JoinedCall) (books : List Book) (w : World) (traces : List (List Origin)) (ticks : ℕ)
     → paths.IsNetwork plan at s h cs books w traces
@@ -217,7 +222,7 @@ changed_partners plan at s h cs books w traces ticks i =
       books = books;
       world = w;
       traces = traces;
-      network = network_holds.elapses plan at ticks s h cs books w traces i;
+      network = elapse_one plan at ticks s h cs books w traces i;
       register = refl;
       count = refl;
       same = λ k. refl;

@@ -11,11 +11,11 @@ use Rattle.switch_path_laws.specs.Tied.{Histories}
 use Rattle.switch_path_laws.specs.Calls.{JoinedCall}
 use Rattle.call_path_laws.specs.World.{Origin, World, Plan}
 use Rattle.call_path_laws.specs.OwnAddresses.{HaveOwnAddresses}
-use Rattle.switch_path_laws.specs.Network as paths
 use Rattle.network_laws.specs.OneLine.{LineState}
 use Rattle.network_laws.specs.Network.{PlacedNode, PlacedSwitch, NetNode, User, Switching, NetLine, Network, Stands}
 use Rattle.network_laws.specs.IsLine.{IsLine}
 use Rattle.network_laws.specs.IsNetwork.{IsNetwork}
+use Rattle.switch_network_laws.specs.OneSwitch as paths
 use Rattle.switch_network_laws.specs.Plans.{IsPlanOf}
 
 -- ---- the two ends of a line
@@ -60,7 +60,7 @@ pub record LineStands (nodes : List NetNode) (line : ℕ) (l : NetLine) : Type 0
 
 -- the partner of the switch on a line is the node at the DTE's end, with the frames in flight both ways
 pub record IsPartner (p : Partner) (l : NetLine) (dte : NodeState) : Type 0 where
-  pub dte_is : p.dte ≡ end_of dte
+  pub dte_is : p.other ≡ end_of dte
   pub up : p.up ≡ l.flights.from_dte
   pub down : p.down ≡ l.flights.from_dce
 

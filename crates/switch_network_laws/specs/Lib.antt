@@ -1,6 +1,7 @@
 pub use Rattle.network_laws.specs.IsNetwork
 pub use Rattle.network_laws.specs.DueCount
 pub mod Plans
+pub mod OneSwitch
 pub mod IsSwitched
 pub mod Histories
 pub mod Promise

@@ -1,16 +1,14 @@
 -- What a network promises, with a switch or without one.
-use Rattle.std.specs.Prelude.{◌≡◌, ℕ, true, List, slice_get, Some, None}
+use Rattle.std.specs.Prelude.{◌≡◌, ℕ, List, slice_get, Some, None}
 use Rattle.link_timers.specs.declared.role.Role.{Role}
 use Rattle.link_timers.specs.declared.role.Role.TheVariants.{Dce}
 use Rattle.call_records.specs.Records.{RecordValue, PairValue}
-use Rattle.network_laws.specs.Sending.{HasSent}
 use Rattle.register_laws.specs.Promise.{HasRecords}
 use Rattle.call_path_laws.specs.World.{Plan}
 use Rattle.call_path_laws.specs.OwnAddresses.{HaveOwnAddresses}
 use Rattle.call_path_laws.specs.Promise.{PathsHold}
-use Rattle.network_laws.specs.Node.{is_pad}
 use Rattle.network_laws.specs.Network.{PlacedNode, User, NetLine, Network, place_at}
-pub use Rattle.network_laws.specs.Promise.{its_slot, EndHolds, PlacedHolds, NetworkHolds}
+pub use Rattle.network_laws.specs.Promise.{its_slot, EndHolds, PlacedHolds, PadsSend, NetworkHolds}
 use Rattle.line_record_laws.specs.Histories.{LineHistory}
 use Rattle.switch_network_laws.specs.Plans.{HasNoSwitch, IsPlanOf}
 pub use Rattle.switch_network_laws.specs.Histories.{HasUserAt, HistoriesHold}
@@ -35,11 +33,10 @@ pub record NetworkPromise (s : Network) : Type 0 where
   -- last one placed there and is in a pair
   pub placed : (line : ℕ) (l : NetLine) (role : Role) → slice_get s.lines line ≡ Some l → HasUserAt s l role
       → PlacedHolds s line l role
-  -- what a PAD's terminal sent on a call is, block for block with its end, what its editing rules make of the keys and
-  -- idle times; else the PAD sent what some list of occasions asks for, in order, whose messages are those that it
-  -- took. Which breaks and commands came, and with which parameters, is not said here
-  pub typed : (place : ℕ) (n : PlacedNode) (i : ℕ) (r : RecordValue) → slice_get s.nodes place ≡ Some (User n)
-      → is_pad n.node ≡ true → slice_get s.register.records i ≡ Some r → r.node ≡ place → HasSent r
+  -- one course of events leads to each PAD. What its terminals sent on a call is, block for block with its end, what
+  -- the editing rules make of the keys and idle times; what else it sent are the answers and indications of break, and
+  -- its interrupts, for which the messages, breaks and commands of this course ask, one each and in order
+  pub pads : PadsSend s
   -- for each line there is one history of its packet layers, which leads to those of its nodes with users; what the
   -- records count, open or closed, is what it says, and the pairs are the calls that users accepted in it, one for each
   pub histories : List LineHistory

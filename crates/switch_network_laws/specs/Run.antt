@@ -1,5 +1,6 @@
 -- A worked run over frames: two hosts at a switch, with one channel on each line. The links are set up, the first host
--- calls the second one, a message goes over with D = 1 and is confirmed, a reply comes back, and all is at rest.
+-- calls the second one, a message goes over with D = 1, whose frame is lost and sent again after a poll, and is
+-- confirmed, a reply comes back, and all is at rest.
 use Rattle.std.specs.Prelude.{◌≡◌, ℕ, Bool, true, false, ◌&&◌, ◌==◌, not, nat_eq, nat_le, nat_lt}
 use Rattle.std.specs.Prelude.{List, [], ◌∷◌, ◌++◌, length, map}
 use Rattle.std.specs.List.{list_all}
@@ -7,6 +8,7 @@ use Rattle.std.specs.Cmp.Lexicographic.{pointwise}
 use Rattle.std.specs.FinMap.{empty, insert}
 use Rattle.link_timers.specs.declared.role.Role.{Role}
 use Rattle.link_timers.specs.declared.role.Role.TheVariants.{Dte}
+use Rattle.link_timers.specs.declared.timers.TimerId.TheVariants.{T1}
 use Rattle.epochs.specs.Item.{DataPacket}
 use Rattle.packet_codec.specs.Address.{are_decimal}
 use Rattle.packet_end.specs.PacketEnd.{made}
@@ -23,12 +25,12 @@ use Rattle.memory_line.specs.Lines.{Flights, lossless_service, no_flights, flyin
 use Rattle.address_routes.specs.Routes.{RouteMap}
 use Rattle.switch_lines.specs.Making.{made as made_switch}
 use Rattle.switch_lines.specs.Switch.{Switch, switch_rests}
-use Rattle.switch_lines.specs.declared.channels.NewJoin.{NewJoin}
-use Rattle.network_laws.specs.NodeEvents.{NodeEvent, Hears, Calls, Asks, Says, Takes, turn_of}
+use Rattle.switch_joins.specs.declared.channels.NewJoin.{NewJoin}
+use Rattle.network_laws.specs.NodeEvents.{NodeEvent, Hears, Expires, Calls, Asks, Says, Takes, turn_of}
 use Rattle.network_laws.specs.AtSwitch.{SwitchEvent, SwitchHappened, switched, switch_drained, waiting_on}
 use Rattle.network_laws.specs.AtSwitch.{joins_of, all_handed}
 use Rattle.network_laws.specs.AtSwitch as at_switch
-use Rattle.network_laws.specs.Network.{Network, User, Switching, HappenedAt}
+use Rattle.network_laws.specs.Network.{Network, User, Switching, HappenedAt, LostAt}
 use Rattle.network_laws.specs.Opening.{NetPlan, Planned, NewLine, IsPlan, IsMade, own_configs, line_plan}
 use Rattle.network_laws.specs.Opening.NewDte.{NewHost}
 use Rattle.network_laws.specs.Opening.Planned.{PlannedUser, PlannedSwitch}
@@ -110,8 +112,9 @@ abbrev pub from_second : List (List ℕ) → TwoHosts → TwoHosts
 from_second [] t = t
 from_second (octets ∷ frames) t = heard_by_switch (at_switch.Hears 1 octets) t.near (without_first FromDte t.far) t
 
--- something happens at a host, or the first frame of a direction is delivered
+-- something happens at a host, the first frame of a direction is delivered, or the first host's first one is lost
 pub data Act : Type 0 where
+  IsLost : Act
   First : NodeEvent → Act
   Second : NodeEvent → Act
   FromFirst : Act
@@ -120,6 +123,7 @@ pub data Act : Type 0 where
   ToSecond : Act
 
 abbrev pub after_act : Act → TwoHosts → TwoHosts
+after_act IsLost t = record t { near = without_first FromDte t.near }
 after_act (First event) t = at_first event t.near t
 after_act (Second event) t = at_second event t.far t
 after_act FromFirst t = from_first t.near.from_dte t
@@ -136,6 +140,7 @@ abbrev pub is_for : NodeEvent → NodeState → Bool
 is_for (Calls address user_data) n =
     not (is_pad n) && nat_le 1 (length address) && nat_le (length address) 15 && are_decimal address
     && nat_le (length user_data) 16
+is_for (Expires id) n = true
 is_for (Asks channel r) n = not (is_pad n)
 is_for (Says channel octets qualified delivery) n = not (is_pad n)
 is_for (Takes channel) n = not (is_pad n)
@@ -210,11 +215,13 @@ passes acts = pass (pass (pass acts))
 abbrev pub calling : List Act
 calling = pass (pass (passes (First (Calls (2 ∷ []) []) ∷ [])))
 
--- from when it is there: the call is accepted, HI is said with D = 1 and taken, then OK with D = 0 and taken
+-- from when it is there: the call is accepted, HI is said with D = 1, and its frame is lost; T1 expires, HI is sent
+-- again and taken, then OK is said with D = 0 and taken
 abbrev pub talking : List Act
 talking =
-    passes (Second (Asks 1 Accept) ∷ passes (First (Says 1 (72 ∷ 73 ∷ []) false true) ∷ passes (Second (Takes 1)
-    ∷ passes (Second (Says 1 (79 ∷ 75 ∷ []) false false) ∷ passes (First (Takes 1) ∷ passes [])))))
+    passes (Second (Asks 1 Accept) ∷ passes (First (Says 1 (72 ∷ 73 ∷ []) false true) ∷ IsLost ∷ First (Expires T1)
+    ∷ passes (Second (Takes 1) ∷ passes (Second (Says 1 (79 ∷ 75 ∷ []) false false) ∷ passes (First (Takes 1)
+    ∷ passes [])))))
 
 abbrev pub placed : TwoHosts
 placed = after_acts calling start
@@ -224,13 +231,15 @@ rested = after_acts talking (after_act FromFirst placed)
 
 -- ---- what it comes to
 
--- events happen at nodes with users and at the switch, one after the other, on lines in memory
+-- events happen at nodes with users and at the switch, and frames are lost, one after the other, on lines in memory
 pub data Goes : Network → Network → Type 0 where
   stays : {s : Network} → Goes s s
   by_user : {s mid t : Network} (event : NodeEvent) (line : ℕ) (role : Role)
       → HappenedAt lossless_service event line role s mid → Goes mid t → Goes s t
   by_switch : {s mid t : Network} (event : SwitchEvent) (place : ℕ)
       → SwitchHappened lossless_service event place s mid → Goes mid t → Goes s t
+  by_loss : {s mid t : Network} (line : ℕ) (d : Direction) → LostAt lossless_service line d s mid → Goes mid t
+      → Goes s t
 
 -- no frame is in flight, and the nodes are at rest
 abbrev pub flies_nothing : Flights → Bool

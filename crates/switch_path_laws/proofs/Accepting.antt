@@ -1,9 +1,8 @@
--- Where the switch accepted a call, the one with which it goes on was accepted: what stays over all that is written.
+-- Where a switch accepted a call, the one with which it goes on was accepted: what stays over all that is written.
 use Rattle.std.specs.Prelude.{◌≡◌, ℕ, ◌<◌, ◌⊎◌, true, false, List, length, slice_get, Option, Some, None}
 use Rattle.std.proofs.Common.{inl, inr, refl, sym, ap, ap₂, subst, ◌∙◌, true≢false, arith}
 use Rattle.std.proofs.lemmas.Option.{same_Some, slice_get_within}
 use Rattle.link_timers.specs.declared.role.Role.{Role}
-use Rattle.link_timers.specs.declared.role.Role.TheVariants.{Dce}
 use Rattle.packet_layer.specs.Channel.{Refusal}
 use Rattle.call_records.specs.Records.{RecordValue, PairValue}
 use Rattle.call_records.specs.Book.{Book, slot_at, with_pair, answers}
@@ -66,19 +65,19 @@ pub pairs_stay : (role : Role) (ws : List Write) (b : Book) (i : ℕ) (p : PairV
 pairs_stay role ws b i p e = writes_keep (λ (y : Book). slice_get y.pairs i ≡ Some p) role (λ y z t h. t.touches.pairs i p h) ws b e
 
 -- where a call is accepted, the new pair is of the call that came in there
-pub accepted_pair : (o : Option Refusal) (c : ℕ) (b : Book) (i : ℕ) (p : PairValue) → slice_get (unless_refused o (answers Dce c b) b).pairs i ≡ Some p → (slice_get b.pairs i ≡ Some p) ⊎ ((slot_at Dce c b).present ≡ Some p.callee)
-accepted_pair (Some r) c b i p e = inl e
-accepted_pair None c b i p e = by_slot (slot_at Dce c b).caller (slot_at Dce c b).present refl e
+pub accepted_pair : (role : Role) (o : Option Refusal) (c : ℕ) (b : Book) (i : ℕ) (p : PairValue) → slice_get (unless_refused o (answers role c b) b).pairs i ≡ Some p → (slice_get b.pairs i ≡ Some p) ⊎ ((slot_at role c b).present ≡ Some p.callee)
+accepted_pair role (Some r) c b i p e = inl e
+accepted_pair role None c b i p e = by_slot (slot_at role c b).caller (slot_at role c b).present refl e
   where
-    by_slot : (n m : Option ℕ) → (slot_at Dce c b).present ≡ m → slice_get (with_pair n m b).pairs i ≡ Some p → (slice_get b.pairs i ≡ Some p) ⊎ ((slot_at Dce c b).present ≡ Some p.callee)
+    by_slot : (n m : Option ℕ) → (slot_at role c b).present ≡ m → slice_get (with_pair n m b).pairs i ≡ Some p → (slice_get b.pairs i ≡ Some p) ⊎ ((slot_at role c b).present ≡ Some p.callee)
     by_slot None m f g = inl g
     by_slot (Some n) None f g = inl g
     by_slot (Some n) (Some m) f g =
         elim (last_pair b.pairs (record { caller = n; callee = m }) i p g) [ inl old ↦ inl old | inr new ↦ inr (f ∙ ap (λ (q : PairValue). Some q.callee) (sym new)) ]
 
-pub accepted_records : (o : Option Refusal) (c : ℕ) (b : Book) → (unless_refused o (answers Dce c b) b).records ≡ b.records
-accepted_records (Some r) c b = refl
-accepted_records None c b = by_slot (slot_at Dce c b).caller (slot_at Dce c b).present
+pub accepted_records : (role : Role) (o : Option Refusal) (c : ℕ) (b : Book) → (unless_refused o (answers role c b) b).records ≡ b.records
+accepted_records role (Some r) c b = refl
+accepted_records role None c b = by_slot (slot_at role c b).caller (slot_at role c b).present
   where
     by_slot : (n m : Option ℕ) → (with_pair n m b).records ≡ b.records
     by_slot None m = refl

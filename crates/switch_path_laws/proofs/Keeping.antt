@@ -1,4 +1,4 @@
--- The calls of a line's book hold where some moves lead to it; and a line is the switch's or another one.
+-- The calls of a line's book hold where some moves lead to it; and a line is a switch's own or another one.
 use Rattle.std.specs.Prelude.{◌≡◌, ℕ, zero, suc, ◌<◌, ◌⊎◌, List, [], ◌∷◌, length}
 use Rattle.std.proofs.Common.{inl, inr, sym, subst, arith}
 use Rattle.call_records.specs.Book.{Book}
@@ -8,10 +8,15 @@ use Rattle.line_record_laws.specs.Kept.{Setting, Kept}
 use Rattle.call_path_laws.specs.World.{Origin}
 use Rattle.call_path_laws.specs.Lines.{AreRecorded, BookCallsHold}
 use Rattle.call_path_laws.proofs.Moves.{recorded_calls}
-use Rattle.switch_path_laws.specs.Network.{network_line, IsOther}
+use Rattle.switch_path_laws.specs.Sight.{network_line}
+use Rattle.switch_path_laws.specs.Network.{IsOther}
+
+-- this own line of a switch is the one of the network
+abbrev pub IsOwn : (at : List ℕ) → (line : ℕ) → Type 0
+IsOwn at line = (n : ℕ) × ((n < length at) × (network_line at n ≡ line))
 
 -- a line of the network is the switch's, or it is none of its
-pub own_or_other : (at : List ℕ) (line : ℕ) → ((n : ℕ) × ((n < length at) × (network_line at n ≡ line))) ⊎ IsOther at line
+pub own_or_other : (at : List ℕ) (line : ℕ) → IsOwn at line ⊎ IsOther at line
 own_or_other [] line = inr (λ n less e. absurd (omega arith))
 own_or_other (x ∷ xs) line = elim (number_is x line) [
   | inl e ↦

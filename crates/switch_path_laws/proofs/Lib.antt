@@ -1,13 +1,26 @@
 pub use Rattle.joined_call_laws.proofs.Making
 pub use Rattle.joined_call_laws.proofs.Tying
+pub use Rattle.joined_call_laws.proofs.Turned
+pub use Rattle.joined_call_laws.proofs.Outside
 pub use Rattle.joined_call_laws.proofs.Eventing
 pub mod Listing
-pub mod Silence
-pub mod Accepting
-pub mod Seeing
+mod Silence
+mod Accepting
+mod Sighted
+mod Seeing
 pub mod Keeping
-mod Placing
+pub mod Elsewhere
+pub mod Moving
+mod Happened
+mod Users
+mod Joined
+mod Promised
+mod Along
 mod Transferring
 mod Resting
-pub mod Events
+pub mod Begins
+pub mod Only
 pub mod Running
+pub mod TrunkRunning
+pub mod TrunkActing
+mod TrunkCalling

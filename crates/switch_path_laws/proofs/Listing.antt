@@ -1,7 +1,9 @@
--- The books of a switch's lines among all books, and numbers that stay as origins are added.
-use Rattle.std.specs.Prelude.{◌≡◌, ◌≢◌, ◌⊎◌, ℕ, zero, suc, ◌<◌, List, [], ◌∷◌, ◌++◌, length, set, slice_get, Option, Some, None}
-use Rattle.std.proofs.Common.{inl, inr, refl, sym, ap, subst, ◌∙◌, append_assoc, append-nil}
+-- The books of a switch's lines among all books, the joined calls of each switch among all, and numbers that stay as
+-- origins are added.
+use Rattle.std.specs.Prelude.{◌≡◌, ◌≢◌, ◌⊎◌, ℕ, zero, suc, ◌<◌, Bool, true, false, ◌==◌, if◌then◌else◌, List, [], ◌∷◌, ◌++◌, length, set, slice_get, Option, Some, None}
+use Rattle.std.proofs.Common.{inl, inr, refl, sym, ap, subst, ◌∙◌, arith, append_assoc, append-nil}
 use Rattle.std.proofs.lemmas.Option.{none-some, same_Some}
+use Rattle.std.proofs.lemmas.Bool.{eqb-true, eq-eqb}
 use Rattle.link_timers.specs.declared.role.Role.{Role}
 use Rattle.packet_layer.specs.Packets.{Note}
 use Rattle.packet_layer.specs.Packets.Note.{Incoming, Connected, Closed, WasReset, InterruptConfirmed, Covered}
@@ -12,44 +14,58 @@ use Rattle.call_records.specs.Writes.Write.{Told, Placed, Asked, Said, Took, Cle
 use Rattle.book_laws.proofs.Basics.{get_before, get_there, number_is, set_here, set_elsewhere, length_set}
 use Rattle.register_laws.specs.Seen.{positions}
 use Rattle.register_laws.proofs.Positions.{one_here, one_elsewhere}
+use Rattle.switch_joins.proofs.Apart.{decided}
 use Rattle.joined_call_laws.specs.Written.{Books}
 use Rattle.joined_call_laws.specs.Calls.{JoinedCall}
-use Rattle.call_path_laws.specs.World.{Origin, Join, noted, all_noted, with_placed, traced, all_traced}
-use Rattle.switch_path_laws.specs.Network.{network_line, IsOther, AreAmong, lines_of, JoinIs, AreJoins}
-use Rattle.switch_path_laws.specs.Law.{OthersStay}
+use Rattle.call_path_laws.specs.World.{Origin, Join, Plan, noted, all_noted, with_placed, traced, all_traced}
+use Rattle.joined_call_laws.specs.Turned.{sight}
+use Rattle.switch_path_laws.specs.Sight.{OwnLines, network_line}
+use Rattle.switch_path_laws.specs.Network.{IsOther, PlacedCall, placed_at, of_switch, lines_of, JoinIs, IsJoinAt, AreJoins}
 
 -- ---- the books of the switch's lines among all
+
+pub less_or_not : (n k : ℕ) → (n < k) ⊎ (n < k → ⊥)
+less_or_not n zero = inr (λ h. absurd (omega arith))
+less_or_not zero (suc k) = inl (omega arith)
+less_or_not (suc n) (suc k) = elim (less_or_not n k) [ inl h ↦ inl (omega arith) | inr h ↦ inr (λ g. let f : n < k = omega arith in h f) ]
 
 -- no line is two of the switch's
 abbrev pub AreApart : List ℕ → Type 0
 AreApart at = (m n : ℕ) → m < length at → n < length at → network_line at m ≡ network_line at n → m ≡ n
 
-pub among_set : (at : List ℕ) (n : ℕ) (bs bs' : Books) (books : List Book) (b : Book) → AreApart at → n < length at → bs' n ≡ b → ((k : ℕ) → k ≢ n → bs' k ≡ bs k) → AreAmong at bs books → AreAmong at bs' (set books (network_line at n) b)
-among_set at n bs bs' books b apart h here others i k g =
+-- the book of each of its lines, in its own sight
+abbrev pub AreAmong : (at : List ℕ) → (roles : ℕ → Role) → Books → List Book → Type 0
+AreAmong at roles bs books = (n : ℕ) → n < length at → slice_get books (network_line at n) ≡ Some (sight (roles n) (bs n))
+
+pub among_set : (at : List ℕ) (roles : ℕ → Role) (n : ℕ) (bs bs' : Books) (books : List Book) (b : Book) → AreApart at → n < length at → sight (roles n) (bs' n) ≡ b → ((k : ℕ) → k ≢ n → bs' k ≡ bs k) → AreAmong at roles bs books → AreAmong at roles bs' (set books (network_line at n) b)
+among_set at roles n bs bs' books b apart h here others i k g =
     elim (number_is k n) [
       | inl is ↦
           ap (λ (m : ℕ). slice_get (set books (network_line at n) b) (network_line at m)) is
-          ∙ (set_here books (network_line at n) b (bs n) (i n h) ∙ (ap (λ (x : Book). Some x) (sym here) ∙ ap (λ (m : ℕ). Some (bs' m)) (sym is)))
-      | inr ne ↦ set_elsewhere books (network_line at n) (network_line at k) b (λ e. ne (apart k n g h e)) ∙ (i k g ∙ ap (λ (x : Book). Some x) (sym (others k ne)))
+          ∙ (set_here books (network_line at n) b (sight (roles n) (bs n)) (i n h) ∙ (ap (λ (x : Book). Some x) (sym here) ∙ ap (λ (m : ℕ). Some (sight (roles m) (bs' m))) (sym is)))
+      | inr ne ↦ set_elsewhere books (network_line at n) (network_line at k) b (λ e. ne (apart k n g h e)) ∙ (i k g ∙ ap (λ (x : Book). Some (sight (roles k) x)) (sym (others k ne)))
     ]
 
-pub among_other : (at : List ℕ) (line : ℕ) (bs : Books) (books : List Book) (b : Book) → IsOther at line → AreAmong at bs books → AreAmong at bs (set books line b)
-among_other at line bs books b other i k g = set_elsewhere books line (network_line at k) b (λ e. other k g e) ∙ i k g
+pub among_same : (at : List ℕ) (roles : ℕ → Role) (bs bs' : Books) (books : List Book) → ((k : ℕ) → k < length at → bs' k ≡ bs k) → AreAmong at roles bs books → AreAmong at roles bs' books
+among_same at roles bs bs' books h i k g = i k g ∙ ap (λ (x : Book). Some (sight (roles k) x)) (sym (h k g))
 
-pub among_same : (at : List ℕ) (bs bs' : Books) (books : List Book) → ((k : ℕ) → k < length at → bs' k ≡ bs k) → AreAmong at bs books → AreAmong at bs' books
-among_same at bs bs' books h i k g = i k g ∙ ap (λ (x : Book). Some x) (sym (h k g))
+-- the lines are as many, and the books of those that are not the switch's are the same
+pub record BooksStay (at : List ℕ) (old books : List Book) (old_traces traces : List (List Origin)) : Type 0 where
+  pub count : length books ≡ length old
+  pub same : (line : ℕ) → IsOther at line → slice_get books line ≡ slice_get old line
+  pub same_trace : (line : ℕ) → IsOther at line → slice_get traces line ≡ slice_get old_traces line
 
-pub others_same : (at : List ℕ) (books : List Book) (traces : List (List Origin)) → OthersStay at books books traces traces
+pub others_same : (at : List ℕ) (books : List Book) (traces : List (List Origin)) → BooksStay at books books traces traces
 others_same at books traces = record { count = refl; same = λ line o. refl; same_trace = λ line o. refl }
 
-pub others_set : (at : List ℕ) (n : ℕ) (books : List Book) (b : Book) (traces : List (List Origin)) (own : List Origin) → n < length at → OthersStay at books (set books (network_line at n) b) traces (set traces (network_line at n) own)
+pub others_set : (at : List ℕ) (n : ℕ) (books : List Book) (b : Book) (traces : List (List Origin)) (own : List Origin) → n < length at → BooksStay at books (set books (network_line at n) b) traces (set traces (network_line at n) own)
 others_set at n books b traces own h = record {
   count = length_set books (network_line at n) b;
   same = λ line o. set_elsewhere books (network_line at n) line b (λ e. o n h (sym e));
   same_trace = λ line o. set_elsewhere traces (network_line at n) line own (λ e. o n h (sym e));
 }
 
-pub others_then : (at : List ℕ) (as_ bs cs : List Book) (us vs ws : List (List Origin)) → OthersStay at as_ bs us vs → OthersStay at bs cs vs ws → OthersStay at as_ cs us ws
+pub others_then : (at : List ℕ) (as_ bs cs : List Book) (us vs ws : List (List Origin)) → BooksStay at as_ bs us vs → BooksStay at bs cs vs ws → BooksStay at as_ cs us ws
 others_then at as_ bs cs us vs ws p q = record {
   count = q.count ∙ p.count;
   same = λ line o. q.same line o ∙ p.same line o;
@@ -160,41 +176,127 @@ pub lines_length : (os : List Origin) → length (lines_of os) ≡ length os
 lines_length [] = refl
 lines_length (o ∷ os) = ap suc (lines_length os)
 
+-- ---- the calls of one switch among all
+
+pub if_same : {X : Type 0} (n k : ℕ) (x y : X) → n ≡ k → (if n == k then x else y) ≡ x
+if_same n k x y e = ap (λ (m : ℕ). if n == m then x else y) (sym e) ∙ ap (λ (v : Bool). if v then x else y) (eq-eqb n n refl)
+
+pub if_else : {X : Type 0} (n k : ℕ) (x y : X) → (n ≡ k → ⊥) → (if n == k then x else y) ≡ y
+if_else n k x y ne = by_test (decided (n == k))
+  where
+    by_test : ((n == k) ≡ true) ⊎ ((n == k) ≡ false) → (if n == k then x else y) ≡ y
+    by_test (inl t) = absurd (ne (eqb-true n k t))
+    by_test (inr f) = ap (λ (v : Bool). if v then x else y) f
+
+pub of_then : (place : ℕ) (cs ds : List PlacedCall) → of_switch place (cs ++ ds) ≡ of_switch place cs ++ of_switch place ds
+of_then place [] ds = refl
+of_then place (c ∷ cs) ds = by_test (c.place == place) (of_then place cs ds)
+  where
+    by_test : (v : Bool) → of_switch place (cs ++ ds) ≡ of_switch place cs ++ of_switch place ds → (if v then c.call ∷ of_switch place (cs ++ ds) else of_switch place (cs ++ ds)) ≡ (if v then c.call ∷ of_switch place cs else of_switch place cs) ++ of_switch place ds
+    by_test true e = ap (λ (xs : List JoinedCall). c.call ∷ xs) e
+    by_test false e = e
+
+of_own : (place : ℕ) (cs : List JoinedCall) → of_switch place (placed_at place cs) ≡ cs
+of_own place [] = refl
+of_own place (c ∷ cs) = if_same place place (c ∷ of_switch place (placed_at place cs)) (of_switch place (placed_at place cs)) refl ∙ ap (λ (xs : List JoinedCall). c ∷ xs) (of_own place cs)
+
+of_other : (place k : ℕ) (cs : List JoinedCall) → (k ≡ place → ⊥) → of_switch place (placed_at k cs) ≡ []
+of_other place k [] ne = refl
+of_other place k (c ∷ cs) ne = if_else k place (c ∷ of_switch place (placed_at k cs)) (of_switch place (placed_at k cs)) ne ∙ of_other place k cs ne
+
+-- its own calls come behind those that it had, and those of another switch are the same
+pub own_behind : (place : ℕ) (all : List PlacedCall) (cs : List JoinedCall) → of_switch place (all ++ placed_at place cs) ≡ of_switch place all ++ cs
+own_behind place all cs = of_then place all (placed_at place cs) ∙ ap (λ (xs : List JoinedCall). of_switch place all ++ xs) (of_own place cs)
+
+pub other_behind : (place k : ℕ) (all : List PlacedCall) (cs : List JoinedCall) → (k ≡ place → ⊥) → of_switch place (all ++ placed_at k cs) ≡ of_switch place all
+other_behind place k all cs ne = of_then place all (placed_at k cs) ∙ (ap (λ (xs : List JoinedCall). of_switch place all ++ xs) (of_other place k cs ne) ∙ append-nil (of_switch place all))
+
+every_rest : (P : JoinedCall → Type 0) (v : Bool) (c : JoinedCall) (cs : List JoinedCall) → Every P (if v then c ∷ cs else cs) → Every P cs
+every_rest P true c cs x = x.1
+every_rest P false c cs x = x
+
+-- what holds of each call of a switch holds of one of them
+pub every_own : (P : JoinedCall → Type 0) (place : ℕ) (all : List PlacedCall) (k : ℕ) (c : PlacedCall) → Every P (of_switch place all) → slice_get all k ≡ Some c → c.place ≡ place → P c.call
+every_own P place [] k c h e is = absurd (none-some c e)
+every_own P place (d ∷ all) zero c h e is =
+    let same : d ≡ c = same_Some d c e in
+    subst (λ (x : PlacedCall). P x.call) same
+    (subst (λ (xs : List JoinedCall). Every P xs) (if_same d.place place (d.call ∷ of_switch place all) (of_switch place all) (ap (λ (x : PlacedCall). x.place) same ∙ is)) h).0
+every_own P place (d ∷ all) (suc k) c h e is = every_own P place all k c (every_rest P (d.place == place) d.call (of_switch place all) h) e is
+
 -- ---- joins
 
-pub joins_stay : (at : List ℕ) (line : ℕ) (role : Role) (os ps : List Origin) (cs : List JoinedCall) (js : List Join) → Grows line role os ps → AreJoins at os cs js → AreJoins at ps cs js
-joins_stay at line role os ps [] [] g a = tt
-joins_stay at line role os ps (c ∷ cs) (j ∷ js) g a = (
+pub join_stays : (at : List ℕ) (line : ℕ) (role : Role) (os ps : List Origin) (c : JoinedCall) (j : Join) → Grows line role os ps → JoinIs at os c j → JoinIs at ps c j
+join_stays at line role os ps c j g i = record {
+  near = (i.near.0, numbers_stay line role os ps (network_line at c.near.line) c.came_in j.came_in g i.near.1);
+  far = (i.far.0, numbers_stay line role os ps (network_line at c.far.line) c.placed j.placed g i.far.1);
+}
+
+pub origin_stays : (line : ℕ) (role : Role) (os ps : List Origin) (a : ℕ) (o : Origin) → Grows line role os ps → slice_get os a ≡ Some o → slice_get ps a ≡ Some o
+origin_stays line role os ps a o g e = ap (λ (xs : List Origin). slice_get xs a) g.is ∙ get_before os g.more a o e
+
+pub joins_stay : (plan : Plan) (ats : OwnLines) (line : ℕ) (role : Role) (os ps : List Origin) (cs : List PlacedCall) (js : List Join) → Grows line role os ps → AreJoins plan ats os cs js → AreJoins plan ats ps cs js
+joins_stay plan ats line role os ps [] [] g a = tt
+joins_stay plan ats line role os ps (c ∷ cs) (j ∷ js) g a = (
   record {
-    near = (a.0.near.0, numbers_stay line role os ps (network_line at c.near.line) c.came_in j.came_in g a.0.near.1);
-    far = (a.0.far.0, numbers_stay line role os ps (network_line at c.far.line) c.placed j.placed g a.0.far.1);
+    is = join_stays (ats c.place) line role os ps c.call j g a.0.is;
+    from = a.0.from;
+    from_there = origin_stays line role os ps j.came_in a.0.from g a.0.from_there;
+    at_switch = a.0.at_switch;
   },
-  joins_stay at line role os ps cs js g a.1,
+  joins_stay plan ats line role os ps cs js g a.1,
 )
-joins_stay at line role os ps [] (j ∷ js) g a = absurd a
-joins_stay at line role os ps (c ∷ cs) [] g a = absurd a
+joins_stay plan ats line role os ps [] (j ∷ js) g a = absurd a
+joins_stay plan ats line role os ps (c ∷ cs) [] g a = absurd a
 
-pub joins_last : (at : List ℕ) (os : List Origin) (cs : List JoinedCall) (js : List Join) (c : JoinedCall) (j : Join) → AreJoins at os cs js → JoinIs at os c j → AreJoins at os (cs ++ c ∷ []) (js ++ j ∷ [])
-joins_last at os [] [] c j a i = (i, tt)
-joins_last at os (d ∷ cs) (k ∷ js) c j a i = (a.0, joins_last at os cs js c j a.1 i)
-joins_last at os [] (k ∷ js) c j a i = absurd a
-joins_last at os (d ∷ cs) [] c j a i = absurd a
+pub joins_last : (plan : Plan) (ats : OwnLines) (os : List Origin) (cs : List PlacedCall) (js : List Join) (c : PlacedCall) (j : Join) → AreJoins plan ats os cs js → IsJoinAt plan ats os c j → AreJoins plan ats os (cs ++ c ∷ []) (js ++ j ∷ [])
+joins_last plan ats os [] [] c j a i = (i, tt)
+joins_last plan ats os (d ∷ cs) (k ∷ js) c j a i = (a.0, joins_last plan ats os cs js c j a.1 i)
+joins_last plan ats os [] (k ∷ js) c j a i = absurd a
+joins_last plan ats os (d ∷ cs) [] c j a i = absurd a
 
--- the joined call of a join, of which something holds
-pub record Found (P : JoinedCall → Type 0) (at : List ℕ) (os : List Origin) (j : Join) : Type 0 where
-  pub call : JoinedCall
-  pub is : JoinIs at os call j
-  pub holds : P call
+-- the joined call of a join
+pub record Found (plan : Plan) (ats : OwnLines) (os : List Origin) (cs : List PlacedCall) (j : Join) : Type 0 where
+  pub at : ℕ
+  pub call : PlacedCall
+  pub there : slice_get cs at ≡ Some call
+  pub is : IsJoinAt plan ats os call j
 
-pub join_found : (P : JoinedCall → Type 0) (at : List ℕ) (os : List Origin) (cs : List JoinedCall) (js : List Join) (k : ℕ) (j : Join) → AreJoins at os cs js → Every P cs → slice_get js k ≡ Some j → Found P at os j
-join_found P at os [] [] k j a h e = absurd (none-some j e)
-join_found P at os (c ∷ cs) (i ∷ js) zero j a h e = record { call = c; is = subst (λ (x : Join). JoinIs at os c x) (same_Some i j e) a.0; holds = h.0 }
-join_found P at os (c ∷ cs) (i ∷ js) (suc k) j a h e = join_found P at os cs js k j a.1 h.1 e
-join_found P at os [] (i ∷ js) k j a h e = absurd a
-join_found P at os (c ∷ cs) [] k j a h e = absurd a
+pub join_found : (plan : Plan) (ats : OwnLines) (os : List Origin) (cs : List PlacedCall) (js : List Join) (k : ℕ) (j : Join) → AreJoins plan ats os cs js → slice_get js k ≡ Some j → Found plan ats os cs j
+join_found plan ats os [] [] k j a e = absurd (none-some j e)
+join_found plan ats os (c ∷ cs) (i ∷ js) zero j a e = record { at = 0; call = c; there = refl; is = subst (λ (x : Join). IsJoinAt plan ats os c x) (same_Some i j e) a.0 }
+join_found plan ats os (c ∷ cs) (i ∷ js) (suc k) j a e = let f = join_found plan ats os cs js k j a.1 e in record { at = suc f.at; call = f.call; there = f.there; is = f.is }
+join_found plan ats os [] (i ∷ js) k j a e = absurd a
+join_found plan ats os (c ∷ cs) [] k j a e = absurd a
 
-pub join_at : (at : List ℕ) (os : List Origin) (cs : List JoinedCall) (js : List Join) (k : ℕ) (c : JoinedCall) → AreJoins at os cs js → slice_get cs k ≡ Some c → (j : Join) × ((slice_get js k ≡ Some j) × JoinIs at os c j)
-join_at at os [] js k c a e = absurd (none-some c e)
-join_at at os (d ∷ cs) (j ∷ js) zero c a e = (j, (refl, subst (λ (x : JoinedCall). JoinIs at os x j) (same_Some d c e) a.0))
-join_at at os (d ∷ cs) (j ∷ js) (suc k) c a e = join_at at os cs js k c a.1 e
-join_at at os (d ∷ cs) [] k c a e = absurd a
+-- the join of a call of one switch
+pub record ItsJoin (at : List ℕ) (os : List Origin) (js : List Join) (c : JoinedCall) : Type 0 where
+  pub place : ℕ
+  pub join : Join
+  pub there : slice_get js place ≡ Some join
+  pub is : JoinIs at os c join
+
+later : (at : List ℕ) (os : List Origin) (j : Join) (js : List Join) (c : JoinedCall) → ItsJoin at os js c → ItsJoin at os (j ∷ js) c
+later at os j js c x = record { place = suc x.place; join = x.join; there = x.there; is = x.is }
+
+here_or_later : (ats : OwnLines) (place : ℕ) (os : List Origin) (d : PlacedCall) (cs : List PlacedCall) (j : Join) (js : List Join) (k : ℕ) (c : JoinedCall) → JoinIs (ats d.place) os d.call j → ((n : ℕ) → slice_get (of_switch place cs) n ≡ Some c → ItsJoin (ats place) os js c)
+    → slice_get (of_switch place (d ∷ cs)) k ≡ Some c → ItsJoin (ats place) os (j ∷ js) c
+here_or_later ats place os d cs j js k c i more e = by_test (decided (d.place == place))
+  where
+    by_place : (n : ℕ) → d.place ≡ place → slice_get (d.call ∷ of_switch place cs) n ≡ Some c → ItsJoin (ats place) os (j ∷ js) c
+    by_place zero is f = record {
+      place = 0;
+      join = j;
+      there = refl;
+      is = subst (λ (x : JoinedCall). JoinIs (ats place) os x j) (same_Some d.call c f) (subst (λ (p : ℕ). JoinIs (ats p) os d.call j) is i);
+    }
+    by_place (suc n) is f = later (ats place) os j js c (more n f)
+
+    by_test : ((d.place == place) ≡ true) ⊎ ((d.place == place) ≡ false) → ItsJoin (ats place) os (j ∷ js) c
+    by_test (inl t) = by_place k (eqb-true d.place place t) (ap (λ (v : Bool). slice_get (if v then d.call ∷ of_switch place cs else of_switch place cs) k) (sym t) ∙ e)
+    by_test (inr f) = later (ats place) os j js c (more k (ap (λ (v : Bool). slice_get (if v then d.call ∷ of_switch place cs else of_switch place cs) k) (sym f) ∙ e))
+
+pub join_at : (plan : Plan) (ats : OwnLines) (place : ℕ) (os : List Origin) (cs : List PlacedCall) (js : List Join) (k : ℕ) (c : JoinedCall) → AreJoins plan ats os cs js → slice_get (of_switch place cs) k ≡ Some c → ItsJoin (ats place) os js c
+join_at plan ats place os [] js k c a e = absurd (none-some c e)
+join_at plan ats place os (d ∷ cs) [] k c a e = absurd a
+join_at plan ats place os (d ∷ cs) (j ∷ js) k c a e = here_or_later ats place os d cs j js k c a.0.is (λ n f. join_at plan ats place os cs js n c a.1 f) e

@@ -1,7 +1,7 @@
--- Where all lines of a network with one switch are at rest, nothing is missing in its register.
+-- Where all lines of a network of switches are at rest, nothing is missing in its register.
 use Rattle.std.specs.Prelude.{◌≡◌, ℕ, ◌<◌, ◌⊎◌, Bool, true, false, is_some, List, [], length, slice_get, Option, Some, None}
 use Rattle.std.proofs.Common.{inl, inr, refl, sym, ap, ap₂, subst, ◌∙◌, true≢false, append-nil, option_map}
-use Rattle.std.proofs.lemmas.Option.{same_Some}
+use Rattle.std.proofs.lemmas.Option.{same_Some, slice_get_within}
 use Rattle.link_timers.specs.declared.role.Role.{Role}
 use Rattle.link_timers.specs.declared.role.Role.TheVariants.{Dte, Dce}
 use Rattle.link_timers.specs.Role.{other_of}
@@ -11,9 +11,11 @@ use Rattle.packet_layer.specs.Layer.{Layer, channel_of}
 use Rattle.epochs.specs.Item.{Item, all_items}
 use Rattle.epochs.specs.Epoch.{sent_epoch, taken_epoch}
 use Rattle.packet_laws.specs.History.{Epoch}
+use Rattle.packet_end.specs.PacketEnd.{PacketEnd}
 use Rattle.line_laws.specs.Line.{Line}
+use Rattle.line_laws.specs.Rest.{AreAtRest}
 use Rattle.call_records.specs.Records.{RecordValue, PairValue}
-use Rattle.call_records.specs.Book.{Book, slot_at}
+use Rattle.call_records.specs.Book.{Book, Slot, slot_at}
 use Rattle.call_records.specs.Register.{book_at}
 use Rattle.book_laws.specs.Headline.{IsPaired}
 use Rattle.book_laws.specs.Rest.{NothingMissing}
@@ -27,8 +29,8 @@ use Rattle.register_laws.proofs.Seeing.{came_seen}
 use Rattle.register_laws.proofs.Steps.{same_place}
 use Rattle.line_record_laws.specs.Kept.{Setting, Kept, end_at}
 use Rattle.line_record_laws.proofs.Missing.{rest_kept}
-use Rattle.switch_lines.specs.declared.channels.SwitchChannel.{SwitchChannel}
-use Rattle.switch_lines.specs.declared.channels.Joined.{Joined}
+use Rattle.switch_joins.specs.declared.channels.SwitchChannel.{SwitchChannel}
+use Rattle.switch_joins.specs.declared.join.Joined.{Joined}
 use Rattle.switch_lines.specs.Lines.{SwitchLine}
 use Rattle.switch_lines.specs.Switch.{Switch}
 use Rattle.switch_laws.specs.Leg.{Leg}
@@ -39,19 +41,21 @@ use Rattle.switch_laws.specs.World.{Shown, shown_at, shown_on, shown_as, Agrees,
 use Rattle.switch_laws.proofs.Directions.{carried_items}
 use Rattle.switch_laws.proofs.Lists.{get_map}
 use Rattle.joined_call_laws.specs.Records.{HasRecord, Has, call_on, leg_if, sent_of, taken_of}
-use Rattle.joined_call_laws.specs.Kept.{line_with}
+use Rattle.joined_call_laws.specs.Turned.{sight}
+use Rattle.joined_call_laws.proofs.Turned.{sight_back}
 use Rattle.joined_call_laws.specs.Tied.{Histories}
 use Rattle.joined_call_laws.specs.Calls.{JoinedCall, StandsOrEnded, Stands}
-use Rattle.call_path_laws.specs.World.{Origin, World, Plan}
+use Rattle.call_path_laws.specs.World.{Origin, Join, World, Plan}
 use Rattle.call_path_laws.specs.Seen.{CameFrom}
 use Rattle.call_path_laws.specs.Rest.{HasHandedAll, HaveHandedAll}
 use Rattle.call_path_laws.proofs.Resting.{rest_paths}
-use Rattle.switch_path_laws.specs.Network.{network_line, IsOther, lines_of, HasNumber, IsNetwork}
-use Rattle.switch_path_laws.specs.Law.{SwitchRests, RestLaw}
-use Rattle.switch_path_laws.proofs.Keeping.{own_or_other}
-use Rattle.switch_path_laws.proofs.Listing.{join_found}
+use Rattle.switch_path_laws.specs.Sight.{Switched, Switches, OwnLines, Lines, role_at, network_line, StaysInSight}
+use Rattle.switch_path_laws.specs.Network.{PlacedCall, of_switch, lines_of, HasNumber, JoinIs, IsNetwork}
+use Rattle.switch_path_laws.specs.Law.{IsOfUsers, SwitchesRest, RestLaw}
 use Rattle.switch_path_laws.proofs.Seeing.{line_there, own_trace, line_seen}
-use Rattle.switch_path_laws.proofs.Transferring.{BothInTransfer, in_transfer_at_rest}
+use Rattle.switch_path_laws.proofs.Elsewhere.{end_in_sight}
+use Rattle.switch_path_laws.proofs.Joined.{in_sight, its_switch, kept_line, of_its, users_or_switch}
+use Rattle.switch_path_laws.proofs.Transferring.{channel_is, BothInTransfer, in_transfer_at_rest}
 
 -- ---- two legs
 
@@ -88,18 +92,61 @@ of_shown l (Some ch) e = (ch, refl)
 of_shown l None e = absurd (true≢false (sym e))
 
 -- in data transfer a call that came in is in a pair
-paired_at : (s : Setting) (b : Book) (l : Line) (c : ℕ) (ch : Channel) → Kept s b l → channel_of l.dce.layer c ≡ Some ch → in_transfer ch.state ≡ true
-    → is_some (slot_at Dce c b).caller ≡ true → IsPaired (slot_at Dce c b) b.pairs
-paired_at s b l c ch k at in_call some =
+paired_at : (r : Role) (s : Setting) (b : Book) (l : Line) (c : ℕ) (ch : Channel) → Kept s b l → AreAtRest l.dte l.dce → channel_of (end_at r l).layer c ≡ Some ch → in_transfer ch.state ≡ true
+    → is_some (slot_at r c b).caller ≡ true → IsPaired (slot_at r c b) b.pairs
+paired_at r s b l c ch k rests at in_call some =
     let p = k.setting.dte.layer in
-    subst (λ (x : Book). IsPaired (slot_at Dce c x) x.pairs) k.book
-    ((are_answered s.dte_node s.dce_node s.dte.channels s.dte.window s.dte.standing p.channels_least p.window_most k.moves k.allowed).paired Dce c ch
-    (ap (λ (y : Layer). channel_of y c) k.joint.yours.layer ∙ at) in_call (ap (λ (x : Book). is_some (slot_at Dce c x).caller) k.book ∙ some))
+    subst (λ (x : Book). IsPaired (slot_at r c x) x.pairs) k.book
+    ((are_answered s.dte_node s.dce_node s.dte.channels s.dte.window s.dte.standing p.channels_least p.window_most k.moves k.allowed).paired r c ch
+    (channel_is s b l k rests r c ∙ at) in_call (ap (λ (x : Book). is_some (slot_at r c x).caller) k.book ∙ some))
 
-module _ (plan : Plan) (at : List ℕ) (s : Switch) (h : Histories) (cs : List JoinedCall) (books : List Book) (w : World) (traces : List (List Origin))
-    (i : IsNetwork plan at s h cs books w traces) (rests : SwitchRests s h) where
+-- ---- in the sight of an end
+
+-- its own end is the DCE there
+seen_role : (r role : Role) → Role
+seen_role Dte Dte = Dce
+seen_role Dte Dce = Dte
+seen_role Dce role = role
+
+slot_in_sight : (r role : Role) (c : ℕ) (b : Book) → slot_at (seen_role r role) c (sight r b) ≡ slot_at role c b
+unfolding seen_role
+slot_in_sight Dte Dte c b = refl
+slot_in_sight Dte Dce c b = refl
+slot_in_sight Dce Dte c b = refl
+slot_in_sight Dce Dce c b = refl
+
+own_seen : (r role : Role) → seen_role r role ≡ Dce → role ≡ r
+unfolding seen_role
+own_seen Dte Dte e = refl
+own_seen Dte Dce e = absurd cc
+own_seen Dce Dte e = absurd cc
+own_seen Dce Dce e = refl
+
+-- ---- one switch
+
+module _ (plan : Plan) (ats : OwnLines) (xs : Switches) (cs : List PlacedCall) (lines : Lines) (books : List Book) (w : World) (traces : List (List Origin))
+    (i : IsNetwork plan ats xs cs lines books w traces) (rests : SwitchesRest plan lines books) (place : ℕ) (x : Switched) (x_there : xs place ≡ Some x) where
+  abbrev at : List ℕ
+  at = ats place
+
+  abbrev s : Switch
+  s = x.switch
+
+  abbrev h : Histories
+  h = x.histories
+
+  st : StaysInSight at x (of_switch place cs) lines books
+  st = i.stays place x x_there
+
   its_line : (n : ℕ) → n < length at → (l : SwitchLine) × (slice_get s.lines n ≡ Some l)
-  its_line n less = get_there s.lines n (subst (λ (k : ℕ). n < k) i.planned.lines less)
+  its_line n less = get_there s.lines n (subst (λ (k : ℕ). n < k) (i.planned place x x_there).lines less)
+
+  -- its line in the network
+  line_book : (n : ℕ) → n < length at → slice_get books (network_line at n) ≡ Some (sight (role_at x n) (h.books n))
+  line_book n less = (st.sight n less).book
+
+  line_rests : (n : ℕ) → n < length at → AreAtRest (lines (network_line at n)).line.dte (lines (network_line at n)).line.dce
+  line_rests n less = rests (network_line at n) (role_at x n) (slice_get_within books (network_line at n) (sight (role_at x n) (h.books n)) (line_book n less)) ((i.planned place x x_there).switch_end n less)
 
   layer_there : (n : ℕ) (l : SwitchLine) → slice_get s.lines n ≡ Some l → slice_get (layers_of s.lines) n ≡ Some l.end.layer
   layer_there n l e = get_map (λ (y : SwitchLine). y.end.layer) s.lines n ∙ ap (λ (o : Option SwitchLine). option_map (λ (y : SwitchLine). y.end.layer) o) e
@@ -110,7 +157,7 @@ module _ (plan : Plan) (at : List ℕ) (s : Switch) (h : Histories) (cs : List J
   leg_of : (x : SwitchChannel) (l : SwitchLine) → slice_get s.lines x.line ≡ Some l → (ch : Channel) → channel_of l.end.layer x.channel ≡ Some ch → (h.legs x).channel ≡ ch
   leg_of x l e ch there =
       let seen : Shown = record { role = l.end.layer.role; window = l.end.layer.window; channel = ch } in
-      let a : Agrees seen (h.legs x) = i.tied.holds.joins.world x seen (shown_there x l e ∙ ap (λ (o : Option Channel). shown_as l.end.layer o) there) in
+      let a : Agrees seen (h.legs x) = st.tied.holds.joins.world x seen (shown_there x l e ∙ ap (λ (o : Option Channel). shown_as l.end.layer o) there) in
       ap (λ (y : Shown). y.channel) (sym a.shown)
 
   leg_record : (x : SwitchChannel) (l : SwitchLine) → slice_get s.lines x.line ≡ Some l → (ch : Channel) → channel_of l.end.layer x.channel ≡ Some ch → ch.state ≡ Transfer
@@ -118,7 +165,7 @@ module _ (plan : Plan) (at : List ℕ) (s : Switch) (h : Histories) (cs : List J
   leg_record x l e ch there in_call =
       subst (λ (v : Bool). Has Dce x.channel (leg_if v (h.legs x)) (h.books x.line)) (ap had_call in_call)
       (subst (λ (o : Option Channel). Has Dce x.channel (call_on o (h.legs x)) (h.books x.line)) there
-      ((i.tied.records x.line l.end.layer (layer_there x.line l e)).has x.channel))
+      ((st.tied.records x.line l.end.layer (layer_there x.line l e)).has x.channel))
 
   -- ---- the far leg, whose call was accepted and is open at the other end of its line
 
@@ -127,36 +174,41 @@ module _ (plan : Plan) (at : List ℕ) (s : Switch) (h : Histories) (cs : List J
     pub channel : ℕ
     pub present : (slot_at role channel (h.books c.far.line)).present ≡ Some c.placed
     pub its_channel : Channel
-    pub there : channel_of (end_at role (line_with (h.partners c.far.line) l.end)).layer channel ≡ Some its_channel
+    pub there : role ≡ Dce → channel_of l.end.layer channel ≡ Some its_channel
     pub in_call : its_channel.state ≡ Transfer
 
   far_transfer : (c : JoinedCall) (b k : ℕ) (pair : PairValue) (callee : RecordValue) (l : SwitchLine) → HasNumber at w.origins c.far.line c.placed b → slice_get s.lines c.far.line ≡ Some l
       → slice_get w.whole.pairs k ≡ Some pair → pair.caller ≡ b → slice_get w.whole.records pair.callee ≡ Some callee → callee.closed ≡ false → FarTransfer c l
   far_transfer c b k pair callee l far got pair_there caller callee_there open_ =
       let n = c.far.line in
+      let r = role_at x n in
+      let own_line = network_line at n in
       let o = pair_of w.whole books i.seen.lines.seen k pair pair_there in
       let trace = own_trace books o.j o.book w.whole w.origins traces o.there i.seen.lines in
       let owners : i.seen.lines.seen.owners ≡ lines_of w.origins = (i.seen.lines.lines o.j trace.0 trace.1).owners_are in
-      let line : o.j ≡ network_line at n =
-      same_Some o.j (network_line at n) (sym (is_place o.j i.seen.lines.seen.owners o.pair.own.caller pair.caller o.pair.caller)
-      ∙ ap₂ (λ (os : List ℕ) (m : ℕ). slice_get os m) owners caller ∙ is_place (network_line at n) (lines_of w.origins) c.placed b far.1) in
-      let book : o.book ≡ h.books n = same_Some o.book (h.books n) (sym o.there ∙ ap (λ (j : ℕ). slice_get books j) line ∙ i.seen.among n far.0) in
+      let line : o.j ≡ own_line =
+      same_Some o.j own_line (sym (is_place o.j i.seen.lines.seen.owners o.pair.own.caller pair.caller o.pair.caller)
+      ∙ ap₂ (λ (os : List ℕ) (m : ℕ). slice_get os m) owners caller ∙ is_place own_line (lines_of w.origins) c.placed b far.1) in
+      let book : o.book ≡ sight r (h.books n) = same_Some o.book (sight r (h.books n)) (sym o.there ∙ ap (λ (j : ℕ). slice_get books j) line ∙ line_book n far.0) in
+      let seen_book : sight r o.book ≡ h.books n = ap (λ (y : Book). sight r y) book ∙ sight_back r (h.books n) in
       let own : o.pair.own.caller ≡ c.placed =
-      same_place (network_line at n) (lines_of w.origins) o.pair.own.caller c.placed b
+      same_place own_line (lines_of w.origins) o.pair.own.caller c.placed b
       (sym (ap₂ (λ (j : ℕ) (os : List ℕ). slice_get (positions j os) o.pair.own.caller) line owners) ∙ o.pair.caller ∙ ap (λ (m : ℕ). Some m) caller) far.1 in
       let seen = (i.seen.lines.seen.line o.j o.book o.there).records o.pair.own.callee pair.callee o.pair.callee in
       let is_open : seen.value.closed ≡ false =
-      ap (λ (r : RecordValue). r.closed) (same_Some (renumbered pair.callee seen.caller seen.value) callee (sym seen.seen_there ∙ callee_there)) ∙ open_ in
-      let kept : Kept (h.partners n).setting o.book (line_with (h.partners n) l.end) =
-      subst (λ (y : Book). Kept (h.partners n).setting y (line_with (h.partners n) l.end)) (sym book) (i.tied.kept n l got) in
-      let t : BothInTransfer o.book (line_with (h.partners n) l.end) o.pair.own =
-      in_transfer_at_rest (h.partners n).setting o.book (line_with (h.partners n) l.end) kept (rests n l got) o.pair.place o.pair.own seen.value o.pair.own_there seen.own_there is_open in
+      ap (λ (v : RecordValue). v.closed) (same_Some (renumbered pair.callee seen.caller seen.value) callee (sym seen.seen_there ∙ callee_there)) ∙ open_ in
+      let kept : Kept (lines own_line).setting o.book (lines own_line).line = kept_line plan ats xs cs lines books w traces i own_line r o.book (ap (λ (j : ℕ). slice_get books j) (sym line) ∙ o.there) ((i.planned place x x_there).switch_end n far.0) in
+      let t : BothInTransfer o.book (lines own_line).line o.pair.own =
+      in_transfer_at_rest (lines own_line).setting o.book (lines own_line).line kept (line_rests n far.0) o.pair.place o.pair.own seen.value o.pair.own_there seen.own_there is_open in
+      let side = other_of t.role in
       record {
-        role = other_of t.role;
+        role = seen_role r side;
         channel = t.channel;
-        present = ap (λ (y : Book). (slot_at (other_of t.role) t.channel y).present) (sym book) ∙ t.caller_present ∙ ap (λ (m : ℕ). Some m) own;
+        present = ap (λ (y : Book). (slot_at (seen_role r side) t.channel y).present) (sym seen_book) ∙ ap (λ (z : Slot). z.present) (slot_in_sight r side t.channel o.book) ∙ t.caller_present ∙ ap (λ (m : ℕ). Some m) own;
         its_channel = t.caller_channel;
-        there = t.caller_there;
+        there = λ is.
+            ap (λ (e : PacketEnd). channel_of e.layer t.channel) (sym (end_in_sight x n own_line lines books l got (st.sight n far.0)) ∙ ap (λ (y : Role). end_at y (lines own_line).line) (sym (own_seen r side is)))
+            ∙ t.caller_there;
         in_call = t.caller_in_call;
       }
 
@@ -175,10 +227,9 @@ module _ (plan : Plan) (at : List ℕ) (s : Switch) (h : Histories) (cs : List J
 
   stands_connected : (c : JoinedCall) (l : SwitchLine) → c.near.line < length at → slice_get s.lines c.far.line ≡ Some l → FarTransfer c l → Stands s.lines h.books c → StandsConnected c
   stands_connected c l near_less got t stands =
-      let own = (i.tied.records c.far.line l.end.layer (layer_there c.far.line l got)).apart.apart t.role Dce t.channel c.far.channel c.placed t.present stands.far_present in
-      let there : channel_of l.end.layer c.far.channel ≡ Some t.its_channel =
-      sym (ap₂ (λ (y : Role) (d : ℕ). channel_of (end_at y (line_with (h.partners c.far.line) l.end)).layer d) own.0 own.1) ∙ t.there in
-      let g : IsJoinedAt 0 [] s.lines h.legs c.near stands.join = i.tied.holds.joins.joined c.near stands.join stands.joined in
+      let own = (st.tied.records c.far.line l.end.layer (layer_there c.far.line l got)).apart.apart t.role Dce t.channel c.far.channel c.placed t.present stands.far_present in
+      let there : channel_of l.end.layer c.far.channel ≡ Some t.its_channel = ap (λ (d : ℕ). channel_of l.end.layer d) (sym own.1) ∙ t.there own.0 in
+      let g : IsJoinedAt 0 [] s.lines h.legs c.near stands.join = st.tied.holds.joins.joined c.near stands.join stands.joined in
       let far_call : (h.legs c.far).channel.state ≡ Transfer = ap (λ (y : Channel). y.state) (leg_of c.far l got t.its_channel there) ∙ t.in_call in
       let legs : AreConnected (h.legs c.near) (h.legs c.far) = elim g.pair [
         | inl p ↦ subst (λ (q : SwitchChannel). AreConnected (h.legs c.near) (h.legs q)) stands.other
@@ -200,37 +251,43 @@ module _ (plan : Plan) (at : List ℕ) (s : Switch) (h : Histories) (cs : List J
       }
 
   -- the pair of the call that came in, in the whole register
-  near_paired : (c : JoinedCall) (a x : ℕ) → HasNumber at w.origins c.near.line c.came_in a → CameFrom w.origins a x → (k : StandsConnected c) → Stands s.lines h.books c
+  near_paired : (c : JoinedCall) (a k : ℕ) → HasNumber at w.origins c.near.line c.came_in a → CameFrom w.origins a k → (j : StandsConnected c) → Stands s.lines h.books c
       → (place : ℕ) × (pair : PairValue) × (slice_get w.whole.pairs place ≡ Some pair) × (pair.callee ≡ a)
-  near_paired c a x near came k stands =
+  near_paired c a k near came j stands =
       let n = c.near.line in
+      let r = role_at x n in
       let line = network_line at n in
       let channel = c.near.channel in
-      let y = line_seen plan at n h.books cs books w traces near.0 i.seen in
-      let m = numbered (positions line (lines_of w.origins)) (slot_at Dce channel (h.books n)).present (slot_at Dce channel (book_at line w.whole)).present c.came_in stands.near_present
+      let seen = in_sight plan ats xs cs lines books w traces i place x x_there in
+      let y = line_seen plan ats place (role_at x) n h.books cs books w traces near.0 seen in
+      let m = numbered (positions line (lines_of w.origins)) (slot_at Dce channel (h.books n)).present (slot_at r channel (book_at line w.whole)).present c.came_in stands.near_present
       ((y.sides Dce).slot channel).present in
-      let present : (slot_at Dce channel (book_at line w.whole)).present ≡ Some a = m.is ∙ sym m.there ∙ near.1 in
-      let made = ((i.seen.seen.sides line Dce (line_there plan at n h.books cs books w traces near.0 i.seen)).slot channel).present_origin a present in
-      let caller : (slot_at Dce channel (book_at line w.whole)).caller ≡ Some x =
-      ap (λ (o : Origin). o.caller) (same_Some (record { line = line; role = Dce; placed_here = made.placed_here; caller = (slot_at Dce channel (book_at line w.whole)).caller }) came.origin (sym made.there ∙ came.there)) ∙ came.came in
-      let some : is_some (slot_at Dce channel (h.books n)).caller ≡ true =
-      sym (came_seen w.whole books line (h.books n) Dce channel (i.seen.among n near.0) i.seen.lines.seen) ∙ ap (λ (o : Option ℕ). is_some o) caller in
-      let own : IsPaired (slot_at Dce channel (h.books n)) (h.books n).pairs =
-      paired_at (h.partners n).setting (h.books n) (line_with (h.partners n) k.near_line.end) channel k.near_channel (i.tied.kept n k.near_line k.near_got) k.near_there (ap in_transfer k.near_call) some in
-      let p = paired_seen w.whole books line (h.books n) Dce channel (i.seen.among n near.0) i.seen.lines.seen own in
+      let present : (slot_at r channel (book_at line w.whole)).present ≡ Some a = m.is ∙ sym m.there ∙ near.1 in
+      let made = ((i.seen.seen.sides line r (line_there plan ats place (role_at x) n h.books cs books w traces near.0 seen)).slot channel).present_origin a present in
+      let caller : (slot_at r channel (book_at line w.whole)).caller ≡ Some k =
+      ap (λ (o : Origin). o.caller) (same_Some (record { line = line; role = r; placed_here = made.placed_here; caller = (slot_at r channel (book_at line w.whole)).caller }) came.origin (sym made.there ∙ came.there)) ∙ came.came in
+      let b = sight r (h.books n) in
+      let there : slice_get books line ≡ Some b = line_book n near.0 in
+      let some : is_some (slot_at r channel b).caller ≡ true =
+      sym (came_seen w.whole books line b r channel there i.seen.lines.seen) ∙ ap (λ (o : Option ℕ). is_some o) caller in
+      let own : IsPaired (slot_at r channel b) b.pairs =
+      paired_at r (lines line).setting b (lines line).line channel j.near_channel (kept_line plan ats xs cs lines books w traces i line r b there ((i.planned place x x_there).switch_end n near.0)) (line_rests n near.0)
+      (ap (λ (e : PacketEnd). channel_of e.layer channel) (end_in_sight x n line lines books j.near_line j.near_got (st.sight n near.0)) ∙ j.near_there) (ap in_transfer j.near_call) some in
+      let p = paired_seen w.whole books line b r channel there i.seen.lines.seen own in
       (p.place, record { caller = p.caller; callee = p.callee }, p.there, same_Some p.callee a (sym p.present ∙ present))
 
-  handed_on_all : (c : JoinedCall) (a b x : ℕ) (l : SwitchLine) → HasNumber at w.origins c.near.line c.came_in a → HasNumber at w.origins c.far.line c.placed b → CameFrom w.origins a x
+  handed_on_all : (c : JoinedCall) (a b d : ℕ) (l : SwitchLine) → HasNumber at w.origins c.near.line c.came_in a → HasNumber at w.origins c.far.line c.placed b → CameFrom w.origins a d
       → slice_get s.lines c.far.line ≡ Some l → FarTransfer c l → Stands s.lines h.books c → HasHandedAll w a b
-  handed_on_all c a b x l near far came got t stands =
+  handed_on_all c a b d l near far came got t stands =
       let k : StandsConnected c = stands_connected c l near.0 got t stands in
-      let u = (line_seen plan at c.near.line h.books cs books w traces near.0 i.seen).records c.came_in a near.1 in
-      let v = (line_seen plan at c.far.line h.books cs books w traces far.0 i.seen).records c.placed b far.1 in
+      let seen = in_sight plan ats xs cs lines books w traces i place x x_there in
+      let u = (line_seen plan ats place (role_at x) c.near.line h.books cs books w traces near.0 seen).records c.came_in a near.1 in
+      let v = (line_seen plan ats place (role_at x) c.far.line h.books cs books w traces far.0 seen).records c.placed b far.1 in
       let from : u.value ≡ k.near.it =
       same_Some u.value k.near.it (sym u.own_there ∙ ap (λ (m : ℕ). slice_get (h.books c.near.line).records m) (same_Some c.came_in k.near.number (sym stands.near_present ∙ k.near.present)) ∙ k.near.there) in
       let to : v.value ≡ k.far.it =
       same_Some v.value k.far.it (sym v.own_there ∙ ap (λ (m : ℕ). slice_get (h.books c.far.line).records m) (same_Some c.placed k.far.number (sym stands.far_present ∙ k.far.present)) ∙ k.far.there) in
-      let p = near_paired c a x near came k stands in
+      let p = near_paired c a d near came k stands in
       record {
         from = renumbered a u.caller u.value;
         to = renumbered b v.caller v.value;
@@ -248,30 +305,36 @@ module _ (plan : Plan) (at : List ℕ) (s : Switch) (h : Histories) (cs : List J
         accepted = p.3;
       }
 
-  have_handed_all : HaveHandedAll w
-  have_handed_all a b x k pair callee came joined pair_there caller callee_there open_ =
-      let f = join_found (StandsOrEnded s.lines h.books) at w.origins cs w.joins joined.place (record { came_in = a; placed = b }) i.seen.joins i.calls.each joined.there in
-      let l = its_line f.call.far.line f.is.far.0 in
-      let t : FarTransfer f.call l.0 = far_transfer f.call b k pair callee l.0 f.is.far l.1 pair_there caller callee_there open_ in
-      elim f.holds [
-        | inl stands ↦ handed_on_all f.call a b x l.0 f.is.near f.is.far came l.1 t stands
+  pub call_handed : (c : JoinedCall) (a b d k : ℕ) (pair : PairValue) (callee : RecordValue) → JoinIs at w.origins c (record { came_in = a; placed = b }) → StandsOrEnded s.lines h.books c → CameFrom w.origins a d → slice_get w.whole.pairs k ≡ Some pair → pair.caller ≡ b
+      → slice_get w.whole.records pair.callee ≡ Some callee → callee.closed ≡ false → HasHandedAll w a b
+  call_handed c a b d k pair callee is holds came pair_there caller callee_there open_ =
+      let l = its_line c.far.line is.far.0 in
+      let t : FarTransfer c l.0 = far_transfer c b k pair callee l.0 is.far l.1 pair_there caller callee_there open_ in
+      elim holds [
+        | inl stands ↦ handed_on_all c a b d l.0 is.near is.far came l.1 t stands
         | inr ended ↦ absurd (ended.far_rests.not_present t.role t.channel t.present)
       ]
 
-  -- ---- the lines
+-- ---- all switches
 
-  line_rests : ((line : ℕ) (b : Book) → IsOther at line → slice_get books line ≡ Some b → NothingMissing b.records b.pairs)
-      → (line : ℕ) (b : Book) → slice_get books line ≡ Some b → NothingMissing b.records b.pairs
-  line_rests others line b there = elim (own_or_other at line) [
-    | inr other ↦ others line b other there
-    | inl own ↦
-        let l = its_line own.0 own.1.0 in
-        let same : h.books own.0 ≡ b = same_Some (h.books own.0) b (sym (i.seen.among own.0 own.1.0) ∙ (ap (λ (k : ℕ). slice_get books k) own.1.1 ∙ there)) in
-        subst (λ (y : Book). NothingMissing y.records y.pairs) same
-        (rest_kept (h.partners own.0).setting (h.books own.0) (line_with (h.partners own.0) l.0.end) (i.tied.kept own.0 l.0 l.1) (rests own.0 l.0 l.1))
-  ]
+module _ (plan : Plan) (ats : OwnLines) (xs : Switches) (cs : List PlacedCall) (lines : Lines) (books : List Book) (w : World) (traces : List (List Origin))
+    (i : IsNetwork plan ats xs cs lines books w traces) (rests : SwitchesRest plan lines books) where
+  have_handed_all : HaveHandedAll w
+  have_handed_all a b d k pair callee came joined pair_there caller callee_there open_ =
+      let join : Join = record { came_in = a; placed = b } in
+      let f = its_switch plan ats xs cs lines books w traces i a b joined in
+      let st = i.stays f.place f.switch f.there in
+      let holds = of_its plan ats xs cs lines books w traces i (StandsOrEnded f.switch.switch.lines f.switch.histories.books) join f st.calls.each in
+      call_handed plan ats xs cs lines books w traces i rests f.place f.switch f.there f.call a b d k pair callee f.is holds came pair_there caller callee_there open_
+
+  at_switch : (line : ℕ) (role : Role) (b : Book) → slice_get books line ≡ Some b → plan.has_user line role ≡ false → NothingMissing b.records b.pairs
+  at_switch line role b there switch =
+      rest_kept (lines line).setting b (lines line).line (kept_line plan ats xs cs lines books w traces i line role b there switch) (rests line role (slice_get_within books line b there) switch)
+
+  nothing_missing : ((line : ℕ) (b : Book) → IsOfUsers plan line → slice_get books line ≡ Some b → NothingMissing b.records b.pairs) → (line : ℕ) (b : Book) → slice_get books line ≡ Some b → NothingMissing b.records b.pairs
+  nothing_missing users line b there = elim (users_or_switch plan line) [ inl both ↦ users line b both there | inr switch ↦ at_switch line switch.0 b there switch.1 ]
 
 pub network_rests : RestLaw
-network_rests plan at s h cs books w traces i rests others =
-    rest_paths plan w i.seen.seen (rest_seen w.whole books i.seen.lines.seen (line_rests plan at s h cs books w traces i rests others))
-    (have_handed_all plan at s h cs books w traces i rests)
+network_rests plan ats xs cs lines books w traces i rests users =
+    rest_paths plan w i.seen.seen (rest_seen w.whole books i.seen.lines.seen (nothing_missing plan ats xs cs lines books w traces i rests users))
+    (have_handed_all plan ats xs cs lines books w traces i rests)

@@ -1,6 +1,6 @@
 -- The run: what the laws ask for is met.
-use Rattle.std.specs.Prelude.{◌≡◌, ℕ, zero, suc, ◌<◌, true, false, List, [], ◌∷◌, slice_get, Option, Some, option_map}
-use Rattle.std.proofs.Common.{inl, inr, refl, sym, ap, ◌∙◌, true≢false, arith}
+use Rattle.std.specs.Prelude.{◌≡◌, ℕ, zero, suc, ◌<◌, false, List, [], ◌∷◌, slice_get, Option, Some, None, option_map}
+use Rattle.std.proofs.Common.{inl, inr, refl, sym, ap, subst, true≢false, arith}
 use Rattle.std.specs.List.{Contains}
 use Rattle.std.proofs.lemmas.Option.{none-some, same_Some}
 use Rattle.link_timers.specs.declared.role.Role.{Role}
@@ -16,24 +16,22 @@ use Rattle.joined_call_laws.specs.Run as switch_run
 use Rattle.joined_call_laws.specs.Tied.{IsTied}
 use Rattle.joined_call_laws.proofs.Running.{run_holds as records_run}
 use Rattle.joined_call_laws.proofs.Tying.{tied_holds}
+use Rattle.joined_call_laws.proofs.Eventing.{calls_hold}
 use Rattle.call_path_laws.specs.World.{AreAddressed, AreBetween, made_world}
 use Rattle.call_path_laws.specs.Tree.{IsTree}
-use Rattle.switch_path_laws.specs.Network.{network_line, IsOther, AreAmong, IsPlanned, IsNetwork}
-use Rattle.switch_path_laws.specs.Law.{no_switch}
-use Rattle.switch_path_laws.specs.Run.{routes, switch, at, plan, lines, books, traces, placed, user_book, plan_alone, lines_alone, route_of, RunLaw}
-use Rattle.switch_path_laws.proofs.Events.{network_holds}
+use Rattle.switch_path_laws.specs.Sight.{Switched, role_at, network_line, standing_with, IsInSight}
+use Rattle.switch_path_laws.specs.Network.{IsPlanned, IsAtSwitch, IsNetwork}
+use Rattle.switch_path_laws.specs.Law.{IsMadeAt, IsMade}
+use Rattle.switch_path_laws.specs.Run.{routes, switch, its_switch, switches, standing, at, plan, lines, books, traces, placed, user_book, plan_alone, lines_alone, route_of, RunLaw}
+use Rattle.switch_path_laws.proofs.Begins.{network_holds}
+use Rattle.switch_path_laws.proofs.Only.{only_is}
 
 -- ---- the plan of the three lines
 
-addresses : (n : ℕ) (l : SwitchLine) → slice_get two_lines n ≡ Some l → l.address ≡ plan.address (network_line at n)
+addresses : (n : ℕ) (l : SwitchLine) → slice_get two_lines n ≡ Some l → l.address ≡ address_of (plan.address (network_line at n))
 addresses zero l e = ap (λ (y : SwitchLine). y.address) (same_Some l _ (sym e))
 addresses (suc zero) l e = ap (λ (y : SwitchLine). y.address) (same_Some l _ (sym e))
 addresses (suc (suc n)) l e = absurd (none-some l e)
-
-has_address : (n : ℕ) → n < 2 → plan.address (network_line at n) ≡ [] → ⊥
-has_address zero h e = absurd cc
-has_address (suc zero) h e = absurd cc
-has_address (suc (suc n)) h e = absurd (omega arith)
 
 apart : (m n : ℕ) → m < 2 → n < 2 → network_line at m ≡ network_line at n → m ≡ n
 apart zero zero g h e = refl
@@ -65,14 +63,6 @@ by_route : (called : List ℕ) (n : ℕ) → line_for routes called ≡ Some n �
 by_route [] n e = absurd (none-some n e)
 by_route (digit ∷ digits) n e = ap (λ (o : Option ℕ). option_map (λ own. network_line at own) o) e
 
--- the line that is not the switch's
-between_users : (line : ℕ) (role : Role) → line < 3 → IsOther at line → plan.has_user line role ≡ true
-between_users zero role h other = absurd (other 1 (omega arith) refl)
-between_users (suc zero) Dte h other = refl
-between_users (suc zero) Dce h other = refl
-between_users (suc (suc zero)) role h other = absurd (other 0 (omega arith) refl)
-between_users (suc (suc (suc line))) role h other = absurd (omega arith)
-
 one_switch : IsTree plan (9 ∷ [])
 one_switch = record {
   few = omega arith;
@@ -90,58 +80,60 @@ one_switch = record {
     at_switch (suc zero) Dce e = absurd (true≢false e)
     at_switch (suc (suc line)) Dce e = nine
 
-is_planned : IsPlanned plan 3 at switch
+is_planned : IsPlanned plan 9 at (role_at its_switch) switch
 is_planned = record {
   lines = refl;
   apart = apart;
-  user_end = λ n h. refl;
   switch_end = switch_end;
-  one_switch = λ m n g h. switch_node m g ∙ sym (switch_node n h);
+  placed = switch_node;
   address = addresses;
-  addressed = has_address;
-  alike = alike;
   route = λ called n h e. by_route called n e;
-  others = between_users;
-  switches = 9 ∷ [];
-  tree = one_switch;
 }
 
 are_between : AreBetween plan 0 lines
 are_between = (refl, (refl, (refl, (refl, (refl, (refl, (refl, (refl, (refl, tt)))))))))
 
-are_among : AreAmong at histories.books books
-are_among zero h = refl
-are_among (suc zero) h = refl
-are_among (suc (suc n)) h = absurd (omega arith)
-
 is_tied : IsTied switch histories
 is_tied = tied_holds.begins routes configs switch_run.books partners configs_right records_run.addresses records_run.kept records_run.tied.records
 
-begins : IsNetwork plan at switch histories [] books (made_world lines) traces
-begins = network_holds.begins plan at routes configs lines histories configs_right is_planned are_between are_among is_tied
+in_sight : (own : ℕ) → own < 2 → IsInSight its_switch own (network_line at own) standing books
+in_sight zero h = record { book = refl; line_is = λ l e. ap (λ (y : SwitchLine). standing_with (histories.partners 0) y.end) (same_Some l _ (sym e)) }
+in_sight (suc zero) h = record { book = refl; line_is = λ l e. ap (λ (y : SwitchLine). standing_with (histories.partners 1) y.end) (same_Some l _ (sym e)) }
+in_sight (suc (suc n)) h = absurd (omega arith)
+
+is_made_at : IsMadeAt plan 9 at its_switch standing books
+is_made_at = record { planned = is_planned; tied = is_tied; calls = calls_hold.begins routes configs histories.books configs_right; sight = in_sight }
+
+ends : (line : ℕ) (role : Role) → line < 3 → plan.has_user line role ≡ false → IsAtSwitch (λ place. at) switches (plan.node line role) line role
+ends line Dte h e = absurd (true≢false e)
+ends zero Dce h e = record { it = its_switch; there = refl; own = 1; within = omega arith; line_is = refl; role_is = refl }
+ends (suc zero) Dce h e = absurd (true≢false e)
+ends (suc (suc zero)) Dce h e = record { it = its_switch; there = refl; own = 0; within = omega arith; line_is = refl; role_is = refl }
+ends (suc (suc (suc line))) Dce h e = absurd (omega arith)
+
+is_made : IsMade plan (λ place. at) switches standing lines
+is_made = record {
+  alike = alike;
+  switches = 9 ∷ [];
+  tree = one_switch;
+  between = are_between;
+  each = λ place x e.
+      let is = only_is 9 its_switch place x e in
+      subst (λ (k : ℕ). IsMadeAt plan k at x standing books) (sym is.0) (subst (λ (y : Switched). IsMadeAt plan 9 at y standing books) is.1 is_made_at);
+  ends = ends;
+}
+
+begins : IsNetwork plan (λ place. at) switches [] standing books (made_world lines) traces
+begins = network_holds.begins plan (λ place. at) switches standing lines is_made
 
 sabm_octets : AreOctets sabm
 sabm_octets = (omega arith, (omega arith, tt))
 
-is_other : IsOther at 1
-is_other zero h e = absurd cc
-is_other (suc zero) h e = absurd cc
-is_other (suc (suc n)) h e = absurd (omega arith)
-
 -- ---- a line alone
 
-planned_alone : IsPlanned plan_alone 1 [] (no_switch routes)
-planned_alone = record {
-  lines = refl;
-  apart = λ m n g h e. absurd (omega arith);
-  user_end = λ n h. absurd (omega arith);
-  switch_end = λ n h. absurd (omega arith);
-  one_switch = λ m n g h. absurd (omega arith);
-  address = λ n l e. absurd (none-some l e);
-  addressed = λ n h e. absurd (omega arith);
+made_alone : IsMade plan_alone (λ place. []) (λ place. None) standing lines_alone
+made_alone = record {
   alike = λ line e. refl;
-  route = λ called n h e. absurd (omega arith);
-  others = λ line role h other. refl;
   switches = [];
   tree = record {
     few = omega arith;
@@ -149,15 +141,16 @@ planned_alone = record {
     rises = λ line t. absurd (true≢false t.dte);
     one_up = λ line other t u e. absurd (true≢false t.dte);
   };
+  between = (refl, (refl, (refl, tt)));
+  each = λ place x e. absurd (none-some x e);
+  ends = λ line role h e. absurd (true≢false e);
 }
 
 pub run_holds : RunLaw
 run_holds = record {
-  planned = is_planned;
-  between = are_between;
-  among = are_among;
+  made = is_made;
   begins = begins;
-  goes_on = network_holds.frames plan at 0 sabm switch histories [] books (made_world lines) traces sabm_octets (_, refl) begins;
-  talks = network_holds.others plan at 1 Dte placed user_book [] switch histories [] books (made_world lines) traces is_other refl refl begins;
-  alone = network_holds.alone plan_alone routes lines_alone histories planned_alone (refl, (refl, (refl, tt)));
+  goes_on = network_holds.frames plan (λ place. at) switches [] standing books (made_world lines) traces 9 its_switch 0 sabm refl sabm_octets (_, refl) begins;
+  talks = network_holds.users plan (λ place. at) switches [] standing books (made_world lines) traces 1 Dte placed user_book [] (standing 1) refl refl refl (λ e. absurd (true≢false e)) begins;
+  alone = network_holds.begins plan_alone (λ place. []) (λ place. None) standing lines_alone made_alone;
 }

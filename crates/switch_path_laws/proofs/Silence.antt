@@ -2,6 +2,7 @@
 use Rattle.std.specs.Prelude.{◌≡◌, ℕ, zero, suc, ◌⊎◌, false, List, [], ◌∷◌, ◌++◌, map, slice_get, Option, Some, None}
 use Rattle.std.proofs.Common.{inl, inr, refl, sym, ap, subst, ◌∙◌}
 use Rattle.std.proofs.lemmas.Option.{none-some, same_Some}
+use Rattle.link_timers.specs.declared.role.Role.{Role}
 use Rattle.link_timers.specs.declared.role.Role.TheVariants.{Dce}
 use Rattle.epochs.specs.Epoch.{Epoch, SentEpoch, nothing_sent, sent_epoch, IsEmpty}
 use Rattle.epochs.specs.Confirmed.{sent_confirmed}
@@ -18,6 +19,8 @@ use Rattle.call_records.specs.Carried.{carried, unless_refused}
 use Rattle.call_records.specs.Writes.{Write, written_by, all_written}
 use Rattle.call_records.specs.Writes.Write.{Told, Placed, Asked, Said, Took, Cleared, Edited, AllClosed}
 use Rattle.book_laws.specs.Headline.{sent_by}
+use Rattle.joined_call_laws.specs.Turned.{sight}
+use Rattle.joined_call_laws.proofs.Turned.{sight_back, written_seen}
 use Rattle.joined_call_laws.proofs.Cells.{slot_records, slot_pairs}
 use Rattle.joined_call_laws.proofs.Following.{IsQuietRequest}
 
@@ -94,13 +97,13 @@ last_or_before [] x (suc i) r e = absurd (none-some r e)
 last_or_before (y ∷ rs) x zero r e = inl e
 last_or_before (y ∷ rs) x (suc i) r e = last_or_before rs x i r e
 
-pub pushed_silent : (x : RecordValue) (z : Slot) (c : ℕ) (b : Book) → SentNothing x → Silent b (with_slot Dce c z (with_record x b))
-pushed_silent x z c b h = record {
-  records = λ i r e. elim (last_or_before b.records x i r (sym (ap (λ (rs : List RecordValue). slice_get rs i) (slot_records Dce c z (with_record x b))) ∙ e)) [
+pub pushed_silent : (role : Role) (x : RecordValue) (z : Slot) (c : ℕ) (b : Book) → SentNothing x → Silent b (with_slot role c z (with_record x b))
+pushed_silent role x z c b h = record {
+  records = λ i r e. elim (last_or_before b.records x i r (sym (ap (λ (rs : List RecordValue). slice_get rs i) (slot_records role c z (with_record x b))) ∙ e)) [
     | inl old ↦ inl (r, (old, λ k. k))
     | inr new ↦ inr (subst (λ (y : RecordValue). SentNothing y) (sym new) h)
   ];
-  pairs = slot_pairs Dce c z (with_record x b);
+  pairs = slot_pairs role c z (with_record x b);
 }
 
 pub nothing_yet : SentNothing (record { number = 0; node = 0; own = None; far = None; caller = None; path = []; sent_before = []; sent = nothing_sent; taken_before = []; taken = record { packets = []; interrupts = []; released = 0 }; closed = false; steps = [] })
@@ -112,7 +115,7 @@ closes_silent c b =
     (same_records (changed Dce c with_closed b) (closes Dce c b) (slot_records Dce c (record (slot_at Dce c b) { present = None; caller = None }) (changed Dce c with_closed b)) (slot_pairs Dce c (record (slot_at Dce c b) { present = None; caller = None }) (changed Dce c with_closed b)))
 
 told_silent : (note : Note) (b : Book) → Silent b (told Dce note b)
-told_silent (Incoming c parts) b = pushed_silent _ _ c b nothing_yet
+told_silent (Incoming c parts) b = pushed_silent Dce _ _ c b nothing_yet
 told_silent (Connected c) b = silent_itself b
 told_silent (Closed c cause diagnostic reason) b = closes_silent c b
 told_silent (WasReset c cause diagnostic reason) b = changed_silent c with_epoch b epoch_silent
@@ -167,3 +170,10 @@ write_silent AllClosed b i = absurd i
 pub writes_silent : (ws : List Write) (b : Book) → AllSilent ws → Silent b (all_written Dce ws b)
 writes_silent [] b i = silent_itself b
 writes_silent (w ∷ ws) b i = silent_then b (written_by Dce w b) (all_written Dce ws (written_by Dce w b)) (write_silent w b i.0) (writes_silent ws (written_by Dce w b) i.1)
+
+-- at the end of a role they are the same in its own sight
+pub silent_own : (role : Role) (ws : List Write) (b : Book) → AllSilent ws → Silent b (all_written role ws b)
+silent_own role ws b i =
+    let x = writes_silent ws (sight role b) i in
+    subst (λ (y : Book). Silent b y) (sym (ap (λ (y : Book). all_written role ws y) (sym (sight_back role b)) ∙ written_seen role ws (sight role b)))
+    (record { records = x.records; pairs = x.pairs })

@@ -64,7 +64,7 @@ module _ (s : Setting) (b : Book) (l : Line) (k : Kept s b l) (rests : AreAtRest
   abbrev world : World
   world = after_all k.moves (beginning s)
 
-  channel_is : (x : Role) (c : ℕ) → channel_of (layer_at x world) c ≡ channel_of (end_at x l).layer c
+  pub channel_is : (x : Role) (c : ℕ) → channel_of (layer_at x world) c ≡ channel_of (end_at x l).layer c
   channel_is Dte c = ap (λ (y : Layer). channel_of y c) k.joint.mine.layer
   channel_is Dce c = ap (λ (y : Layer). channel_of y c) k.joint.yours.layer
 

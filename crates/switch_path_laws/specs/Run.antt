@@ -12,15 +12,17 @@ use Rattle.call_records.specs.Register.{LinePlan}
 use Rattle.address_routes.specs.Routes.{RouteMap, line_for}
 use Rattle.switch_lines.specs.Making.{made}
 use Rattle.switch_lines.specs.Switch.{Switch}
-use Rattle.switch_laws.specs.Run.{configs, sabm}
+use Rattle.switch_laws.specs.Run.{configs, line, sabm}
 use Rattle.switch_laws.specs.Steps.Happening.{Brings}
 use Rattle.switch_lines.specs.Switch.{on_frame}
 use Rattle.joined_call_laws.specs.Run.{histories}
-use Rattle.call_path_laws.specs.World.{Origin, Plan, made_world, AreBetween, after_event, all_traced}
+use Rattle.call_path_laws.specs.World.{Origin, Plan, made_world, after_event, all_traced}
 use Rattle.call_path_laws.specs.World.Event.{Writes}
 use Rattle.call_path_laws.specs.Lines.{free_book}
-use Rattle.switch_path_laws.specs.Network.{network_line, AreAmong, IsPlanned, IsNetwork}
-use Rattle.switch_path_laws.specs.Law.{AfterEvent, no_switch}
+use Rattle.joined_call_laws.specs.Tied.{happened}
+use Rattle.switch_path_laws.specs.Sight.{Switched, Switches, Lines, only_at, role_at, network_line, standing_with, all_seen}
+use Rattle.switch_path_laws.specs.Network.{placed_at, all_handed, IsNetwork}
+use Rattle.switch_path_laws.specs.Law.{calls_in, IsMade, NetworkAfter, with_line}
 
 -- calls to 2 go to the switch's own line 1
 abbrev pub routes : RouteMap
@@ -76,6 +78,17 @@ lines =
 abbrev pub books : List Book
 books = map free_book lines
 
+abbrev pub its_switch : Switched
+its_switch = record { switch = switch; histories = histories }
+
+abbrev pub switches : Switches
+switches = only_at 9 its_switch
+
+-- as its lines stand; of the line between users nothing is said
+abbrev pub standing : Lines
+standing zero = standing_with (histories.partners 1) (line (2 ∷ [])).end
+standing n = standing_with (histories.partners 0) (line (1 ∷ [])).end
+
 abbrev pub traces : List (List Origin)
 traces = map (λ line. []) lines
 
@@ -111,13 +124,15 @@ lines_alone = record { dte_node = 5; dce_node = 6; address = []; channels = 2; s
 
 -- what the laws ask for is met, and so they say it of this switch, and of the line beside it
 pub record RunLaw : Type 0 where
-  pub planned : IsPlanned plan 3 at switch
-  pub between : AreBetween plan 0 lines
-  pub among : AreAmong at histories.books books
-  pub begins : IsNetwork plan at switch histories [] books (made_world lines) traces
-  pub goes_on : AfterEvent plan at 0 (Brings sabm) switch (on_frame 0 sabm switch) histories [] books
-      (made_world lines) traces
-  pub talks : IsNetwork plan at switch histories [] books_then (after_event (Writes 1 Dte placed) (made_world lines))
-      traces_then
-  pub alone : IsNetwork plan_alone [] (no_switch routes) histories [] (map free_book lines_alone)
+  pub made : IsMade plan (λ place. at) switches standing lines
+  pub begins : IsNetwork plan (λ place. at) switches [] standing books (made_world lines) traces
+  pub goes_on : NetworkAfter plan (λ place. at) switches 9
+      (record { switch = on_frame 0 sabm switch; histories = happened 0 (Brings sabm) switch histories })
+      (placed_at 9 (calls_in 0 (Brings sabm) switch histories))
+      (all_handed at (role_at its_switch) (calls_in 0 (Brings sabm) switch histories) (made_world lines).register)
+      standing books traces
+  pub talks : IsNetwork plan (λ place. at)
+      (all_seen (λ place. at) (with_line 1 (standing 1) standing) books_then switches) []
+      (with_line 1 (standing 1) standing) books_then (after_event (Writes 1 Dte placed) (made_world lines)) traces_then
+  pub alone : IsNetwork plan_alone (λ place. []) (λ place. None) [] standing (map free_book lines_alone)
       (made_world lines_alone) (map (λ line. []) lines_alone)

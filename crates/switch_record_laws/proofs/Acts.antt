@@ -5,15 +5,17 @@ use Rattle.std.proofs.lemmas.Option.{none-some, same_Some}
 use Rattle.std.proofs.lemmas.Bool.{eqb-true}
 use Rattle.link_timers.specs.declared.role.Role.TheVariants.{Dce}
 use Rattle.packet_layer.specs.Layer.{Layer}
-use Rattle.switch_lines.specs.declared.channels.SwitchChannel.{SwitchChannel}
+use Rattle.switch_joins.specs.declared.channels.SwitchChannel.{SwitchChannel}
 use Rattle.switch_laws.specs.Leg.{Leg}
 use Rattle.switch_laws.specs.World.{World, IsWorld, shown_on, Act, MayHappen, line_of, after_act, world_after, layer_after, leg_after}
-use Rattle.switch_laws.proofs.Lists.{get_changed, get_unchanged, decided, not_equal}
+use Rattle.switch_laws.proofs.Lists.{get_changed, not_equal}
 use Rattle.switch_laws.proofs.Layers.{LineAgrees, world_acts}
 use Rattle.switch_record_laws.specs.Records.{AreRecords}
 use Rattle.switch_record_laws.specs.Written.{Books, writes_at, books_after, HaveRecords}
 use Rattle.switch_record_laws.specs.Law.{ActsLaw}
 use Rattle.switch_record_laws.proofs.Lines.{line_writes}
+use Rattle.switch_joins.proofs.Apart.{decided}
+use Rattle.switch_lines.proofs.Places.{get_unchanged}
 
 abbrev at : ℕ → ℕ → SwitchChannel
 at n c = record { line = n; channel = c }

@@ -1,10 +1,11 @@
 -- Of the steps of an event, all but the first bring nothing from outside, stop no one, and the calls that they place
 -- can be placed.
-use Rattle.std.specs.Prelude.{◌≡◌, ℕ, zero, suc, ◌*◌, Bool, true, false, if◌then◌else◌, List, [], ◌∷◌, ◌++◌, length, map, slice_get, Option, Some, None}
+use Rattle.std.specs.Prelude.{◌≡◌, ℕ, zero, suc, ◌*◌, Bool, true, false, if◌then◌else◌, List, [], ◌∷◌, ◌++◌, length, map, slice_get, Option, Some, None, unwrap_or}
 use Rattle.std.proofs.Common.{refl, sym, ap, subst, ◌∙◌, arith, option_map}
 use Rattle.std.proofs.lemmas.Option.{none-some, same_Some}
 use Rattle.std.specs.List.{list_any}
 use Rattle.packet_codec.specs.Address.{MayBeDigits}
+use Rattle.packet_codec.specs.Digits.{digits_or_none}
 use Rattle.packet_layer.specs.Packets.{CallParts, Note}
 use Rattle.packet_layer.specs.Packets.Note.{Incoming, Connected, Closed, WasReset, InterruptConfirmed, Covered}
 use Rattle.packet_layer.specs.Traffic.{Taken}
@@ -12,11 +13,10 @@ use Rattle.packet_layer.specs.Channel.{Refusal}
 use Rattle.packet_laws.specs.Readable.{CanBePlaced}
 use Rattle.address_routes.specs.Routes.{RouteMap}
 use Rattle.packet_end.specs.PacketEnd.{PacketEnd}
-use Rattle.switch_lines.specs.Direction.{request_for}
-use Rattle.switch_lines.specs.declared.channels.SwitchChannel.{SwitchChannel}
-use Rattle.switch_lines.specs.declared.channels.Joined.{Joined}
+use Rattle.switch_joins.specs.declared.channels.SwitchChannel.{SwitchChannel}
+use Rattle.switch_joins.specs.declared.join.Joined.{Joined}
 use Rattle.switch_lines.specs.Lines.{SwitchLine, changed, joined_at, front_at, refusal_at}
-use Rattle.switch_lines.specs.Relay.{moved, relayed, places_first, relayed_first, most_moves}
+use Rattle.switch_lines.specs.Relay.{request_for, moved, relayed, places_first, relayed_first, most_moves}
 use Rattle.switch_lines.specs.Switch.{Answer, answer, address_of, heed, notes_of, with_end, quieted, acted, to_relink, relinked_at, all_relinked, may_offer, offering_from, offered_from, lines_first}
 use Rattle.switch_lines.specs.Switch.Answer.{Clears, Joins}
 use Rattle.switch_laws.specs.World.{MayAsk}
@@ -79,7 +79,7 @@ calm_fit (s ∷ more) ps c = (calm_one s ps c.0, calm_fit more (partners_after s
 
 -- ---- addresses
 
-abbrev pub addresses : List SwitchLine → List (List ℕ)
+abbrev pub addresses : List SwitchLine → List (Option (List ℕ))
 addresses ls = map (λ l. l.address) ls
 
 on_ends : (f : PacketEnd → PacketEnd) (ls : List SwitchLine) → addresses (map (with_end f) ls) ≡ addresses ls
@@ -101,22 +101,22 @@ steps_addresses [] ls = refl
 steps_addresses (s ∷ more) ls = steps_addresses more (lines_after s ls) ∙ step_addresses s ls
 
 abbrev pub Addressed : List SwitchLine → Type 0
-Addressed ls = (n : ℕ) (a : List ℕ) → slice_get (addresses ls) n ≡ Some a → MayBeDigits a
+Addressed ls = (n : ℕ) (a : Option (List ℕ)) → slice_get (addresses ls) n ≡ Some a → MayBeDigits (digits_or_none a)
 
 pub addressed : (ls : List SwitchLine) → HaveAddresses ls → Addressed ls
 addressed ls h n a e = by (slice_get ls n) refl (sym (get_map (λ l. l.address) ls n) ∙ e)
   where
-    by : (o : Option SwitchLine) → slice_get ls n ≡ o → option_map (λ l. l.address) o ≡ Some a → MayBeDigits a
+    by : (o : Option SwitchLine) → slice_get ls n ≡ o → option_map (λ l. l.address) o ≡ Some a → MayBeDigits (digits_or_none a)
     by None f g = absurd (none-some a g)
-    by (Some l) f g = subst (λ (x : List ℕ). MayBeDigits x) (same_Some l.address a g) (h n l f)
+    by (Some l) f g = subst (λ (x : Option (List ℕ)). MayBeDigits (digits_or_none x)) (same_Some l.address a g) (h n l f)
 
 pub addressed_then : (steps : List Step) (ls ms : List SwitchLine) → Leads steps ls ms → Addressed ls → Addressed ms
-addressed_then steps ls ms e h n a g = h n a (ap (λ (as_ : List (List ℕ)). slice_get as_ n) (sym (steps_addresses steps ls) ∙ ap (λ (ks : List SwitchLine). addresses ks) e) ∙ g)
+addressed_then steps ls ms e h n a g = h n a (ap (λ (as_ : List (Option (List ℕ))). slice_get as_ n) (sym (steps_addresses steps ls) ∙ ap (λ (ks : List SwitchLine). addresses ks) e) ∙ g)
 
-line_address : (ls : List SwitchLine) (n : ℕ) → Addressed ls → MayBeDigits (address_of (slice_get ls n))
+line_address : (ls : List SwitchLine) (n : ℕ) → Addressed ls → MayBeDigits (digits_or_none (address_of (slice_get ls n)))
 line_address ls n h = by (slice_get ls n) refl
   where
-    by : (o : Option SwitchLine) → slice_get ls n ≡ o → MayBeDigits (address_of o)
+    by : (o : Option SwitchLine) → slice_get ls n ≡ o → MayBeDigits (digits_or_none (address_of o))
     by None e = (omega arith, refl)
     by (Some l) e = h n l.address (get_map (λ l. l.address) ls n ∙ ap (λ (o : Option SwitchLine). option_map (λ l. l.address) o) e)
 
@@ -164,16 +164,28 @@ told_calm : (o : Option Joined) (note : Note) (p : SwitchChannel) (ls : List Swi
 told_calm None note p ls = tt
 told_calm (Some j) note p ls = joined_calm note p j ls
 
+-- the calling address of a call that goes on is the line's, or the one that it has
+may_be_calling : (address : Option (List ℕ)) (given : List ℕ) → MayBeDigits (digits_or_none address) → MayBeDigits given → MayBeDigits (unwrap_or address given)
+may_be_calling None given h g = g
+may_be_calling (Some digits) given h g = h
+
 answered_calm : (a : Answer) (p : SwitchChannel) (parts : CallParts) (ls : List SwitchLine) → Addressed ls → CanBePlaced parts → AreCalm (answered_steps a p parts ls)
 answered_calm (Clears cause) p parts ls h fits = (tt, tt)
-answered_calm (Joins q) p parts ls h fits =
-    (record { called = fits.called; calling = line_address ls p.line h; facilities = omega arith; user_data = fits.user_data }, (tt, (tt, tt)))
+answered_calm (Joins q) p parts ls h fits = (
+  record {
+    called = fits.called;
+    calling = may_be_calling (address_of (slice_get ls p.line)) parts.calling (line_address ls p.line h) fits.calling;
+    facilities = omega arith;
+    user_data = fits.user_data;
+  },
+  (tt, (tt, tt)),
+)
 
 channel_calm : (n c : ℕ) (note : Note) (ls : List SwitchLine) → AreCalm (on_channel n c note ls)
 channel_calm n c note ls = told_calm (joined_at ls (record { line = n; channel = c })) note (record { line = n; channel = c }) ls
 
 first_calm : (routes : RouteMap) (n : ℕ) (note : Note) (more : List Note) (ls : List SwitchLine) → Addressed ls → NotesCarry (note ∷ more) → AreCalm (heed_steps routes n note ls)
-first_calm routes n (Incoming c parts) more ls h carry = answered_calm (answer routes ls parts) (record { line = n; channel = c }) parts ls h carry.0
+first_calm routes n (Incoming c parts) more ls h carry = answered_calm (answer routes ls n parts) (record { line = n; channel = c }) parts ls h carry.0
 first_calm routes n (Connected c) more ls h carry = channel_calm n c (Connected c) ls
 first_calm routes n (Closed c cause diagnostic reason) more ls h carry = channel_calm n c (Closed c cause diagnostic reason) ls
 first_calm routes n (WasReset c cause diagnostic reason) more ls h carry = channel_calm n c (WasReset c cause diagnostic reason) ls

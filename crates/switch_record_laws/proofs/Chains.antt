@@ -8,9 +8,11 @@ use Rattle.packet_layer.specs.Layer.{Layer}
 use Rattle.call_records.specs.Book.{Book}
 use Rattle.switch_lines.specs.Lines.{changed}
 use Rattle.switch_laws.specs.World.{Act, line_of, layer_after, after_act, after_acts}
-use Rattle.switch_laws.proofs.Lists.{get_unchanged, decided, not_equal}
+use Rattle.switch_laws.proofs.Lists.{not_equal}
 use Rattle.switch_laws.proofs.Turning.{changed_at, changed_none, changed_twice, changed_same, got_changed}
 use Rattle.switch_record_laws.specs.Written.{Books, writes, writes_at, books_after, books_after_all}
+use Rattle.switch_joins.proofs.Apart.{decided}
+use Rattle.switch_lines.proofs.Places.{get_unchanged}
 
 abbrev pub AllOn : ℕ → List Act → Type 0
 AllOn n [] = Unit {0}

@@ -3,7 +3,8 @@ use Rattle.std.specs.Prelude.{◌≡◌, ◌⊎◌, ℕ, zero, suc, Bool, true, 
 use Rattle.std.proofs.Common.{inl, inr, refl, sym, ap, subst, ◌∙◌, option_map}
 use Rattle.std.proofs.lemmas.Option.{none-some, same_Some}
 use Rattle.std.proofs.lemmas.Bool.{eqb-true, eq-eqb}
-use Rattle.link_timers.specs.declared.role.Role.TheVariants.{Dce}
+use Rattle.link_timers.specs.declared.role.Role.{Role}
+use Rattle.link_timers.specs.declared.role.Role.TheVariants.{Dte, Dce}
 use Rattle.link_timers.specs.declared.timers.TimerId.{TimerId}
 use Rattle.link_timers.specs.declared.timers.TimerId.TheVariants.{T1}
 use Rattle.lapb.specs.declared.note.Note as link_note
@@ -12,17 +13,19 @@ use Rattle.lapb.specs.Machine.{Octets, on_t1, can_offer}
 use Rattle.lapb.specs.Octets.{on_octets}
 use Rattle.packet_layer.specs.Packets.{Received}
 use Rattle.packet_layer.specs.Octets.{heard}
-use Rattle.packet_layer.specs.Layer.{Layer, Timer, next_packet}
+use Rattle.packet_layer.specs.Layer.{Layer, Timer, next_packet, link_down}
 use Rattle.packet_layer.specs.Events.{timer_named}
-use Rattle.packet_laws.specs.Readable.{Every, IfAny, AreOctets}
+use Rattle.packet_laws.specs.Readable.{Every}
 use Rattle.packet_end.specs.PacketEnd.{PacketEnd, restarted, runs_at, with_next}
 use Rattle.line_record_laws.specs.Line as acts
-use Rattle.line_record_laws.specs.Kept.{Kept}
-use Rattle.line_record_laws.proofs.Keeping.{silent_kept, restart_kept}
+use Rattle.line_record_laws.specs.Kept.{Setting, Kept}
+use Rattle.line_record_laws.proofs.Keeping.{restart_kept}
+use Rattle.call_records.specs.Book.{Book, all_told}
+use Rattle.call_records.specs.Writes.{Write}
 use Rattle.switch_lines.specs.Lines.{SwitchLine, changed}
 use Rattle.switch_lines.specs.Switch.{Switch, with_end, quieted, notes_of, finished, acted, all_begun, without_joins}
 use Rattle.switch_laws.specs.World.{Act, MayHappen, layers_of, after_acts}
-use Rattle.switch_laws.proofs.Lists.{get_map, decided}
+use Rattle.switch_laws.proofs.Lists.{get_map}
 use Rattle.switch_laws.proofs.Layers.{world_acts_all}
 use Rattle.switch_laws.proofs.Frame.{acts_then, every_then}
 use Rattle.switch_laws.proofs.Turning.{layer_got}
@@ -31,13 +34,16 @@ use Rattle.switch_laws.specs.Steps.{Happening, does, Step, lines_after, lines_af
 use Rattle.switch_laws.specs.Steps.Happening.{Brings, RunsOut, Relinks}
 use Rattle.switch_laws.specs.Steps.Step.{Asks, Places, Keeps, Happens, Offers, Begins, Settles, Elapses}
 use Rattle.switch_laws.specs.EventSteps.{heed_all_steps, finished_steps, event_steps}
-use Rattle.switch_record_laws.specs.Kept.{Partner, Partners, line_with, AreKept, partners_after, IsFit, EventIsKept, FrameKeptLaw, TimerKeptLaw, ElapseKeptLaw, restarted_partner, RestartKeptLaw, sent_on, with_sent, all_frames_out, OutLaw, LeadsLaw, HaveAddresses, ReadsOctets, LegsLaw}
+use Rattle.switch_record_laws.specs.Turned.{sight}
+use Rattle.switch_record_laws.specs.Kept.{Partner, Partners, line_of_ends, line_with, KeptWith, AreKept, partners_after, IsFit, EventIsKept, FrameKeptLaw, TimerKeptLaw, RelinkKeptLaw, ElapseKeptLaw, restarted_partner, RestartKeptLaw, sent_on, with_sent, all_frames_out, OutLaw, LeadsLaw, HaveAddresses, ReadsOctets, LegsLaw}
 use Rattle.switch_record_laws.proofs.Acts.{acts_write}
+use Rattle.switch_record_laws.proofs.Turned.{written_seen}
 use Rattle.switch_record_laws.proofs.Chains.{Changed, was_changed}
 use Rattle.switch_record_laws.proofs.Chains.Changed.{here, apart}
-use Rattle.switch_record_laws.proofs.Stepping.{step_layers, steps_kept}
+use Rattle.switch_record_laws.proofs.Stepping.{silent_with, step_layers, steps_kept}
 use Rattle.switch_laws.proofs.Leading.{event_leads}
 use Rattle.switch_record_laws.proofs.Calming.{IsCalm, AreCalm, calm_stay, calm_fit, addressed, addressed_then, later_calm}
+use Rattle.switch_joins.proofs.Apart.{decided}
 
 -- ---- what happens on a line
 
@@ -66,35 +72,47 @@ frame_event n octets s ps bs are h fits k = event_kept n (Brings octets) s ps bs
 pub timer_event : TimerKeptLaw
 timer_event n id s ps bs h k = event_kept n (RunsOut id) s ps bs tt h tt k
 
+pub relink_event : RelinkKeptLaw
+relink_event n s ps bs h k = event_kept n Relinks s ps bs tt h tt k
+
 pub elapse_event : ElapseKeptLaw
 elapse_event ticks s ps bs k = steps_kept (Elapses ticks ∷ []) ps bs s.lines (tt, tt) k
 
 -- ---- a restart, and frames that go out
 
+restart_own : (s : Setting) (r : Role) (b : Book) (e o : PacketEnd) (up down : List Octets) → Kept s b (line_of_ends r e o up down)
+    → Kept s (all_told r (link_down e.layer).notes b) (line_of_ends r (restarted e) (acts.other_after acts.Restarts o) [] [])
+restart_own s Dte b e o up down k = (restart_kept s b (line_of_ends Dte e o up down) Dte k).0
+restart_own s Dce b e o up down k = (restart_kept s b (line_of_ends Dce e o up down) Dce k).0
+
+restarted_with : (p : Partner) (b : Book) (e : PacketEnd) → KeptWith p b e → KeptWith (restarted_partner p) (all_told Dce (link_down e.layer).notes b) (restarted e)
+restarted_with p b e k =
+    subst (λ (y : Book). Kept p.setting y (line_with (restarted_partner p) (restarted e))) (written_seen p.role (Write.Told (link_down e.layer).notes ∷ []) b)
+    (restart_own p.setting p.role (sight p.role b) e p.other p.up p.down k)
+
 pub restart_event : RestartKeptLaw
 restart_event s ps bs k n l' e = by (slice_get s.lines n) refl (sym (get_map without_joins s.lines n) ∙ e)
   where
-    by : (o : Option SwitchLine) → slice_get s.lines n ≡ o → option_map without_joins o ≡ Some l' → Kept (ps n).setting (restarted_books (layers_of s.lines) bs n) (line_with (restarted_partner (ps n)) l'.end)
+    by : (o : Option SwitchLine) → slice_get s.lines n ≡ o → option_map without_joins o ≡ Some l' → KeptWith (restarted_partner (ps n)) (restarted_books (layers_of s.lines) bs n) l'.end
     by None f g = absurd (none-some l' g)
     by (Some l) f g =
-        subst (λ (y : SwitchLine). Kept (ps n).setting (restarted_books (layers_of s.lines) bs n) (line_with (restarted_partner (ps n)) y.end)) (same_Some (without_joins l) l' g)
-        (subst (λ (o : Option Layer). Kept (ps n).setting (restart_writes o (bs n)) (line_with (restarted_partner (ps n)) (restarted l.end))) (sym (layer_got n s.lines l f))
-        (restart_kept (ps n).setting (bs n) (line_with (ps n) l.end) Dce (k n l f)).0)
+        subst (λ (y : SwitchLine). KeptWith (restarted_partner (ps n)) (restarted_books (layers_of s.lines) bs n) y.end) (same_Some (without_joins l) l' g)
+        (subst (λ (o : Option Layer). KeptWith (restarted_partner (ps n)) (restart_writes o (bs n)) (restarted l.end)) (sym (layer_got n s.lines l f)) (restarted_with (ps n) (bs n) l.end (k n l f)))
 
 pub frames_out : OutLaw
 frames_out n l kept ps bs ls got k m l' e = by (was_changed n all_frames_out ls m l' e)
   where
-    by : Changed n all_frames_out ls m l' → Kept (with_sent n l kept ps m).setting (bs m) (line_with (with_sent n l kept ps m) l'.end)
+    by : Changed n all_frames_out ls m l' → KeptWith (with_sent n l kept ps m) (bs m) l'.end
     by (here old is there to) =
         let same : old ≡ l = same_Some old l (sym there ∙ got) in
         let partner : with_sent n l kept ps m ≡ sent_on l kept (ps n) =
         ap (λ (v : Bool). if v then sent_on l kept (ps m) else ps m) (eq-eqb m n is) ∙ ap (λ (i : ℕ). sent_on l kept (ps i)) is in
-        subst (λ (p : Partner). Kept p.setting (bs m) (line_with p l'.end)) (sym partner)
-        (subst (λ (i : ℕ). Kept (ps n).setting (bs i) (line_with (sent_on l kept (ps n)) l'.end)) (sym is)
-        (subst (λ (y : SwitchLine). Kept (ps n).setting (bs n) (line_with (sent_on l kept (ps n)) y.end)) (ap (λ (y : SwitchLine). all_frames_out y) (sym same) ∙ to)
-        (silent_kept (ps n).setting (bs n) (line_with (ps n) l.end) Dce (acts.Sends kept) tt (k n l got))))
+        subst (λ (p : Partner). KeptWith p (bs m) l'.end) (sym partner)
+        (subst (λ (i : ℕ). KeptWith (sent_on l kept (ps n)) (bs i) l'.end) (sym is)
+        (subst (λ (y : SwitchLine). KeptWith (sent_on l kept (ps n)) (bs n) y.end) (ap (λ (y : SwitchLine). all_frames_out y) (sym same) ∙ to)
+        (silent_with (ps n) (bs n) (acts.Sends kept) l.end tt (k n l got))))
     by (apart ne there) =
-        subst (λ (p : Partner). Kept p.setting (bs m) (line_with p l'.end)) (sym (other (decided (m == n)))) (k m l' there)
+        subst (λ (p : Partner). KeptWith p (bs m) l'.end) (sym (other (decided (m == n)))) (k m l' there)
       where
         other : ((m == n) ≡ true) ⊎ ((m == n) ≡ false) → with_sent n l kept ps m ≡ ps m
         other (inl t) = absurd (ne (eqb-true m n t))

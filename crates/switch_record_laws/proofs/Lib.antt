@@ -7,6 +7,7 @@ pub mod Notes
 pub mod Lines
 pub mod Acts
 pub mod Partner
+pub mod Turned
 mod Confirming
 pub mod Relaying
 pub mod Resting

@@ -23,7 +23,7 @@ use Rattle.line_record_laws.proofs.Writing.{Closes, closes_all, closed_all}
 use Rattle.switch_laws.specs.Leg.{Leg, asked, asked_unless, stepped, heard, misheard, gave}
 use Rattle.switch_laws.specs.World.{Shown, shown_of, shown_as, Agrees, Act, MayHappen, MayAsk, layer_after, leg_after, closed, restarted, came_in, cleared_if, ran_out, is_channel, placed_if, gave_if}
 use Rattle.switch_laws.specs.World.Act.{Asks, Comes, Expires, GoesUp, GoesDown, Calls, Gives, Reads}
-use Rattle.switch_laws.proofs.Lists.{decided, get_map}
+use Rattle.switch_laws.proofs.Lists.{get_map}
 use Rattle.switch_laws.proofs.Layers.{LineAgrees, seen, opened_shown, not_in_transfer}
 use Rattle.switch_laws.proofs.Legs.{leg_gave}
 use Rattle.switch_laws.proofs.Places.{line_there}
@@ -32,6 +32,7 @@ use Rattle.switch_record_laws.specs.Written.{request_writes, writes}
 use Rattle.switch_record_laws.proofs.Cells.{apart_after, has_elsewhere, has_same}
 use Rattle.switch_record_laws.proofs.Notes.{all_apart}
 use Rattle.switch_record_laws.proofs.Steps.{Writes, IsSlot, comes_written, unreadable_written, cleared_written, asked_written, placed_written}
+use Rattle.switch_joins.proofs.Apart.{decided}
 
 -- ---- one channel
 

@@ -1,5 +1,5 @@
 -- The records of a join, from the clause of the relay.
-use Rattle.std.specs.Prelude.{◌≡◌, ℕ, ◌⊎◌, Bool, true, false, List, [], ◌∷◌, ◌++◌, map, slice_get, Option, Some, None, is_some}
+use Rattle.std.specs.Prelude.{◌≡◌, ◌⊎◌, Bool, true, false, List, [], ◌∷◌, ◌++◌, map, slice_get, Option, Some, None, is_some}
 use Rattle.std.proofs.Common.{inl, inr, refl, sym, ap, ap₂, subst, ◌∙◌, true≢false, append-nil}
 use Rattle.std.proofs.lemmas.List.{map-append}
 use Rattle.link_timers.specs.declared.role.Role.{Role}
@@ -8,14 +8,13 @@ use Rattle.epochs.specs.Item.{Item, DataPacket, all_items}
 use Rattle.epochs.specs.Epoch.{SentEpoch, TakenEpoch}
 use Rattle.epochs.specs.Confirmed.{Confirmed, Confirms, sent_confirmed, taken_confirmed}
 use Rattle.epochs.proofs.Confirms.{confirms_itself, confirms_in_turn}
-use Rattle.packet_layer.specs.Packets.{Datum}
 use Rattle.packet_layer.specs.Channel.{CallState, Channel, had_call, may_accept, waits_for_call}
 use Rattle.packet_layer.specs.Channel.CallState.{Ready, OwnWaiting, FarWaiting, Transfer, Collision, OwnClear}
 use Rattle.packet_layer.specs.Layer.{Layer, channel_of}
 use Rattle.packet_laws.specs.History.{Epoch, empty_epoch}
 use Rattle.call_records.specs.Records.{RecordValue}
-use Rattle.switch_lines.specs.declared.channels.SwitchChannel.{SwitchChannel}
-use Rattle.switch_lines.specs.declared.channels.Joined.{Joined}
+use Rattle.switch_joins.specs.declared.channels.SwitchChannel.{SwitchChannel}
+use Rattle.switch_joins.specs.declared.join.Joined.{Joined}
 use Rattle.switch_lines.specs.Lines.{SwitchLine}
 use Rattle.switch_laws.specs.Leg.{Leg}
 use Rattle.switch_laws.specs.Clause.{Carries, Passed, taken_part, sent_part}

@@ -1,40 +1,97 @@
 -- Over each step of a switch its lines are kept, with the books that the acts of the step write.
-use Rattle.std.specs.Prelude.{◌≡◌, ◌≢◌, ℕ, zero, suc, ◌⊎◌, Bool, true, false, cond, ◌==◌, if◌then◌else◌, List, [], ◌∷◌, ◌++◌, drop, map, set, slice_get, Option, Some, None}
+use Rattle.std.specs.Prelude.{◌≡◌, ◌≢◌, ℕ, zero, suc, ◌⊎◌, Bool, true, false, cond, ◌==◌, if◌then◌else◌, List, [], ◌∷◌, ◌++◌, map, set, slice_get, Option, Some, None}
 use Rattle.std.proofs.Common.{inl, inr, refl, sym, ap, subst, ◌∙◌, append-nil, option_map}
 use Rattle.std.proofs.lemmas.Option.{none-some, same_Some}
 use Rattle.std.proofs.lemmas.Bool.{eqb-true, eq-eqb}
-use Rattle.link_timers.specs.declared.role.Role.TheVariants.{Dce}
+use Rattle.link_timers.specs.declared.role.Role.{Role}
+use Rattle.link_timers.specs.declared.role.Role.TheVariants.{Dte, Dce}
 use Rattle.lapb.specs.Machine.{Octets}
-use Rattle.packet_layer.specs.Packets.{Note}
+use Rattle.packet_layer.specs.Packets.{CallParts, Note}
 use Rattle.packet_layer.specs.Traffic.{may_release, releasing}
 use Rattle.packet_layer.specs.Channel.{Channel, Request, Refusal, refusal, requested, unless, carried_out}
 use Rattle.packet_layer.specs.Channel.Request.{Accept, Clearing, Resetting, Sending, Interrupting, Stopping, Taking, Releasing, Confirming}
-use Rattle.packet_layer.specs.Layer.{Layer, channel_of, nth_channel, with_nth, request, on_found, request_refusal, front_at, after_step}
-use Rattle.packet_end.specs.PacketEnd.{PacketEnd, begun, settled, elapsed, all_offered, asked, called, received, after_timer, relinked}
+use Rattle.packet_layer.specs.Layer.{Layer, channel_of, channel_given, nth_channel, with_nth, request, on_found, request_refusal, front_at, front_on, after_step}
+use Rattle.packet_laws.specs.Readable.{CanBePlaced}
+use Rattle.packet_end.specs.PacketEnd.{PacketEnd, begun, settled, elapsed, all_offered, asked, called, received}
 use Rattle.line_record_laws.specs.Line as acts
 use Rattle.line_record_laws.specs.Line.{Line}
 use Rattle.call_records.specs.Book.{Book, all_told}
-use Rattle.call_records.specs.Carried.{carried, unless_refused}
-use Rattle.line_record_laws.specs.Kept.{Setting, Kept}
-use Rattle.line_record_laws.specs.Clauses.{requested_at, Tells}
+use Rattle.call_records.specs.Carried.{carried, unless_refused, placed_on}
+use Rattle.call_records.specs.Writes.{Write}
+use Rattle.line_record_laws.specs.Kept.{Setting, Kept, end_at}
+use Rattle.line_record_laws.specs.Clauses.{requested_at, MayTell, IsSilent, Tells}
 use Rattle.line_record_laws.proofs.Keeping.{tells_kept, silent_kept, call_kept, request_kept, like_kept}
 use Rattle.line_record_laws.proofs.Opening.{read_kept}
 use Rattle.switch_lines.specs.Lines.{SwitchLine, changed}
 use Rattle.switch_lines.specs.Switch.{with_end, quieted, without_notes}
 use Rattle.switch_laws.specs.World.{Act, layers_of, after_acts}
-use Rattle.switch_laws.proofs.Lists.{decided, get_map}
+use Rattle.switch_laws.proofs.Lists.{get_map}
 use Rattle.switch_laws.proofs.Turning.{changed_none, changed_twice, layer_got, layers_changed}
 use Rattle.switch_record_laws.specs.Written.{Books, books_after_all, may_release_on, request_writes}
 use Rattle.switch_laws.specs.Steps.{Happening, does, Step, lines_after, lines_after_all, on_line, happening_acts, offer_acts, acts_of, acts_of_all}
 use Rattle.switch_laws.specs.Steps.Happening.{Brings, RunsOut, Relinks}
 use Rattle.switch_laws.specs.Steps.Step.{Asks, Places, Keeps, Happens, Offers, Begins, Settles, Elapses}
-use Rattle.switch_record_laws.specs.Kept.{Partner, Partners, line_with, AreKept, without_first, partners_after, partners_after_all, BeginWith, IsFit, StepsLaw}
+use Rattle.switch_record_laws.specs.Turned.{sight}
+use Rattle.switch_record_laws.specs.Kept.{Partner, Partners, line_of_ends, line_with, KeptWith, AreKept, without_first, partners_after, partners_after_all, BeginWith, IsFit, StepsLaw}
+use Rattle.switch_record_laws.proofs.Turned.{written_seen}
 use Rattle.switch_record_laws.proofs.Chains.{AllOn, chain, chain_writes, layers_chain, layers_none, books_chain, books_apart, books_then, Changed, was_changed}
 use Rattle.switch_record_laws.proofs.Chains.Changed.{here, apart}
 use Rattle.switch_record_laws.proofs.Happenings.{happening_explains, happening_on, all_offer_layer, offer_writes, offers_on}
+use Rattle.switch_joins.proofs.Apart.{decided}
 
-abbrev KeptWith : Partner → Book → PacketEnd → Type 0
-KeptWith p b e = Kept p.setting b (line_with p e)
+-- ---- what happens at an end of a line, whichever it is
+
+like_own : (s : Setting) (r : Role) (b : Book) (e f o : PacketEnd) (up down : List Octets) → f.line ≡ e.line → f.layer ≡ e.layer → Kept s b (line_of_ends r e o up down) → Kept s b (line_of_ends r f o up down)
+like_own s Dte b e f o up down line layer k =
+    like_kept s b (line_of_ends Dte e o up down) (line_of_ends Dte f o up down) (record {
+      dte_link = ap (λ x. x.link) line;
+      dce_link = refl;
+      dte_layer = layer;
+      dce_layer = refl;
+      up = ap (λ x. down ++ x.frames) line;
+      down = refl;
+    }) k
+like_own s Dce b e f o up down line layer k =
+    like_kept s b (line_of_ends Dce e o up down) (line_of_ends Dce f o up down) (record {
+      dte_link = refl;
+      dce_link = ap (λ x. x.link) line;
+      dte_layer = refl;
+      dce_layer = layer;
+      up = refl;
+      down = ap (λ x. down ++ x.frames) line;
+    }) k
+
+request_own : (s : Setting) (r : Role) (b : Book) (e o : PacketEnd) (up down : List Octets) (c : ℕ) (q : Request) → Kept s b (line_of_ends r e o up down) → Kept s (requested_at r c q e b) (line_of_ends r (asked e c q) o up down)
+request_own s Dte b e o up down c q k = request_kept s b (line_of_ends Dte e o up down) Dte c q k
+request_own s Dce b e o up down c q k = request_kept s b (line_of_ends Dce e o up down) Dce c q k
+
+call_own : (s : Setting) (r : Role) (b : Book) (e o : PacketEnd) (up down : List Octets) (parts : CallParts) → CanBePlaced parts → Kept s b (line_of_ends r e o up down)
+    → Kept s (placed_on r (channel_given e.layer e.layer.phase) parts b) (line_of_ends r (called e parts) o up down)
+call_own s Dte b e o up down parts can k = call_kept s b (line_of_ends Dte e o up down) Dte parts can k
+call_own s Dce b e o up down parts can k = call_kept s b (line_of_ends Dce e o up down) Dce parts can k
+
+read_own : (s : Setting) (r : Role) (b : Book) (e o : PacketEnd) (up down : List Octets) → Kept s b (line_of_ends r e o up down) → e.layer.notes ≡ []
+read_own s Dte b e o up down k = read_kept s b (line_of_ends Dte e o up down) Dte k
+read_own s Dce b e o up down k = read_kept s b (line_of_ends Dce e o up down) Dce k
+
+-- an act of which nothing is told
+silent_own : (s : Setting) (r : Role) (b : Book) (act : acts.Act) (e o : PacketEnd) (up down : List Octets) → IsSilent act → Kept s b (line_of_ends r e o up down)
+    → Kept s b (line_of_ends r (acts.does act up e) (acts.other_after act o) (acts.coming_after act up) (acts.going_after act e down))
+silent_own s Dte b act e o up down is k = silent_kept s b (line_of_ends Dte e o up down) Dte act is k
+silent_own s Dce b act e o up down is k = silent_kept s b (line_of_ends Dce e o up down) Dce act is k
+
+-- an act of which something may be told: all that the end has to tell is what it told of the act
+told_as : (s : Setting) (r : Role) (b : Book) (l m : Line) → (end_at r l).notes ≡ [] → (t : Tells s b r l m) → Kept s (all_told r (end_at r m).notes b) m
+told_as s r b l m none t = subst (λ (ns : List Note). Kept s (all_told r ns b) m) (sym (t.notes ∙ ap (λ (ns : List Note). ns ++ t.given) none)) t.kept
+
+tells_own : (s : Setting) (r : Role) (b : Book) (act : acts.Act) (e o : PacketEnd) (up down : List Octets) → MayTell act → e.notes ≡ [] → Kept s b (line_of_ends r e o up down)
+    → Kept s (all_told r (acts.does act up e).notes b) (line_of_ends r (acts.does act up e) (acts.other_after act o) (acts.coming_after act up) (acts.going_after act e down))
+tells_own s Dte b act e o up down may none k =
+    let l : Line = line_of_ends Dte e o up down in
+    told_as s Dte b l (acts.happens (acts.At Dte act) l) none (tells_kept s b l Dte act may k)
+tells_own s Dce b act e o up down may none k =
+    let l : Line = line_of_ends Dce e o up down in
+    told_as s Dce b l (acts.happens (acts.At Dce act) l) none (tells_kept s b l Dce act may k)
 
 -- ---- a request
 
@@ -61,18 +118,12 @@ stays l c n (Some ch) e h =
 
 -- ends with the same link, layer and frames
 same_layer : (p : Partner) (b : Book) (e f : PacketEnd) → f.line ≡ e.line → f.layer ≡ e.layer → KeptWith p b e → KeptWith p b f
-same_layer p b e f line layer k =
-    like_kept p.setting b (line_with p e) (line_with p f) (record {
-      dte_link = refl;
-      dce_link = ap (λ x. x.link) line;
-      dte_layer = refl;
-      dce_layer = layer;
-      up = refl;
-      down = ap (λ x. p.down ++ x.frames) line;
-    }) k
+same_layer p b e f line layer k = like_own p.setting p.role (sight p.role b) e f p.other p.up p.down line layer k
 
 asked_as : (p : Partner) (b : Book) (e : PacketEnd) (c : ℕ) (q : Request) → KeptWith p b e → KeptWith p (requested_at Dce c q e b) (asked e c q)
-asked_as p b e c q k = request_kept p.setting b (line_with p e) Dce c q k
+asked_as p b e c q k =
+    subst (λ (y : Book). Kept p.setting y (line_with p (asked e c q))) (written_seen p.role (Write.Asked (request_refusal e.layer c q) c q (front_on e.layer c) ∷ []) b)
+    (request_own p.setting p.role (sight p.role b) e p.other p.up p.down c q k)
 
 releases : (p : Partner) (b : Book) (e : PacketEnd) (c n : ℕ) (v : Bool) → may_release_on (channel_of e.layer c) n ≡ v → KeptWith p b e
     → KeptWith p (unless_refused (request_refusal e.layer c (Releasing n)) (cond v (carried Dce c (Releasing n) (front_at (channel_of e.layer c)) b) b) b) (asked e c (Releasing n))
@@ -99,21 +150,20 @@ asks_kept p b e c Confirming k = asked_as p b e c Confirming k
 
 -- ---- what happens at the end
 
--- a line with frames on the way to the switch
-frame_kept : (s : Setting) (b : Book) (dte : PacketEnd) (up down later : List Octets) (octets : Octets) (e : PacketEnd) → up ≡ octets ∷ later → e.notes ≡ []
-    → Kept s b (record { dte = dte; dce = e; up = up; down = down }) → Kept s (all_told Dce (received e octets).notes b) (record { dte = dte; dce = received e octets; up = drop 1 up; down = down })
-frame_kept s b dte up down later octets e is none k =
-    subst (λ (fs : List Octets). Kept s (all_told Dce (received e octets).notes b) (record { dte = dte; dce = received e octets; up = drop 1 fs; down = down })) (sym is)
-    (let l : Line = record { dte = dte; dce = e; up = octets ∷ later; down = down } in
-    let t : Tells s b Dce l (acts.happens (acts.At Dce acts.Hears) l) = tells_kept s b l Dce acts.Hears tt (subst (λ (fs : List Octets). Kept s b (record { dte = dte; dce = e; up = fs; down = down })) is k) in
-    subst (λ (ns : List Note). Kept s (all_told Dce ns b) (record { dte = dte; dce = received e octets; up = later; down = down })) (sym (t.notes ∙ ap (λ (ns : List Note). ns ++ t.given) none)) t.kept)
+told_kept : (p : Partner) (b : Book) (act : acts.Act) (e : PacketEnd) → MayTell act → e.notes ≡ [] → KeptWith p b e
+    → Kept p.setting (sight p.role (all_told Dce (acts.does act p.up e).notes b)) (line_of_ends p.role (acts.does act p.up e) (acts.other_after act p.other) (acts.coming_after act p.up) (acts.going_after act e p.down))
+told_kept p b act e may none k =
+    subst (λ (y : Book). Kept p.setting y (line_of_ends p.role (acts.does act p.up e) (acts.other_after act p.other) (acts.coming_after act p.up) (acts.going_after act e p.down)))
+    (written_seen p.role (Write.Told (acts.does act p.up e).notes ∷ []) b) (tells_own p.setting p.role (sight p.role b) act e p.other p.up p.down may none k)
 
-told_kept : (p : Partner) (b : Book) (e : PacketEnd) (act : acts.Act) (m : PacketEnd) → e.notes ≡ [] → (t : Tells p.setting b Dce (line_with p e) (line_with p m)) → KeptWith p (all_told Dce m.notes b) m
-told_kept p b e act m none t = subst (λ (ns : List Note). Kept p.setting (all_told Dce ns b) (line_with p m)) (sym (t.notes ∙ ap (λ (ns : List Note). ns ++ t.given) none)) t.kept
+-- the first frame on the way to the switch comes
+frame_kept : (p : Partner) (b : Book) (later : List Octets) (octets : Octets) (e : PacketEnd) → p.up ≡ octets ∷ later → e.notes ≡ [] → KeptWith p b e → KeptWith (without_first p) (all_told Dce (received e octets).notes b) (received e octets)
+frame_kept p b later octets e is none k =
+    subst (λ (m : PacketEnd). KeptWith (without_first p) (all_told Dce m.notes b) m) (ap (λ (fs : List Octets). acts.does acts.Hears fs e) is) (told_kept p b acts.Hears e tt none k)
 
 quiet_kept : (p : Partner) (b : Book) (e : PacketEnd) → KeptWith p b e → KeptWith p b (quieted e)
 quiet_kept p b e k =
-    let none : e.layer.notes ≡ [] = read_kept p.setting b (line_with p e) Dce k in
+    let none : e.layer.notes ≡ [] = read_own p.setting p.role (sight p.role b) e p.other p.up p.down k in
     same_layer p b e (quieted e) refl (ap (λ (ns : List Note). record e.layer { notes = ns }) (sym none)) k
 
 -- the partner when it happened
@@ -126,9 +176,9 @@ FitsWhen (Brings octets) p = BeginWith octets p.up
 FitsWhen what p = Unit {0}
 
 happens_kept : (what : Happening) (p : Partner) (b : Book) (e : PacketEnd) → FitsWhen what p → KeptWith p b e → KeptWith (partner_when what p) (all_told Dce (does what (quieted e)).notes b) (does what (quieted e))
-happens_kept (Brings octets) p b e fits k = frame_kept p.setting b p.dte p.up p.down fits.0 octets (quieted e) fits.1 refl (quiet_kept p b e k)
-happens_kept (RunsOut id) p b e fits k = told_kept p b (quieted e) (acts.Expires id) (after_timer (quieted e) id) refl (tells_kept p.setting b (line_with p (quieted e)) Dce (acts.Expires id) tt (quiet_kept p b e k))
-happens_kept Relinks p b e fits k = told_kept p b (quieted e) acts.Relinks (relinked (quieted e)) refl (tells_kept p.setting b (line_with p (quieted e)) Dce acts.Relinks tt (quiet_kept p b e k))
+happens_kept (Brings octets) p b e fits k = frame_kept p b fits.0 octets (quieted e) fits.1 refl (quiet_kept p b e k)
+happens_kept (RunsOut id) p b e fits k = told_kept p b (acts.Expires id) (quieted e) tt refl (quiet_kept p b e k)
+happens_kept Relinks p b e fits k = told_kept p b acts.Relinks (quieted e) tt refl (quiet_kept p b e k)
 
 happening_kept : (n : ℕ) (what : Happening) (p : Partner) (b : Book) (e : PacketEnd) → FitsWhen what p → KeptWith p b e
     → KeptWith (partner_when what p) (chain_writes (Act.Reads n ∷ happening_acts n what e) e.layer b) (without_notes (does what (quieted e)))
@@ -146,22 +196,22 @@ on_one : (n : ℕ) (f : SwitchLine → SwitchLine) (as_ : List Act) (ps ps' : Pa
     → AreKept ps bs ls → AreKept ps' (books_after_all as_ (layers_of ls) bs) (changed n f ls)
 on_one n f as_ ps ps' bs ls on others one h k l' e = by_change (was_changed n f ls k l' e)
   where
-    by_change : Changed n f ls k l' → Kept (ps' k).setting (books_after_all as_ (layers_of ls) bs k) (line_with (ps' k) l'.end)
+    by_change : Changed n f ls k l' → KeptWith (ps' k) (books_after_all as_ (layers_of ls) bs k) l'.end
     by_change (here l is got to) =
-        subst (λ (i : ℕ). Kept (ps' i).setting (books_after_all as_ (layers_of ls) bs i) (line_with (ps' i) l'.end)) (sym is)
-        (subst (λ (b : Book). Kept (ps' n).setting b (line_with (ps' n) l'.end)) (sym (books_chain as_ n (layers_of ls) bs l.end.layer on (layer_got n ls l got)))
-        (subst (λ (y : SwitchLine). Kept (ps' n).setting (chain_writes as_ l.end.layer (bs n)) (line_with (ps' n) y.end)) to (one l got (h n l got))))
+        subst (λ (i : ℕ). KeptWith (ps' i) (books_after_all as_ (layers_of ls) bs i) l'.end) (sym is)
+        (subst (λ (b : Book). KeptWith (ps' n) b l'.end) (sym (books_chain as_ n (layers_of ls) bs l.end.layer on (layer_got n ls l got)))
+        (subst (λ (y : SwitchLine). KeptWith (ps' n) (chain_writes as_ l.end.layer (bs n)) y.end) to (one l got (h n l got))))
     by_change (apart ne got) =
-        subst (λ (p : Partner). Kept p.setting (books_after_all as_ (layers_of ls) bs k) (line_with p l'.end)) (sym (others k ne))
-        (subst (λ (b : Book). Kept (ps k).setting b (line_with (ps k) l'.end)) (sym (books_apart as_ n k (layers_of ls) bs on ne)) (h k l' got))
+        subst (λ (p : Partner). KeptWith p (books_after_all as_ (layers_of ls) bs k) l'.end) (sym (others k ne))
+        (subst (λ (b : Book). KeptWith (ps k) b l'.end) (sym (books_apart as_ n k (layers_of ls) bs on ne)) (h k l' got))
 
 -- a step that is the same on all lines
 on_all : (f : PacketEnd → PacketEnd) (ps : Partners) (bs : Books) (ls : List SwitchLine) → ((p : Partner) (b : Book) (e : PacketEnd) → KeptWith p b e → KeptWith p b (f e)) → AreKept ps bs ls → AreKept ps bs (map (with_end f) ls)
 on_all f ps bs ls one h k l' e = by_old (slice_get ls k) refl (sym (get_map (with_end f) ls k) ∙ e)
   where
-    by_old : (o : Option SwitchLine) → slice_get ls k ≡ o → option_map (with_end f) o ≡ Some l' → Kept (ps k).setting (bs k) (line_with (ps k) l'.end)
+    by_old : (o : Option SwitchLine) → slice_get ls k ≡ o → option_map (with_end f) o ≡ Some l' → KeptWith (ps k) (bs k) l'.end
     by_old None g is = absurd (none-some l' is)
-    by_old (Some l) g is = subst (λ (y : SwitchLine). Kept (ps k).setting (bs k) (line_with (ps k) y.end)) (same_Some _ l' is) (one (ps k) (bs k) l.end (h k l g))
+    by_old (Some l) g is = subst (λ (y : SwitchLine). KeptWith (ps k) (bs k) y.end) (same_Some _ l' is) (one (ps k) (bs k) l.end (h k l g))
 
 lines_on : (n : ℕ) (f : PacketEnd → List Act) (o : Option SwitchLine) → ((e : PacketEnd) → AllOn n (f e)) → AllOn n (on_line f o)
 lines_on n f None on = tt
@@ -192,12 +242,21 @@ fits_when Relinks n ps f = tt
 two_changes : (n : ℕ) (f g : SwitchLine → SwitchLine) (ls : List SwitchLine) → changed n f (changed n g ls) ≡ changed n (λ l. f (g l)) ls
 two_changes n f g ls = changed_twice n f g ls
 
+placed_kept : (p : Partner) (b : Book) (e : PacketEnd) (parts : CallParts) → CanBePlaced parts → KeptWith p b e → KeptWith p (placed_on Dce (channel_given e.layer e.layer.phase) parts b) (called e parts)
+placed_kept p b e parts can k =
+    subst (λ (y : Book). Kept p.setting y (line_with p (called e parts))) (written_seen p.role (Write.Placed (channel_given e.layer e.layer.phase) parts ∷ []) b)
+    (call_own p.setting p.role (sight p.role b) e p.other p.up p.down parts can k)
+
+pub silent_with : (p : Partner) (b : Book) (act : acts.Act) (e : PacketEnd) → IsSilent act → KeptWith p b e
+    → Kept p.setting (sight p.role b) (line_of_ends p.role (acts.does act p.up e) (acts.other_after act p.other) (acts.coming_after act p.up) (acts.going_after act e p.down))
+silent_with p b act e is k = silent_own p.setting p.role (sight p.role b) act e p.other p.up p.down is k
+
 step_kept : (s : Step) (ps : Partners) (bs : Books) (ls : List SwitchLine) → IsFit s ps → AreKept ps bs ls → AreKept (partners_after s ps) (books_after_all (acts_of s ls) (layers_of ls) bs) (lines_after s ls)
 step_kept (Asks p q) ps bs ls fits h =
     on_one p.line (λ l. record l { end = asked l.end p.channel q }) (Act.Asks p q ∷ []) ps ps bs ls (refl, tt) (λ k ne. refl) (λ l got k. asks_kept (ps p.line) (bs p.line) l.end p.channel q k) h
 step_kept (Places n parts) ps bs ls fits h =
     on_one n (λ l. record l { end = called l.end parts }) (Act.Calls n parts ∷ []) ps ps bs ls (refl, tt) (λ k ne. refl)
-    (λ l got k. call_kept (ps n).setting (bs n) (line_with (ps n) l.end) Dce parts fits k) h
+    (λ l got k. placed_kept (ps n) (bs n) l.end parts fits k) h
 step_kept (Keeps p o) ps bs ls fits h = on_one p.line _ [] ps ps bs ls tt (λ k ne. refl) (λ l got k. k) h
 step_kept (Happens n what) ps bs ls fits h =
     subst (λ (ms : List SwitchLine). AreKept (partners_after (Happens n what) ps) (books_after_all (acts_of (Happens n what) ls) (layers_of ls) bs) ms)
@@ -212,10 +271,10 @@ step_kept (Offers n) ps bs ls fits h =
     on_one n (with_end all_offered) (acts_of (Offers n) ls) ps ps bs ls (lines_on n (λ e. offer_acts 7 n e) (slice_get ls n) (λ e. offers_on 7 n e)) (λ k ne. refl)
     (λ l got k.
     subst (λ (as_ : List Act). KeptWith (ps n) (chain_writes as_ l.end.layer (bs n)) (all_offered l.end)) (sym (line_acts (λ e. offer_acts 7 n e) ls n l got))
-    (subst (λ (b : Book). KeptWith (ps n) b (all_offered l.end)) (sym (offer_writes 7 n l.end l.end.layer (bs n))) (silent_kept (ps n).setting (bs n) (line_with (ps n) l.end) Dce acts.Offers tt k))) h
-step_kept Begins ps bs ls fits h = on_all begun ps bs ls (λ p b e k. silent_kept p.setting b (line_with p e) Dce acts.Begins tt k) h
-step_kept Settles ps bs ls fits h = on_all settled ps bs ls (λ p b e k. silent_kept p.setting b (line_with p e) Dce acts.Settles tt k) h
-step_kept (Elapses ticks) ps bs ls fits h = on_all (λ e. elapsed e ticks) ps bs ls (λ p b e k. silent_kept p.setting b (line_with p e) Dce (acts.Elapses ticks) tt k) h
+    (subst (λ (b : Book). KeptWith (ps n) b (all_offered l.end)) (sym (offer_writes 7 n l.end l.end.layer (bs n))) (silent_with (ps n) (bs n) acts.Offers l.end tt k))) h
+step_kept Begins ps bs ls fits h = on_all begun ps bs ls (λ p b e k. silent_with p b acts.Begins e tt k) h
+step_kept Settles ps bs ls fits h = on_all settled ps bs ls (λ p b e k. silent_with p b acts.Settles e tt k) h
+step_kept (Elapses ticks) ps bs ls fits h = on_all (λ e. elapsed e ticks) ps bs ls (λ p b e k. silent_with p b (acts.Elapses ticks) e tt k) h
 
 -- ---- the packet layers
 

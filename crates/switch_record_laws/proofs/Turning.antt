@@ -10,7 +10,7 @@ use Rattle.switch_laws.specs.Joined.{IsSwitch, Becomes}
 use Rattle.switch_laws.proofs.Finishing.{turns}
 use Rattle.switch_record_laws.specs.Records.{AreRecords}
 use Rattle.switch_record_laws.specs.Written.{Books, books_after_all, HaveRecords, restart_writes, restarted_books}
-use Rattle.switch_record_laws.specs.Law.{Goes, FrameLaw, TimerLaw, ElapseLaw, RestartLaw}
+use Rattle.switch_record_laws.specs.Law.{Goes, FrameLaw, TimerLaw, RelinkLaw, ElapseLaw, RestartLaw}
 use Rattle.switch_record_laws.proofs.Lines.{line_closes}
 use Rattle.switch_record_laws.proofs.Acts.{acts_write}
 
@@ -30,6 +30,9 @@ frame_goes n octets s w bs are i h = goes s.lines _ w bs i h (turns.frame n octe
 
 pub timer_goes : TimerLaw
 timer_goes n id s w bs i h = goes s.lines _ w bs i h (turns.timer n id s w i)
+
+pub relink_goes : RelinkLaw
+relink_goes n s w bs i h = goes s.lines _ w bs i h (turns.relinks n s w i)
 
 pub elapse_goes : ElapseLaw
 elapse_goes ticks s w bs i h = goes s.lines _ w bs i h (turns.elapses ticks s w i)

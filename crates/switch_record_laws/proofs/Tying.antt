@@ -5,23 +5,24 @@ use Rattle.packet_layer.specs.Layer.{Layer}
 use Rattle.packet_end.specs.PacketEnd.{PacketEnd}
 use Rattle.packet_end.specs.End.{without_frames}
 use Rattle.packet_codec.specs.Address.{MayBeDigits}
+use Rattle.packet_codec.specs.Digits.{digits_or_none}
 use Rattle.switch_lines.specs.Lines.{SwitchLine, changed}
-use Rattle.switch_lines.specs.Switch.{Switch, with_end, on_frame, on_expiry, elapse, restart, without_joins, finished, acted, all_begun}
+use Rattle.switch_lines.specs.Switch.{Switch, with_end, on_frame, on_expiry, relink, elapse, restart, without_joins, finished, acted, all_begun}
 use Rattle.switch_laws.specs.World.{World, layers_of, world_after_all}
 use Rattle.switch_laws.specs.Events.{SwitchHolds}
-use Rattle.switch_laws.specs.Events.Event.{Arrives, Elapses, Restarts}
+use Rattle.switch_laws.specs.Events.Event.{Arrives, SetsUp, Elapses, Restarts}
 use Rattle.switch_laws.specs.Joined.{Reached}
 use Rattle.switch_laws.specs.Steps.{Happening, does}
-use Rattle.switch_laws.specs.Steps.Happening.{Brings, RunsOut}
+use Rattle.switch_laws.specs.Steps.Happening.{Brings, RunsOut, Relinks}
 use Rattle.switch_laws.specs.EventSteps.{event_steps, event_acts}
 use Rattle.switch_laws.proofs.Lists.{get_map, map_unchanged}
 use Rattle.switch_laws.proofs.Leading.{event_leads}
 use Rattle.switch_laws.proofs.Happening.{events_hold, expiry_stays, steady_holds}
 use Rattle.switch_record_laws.specs.Written.{books_after_all, HaveRecords}
 use Rattle.switch_record_laws.specs.Kept.{EventIsKept, HaveAddresses, ReadsOctets, all_frames_out}
-use Rattle.switch_record_laws.specs.Tied.{Histories, IsTied, happened, FrameTied, TimerTied, ElapseTied, RestartTied, OutTied, TiedLaw}
+use Rattle.switch_record_laws.specs.Tied.{Histories, IsTied, happened, FrameTied, TimerTied, RelinkTied, ElapseTied, RestartTied, OutTied, TiedLaw}
 use Rattle.switch_record_laws.proofs.Calming.{addresses, Addressed, addressed, addressed_then}
-use Rattle.switch_record_laws.proofs.Events.{frame_event, timer_event, elapse_event, restart_event, frames_out, legs_move}
+use Rattle.switch_record_laws.proofs.Events.{frame_event, timer_event, relink_event, elapse_event, restart_event, frames_out, legs_move}
 use Rattle.switch_record_laws.proofs.Relaying.{joins_relay}
 use Rattle.switch_record_laws.proofs.Turning.{restarts}
 
@@ -31,7 +32,7 @@ have_addresses : (ls : List SwitchLine) → Addressed ls → HaveAddresses ls
 have_addresses ls h n l e = h n l.address (get_map (λ (y : SwitchLine). y.address) ls n ∙ ap (λ (o : Option SwitchLine). option_map (λ (y : SwitchLine). y.address) o) e)
 
 same_addresses : (ls ms : List SwitchLine) → addresses ms ≡ addresses ls → HaveAddresses ls → HaveAddresses ms
-same_addresses ls ms e h = have_addresses ms (subst (λ (as_ : List (List ℕ)). (n : ℕ) (a : List ℕ) → slice_get as_ n ≡ Some a → MayBeDigits a) (sym e) (addressed ls h))
+same_addresses ls ms e h = have_addresses ms (subst (λ (as_ : List (Option (List ℕ))). (n : ℕ) (a : Option (List ℕ)) → slice_get as_ n ≡ Some a → MayBeDigits (digits_or_none a)) (sym e) (addressed ls h))
 
 -- ---- events on a line
 
@@ -59,11 +60,16 @@ timer_tied n id s h i =
     let a = expiry_stays n id s h.legs i.holds in
     event_tied n (RunsOut id) s (on_expiry n id s) h a.world tt i refl a.moved a.holds (timer_event n id s h.partners h.books i.addresses i.kept)
 
+relink_tied : RelinkTied
+relink_tied n s h i =
+    let a = events_hold.stays (SetsUp n) s h.legs i.holds in
+    event_tied n Relinks s (relink n s) h a.world tt i refl a.moved a.holds (relink_event n s h.partners h.books i.addresses i.kept)
+
 -- ---- the others
 
 elapsed_addresses : (f : PacketEnd → PacketEnd) (ls : List SwitchLine) → addresses (map (with_end f) ls) ≡ addresses ls
 elapsed_addresses f [] = refl
-elapsed_addresses f (l ∷ ls) = ap (λ (as_ : List (List ℕ)). l.address ∷ as_) (elapsed_addresses f ls)
+elapsed_addresses f (l ∷ ls) = ap (λ (as_ : List (Option (List ℕ))). l.address ∷ as_) (elapsed_addresses f ls)
 
 elapse_tied : ElapseTied
 elapse_tied ticks s h i =
@@ -77,7 +83,7 @@ elapse_tied ticks s h i =
 
 restarted_addresses : (ls : List SwitchLine) → addresses (map without_joins ls) ≡ addresses ls
 restarted_addresses [] = refl
-restarted_addresses (l ∷ ls) = ap (λ (as_ : List (List ℕ)). l.address ∷ as_) (restarted_addresses ls)
+restarted_addresses (l ∷ ls) = ap (λ (as_ : List (Option (List ℕ))). l.address ∷ as_) (restarted_addresses ls)
 
 restart_tied : RestartTied
 restart_tied s h i =
@@ -102,6 +108,7 @@ tied_holds = record {
   begins = λ routes lines books partners is a k r. record { holds = events_hold.begins routes lines is; kept = k; records = r; addresses = a };
   frames = frame_tied;
   timers = timer_tied;
+  relinks = relink_tied;
   elapses = elapse_tied;
   restarts = restart_tied;
   out = out_tied;

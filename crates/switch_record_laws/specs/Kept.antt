@@ -1,40 +1,54 @@
 -- What is kept of all lines of a switch, and of the books of these lines.
 use Rattle.std.specs.Prelude.{◌≡◌, ℕ, ◌==◌, if◌then◌else◌, Bool, List, [], ◌∷◌, ◌++◌, drop, slice_get, Some}
+use Rattle.link_timers.specs.declared.role.Role.{Role}
+use Rattle.link_timers.specs.declared.role.Role.TheVariants.{Dte, Dce}
 use Rattle.link_timers.specs.declared.timers.TimerId.{TimerId}
 use Rattle.lapb.specs.Line.{chosen}
 use Rattle.packet_end.specs.End.{without_frames}
 use Rattle.packet_codec.specs.Address.{MayBeDigits}
+use Rattle.packet_codec.specs.Digits.{digits_or_none}
 use Rattle.lapb.specs.Machine.{Octets}
 use Rattle.packet_laws.specs.Readable.{CanBePlaced, Every, AreOctets}
 use Rattle.packet_end.specs.PacketEnd.{PacketEnd}
+use Rattle.call_records.specs.Book.{Book}
 use Rattle.line_record_laws.specs.Line.{Line, Restarts, other_after}
 pub use Rattle.line_record_laws.specs.Kept.{Setting, Kept, beginning, end_at}
 use Rattle.switch_lines.specs.Lines.{SwitchLine, changed}
-use Rattle.switch_lines.specs.Switch.{Switch, on_frame, on_expiry, elapse, restart, finished, acted, all_begun}
+use Rattle.switch_lines.specs.Switch.{Switch, on_frame, on_expiry, relink, elapse, restart, finished, acted, all_begun}
 use Rattle.switch_laws.specs.World.{World, IsWorld, MayHappen, layers_of, after_acts, world_after_all}
+use Rattle.switch_record_laws.specs.Turned.{sight}
 use Rattle.switch_record_laws.specs.Written.{Books, books_after_all, restarted_books, HaveRecords}
 use Rattle.switch_laws.specs.Steps.{Happening, does, Step, lines_after_all, acts_of_all}
 use Rattle.switch_laws.specs.EventSteps.{event_steps, event_acts}
-use Rattle.switch_laws.specs.Steps.Happening.{Brings, RunsOut}
+use Rattle.switch_laws.specs.Steps.Happening.{Brings, RunsOut, Relinks}
 use Rattle.switch_laws.specs.Steps.Step.{Places, Happens}
 
--- how a line is made, what is at the other end of it, and the frames on the way to the switch and from it
+-- how a line is made, the switch's role on it, what is at the other end of it, and the frames on the way to the switch
+-- and from it
 pub record Partner : Type 0 where
   pub setting : Setting
-  pub dte : PacketEnd
+  pub role : Role
+  pub other : PacketEnd
   pub up : List Octets
   pub down : List Octets
 
 abbrev pub Partners : Type 0
 Partners = ℕ → Partner
 
--- the switch is the DCE
+-- the line of an end of this role and of the other one, with the frames on the way to that end and from it
+abbrev pub line_of_ends : Role → (own other : PacketEnd) → (coming going : List Octets) → Line
+line_of_ends Dte own other coming going = record { dte = own; dce = other; up = going; down = coming }
+line_of_ends Dce own other coming going = record { dte = other; dce = own; up = coming; down = going }
+
 abbrev pub line_with : Partner → PacketEnd → Line
-line_with p e = record { dte = p.dte; dce = e; up = p.up; down = p.down }
+line_with p e = line_of_ends p.role e p.other p.up p.down
+
+-- the switch has the book of each line in its own sight
+abbrev pub KeptWith : Partner → Book → PacketEnd → Type 0
+KeptWith p b e = Kept p.setting (sight p.role b) (line_with p e)
 
 abbrev pub AreKept : Partners → Books → List SwitchLine → Type 0
-AreKept ps bs ls = (n : ℕ) (l : SwitchLine) → slice_get ls n ≡ Some l
-    → Kept (ps n).setting (bs n) (line_with (ps n) l.end)
+AreKept ps bs ls = (n : ℕ) (l : SwitchLine) → slice_get ls n ≡ Some l → KeptWith (ps n) (bs n) l.end
 
 -- ---- over a step
 
@@ -73,7 +87,7 @@ StepsLaw = (steps : List Step) (ps : Partners) (bs : Books) (ls : List SwitchLin
 
 -- the address of each line is one, or none
 abbrev pub HaveAddresses : List SwitchLine → Type 0
-HaveAddresses ls = (n : ℕ) (l : SwitchLine) → slice_get ls n ≡ Some l → MayBeDigits l.address
+HaveAddresses ls = (n : ℕ) (l : SwitchLine) → slice_get ls n ≡ Some l → MayBeDigits (digits_or_none l.address)
 
 -- something happens on line n
 abbrev pub EventIsKept : (line : ℕ) → Happening → Switch → Partners → Books → List SwitchLine → Type 0
@@ -82,7 +96,7 @@ EventIsKept n what s ps bs ms =
     (books_after_all (event_acts s.routes n what s.lines) (layers_of s.lines) bs) ms
 
 -- after each event of a switch each of its lines is kept with the book that the acts of the event write: the first
--- frame on the way to it on a line comes; a timer runs out; ticks pass
+-- frame on the way to it on a line comes; a timer runs out; the link of a line is set up anew; ticks pass
 abbrev pub FrameKeptLaw : Type 0
 FrameKeptLaw = (n : ℕ) (octets : Octets) (s : Switch) (ps : Partners) (bs : Books) → AreOctets octets
     → HaveAddresses s.lines → BeginWith octets (ps n).up → AreKept ps bs s.lines
@@ -92,13 +106,17 @@ abbrev pub TimerKeptLaw : Type 0
 TimerKeptLaw = (n : ℕ) (id : TimerId) (s : Switch) (ps : Partners) (bs : Books) → HaveAddresses s.lines
     → AreKept ps bs s.lines → EventIsKept n (RunsOut id) s ps bs (on_expiry n id s).lines
 
+abbrev pub RelinkKeptLaw : Type 0
+RelinkKeptLaw = (n : ℕ) (s : Switch) (ps : Partners) (bs : Books) → HaveAddresses s.lines → AreKept ps bs s.lines
+    → EventIsKept n Relinks s ps bs (relink n s).lines
+
 abbrev pub ElapseKeptLaw : Type 0
 ElapseKeptLaw = (ticks : ℕ) (s : Switch) (ps : Partners) (bs : Books) → AreKept ps bs s.lines
     → AreKept ps bs (elapse ticks s).lines
 
 -- the switch restarts: all frames on its lines are lost, also those that waited at the other ends
 abbrev pub restarted_partner : Partner → Partner
-restarted_partner p = record p { dte = other_after Restarts p.dte; up = []; down = [] }
+restarted_partner p = record p { other = other_after Restarts p.other; up = []; down = [] }
 
 abbrev pub RestartKeptLaw : Type 0
 RestartKeptLaw = (s : Switch) (ps : Partners) (bs : Books) → AreKept ps bs s.lines

@@ -8,13 +8,13 @@ use Rattle.packet_laws.specs.Readable.{Every, AreOctets}
 use Rattle.call_records.specs.Records.{RecordValue}
 use Rattle.call_records.specs.Book.{Book, made_book}
 use Rattle.call_records.specs.Writes.{Write, all_written}
-use Rattle.switch_lines.specs.declared.channels.SwitchChannel.{SwitchChannel}
-use Rattle.switch_lines.specs.declared.channels.Joined.{Joined}
+use Rattle.switch_joins.specs.declared.channels.SwitchChannel.{SwitchChannel}
+use Rattle.switch_joins.specs.declared.join.Joined.{Joined}
 use Rattle.switch_lines.specs.Lines.{SwitchLine, joined_at}
-use Rattle.switch_lines.specs.Switch.{Switch, on_frame, on_expiry, restart, elapse}
+use Rattle.switch_lines.specs.Switch.{Switch, on_frame, on_expiry, relink, restart, elapse}
 use Rattle.switch_laws.specs.Leg.{Leg}
 use Rattle.switch_laws.specs.World.{World, IsWorld, Act, MayHappen, layers_of, after_acts, world_after_all, closed}
-use Rattle.switch_laws.specs.Steps.Happening.{Brings, RunsOut}
+use Rattle.switch_laws.specs.Steps.Happening.{Brings, RunsOut, Relinks}
 use Rattle.switch_laws.specs.EventSteps.{event_acts}
 use Rattle.switch_laws.specs.Joined.{IsSwitch, Reached}
 use Rattle.switch_record_laws.specs.Records.{AreRecords}
@@ -24,10 +24,10 @@ use Rattle.switch_record_laws.specs.Joined.{JoinsRecords}
 
 -- ---- the making
 
--- on a line without a standing call no channel has a record
+-- on a line without a standing call no channel has a record, at either side of the book, whatever the role of the layer
 abbrev pub MadeLaw : Type 0
-MadeLaw = (role : Role) (channels window dte_node dce_node : ℕ) (legs : ℕ → Leg)
-    → AreRecords role (made role channels window false) legs (made_book dte_node dce_node channels false)
+MadeLaw = (side own : Role) (channels window dte_node dce_node : ℕ) (legs : ℕ → Leg)
+    → AreRecords side (made own channels window false) legs (made_book dte_node dce_node channels false)
 
 -- ---- acts
 
@@ -81,6 +81,10 @@ abbrev pub TimerLaw : Type 0
 TimerLaw = (n : ℕ) (id : TimerId) (s : Switch) (w : World) (bs : Books) → IsSwitch s.lines w
     → HaveRecords (layers_of s.lines) w bs
     → Goes (event_acts s.routes n (RunsOut id) s.lines) s.lines w bs (on_expiry n id s).lines
+
+abbrev pub RelinkLaw : Type 0
+RelinkLaw = (n : ℕ) (s : Switch) (w : World) (bs : Books) → IsSwitch s.lines w → HaveRecords (layers_of s.lines) w bs
+    → Goes (event_acts s.routes n Relinks s.lines) s.lines w bs (relink n s).lines
 
 abbrev pub ElapseLaw : Type 0
 ElapseLaw = (ticks : ℕ) (s : Switch) (w : World) (bs : Books) → IsSwitch s.lines w

@@ -2,6 +2,7 @@ pub use Rattle.line_record_laws.specs.Line
 pub use Rattle.line_record_laws.specs.Due
 pub mod Records
 pub mod Written
+pub mod Turned
 pub mod Relayed
 pub mod Rests
 pub mod Joined

@@ -9,16 +9,17 @@ use Rattle.packet_laws.specs.Readable.{Every, AreOctets}
 use Rattle.packet_end.specs.PacketEnd.{made}
 use Rattle.packet_end.specs.End.{without_frames}
 use Rattle.lapb.specs.Machine.{Octets}
-use Rattle.link_timers.specs.declared.role.Role.TheVariants.{Dte}
+use Rattle.link_timers.specs.declared.role.Role.TheVariants.{Dte, Dce}
 use Rattle.call_records.specs.Records.{RecordValue}
 use Rattle.call_records.specs.Book.{made_book}
-use Rattle.switch_lines.specs.declared.channels.SwitchChannel.{SwitchChannel}
+use Rattle.switch_joins.specs.declared.channels.SwitchChannel.{SwitchChannel}
 use Rattle.switch_laws.specs.World.{Act, MayHappen, layers_of}
 use Rattle.switch_laws.specs.World.Act.{Asks, Comes, GoesUp, Calls, Gives}
 use Rattle.switch_laws.specs.Run.{letter, parameters, two_lines, no_calls, configs, new_switch, sabm}
 use Rattle.switch_laws.specs.Events.{new_legs}
-use Rattle.switch_laws.specs.Steps.Happening.{Brings}
-use Rattle.switch_lines.specs.Switch.{on_frame}
+use Rattle.switch_laws.specs.TrunkRun.{trunk_configs, trunk_switch}
+use Rattle.switch_laws.specs.Steps.Happening.{Brings, Relinks}
+use Rattle.switch_lines.specs.Switch.{on_frame, relink}
 use Rattle.switch_record_laws.specs.Tied.{Histories, IsTied, happened}
 use Rattle.switch_record_laws.specs.Kept.{Partner, Partners, AreKept, BeginWith, HaveAddresses}
 use Rattle.switch_record_laws.specs.Written.{Books, books_after_all, HaveRecords}
@@ -91,7 +92,8 @@ far_record = record {
 abbrev pub partners : Partners
 partners n = record {
   setting = record { dte = parameters; dce = parameters; dte_node = if n == 0 then 3 else 4; dce_node = 9 };
-  dte = record (made Dte parameters) { line = without_frames (made Dte parameters).line };
+  role = Dce;
+  other = record (made Dte parameters) { line = without_frames (made Dte parameters).line };
   up = (made Dte parameters).line.frames;
   down = [];
 }
@@ -103,7 +105,24 @@ FrameComes p = (octets : Octets) × (BeginWith octets p.up × AreOctets octets)
 abbrev pub histories : Histories
 histories = record { legs = new_legs configs; books = books; partners = partners }
 
--- the run is one that the laws are about; the first frame on the way comes
+-- ---- a switch that is the DTE of line 1
+
+-- node 4 is the DCE there; the book of the line is the same in the switch's sight
+abbrev pub trunk_partners : Partners
+trunk_partners zero = partners 0
+trunk_partners n = record {
+  setting = record { dte = parameters; dce = parameters; dte_node = 9; dce_node = 4 };
+  role = Dte;
+  other = made Dce parameters;
+  up = [];
+  down = [];
+}
+
+abbrev pub trunk_histories : Histories
+trunk_histories = record { legs = new_legs trunk_configs; books = books; partners = trunk_partners }
+
+-- the run is one that the laws are about; the first frame on the way comes, and the switch sets up the link of which it
+-- is the DTE
 pub record RunLaw : Type 0 where
   pub kept : AreKept partners books two_lines
   pub addresses : HaveAddresses two_lines
@@ -111,6 +130,8 @@ pub record RunLaw : Type 0 where
   pub begins : HaveRecords (layers_of two_lines) no_calls books
   pub tied : IsTied new_switch histories
   pub goes_on : IsTied (on_frame 0 sabm new_switch) (happened 0 (Brings sabm) new_switch histories)
+  pub trunk_tied : IsTied trunk_switch trunk_histories
+  pub trunk_set_up : IsTied (relink 1 trunk_switch) (happened 1 Relinks trunk_switch trunk_histories)
   pub may : Every MayHappen run
   pub near_book : (books_after_all run (layers_of two_lines) books 0).records ≡ near_record ∷ []
   pub far_book : (books_after_all run (layers_of two_lines) books 1).records ≡ far_record ∷ []

@@ -5,16 +5,16 @@ use Rattle.link_timers.specs.declared.timers.TimerId.{TimerId}
 use Rattle.lapb.specs.Machine.{Octets}
 use Rattle.address_routes.specs.Routes.{RouteMap}
 use Rattle.switch_lines.specs.declared.config.SwitchLineConfig.{SwitchLineConfig}
-use Rattle.switch_lines.specs.declared.channels.SwitchChannel.{SwitchChannel}
-use Rattle.switch_lines.specs.declared.channels.Joined.{Joined}
+use Rattle.switch_joins.specs.declared.channels.SwitchChannel.{SwitchChannel}
+use Rattle.switch_joins.specs.declared.join.Joined.{Joined}
 use Rattle.switch_lines.specs.Lines.{SwitchLine, joined_at, changed}
 use Rattle.switch_lines.specs.Making.{IsConfig, made}
-use Rattle.switch_lines.specs.Switch.{Switch, on_frame, on_expiry, elapse, restart}
+use Rattle.switch_lines.specs.Switch.{Switch, on_frame, on_expiry, relink, elapse, restart}
 use Rattle.packet_laws.specs.Readable.{AreOctets}
 use Rattle.switch_laws.specs.World.{World, layers_of, world_after_all, closed}
 use Rattle.switch_laws.specs.Events.{SwitchHolds, new_legs}
 use Rattle.switch_laws.specs.Steps.{Happening}
-use Rattle.switch_laws.specs.Steps.Happening.{Brings, RunsOut}
+use Rattle.switch_laws.specs.Steps.Happening.{Brings, RunsOut, Relinks}
 use Rattle.switch_laws.specs.Steps.Step.{Happens}
 use Rattle.switch_laws.specs.EventSteps.{event_acts}
 use Rattle.switch_record_laws.specs.Written.{Books, books_after_all, restarted_books, HaveRecords}
@@ -74,6 +74,9 @@ abbrev pub TimerTied : Type 0
 TimerTied = (n : ℕ) (id : TimerId) (s : Switch) (h : Histories) → IsTied s h
     → IsTied (on_expiry n id s) (happened n (RunsOut id) s h)
 
+abbrev pub RelinkTied : Type 0
+RelinkTied = (n : ℕ) (s : Switch) (h : Histories) → IsTied s h → IsTied (relink n s) (happened n Relinks s h)
+
 abbrev pub ElapseTied : Type 0
 ElapseTied = (ticks : ℕ) (s : Switch) (h : Histories) → IsTied s h → IsTied (elapse ticks s) h
 
@@ -93,6 +96,7 @@ pub record TiedLaw : Type 0 where
   pub begins : BeginTied
   pub frames : FrameTied
   pub timers : TimerTied
+  pub relinks : RelinkTied
   pub elapses : ElapseTied
   pub restarts : RestartTied
   pub out : OutTied

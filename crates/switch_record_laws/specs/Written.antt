@@ -46,7 +46,7 @@ act_writes (Asks p q) l = asked_writes p.channel q l
 act_writes (Calls n parts) l = Placed (channel_given l l.phase) parts ∷ []
 act_writes act l = Told (notes_made act (Some l)) ∷ []
 
--- ---- the books of all lines of a switch, which is their DCE
+-- ---- the books of all lines of a switch, as it sees them: its own side is the DCE's
 
 abbrev pub Books : Type 0
 Books = ℕ → Book
@@ -70,7 +70,7 @@ restart_writes (Some l) b = all_told Dce (link_down l).notes b
 abbrev pub restarted_books : List Layer → Books → Books
 restarted_books ys bs = λ n. restart_writes (slice_get ys n) (bs n)
 
--- the present records of each line's book at its DCE are the legs of the line's channels
+-- the present records of each line's book at the switch's side are the legs of the line's channels
 abbrev pub HaveRecords : List Layer → World → Books → Type 0
 HaveRecords ys w bs = (n : ℕ) (l : Layer) → slice_get ys n ≡ Some l
     → AreRecords Dce l (λ c. w (record { line = n; channel = c })) (bs n)

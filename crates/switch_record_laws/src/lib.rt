@@ -3,9 +3,9 @@
 
 ghost use Rattle.switch_record_laws.specs.Law.{MadeLaw, ActsLaw, WritesLaw, PartnerLaw, RestLaw, RestsLaw};
 ghost use Rattle.switch_record_laws.specs.Law.{JoinsLaw};
-ghost use Rattle.switch_record_laws.specs.Law.{FrameLaw, TimerLaw, ElapseLaw, RestartLaw};
-ghost use Rattle.switch_record_laws.specs.Kept.{StepsLaw, FrameKeptLaw, TimerKeptLaw, ElapseKeptLaw, RestartKeptLaw};
-ghost use Rattle.switch_record_laws.specs.Kept.{OutLaw, LeadsLaw, LegsLaw};
+ghost use Rattle.switch_record_laws.specs.Law.{FrameLaw, TimerLaw, RelinkLaw, ElapseLaw, RestartLaw};
+ghost use Rattle.switch_record_laws.specs.Kept.{StepsLaw, FrameKeptLaw, TimerKeptLaw, RelinkKeptLaw, ElapseKeptLaw};
+ghost use Rattle.switch_record_laws.specs.Kept.{RestartKeptLaw, OutLaw, LeadsLaw, LegsLaw};
 ghost use Rattle.switch_record_laws.specs.Opened.{ComesLaw, PlacesLaw, HeadLaw, HeadsLaw};
 ghost use Rattle.switch_record_laws.specs.Tied.{TiedLaw};
 ghost use Rattle.switch_record_laws.specs.Run.{RunLaw};
@@ -45,16 +45,18 @@ pub fn join_record_law()
 pub fn switch_record_law()
     ensures frames { FrameLaw }
     ensures timers { TimerLaw }
+    ensures relinks { RelinkLaw }
     ensures elapses { ElapseLaw }
     ensures restarts { RestartLaw }
 {}
 
-/// The law of each line of a switch, which is its DCE, whatever its partners are: what is kept of a line and of its
-/// book is kept over each event of the switch, with the book that the acts of the event write. The same acts move the
-/// legs.
+/// The law of each line of a switch, in either role, whatever its partners are: what is kept of a line and of its book
+/// is kept over each event of the switch, with the book that the acts of the event write. The book of a line where the
+/// switch is the DTE is seen turned. The same acts move the legs.
 pub fn kept_lines_law()
     ensures frames { FrameKeptLaw }
     ensures timers { TimerKeptLaw }
+    ensures relinks { RelinkKeptLaw }
     ensures elapses { ElapseKeptLaw }
     ensures restarts { RestartKeptLaw }
     ensures out { OutLaw }
@@ -73,7 +75,8 @@ pub fn tied_law()
     ensures { TiedLaw }
 {}
 
-/// A call through a switch of two lines: a packet with D = 1 that is confirmed, and a reset.
+/// A call through a switch of two lines: a packet with D = 1 that is confirmed, and a reset. And a switch that is the
+/// DTE of a line.
 pub fn run_record_law()
     ensures { RunLaw }
 {}

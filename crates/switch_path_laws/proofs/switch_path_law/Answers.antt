@@ -1,4 +1,4 @@
-use Rattle.switch_path_laws.proofs.Events.{network_holds}
+use Rattle.switch_path_laws.proofs.Begins.{network_holds}
 use Rattle.switch_path_laws.proofs.switch_path_law.Goals as goal
 
 pub returns : goal.returns
