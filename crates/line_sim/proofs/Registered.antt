@@ -12,7 +12,7 @@ use Rattle.call_records.specs.Register.{Register, LinePlan, free_ends, all_writt
 use Rattle.switch_network_laws.proofs.Addressed.{lines_handed}
 use Rattle.call_records.specs.Register.{with_standing_call, with_free_line, with_line, with_lines, made_register}
 use Rattle.call_records.specs.Register.{empty_register}
-use Rattle.switch_lines.specs.declared.channels.NewJoin.{NewJoin}
+use Rattle.switch_joins.specs.declared.channels.NewJoin.{NewJoin}
 use Rattle.net_events.specs.NodeEvents.{NodeEvent}
 use Rattle.net_events.specs.AtSwitch.{SwitchEvent, SwitchHappened, joins_of, all_handed, channel_end}
 use Rattle.net_events.specs.Network.{Network, HappenedAt, LostAt}

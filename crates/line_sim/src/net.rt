@@ -156,6 +156,7 @@ impl<L: Line> Net<L> {
     /// another kind, then where the PAD has no such terminal, then where the channel is 0 or beyond those of the line.
     /// Want of memory comes after these and before the node is called, which may refuse what it is asked; the loss of a
     /// frame takes no memory. A refused event changes nothing, nor does an expiry of a timer that does not run.
+    #[inline(always)]
     pub fn step(&mut self, event: &Event) -> Result<&Answer, StepFault>
         ensures faults { IsRefusedSo (step_fault event.now self.old) (lent result) }
         ensures memory { takes_memory event.now ≡ false → lent result ≢ Err step_fault_is.OutOfMemory }

@@ -9,8 +9,8 @@ use Rattle.memory_line.specs.declared.line.Direction.TheVariants.{FromDte, FromD
 use Rattle.memory_line.specs.Lines.{Flights, no_flights, without_first, LineService, ArePut}
 use Rattle.switch_lines.specs.Lines.{SwitchLine}
 use Rattle.switch_lines.specs.NewJoins.{new_joins}
-use Rattle.switch_lines.specs.declared.channels.NewJoin.{NewJoin}
-use Rattle.switch_lines.specs.declared.channels.SwitchChannel.{SwitchChannel}
+use Rattle.switch_joins.specs.declared.channels.NewJoin.{NewJoin}
+use Rattle.switch_joins.specs.declared.channels.SwitchChannel.{SwitchChannel}
 use Rattle.switch_lines.specs.Switch.{Switch, on_frame, on_timer, restart, frames_on, with_end}
 use Rattle.packet_laws.specs.Readable.{AreOctets}
 use Rattle.net_events.specs.Network.{PlacedSwitch, Switching, NetLine, Network}

@@ -6,6 +6,7 @@ use Rattle.link_timers.specs.declared.role.Role.TheVariants.{Dte, Dce}
 use Rattle.packet_codec.specs.Address.{AreDigits}
 use Rattle.packet_end.specs.Params.{AreParams}
 use Rattle.packet_end.specs.declared.params.EndParams.{EndParams}
+use Rattle.call_records.specs.Book.{address_of}
 use Rattle.call_records.specs.Register.{LinePlan, made_register}
 use Rattle.packet_host.specs.Making as host
 use Rattle.x25_pad.specs.Making as pad
@@ -135,7 +136,7 @@ placed_new n params = record { line = n.line; node = drained (new_node n params)
 
 -- how the own lines of a switch are made
 abbrev pub line_config : NewLine → SwitchLineConfig
-line_config l = record { params = l.params; address = l.address }
+line_config l = record { params = l.params; role = Dce; address = address_of l.address }
 
 abbrev pub found_config : Option NewLine → List SwitchLineConfig → List SwitchLineConfig
 found_config None configs = configs

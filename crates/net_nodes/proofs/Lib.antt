@@ -1,7 +1,5 @@
 mod Places
 mod Serving
-mod Switching
-mod Waiting
 mod SwitchTurns
 mod Acting
 mod Happening

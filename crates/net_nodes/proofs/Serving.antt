@@ -1,7 +1,6 @@
 -- What serving an event does to the nodes, to the line and to the register.
-use Rattle.std.proofs.Common.{◌≡◌, ℕ, zero, suc, List, [], ◌∷◌, set, Option, Some, None, Result, Ok, Err, refl, sym, ap, ◌∙◌, subst}
+use Rattle.std.proofs.Common.{◌≡◌, List, [], set, Option, Some, None, Result, Ok, Err, refl, sym, ap, ◌∙◌, subst}
 use Rattle.std.specs.Prelude.{slice_get, MatchResult}
-use Rattle.std.proofs.lemmas.Option.{same_Some}
 use Rattle.call_records.specs.Book.{Book}
 use Rattle.call_records.specs.Register as spec
 use Rattle.call_records.specs.Register.{book_at, with_book}
@@ -23,13 +22,9 @@ use Rattle.net_turns.specs.Served.{Served}
 use Rattle.net_turns.specs.Users.{IsRefusedWith, IsServed, AtLine}
 use Rattle.net_turns.proofs.Opening.{written_at}
 use Rattle.net_events.proofs.Users.{user_is}
+use Rattle.switch_turns.proofs.Switching.{set_there}
 use Rattle.net_nodes.specs.declared.nodes.LineSide.{LineSide}
 use Rattle.net_nodes.specs.Turns.{its_turn, LineServed, UserServed, HadTurn}
-
-pub set_there : {X : Type 0} (xs : List X) (n : ℕ) (x : X) → slice_get xs n ≡ Some x → set xs n x ≡ xs
-set_there [] n x e = refl
-set_there (y ∷ xs) zero x e = ap (λ z. z ∷ xs) (sym (same_Some y x e))
-set_there (y ∷ xs) (suc n) x e = ap (λ zs. y ∷ zs) (set_there xs n x e)
 
 -- what comes at a line shows no text
 pub no_text : (event : LineEvent) (n : NodeState) → text_of (line_event_of event) n ≡ []

@@ -1,4 +1,4 @@
--- What serving an event at a switch does, and what it is to the network.
+-- What an event at a switch is to the network.
 use Rattle.std.proofs.Common.{◌≡◌, ℕ, Bool, true, false, cond, List, length, set, get_or, Some, Ok, refl, sym, ap, ◌∙◌, subst, inl, inr, arith, true≢false}
 use Rattle.std.specs.Prelude.{slice_get, is_some, Option, None, nat_lt, Result, Err, MatchResult}
 use Rattle.std.specs.Result.{result_and}
@@ -9,17 +9,12 @@ use Rattle.std.proofs.lemmas.List.Sums.{fails_before_first}
 use Rattle.std.proofs.lemmas.Option.{same_Some, slice_get-get_or, get_or_from_slice_get}
 use Rattle.link_timers.specs.declared.role.Role.TheVariants.{Dce}
 use Rattle.link_timers.specs.declared.timers.TimerId.{TimerId}
-use Rattle.call_records.specs.Register.{Register}
 use Rattle.memory_line.specs.declared.line.Direction.TheVariants.{FromDte}
 use Rattle.memory_line.specs.Lines.{Flights, LineService, without_first}
-use Rattle.switch_lines.specs.Switch.{Switch}
-use Rattle.switch_lines.specs.declared.channels.NewJoin.{NewJoin}
 use Rattle.net_events.specs.AtSwitch.{SwitchEvent, Hears, Expires, Restarts, HasOwnLine, switched, joins_of, switch_drained, all_handed, LinesServed}
 use Rattle.net_events.specs.Network.{PlacedSwitch, NetNode, User, Switching, NetLine, Network, StandsAtLines}
 use Rattle.net_events.specs.declared.answer.Answer.{Answer}
 use Rattle.net_events.specs.declared.answer.Put.{Put}
-use Rattle.net_turns.specs.Sends.{all_puts}
-use Rattle.net_turns.proofs.SwitchSending.{switched_lines}
 use Rattle.switch_laws.specs.Turn.{AreOctets}
 use Rattle.net_nodes.specs.Places.{EndStands, IsStanding, own_line_in, own_line_at, is_switch, is_switch_at}
 use Rattle.net_plans.specs.Plan.{is_line}
@@ -27,47 +22,14 @@ use Rattle.net_nodes.specs.Faults.{step_fault, where_there_is, stands_at}
 use Rattle.net_nodes.specs.Happening.{Happens}
 use Rattle.net_events.specs.declared.event.Event.TheVariants.{Deliver, Expire, Restart}
 use Rattle.net_nodes.specs.Steps.{AtSwitch}
-use Rattle.net_nodes.specs.Switching.{HasRoom, CanPut, LinesPut, is_anew, SwitchServed, CanSwitch, SwitchActed}
+use Rattle.switch_turns.specs.Switching.{HasRoom, CanPut}
+use Rattle.net_nodes.specs.Switching.{CanSwitch, SwitchActed}
 use Rattle.placed_nodes.proofs.Lists.{within}
-use Rattle.net_nodes.proofs.Switching.{heard_lines, expired_lines, restarted_lines}
-
-abbrev switch_or : PlacedSwitch → NetNode → PlacedSwitch
-switch_or other (User n) = other
-switch_or other (Switching n) = n
-
-pub switch_is : (a b : PlacedSwitch) → Switching a ≡ Switching b → a ≡ b
-switch_is a b e = ap (switch_or a) e
+use Rattle.switch_turns.proofs.Switching.{heard_lines, expired_lines, restarted_lines}
+use Rattle.switch_turns.proofs.Turns.{switch_is}
 
 pub same_switch : (a b : PlacedSwitch) → Some (Switching a) ≡ Some (Switching b) → a ≡ b
 same_switch a b e = switch_is a b (same_Some (Switching a) (Switching b) e)
-
--- ---- serving
-
-pub can_put_then : (event : SwitchEvent) (p : PlacedSwitch) (own : List ℕ) (s : Switch) (lines : List NetLine) (puts : List Put) (places : ℕ) → own ≡ p.lines → s ≡ switched event p.switch
-    → CanPut p.lines p.switch.lines lines puts places → CanPut own s.lines lines puts places
-can_put_then event p own s lines puts places own_is is can =
-    subst (λ (x : List ℕ). CanPut x s.lines lines puts places) (sym own_is) (record {
-      count = can.count ∙ sym (switched_lines event p.switch) ∙ ap (λ (t : Switch). length t.lines) (sym is);
-      apart = can.apart;
-      there = can.there;
-      room = can.room;
-    })
-
-pub served_so : (L : LineService) (event : SwitchEvent) (p n : PlacedSwitch) (own own' : List ℕ) (joins : List NewJoin) (anew : Bool) (s t : Switch) (lines lines' : List NetLine) (g g' : Register) (puts : List Put)
-    → p ≡ n → own ≡ p.lines → own' ≡ p.lines → joins ≡ joins_of event p.switch → s ≡ switched event p.switch → anew ≡ is_anew event → g' ≡ all_handed own joins g
-    → t ≡ switch_drained s → LinesPut L anew own' s lines lines' → puts ≡ all_puts own' s.lines
-    → SwitchServed L event n lines g (Switching (record p { switch = t })) lines' g' puts
-served_so L event p n own own' joins anew s t lines lines' g g' puts same own_is own_is' joins_are is anew_is handed drained put listed =
-    let P : PlacedSwitch → Type 0 = λ x. SwitchServed L event x lines g (Switching (record p { switch = t })) lines' g' puts in
-    let A : Bool → Type 0 = λ x. LinesPut L x own' s lines lines' in
-    let B : List ℕ → Type 0 = λ x. LinesPut L (is_anew event) x s lines lines' in
-    let C : Switch → Type 0 = λ x. LinesPut L (is_anew event) p.lines x lines lines' in
-    subst P same (record {
-      node_is = ap (λ (x : Switch). Switching (record p { switch = x })) (drained ∙ ap switch_drained is);
-      lines_put = subst C is (subst B own_is' (subst A anew_is put));
-      register_is = handed ∙ (λ i. all_handed (own_is i) (joins_are i) g);
-      puts_are = listed ∙ (λ i. all_puts (own_is' i) (is i).lines);
-    })
 
 -- what never fails is answered
 pub answered : {D E A : Type 0} {P : Type 0} (r : Result D E) (a : A) (Q : Result A E → Type 0) → MatchResult r (λ _. P) (λ _. ⊥) → (P → Q (Ok a)) → Q (result_and r (Ok a))

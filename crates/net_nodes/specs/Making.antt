@@ -11,7 +11,7 @@ use Rattle.net_events.specs.Network.{PlacedNode, PlacedSwitch, NetNode, User, Sw
 use Rattle.net_events.specs.Opening.{NewNode, Planned, PlannedUser, PlannedSwitch, NewLine, NetPlan, AreSent}
 use Rattle.net_events.specs.Opening.{IsMade}
 use Rattle.net_events.specs.Opening.{new_dte, new_dce, line_plan}
-use Rattle.net_nodes.specs.Switching.{LinesPut}
+use Rattle.switch_turns.specs.Switching.{LinesPut}
 
 -- the first frames of the DTE were put on an empty line, and then those of a DCE with users
 abbrev pub AreFirst : LineService → (dte : NodeState) → EndParams → (dce : Planned) → Flights → Type 0

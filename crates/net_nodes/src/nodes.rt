@@ -19,23 +19,7 @@ use memory_line::Line;
 use net_events::{Answer, Event, StepFault};
 use placed_nodes::NetNode;
 use std::marker::Model;
-
-/// A line between two nodes, which go by their places.
-#[derive(Drop)]
-pub(crate) struct NetLine<L: Line> {
-    dte: usize,
-    dce: usize,
-    channels: u8,
-    line: L,
-}
-
-impl<L: Line> Model for NetLine<L> {
-    ghost use Rattle.net_events.specs.Network as network;
-
-    ghost Value = { network.NetLine };
-
-    ghost view = { λ l. record { dte = l.dte; dce = l.dce; channels = l.channels; flights = L.flights l.line } };
-}
+use switch_turns::NetLine;
 
 /// An end of a line.
 #[derive(Clone, Copy)]
@@ -120,6 +104,7 @@ impl<L: Line> Nodes<L> {
 
     /// Handles an event, and writes the answer; what stood there before is gone. Where the event is refused the answer
     /// says nothing.
+    #[inline(always)]
     pub fn happen(&mut self, event: &Event, answer: &mut Answer) -> Result<(), StepFault>
         requires { IsStanding self.old }
         ensures { Happens L.service event.now self.old (result_and result (Ok answer.new)) self.new }

@@ -1,8 +1,6 @@
 -- Things of which one stops, and parts of texts.
 use Rattle.std.proofs.Common.{◌≡◌, ◌≢◌, ℕ, suc, ◌<◌, List, [], ◌∷◌, ◌++◌, length, take, drop, get_or, Option, sym, ap, ◌∙◌, subst, append_assoc, take-append-drop, drop-cons, refl}
 use Rattle.std.proofs.Common.{Result, Ok, Err, IfErr, IfOk, OnOk}
-use Rattle.std.proofs.lemmas.Grind.{flat_map-append}
-use Rattle.std.specs.List.{flat_map}
 use Rattle.std.specs.Io.KnownBytes.{Appends}
 use Rattle.std.proofs.KnownBytes.{Appends-trans}
 use Rattle.net_files.specs.declared.fault.ProgFault.{ProgFault}

@@ -277,6 +277,7 @@ impl Player<'_> {
     }
 
     /// One event: prints its answer, and gives whether a frame arrived.
+    #[inline(always)]
     fn play_event<L: Line, W: Write>(
         &self,
         net: &mut Net<L>,
@@ -314,6 +315,7 @@ impl Player<'_> {
 
     /// Prints an answer.
     #[tactic(auto, using(crate::proofs::Turns::appends_nothing))]
+    #[inline(always)]
     fn write_answer<W: Write>(
         &self,
         event: &Event,

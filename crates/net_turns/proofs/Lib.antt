@@ -1,5 +1,4 @@
 pub mod Sending
-pub mod SwitchSending
 pub mod Writing
 pub mod Opening
 mod Users

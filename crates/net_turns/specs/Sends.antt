@@ -1,9 +1,7 @@
 -- What a node sends at the end of an event: all frames that it has to send, in order, each put on its line.
-use Rattle.std.specs.Prelude.{◌≡◌, ℕ, List, [], ◌∷◌, ◌++◌, map}
+use Rattle.std.specs.Prelude.{◌≡◌, ℕ, List, [], ◌∷◌}
 use Rattle.memory_line.specs.declared.line.Direction.{Direction}
-use Rattle.memory_line.specs.declared.line.Direction.TheVariants.{FromDce}
 use Rattle.memory_line.specs.Lines.{Flights, LineService, ArePut}
-use Rattle.switch_lines.specs.Lines.{SwitchLine}
 use Rattle.net_events.specs.declared.answer.Put.{Put}
 
 -- a frame that was put: on the line of this number, in this direction, with these octets
@@ -23,15 +21,3 @@ pub record Sends (L : LineService) (d : Direction) (line : ℕ) (frames : List (
     (puts : List Put) (after : Flights) : Type 0 where
   pub puts_are : ArePutsOf d line frames puts
   pub put : L.faithful → ArePut L d frames before after
-
--- ---- a switch
-
--- these frames, put on the line of this number by its DCE
-abbrev pub puts_on : (line : ℕ) → (frames : List (List ℕ)) → List Put
-puts_on line frames = map (λ octets. record { line = line; direction = FromDce; octets = octets }) frames
-
--- all frames that wait on own lines, line by line; beside the own lines stand those of the network
-abbrev pub all_puts : (lines : List ℕ) → (own : List SwitchLine) → List Put
-all_puts [] own = []
-all_puts (line ∷ lines) [] = []
-all_puts (line ∷ lines) (l ∷ own) = puts_on line l.end.line.frames ++ all_puts lines own

@@ -7,10 +7,8 @@ mod hosts;
 mod room;
 mod send;
 mod serving;
-mod switching;
 mod terminals;
 
 pub use room::{make_bare, make_frame_room, make_room};
 pub use send::put_frames;
 pub use serving::{MOST_WRITES, serve_line, serve_user};
-pub use switching::{call_switch, put_switch_frames};

@@ -9,6 +9,7 @@ use std::alloc::AllocError;
 
 /// Empties an answer's lists, and makes room where it lacks: for the frames and notes of one event of a node, and for
 /// so many octets of text.
+#[inline(always)]
 pub fn make_room(answer: &mut Answer, octets: usize) -> Result<(), AllocError>
     ensures empty { OnOk result (IsEmpty answer.new) }
     ensures text { OnOk result (octets ≤ vec_capacity answer.new.text) }

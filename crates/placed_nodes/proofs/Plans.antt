@@ -1,10 +1,11 @@
 -- What a plan of a network says of a line and of the lines of a switch.
-use Rattle.std.proofs.Common.{◌≡◌, ℕ, zero, suc, false, List, [], ◌∷◌, ◌++◌, length, Some, refl, sym, ap, ◌∙◌, subst, arith, inl, inr}
+use Rattle.std.proofs.Common.{◌≡◌, ℕ, zero, suc, ◌≤◌, false, List, [], ◌∷◌, ◌++◌, length, Some, refl, sym, ap, ◌∙◌, subst, arith, inl, inr}
 use Rattle.std.specs.Prelude.{◌⊎◌, slice_get, Option, None}
 use Rattle.std.proofs.lemmas.Option.{same_Some, none-some}
 use Rattle.link_timers.specs.declared.role.Role.TheVariants.{Dte, Dce}
 use Rattle.packet_codec.specs.Address.{AreDigits}
 use Rattle.packet_end.specs.Params.{AreParams}
+use Rattle.call_records.specs.Book.{address_of}
 use Rattle.switch_lines.specs.Making.{IsLineConfig}
 use Rattle.switch_lines.specs.declared.config.SwitchLineConfig.{SwitchLineConfig}
 use Rattle.net_events.specs.Opening.{NewNode, NewSwitch, Planned, PlannedUser, PlannedSwitch, NewLine, NetPlan, IsNewDte, IsDcePlan, IsLinePlan, IsUserPlan, IsSwitchPlan, IsPlan}
@@ -123,6 +124,11 @@ own_line_of plan place n is there at line own =
     record { line_is = e.line_is; there = e.there; address = dce.1; free = dce.2; params = p.params }
 
 -- ---- how they are made
+
+-- one that has digits is there
+pub some_address : (digits : List ℕ) → 1 ≤ length digits → address_of digits ≡ Some digits
+some_address [] least = absurd (omega (arith, least))
+some_address (digit ∷ digits) least = refl
 
 found_push : (o : Option NewLine) (xs ys : List SwitchLineConfig) → found_config o (xs ++ ys) ≡ found_config o xs ++ ys
 found_push None xs ys = refl

@@ -110,7 +110,11 @@ fn own_configs(
             unreachable!()
         };
         let params = line.params;
-        configs.push(SwitchLineConfig { params, address })?;
+        configs.push(SwitchLineConfig {
+            params,
+            role: Role::Dce,
+            address: Some(address),
+        })?;
     }
     Ok(configs)
 }

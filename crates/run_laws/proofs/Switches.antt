@@ -9,7 +9,7 @@ use Rattle.net_events.specs.AtSwitch.{SwitchEvent, Hears, Expires, Restarts, Lef
 use Rattle.net_events.specs.AtSwitch.{SwitchHappened, switched, switch_drained, joins_of, waiting_on, all_handed}
 use Rattle.net_events.specs.Network.{PlacedSwitch, Switching, NetLine, Network, StandsAtLines}
 use Rattle.net_events.specs.declared.answer.Answer.{Answer}
-use Rattle.net_turns.specs.Sends.{all_puts}
+use Rattle.switch_turns.specs.Switching.{all_puts}
 use Rattle.net_nodes.specs.Steps.{AtSwitch, OnOwnLine}
 use Rattle.switch_network_laws.proofs.Standing.{same_switch}
 use Rattle.switch_network_laws.proofs.SwitchStanding.{own_or_none}

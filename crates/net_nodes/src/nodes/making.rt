@@ -10,8 +10,7 @@ ghost use Rattle.placed_nodes.specs.Making.{AreNew};
 ghost use Rattle.net_nodes.specs.Making.{CanBegin, SwitchBegins};
 ghost use Rattle.net_nodes.specs.Making.{IsMadeOf};
 
-use crate::nodes::switching::put_lines;
-use crate::nodes::{NetLine, Nodes};
+use crate::nodes::Nodes;
 use line_end::MOST_FRAMES;
 use memory_line::{Direction, Line};
 use net_config::MakeFault;
@@ -20,6 +19,7 @@ use net_plans::{NetPlan, NewLine};
 use net_turns::put_frames;
 use placed_nodes::{Equipment, NetNode, new_nodes, new_register, switch_place};
 use std::alloc::{AllocError, Global};
+use switch_turns::{NetLine, put_lines};
 
 /// Puts all frames that wait at a node with users on its line; those of a switch wait.
 fn put_user_frames<L: Line>(

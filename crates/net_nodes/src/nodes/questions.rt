@@ -9,19 +9,19 @@ ghost use Rattle.net_nodes.specs.Happening.{FindsNoFrame};
 ghost use Rattle.net_nodes.specs.Questions.{net_confirmed, net_rests, is_empty};
 ghost use Rattle.placed_nodes.specs.Node.{rests};
 
-use crate::nodes::{NetLine, Nodes};
+use crate::nodes::Nodes;
 use call_records::{Pair, Record};
 use memory_line::{Direction, Line};
 use net_events::Event;
 use placed_nodes::first_node_due;
+use switch_turns::NetLine;
 
-impl<L: Line> NetLine<L> {
-    /// Whether no frame is in flight.
-    fn is_empty(&self) -> bool
-        ensures { result ≡ is_empty self.now }
-    {
-        !self.line.in_flight(Direction::FromDte) && !self.line.in_flight(Direction::FromDce)
-    }
+/// Whether no frame is in flight on a line.
+fn is_empty<L: Line>(net_line: &NetLine<L>) -> bool
+    ensures { result ≡ is_empty net_line.now }
+{
+    let line = &net_line.line;
+    !line.in_flight(Direction::FromDte) && !line.in_flight(Direction::FromDce)
 }
 
 impl<L: Line> Nodes<L> {
@@ -41,7 +41,7 @@ impl<L: Line> Nodes<L> {
     fn are_lines_empty(&self) -> bool
         ensures { result ≡ list_all is_empty self.now.lines }
     {
-        self.lines.iter().all(|line| line.is_empty())
+        self.lines.iter().all(|line| is_empty(line))
     }
 
     /// Whether it is certain that a delivery on a line in this direction finds no frame, and so changes nothing. A line

@@ -10,7 +10,7 @@ ghost use Rattle.net_turns.specs.Users.{IsWhole, IsRefusedWith, user_fault};
 ghost use Rattle.net_nodes.specs.Turns.{LineServed, UserServed, CanServe, CanServeUser, HadTurn, CanAct, LeavesLine};
 ghost use Rattle.net_nodes.specs.Turns.{Acts, UserActs};
 
-use crate::nodes::{LineSide, NetLine, Nodes};
+use crate::nodes::{LineSide, Nodes};
 use call_records::{Book, Register};
 use line_nodes::Attachment;
 use link_timers::Role;
@@ -18,6 +18,7 @@ use memory_line::Line;
 use net_events::{Answer, LineEvent, StepFault, UserEvent};
 use net_turns::{MOST_WRITES, make_room, serve_line, serve_user};
 use placed_nodes::{Equipment, NetNode};
+use switch_turns::NetLine;
 
 /// Where the node at an end of a line is attached.
 fn attachment<L: Line>(end: LineSide, net_line: &NetLine<L>) -> Attachment
@@ -179,6 +180,7 @@ impl<L: Line> Nodes<L> {
     }
 
     /// A user does something at the node at an end of a line.
+    #[inline(always)]
     pub(super) fn user_acts(
         &mut self,
         end: LineSide,

@@ -1,4 +1,4 @@
-use Rattle.line_sim.proofs.RunsMore.{lent_refused, lent_answered, lent_wanting}
+use Rattle.line_sim.proofs.RunsMore.{lent_answered}
 use Rattle.memory_line.specs.Lines.{memory_service}
 use Rattle.line_sim.proofs.running.goes_on.Goals as goal
 

@@ -1,11 +1,12 @@
 use Rattle.std.proofs.Common.{◌≡◌, ◌<◌, ◌++◌, [], ◌∷◌, length, take, sym, ap, ◌∙◌, arith}
-use Rattle.std.specs.Prelude.{unwrap_or, slice_get}
+use Rattle.std.specs.Prelude.{unwrap_or, slice_get, Some}
 use Rattle.std.proofs.lemmas.List.{take_more}
 use Rattle.std.proofs.lemmas.Option.{get_or_from_slice_get}
+use Rattle.link_timers.specs.declared.role.Role.TheVariants.{Dce}
 use Rattle.packet_codec.specs.Digits.{digits_or_none}
 use Rattle.net_events.specs.Opening.{NewLine, NetPlan, own_configs}
 use Rattle.placed_nodes.proofs.Lists.{found, within, at_index}
-use Rattle.placed_nodes.proofs.Plans.{configs_more}
+use Rattle.placed_nodes.proofs.Plans.{some_address, configs_more}
 use Rattle.placed_nodes.proofs.making.own_configs.Goals as goal
 
 pub index-line-requires : goal.index-line-requires
@@ -45,9 +46,10 @@ loop-at-preserved c =
     let line_there = ap (λ (p : NetPlan). slice_get p.lines c.network_line-number.result) c.plan.view_is ∙ ap (slice_get c.args.plan.now.lines) number ∙ e.there in
     let line = c.line.view_is ∙ found c.plan.inside.lines.items c.network_line-number.result _ c.index-line.result.now e.line_is (within c.plan.inside.lines.items c.network_line-number.result e.line_is line_there) c.index-line.ensures line_there in
     let lines = c.args.plan.now.lines in
-    let address = ap digits_or_none (sym c.in-Some.is) ∙ ap (λ (l : NewLine). l.address) line in
+    let address = ap Some (ap digits_or_none (sym c.in-Some.is) ∙ ap (λ (l : NewLine). l.address) line)
+    ∙ sym (some_address e.line_is.address e.some) in
     let more = take_more own at 0 h ∙ ap (λ n. take at own ++ n ∷ []) (get_or_from_slice_get own at k.0 0 k.1) in
     c.in_ok-push.ensures.items
-    ∙ (λ i. c.loop-at.invariant i ++ record { params = (line i).params; address = address i } ∷ [])
+    ∙ (λ i. c.loop-at.invariant i ++ record { params = (line i).params; role = Dce; address = address i } ∷ [])
     ∙ sym (configs_more (take at own) k.0 lines e.line_is e.there)
     ∙ ap (λ xs. own_configs xs lines) (sym more)

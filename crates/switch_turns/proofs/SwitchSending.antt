@@ -16,7 +16,7 @@ use Rattle.switch_laws.specs.EventSteps.{event_steps}
 use Rattle.switch_laws.proofs.Leading.{event_leads}
 use Rattle.net_events.specs.AtSwitch.{SwitchEvent, Hears, Expires, Restarts, switched, waiting_on, line_drained}
 use Rattle.net_events.specs.declared.answer.Put.{Put}
-use Rattle.net_turns.specs.Sends.{puts_on}
+use Rattle.switch_turns.specs.Switching.{puts_on}
 use Rattle.net_turns.proofs.Sending.{put-more}
 
 -- ---- one line of a list changes

@@ -1,7 +1,7 @@
 use Rattle.std.proofs.Common.{◌≡◌, ◌+◌, ◌≤◌, ◌<◌, length, vec_len, vec_capacity}
 use Rattle.net_events.specs.AtSwitch.{waiting_on}
-use Rattle.net_turns.proofs.SwitchSending.{PuttingOn, left_on}
-use Rattle.net_turns.proofs.switching.put_switch_frames.Given as goal
+use Rattle.switch_turns.proofs.SwitchSending.{PuttingOn, left_on}
+use Rattle.switch_turns.proofs.putting.put_switch_frames.Given as goal
 
 abbrev pub invariant-loop : goal.invariant-loop
 invariant-loop g l = record {

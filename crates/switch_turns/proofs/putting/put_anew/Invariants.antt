@@ -1,7 +1,7 @@
 -- The first own lines are drained, and their frames are put and listed.
 use Rattle.std.proofs.Common.{true, ◌≡◌, ◌≤◌, ◌*◌, vec_len, vec_capacity}
-use Rattle.net_nodes.proofs.Switching.{drained_to, puts_to, PutTo}
-use Rattle.net_nodes.proofs.nodes.switching.put_anew.Given as goal
+use Rattle.switch_turns.proofs.Switching.{drained_to, puts_to, PutTo}
+use Rattle.switch_turns.proofs.putting.put_anew.Given as goal
 
 abbrev pub invariant-loop-at : goal.invariant-loop-at
 invariant-loop-at g l = record {

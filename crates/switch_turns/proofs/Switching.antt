@@ -14,8 +14,13 @@ use Rattle.switch_lines.specs.Switch.{Switch, frames_on, on_frame, on_timer, res
 use Rattle.net_events.specs.AtSwitch.{Hears, Expires, Restarts, waiting_on, line_drained, OwnLineServed, LinesServed}
 use Rattle.net_events.specs.Network.{PlacedSwitch, NetLine}
 use Rattle.net_events.specs.declared.answer.Put.{Put}
-use Rattle.net_turns.specs.Sends.{puts_on, all_puts}
-use Rattle.net_nodes.specs.Switching.{cleared, LinePut, LinesPut}
+use Rattle.switch_turns.specs.Switching.{puts_on, all_puts, cleared, LinePut, LinesPut}
+
+-- what is there is written there again
+pub set_there : {X : Type 0} (xs : List X) (n : ℕ) (x : X) → slice_get xs n ≡ Some x → set xs n x ≡ xs
+set_there [] n x e = refl
+set_there (y ∷ xs) zero x e = ap (λ z. z ∷ xs) (sym (same_Some y x e))
+set_there (y ∷ xs) (suc n) x e = ap (λ zs. y ∷ zs) (set_there xs n x e)
 
 -- ---- the first own lines are drained
 

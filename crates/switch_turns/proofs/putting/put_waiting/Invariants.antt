@@ -1,7 +1,7 @@
 -- The own lines before one of them are drained, and their frames are put and listed.
 use Rattle.std.proofs.Common.{ℕ, ◌≡◌, vec_len, vec_capacity}
-use Rattle.net_nodes.proofs.Waiting.{PutBefore}
-use Rattle.net_nodes.proofs.nodes.switching.put_waiting.Given as goal
+use Rattle.switch_turns.proofs.Waiting.{PutBefore}
+use Rattle.switch_turns.proofs.putting.put_waiting.Given as goal
 
 abbrev pub invariant-loop-at : goal.invariant-loop-at
 invariant-loop-at g l = record {

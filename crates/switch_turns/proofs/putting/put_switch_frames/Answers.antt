@@ -3,8 +3,8 @@ use Rattle.switch_lines.specs.Switch.{Switch, with_end}
 use Rattle.packet_end.specs.PacketEnd.{without_first_frame}
 use Rattle.net_events.specs.AtSwitch.{waiting_on}
 use Rattle.net_turns.proofs.Sending.{given, none-left}
-use Rattle.net_turns.proofs.SwitchSending.{length_changed, left_begins, left_less, left_ends, putting_begins, putting_more, putting_ends}
-use Rattle.net_turns.proofs.switching.put_switch_frames.Goals as goal
+use Rattle.switch_turns.proofs.SwitchSending.{length_changed, left_begins, left_less, left_ends, putting_begins, putting_more, putting_ends}
+use Rattle.switch_turns.proofs.putting.put_switch_frames.Goals as goal
 
 pub loop-init : goal.loop-init
 loop-init g c = record {

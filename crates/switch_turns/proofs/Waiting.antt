@@ -13,10 +13,10 @@ use Rattle.switch_lines.specs.Touched.{AreThere, HasAllFrames}
 use Rattle.net_events.specs.AtSwitch.{waiting_on, line_drained}
 use Rattle.net_events.specs.Network.{NetLine}
 use Rattle.net_events.specs.declared.answer.Put.{Put}
-use Rattle.net_turns.specs.Sends.{puts_on}
+use Rattle.switch_turns.specs.Switching.{puts_on}
 use Rattle.placed_nodes.proofs.Lists.{at_index}
-use Rattle.net_nodes.proofs.Serving.{set_there}
-use Rattle.net_nodes.proofs.Switching.{AreApart, PutTo, put_none, put_one, drained_to, puts_to, puts_more}
+use Rattle.switch_turns.proofs.Switching.{set_there}
+use Rattle.switch_turns.proofs.Switching.{AreApart, PutTo, put_none, put_one, drained_to, puts_to, puts_more}
 
 -- ---- a line without frames
 

@@ -5,10 +5,10 @@ use Rattle.memory_line.specs.Lines.{ArePut}
 use Rattle.switch_lines.specs.Lines.{changed}
 use Rattle.switch_lines.specs.Switch.{Switch, frames_on}
 use Rattle.net_events.specs.AtSwitch.{waiting_on, line_drained}
-use Rattle.net_turns.specs.Sends.{puts_on}
+use Rattle.switch_turns.specs.Switching.{puts_on}
 use Rattle.placed_nodes.proofs.Lists.{there, at_index}
-use Rattle.net_nodes.proofs.Switching.{drained_to, drained_more, waits_still, drained_all, length_drained, puts_to, puts_more, puts_all, put_none, put_next, put_all}
-use Rattle.net_nodes.proofs.nodes.switching.put_anew.Goals as goal
+use Rattle.switch_turns.proofs.Switching.{drained_to, drained_more, waits_still, drained_all, length_drained, puts_to, puts_more, puts_all, put_none, put_next, put_all}
+use Rattle.switch_turns.proofs.putting.put_anew.Goals as goal
 
 pub loop-at-init : goal.loop-at-init
 loop-at-init g c = record {

@@ -5,9 +5,9 @@ use Rattle.net_events.specs.AtSwitch.{HasOwnLine}
 use Rattle.net_events.specs.EventView.{switch_event_of}
 use Rattle.net_events.specs.Network.{PlacedSwitch}
 use Rattle.placed_nodes.specs.NodeView.{kind_of}
-use Rattle.net_nodes.specs.Switching.{CanPut}
-use Rattle.net_nodes.proofs.SwitchTurns.{switch_is, served_so, can_put_then}
-use Rattle.net_nodes.proofs.nodes.switching.serve_switch.Goals as goal
+use Rattle.switch_turns.specs.Switching.{CanPut}
+use Rattle.switch_turns.proofs.Turns.{switch_is, served_so, can_put_then}
+use Rattle.switch_turns.proofs.serving.serve_switch.Goals as goal
 
 pub call_switch-joined-requires : goal.call_switch-joined-requires
 call_switch-joined-requires g c =

@@ -1,0 +1,4 @@
+pub mod SwitchSending
+pub mod Switching
+mod Waiting
+pub mod Turns

@@ -1,0 +1,107 @@
+//! The frames that a switch has to send at the end of an event go onto its lines, one line after the other.
+ghost use Rattle.std.specs.Prelude.{◌≡◌, ◌≤◌, ◌<◌, ◌+◌, ◌++◌, true, false, length, vec_len, vec_capacity};
+ghost use Rattle.memory_line.specs.Lines.{ArePut};
+ghost use Rattle.memory_line.specs.declared.line.Direction.TheVariants.{FromDce};
+ghost use Rattle.switch_lines.specs.Lines.{changed};
+ghost use Rattle.net_events.specs.AtSwitch.{switch_drained, waiting_on, line_drained};
+ghost use Rattle.switch_turns.specs.Switching.{CanPut, LinesPut, puts_on, all_puts};
+
+use crate::net_line::NetLine;
+use frame_codec::FrameBuf;
+use line_end::MOST_FRAMES;
+use memory_line::{Direction, Line};
+use net_events::Put;
+use placed_nodes::network_line;
+use x25_switch::Switch;
+
+/// Puts all frames that wait on an own line of a switch on the line of this number, and lists them behind those before.
+fn put_switch_frames<L: Line>(
+    switch: &mut Switch,
+    own: usize,
+    number: usize,
+    line: &mut L,
+    puts: &mut Vec<Put>,
+)
+    requires there { own < length switch.old.lines }
+    requires room { vec_len puts.old + MOST_FRAMES ≤ vec_capacity puts.old }
+    ensures switch { switch.new ≡ record switch.old { lines = changed own line_drained switch.old.lines } }
+    ensures puts { puts.new.items ≡ puts.old.items ++ puts_on number (waiting_on own switch.old) }
+    ensures most { vec_len puts.new ≤ vec_len puts.old + MOST_FRAMES }
+    ensures capacity { vec_capacity puts.new ≡ vec_capacity puts.old }
+    ensures line { L.service.faithful
+        → ArePut L.service FromDce (waiting_on own switch.old) (L.flights line.old) (L.flights line.new) }
+{
+    for _ in 0..switch.waiting_frames(own) {
+        let mut put = Put {
+            line: number,
+            direction: Direction::FromDce,
+            octets: FrameBuf::new(),
+        };
+        switch.out(own, &mut put.octets);
+        line.put(Direction::FromDce, &put.octets);
+        puts.push_reserved(put);
+    }
+}
+
+/// Empties the lines of a switch that restarts, puts all frames that wait there on them, line by line, and lists
+/// them.
+fn put_anew<L: Line>(
+    switch: &mut Switch,
+    own: &[usize],
+    lines: &mut Vec<NetLine<L>>,
+    puts: &mut Vec<Put>,
+)
+    requires { CanPut own.now switch.old.lines lines.old.items puts.old.items (vec_capacity puts.old) }
+    ensures switch { switch.new ≡ switch_drained switch.old }
+    ensures puts { puts.new.items ≡ all_puts own.now switch.old.lines }
+    ensures lines { LinesPut L.service true own.now switch.old lines.old.items lines.new.items }
+{
+    for at in 0..own.len() {
+        let number = network_line(own, at);
+        let net_line = &mut lines[number];
+        net_line.line.empty();
+        put_switch_frames(switch, at, number, &mut net_line.line, puts);
+    }
+}
+
+/// Puts all frames that wait at a switch on its lines, line by line, and lists them. The lines on which none waits are
+/// not looked at.
+fn put_waiting<L: Line>(
+    switch: &mut Switch,
+    own: &[usize],
+    lines: &mut Vec<NetLine<L>>,
+    puts: &mut Vec<Put>,
+)
+    requires { CanPut own.now switch.old.lines lines.old.items puts.old.items (vec_capacity puts.old) }
+    ensures switch { switch.new ≡ switch_drained switch.old }
+    ensures puts { puts.new.items ≡ all_puts own.now switch.old.lines }
+    ensures lines { LinesPut L.service false own.now switch.old lines.old.items lines.new.items }
+{
+    let mut waiting = switch.with_frames();
+    while let Some(at) = waiting.take_first() {
+        let number = network_line(own, at);
+        let net_line = &mut lines[number];
+        put_switch_frames(switch, at, number, &mut net_line.line, puts);
+    }
+}
+
+/// Puts all frames that wait at a switch on its lines, line by line, and lists them. If the switch restarts,
+/// each line is emptied first.
+pub fn put_lines<L: Line>(
+    switch: &mut Switch,
+    own: &[usize],
+    lines: &mut Vec<NetLine<L>>,
+    anew: bool,
+    puts: &mut Vec<Put>,
+)
+    requires { CanPut own.now switch.old.lines lines.old.items puts.old.items (vec_capacity puts.old) }
+    ensures switch { switch.new ≡ switch_drained switch.old }
+    ensures puts { puts.new.items ≡ all_puts own.now switch.old.lines }
+    ensures lines { LinesPut L.service anew own.now switch.old lines.old.items lines.new.items }
+{
+    if anew {
+        put_anew(switch, own, lines, puts);
+    } else {
+        put_waiting(switch, own, lines, puts);
+    }
+}

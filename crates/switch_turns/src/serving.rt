@@ -1,0 +1,87 @@
+//! What happens at a switch: it is called, its frames go onto its lines, and the call that it joined is handed on.
+ghost use Rattle.std.specs.Prelude.{◌≡◌, MatchResult, length, vec_capacity};
+ghost use Rattle.std.specs.Option.{option_to_list};
+ghost use Rattle.call_records.specs.RegisterView.{register_of};
+ghost use Rattle.net_events.specs.AtSwitch.{HasOwnLine, switched, joins_of, all_handed};
+ghost use Rattle.net_events.specs.EventView.{switch_event_of};
+ghost use Rattle.net_events.specs.Network as network;
+ghost use Rattle.switch_turns.specs.Switching.{is_anew, CanServeSwitch, SwitchServed};
+
+use crate::net_line::NetLine;
+use crate::putting::put_lines;
+use call_records::{ChannelEnd, Register};
+use link_timers::Role;
+use memory_line::Line;
+use net_events::{Put, StepFault, SwitchEvent};
+use placed_nodes::{Equipment, NetNode, network_line};
+use x25_switch::{NewJoin, Switch};
+
+/// Calls the switch, and answers the call that it joined, if it did.
+fn call_switch(switch: &mut Switch, event: &SwitchEvent<'_>) -> Option<NewJoin>
+    requires { HasOwnLine (switch_event_of event.now) (length switch.old.lines) }
+    ensures join { option_to_list result ≡ joins_of (switch_event_of event.now) switch.old }
+    ensures switch { switch.new ≡ switched (switch_event_of event.now) switch.old }
+{
+    match event {
+        SwitchEvent::Hears(own, octets) => switch.on_frame(*own, octets),
+        SwitchEvent::Expires(own, timer) => {
+            let _ = switch.on_timer(*own, *timer);
+            None
+        }
+        SwitchEvent::Restarts => {
+            switch.restart();
+            None
+        }
+    }
+}
+
+/// Hands on in the register the call that a switch joined, if it did.
+fn hand_on(register: &mut Register, lines: &[usize], joined: Option<NewJoin>)
+    ensures { register_of register.new ≡ all_handed lines.now (option_to_list joined) (register_of register.old) }
+{
+    if let Some(join) = joined {
+        let (from, to) = (join.came_in, join.placed);
+        register.hand_on(
+            ChannelEnd {
+                line: network_line(lines, from.line),
+                role: Role::Dte,
+                channel: from.channel,
+            },
+            ChannelEnd {
+                line: network_line(lines, to.line),
+                role: Role::Dce,
+                channel: to.channel,
+            },
+        );
+    }
+}
+
+/// Whether the switch restarts.
+fn is_anew(event: &SwitchEvent<'_>) -> bool
+    ensures { result ≡ is_anew (switch_event_of event.now) }
+{
+    matches!(event, SwitchEvent::Restarts)
+}
+
+/// Serves an event at a switch, and lists the frames that it puts.
+pub fn serve_switch<L: Line>(
+    node: &mut NetNode,
+    lines: &mut Vec<NetLine<L>>,
+    register: &mut Register,
+    event: &SwitchEvent<'_>,
+    puts: &mut Vec<Put>,
+) -> Result<(), StepFault>
+    requires { CanServeSwitch (switch_event_of event.now) node.old lines.old.items puts.old.items
+        (vec_capacity puts.old) }
+    ensures { (n : network.PlacedSwitch) → node.old ≡ network.Switching n
+        → MatchResult result (λ _. SwitchServed L.service (switch_event_of event.now) n lines.old.items
+        (register_of register.old) node.new lines.new.items (register_of register.new) puts.new.items) (λ _. ⊥) }
+{
+    let Equipment::Switching { lines: own, switch } = &mut node.kind else {
+        return Err(StepFault::NoSuchNode);
+    };
+    let joined = call_switch(switch, event);
+    hand_on(register, own, joined);
+    put_lines(switch, own, lines, is_anew(event), puts);
+    Ok(())
+}
