@@ -23,3 +23,5 @@ mod routes;
 mod switch_steps;
 #[cfg(test)]
 mod switches;
+#[cfg(test)]
+mod trunks;

@@ -2,7 +2,7 @@
 
 ghost use Rattle.std.specs.Prelude.{◌≤◌};
 
-use crate::switch_steps::{Bench, Step};
+use crate::switch_steps::{Bench, Step, user_lines};
 use crate::switches::{BEGINNING, RESTART_BY_DTE};
 use Step::{Flow, Hears, HearsNothing, Send};
 use link_timers::TimerId;
@@ -130,7 +130,7 @@ impl Call<'_> {
     }
 
     fn holds(&self, alloc: Global, dice: &mut Dice) -> bool {
-        match Bench::new(alloc, 7) {
+        match Bench::new(alloc, &user_lines(7)) {
             Some(mut bench) => {
                 bench.begin(alloc)
                     && bench.fits(BEGINNING)

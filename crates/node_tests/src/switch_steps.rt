@@ -43,9 +43,11 @@ pub(crate) enum Step<'a> {
     Due(usize, Option<TimerId>),
     /// The switch begins anew.
     Restart,
+    /// The switch sets up the link of a line anew, of which it is the DTE.
+    SetUp(usize),
 }
 
-// The DTE's link of a line, the frames that come to it, and the packets that came.
+// The partner's link of a line, the frames that come to it, and the packets that came.
 #[derive(Drop)]
 struct Partner {
     end: Terminus,
@@ -68,16 +70,43 @@ fn collect_at(switch: &mut Switch, line: usize, coming: &mut Frames) {
 #[derive(Drop)]
 pub(crate) struct Bench {
     switch: Switch,
+    /// The partners' roles.
+    roles: [Role; 3],
     partners: Vec<Partner>,
     /// The last call that a frame joined, if no step has taken it.
     joined: Option<NewJoin>,
 }
 
-fn line_config(address: &[u8], k: u8) -> SwitchLineConfig {
+// A line to a DTE of this address.
+fn user_line(address: &[u8], k: u8) -> SwitchLineConfig {
     SwitchLineConfig {
         params: EndParams { k, ..LINE },
-        address: address_of(address),
+        role: Role::Dce,
+        address: Some(address_of(address)),
     }
+}
+
+/// The lines of three users, of which line 0 has this k.
+pub(crate) fn user_lines(k: u8) -> [SwitchLineConfig; 3] {
+    [user_line(b"1", k), user_line(b"2", 7), user_line(b"4", 7)]
+}
+
+// A trunk of so many channels, at which the switch has this role.
+fn trunk(role: Role, channels: u8) -> SwitchLineConfig {
+    SwitchLineConfig {
+        params: EndParams { channels, ..LINE },
+        role,
+        address: None,
+    }
+}
+
+/// Line 1 is a user's, and lines 0 and 2 are trunks of so many channels: of line 0 the switch is the DTE.
+pub(crate) fn trunk_lines(channels: u8) -> [SwitchLineConfig; 3] {
+    [
+        trunk(Role::Dte, channels),
+        user_line(b"2001", 7),
+        trunk(Role::Dce, channels),
+    ]
 }
 
 fn place((line, channel): (usize, u8)) -> SwitchChannel {
@@ -100,34 +129,28 @@ fn new_routes(alloc: Global) -> Option<Routes> {
     }
 }
 
-// A switch of three lines with these routes, whose line 0 has this k.
-fn switch_with(alloc: Global, routes: Routes, k: u8) -> Option<Switch> {
-    let lines = [
-        line_config(b"1", k),
-        line_config(b"2", 7),
-        line_config(b"4", 7),
-    ];
-    let config = SwitchConfig {
-        lines: &lines,
-        routes,
-    };
-    Switch::new(alloc, config).ok()
-}
-
-fn new_switch(alloc: Global, k: u8) -> Option<Switch> {
+fn new_switch(alloc: Global, lines: &[SwitchLineConfig]) -> Option<Switch> {
     match new_routes(alloc) {
-        Some(routes) => switch_with(alloc, routes, k),
+        Some(routes) => Switch::new(alloc, SwitchConfig { lines, routes }).ok(),
         None => None,
     }
 }
 
-fn new_partner(alloc: Global) -> Option<Partner> {
+// The role at the other end of a line.
+fn partner_role(line: &SwitchLineConfig) -> Role {
+    match line.role {
+        Role::Dte => Role::Dce,
+        Role::Dce => Role::Dte,
+    }
+}
+
+fn new_partner(alloc: Global, role: Role) -> Option<Partner> {
     let params = LinkParams {
         k: 7,
         n2: 3,
         standing: false,
     };
-    match Terminus::new(alloc, Role::Dte, params) {
+    match Terminus::new(alloc, role, params) {
         Ok(end) => Some(Partner {
             end,
             coming: ArrayVec::new(),
@@ -138,19 +161,24 @@ fn new_partner(alloc: Global) -> Option<Partner> {
 }
 
 // Adds a partner. Whether there is memory for it.
-fn add_partner(alloc: Global, partners: &mut Vec<Partner>) -> bool {
-    match new_partner(alloc) {
+fn add_partner(alloc: Global, role: Role, partners: &mut Vec<Partner>) -> bool {
+    match new_partner(alloc, role) {
         Some(partner) => partners.push(partner).is_ok(),
         None => false,
     }
 }
 
 impl Bench {
-    /// A new switch, whose line 0 has this k.
-    pub(crate) fn new(alloc: Global, k: u8) -> Option<Bench> {
-        match new_switch(alloc, k) {
+    /// A new switch at these lines.
+    pub(crate) fn new(alloc: Global, lines: &[SwitchLineConfig; 3]) -> Option<Bench> {
+        match new_switch(alloc, lines) {
             Some(switch) => Some(Bench {
                 switch,
+                roles: [
+                    partner_role(&lines[0]),
+                    partner_role(&lines[1]),
+                    partner_role(&lines[2]),
+                ],
                 partners: Vec::new(alloc),
                 joined: None,
             }),
@@ -160,9 +188,10 @@ impl Bench {
 
     /// Brings the partners. Whether there is memory for them.
     pub(crate) fn begin(&mut self, alloc: Global) -> bool {
-        let begun = add_partner(alloc, &mut self.partners)
-            && add_partner(alloc, &mut self.partners)
-            && add_partner(alloc, &mut self.partners);
+        let [first, second, third] = self.roles;
+        let begun = add_partner(alloc, first, &mut self.partners)
+            && add_partner(alloc, second, &mut self.partners)
+            && add_partner(alloc, third, &mut self.partners);
         self.collect();
         begun
     }
@@ -259,6 +288,7 @@ impl Bench {
             Step::Frame(octets) => return self.hears_frame(octets),
             Step::Elapse(ticks) => self.switch.elapse(ticks),
             Step::Restart => self.restart(),
+            Step::SetUp(line) => return self.sets_up(line),
             _ => return false,
         }
         true
@@ -276,6 +306,16 @@ impl Bench {
     fn restart(&mut self) {
         self.switch.restart();
         self.collect();
+    }
+
+    // The switch sets up the link of a line anew, if it is the DTE there.
+    fn sets_up(&mut self, line: usize) -> bool {
+        if line >= self.switch.lines() || self.switch.role(line) != Role::Dte {
+            return false;
+        }
+        self.switch.relink(line);
+        self.collect();
+        true
     }
 
     /// Whether a channel is joined to this one, or to none.

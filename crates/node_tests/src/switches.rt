@@ -1,6 +1,6 @@
 //! Calls through a switch.
 
-use crate::switch_steps::{Bench, Step};
+use crate::switch_steps::{Bench, Step, user_lines};
 use Step::{
     Due, Elapse, Expires, Flow, Frame, Hears, HearsNothing, Joined, Joins, JoinsNothing, Restart,
     Rests, Send, Sent,
@@ -68,7 +68,7 @@ fn play(rt: &impl Abort, alloc: Global, examples: &[Example<'_>]) {
 
 // Whether the steps of an example fit at a new switch.
 fn holds(alloc: Global, example: &Example<'_>) -> bool {
-    match Bench::new(alloc, example.k) {
+    match Bench::new(alloc, &user_lines(example.k)) {
         Some(mut bench) => {
             bench.begin(alloc) && begins(&mut bench, example.begins) && bench.fits(example.steps)
         }

@@ -1,4 +1,5 @@
-//! Worked examples of what the program stands on: its words, networks, scripts, configurations, sockets and captures.
+//! Worked examples of the program, and of what it stands on: its words, networks, scripts, configurations, sockets and
+//! captures.
 #![tactic(auto)]
 
 #[cfg(test)]
@@ -7,6 +8,8 @@ mod captures;
 mod configurations;
 #[cfg(test)]
 mod networks;
+#[cfg(test)]
+mod played;
 #[cfg(test)]
 mod scripts;
 #[cfg(test)]

@@ -109,11 +109,13 @@ pub(crate) fn switch_new(alloc: Global, blocks: u32) -> Result<Came, Came> {
     let lines = [
         SwitchLineConfig {
             params: LINE,
-            address: address(b"1001")?,
+            role: Role::Dce,
+            address: Some(address(b"1001")?),
         },
         SwitchLineConfig {
             params: LINE,
-            address: address(b"2001")?,
+            role: Role::Dce,
+            address: Some(address(b"2001")?),
         },
     ];
     let config = SwitchConfig {

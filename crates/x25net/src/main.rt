@@ -6,9 +6,6 @@ use std::io::{BufWriter, Stderr, Write};
 use std::process::ExitCode;
 use std::{env, io};
 
-#[cfg(test)]
-mod tests;
-
 fn main(rt: HostRuntime) -> ExitCode {
     let mut err = rt.stderr();
     let status = match run(&rt, &mut err) {

@@ -1,5 +1,5 @@
 //! Calls through a switch.
-use crate::tests::networks::{Case, FIRST_PAIR, FRESH, Kept, goes_so};
+use crate::played::networks::{Case, FIRST_PAIR, FRESH, Kept, goes_so};
 use net_player::Pair;
 
 /// Two hosts at a switch, of which the second has one channel.

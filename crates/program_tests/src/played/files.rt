@@ -1,6 +1,6 @@
 //! The program on files: networks and scripts that are read whole, over memory and over sockets.
-use crate::tests::output::long;
-use crate::tests::programs::ends;
+use crate::played::output::long;
+use crate::played::programs::ends;
 use std::fs;
 
 /// A PAD and a host at a switch.

@@ -1,5 +1,5 @@
 //! A call that comes from a partner of another make, which gives its address.
-use crate::tests::programs::prints_over;
+use crate::played::programs::prints_over;
 use std::io;
 use udp_line::{Datagrams, UdpLine};
 

@@ -1,6 +1,6 @@
 //! Delivery that is confirmed from end to end, through a switch.
-use crate::tests::programs::prints_on;
-use crate::tests::switched::SWITCHED;
+use crate::played::programs::prints_on;
+use crate::played::switched::SWITCHED;
 use net_files::read_net;
 use net_player::{Config, MemLine, Net};
 use std::alloc::Global;

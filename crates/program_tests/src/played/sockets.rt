@@ -1,5 +1,5 @@
 //! Partners of a line that fail at a call: what they do not carry is lost.
-use crate::tests::programs::prints_over;
+use crate::played::programs::prints_over;
 use net_files::FIRST;
 use net_player::Direction;
 use std::alloc::Global;

@@ -1,5 +1,5 @@
 //! Restarts of each node at each place of a script.
-use crate::tests::programs::played_on;
+use crate::played::programs::played_on;
 use net_files::read_net;
 use net_player::{Config, Net};
 use std::alloc::{AllocError, Global};

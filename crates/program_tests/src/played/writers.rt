@@ -1,5 +1,5 @@
 //! Writers and readers that fail at a call.
-use crate::tests::programs::ends;
+use crate::played::programs::ends;
 use net_files::{FIRST, ProgFault, read_net, read_script};
 use net_player::{Net, perform, play};
 use std::alloc::Global;

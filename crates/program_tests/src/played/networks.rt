@@ -1,5 +1,5 @@
 //! What networks keep of their calls, and a line in memory.
-use crate::tests::programs::{played_on, prints_on};
+use crate::played::programs::{played_on, prints_on};
 use frame_codec::FrameBuf;
 use net_files::{FIRST, read_net};
 use net_player::{
