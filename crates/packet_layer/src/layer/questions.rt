@@ -92,7 +92,7 @@ impl Layer {
         }
     }
 
-    /// Its role, which it keeps: of two layers on a line one is the DTE, the other one the DCE (X.25 1.1).
+    /// Its role, which it keeps: of two layers on a line one is the DTE, the other one the DCE (X.25 3).
     pub fn role(&self) -> Role
         ensures { result ≡ self.now.layer.role }
     {
