@@ -37,7 +37,7 @@ use std::alloc::Global;
 use std::marker::Model;
 use switch_joins::{Change, Joined, Joins, SwitchChannel};
 
-/// A line of a switch: its end, the address that calls from it get as their calling address, which a trunk has not, and
+/// A line of a switch: its end, the address that calls from it get as their calling address (a trunk has none), and
 /// for each of its channels what it is joined to, if it is.
 #[derive(Drop)]
 pub struct SwitchLine {
@@ -95,7 +95,7 @@ impl SwitchLine {
         self.end.role()
     }
 
-    /// The address that calls from the line get as their calling address, which a trunk has not.
+    /// The address that calls from the line get as their calling address. A trunk has none.
     pub(crate) fn address(&self) -> Option<Address>
         ensures { result ≡ self.now.line.address }
     {
