@@ -1,19 +1,21 @@
 -- What is read is in the grammar, and what is in the grammar is read.
-use Rattle.std.proofs.Common.{◌≡◌, ℕ, suc, ◌+◌, ◌*◌, ◌/◌, ◌%◌, ◌<◌, ◌≤◌, Bool, true, false, eqb, leb, ltb-false, leb-true, eqb-true, List, [], ◌∷◌, ◌++◌, length, take, drop, get_or, refl, sym, ap, subst, ◌∙◌, inl, inr, arith}
+use Rattle.std.proofs.Common.{◌≡◌, ℕ, suc, ◌+◌, ◌*◌, ◌/◌, ◌%◌, ◌<◌, ◌≤◌, Bool, true, false, eqb, leb, ltb, ltb-false, leb-true, eqb-true, List, [], ◌∷◌, ◌++◌, length, take, drop, get_or, refl, sym, ap, subst, ◌∙◌, inl, inr, arith}
 use Rattle.std.specs.Prelude.{Option, Result, Ok, Err, option_and_then, ◌&&◌, ◌||◌, not, ◌⊎◌, IfOk}
 use Rattle.std.proofs.lemmas.Bool.{eqb-false}
 use Rattle.std.proofs.lemmas.List.{append-nil}
 use Rattle.packet_codec.specs.Address.{are_decimal}
 use Rattle.packet_codec.specs.declared.fault.PacketFault.{PacketFault}
+use Rattle.packet_codec.specs.declared.packet.Numbering.{Numbering}
+use Rattle.packet_codec.specs.declared.packet.Numbering.TheVariants.{Modulo8, Modulo128}
 use Rattle.packet_codec.specs.declared.packet.Packet.{Packet}
 use Rattle.packet_codec.specs.declared.packet_type.PacketType.{PacketType}
 use Rattle.packet_codec.specs.declared.packet_type.PacketType.TheVariants as types
-use Rattle.packet_codec.specs.Packet.{PacketValue, ContentValue, ClearRequest, ClearConfirmation, InterruptConfirmation, ReceiveReady, ReceiveNotReady, ResetRequest, ResetConfirmation, RestartRequest, RestartConfirmation, IsContentOn, IsLogicalChannel, IsOtherSpelling, IsShortSpelling, IsAcceptedSpelling, PacketForm, bit, header, plain_header, address_part, facility_part, call_block, content_spelling}
-use Rattle.packet_codec.specs.Reading.{octet, admits, allowed, bit_5, bit_7, bit_8, channel_of, content_of, format_of, is_on_channel, on_channel, named_type, reading, typed, said, has_length, has_bad_address, is_too_long, called_length, address_octets, digits, after_addresses, has_addresses, has_facilities, facilities_of, user_data_of, has_call_length, ends_in_facilities, has_accepted_length, has_cause, call_value}
+use Rattle.packet_codec.specs.Packet.{PacketValue, ContentValue, ClearRequest, ClearConfirmation, InterruptConfirmation, ReceiveReady, ReceiveNotReady, ResetRequest, ResetConfirmation, RestartRequest, RestartConfirmation, IsContentOn, IsLogicalChannel, IsOtherSpelling, IsShortSpelling, IsAcceptedSpelling, PacketForm, bit, header, plain_header, address_part, facility_part, call_block, content_spelling, flow_spelling, format_id, modulus}
+use Rattle.packet_codec.specs.Reading.{octet, admits, allowed, bit_1, bit_5, bit_7, bit_8, channel_of, content_of, format_of, is_on_channel, on_channel, named_type, reading, typed, said, has_length, has_bad_address, is_too_long, called_length, address_octets, digits, after_addresses, has_addresses, has_facilities, facilities_of, user_data_of, has_call_length, ends_in_facilities, has_accepted_length, has_cause, has_flow_length, has_data_length, call_value, data_octets, receive_of}
 use Rattle.packet_codec.specs.View.{answer_view, view}
 use Rattle.packet_codec.proofs.Addresses.{and_true}
 use Rattle.packet_codec.proofs.Blocks.{AreAddresses, Splits, splits, spare_of, spare_of-half, decimal_parts, facilities_read}
-use Rattle.packet_codec.proofs.Cases.{cond_by, eq_by, Names, type_by}
+use Rattle.packet_codec.proofs.Cases.{cond_by, eq_by, Names, NamesFlow, type_by}
 use Rattle.packet_codec.proofs.Octets.{bit-eqb, header-read}
 use Rattle.packet_codec.proofs.Spellings.{reading-spelling, reading-other}
 
@@ -21,16 +23,16 @@ abbrev pub AreOctets : List ℕ → Type 0
 AreOctets bytes = (k : ℕ) → get_or bytes k 0 < 256
 
 -- what was read, if anything, is in the grammar
-abbrev pub Found : List ℕ → Result PacketValue PacketFault → Type 0
-Found bytes (Ok p) = PacketForm bytes p
-Found bytes (Err fault) = Unit {0}
+abbrev pub Found : Numbering → (size : ℕ) → List ℕ → Result PacketValue PacketFault → Type 0
+Found n size bytes (Ok p) = PacketForm n size bytes p
+Found n size bytes (Err fault) = Unit {0}
 
 -- the first three octets of a packet that can be read
-record Start (first second third : ℕ) : Type 0 where
+record Start (n : Numbering) (first second third : ℕ) : Type 0 where
   first_octet : first < 256
   second_octet : second < 256
   third_octet : third < 256
-  format : format_of first ≡ 1
+  format : format_of first ≡ format_id n
 
 no_bits : (q d : Bool) → not (q || d) ≡ true → (q ≡ false) × (d ≡ false)
 no_bits true d e = absurd (cc)
@@ -58,48 +60,50 @@ is_empty [] e = refl
 is_empty (x ∷ xs) e = let none = eqb-true (length (x ∷ xs)) 0 e in absurd (omega arith)
 
 -- a header without Q and D
-plain : (first second third : ℕ) → Start first second third → not (bit_8 first || bit_7 first) ≡ true
-    → plain_header (channel_of first second) third ≡ first ∷ second ∷ third ∷ []
-plain first second third s e =
+plain : (n : Numbering) (first second third : ℕ) → Start n first second third → not (bit_8 first || bit_7 first) ≡ true
+    → plain_header n (channel_of first second) third ≡ first ∷ second ∷ third ∷ []
+plain n first second third s e =
     let bits = no_bits (bit_8 first) (bit_7 first) e in
-    sym (λ i. header (bits.0 i) (bits.1 i) (channel_of first second) third)
-    ∙ header-read first second third s.first_octet s.second_octet s.format
+    sym (λ i. header n (bits.0 i) (bits.1 i) (channel_of first second) third)
+    ∙ header-read n first second third s.first_octet s.second_octet s.format
 
 -- octets without Q and D of a type, whose octet 3 is known
-plainly_spelled : (first second third code : ℕ) (rest behind : List ℕ) → Start first second third
+plainly_spelled : (n : Numbering) (first second third code : ℕ) (rest behind : List ℕ) → Start n first second third
     → not (bit_8 first || bit_7 first) ≡ true → third ≡ code → rest ≡ behind
-    → first ∷ second ∷ third ∷ rest ≡ plain_header (channel_of first second) code ++ behind
-plainly_spelled first second third code rest behind s e is ends =
-    sym (λ i. plain first second third s e i ++ rest) ∙ (λ i. plain_header (channel_of first second) (is i) ++ ends i)
+    → first ∷ second ∷ third ∷ rest ≡ plain_header n (channel_of first second) code ++ behind
+plainly_spelled n first second third code rest behind s e is ends =
+    sym (λ i. plain n first second third s e i ++ rest) ∙ (λ i. plain_header n (channel_of first second) (is i) ++ ends i)
 
 above_zero : (channel : ℕ) → not (eqb channel 0) ≡ true → 0 < channel
 above_zero channel e = let apart = eqb-false channel 0 (not_true (eqb channel 0) e) in omega arith
 
-is_logical : (first second third : ℕ) → Start first second third → not (eqb (channel_of first second) 0) ≡ true
+is_logical : (n : Numbering) (first second third : ℕ) → Start n first second third → not (eqb (channel_of first second) 0) ≡ true
     → IsLogicalChannel (channel_of first second)
-is_logical first second third s place =
+is_logical n first second third s place =
     let low = s.first_octet in
     let low' = s.second_octet in
     (above_zero (channel_of first second) place, omega arith)
 
 -- what is read of the octets of a packet is in the grammar
-abbrev Reads : PacketType → (first second third : ℕ) → List ℕ → Type 0
-Reads kind first second third rest =
-    PacketForm (first ∷ second ∷ third ∷ rest) record {
+abbrev Reads : Numbering → (size : ℕ) → PacketType → (first second third : ℕ) → List ℕ → Type 0
+Reads n size kind first second third rest =
+    PacketForm n size (first ∷ second ∷ third ∷ rest) record {
+      numbering = n;
       channel = channel_of first second;
       content =
-          said kind (bit_8 first) (bit_7 first) third rest;
+          said n kind (bit_8 first) (bit_7 first) third rest;
     }
 
 -- a type that goes without Q and D and has no octets after the third
-bare_form : (first second third code : ℕ) (rest : List ℕ) (content : ContentValue) → Start first second third
-    → not (bit_8 first || bit_7 first) ≡ true → IsContentOn (channel_of first second) content → third ≡ code
+bare_form : (n : Numbering) (size first second third code : ℕ) (rest : List ℕ) (content : ContentValue) → Start n first second third
+    → not (bit_8 first || bit_7 first) ≡ true → IsContentOn n size (channel_of first second) content → third ≡ code
     → eqb (length rest) 0 ≡ true
-    → content_spelling (channel_of first second) content ≡ plain_header (channel_of first second) code
-    → PacketForm (first ∷ second ∷ third ∷ rest) record { channel = channel_of first second; content = content }
-bare_form first second third code rest content s bits fits is none spells = record {
+    → content_spelling n (channel_of first second) content ≡ plain_header n (channel_of first second) code
+    → PacketForm n size (first ∷ second ∷ third ∷ rest) record { numbering = n; channel = channel_of first second; content = content }
+bare_form n size first second third code rest content s bits fits is none spells = record {
+  numbered = refl;
   fits = fits;
-  spelled = inl (plainly_spelled first second third code rest [] s bits is (is_empty rest none) ∙ sym spells);
+  spelled = inl (plainly_spelled n first second third code rest [] s bits is (is_empty rest none) ∙ sym spells);
 }
 
 -- one octet or two: cause, and diagnostic or none
@@ -114,28 +118,28 @@ causes (a ∷ b ∷ c ∷ rest) h =
     absurd (omega arith)
 
 -- a request with a cause, whose content is made of the two octets
-cause_form : (make : ℕ → ℕ → ContentValue) (first second third code : ℕ) (rest : List ℕ) → Start first second third
-    → not (bit_8 first || bit_7 first) ≡ true → third ≡ code → has_cause rest ≡ true
-    → IsContentOn (channel_of first second) (make (octet 1 rest) (octet 2 rest))
-    → ((cause diagnostic : ℕ)
-    → content_spelling (channel_of first second) (make cause diagnostic) ≡ plain_header
-    (channel_of first second) code ++ cause ∷ diagnostic ∷ []) →
-    ((bytes : List ℕ) (cause diagnostic : ℕ) → IsShortSpelling bytes
-    (channel_of first second) code cause diagnostic → IsOtherSpelling bytes (channel_of first second)
-    (make cause diagnostic)) → PacketForm
-    (first ∷ second ∷ third ∷ rest) record {
+cause_form : (n : Numbering) (size : ℕ) (make : ℕ → ℕ → ContentValue) (first second third code : ℕ) (rest : List ℕ)
+    → Start n first second third → not (bit_8 first || bit_7 first) ≡ true → third ≡ code → has_cause rest ≡ true
+    → IsContentOn n size (channel_of first second) (make (octet 1 rest) (octet 2 rest))
+    → ((cause diagnostic : ℕ) → content_spelling n (channel_of first second) (make cause diagnostic)
+    ≡ plain_header n (channel_of first second) code ++ cause ∷ diagnostic ∷ [])
+    → ((bytes : List ℕ) (cause diagnostic : ℕ)
+    → IsShortSpelling n bytes (channel_of first second) code cause diagnostic
+    → IsOtherSpelling n bytes (channel_of first second) (make cause diagnostic))
+    → PacketForm n size (first ∷ second ∷ third ∷ rest) record {
+      numbering = n;
       channel = channel_of first second;
-      content = make (octet 1 rest)
-          (octet 2 rest);
+      content = make (octet 1 rest) (octet 2 rest);
     }
-cause_form make first second third code rest s bits is len fits spells short = record {
+cause_form n size make first second third code rest s bits is len fits spells short = record {
+  numbered = refl;
   fits = fits;
   spelled = elim (causes rest len) [
-    | inl both ↦ inl (plainly_spelled first second third code rest (octet 1 rest ∷ octet 2 rest ∷ []) s bits is both
+    | inl both ↦ inl (plainly_spelled n first second third code rest (octet 1 rest ∷ octet 2 rest ∷ []) s bits is both
         ∙ sym (spells (octet 1 rest) (octet 2 rest)))
     | inr one ↦ inr (short (first ∷ second ∷ third ∷ rest) (octet 1 rest) (octet 2 rest) (
       one.0,
-      plainly_spelled first second third code rest (octet 1 rest ∷ []) s bits is one.1,
+      plainly_spelled n first second third code rest (octet 1 rest ∷ []) s bits is one.1,
     ))
   ];
 }
@@ -143,6 +147,13 @@ cause_form make first second third code rest s bits is len fits spells short = r
 data_octet : (third : ℕ) → third < 256 → third % 2 ≡ 0
     → 32 * (third / 32) + 16 * bit (bit_5 third) + 2 * (third / 2 % 8) ≡ third
 data_octet third low even = omega (arith, bit-eqb (third / 16 % 2) (omega arith))
+
+-- an octet with a number in bits 8 to 2
+number_octet : (octet : ℕ) → 2 * (octet / 2) + bit (bit_1 octet) ≡ octet
+number_octet octet = omega (arith, bit-eqb (octet % 2) (omega arith))
+
+bit_1-false : (octet : ℕ) → bit_1 octet ≡ false → octet % 2 ≡ 0
+bit_1-false octet e = let apart = eqb-false (octet % 2) 1 e in omega arith
 
 -- a block with addresses that can be read
 block_form : (block : List ℕ) → AreOctets block → has_addresses block ≡ true → are_decimal (digits block) ≡ true
@@ -156,10 +167,10 @@ block_form block octets whole decimal =
     let calling = s.calling_len in
     (s, record { are_called = (omega arith, parts.0); are_calling = (omega arith, parts.1) })
 
-call_form : (first second third : ℕ) (rest : List ℕ) → Start first second third → AreOctets rest → third ≡ 0x0b
+call_form : (n : Numbering) (size first second third : ℕ) (rest : List ℕ) → Start n first second third → AreOctets rest → third ≡ 0x0b
     → not (bit_8 first) ≡ true → not (eqb (channel_of first second) 0) ≡ true → has_call_length rest ≡ true
-    → has_bad_address types.CallRequest rest ≡ false → Reads types.CallRequest first second third rest
-call_form first second third rest s octets is bits place len good =
+    → has_bad_address types.CallRequest rest ≡ false → Reads n size types.CallRequest first second third rest
+call_form n size first second third rest s octets is bits place len good =
     let channel = channel_of first second in
     let after = after_addresses rest in
     let parts = and_true (has_addresses rest) (has_facilities after && leb (length (user_data_of after)) 16) len in
@@ -176,8 +187,9 @@ call_form first second third rest s octets is bits place len good =
     ∙ ap (λ (tail : List ℕ). address_part spare value.called value.calling ++ tail) f.0 in
     let not_qualified : bit_8 first ≡ false = not_true (bit_8 first) bits in
     record {
+      numbered = refl;
       fits = (
-        is_logical first second third s place,
+        is_logical n first second third s place,
         record {
           called = (omega arith, b.1.are_called.0, b.1.are_called.1);
           calling = b.1.are_calling;
@@ -189,18 +201,18 @@ call_form first second third rest s octets is bits place len good =
         delivery = bit_7 first;
         spare = spare;
         half = spare_of-half (take (address_octets rest) (drop 1 rest));
-        spelled = sym (λ i. header-read first second third s.first_octet s.second_octet s.format i ++ rest)
-            ∙ (λ i. header (not_qualified i) (bit_7 first) channel (is i) ++ block i);
+        spelled = sym (λ i. header-read n first second third s.first_octet s.second_octet s.format i ++ rest)
+            ∙ (λ i. header n (not_qualified i) (bit_7 first) channel (is i) ++ block i);
       };
     }
 
 -- the other spellings of an answer
-accepted_spelling : (first second third : ℕ) (rest : List ℕ) → Start first second third → AreOctets rest
+accepted_spelling : (n : Numbering) (first second third : ℕ) (rest : List ℕ) → Start n first second third → AreOctets rest
     → third ≡ 0x0f → not (bit_8 first || bit_7 first) ≡ true
     → (has_addresses rest && ends_in_facilities (after_addresses rest)) ≡ true
     → not (are_decimal (digits rest)) ≡ false
-    → IsAcceptedSpelling (first ∷ second ∷ third ∷ rest) (channel_of first second)
-accepted_spelling first second third rest s octets is bits whole good =
+    → IsAcceptedSpelling n (first ∷ second ∷ third ∷ rest) (channel_of first second)
+accepted_spelling n first second third rest s octets is bits whole good =
     let parts = and_true (has_addresses rest) (ends_in_facilities (after_addresses rest)) whole in
     let after = after_addresses rest in
     let b = block_form rest octets parts.0 (not_false (are_decimal (digits rest)) good) in
@@ -217,7 +229,7 @@ accepted_spelling first second third rest s octets is bits whole good =
             | inl none ↦ inl (is_empty after none)
             | inr some ↦ inr (alone after some)
           ];
-      spelled = plainly_spelled first second third 0x0f rest _ s bits is b.0.written;
+      spelled = plainly_spelled n first second third 0x0f rest _ s bits is b.0.written;
     }
   where
     alone : (after : List ℕ) → (has_facilities after && eqb (length (user_data_of after)) 0) ≡ true
@@ -232,117 +244,178 @@ accepted_spelling first second third rest s octets is bits whole good =
               ∙ append-nil (facility_part (facilities_of after)),
         )
 
-accepted_form : (first second third : ℕ) (rest : List ℕ) → Start first second third → AreOctets rest → third ≡ 0x0f
+accepted_form : (n : Numbering) (size first second third : ℕ) (rest : List ℕ) → Start n first second third → AreOctets rest → third ≡ 0x0f
     → not (bit_8 first || bit_7 first) ≡ true → not (eqb (channel_of first second) 0) ≡ true
     → has_accepted_length rest ≡ true → has_bad_address types.CallAccepted rest ≡ false
-    → Reads types.CallAccepted first second third rest
-accepted_form first second third rest s octets is bits place len good =
+    → Reads n size types.CallAccepted first second third rest
+accepted_form n size first second third rest s octets is bits place len good =
     elim (or_cases (eqb (length rest) 0) (has_addresses rest && ends_in_facilities (after_addresses rest)) len) [
       | inl none ↦ record {
-        fits = is_logical first second third s place;
+        numbered = refl;
+        fits = is_logical n first second third s place;
         spelled =
-            inl (plainly_spelled first second third 0x0f rest [] s bits is (is_empty rest none));
+            inl (plainly_spelled n first second third 0x0f rest [] s bits is (is_empty rest none));
       }
       | inr whole ↦ record {
-        fits = is_logical first second third s place;
+        numbered = refl;
+        fits = is_logical n first second third s place;
         spelled =
-            inr (accepted_spelling first second third rest s octets is bits whole good);
+            inr (accepted_spelling n first second third rest s octets is bits whole good);
       }
     ]
 
-form : (kind : PacketType) (first second third : ℕ) (rest : List ℕ) → Start first second third → AreOctets rest
-    → Names third kind → admits kind (bit_8 first) (bit_7 first) ≡ true
-    → is_on_channel kind (channel_of first second) ≡ true → has_length kind rest ≡ true
-    → has_bad_address kind rest ≡ false → is_too_long kind rest ≡ false → Reads kind first second third rest
-form types.CallRequest first second third rest s octets is bits place len good short =
-    call_form first second third rest s octets is bits place len good
-form types.CallAccepted first second third rest s octets is bits place len good short =
-    accepted_form first second third rest s octets is bits place len good
-form types.ClearRequest first second third rest s octets is bits place len good short =
-    cause_form ClearRequest first second third 0x13 rest s bits is len (is_logical first second third s place)
-    (λ cause diagnostic. refl) (λ bytes cause diagnostic f. f)
-form types.ClearConfirmation first second third rest s octets is bits place len good short =
-    bare_form first second third 0x17 rest ClearConfirmation s bits (is_logical first second third s place) is len refl
-form types.Data first second third rest s octets even bits place len good short =
+data_form : (n : Numbering) (size first second third : ℕ) (rest : List ℕ) → Start n first second third
+    → AreOctets rest → third % 2 ≡ 0 → not (eqb (channel_of first second) 0) ≡ true → has_data_length n rest ≡ true
+    → ltb size (length (data_octets n rest)) ≡ false → Reads n size types.Data first second third rest
+data_form Modulo8 size first second third rest s octets even place len short =
     let channel = channel_of first second in
     let third_octet = s.third_octet in
     record {
+      numbered = refl;
       fits = (
-        is_logical first second third s place,
-        record { send = omega arith; receive = omega arith; short = ltb-false 128 (length rest) short },
+        is_logical Modulo8 first second third s place,
+        record { send = omega arith; receive = omega arith; short = ltb-false size (length rest) short },
       );
-      spelled = inl (sym (λ i. header-read first second third s.first_octet s.second_octet s.format i ++ rest)
-          ∙ sym (λ i. header (bit_8 first) (bit_7 first) channel (data_octet third s.third_octet even i) ++ rest));
+      spelled = inl (sym (λ i. header-read Modulo8 first second third s.first_octet s.second_octet s.format i ++ rest)
+          ∙ sym (λ i. header Modulo8 (bit_8 first) (bit_7 first) channel (data_octet third s.third_octet even i) ++ rest));
     }
-form types.Interrupt first second third rest s octets is bits place len good short =
+data_form Modulo128 size first second third [] s octets even place len short = absurd (cc)
+data_form Modulo128 size first second third (fourth ∷ rest) s octets even place len short =
+    let channel = channel_of first second in
+    let third_octet = s.third_octet in
+    let fourth_octet : fourth < 256 = octets 0 in
+    let send : 2 * (third / 2) ≡ third = omega arith in
+    let receive = number_octet fourth in
+    record {
+      numbered = refl;
+      fits = (
+        is_logical Modulo128 first second third s place,
+        record { send = omega arith; receive = omega arith; short = ltb-false size (length rest) short },
+      );
+      spelled = inl (sym (λ i. header-read Modulo128 first second third s.first_octet s.second_octet s.format i
+          ++ fourth ∷ rest) ∙ sym (λ i. header Modulo128 (bit_8 first) (bit_7 first) channel (send i)
+          ++ receive i ∷ rest));
+    }
+
+-- one octet
+one_octet : (rest : List ℕ) → eqb (length rest) 1 ≡ true → rest ≡ octet 1 rest ∷ []
+one_octet [] e = absurd (cc)
+one_octet (a ∷ []) e = refl
+one_octet (a ∷ b ∷ rest) e = let one = eqb-true (length (a ∷ b ∷ rest)) 1 e in absurd (omega arith)
+
+-- RR or RNR, whose content is made of P(R)
+flow_form : (n : Numbering) (size code : ℕ) (make : ℕ → ContentValue) (first second third : ℕ) (rest : List ℕ)
+    → Start n first second third → AreOctets rest → NamesFlow n code third rest
+    → not (bit_8 first || bit_7 first) ≡ true → has_flow_length n rest ≡ true
+    → ((receive : ℕ) → receive < modulus n → IsContentOn n size (channel_of first second) (make receive))
+    → ((receive : ℕ) → content_spelling n (channel_of first second) (make receive) ≡ flow_spelling n
+    (channel_of first second) code receive) → PacketForm n size (first ∷ second ∷ third ∷ rest) record {
+      numbering = n;
+      channel = channel_of first second;
+      content = make (receive_of n third rest);
+    }
+flow_form Modulo8 size code make first second third rest s octets is bits len fits spells =
+    let third_octet = s.third_octet in
+    let whole : third ≡ 32 * (third / 32) + code = omega arith in
+    record {
+      numbered = refl;
+      fits = fits (third / 32) (omega arith);
+      spelled = inl (plainly_spelled Modulo8 first second third (32 * (third / 32) + code) rest [] s bits whole
+          (is_empty rest len) ∙ append-nil _ ∙ sym (spells (third / 32)));
+    }
+flow_form Modulo128 size code make first second third rest s octets is bits len fits spells =
+    let fourth_octet : octet 1 rest < 256 = octets 0 in
+    let even = bit_1-false (octet 1 rest) is.1 in
+    let receive : 2 * (octet 1 rest / 2) ≡ octet 1 rest = omega arith in
+    record {
+      numbered = refl;
+      fits = fits (octet 1 rest / 2) (omega arith);
+      spelled = inl (plainly_spelled Modulo128 first second third code rest (octet 1 rest ∷ []) s bits is.0
+          (one_octet rest len) ∙ sym (λ i. plain_header Modulo128 (channel_of first second) code ++ receive i ∷ [])
+          ∙ sym (spells (octet 1 rest / 2)));
+    }
+
+form : (n : Numbering) (size : ℕ) (kind : PacketType) (first second third : ℕ) (rest : List ℕ) → Start n first second third → AreOctets rest
+    → Names n third rest kind → admits kind (bit_8 first) (bit_7 first) ≡ true
+    → is_on_channel kind (channel_of first second) ≡ true → has_length n kind rest ≡ true
+    → has_bad_address kind rest ≡ false → is_too_long n size kind rest ≡ false → Reads n size kind first second third rest
+form n size types.CallRequest first second third rest s octets is bits place len good short =
+    call_form n size first second third rest s octets is bits place len good
+form n size types.CallAccepted first second third rest s octets is bits place len good short =
+    accepted_form n size first second third rest s octets is bits place len good
+form n size types.ClearRequest first second third rest s octets is bits place len good short =
+    cause_form n size ClearRequest first second third 0x13 rest s bits is len (is_logical n first second third s place)
+    (λ cause diagnostic. refl) (λ bytes cause diagnostic f. f)
+form n size types.ClearConfirmation first second third rest s octets is bits place len good short =
+    bare_form n size first second third 0x17 rest ClearConfirmation s bits (is_logical n first second third s place) is len refl
+form n size types.Data first second third rest s octets even bits place len good short =
+    data_form n size first second third rest s octets even place len short
+form n size types.Interrupt first second third rest s octets is bits place len good short =
     let both = and_true (leb 1 (length rest)) (leb (length rest) 32) len in
     record {
+      numbered = refl;
       fits = (
-        is_logical first second third s place,
+        is_logical n first second third s place,
         (leb-true 1 (length rest) both.0, leb-true (length rest) 32 both.1),
       );
-      spelled = inl (plainly_spelled first second third 0x23 rest rest s bits is refl);
+      spelled = inl (plainly_spelled n first second third 0x23 rest rest s bits is refl);
     }
-form types.InterruptConfirmation first second third rest s octets is bits place len good short =
-    bare_form first second third 0x27 rest InterruptConfirmation s bits
-    (is_logical first second third s place) is len refl
-form types.ReceiveReady first second third rest s octets is bits place len good short =
-    let third_octet = s.third_octet in
-    let code : third ≡ 32 * (third / 32) + 1 = omega arith in
-    bare_form first second third (32 * (third / 32) + 1) rest (ReceiveReady (third / 32)) s bits
-    (is_logical first second third s place, omega arith) code len refl
-form types.ReceiveNotReady first second third rest s octets is bits place len good short =
-    let third_octet = s.third_octet in
-    let code : third ≡ 32 * (third / 32) + 5 = omega arith in
-    bare_form first second third (32 * (third / 32) + 5) rest (ReceiveNotReady (third / 32)) s bits
-    (is_logical first second third s place, omega arith) code len refl
-form types.ResetRequest first second third rest s octets is bits place len good short =
-    cause_form ResetRequest first second third 0x1b rest s bits is len (is_logical first second third s place)
+form n size types.InterruptConfirmation first second third rest s octets is bits place len good short =
+    bare_form n size first second third 0x27 rest InterruptConfirmation s bits
+    (is_logical n first second third s place) is len refl
+form n size types.ReceiveReady first second third rest s octets names bits place len good short =
+    flow_form n size 1 ReceiveReady first second third rest s octets names bits len
+    (λ receive low. (is_logical n first second third s place, low)) (λ receive. refl)
+form n size types.ReceiveNotReady first second third rest s octets names bits place len good short =
+    flow_form n size 5 ReceiveNotReady first second third rest s octets names bits len
+    (λ receive low. (is_logical n first second third s place, low)) (λ receive. refl)
+form n size types.ResetRequest first second third rest s octets is bits place len good short =
+    cause_form n size ResetRequest first second third 0x1b rest s bits is len (is_logical n first second third s place)
     (λ cause diagnostic. refl) (λ bytes cause diagnostic f. f)
-form types.ResetConfirmation first second third rest s octets is bits place len good short =
-    bare_form first second third 0x1f rest ResetConfirmation s bits (is_logical first second third s place) is len refl
-form types.RestartRequest first second third rest s octets is bits place len good short =
-    cause_form RestartRequest first second third 0xfb rest s bits is len
+form n size types.ResetConfirmation first second third rest s octets is bits place len good short =
+    bare_form n size first second third 0x1f rest ResetConfirmation s bits (is_logical n first second third s place) is len refl
+form n size types.RestartRequest first second third rest s octets is bits place len good short =
+    cause_form n size RestartRequest first second third 0xfb rest s bits is len
     (eqb-true (channel_of first second) 0 place) (λ cause diagnostic. refl) (λ bytes cause diagnostic f. f)
-form types.RestartConfirmation first second third rest s octets is bits place len good short =
-    bare_form first second third 0xff rest RestartConfirmation s bits
+form n size types.RestartConfirmation first second third rest s octets is bits place len good short =
+    bare_form n size first second third 0xff rest RestartConfirmation s bits
     (eqb-true (channel_of first second) 0 place) is len refl
 
-found_content : (kind : PacketType) (first second third : ℕ) (rest : List ℕ) → Start first second third
-    → AreOctets rest → Names third kind → admits kind (bit_8 first) (bit_7 first) ≡ true
+found_content : (n : Numbering) (size : ℕ) (kind : PacketType) (first second third : ℕ) (rest : List ℕ) → Start n first second third
+    → AreOctets rest → Names n third rest kind → admits kind (bit_8 first) (bit_7 first) ≡ true
     → is_on_channel kind (channel_of first second) ≡ true
-    → Found (first ∷ second ∷ third ∷ rest)
-    (on_channel (channel_of first second) (content_of kind (bit_8 first) (bit_7 first) third rest))
-found_content kind first second third rest s octets names bits place =
+    → Found n size (first ∷ second ∷ third ∷ rest)
+    (on_channel n (channel_of first second) (content_of n size kind (bit_8 first) (bit_7 first) third rest))
+found_content n size kind first second third rest s octets names bits place =
     let P : Result ContentValue PacketFault → Type 0 =
-    λ r. Found (first ∷ second ∷ third ∷ rest) (on_channel (channel_of first second) r) in
-    cond_by P (not (has_length kind rest)) _ _ (λ bad. tt) (λ len.
+    λ r. Found n size (first ∷ second ∷ third ∷ rest) (on_channel n (channel_of first second) r) in
+    cond_by P (not (has_length n kind rest)) _ _ (λ bad. tt) (λ len.
     cond_by P (has_bad_address kind rest) _ _ (λ bad. tt) (λ good.
-    cond_by P (is_too_long kind rest) _ _ (λ bad. tt) (λ short.
-    form kind first second third rest s octets names bits place (not_false (has_length kind rest) len) good short)))
+    cond_by P (is_too_long n size kind rest) _ _ (λ bad. tt) (λ short.
+    form n size kind first second third rest s octets names bits place (not_false (has_length n kind rest) len) good short)))
 
-found_typed : (first second third : ℕ) (rest : List ℕ) → Start first second third → AreOctets rest
-    → Found (first ∷ second ∷ third ∷ rest) (typed (named_type first second third) first second third rest)
-found_typed first second third rest s octets =
+found_typed : (n : Numbering) (size first second third : ℕ) (rest : List ℕ) → Start n first second third → AreOctets rest
+    → Found n size (first ∷ second ∷ third ∷ rest) (typed n size (named_type n first second third rest) first second third rest)
+found_typed n size first second third rest s octets =
     let bytes = first ∷ second ∷ third ∷ rest in
     let P : Option PacketType → Type 0 =
-    λ kind. Found bytes (typed (option_and_then (allowed first second) kind) first second third rest) in
-    type_by P third
-    (λ kind names. cond_by (λ k. Found bytes (typed k first second third rest))
+    λ kind. Found n size bytes (typed n size (option_and_then (allowed first second) kind) first second third rest) in
+    type_by P n third rest
+    (λ kind names. cond_by (λ k. Found n size bytes (typed n size k first second third rest))
     (admits kind (bit_8 first) (bit_7 first) && is_on_channel kind (channel_of first second)) _ _
     (λ fits. let both = and_true (admits kind (bit_8 first) (bit_7 first))
     (is_on_channel kind (channel_of first second)) fits in
-    found_content kind first second third rest s octets names both.0 both.1)
+    found_content n size kind first second third rest s octets names both.0 both.1)
     (λ apart. tt))
     tt
 
-pub found : (bytes : List ℕ) → AreOctets bytes → Found bytes (reading bytes)
-found [] octets = tt
-found (first ∷ []) octets = tt
-found (first ∷ second ∷ []) octets = tt
-found (first ∷ second ∷ third ∷ rest) octets =
-    eq_by (λ r. Found (first ∷ second ∷ third ∷ rest) r) (format_of first) 1 _ _
-    (λ format. found_typed first second third rest record {
+pub found : (n : Numbering) (size : ℕ) (bytes : List ℕ) → AreOctets bytes → Found n size bytes (reading n size bytes)
+found n size [] octets = tt
+found n size (first ∷ []) octets = tt
+found n size (first ∷ second ∷ []) octets = tt
+found n size (first ∷ second ∷ third ∷ rest) octets =
+    eq_by (λ r. Found n size (first ∷ second ∷ third ∷ rest) r) (format_of first) (format_id n) _ _
+    (λ format. found_typed n size first second third rest record {
       first_octet = octets 0;
       second_octet = octets 1;
       third_octet = octets 2;
@@ -351,21 +424,26 @@ found (first ∷ second ∷ third ∷ rest) octets =
     (λ other. tt)
 
 -- what is in the grammar is read as the value that it is the form of
-pub reading-form : (bytes : List ℕ) (p : PacketValue) → PacketForm bytes p → reading bytes ≡ Ok p
-reading-form bytes p form = elim form.spelled [
-  | inl written ↦ ap reading written ∙ reading-spelling p form.fits
-  | inr other ↦ reading-other bytes p.channel p.content form.fits other
-]
+pub reading-form : (n : Numbering) (size : ℕ) (bytes : List ℕ) (p : PacketValue) → PacketForm n size bytes p
+    → reading n size bytes ≡ Ok p
+reading-form n size bytes p form =
+    subst (λ (m : Numbering). reading m size bytes ≡ Ok p) form.numbered (elim form.spelled [
+      | inl written ↦ ap (reading p.numbering size) written ∙ reading-spelling size p form.fits
+      | inr other ↦ reading-other p.numbering size bytes p.channel p.content form.fits other
+    ])
 
 abbrev value_of : PacketValue → Result PacketValue PacketFault → PacketValue
 value_of p (Ok q) = q
 value_of p (Err fault) = p
 
 -- octets have one value at most
-pub one_value : (bytes : List ℕ) (p q : PacketValue) → PacketForm bytes p → PacketForm bytes q → p ≡ q
-one_value bytes p q a b = ap (value_of p) (sym (reading-form bytes p a) ∙ reading-form bytes q b)
+pub one_value : (n : Numbering) (size : ℕ) (bytes : List ℕ) (p q : PacketValue) → PacketForm n size bytes p
+    → PacketForm n size bytes q → p ≡ q
+one_value n size bytes p q a b =
+    ap (value_of p) (sym (reading-form n size bytes p a) ∙ reading-form n size bytes q b)
 
-pub found_answer : (bytes : List ℕ) (answer : Result Packet PacketFault) → answer_view answer ≡ reading bytes
-    → Found bytes (reading bytes) → IfOk answer (λ p. PacketForm bytes (view p))
-found_answer bytes (Ok p) is found = subst (Found bytes) (sym is) found
-found_answer bytes (Err fault) is found = tt
+pub found_answer : (n : Numbering) (size : ℕ) (bytes : List ℕ) (answer : Result Packet PacketFault)
+    → answer_view answer ≡ reading n size bytes → Found n size bytes (reading n size bytes)
+    → IfOk answer (λ p. PacketForm n size bytes (view p))
+found_answer n size bytes (Ok p) is found = subst (Found n size bytes) (sym is) found
+found_answer n size bytes (Err fault) is found = tt

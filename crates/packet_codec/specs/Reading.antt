@@ -8,12 +8,14 @@ use Rattle.packet_codec.specs.Address.{are_decimal}
 use Rattle.packet_codec.specs.declared.fault.PacketFault.{PacketFault}
 use Rattle.packet_codec.specs.declared.fault.PacketFault.TheVariants.{TooShort, BadFormatId, UnknownType, BadLength}
 use Rattle.packet_codec.specs.declared.fault.PacketFault.TheVariants.{BadAddress, DataTooLong}
+use Rattle.packet_codec.specs.declared.packet.Numbering.{Numbering}
+use Rattle.packet_codec.specs.declared.packet.Numbering.TheVariants.{Modulo8, Modulo128}
 use Rattle.packet_codec.specs.declared.packet_type.PacketType.{PacketType}
 use Rattle.packet_codec.specs.declared.packet_type.PacketType.TheVariants as types
 use Rattle.packet_codec.specs.Packet.{PacketValue, ContentValue, CallValue, DataValue, CallRequest, CallAccepted}
 use Rattle.packet_codec.specs.Packet.{ClearRequest, ClearConfirmation, Data, Interrupt, InterruptConfirmation}
 use Rattle.packet_codec.specs.Packet.{ReceiveReady, ReceiveNotReady, ResetRequest, ResetConfirmation, RestartRequest}
-use Rattle.packet_codec.specs.Packet.{RestartConfirmation}
+use Rattle.packet_codec.specs.Packet.{RestartConfirmation, format_id}
 
 -- a bit of an octet, from 8 to 1
 abbrev pub bit_8 : ℕ → Bool
@@ -24,6 +26,13 @@ bit_7 octet = octet / 64 % 2 == 1
 
 abbrev pub bit_5 : ℕ → Bool
 bit_5 octet = octet / 16 % 2 == 1
+
+abbrev pub bit_1 : ℕ → Bool
+bit_1 octet = octet % 2 == 1
+
+-- an octet by its place, from 1; 0 past the end
+abbrev pub octet : ℕ → List ℕ → ℕ
+octet place bytes = slice_index bytes (place - 1)
 
 -- the types that have an octet of their own
 abbrev pub code_type : ℕ → Option PacketType
@@ -40,13 +49,24 @@ code_type octet =
     else if octet == 0xff then Some types.RestartConfirmation
     else None
 
--- the type that octet 3 names, if any
-abbrev pub type_of : ℕ → Option PacketType
-type_of octet =
-    if octet % 2 == 0 then Some types.Data
-    else if octet % 32 == 1 then Some types.ReceiveReady
-    else if octet % 32 == 5 then Some types.ReceiveNotReady
-    else code_type octet
+-- the type, unless bit 1 of the first octet after the third is one. A missing octet is a fault of the length
+abbrev pub numbered : PacketType → List ℕ → Option PacketType
+numbered kind rest = if bit_1 (octet 1 rest) then None else Some kind
+
+-- the type that octet 3 names, if any, where its bit 1 is one
+abbrev pub other_type : Numbering → ℕ → List ℕ → Option PacketType
+other_type Modulo8 third rest =
+    if third % 32 == 1 then Some types.ReceiveReady
+    else if third % 32 == 5 then Some types.ReceiveNotReady
+    else code_type third
+other_type Modulo128 third rest =
+    if third == 1 then numbered types.ReceiveReady rest
+    else if third == 5 then numbered types.ReceiveNotReady rest
+    else code_type third
+
+-- the type that octet 3 and the octets after it name, if any
+abbrev pub type_of : Numbering → ℕ → List ℕ → Option PacketType
+type_of numbering third rest = if third % 2 == 0 then Some types.Data else other_type numbering third rest
 
 -- Q stands in Data alone, and D in Data and, not looked at, in a Call
 abbrev pub admits : PacketType → Bool → Bool → Bool
@@ -78,13 +98,9 @@ abbrev pub allowed : (first second : ℕ) → PacketType → Option PacketType
 allowed first second kind =
     if admits kind (bit_8 first) (bit_7 first) && is_on_channel kind (channel_of first second) then Some kind else None
 
--- the type that the first three octets name, if any
-abbrev pub named_type : (first second third : ℕ) → Option PacketType
-named_type first second third = option_and_then (allowed first second) (type_of third)
-
--- an octet by its place, from 1; 0 past the end
-abbrev pub octet : ℕ → List ℕ → ℕ
-octet place bytes = slice_index bytes (place - 1)
+-- the type that the octets name, if any
+abbrev pub named_type : Numbering → (first second third : ℕ) → List ℕ → Option PacketType
+named_type numbering first second third rest = option_and_then (allowed first second) (type_of numbering third rest)
 
 -- ---- the parts of a call block. An absent octet counts as 0, which no test below lets pass
 
@@ -147,99 +163,145 @@ call_value block = record {
   user_data = user_data_of (after_addresses block);
 }
 
+-- ---- the numbers of a packet, by octet 3 and the octets after it
+
+-- a Data packet modulo 128 has an octet with P(R)
+abbrev pub has_data_length : Numbering → List ℕ → Bool
+has_data_length Modulo8 rest = true
+has_data_length Modulo128 rest = nat_le 1 (length rest)
+
+-- RR and RNR modulo 128 have one octet with P(R), and modulo 8 none
+abbrev pub has_flow_length : Numbering → List ℕ → Bool
+has_flow_length Modulo8 rest = length rest == 0
+has_flow_length Modulo128 rest = length rest == 1
+
+abbrev pub send_of : Numbering → ℕ → ℕ
+send_of Modulo8 third = third / 2 % 8
+send_of Modulo128 third = third / 2
+
+abbrev pub receive_of : Numbering → ℕ → List ℕ → ℕ
+receive_of Modulo8 third rest = third / 32
+receive_of Modulo128 third rest = octet 1 rest / 2
+
+abbrev pub more_of : Numbering → ℕ → List ℕ → Bool
+more_of Modulo8 third rest = bit_5 third
+more_of Modulo128 third rest = bit_1 (octet 1 rest)
+
+-- the user data of a Data packet
+abbrev pub data_octets : Numbering → List ℕ → List ℕ
+data_octets Modulo8 rest = rest
+data_octets Modulo128 rest = drop 1 rest
+
 -- ---- the faults, each a test of the octets
 
-abbrev pub packet_type : List ℕ → Option PacketType
-packet_type bytes = named_type (octet 1 bytes) (octet 2 bytes) (octet 3 bytes)
+abbrev pub packet_type : Numbering → List ℕ → Option PacketType
+packet_type numbering bytes =
+    named_type numbering (octet 1 bytes) (octet 2 bytes) (octet 3 bytes) (drop 3 bytes)
 
 -- the octets after the third fit the type in number
-abbrev pub has_length : PacketType → List ℕ → Bool
-has_length types.Data rest = true
-has_length types.CallRequest rest = has_call_length rest
-has_length types.CallAccepted rest = has_accepted_length rest
-has_length types.ClearRequest rest = has_cause rest
-has_length types.ResetRequest rest = has_cause rest
-has_length types.RestartRequest rest = has_cause rest
-has_length types.Interrupt rest = nat_le 1 (length rest) && nat_le (length rest) 32
-has_length _ rest = length rest == 0
+abbrev pub has_length : Numbering → PacketType → List ℕ → Bool
+has_length numbering types.Data rest = has_data_length numbering rest
+has_length numbering types.ReceiveReady rest = has_flow_length numbering rest
+has_length numbering types.ReceiveNotReady rest = has_flow_length numbering rest
+has_length numbering types.CallRequest rest = has_call_length rest
+has_length numbering types.CallAccepted rest = has_accepted_length rest
+has_length numbering types.ClearRequest rest = has_cause rest
+has_length numbering types.ResetRequest rest = has_cause rest
+has_length numbering types.RestartRequest rest = has_cause rest
+has_length numbering types.Interrupt rest = nat_le 1 (length rest) && nat_le (length rest) 32
+has_length numbering _ rest = length rest == 0
 
 abbrev pub has_bad_address : PacketType → List ℕ → Bool
 has_bad_address types.CallRequest rest = called_length rest == 0 || not (are_decimal (digits rest))
 has_bad_address types.CallAccepted rest = not (are_decimal (digits rest))
 has_bad_address _ rest = false
 
-abbrev pub is_too_long : PacketType → List ℕ → Bool
-is_too_long types.Data rest = nat_lt 128 (length rest)
-is_too_long _ rest = false
+abbrev pub is_too_long : Numbering → (size : ℕ) → PacketType → List ℕ → Bool
+is_too_long numbering size types.Data rest = nat_lt size (length (data_octets numbering rest))
+is_too_long numbering size _ rest = false
 
-abbrev pub has_fault : List ℕ → PacketFault → Bool
-has_fault bytes TooShort = nat_lt (length bytes) 3
-has_fault bytes BadFormatId = not (format_of (octet 1 bytes) == 1)
-has_fault bytes UnknownType = is_none (packet_type bytes)
-has_fault bytes BadLength = option_map_or (λ kind. not (has_length kind (drop 3 bytes))) (packet_type bytes) false
-has_fault bytes BadAddress = option_map_or (λ kind. has_bad_address kind (drop 3 bytes)) (packet_type bytes) false
-has_fault bytes DataTooLong = option_map_or (λ kind. is_too_long kind (drop 3 bytes)) (packet_type bytes) false
+-- the octets have the fault, on a line of this numbering and size
+abbrev pub has_fault : Numbering → (size : ℕ) → List ℕ → PacketFault → Bool
+has_fault numbering size bytes TooShort = nat_lt (length bytes) 3
+has_fault numbering size bytes BadFormatId = not (format_of (octet 1 bytes) == format_id numbering)
+has_fault numbering size bytes UnknownType = is_none (packet_type numbering bytes)
+has_fault numbering size bytes BadLength =
+    option_map_or (λ kind. not (has_length numbering kind (drop 3 bytes))) (packet_type numbering bytes) false
+has_fault numbering size bytes BadAddress =
+    option_map_or (λ kind. has_bad_address kind (drop 3 bytes)) (packet_type numbering bytes) false
+has_fault numbering size bytes DataTooLong =
+    option_map_or (λ kind. is_too_long numbering size kind (drop 3 bytes)) (packet_type numbering bytes) false
 
 -- the faults by number
 abbrev pub faults : List PacketFault
 faults = TooShort ∷ BadFormatId ∷ UnknownType ∷ BadLength ∷ BadAddress ∷ DataTooLong ∷ []
 
 -- the fault of the octets, which is the first in number that they have
-abbrev pub first_fault : List ℕ → Option PacketFault
-first_fault bytes = find (has_fault bytes) faults
+abbrev pub first_fault : Numbering → (size : ℕ) → List ℕ → Option PacketFault
+first_fault numbering size bytes = find (has_fault numbering size bytes) faults
 
 -- ---- the value
 
-abbrev pub data_of : (qualified delivery : Bool) → ℕ → List ℕ → DataValue
-data_of qualified delivery third rest = record {
+abbrev pub data_of : Numbering → (qualified delivery : Bool) → ℕ → List ℕ → DataValue
+data_of numbering qualified delivery third rest = record {
   qualified = qualified;
   delivery = delivery;
-  more = bit_5 third;
-  send = third / 2 % 8;
-  receive = third / 32;
-  user_data = rest;
+  more = more_of numbering third rest;
+  send = send_of numbering third;
+  receive = receive_of numbering third rest;
+  user_data = data_octets numbering rest;
 }
 
 -- what a packet of the type says, where it has no fault: its Q and D bits, octet 3 and the octets after it
-abbrev pub said : PacketType → (qualified delivery : Bool) → ℕ → List ℕ → ContentValue
-said types.CallRequest qualified delivery third rest = CallRequest (call_value rest)
-said types.CallAccepted qualified delivery third rest = CallAccepted
-said types.ClearRequest qualified delivery third rest = ClearRequest (octet 1 rest) (octet 2 rest)
-said types.ClearConfirmation qualified delivery third rest = ClearConfirmation
-said types.Data qualified delivery third rest = Data (data_of qualified delivery third rest)
-said types.Interrupt qualified delivery third rest = Interrupt rest
-said types.InterruptConfirmation qualified delivery third rest = InterruptConfirmation
-said types.ReceiveReady qualified delivery third rest = ReceiveReady (third / 32)
-said types.ReceiveNotReady qualified delivery third rest = ReceiveNotReady (third / 32)
-said types.ResetRequest qualified delivery third rest = ResetRequest (octet 1 rest) (octet 2 rest)
-said types.ResetConfirmation qualified delivery third rest = ResetConfirmation
-said types.RestartRequest qualified delivery third rest = RestartRequest (octet 1 rest) (octet 2 rest)
-said types.RestartConfirmation qualified delivery third rest = RestartConfirmation
+abbrev pub said : Numbering → PacketType → (qualified delivery : Bool) → ℕ → List ℕ → ContentValue
+said numbering types.CallRequest qualified delivery third rest = CallRequest (call_value rest)
+said numbering types.CallAccepted qualified delivery third rest = CallAccepted
+said numbering types.ClearRequest qualified delivery third rest = ClearRequest (octet 1 rest) (octet 2 rest)
+said numbering types.ClearConfirmation qualified delivery third rest = ClearConfirmation
+said numbering types.Data qualified delivery third rest = Data (data_of numbering qualified delivery third rest)
+said numbering types.Interrupt qualified delivery third rest = Interrupt rest
+said numbering types.InterruptConfirmation qualified delivery third rest = InterruptConfirmation
+said numbering types.ReceiveReady qualified delivery third rest = ReceiveReady (receive_of numbering third rest)
+said numbering types.ReceiveNotReady qualified delivery third rest = ReceiveNotReady (receive_of numbering third rest)
+said numbering types.ResetRequest qualified delivery third rest = ResetRequest (octet 1 rest) (octet 2 rest)
+said numbering types.ResetConfirmation qualified delivery third rest = ResetConfirmation
+said numbering types.RestartRequest qualified delivery third rest = RestartRequest (octet 1 rest) (octet 2 rest)
+said numbering types.RestartConfirmation qualified delivery third rest = RestartConfirmation
 
-abbrev pub content_of : PacketType → (qualified delivery : Bool) → ℕ → List ℕ → Result ContentValue PacketFault
-content_of kind qualified delivery third rest =
-    if not (has_length kind rest) then Err BadLength
+abbrev pub content_of : Numbering → (size : ℕ) → PacketType → (qualified delivery : Bool) → ℕ → List ℕ
+    → Result ContentValue PacketFault
+content_of numbering size kind qualified delivery third rest =
+    if not (has_length numbering kind rest) then Err BadLength
     else if has_bad_address kind rest then Err BadAddress
-    else if is_too_long kind rest then Err DataTooLong
-    else Ok (said kind qualified delivery third rest)
+    else if is_too_long numbering size kind rest then Err DataTooLong
+    else Ok (said numbering kind qualified delivery third rest)
 
 abbrev pub cause_of : List ℕ → Option (ℕ × ℕ)
 cause_of rest = if has_cause rest then Some (octet 1 rest, octet 2 rest) else None
 
-abbrev pub on_channel : ℕ → Result ContentValue PacketFault → Result PacketValue PacketFault
-on_channel channel (Ok content) = Ok record { channel = channel; content = content }
-on_channel channel (Err fault) = Err fault
+-- P(R) of RR and RNR
+abbrev pub number_of : Numbering → ℕ → List ℕ → Option ℕ
+number_of numbering third rest = if has_flow_length numbering rest then Some (receive_of numbering third rest) else None
 
-abbrev pub typed : Option PacketType → (first second third : ℕ) → List ℕ → Result PacketValue PacketFault
-typed None first second third rest = Err UnknownType
-typed (Some kind) first second third rest =
-    on_channel (channel_of first second) (content_of kind (bit_8 first) (bit_7 first) third rest)
+abbrev pub on_channel : Numbering → ℕ → Result ContentValue PacketFault → Result PacketValue PacketFault
+on_channel numbering channel (Ok content) =
+    Ok record { numbering = numbering; channel = channel; content = content }
+on_channel numbering channel (Err fault) = Err fault
+
+abbrev pub typed : Numbering → (size : ℕ) → Option PacketType → (first second third : ℕ) → List ℕ
+    → Result PacketValue PacketFault
+typed numbering size None first second third rest = Err UnknownType
+typed numbering size (Some kind) first second third rest =
+    on_channel numbering (channel_of first second)
+    (content_of numbering size kind (bit_8 first) (bit_7 first) third rest)
 
 -- what the octets of a packet say, or their fault
-abbrev pub reading : List ℕ → Result PacketValue PacketFault
-reading (first ∷ second ∷ third ∷ rest) =
-    if format_of first == 1 then typed (named_type first second third) first second third rest else Err BadFormatId
-reading _ = Err TooShort
+abbrev pub reading : Numbering → (size : ℕ) → List ℕ → Result PacketValue PacketFault
+reading numbering size (first ∷ second ∷ third ∷ rest) =
+    if format_of first == format_id numbering
+    then typed numbering size (named_type numbering first second third rest) first second third rest
+    else Err BadFormatId
+reading numbering size _ = Err TooShort
 
 -- the fault of an answer
 abbrev pub fault_in : {A : Type 0} → Result A PacketFault → Option PacketFault

@@ -46,7 +46,7 @@ content_view (content.RestartRequest cause diagnostic) = RestartRequest cause di
 content_view content.RestartConfirmation = RestartConfirmation
 
 abbrev pub view : Packet → PacketValue
-view p = record { channel = p.channel; content = content_view p.content }
+view p = record { numbering = p.numbering; channel = p.channel; content = content_view p.content }
 
 -- what read_packet answers, as values
 abbrev pub answer_view : Result Packet PacketFault → Result PacketValue PacketFault

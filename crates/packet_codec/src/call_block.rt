@@ -10,7 +10,7 @@ ghost use Rattle.packet_codec.specs.View.{content_answer_view};
 
 use crate::address::{Address, MAX_DIGITS};
 use crate::fault::PacketFault;
-use crate::packet::{CallData, Content, MAX_CALL_USER_DATA, MAX_FACILITIES};
+use crate::packet::{CallData, Content, MAX_CALL_USER_DATA, MAX_FACILITIES, Numbering};
 use crate::packet_type::PacketType;
 use arrayvec::ArrayVec;
 
@@ -95,7 +95,7 @@ fn all_decimal(digits: &[u8]) -> bool
 
 /// What a call block says.
 pub(crate) fn read_call(block: &[u8]) -> Result<Content<'_>, PacketFault>
-    ensures { content_answer_view result ≡ content_of PacketType.CallRequest false false 0 block.now }
+    ensures { content_answer_view result ≡ content_of Numbering.Modulo8 0 PacketType.CallRequest false false 0 block.now }
 {
     let Some(parts) = split_addresses(block) else {
         return Err(PacketFault::BadLength);
@@ -134,7 +134,7 @@ fn address_or_none(digits: &[u8]) -> Option<Address>
 
 /// Reads the call block of an answer, which is not kept.
 pub(crate) fn read_accepted(block: &[u8]) -> Result<Content<'_>, PacketFault>
-    ensures { content_answer_view result ≡ content_of PacketType.CallAccepted false false 0 block.now }
+    ensures { content_answer_view result ≡ content_of Numbering.Modulo8 0 PacketType.CallAccepted false false 0 block.now }
 {
     if block.is_empty() {
         return Ok(Content::CallAccepted);

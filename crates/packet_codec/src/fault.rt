@@ -11,7 +11,7 @@ pub enum PacketFault {
     /// The general format identifier is not that of the numbering.
     #[error("the general format identifier is not that of the line")]
     BadFormatId,
-    /// The third octet names no type, or the type does not stand with the Q bit, the D bit or the channel.
+    /// The octets from the third on name no type, or the type does not go with the Q bit, the D bit or the channel.
     #[error("the packet type is unknown or does not fit the first two octets")]
     UnknownType,
     /// The packet has too many or too few octets for its type.

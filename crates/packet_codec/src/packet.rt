@@ -4,10 +4,10 @@ use crate::address::Address;
 use crate::packet_type::PacketType;
 use arrayvec::ArrayVec;
 
-/// The most octets that a packet has.
+/// The most octets of a packet that is written.
 pub const MAX_PACKET: usize = 145;
 
-/// The most octets of user data in a Data packet.
+/// The most octets of user data in a Data packet that is written.
 pub const MAX_USER_DATA: usize = 128;
 
 /// The most octets of an Interrupt.
@@ -19,7 +19,7 @@ pub const MAX_FACILITIES: usize = 109;
 /// The most octets of call user data.
 pub const MAX_CALL_USER_DATA: usize = 16;
 
-/// The octets of a packet, in place.
+/// The octets of a packet that is written, in place.
 pub type PacketBuf = ArrayVec<u8, MAX_PACKET>;
 
 /// How packets are numbered (X.25 4.4.1).
@@ -27,11 +27,30 @@ pub type PacketBuf = ArrayVec<u8, MAX_PACKET>;
 pub enum Numbering {
     /// P(S) and P(R) are counted modulo 8.
     Modulo8,
+    /// P(S) and P(R) are counted modulo 128.
+    Modulo128,
 }
 
-/// A packet of the packet layer: its logical channel, 0 to 4,095, and what it says.
+impl Numbering {
+    ghost use Rattle.std.specs.Prelude.{◌≡◌};
+    ghost use Rattle.packet_codec.specs.Packet.{format_id};
+
+    // Bits 6 and 5 of the first octet.
+    pub(crate) fn format_id(self) -> u8
+        ensures { result ≡ format_id self }
+    {
+        match self {
+            Numbering::Modulo8 => 1,
+            Numbering::Modulo128 => 2,
+        }
+    }
+}
+
+/// A packet of the packet layer: how it is numbered, its logical channel, 0 to 4,095, and what it says.
 #[derive(Clone, Copy, PartialEq, Eq)]
 pub struct Packet<'a> {
+    /// The numbering of the line.
+    pub numbering: Numbering,
     /// The logical channel: 0 for the Restart packets.
     pub channel: u16,
     /// The type, with what it carries.
@@ -55,9 +74,9 @@ pub enum Content<'a> {
     Interrupt(&'a [u8]),
     /// Interrupt Confirmation.
     InterruptConfirmation,
-    /// Receive Ready (RR), with P(R) modulo 8.
+    /// Receive Ready (RR), with P(R).
     ReceiveReady(u8),
-    /// Receive Not Ready (RNR), with P(R) modulo 8.
+    /// Receive Not Ready (RNR), with P(R).
     ReceiveNotReady(u8),
     /// Reset Request and Reset Indication.
     ResetRequest { cause: u8, diagnostic: u8 },
@@ -91,11 +110,11 @@ pub struct DataPacket<'a> {
     pub delivery: bool,
     /// The M bit: the message goes on in the next packet.
     pub more: bool,
-    /// P(S) modulo 8.
+    /// P(S).
     pub send: u8,
-    /// P(R) modulo 8.
+    /// P(R).
     pub receive: u8,
-    /// At most 128 octets.
+    /// At most as many octets as the line carries.
     pub user_data: &'a [u8],
 }
 

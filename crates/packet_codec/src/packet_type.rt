@@ -1,7 +1,9 @@
 //! The types of packets, and which octets name them.
 
 ghost use Rattle.std.specs.Prelude.{◌≡◌};
-ghost use Rattle.packet_codec.specs.Reading.{admits, code_type, is_on_channel, type_of};
+ghost use Rattle.packet_codec.specs.Reading.{admits, code_type, is_on_channel, numbered, other_type, type_of};
+
+use crate::packet::Numbering;
 
 /// The type of a packet (X.25 5.1). A request has the same octets as the indication that goes the other way.
 #[derive(Clone, Copy, PartialEq, Eq)]
@@ -35,17 +37,41 @@ pub enum PacketType {
 }
 
 impl PacketType {
-    /// The type that the third octet names, if any.
-    pub(crate) fn of(octet: u8) -> Option<PacketType>
-        ensures { result ≡ type_of octet }
+    /// The type that the third octet and the octets after it name, if any.
+    pub(crate) fn of(numbering: Numbering, third: u8, rest: &[u8]) -> Option<PacketType>
+        ensures { result ≡ type_of numbering third rest.now }
     {
-        if octet % 2 == 0 {
+        if third % 2 == 0 {
             return Some(PacketType::Data);
         }
-        match octet % 32 {
-            1 => Some(PacketType::ReceiveReady),
-            5 => Some(PacketType::ReceiveNotReady),
-            _ => PacketType::of_code(octet),
+        PacketType::of_odd(numbering, third, rest)
+    }
+
+    // The type, if any, where bit 1 of the third octet is one.
+    fn of_odd(numbering: Numbering, third: u8, rest: &[u8]) -> Option<PacketType>
+        ensures { result ≡ other_type numbering third rest.now }
+    {
+        match numbering {
+            Numbering::Modulo8 => match third % 32 {
+                1 => Some(PacketType::ReceiveReady),
+                5 => Some(PacketType::ReceiveNotReady),
+                _ => PacketType::of_code(third),
+            },
+            Numbering::Modulo128 => match third {
+                1 => PacketType::ReceiveReady.if_numbered(rest),
+                5 => PacketType::ReceiveNotReady.if_numbered(rest),
+                _ => PacketType::of_code(third),
+            },
+        }
+    }
+
+    // The type, unless bit 1 of the octet after the third is one.
+    fn if_numbered(self, rest: &[u8]) -> Option<PacketType>
+        ensures { result ≡ numbered self rest.now }
+    {
+        match rest {
+            [octet, ..] if octet % 2 == 1 => None,
+            _ => Some(self),
         }
     }
 

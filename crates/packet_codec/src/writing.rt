@@ -1,74 +1,89 @@
 //! Writing packets.
 
-ghost use Rattle.std.specs.Prelude.{◌≡◌, ◌+◌, ◌/◌, ◌<◌, ◌≤◌, [], ◌∷◌, ◌++◌, length, IsTrue};
+ghost use Rattle.std.specs.Prelude.{◌≡◌, ◌+◌, ◌/◌, ◌<◌, ◌≤◌, ℕ, [], ◌∷◌, ◌++◌, length, IsTrue};
 ghost use Rattle.packet_codec.specs.Address.{MayBeDigits, are_decimal};
-ghost use Rattle.packet_codec.specs.Packet.{CallRequest, Data, IsCallValue, IsDataValue, IsPacket, address_part};
-ghost use Rattle.packet_codec.specs.Packet.{content_spelling, header, packed, plain_header, spelling};
+ghost use Rattle.packet_codec.specs.Packet.{CallRequest, IsCallValue, IsDataValue, IsPacket, address_part};
+ghost use Rattle.packet_codec.specs.Packet.{content_spelling, data_spelling, flow_spelling, header, modulus, packed};
+ghost use Rattle.packet_codec.specs.Packet.{plain_header, spelling};
 ghost use Rattle.packet_codec.specs.Reading.{reading};
 ghost use Rattle.packet_codec.specs.View.{call_view, data_view, view};
 
-use crate::packet::{CallData, Content, DataPacket, MAX_PACKET, Packet, PacketBuf};
+use crate::packet::{
+    CallData, Content, DataPacket, MAX_PACKET, MAX_USER_DATA, Numbering, Packet, PacketBuf,
+};
 use arrayvec::ArrayVec;
 
 /// Writes the packet's octets in place of what the buffer has (X.25 5).
 ///
 /// The packet has a spelling: it is on channel 0 if it is a Restart or its confirmation and on a channel from 1 to
-/// 4,095 otherwise, its numbers are below 8, and it has no more octets than its type may have.
+/// 4,095 otherwise, its numbers are below the modulus of its numbering, and it has no more octets than its type may
+/// have, with at most 128 of user data in a Data packet.
 pub fn write_packet(packet: &Packet, buf: &mut PacketBuf)
-    requires { IsPacket (view packet.now) }
+    requires { IsPacket MAX_USER_DATA (view packet.now) }
     ensures octets { buf.new.items ≡ spelling (view packet.now) }
-    // What is written reads back.
-    ensures reads_back { reading buf.new.items ≡ Ok (view packet.now) }
+    // What is written reads back on each line that carries it.
+    ensures reads_back { (size : ℕ) → IsPacket size (view packet.now) → reading packet.now.numbering size buf.new.items ≡ Ok (view packet.now) }
 {
     write(packet, buf);
 }
 
 fn write(packet: &Packet, buf: &mut PacketBuf)
-    requires { IsPacket (view packet.now) }
+    requires { IsPacket MAX_USER_DATA (view packet.now) }
     ensures { buf.new.items ≡ spelling (view packet.now) }
 {
-    let channel = packet.channel;
+    let (numbering, channel) = (packet.numbering, packet.channel);
     match &packet.content {
-        Content::CallRequest(call) => write_call(channel, call, buf),
-        Content::CallAccepted => begin(buf, channel, 0x0f),
+        Content::CallRequest(call) => write_call(numbering, channel, call, buf),
+        Content::CallAccepted => begin(buf, numbering, channel, 0x0f),
         Content::ClearRequest { cause, diagnostic } => {
-            write_cause(channel, 0x13, *cause, *diagnostic, buf)
+            begin(buf, numbering, channel, 0x13);
+            append_cause(buf, *cause, *diagnostic);
         }
-        Content::ClearConfirmation => begin(buf, channel, 0x17),
-        Content::Data(packet) => write_data(channel, packet, buf),
+        Content::ClearConfirmation => begin(buf, numbering, channel, 0x17),
+        Content::Data(packet) => write_data(numbering, channel, packet, buf),
         Content::Interrupt(octets) => {
-            begin(buf, channel, 0x23);
+            begin(buf, numbering, channel, 0x23);
             append(buf, octets);
         }
-        Content::InterruptConfirmation => begin(buf, channel, 0x27),
-        Content::ReceiveReady(receive) => begin(buf, channel, 32 * *receive + 1),
-        Content::ReceiveNotReady(receive) => begin(buf, channel, 32 * *receive + 5),
+        Content::InterruptConfirmation => begin(buf, numbering, channel, 0x27),
+        Content::ReceiveReady(receive) => write_flow(numbering, channel, 1, *receive, buf),
+        Content::ReceiveNotReady(receive) => write_flow(numbering, channel, 5, *receive, buf),
         Content::ResetRequest { cause, diagnostic } => {
-            write_cause(channel, 0x1b, *cause, *diagnostic, buf)
+            begin(buf, numbering, channel, 0x1b);
+            append_cause(buf, *cause, *diagnostic);
         }
-        Content::ResetConfirmation => begin(buf, channel, 0x1f),
+        Content::ResetConfirmation => begin(buf, numbering, channel, 0x1f),
         Content::RestartRequest { cause, diagnostic } => {
-            write_cause(channel, 0xfb, *cause, *diagnostic, buf)
+            begin(buf, numbering, channel, 0xfb);
+            append_cause(buf, *cause, *diagnostic);
         }
-        Content::RestartConfirmation => begin(buf, channel, 0xff),
+        Content::RestartConfirmation => begin(buf, numbering, channel, 0xff),
     }
 }
 
 // The first three octets without Q and D, in place of what the buffer has.
-fn begin(buf: &mut PacketBuf, channel: u16, type_octet: u8)
+fn begin(buf: &mut PacketBuf, numbering: Numbering, channel: u16, type_octet: u8)
     requires { channel < 4096 }
-    ensures { buf.new.items ≡ plain_header channel type_octet }
+    ensures { buf.new.items ≡ plain_header numbering channel type_octet }
 {
-    begin_with(buf, false, false, channel, type_octet);
+    begin_with(buf, numbering, (false, false), channel, type_octet);
 }
 
-// The first three octets, in place of what the buffer has.
-fn begin_with(buf: &mut PacketBuf, qualified: bool, delivery: bool, channel: u16, type_octet: u8)
+// The first three octets, with these bits Q and D, in place of what the buffer has.
+fn begin_with(
+    buf: &mut PacketBuf,
+    numbering: Numbering,
+    bits: (bool, bool),
+    channel: u16,
+    type_octet: u8,
+)
     requires { channel < 4096 }
-    ensures { buf.new.items ≡ header qualified delivery channel type_octet }
+    ensures { buf.new.items ≡ header numbering bits.0 bits.1 channel type_octet }
 {
+    let (qualified, delivery) = bits;
+    let format = 128 * u8::from(qualified) + 64 * u8::from(delivery) + 16 * numbering.format_id();
     buf.clear();
-    buf.push(128 * u8::from(qualified) + 64 * u8::from(delivery) + 16 + (channel / 256) as u8);
+    buf.push(format + (channel / 256) as u8);
     buf.push((channel % 256) as u8);
     buf.push(type_octet);
 }
@@ -80,31 +95,56 @@ fn append(buf: &mut PacketBuf, octets: &[u8])
     let _ = buf.try_extend_from_slice(octets);
 }
 
-fn write_cause(channel: u16, type_octet: u8, cause: u8, diagnostic: u8, buf: &mut PacketBuf)
-    requires { channel < 4096 }
-    ensures { buf.new.items ≡ plain_header channel type_octet ++ cause ∷ diagnostic ∷ [] }
+fn append_cause(buf: &mut PacketBuf, cause: u8, diagnostic: u8)
+    requires { length buf.old.items + 2 ≤ MAX_PACKET }
+    ensures { buf.new.items ≡ buf.old.items ++ cause ∷ diagnostic ∷ [] }
 {
-    begin(buf, channel, type_octet);
     buf.push(cause);
     buf.push(diagnostic);
 }
 
-fn write_data(channel: u16, packet: &DataPacket, buf: &mut PacketBuf)
+fn write_data(numbering: Numbering, channel: u16, packet: &DataPacket, buf: &mut PacketBuf)
     requires channel { channel < 4096 }
-    requires fits { IsDataValue (data_view packet.now) }
-    ensures { buf.new.items ≡ content_spelling channel (Data (data_view packet.now)) }
+    requires fits { IsDataValue numbering MAX_USER_DATA (data_view packet.now) }
+    ensures { buf.new.items ≡ data_spelling numbering channel (data_view packet.now) }
 {
-    let type_octet = 32 * packet.receive + 16 * u8::from(packet.more) + 2 * packet.send;
-    begin_with(buf, packet.qualified, packet.delivery, channel, type_octet);
+    let bits = (packet.qualified, packet.delivery);
+    let (more, send, receive) = (u8::from(packet.more), packet.send, packet.receive);
+    match numbering {
+        Numbering::Modulo8 => {
+            let type_octet = 32 * receive + 16 * more + 2 * send;
+            begin_with(buf, numbering, bits, channel, type_octet);
+        }
+        Numbering::Modulo128 => {
+            begin_with(buf, numbering, bits, channel, 2 * send);
+            buf.push(2 * receive + more);
+        }
+    }
     append(buf, packet.user_data);
 }
 
-fn write_call(channel: u16, call: &CallData, buf: &mut PacketBuf)
+// RR or RNR, by its code.
+fn write_flow(numbering: Numbering, channel: u16, code: u8, receive: u8, buf: &mut PacketBuf)
+    requires channel { channel < 4096 }
+    requires code { code < 32 }
+    requires number { receive < modulus numbering }
+    ensures { buf.new.items ≡ flow_spelling numbering channel code receive }
+{
+    match numbering {
+        Numbering::Modulo8 => begin(buf, numbering, channel, 32 * receive + code),
+        Numbering::Modulo128 => {
+            begin(buf, numbering, channel, code);
+            buf.push(2 * receive);
+        }
+    }
+}
+
+fn write_call(numbering: Numbering, channel: u16, call: &CallData, buf: &mut PacketBuf)
     requires channel { channel < 4096 }
     requires fits { IsCallValue (call_view call.now) }
-    ensures { buf.new.items ≡ content_spelling channel (CallRequest (call_view call.now)) }
+    ensures { buf.new.items ≡ content_spelling numbering channel (CallRequest (call_view call.now)) }
 {
-    begin(buf, channel, 0x0b);
+    begin(buf, numbering, channel, 0x0b);
     let calling = match &call.calling {
         Some(address) => address.digits(),
         None => &[],

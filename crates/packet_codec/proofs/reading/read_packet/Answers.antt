@@ -5,11 +5,13 @@ use Rattle.packet_codec.proofs.reading.read_packet.Goals as goal
 
 pub returns-clause-found : goal.returns-clause-found
 returns-clause-found c =
-    found_answer c.args.bytes.now c.read_modulo_8.result c.read_modulo_8.ensures
-    (found c.args.bytes.now (λ i. omega (arith, c.type_inv.bytes i)))
+    found_answer c.args.numbering c.args.size c.args.bytes.now c.read.result c.read.ensures
+    (found c.args.numbering c.args.size c.args.bytes.now (λ i. omega (arith, c.type_inv.bytes i)))
 
 pub returns-clause-only : goal.returns-clause-only
-returns-clause-only c = λ p form. c.read_modulo_8.ensures ∙ reading-form c.args.bytes.now p form
+returns-clause-only c =
+    λ p form. c.read.ensures ∙ reading-form c.args.numbering c.args.size c.args.bytes.now p form
 
 pub returns-clause-fault : goal.returns-clause-fault
-returns-clause-fault c = fault_in_answer c.args.bytes.now c.read_modulo_8.result c.read_modulo_8.ensures
+returns-clause-fault c =
+    fault_in_answer c.args.numbering c.args.size c.args.bytes.now c.read.result c.read.ensures

@@ -5,4 +5,6 @@ use Rattle.packet_codec.proofs.Spellings.{reading-spelling}
 use Rattle.packet_codec.proofs.writing.write_packet.Goals as goal
 
 pub returns-clause-reads_back : goal.returns-clause-reads_back
-returns-clause-reads_back c = ap reading c.write.ensures ∙ reading-spelling (view c.args.packet.now) c.requires
+returns-clause-reads_back c =
+    λ size fits. ap (reading c.args.packet.now.numbering size) c.write.ensures
+    ∙ reading-spelling size (view c.args.packet.now) fits
