@@ -1,11 +1,13 @@
 -- An open record of a call that came in and was accepted: its end is in data transfer, and where the other end stands
 -- in the same use of the channel, the present record there is that of the end that placed the call.
-use Rattle.std.specs.Prelude.{◌≡◌, ℕ, zero, suc, ◌≤◌, Bool, true, false, List, length, slice_get, Option, Some, None}
+use Rattle.std.specs.Prelude.{◌≡◌, ℕ, zero, suc, ◌<◌, ◌≤◌, Bool, true, false, List, length, slice_get, Option, Some, None}
 use Rattle.std.proofs.Common.{refl, sym, ap, ap₂, subst, ◌∙◌, arith, true≢false}
 use Rattle.std.proofs.lemmas.Option.{same_Some}
 use Rattle.link_timers.specs.declared.role.Role.{Role}
 use Rattle.link_timers.specs.declared.role.Role.TheVariants.{Dte, Dce}
 use Rattle.link_timers.specs.Role.{other_of}
+use Rattle.packet_layer.specs.Flow.{modulus}
+use Rattle.packet_channel.specs.declared.flow.Flow.{Flow}
 use Rattle.packet_layer.specs.Channel.{CallState, Channel}
 use Rattle.packet_layer.specs.Channel.CallState.{Ready, OwnWaiting, FarWaiting, Transfer, Collision, OwnClear}
 use Rattle.packet_layer.specs.Layer.{nth_channel, channel_of}
@@ -98,14 +100,14 @@ pub record IsInTransfer (w : World) (pair : PairValue) : Type 0 where
       → ((layers_at (other_of role) w.line).histories session channel).use_ ≡ ((layers_at role w.line).histories session channel).use_
       → m ≡ pair.caller
 
-module _ (dte_node dce_node channels window : ℕ) (standing : Bool) (some : 1 ≤ channels) (small : window ≤ 7) (ms : List Move)
-    (allowed : AreAllowed ms (start dte_node dce_node channels window standing)) where
+module _ (dte_node dce_node channels : ℕ) (flow : Flow) (standing : Bool) (some : 1 ≤ channels) (small : flow.window < modulus flow.numbering) (ms : List Move)
+    (allowed : AreAllowed ms (start dte_node dce_node channels flow standing)) where
   abbrev world : World
-  world = after_all ms (start dte_node dce_node channels window standing)
+  world = after_all ms (start dte_node dce_node channels flow standing)
 
-  all : KeptIn channels world (all_callers ms (start dte_node dce_node channels window standing) (made_callers standing)) × Laws channels world.line
-  all = all_kept channels ms (start dte_node dce_node channels window standing) (made_callers standing) (start_kept dte_node dce_node channels window standing some)
-      (λ hs. (line_holds channels window standing some small hs).0) (start_counts channels window standing some small) allowed
+  all : KeptIn channels world (all_callers ms (start dte_node dce_node channels flow standing) (made_callers standing)) × Laws channels world.line
+  all = all_kept channels ms (start dte_node dce_node channels flow standing) (made_callers standing) (start_kept dte_node dce_node channels flow standing some)
+      (λ hs. (line_holds channels flow standing some small hs).0) (start_counts channels flow standing some small) allowed
 
   abbrev view_at : Role → EndView
   view_at x = views_of Dte world.line.me world.line.you world.top_me world.top_you x
@@ -154,7 +156,7 @@ module _ (dte_node dce_node channels window : ℕ) (standing : Bool) (some : 1 �
       let most : c ≤ channels = subst (λ (k : ℕ). c ≤ k) (all.0.sizes.size x) range.1 in
       let mine = there_at x c range.0 most in
       let yours = there_at (other_of x) c range.0 most in
-      let law : Holds world.line q.0.session c = holds_there dte_node dce_node channels window standing some small ms allowed x c pair.callee z.2 q.0.session in
+      let law : Holds world.line q.0.session c = holds_there dte_node dce_node channels flow standing some small ms allowed x c pair.callee z.2 q.0.session in
       let in_call : mine.0.state ≡ Transfer = used_at x q.0.session c mine.0 law q.0.up mine.1 answered in
       let slot : SlotIs Open (view_at x) all.0.tags x c (slot_at x c world.book) =
       subst (λ (m : CallStatus). SlotIs m (view_at x) all.0.tags x c (slot_at x c world.book)) (open_status x c mine.0 mine.1 in_call) (right.slot x c) in

@@ -136,11 +136,11 @@ module _ (n : ℕ) (v : World) (tags : List Tag) (right : IsRight (views_of Dte 
   )
 
 pub pairs_accepted : AcceptedLaw
-pairs_accepted dte_node dce_node channels window standing some small ms allowed =
-    let w : World = after_all ms (start dte_node dce_node channels window standing) in
-    let k : KeptIn channels w (all_callers ms (start dte_node dce_node channels window standing) (made_callers standing)) × Laws channels w.line =
-    all_kept channels ms (start dte_node dce_node channels window standing) (made_callers standing) (start_kept dte_node dce_node channels window standing some)
-    (λ hs. (line_holds channels window standing some small hs).0) (start_counts channels window standing some small) allowed in
+pairs_accepted dte_node dce_node channels flow standing some small ms allowed =
+    let w : World = after_all ms (start dte_node dce_node channels flow standing) in
+    let k : KeptIn channels w (all_callers ms (start dte_node dce_node channels flow standing) (made_callers standing)) × Laws channels w.line =
+    all_kept channels ms (start dte_node dce_node channels flow standing) (made_callers standing) (start_kept dte_node dce_node channels flow standing some)
+    (λ hs. (line_holds channels flow standing some small hs).0) (start_counts channels flow standing some small) allowed in
     all_accepted channels w k.0.tags k.0.right k.0.here.count k.0.there.count k.1
 
 pub accepted_run : AcceptedRun

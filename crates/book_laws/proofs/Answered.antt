@@ -131,8 +131,8 @@ kept_answered n w cs k law = record { came = came; paired = found; placed = plac
         (λ s up. (law s c h.0 h.1).accepted_there ch 0 up at (transfer_state ch.state open_))
 
 pub are_answered : AnsweredLaw
-are_answered dte_node dce_node channels window standing some small ms allowed =
-    let w : World = after_all ms (start dte_node dce_node channels window standing) in
-    let k = all_kept channels ms (start dte_node dce_node channels window standing) (made_callers standing) (start_kept dte_node dce_node channels window standing some)
-    (λ hs. (line_holds channels window standing some small hs).0) (start_counts channels window standing some small) allowed in
+are_answered dte_node dce_node channels flow standing some small ms allowed =
+    let w : World = after_all ms (start dte_node dce_node channels flow standing) in
+    let k = all_kept channels ms (start dte_node dce_node channels flow standing) (made_callers standing) (start_kept dte_node dce_node channels flow standing some)
+    (λ hs. (line_holds channels flow standing some small hs).0) (start_counts channels flow standing some small) allowed in
     kept_answered channels w _ k.0 (λ s c least most. k.1 [] s c least most)

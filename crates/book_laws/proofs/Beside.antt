@@ -57,7 +57,7 @@ kept_beside n w cs k = record { channels = λ role. channels role; present = λ 
     present Dce c = slot_call (status_at Dce (channel_of w.line.you.layer c)) _ k.tags Dce c (slot_at Dce c w.book) (k.right.slot Dce c) ∙ status_call Dce (channel_of w.line.you.layer c)
 
 pub is_beside : PresentLaw
-is_beside dte_node dce_node channels window standing some small ms allowed =
-    kept_beside channels (after_all ms (start dte_node dce_node channels window standing)) _
-    (all_kept channels ms (start dte_node dce_node channels window standing) (made_callers standing) (start_kept dte_node dce_node channels window standing some)
-    (λ hs. (line_holds channels window standing some small hs).0) (start_counts channels window standing some small) allowed).0
+is_beside dte_node dce_node channels flow standing some small ms allowed =
+    kept_beside channels (after_all ms (start dte_node dce_node channels flow standing)) _
+    (all_kept channels ms (start dte_node dce_node channels flow standing) (made_callers standing) (start_kept dte_node dce_node channels flow standing some)
+    (λ hs. (line_holds channels flow standing some small hs).0) (start_counts channels flow standing some small) allowed).0

@@ -6,19 +6,19 @@ use Rattle.book_laws.proofs.Lines.{all_kept, kept_holds, kept_calls, kept_caller
 use Rattle.book_laws.proofs.Starting.{start_kept}
 
 pub book_holds : BookLaw
-book_holds dte_node dce_node channels window standing some small ms allowed =
-    let v = all_kept channels ms (start dte_node dce_node channels window standing) (made_callers standing) (start_kept dte_node dce_node channels window standing some)
-    (λ hs. (line_holds channels window standing some small hs).0) (start_counts channels window standing some small) allowed in
-    kept_holds channels (after_all ms (start dte_node dce_node channels window standing)) _ v.0 v.1
+book_holds dte_node dce_node channels flow standing some small ms allowed =
+    let v = all_kept channels ms (start dte_node dce_node channels flow standing) (made_callers standing) (start_kept dte_node dce_node channels flow standing some)
+    (λ hs. (line_holds channels flow standing some small hs).0) (start_counts channels flow standing some small) allowed in
+    kept_holds channels (after_all ms (start dte_node dce_node channels flow standing)) _ v.0 v.1
 
 pub calls_hold : CallsLaw
-calls_hold dte_node dce_node channels window standing some small ms allowed =
-    let v = all_kept channels ms (start dte_node dce_node channels window standing) (made_callers standing) (start_kept dte_node dce_node channels window standing some)
-    (λ hs. (line_holds channels window standing some small hs).0) (start_counts channels window standing some small) allowed in
-    kept_calls channels (after_all ms (start dte_node dce_node channels window standing)) _ v.0 v.1
+calls_hold dte_node dce_node channels flow standing some small ms allowed =
+    let v = all_kept channels ms (start dte_node dce_node channels flow standing) (made_callers standing) (start_kept dte_node dce_node channels flow standing some)
+    (λ hs. (line_holds channels flow standing some small hs).0) (start_counts channels flow standing some small) allowed in
+    kept_calls channels (after_all ms (start dte_node dce_node channels flow standing)) _ v.0 v.1
 
 pub callers_recorded : CallersLaw
-callers_recorded dte_node dce_node channels window standing some small ms allowed =
-    let v = all_kept channels ms (start dte_node dce_node channels window standing) (made_callers standing) (start_kept dte_node dce_node channels window standing some)
-    (λ hs. (line_holds channels window standing some small hs).0) (start_counts channels window standing some small) allowed in
-    kept_callers channels (after_all ms (start dte_node dce_node channels window standing)) _ v.0
+callers_recorded dte_node dce_node channels flow standing some small ms allowed =
+    let v = all_kept channels ms (start dte_node dce_node channels flow standing) (made_callers standing) (start_kept dte_node dce_node channels flow standing some)
+    (λ hs. (line_holds channels flow standing some small hs).0) (start_counts channels flow standing some small) allowed in
+    kept_callers channels (after_all ms (start dte_node dce_node channels flow standing)) _ v.0

@@ -54,13 +54,13 @@ on_is OwnRestart l c f = refl
 on_is NoSession l c f = refl
 
 abbrev step_of : Layer → Packet → Channel → Step
-step_of l p ch = received l.role l.window p.channel ch p.body
+step_of l p ch = received l.role l.flow p.channel ch p.body
 
 abbrev layer_at : Bool → Phase → Option Channel → Layer → Packet → Layer
 layer_at v ph o l p = cond v (restart_packet ph p.body (unread l)) (on_by ph (unread l) p.channel (λ ch. step_of l p ch) o)
 
 abbrev history_at : Bool → Phase → Option Channel → Layer → Packet → ℕ → History → History
-history_at v ph o l p c st = cond v (restart_history ph p.body st) (cond (c == p.channel) (channel_history ph o (λ ch z. received_history l.role l.window p.channel ch p.body z) st) st)
+history_at v ph o l p c st = cond v (restart_history ph p.body st) (cond (c == p.channel) (channel_history ph o (λ ch z. received_history l.role l.flow p.channel ch p.body z) st) st)
 
 abbrev arrived : Bool → Phase → Option Channel → End → ℕ → Packet → End
 arrived v ph o e s p = moved_end e (layer_at v ph o e.layer p) (λ c st. history_at v ph o e.layer p c st) (one_more e s)
@@ -143,11 +143,11 @@ arrival_of n e y te ty b cs s d body ch k up next order phase found parts is sta
 channel_in : (n : ℕ) (e y : End) (te ty : ℕ) (b : Book) (cs : List (Option ℕ)) (s d : ℕ) (body : Body) (ph : Phase) (o : Option Channel) → KeptAt n e.layer.role e y te ty b cs → Facts n e y → e.session ≡ Some s → next_of_session (record { me = e; you = y }) s ≡ Some (record { channel = d; body = body }) → ty ≤ s → e.layer.phase ≡ ph
     → channel_of e.layer d ≡ o → Arrived n e y te ty b cs s (record { channel = d; body = body }) false ph o
 channel_in n e y te ty b cs s d body PacketReady (Some ch) k facts up next order phase found =
-    let st : Step = received e.layer.role e.layer.window d ch body in
-    on_one n e y te ty b cs s d ch (owing st) st.channel (after_step (unread e.layer) d st) (λ c z. cond (c == d) (received_history e.layer.role e.layer.window d ch body z) z) (one_more e s)
-    (λ z. received_history e.layer.role e.layer.window d ch body z) (λ v. all_told e.layer.role st.notes v) (λ v l. all_came_by e.layer.role st.notes v l) (λ parts. body ≡ Call parts) k facts up found refl refl refl refl
-    (λ z. here_history d (received_history e.layer.role e.layer.window d ch body z) z) (λ c z h. else_history c d (received_history e.layer.role e.layer.window d ch body z) z h) (more_rises e s)
-    (arrival_of n e y te ty b cs s d body ch k up next order phase found) (received_outcome e.layer.role e.layer.window d ch body)
+    let st : Step = received e.layer.role e.layer.flow d ch body in
+    on_one n e y te ty b cs s d ch (owing st) st.channel (after_step (unread e.layer) d st) (λ c z. cond (c == d) (received_history e.layer.role e.layer.flow d ch body z) z) (one_more e s)
+    (λ z. received_history e.layer.role e.layer.flow d ch body z) (λ v. all_told e.layer.role st.notes v) (λ v l. all_came_by e.layer.role st.notes v l) (λ parts. body ≡ Call parts) k facts up found refl refl refl refl
+    (λ z. here_history d (received_history e.layer.role e.layer.flow d ch body z) z) (λ c z h. else_history c d (received_history e.layer.role e.layer.flow d ch body z) z h) (more_rises e s)
+    (arrival_of n e y te ty b cs s d body ch k up next order phase found) (received_outcome e.layer.role e.layer.flow d ch body)
 channel_in n e y te ty b cs s d body PacketReady None k facts up next order phase found = counts_only n e y te ty b cs s (unread e.layer) (λ c st. cond (c == d) st st) k refl refl refl (λ c st. same_if (c == d) st)
 channel_in n e y te ty b cs s d body OwnRestart o k facts up next order phase found = counts_only n e y te ty b cs s (unread e.layer) (λ c st. cond (c == d) st st) k refl refl refl (λ c st. same_if (c == d) st)
 channel_in n e y te ty b cs s d body NoSession o k facts up next order phase found = counts_only n e y te ty b cs s (unread e.layer) (λ c st. cond (c == d) st st) k refl refl refl (λ c st. same_if (c == d) st)

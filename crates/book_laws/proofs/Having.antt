@@ -33,9 +33,9 @@ module _ (views : Role → EndView) (b : Book) (tags : List Tag) (w : IsRight vi
   }
 
 pub have_records : RecordsLaw
-have_records dte_node dce_node channels window standing some small ms allowed =
-    let w : World = after_all ms (start dte_node dce_node channels window standing) in
-    let k : KeptIn channels w (all_callers ms (start dte_node dce_node channels window standing) (made_callers standing)) =
-    (all_kept channels ms (start dte_node dce_node channels window standing) (made_callers standing) (start_kept dte_node dce_node channels window standing some)
-    (λ hs. (line_holds channels window standing some small hs).0) (start_counts channels window standing some small) allowed).0 in
+have_records dte_node dce_node channels flow standing some small ms allowed =
+    let w : World = after_all ms (start dte_node dce_node channels flow standing) in
+    let k : KeptIn channels w (all_callers ms (start dte_node dce_node channels flow standing) (made_callers standing)) =
+    (all_kept channels ms (start dte_node dce_node channels flow standing) (made_callers standing) (start_kept dte_node dce_node channels flow standing some)
+    (λ hs. (line_holds channels flow standing some small hs).0) (start_counts channels flow standing some small) allowed).0 in
     right_records _ w.book k.tags k.right

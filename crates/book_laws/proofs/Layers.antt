@@ -5,6 +5,7 @@ use Rattle.std.proofs.lemmas.Option.{none-some, same_Some, slice_get_within}
 use Rattle.std.proofs.lemmas.Bool.{eq-eqb, ne_eqb}
 use Rattle.link_timers.specs.declared.role.Role.{Role}
 use Rattle.link_timers.specs.declared.role.Role.TheVariants.{Dte, Dce}
+use Rattle.packet_channel.specs.declared.flow.Flow.{Flow}
 use Rattle.packet_layer.specs.Packets.{Body}
 use Rattle.packet_layer.specs.Channel.{CallState, Channel, closed_channel, has_flow}
 use Rattle.packet_layer.specs.Layer.{Phase, Layer, Next, ChannelNext, nth_channel, channel_of, with_nth, next_packet, next_in, next_restart, serve, serve_found, next_of, next_owed, next_number, is_free, is_ready, free_channel, lowest_free, highest_free, either_of, itself_if, raised}
@@ -109,9 +110,9 @@ pub record SameLayer (x : Role) (l l' : Layer) : Type 0 where
 pub layer_refl : (x : Role) (l : Layer) → SameLayer x l l
 layer_refl x l = record { status = λ c. refl; role = refl; phase = refl; count = refl }
 
-next_state : (w : ℕ) (owed : List Body) (ch : Channel) → (next_owed w owed ch).channel.state ≡ ch.state
-next_state w (b ∷ bs) ch = refl
-next_state w [] ch = either_way (λ (n : ChannelNext). n.channel.state ≡ ch.state) (has_flow ch) _ _ refl refl
+next_state : (flow : Flow) (owed : List Body) (ch : Channel) → (next_owed flow owed ch).channel.state ≡ ch.state
+next_state flow (b ∷ bs) ch = refl
+next_state flow [] ch = either_way (λ (n : ChannelNext). n.channel.state ≡ ch.state) (has_flow ch) _ _ refl refl
 
 put_status : (x : Role) (chs : List Channel) (d : ℕ) (ch ch' : Channel) → nth_channel chs d ≡ Some ch → ch'.state ≡ ch.state → (c : ℕ) → status_at x (nth_channel (with_nth chs d ch') c) ≡ status_at x (nth_channel chs c)
 put_status x chs d ch ch' found same c =
@@ -124,12 +125,12 @@ put_status x chs d ch ch' found same c =
 serve_found_same : (x : Role) (k : ℕ) (l : Layer) (d : ℕ) (o : Option Channel) → channel_of l d ≡ o → SameLayer x l (serve k l (next_number l d)).layer → SameLayer x l (serve_found l d o (serve k l (next_number l d))).layer
 serve_found_same x k l d None e h = h
 serve_found_same x k l d (Some ch) e h =
-    either_way (λ (m : Next). SameLayer x l m.layer) (is_some (next_of l.window ch).body) _ (serve k l (next_number l d))
+    either_way (λ (m : Next). SameLayer x l m.layer) (is_some (next_of l.flow ch).body) _ (serve k l (next_number l d))
     (record {
-      status = put_status x l.channels d ch (next_of l.window ch).channel e (next_state l.window ch.owed ch);
+      status = put_status x l.channels d ch (next_of l.flow ch).channel e (next_state l.flow ch.owed ch);
       role = refl;
       phase = refl;
-      count = put_length l.channels d (next_of l.window ch).channel;
+      count = put_length l.channels d (next_of l.flow ch).channel;
     }) h
 
 serve_same : (x : Role) (k : ℕ) (l : Layer) (d : ℕ) → SameLayer x l (serve k l d).layer

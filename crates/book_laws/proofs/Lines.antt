@@ -1,10 +1,12 @@
 -- Whatever happens at the two ends of a line keeps its book right.
-use Rattle.std.specs.Prelude.{◌≡◌, ℕ, zero, suc, ◌≤◌, Bool, true, false, cond, ◌&&◌, ◌||◌, List, [], ◌∷◌, length, map, slice_get, Option, Some, None}
+use Rattle.std.specs.Prelude.{◌≡◌, ℕ, zero, suc, ◌<◌, ◌≤◌, Bool, true, false, cond, ◌&&◌, ◌||◌, List, [], ◌∷◌, length, map, slice_get, Option, Some, None}
 use Rattle.std.proofs.Common.{inl, inr, refl, sym, ap, subst, ◌∙◌, length-append, arith, true≢false}
 use Rattle.std.proofs.lemmas.Bool.{ltb-true}
 use Rattle.link_timers.specs.declared.role.Role.{Role}
 use Rattle.link_timers.specs.declared.role.Role.TheVariants.{Dte, Dce}
 use Rattle.link_timers.specs.Role.{other_of}
+use Rattle.packet_layer.specs.Flow.{modulus}
+use Rattle.packet_channel.specs.declared.flow.Flow.{Flow}
 use Rattle.pad_editing.specs.Edited.{Step}
 use Rattle.packet_layer.specs.Packets.{Packet, Datum}
 use Rattle.packet_layer.specs.Layer.{link_up, runs, channel_given}
@@ -181,10 +183,10 @@ Laws n w = (hs : List Happening) (s c : ℕ) → 1 ≤ c → c ≤ n → Holds (
 
 -- and its numbers
 abbrev pub Counts : ℕ → Line → Type 0
-Counts n w = (hs : List Happening) (s c : ℕ) → 1 ≤ c → c ≤ n → (window : ℕ) × (window ≤ 7) × IsCounted window (after hs w).me s c × IsCounted window (after hs w).you s c
+Counts n w = (hs : List Happening) (s c : ℕ) → 1 ≤ c → c ≤ n → (flow : Flow) × (flow.window < modulus flow.numbering) × IsCounted flow (after hs w).me s c × IsCounted flow (after hs w).you s c
 
-pub start_counts : (channels window : ℕ) (standing : Bool) → 1 ≤ channels → window ≤ 7 → Counts channels (start_line channels window standing)
-start_counts channels window standing some small hs s c least most = let k = line_counts channels window standing some small hs s c least most in (window, small, k.0, k.1)
+pub start_counts : (channels : ℕ) (flow : Flow) (standing : Bool) → 1 ≤ channels → flow.window < modulus flow.numbering → Counts channels (start_line channels flow standing)
+start_counts channels flow standing some small hs s c least most = let k = line_counts channels flow standing some small hs s c least most in (flow, small, k.0, k.1)
 
 pub covered_within : (e f : Epoch) → Aligned e f → e.covered ≤ length e.sent
 covered_within e f a =

@@ -1,5 +1,5 @@
 -- A step on one channel of an end keeps the book right.
-use Rattle.std.specs.Prelude.{◌≡◌, ◌≢◌, ℕ, zero, suc, ◌≤◌, ◌⊎◌, Bool, true, false, ◌&&◌, List, [], ◌∷◌, ◌++◌, length, map, slice_get, is_some, Option, Some, None}
+use Rattle.std.specs.Prelude.{◌≡◌, ◌≢◌, ℕ, zero, suc, ◌<◌, ◌≤◌, ◌⊎◌, Bool, true, false, ◌&&◌, List, [], ◌∷◌, ◌++◌, length, map, slice_get, is_some, Option, Some, None}
 use Rattle.std.proofs.Common.{inl, inr, refl, sym, ap, subst, ◌∙◌, arith, true≢false}
 use Rattle.std.specs.Option.{IsSome}
 use Rattle.std.proofs.lemmas.Option.{none-some, same_Some}
@@ -7,6 +7,8 @@ use Rattle.std.proofs.lemmas.Bool.{lt-ltb}
 use Rattle.link_timers.specs.declared.role.Role.{Role}
 use Rattle.link_timers.specs.declared.role.Role.TheVariants.{Dte, Dce}
 use Rattle.link_timers.specs.Role.{other_of}
+use Rattle.packet_layer.specs.Flow.{modulus}
+use Rattle.packet_channel.specs.declared.flow.Flow.{Flow}
 use Rattle.packet_layer.specs.Packets.{CallParts}
 use Rattle.packet_layer.specs.Channel.{CallState, Channel}
 use Rattle.packet_layer.specs.Channel.CallState.{Ready, OwnWaiting, FarWaiting, Transfer, Collision, OwnClear}
@@ -53,7 +55,7 @@ pub record KeptAt (n : ℕ) (x : Role) (e y : End) (te ty : ℕ) (b : Book) (cs 
 
 -- the numbers of a channel in data transfer name the counts of its present epoch
 abbrev pub AreCounts : End → (s c : ℕ) → Type 0
-AreCounts e s c = (window : ℕ) × (window ≤ 7) × IsCounted window e s c
+AreCounts e s c = (flow : Flow) × (flow.window < modulus flow.numbering) × IsCounted flow e s c
 
 -- what the law of the line says at one end
 pub record Facts (n : ℕ) (e y : End) : Type 0 where

@@ -1,10 +1,12 @@
 -- The last epochs of present records are the present ones of their channels; two open records of a pair share a channel.
-use Rattle.std.specs.Prelude.{◌≡◌, ℕ, zero, suc, ◌≤◌, Bool, List, [], ◌∷◌, length, slice_get, Option, Some, None}
+use Rattle.std.specs.Prelude.{◌≡◌, ℕ, zero, suc, ◌<◌, ◌≤◌, Bool, List, [], ◌∷◌, length, slice_get, Option, Some, None}
 use Rattle.std.proofs.Common.{refl, sym, ap, subst, ◌∙◌, arith}
 use Rattle.std.proofs.lemmas.Option.{none-some, slice_get_within}
 use Rattle.link_timers.specs.declared.role.Role.{Role}
 use Rattle.link_timers.specs.declared.role.Role.TheVariants.{Dte, Dce}
 use Rattle.link_timers.specs.Role.{other_of}
+use Rattle.packet_layer.specs.Flow.{modulus}
+use Rattle.packet_channel.specs.declared.flow.Flow.{Flow}
 use Rattle.packet_laws.specs.History.{History}
 use Rattle.packet_laws.specs.Law.{Holds, epoch_now}
 use Rattle.packet_laws.specs.Counted.{IsCounted}
@@ -130,18 +132,18 @@ happened (Happens (Here event) ∷ ms) v = let h = happened ms (after_move (Happ
 happened (Happens (There event) ∷ ms) v = let h = happened ms (after_move (Happens (There event)) v) in (There event ∷ h.0, h.1)
 happened (Edits role channel step ∷ ms) v = happened ms (after_move (Edits role channel step) v)
 
-both_ends : (window : ℕ) (l : Line) (s c : ℕ) (role : Role) → IsCounted window l.me s c × IsCounted window l.you s c → IsCounted window (layers_at role l) s c
-both_ends window l s c Dte h = h.0
-both_ends window l s c Dce h = h.1
+both_ends : (flow : Flow) (l : Line) (s c : ℕ) (role : Role) → IsCounted flow l.me s c × IsCounted flow l.you s c → IsCounted flow (layers_at role l) s c
+both_ends flow l s c Dte h = h.0
+both_ends flow l s c Dce h = h.1
 
-module _ (dte_node dce_node channels window : ℕ) (standing : Bool) (some : 1 ≤ channels) (small : window ≤ 7) (ms : List Move)
-    (allowed : AreAllowed ms (start dte_node dce_node channels window standing)) where
+module _ (dte_node dce_node channels : ℕ) (flow : Flow) (standing : Bool) (some : 1 ≤ channels) (small : flow.window < modulus flow.numbering) (ms : List Move)
+    (allowed : AreAllowed ms (start dte_node dce_node channels flow standing)) where
   abbrev world : World
-  world = after_all ms (start dte_node dce_node channels window standing)
+  world = after_all ms (start dte_node dce_node channels flow standing)
 
-  all : KeptIn channels world (all_callers ms (start dte_node dce_node channels window standing) (made_callers standing)) × Laws channels world.line
-  all = all_kept channels ms (start dte_node dce_node channels window standing) (made_callers standing) (start_kept dte_node dce_node channels window standing some)
-      (λ hs. (line_holds channels window standing some small hs).0) (start_counts channels window standing some small) allowed
+  all : KeptIn channels world (all_callers ms (start dte_node dce_node channels flow standing) (made_callers standing)) × Laws channels world.line
+  all = all_kept channels ms (start dte_node dce_node channels flow standing) (made_callers standing) (start_kept dte_node dce_node channels flow standing some)
+      (λ hs. (line_holds channels flow standing some small hs).0) (start_counts channels flow standing some small) allowed
 
   -- the law of the line on a channel that has a present record
   pub holds_there : (role : Role) (c n : ℕ) → (slot_at role c world.book).present ≡ Some n → (s : ℕ) → Holds world.line s c
@@ -151,16 +153,16 @@ module _ (dte_node dce_node channels window : ℕ) (standing : Bool) (some : 1 �
       all.1 [] s c h.0 (omega arith)
 
   -- and the numbers of such a channel name the counts of its epoch
-  pub counted_there : (role : Role) (c n : ℕ) → (slot_at role c world.book).present ≡ Some n → (s : ℕ) → IsCounted window (layers_at role world.line) s c
+  pub counted_there : (role : Role) (c n : ℕ) → (slot_at role c world.book).present ≡ Some n → (s : ℕ) → IsCounted flow (layers_at role world.line) s c
   counted_there role c n e s =
       let h = in_slots (side_of role world.book).slots c n e in
       let size = all.0.sizes.size role in
-      let ran = happened ms (start dte_node dce_node channels window standing) in
-      let both = line_counts channels window standing some small ran.0 s c h.0 (omega arith) in
-      subst (λ (l : Line). IsCounted window (layers_at role l) s c) (sym ran.1) (both_ends window (after ran.0 (start_line channels window standing)) s c role both)
+      let ran = happened ms (start dte_node dce_node channels flow standing) in
+      let both = line_counts channels flow standing some small ran.0 s c h.0 (omega arith) in
+      subst (λ (l : Line). IsCounted flow (layers_at role l) s c) (sym ran.1) (both_ends flow (after ran.0 (start_line channels flow standing)) s c role both)
 
   pub opened : OpenHold world
   opened = record { present = present world all.0.tags all.0.right; pairs = share world all.0.tags all.0.right }
 
 pub open_pairs : OpenLaw
-open_pairs dte_node dce_node channels window standing some small ms allowed = opened dte_node dce_node channels window standing some small ms allowed
+open_pairs dte_node dce_node channels flow standing some small ms allowed = opened dte_node dce_node channels flow standing some small ms allowed

@@ -10,7 +10,7 @@ use Rattle.epochs.specs.Epoch.{SentEpoch, TakenEpoch, nothing_sent, nothing_take
 use Rattle.packet_layer.specs.Packets.{CallParts, Datum, Body}
 use Rattle.packet_layer.specs.Packets.Body.{Call, Accepted, Clear, ClearConfirmation, Data, Interrupt, InterruptConfirmation, ReceiveReady, ReceiveNotReady, Reset, ResetConfirmation}
 use Rattle.packet_layer.specs.Packets.Note.{Covered}
-use Rattle.packet_layer.specs.Traffic.{Traffic, Heard, Taken, front, may_release, distance, in_flight, unreleased, interrupted, covers, keeps, arrives, partner_says, hears}
+use Rattle.packet_layer.specs.Traffic.{Traffic, Heard, Taken, front, may_release, in_flight, unreleased, interrupted, covers, keeps, arrives, partner_says, hears, covering}
 use Rattle.packet_layer.specs.Traffic.Heard.{Keeps, Confirms, Wrong}
 use Rattle.packet_layer.specs.Traffic.Taken.{TakenInterrupt, TakenPacket}
 use Rattle.packet_layer.specs.Channel.{CallState, Channel, Request, Refusal, received, received_in, after_heard, in_own_reset, in_flow_ready, carried_out, refusal, refused_if, may_accept, in_transfer}
@@ -28,6 +28,8 @@ use Rattle.link_timers.specs.Role.{other_of}
 use Rattle.book_laws.specs.Told.{carried, all_came_by}
 use Rattle.book_laws.proofs.Invariant.{HasEpochs, HasSent, HasTaken, sent_as, taken_as, own_sent, own_taken, sent_of, taken_of, passed_sent, passed_taken, nth_sent, nth_taken, all_sent, all_taken}
 use Rattle.std.proofs.lemmas.List.{length-map}
+use Rattle.packet_layer.specs.Flow.{modulus, shown, ahead_shown}
+use Rattle.packet_channel.specs.declared.flow.Flow.{Flow}
 use Rattle.book_laws.proofs.Invariant.{CallStatus}
 use Rattle.book_laws.proofs.Invariant.CallStatus.{Idle, OwnCall, FarCall, Open}
 use Rattle.book_laws.proofs.Carrying.{SameHead}
@@ -50,7 +52,7 @@ pub record TellsIn (z st : History) (r : RecordValue) : Type 0 where
 
 -- the numbers of a channel in data transfer name the counts of an epoch
 abbrev pub CountsOf : Channel → Epoch → Type 0
-CountsOf ch e = in_transfer ch.state ≡ true → (window : ℕ) × (window ≤ 7) × NamesCounts window ch.traffic e
+CountsOf ch e = in_transfer ch.state ≡ true → (flow : Flow) × (flow.window < modulus flow.numbering) × NamesCounts flow ch.traffic e
 
 pub record RecordGrows (ch : Channel) (st st' : History) (r r' : RecordValue) : Type 0 where
   pub head : SameHead r r'
@@ -361,57 +363,57 @@ unchanged (Some n) b = ap (λ (l : List RecordValue). record b { records = l }) 
 
 -- ---- a packet that comes in
 
-abbrev Got : CallState → Role → ℕ → ℕ → Channel → Body → Type 0
-Got s x w d ch body = Outcome x d ch (received_in s x w d ch body).channel (λ st. opened (received_in s x w d ch body).owes (heard_history s ch.resetting (hears w ch.traffic body) st))
-    (λ b. all_told x (received_in s x w d ch body).notes b) (λ b l. all_came_by x (received_in s x w d ch body).notes b l) (λ parts. body ≡ Call parts)
+abbrev Got : CallState → Role → Flow → ℕ → Channel → Body → Type 0
+Got s x flow d ch body = Outcome x d ch (received_in s x flow d ch body).channel (λ st. opened (received_in s x flow d ch body).owes (heard_history s ch.resetting (hears flow ch.traffic body) st))
+    (λ b. all_told x (received_in s x flow d ch body).notes b) (λ b l. all_came_by x (received_in s x flow d ch body).notes b l) (λ parts. body ≡ Call parts)
 
-got_ready : (x : Role) (w d : ℕ) (ch : Channel) → ch.state ≡ Ready → (body : Body) → Got Ready x w d ch body
-got_ready x w d ch e (Call parts) = comes parts refl e refl (λ st. history_refl st) (λ b. refl) (λ b l. refl)
-got_ready x w d ch e (Clear cause diagnostic) = ends_none (ap (status_of x) e) (ap (status_of x) e) next_use (λ b. refl) (λ b l. refl)
-got_ready x w d ch e body = ends_none (ap (status_of x) e) refl next_use (λ b. refl) (λ b l. refl)
+got_ready : (x : Role) (flow : Flow) (d : ℕ) (ch : Channel) → ch.state ≡ Ready → (body : Body) → Got Ready x flow d ch body
+got_ready x flow d ch e (Call parts) = comes parts refl e refl (λ st. history_refl st) (λ b. refl) (λ b l. refl)
+got_ready x flow d ch e (Clear cause diagnostic) = ends_none (ap (status_of x) e) (ap (status_of x) e) next_use (λ b. refl) (λ b l. refl)
+got_ready x flow d ch e body = ends_none (ap (status_of x) e) refl next_use (λ b. refl) (λ b l. refl)
 
-got_call : (x : Role) (w d : ℕ) (ch : Channel) → ch.state ≡ OwnWaiting → (parts : CallParts) → Got OwnWaiting x w d ch (Call parts)
-got_call Dte w d ch e parts = stays (sym (ap (status_of Dte) e)) (λ st. history_refl st) (λ b. refl) (λ b l. refl)
-got_call Dce w d ch e parts = collides parts refl refl e refl (λ st. history_refl st) (λ b. refl) (λ b l. refl)
+got_call : (x : Role) (flow : Flow) (d : ℕ) (ch : Channel) → ch.state ≡ OwnWaiting → (parts : CallParts) → Got OwnWaiting x flow d ch (Call parts)
+got_call Dte flow d ch e parts = stays (sym (ap (status_of Dte) e)) (λ st. history_refl st) (λ b. refl) (λ b l. refl)
+got_call Dce flow d ch e parts = collides parts refl refl e refl (λ st. history_refl st) (λ b. refl) (λ b l. refl)
 
-got_own_waiting : (x : Role) (w d : ℕ) (ch : Channel) → ch.state ≡ OwnWaiting → (body : Body) → Got OwnWaiting x w d ch body
-got_own_waiting x w d ch e Accepted = connects (ap (status_of x) e) refl (λ st. history_refl st) (λ b. refl) (λ b l. refl)
-got_own_waiting x w d ch e (Call parts) = got_call x w d ch e parts
-got_own_waiting x w d ch e (Clear cause diagnostic) = ends refl next_use (λ b. refl) (λ b l. refl)
-got_own_waiting x w d ch e body = ends refl next_use (λ b. refl) (λ b l. refl)
+got_own_waiting : (x : Role) (flow : Flow) (d : ℕ) (ch : Channel) → ch.state ≡ OwnWaiting → (body : Body) → Got OwnWaiting x flow d ch body
+got_own_waiting x flow d ch e Accepted = connects (ap (status_of x) e) refl (λ st. history_refl st) (λ b. refl) (λ b l. refl)
+got_own_waiting x flow d ch e (Call parts) = got_call x flow d ch e parts
+got_own_waiting x flow d ch e (Clear cause diagnostic) = ends refl next_use (λ b. refl) (λ b l. refl)
+got_own_waiting x flow d ch e body = ends refl next_use (λ b. refl) (λ b l. refl)
 
-got_far_waiting : (x : Role) (w d : ℕ) (ch : Channel) → (body : Body) → Got FarWaiting x w d ch body
-got_far_waiting x w d ch (Clear cause diagnostic) = ends refl next_use (λ b. refl) (λ b l. refl)
-got_far_waiting x w d ch body = ends refl next_use (λ b. refl) (λ b l. refl)
+got_far_waiting : (x : Role) (flow : Flow) (d : ℕ) (ch : Channel) → (body : Body) → Got FarWaiting x flow d ch body
+got_far_waiting x flow d ch (Clear cause diagnostic) = ends refl next_use (λ b. refl) (λ b l. refl)
+got_far_waiting x flow d ch body = ends refl next_use (λ b. refl) (λ b l. refl)
 
-got_collision : (x : Role) (w d : ℕ) (ch : Channel) → ch.state ≡ Collision → (body : Body) → Got Collision x w d ch body
-got_collision Dte w d ch e Accepted = connects (ap (status_of Dte) e) refl (λ st. history_refl st) (λ b. refl) (λ b l. refl)
-got_collision Dte w d ch e (Clear cause diagnostic) = ends refl next_use (λ b. refl) (λ b l. refl)
-got_collision Dte w d ch e body = ends refl next_use (λ b. refl) (λ b l. refl)
-got_collision Dce w d ch e (Clear cause diagnostic) = ends refl next_use (λ b. refl) (λ b l. refl)
-got_collision Dce w d ch e body = ends refl next_use (λ b. refl) (λ b l. refl)
+got_collision : (x : Role) (flow : Flow) (d : ℕ) (ch : Channel) → ch.state ≡ Collision → (body : Body) → Got Collision x flow d ch body
+got_collision Dte flow d ch e Accepted = connects (ap (status_of Dte) e) refl (λ st. history_refl st) (λ b. refl) (λ b l. refl)
+got_collision Dte flow d ch e (Clear cause diagnostic) = ends refl next_use (λ b. refl) (λ b l. refl)
+got_collision Dte flow d ch e body = ends refl next_use (λ b. refl) (λ b l. refl)
+got_collision Dce flow d ch e (Clear cause diagnostic) = ends refl next_use (λ b. refl) (λ b l. refl)
+got_collision Dce flow d ch e body = ends refl next_use (λ b. refl) (λ b l. refl)
 
-got_own_clear : (x : Role) (w d : ℕ) (ch : Channel) → ch.state ≡ OwnClear → (body : Body) → Got OwnClear x w d ch body
-got_own_clear x w d ch e (Clear cause diagnostic) = stays (sym (ap (status_of x) e)) (λ st. history_refl st) (λ b. refl) (λ b l. refl)
-got_own_clear x w d ch e ClearConfirmation = stays (sym (ap (status_of x) e)) (λ st. history_refl st) (λ b. refl) (λ b l. refl)
-got_own_clear x w d ch e body = stays refl (λ st. history_refl st) (λ b. refl) (λ b l. refl)
+got_own_clear : (x : Role) (flow : Flow) (d : ℕ) (ch : Channel) → ch.state ≡ OwnClear → (body : Body) → Got OwnClear x flow d ch body
+got_own_clear x flow d ch e (Clear cause diagnostic) = stays (sym (ap (status_of x) e)) (λ st. history_refl st) (λ b. refl) (λ b l. refl)
+got_own_clear x flow d ch e ClearConfirmation = stays (sym (ap (status_of x) e)) (λ st. history_refl st) (λ b. refl) (λ b l. refl)
+got_own_clear x flow d ch e body = stays refl (λ st. history_refl st) (λ b. refl) (λ b l. refl)
 
 -- in data transfer
-abbrev GotIn : Bool → Role → ℕ → ℕ → Channel → Body → Type 0
-GotIn v x w d ch body = Outcome x d ch (cond v (in_own_reset x d ch body) (in_flow_ready x w d ch body)).channel
-    (λ st. opened (cond v (in_own_reset x d ch body) (in_flow_ready x w d ch body)).owes (heard_history Transfer v (hears w ch.traffic body) st))
-    (λ b. all_told x (cond v (in_own_reset x d ch body) (in_flow_ready x w d ch body)).notes b) (λ b l. all_came_by x (cond v (in_own_reset x d ch body) (in_flow_ready x w d ch body)).notes b l) (λ parts. body ≡ Call parts)
+abbrev GotIn : Bool → Role → Flow → ℕ → Channel → Body → Type 0
+GotIn v x flow d ch body = Outcome x d ch (cond v (in_own_reset x d ch body) (in_flow_ready x flow d ch body)).channel
+    (λ st. opened (cond v (in_own_reset x d ch body) (in_flow_ready x flow d ch body)).owes (heard_history Transfer v (hears flow ch.traffic body) st))
+    (λ b. all_told x (cond v (in_own_reset x d ch body) (in_flow_ready x flow d ch body)).notes b) (λ b l. all_came_by x (cond v (in_own_reset x d ch body) (in_flow_ready x flow d ch body)).notes b l) (λ parts. body ≡ Call parts)
 
-got_resetting : (x : Role) (w d : ℕ) (ch : Channel) → (body : Body) → GotIn true x w d ch body
-got_resetting x w d ch (Clear cause diagnostic) = ends refl next_use (λ b. refl) (λ b l. refl)
-got_resetting x w d ch (Reset cause diagnostic) = stays refl (λ st. history_refl st) (λ b. refl) (λ b l. refl)
-got_resetting x w d ch ResetConfirmation = stays refl (λ st. history_refl st) (λ b. refl) (λ b l. refl)
-got_resetting x w d ch (Data send receive datum) = stays refl (λ st. history_refl st) (λ b. refl) (λ b l. refl)
-got_resetting x w d ch (ReceiveReady receive) = stays refl (λ st. history_refl st) (λ b. refl) (λ b l. refl)
-got_resetting x w d ch (ReceiveNotReady receive) = stays refl (λ st. history_refl st) (λ b. refl) (λ b l. refl)
-got_resetting x w d ch (Interrupt octets) = stays refl (λ st. history_refl st) (λ b. refl) (λ b l. refl)
-got_resetting x w d ch InterruptConfirmation = stays refl (λ st. history_refl st) (λ b. refl) (λ b l. refl)
-got_resetting x w d ch body = ends refl next_use (λ b. refl) (λ b l. refl)
+got_resetting : (x : Role) (flow : Flow) (d : ℕ) (ch : Channel) → (body : Body) → GotIn true x flow d ch body
+got_resetting x flow d ch (Clear cause diagnostic) = ends refl next_use (λ b. refl) (λ b l. refl)
+got_resetting x flow d ch (Reset cause diagnostic) = stays refl (λ st. history_refl st) (λ b. refl) (λ b l. refl)
+got_resetting x flow d ch ResetConfirmation = stays refl (λ st. history_refl st) (λ b. refl) (λ b l. refl)
+got_resetting x flow d ch (Data send receive datum) = stays refl (λ st. history_refl st) (λ b. refl) (λ b l. refl)
+got_resetting x flow d ch (ReceiveReady receive) = stays refl (λ st. history_refl st) (λ b. refl) (λ b l. refl)
+got_resetting x flow d ch (ReceiveNotReady receive) = stays refl (λ st. history_refl st) (λ b. refl) (λ b l. refl)
+got_resetting x flow d ch (Interrupt octets) = stays refl (λ st. history_refl st) (λ b. refl) (λ b l. refl)
+got_resetting x flow d ch InterruptConfirmation = stays refl (λ st. history_refl st) (λ b. refl) (λ b l. refl)
+got_resetting x flow d ch body = ends refl next_use (λ b. refl) (λ b l. refl)
 
 -- a reset, by either end
 resets : (x : Role) (d : ℕ) (ch ch' : Channel) (write : Book → Book) (trace : Book → List (Option ℕ) → List (Option ℕ)) (came : CallParts → Type 0) → status_of x ch.state ≡ Open → status_of x ch'.state ≡ Open → ((b : Book) → write b ≡ changed x d with_epoch b)
@@ -429,11 +431,11 @@ kept_fits t f (Keeps n u) h = h
 kept_fits t f (Confirms u) h = h
 kept_fits t f (Wrong diagnostic) h = h
 
-covers_fits : (receive : ℕ) (t : Traffic) → Fits t (covers receive t)
-covers_fits receive t = by (nat_le (distance t.covered receive) (in_flight t)) _ (λ h. leb-true (distance t.covered receive) (in_flight t) h)
+covers_fits : (flow : Flow) (receive : ℕ) (t : Traffic) → Fits t (covers flow receive t)
+covers_fits flow receive t = by (nat_le (ahead_shown flow.numbering t.covered receive) (in_flight t)) _ (λ h. leb-true (ahead_shown flow.numbering t.covered receive) (in_flight t) h)
   where
-    by : (v : Bool) (d : ℕ) → (v ≡ true → distance t.covered receive ≤ in_flight t)
-        → Fits t (cond v (Keeps (distance t.covered receive) (record t { covered = (t.covered + distance t.covered receive) % 8; undelivered = t.undelivered - distance t.covered receive })) (Wrong d))
+    by : (v : Bool) (d : ℕ) → (v ≡ true → ahead_shown flow.numbering t.covered receive ≤ in_flight t)
+        → Fits t (cond v (Keeps (ahead_shown flow.numbering t.covered receive) (covering (ahead_shown flow.numbering t.covered receive) t)) (Wrong d))
     by true d h = h refl
     by false d h = tt
 
@@ -441,15 +443,15 @@ if_fits : (t : Traffic) (v : Bool) (a b : Heard) → Fits t a → Fits t b → F
 if_fits t true a b h k = h
 if_fits t false a b h k = k
 
-hears_fits : (w : ℕ) (t : Traffic) (body : Body) → Fits t (hears w t body)
-hears_fits w t (Data send receive datum) =
-    if_fits t ((send == t.receive_number) && nat_lt (unreleased t) w) (keeps (λ u. arrives datum u) (covers receive t)) (Wrong _)
-    (kept_fits t (λ u. arrives datum u) (covers receive t) (covers_fits receive t)) tt
-hears_fits w t (ReceiveReady receive) = kept_fits t (λ u. partner_says false u) (covers receive t) (covers_fits receive t)
-hears_fits w t (ReceiveNotReady receive) = kept_fits t (λ u. partner_says true u) (covers receive t) (covers_fits receive t)
-hears_fits w t (Interrupt octets) = if_fits t (interrupted t) (Wrong _) (Keeps 0 (record t { interrupt_arrived = Some octets })) tt (omega arith)
-hears_fits w t InterruptConfirmation = if_fits t t.interrupt_unconfirmed (Confirms (record t { interrupt_unconfirmed = false })) (Wrong _) tt tt
-hears_fits w t body = tt
+hears_fits : (flow : Flow) (t : Traffic) (body : Body) → Fits t (hears flow t body)
+hears_fits flow t (Data send receive datum) =
+    if_fits t ((send == shown flow.numbering t.receive_number) && nat_lt (unreleased t) flow.window) (keeps (λ u. arrives datum u) (covers flow receive t)) (Wrong _)
+    (kept_fits t (λ u. arrives datum u) (covers flow receive t) (covers_fits flow receive t)) tt
+hears_fits flow t (ReceiveReady receive) = kept_fits t (λ u. partner_says false u) (covers flow receive t) (covers_fits flow receive t)
+hears_fits flow t (ReceiveNotReady receive) = kept_fits t (λ u. partner_says true u) (covers flow receive t) (covers_fits flow receive t)
+hears_fits flow t (Interrupt octets) = if_fits t (interrupted t) (Wrong _) (Keeps 0 (record t { interrupt_arrived = Some octets })) tt (omega arith)
+hears_fits flow t InterruptConfirmation = if_fits t t.interrupt_unconfirmed (Confirms (record t { interrupt_unconfirmed = false })) (Wrong _) tt tt
+hears_fits flow t body = tt
 
 -- where the status is that of a call in data transfer, so is the state
 abbrev is_open : CallStatus → Bool
@@ -478,32 +480,32 @@ got_heard x d ch came e (Keeps n t) fits = got_keeps (n == 0) x d n ch t came e 
 got_heard x d ch came e (Confirms t) fits = stays refl (grown_same (λ z. z) (λ z. refl)) (λ b. refl) (λ b l. refl)
 got_heard x d ch came e (Wrong diagnostic) fits = resets x d ch (record ch { resetting = true; traffic = Rattle.packet_layer.specs.Traffic.fresh }) (λ b. all_told x (after_heard x d ch (Wrong diagnostic)).notes b) (λ b l. all_came_by x (after_heard x d ch (Wrong diagnostic)).notes b l) came e e (λ b. refl) (λ b l. refl)
 
-got_ready_flow : (x : Role) (w d : ℕ) (ch : Channel) → status_of x ch.state ≡ Open → (body : Body) → GotIn false x w d ch body
-got_ready_flow x w d ch e (Clear cause diagnostic) = ends refl next_use (λ b. refl) (λ b l. refl)
-got_ready_flow x w d ch e (Reset cause diagnostic) = resets x d ch (in_flow_ready x w d ch (Reset cause diagnostic)).channel (λ b. all_told x (in_flow_ready x w d ch (Reset cause diagnostic)).notes b) (λ b l. all_came_by x (in_flow_ready x w d ch (Reset cause diagnostic)).notes b l) (λ parts. Reset cause diagnostic ≡ Call parts) e e (λ b. refl) (λ b l. refl)
-got_ready_flow x w d ch e ResetConfirmation = resets x d ch (in_flow_ready x w d ch ResetConfirmation).channel (λ b. all_told x (in_flow_ready x w d ch ResetConfirmation).notes b) (λ b l. all_came_by x (in_flow_ready x w d ch ResetConfirmation).notes b l) (λ parts. ResetConfirmation ≡ Call parts) e e (λ b. refl) (λ b l. refl)
-got_ready_flow x w d ch e (Data send receive datum) = got_heard x d ch (λ parts. Data send receive datum ≡ Call parts) e (hears w ch.traffic (Data send receive datum)) (hears_fits w ch.traffic (Data send receive datum))
-got_ready_flow x w d ch e (ReceiveReady receive) = got_heard x d ch (λ parts. ReceiveReady receive ≡ Call parts) e (hears w ch.traffic (ReceiveReady receive)) (hears_fits w ch.traffic (ReceiveReady receive))
-got_ready_flow x w d ch e (ReceiveNotReady receive) = got_heard x d ch (λ parts. ReceiveNotReady receive ≡ Call parts) e (hears w ch.traffic (ReceiveNotReady receive)) (hears_fits w ch.traffic (ReceiveNotReady receive))
-got_ready_flow x w d ch e (Interrupt octets) = got_heard x d ch (λ parts. Interrupt octets ≡ Call parts) e (hears w ch.traffic (Interrupt octets)) (hears_fits w ch.traffic (Interrupt octets))
-got_ready_flow x w d ch e InterruptConfirmation = got_heard x d ch (λ parts. InterruptConfirmation ≡ Call parts) e (hears w ch.traffic InterruptConfirmation) (hears_fits w ch.traffic InterruptConfirmation)
-got_ready_flow x w d ch e body = ends refl next_use (λ b. refl) (λ b l. refl)
+got_ready_flow : (x : Role) (flow : Flow) (d : ℕ) (ch : Channel) → status_of x ch.state ≡ Open → (body : Body) → GotIn false x flow d ch body
+got_ready_flow x flow d ch e (Clear cause diagnostic) = ends refl next_use (λ b. refl) (λ b l. refl)
+got_ready_flow x flow d ch e (Reset cause diagnostic) = resets x d ch (in_flow_ready x flow d ch (Reset cause diagnostic)).channel (λ b. all_told x (in_flow_ready x flow d ch (Reset cause diagnostic)).notes b) (λ b l. all_came_by x (in_flow_ready x flow d ch (Reset cause diagnostic)).notes b l) (λ parts. Reset cause diagnostic ≡ Call parts) e e (λ b. refl) (λ b l. refl)
+got_ready_flow x flow d ch e ResetConfirmation = resets x d ch (in_flow_ready x flow d ch ResetConfirmation).channel (λ b. all_told x (in_flow_ready x flow d ch ResetConfirmation).notes b) (λ b l. all_came_by x (in_flow_ready x flow d ch ResetConfirmation).notes b l) (λ parts. ResetConfirmation ≡ Call parts) e e (λ b. refl) (λ b l. refl)
+got_ready_flow x flow d ch e (Data send receive datum) = got_heard x d ch (λ parts. Data send receive datum ≡ Call parts) e (hears flow ch.traffic (Data send receive datum)) (hears_fits flow ch.traffic (Data send receive datum))
+got_ready_flow x flow d ch e (ReceiveReady receive) = got_heard x d ch (λ parts. ReceiveReady receive ≡ Call parts) e (hears flow ch.traffic (ReceiveReady receive)) (hears_fits flow ch.traffic (ReceiveReady receive))
+got_ready_flow x flow d ch e (ReceiveNotReady receive) = got_heard x d ch (λ parts. ReceiveNotReady receive ≡ Call parts) e (hears flow ch.traffic (ReceiveNotReady receive)) (hears_fits flow ch.traffic (ReceiveNotReady receive))
+got_ready_flow x flow d ch e (Interrupt octets) = got_heard x d ch (λ parts. Interrupt octets ≡ Call parts) e (hears flow ch.traffic (Interrupt octets)) (hears_fits flow ch.traffic (Interrupt octets))
+got_ready_flow x flow d ch e InterruptConfirmation = got_heard x d ch (λ parts. InterruptConfirmation ≡ Call parts) e (hears flow ch.traffic InterruptConfirmation) (hears_fits flow ch.traffic InterruptConfirmation)
+got_ready_flow x flow d ch e body = ends refl next_use (λ b. refl) (λ b l. refl)
 
-got_transfer : (v : Bool) (x : Role) (w d : ℕ) (ch : Channel) → status_of x ch.state ≡ Open → (body : Body) → GotIn v x w d ch body
-got_transfer true x w d ch e body = got_resetting x w d ch body
-got_transfer false x w d ch e body = got_ready_flow x w d ch e body
+got_transfer : (v : Bool) (x : Role) (flow : Flow) (d : ℕ) (ch : Channel) → status_of x ch.state ≡ Open → (body : Body) → GotIn v x flow d ch body
+got_transfer true x flow d ch e body = got_resetting x flow d ch body
+got_transfer false x flow d ch e body = got_ready_flow x flow d ch e body
 
-got_by : (s : CallState) (x : Role) (w d : ℕ) (ch : Channel) → ch.state ≡ s → (body : Body) → Got s x w d ch body
-got_by Ready x w d ch e body = got_ready x w d ch e body
-got_by OwnWaiting x w d ch e body = got_own_waiting x w d ch e body
-got_by FarWaiting x w d ch e body = got_far_waiting x w d ch body
-got_by Transfer x w d ch e body = got_transfer ch.resetting x w d ch (ap (status_of x) e) body
-got_by Collision x w d ch e body = got_collision x w d ch e body
-got_by OwnClear x w d ch e body = got_own_clear x w d ch e body
+got_by : (s : CallState) (x : Role) (flow : Flow) (d : ℕ) (ch : Channel) → ch.state ≡ s → (body : Body) → Got s x flow d ch body
+got_by Ready x flow d ch e body = got_ready x flow d ch e body
+got_by OwnWaiting x flow d ch e body = got_own_waiting x flow d ch e body
+got_by FarWaiting x flow d ch e body = got_far_waiting x flow d ch body
+got_by Transfer x flow d ch e body = got_transfer ch.resetting x flow d ch (ap (status_of x) e) body
+got_by Collision x flow d ch e body = got_collision x flow d ch e body
+got_by OwnClear x flow d ch e body = got_own_clear x flow d ch e body
 
-pub received_outcome : (x : Role) (w d : ℕ) (ch : Channel) (body : Body)
-    → Outcome x d ch (received x w d ch body).channel (λ st. received_history x w d ch body st) (λ b. all_told x (received x w d ch body).notes b) (λ b l. all_came_by x (received x w d ch body).notes b l) (λ parts. body ≡ Call parts)
-received_outcome x w d ch body = got_by ch.state x w d ch refl body
+pub received_outcome : (x : Role) (flow : Flow) (d : ℕ) (ch : Channel) (body : Body)
+    → Outcome x d ch (received x flow d ch body).channel (λ st. received_history x flow d ch body st) (λ b. all_told x (received x flow d ch body).notes b) (λ b l. all_came_by x (received x flow d ch body).notes b l) (λ parts. body ≡ Call parts)
+received_outcome x flow d ch body = got_by ch.state x flow d ch refl body
 
 -- ---- a request
 

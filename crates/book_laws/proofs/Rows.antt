@@ -1,7 +1,8 @@
 -- A worked run of a line and its book, by computation: a call, data on it, a reset, and data again.
 use Rattle.std.specs.Prelude.{is_some}
-use Rattle.std.proofs.Common.{◌≡◌, ℕ, ◌≤◌, true, false, List, [], ◌∷◌, Some, None, refl, arith}
+use Rattle.std.proofs.Common.{◌≡◌, ℕ, ◌<◌, ◌≤◌, true, false, List, [], ◌∷◌, Some, None, refl, arith}
 use Rattle.epochs.specs.Epoch.{nothing_sent, nothing_taken}
+use Rattle.packet_layer.specs.Flow.{modulo_8}
 use Rattle.packet_layer.specs.Packets.{CallParts, Datum}
 use Rattle.packet_layer.specs.Channel.Request.{Accept, Resetting, Sending, Taking, Releasing}
 use Rattle.packet_laws.specs.Line.Happening.{Here, There}
@@ -49,7 +50,7 @@ abbrev whole : List Move
 whole = set_up (called (says 72 (resets (says 73 []))))
 
 abbrev pub made : World
-made = start 3 4 1 2 false
+made = start 3 4 1 (modulo_8 2) false
 
 abbrev caller : RecordValue
 caller = record {
@@ -101,19 +102,19 @@ is_allowed =
     (zero_one, (zero_one, (tt, (tt, (one_one, (one_one, (tt, (tt, (one_one, (tt, (tt, (one_one, (tt, (tt, (one_one, (tt, (tt, (tt, (one_one, (tt, (tt, (one_one, (tt, (one_one, (tt, (tt, (one_one, (tt, tt))))))))))))))))))))))))))))
 
 -- the call that came in is in the pair, in data transfer
-pub small : 2 ≤ 7
+pub small : 2 < 8
 small = omega arith
 
 is_paired : IsPaired (slot_at Dce 1 (after_all whole made).book) (after_all whole made).book.pairs
-is_paired = (are_answered 3 4 1 2 false one_one small whole is_allowed).paired Dce 1 _ refl refl refl
+is_paired = (are_answered 3 4 1 (modulo_8 2) false one_one small whole is_allowed).paired Dce 1 _ refl refl refl
 
 -- and so is the call at the end that placed it
 has_callee : HasCallee (after_all whole made).book Dte 1
-has_callee = (are_answered 3 4 1 2 false one_one small whole is_allowed).placed Dte 1 _ refl refl refl
+has_callee = (are_answered 3 4 1 (modulo_8 2) false one_one small whole is_allowed).placed Dte 1 _ refl refl refl
 
 -- both records are open and present
 has_records : HaveRecords (after_all whole made).book
-has_records = have_records 3 4 1 2 false one_one small whole is_allowed
+has_records = have_records 3 4 1 (modulo_8 2) false one_one small whole is_allowed
 
 -- before it is accepted, the book has it as one that came in
 abbrev pub incoming : List Move
@@ -123,7 +124,7 @@ pub incoming_allowed : AreAllowed incoming made
 incoming_allowed = (zero_one, (zero_one, (tt, (tt, (one_one, (one_one, (tt, (tt, (one_one, tt)))))))))
 
 came_in : is_some (slot_at Dce 1 (after_all incoming made).book).caller ≡ true
-came_in = (are_answered 3 4 1 2 false one_one small incoming incoming_allowed).came Dce 1 _ refl refl
+came_in = (are_answered 3 4 1 (modulo_8 2) false one_one small incoming incoming_allowed).came Dce 1 _ refl refl
 
 -- and its record holds with the caller's as a pair does, though there is no pair yet
 callers_are : all_callers incoming made [] ≡ None ∷ Some 0 ∷ []
@@ -133,7 +134,7 @@ no_pair_yet : (after_all incoming made).book.pairs ≡ []
 no_pair_yet = refl
 
 call_holds : PairHolds (after_all incoming made).book (record { caller = 0; callee = 1 })
-call_holds = (calls_hold 3 4 1 2 false one_one small incoming incoming_allowed).came 1 0 refl
+call_holds = (calls_hold 3 4 1 (modulo_8 2) false one_one small incoming incoming_allowed).came 1 0 refl
 
 -- ---- a call that gives a calling address, as a switch does
 
@@ -151,4 +152,4 @@ named_records : (after_all named made).book.records
 named_records = refl
 
 named_holds : BookHolds (after_all named made).book
-named_holds = book_holds 3 4 1 2 false one_one small named named_allowed
+named_holds = book_holds 3 4 1 (modulo_8 2) false one_one small named named_allowed

@@ -7,6 +7,7 @@ use Rattle.std.proofs.lemmas.Bool.{lt-ltb}
 use Rattle.link_timers.specs.declared.role.Role.{Role}
 use Rattle.link_timers.specs.declared.role.Role.TheVariants.{Dte, Dce}
 use Rattle.link_timers.specs.Role.{other_of}
+use Rattle.packet_channel.specs.declared.flow.Flow.{Flow}
 use Rattle.packet_layer.specs.Channel.{closed_channel}
 use Rattle.packet_layer.specs.Layer.{nth_channel}
 use Rattle.packet_laws.specs.History.{Epoch, new_history, with_call, with_answer}
@@ -53,12 +54,12 @@ channels_length (suc n) = ap suc (channels_length n)
 
 -- ---- a line that is not up
 
-module _ (a b n window : ℕ) where
+module _ (a b n : ℕ) (flow : Flow) where
   abbrev me : End
-  me = start_end Dte n window false
+  me = start_end Dte n flow false
 
   abbrev you : End
-  you = start_end Dce n window false
+  you = start_end Dce n flow false
 
   down_slot : (x : Role) (c : ℕ) → SlotIs ((views_of Dte me you 0 0 x).status c) (views_of Dte me you 0 0 x) [] x c (slot_at x c (new_book a b n))
   down_slot Dte c = subst (λ (m : CallStatus). SlotIs m (view_of Dte me 0) [] Dte c (slot_at Dte c (new_book a b n))) (sym (idle_all Dte n c)) (ap (λ (z : Slot). z.present) (free_all n c))
@@ -188,12 +189,12 @@ dce_accepted (suc s) c r u e = absurd (true≢false (sym e))
 use_is : (s c r u : ℕ) → (s ≡ 0) × (c ≡ 1) × (r ≡ 0) × (u ≡ 0) → first ≡ record { session = s; channel = c; restart = r; use_ = u }
 use_is s c r u e = let a = e.0 in let b = e.1 in let d = e.2 in let f = e.3 in cc
 
-module _ (a b m window : ℕ) where
+module _ (a b m : ℕ) (flow : Flow) where
   abbrev me_up : End
-  me_up = start_end Dte (suc m) window true
+  me_up = start_end Dte (suc m) flow true
 
   abbrev you_up : End
-  you_up = start_end Dce (suc m) window true
+  you_up = start_end Dce (suc m) flow true
 
   abbrev book_up : Book
   book_up = standing_book (new_book a b (suc m))
@@ -425,7 +426,7 @@ module _ (a b m window : ℕ) where
     there = record { role = refl; count = ap suc (channels_length m); up = λ p. (0, refl, refl) };
   }
 
-pub start_kept : (a b n window : ℕ) (standing : Bool) → 1 ≤ n → KeptIn n (start a b n window standing) (made_callers standing)
-start_kept a b n window false some = down_kept a b n window
-start_kept a b zero window true some = absurd (omega arith)
-start_kept a b (suc m) window true some = up_kept a b m window
+pub start_kept : (a b n : ℕ) (flow : Flow) (standing : Bool) → 1 ≤ n → KeptIn n (start a b n flow standing) (made_callers standing)
+start_kept a b n flow false some = down_kept a b n flow
+start_kept a b zero flow true some = absurd (omega arith)
+start_kept a b (suc m) flow true some = up_kept a b m flow

@@ -1,8 +1,10 @@
 -- The pairs of a book are the calls that were accepted, one for each.
-use Rattle.std.specs.Prelude.{◌≡◌, ℕ, ◌≤◌, Bool, true, List, [], ◌∷◌, length, slice_get, Some}
+use Rattle.std.specs.Prelude.{◌≡◌, ℕ, ◌<◌, ◌≤◌, Bool, true, List, [], ◌∷◌, length, slice_get, Some}
 use Rattle.link_timers.specs.declared.role.Role.{Role}
 use Rattle.link_timers.specs.declared.role.Role.TheVariants.{Dce}
 use Rattle.link_timers.specs.Role.{other_of}
+use Rattle.packet_layer.specs.Flow.{modulus, modulo_8}
+use Rattle.packet_channel.specs.declared.flow.Flow.{Flow}
 use Rattle.packet_layer.specs.Channel.Request.{Clearing}
 use Rattle.packet_laws.specs.History.{Epoch}
 use Rattle.packet_laws.specs.Line.{Line}
@@ -59,9 +61,9 @@ abbrev pub PairsAreAccepted : World → Type 0
 PairsAreAccepted w = (uses : List CallUse) × AreAccepted w uses
 
 abbrev pub AcceptedLaw : Type 0
-AcceptedLaw = (dte_node dce_node channels window : ℕ) (standing : Bool) → 1 ≤ channels → window ≤ 7
-    → (ms : List Move) → AreAllowed ms (start dte_node dce_node channels window standing)
-    → PairsAreAccepted (after_all ms (start dte_node dce_node channels window standing))
+AcceptedLaw = (dte_node dce_node channels : ℕ) (flow : Flow) (standing : Bool) → 1 ≤ channels → flow.window < modulus flow.numbering
+    → (ms : List Move) → AreAllowed ms (start dte_node dce_node channels flow standing)
+    → PairsAreAccepted (after_all ms (start dte_node dce_node channels flow standing))
 
 -- ---- a run
 
@@ -74,10 +76,10 @@ standing_use = record { role = Dce; session = 0; channel = 1; restart = 0; use_ 
 
 -- the DCE had accepted it, and it is a pair then too
 pub record AcceptedRun : Type 0 where
-  pub allowed : AreAllowed cleared (start 0 1 1 2 true)
-  pub accepted : was_accepted standing_use (after_all cleared (start 0 1 1 2 true)).line ≡ true
+  pub allowed : AreAllowed cleared (start 0 1 1 (modulo_8 2) true)
+  pub accepted : was_accepted standing_use (after_all cleared (start 0 1 1 (modulo_8 2) true)).line ≡ true
   pub caller : RecordValue
-  pub there : slice_get (after_all cleared (start 0 1 1 2 true)).book.records 0 ≡ Some caller
+  pub there : slice_get (after_all cleared (start 0 1 1 (modulo_8 2) true)).book.records 0 ≡ Some caller
   pub over : caller.closed ≡ true
   pub took_nothing : TookNothing (taken_epochs caller)
-  pub pairs : (after_all cleared (start 0 1 1 2 true)).book.pairs ≡ record { caller = 0; callee = 1 } ∷ []
+  pub pairs : (after_all cleared (start 0 1 1 (modulo_8 2) true)).book.pairs ≡ record { caller = 0; callee = 1 } ∷ []

@@ -1,9 +1,11 @@
 -- What records count and what the packet layers of their ends counted: epoch by epoch, of a call that is over too, the
 -- packets and interrupts that passed, how many of the packets sent a P(R) covered, and how many of those taken were
 -- released.
-use Rattle.std.specs.Prelude.{◌≡◌, ℕ, ◌≤◌, ◌⊎◌, Bool, List, [], ◌∷◌, ◌++◌, length, map, slice_get, Some}
+use Rattle.std.specs.Prelude.{◌≡◌, ℕ, ◌<◌, ◌≤◌, ◌⊎◌, Bool, List, [], ◌∷◌, ◌++◌, length, map, slice_get, Some}
 use Rattle.link_timers.specs.declared.role.Role.{Role}
 use Rattle.epochs.specs.Epoch.{SentEpoch, TakenEpoch}
+use Rattle.packet_layer.specs.Flow.{modulus}
+use Rattle.packet_channel.specs.declared.flow.Flow.{Flow}
 use Rattle.packet_laws.specs.History.{Epoch, empty_epoch}
 use Rattle.packet_laws.specs.Line.{End}
 use Rattle.call_records.specs.Records.{RecordValue}
@@ -50,7 +52,7 @@ pub record IsCountedAt (w : World) (r : RecordValue) : Type 0 where
   pub counts : HasCounted (layers_at role w.line) r
 
 abbrev pub CountsLaw : Type 0
-CountsLaw = (dte_node dce_node channels window : ℕ) (standing : Bool) → 1 ≤ channels → window ≤ 7
-    → (ms : List Move) → AreAllowed ms (start dte_node dce_node channels window standing)
-    → let w = after_all ms (start dte_node dce_node channels window standing) in
+CountsLaw = (dte_node dce_node channels : ℕ) (flow : Flow) (standing : Bool) → 1 ≤ channels → flow.window < modulus flow.numbering
+    → (ms : List Move) → AreAllowed ms (start dte_node dce_node channels flow standing)
+    → let w = after_all ms (start dte_node dce_node channels flow standing) in
     (i : ℕ) (r : RecordValue) → slice_get w.book.records i ≡ Some r → IsCountedAt w r

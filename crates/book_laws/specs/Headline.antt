@@ -10,6 +10,8 @@ use Rattle.packet_layer.specs.Layer.{Layer, channel_of, had_call}
 use Rattle.epochs.specs.Epoch.{Epoch, IsEmpty, AreAligned}
 use Rattle.epochs.specs.Match.{Match}
 use Rattle.epochs.specs.Confirmed.{Confirmed, Confirms, sent_confirmed, taken_confirmed, all_taken}
+use Rattle.packet_layer.specs.Flow.{modulus}
+use Rattle.packet_channel.specs.declared.flow.Flow.{Flow}
 use Rattle.call_records.specs.Records.{RecordValue, PairValue, sent_epochs, taken_epochs}
 use Rattle.call_records.specs.Book.{Book, Slot, side_of, slot_at}
 use Rattle.book_laws.specs.Told.{World, Move, after_all, all_callers, made_callers, AreAllowed, start}
@@ -87,9 +89,9 @@ pub record BookHolds (book : Book) : Type 0 where
 
 -- whatever happens on a line whose sessions come in rising order
 abbrev pub BookLaw : Type 0
-BookLaw = (dte_node dce_node channels window : ℕ) (standing : Bool) → 1 ≤ channels → window ≤ 7
-    → (ms : List Move) → AreAllowed ms (start dte_node dce_node channels window standing)
-    → BookHolds (after_all ms (start dte_node dce_node channels window standing)).book
+BookLaw = (dte_node dce_node channels : ℕ) (flow : Flow) (standing : Bool) → 1 ≤ channels → flow.window < modulus flow.numbering
+    → (ms : List Move) → AreAllowed ms (start dte_node dce_node channels flow standing)
+    → BookHolds (after_all ms (start dte_node dce_node channels flow standing)).book
 
 -- ---- present records
 
@@ -117,9 +119,9 @@ pub record HaveRecords (book : Book) : Type 0 where
       → IsPresent book number
 
 abbrev pub RecordsLaw : Type 0
-RecordsLaw = (dte_node dce_node channels window : ℕ) (standing : Bool) → 1 ≤ channels → window ≤ 7
-    → (ms : List Move) → AreAllowed ms (start dte_node dce_node channels window standing)
-    → HaveRecords (after_all ms (start dte_node dce_node channels window standing)).book
+RecordsLaw = (dte_node dce_node channels : ℕ) (flow : Flow) (standing : Bool) → 1 ≤ channels → flow.window < modulus flow.numbering
+    → (ms : List Move) → AreAllowed ms (start dte_node dce_node channels flow standing)
+    → HaveRecords (after_all ms (start dte_node dce_node channels flow standing)).book
 
 -- ---- the book beside the packet layers
 
@@ -139,9 +141,9 @@ pub record IsBeside (w : World) : Type 0 where
       → is_some (slot_at role c w.book).present ≡ has_call (channel_of (layer_at role w) c)
 
 abbrev pub PresentLaw : Type 0
-PresentLaw = (dte_node dce_node channels window : ℕ) (standing : Bool) → 1 ≤ channels → window ≤ 7
-    → (ms : List Move) → AreAllowed ms (start dte_node dce_node channels window standing)
-    → IsBeside (after_all ms (start dte_node dce_node channels window standing))
+PresentLaw = (dte_node dce_node channels : ℕ) (flow : Flow) (standing : Bool) → 1 ≤ channels → flow.window < modulus flow.numbering
+    → (ms : List Move) → AreAllowed ms (start dte_node dce_node channels flow standing)
+    → IsBeside (after_all ms (start dte_node dce_node channels flow standing))
 
 -- ---- calls that came in, and calls that were placed
 
@@ -179,9 +181,9 @@ pub record AreAnswered (w : World) : Type 0 where
       → in_transfer ch.state ≡ true → is_some (slot_at role c w.book).caller ≡ false → HasCallee w.book role c
 
 abbrev pub AnsweredLaw : Type 0
-AnsweredLaw = (dte_node dce_node channels window : ℕ) (standing : Bool) → 1 ≤ channels → window ≤ 7
-    → (ms : List Move) → AreAllowed ms (start dte_node dce_node channels window standing)
-    → AreAnswered (after_all ms (start dte_node dce_node channels window standing))
+AnsweredLaw = (dte_node dce_node channels : ℕ) (flow : Flow) (standing : Bool) → 1 ≤ channels → flow.window < modulus flow.numbering
+    → (ms : List Move) → AreAllowed ms (start dte_node dce_node channels flow standing)
+    → AreAnswered (after_all ms (start dte_node dce_node channels flow standing))
 
 -- each call that came in holds as a pair does, accepted or not, and of each call that was placed one came in at most;
 -- `callers` has for each record, where the call came in, the record of the end that placed it
@@ -193,14 +195,14 @@ pub record CallsHold (book : Book) (callers : List (Option ℕ)) : Type 0 where
       → a ≡ b
 
 abbrev pub CallsLaw : Type 0
-CallsLaw = (dte_node dce_node channels window : ℕ) (standing : Bool) → 1 ≤ channels → window ≤ 7
-    → (ms : List Move) → AreAllowed ms (start dte_node dce_node channels window standing)
-    → CallsHold (after_all ms (start dte_node dce_node channels window standing)).book
-    (all_callers ms (start dte_node dce_node channels window standing) (made_callers standing))
+CallsLaw = (dte_node dce_node channels : ℕ) (flow : Flow) (standing : Bool) → 1 ≤ channels → flow.window < modulus flow.numbering
+    → (ms : List Move) → AreAllowed ms (start dte_node dce_node channels flow standing)
+    → CallsHold (after_all ms (start dte_node dce_node channels flow standing)).book
+    (all_callers ms (start dte_node dce_node channels flow standing) (made_callers standing))
 
 -- and each record says so itself
 abbrev pub CallersLaw : Type 0
-CallersLaw = (dte_node dce_node channels window : ℕ) (standing : Bool) → 1 ≤ channels → window ≤ 7
-    → (ms : List Move) → AreAllowed ms (start dte_node dce_node channels window standing)
-    → map (λ r. r.caller) (after_all ms (start dte_node dce_node channels window standing)).book.records
-    ≡ all_callers ms (start dte_node dce_node channels window standing) (made_callers standing)
+CallersLaw = (dte_node dce_node channels : ℕ) (flow : Flow) (standing : Bool) → 1 ≤ channels → flow.window < modulus flow.numbering
+    → (ms : List Move) → AreAllowed ms (start dte_node dce_node channels flow standing)
+    → map (λ r. r.caller) (after_all ms (start dte_node dce_node channels flow standing)).book.records
+    ≡ all_callers ms (start dte_node dce_node channels flow standing) (made_callers standing)

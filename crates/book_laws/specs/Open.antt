@@ -1,9 +1,11 @@
 -- The records of open calls and the two packet layers: the last epochs of such a record are the present ones of its
 -- channel.
-use Rattle.std.specs.Prelude.{◌≡◌, ℕ, ◌≤◌, Bool, false, List, map, slice_get, Some}
+use Rattle.std.specs.Prelude.{◌≡◌, ℕ, ◌<◌, ◌≤◌, Bool, false, List, map, slice_get, Some}
 use Rattle.link_timers.specs.declared.role.Role.{Role}
 use Rattle.link_timers.specs.declared.role.Role.TheVariants.{Dte, Dce}
 use Rattle.link_timers.specs.Role.{other_of}
+use Rattle.packet_layer.specs.Flow.{modulus}
+use Rattle.packet_channel.specs.declared.flow.Flow.{Flow}
 use Rattle.packet_laws.specs.History.{Epoch}
 use Rattle.packet_laws.specs.Line.{End, Line}
 use Rattle.packet_laws.specs.Law.{epoch_now}
@@ -60,6 +62,6 @@ pub record OpenHold (w : World) : Type 0 where
   pub pairs : OpenPairsShare w
 
 abbrev pub OpenLaw : Type 0
-OpenLaw = (dte_node dce_node channels window : ℕ) (standing : Bool) → 1 ≤ channels → window ≤ 7
-    → (ms : List Move) → AreAllowed ms (start dte_node dce_node channels window standing)
-    → OpenHold (after_all ms (start dte_node dce_node channels window standing))
+OpenLaw = (dte_node dce_node channels : ℕ) (flow : Flow) (standing : Bool) → 1 ≤ channels → flow.window < modulus flow.numbering
+    → (ms : List Move) → AreAllowed ms (start dte_node dce_node channels flow standing)
+    → OpenHold (after_all ms (start dte_node dce_node channels flow standing))

@@ -3,6 +3,7 @@ use Rattle.std.specs.Prelude.{ℕ, ◌≤◌, Bool, if◌then◌else◌, List, [
 use Rattle.link_timers.specs.declared.role.Role.{Role}
 use Rattle.link_timers.specs.declared.role.Role.TheVariants.{Dte, Dce}
 use Rattle.link_timers.specs.Role.{other_of}
+use Rattle.packet_channel.specs.declared.flow.Flow.{Flow}
 use Rattle.pad_editing.specs.Edited.{Step}
 use Rattle.packet_layer.specs.Packets.{Packet, Note}
 use Rattle.packet_layer.specs.Packets.Note.{Incoming}
@@ -134,9 +135,9 @@ AreAllowed (m ∷ ms) v = IsAllowed m v × AreAllowed ms (after_move m v)
 
 -- ---- the making
 
-abbrev pub start : (dte_node dce_node channels window : ℕ) → (standing : Bool) → World
-start dte_node dce_node channels window standing = record {
-  line = start_line channels window standing;
+abbrev pub start : (dte_node dce_node channels : ℕ) (flow : Flow) → (standing : Bool) → World
+start dte_node dce_node channels flow standing = record {
+  line = start_line channels flow standing;
   book = made_book dte_node dce_node channels standing;
   top_me = 0;
   top_you = 0;

@@ -141,8 +141,8 @@ restart_goes NoSession b es d = inr (stays (es d))
 received_goes : (l : Layer) (r : Received) (es : Epochs) (d : ℕ) → GoesOn (es d) (on_received l r es d)
 received_goes l (Whole p) es d =
     by_cond (λ (x : Epochs). GoesOn (es d) (x d)) (p.channel == 0) _ _ (λ h. restart_goes l.phase p.body es d)
-    (λ h. channel_goes l.phase (channel_of l p.channel) p.channel (λ ch e. after_packet l.role l.window p.channel p.body ch e) es d
-    (λ ch e. begun_goes (received l.role l.window p.channel ch p.body).owes e _ (covers ch.state ch.resetting (hears l.window ch.traffic p.body) e)))
+    (λ h. channel_goes l.phase (channel_of l p.channel) p.channel (λ ch e. after_packet l.role l.flow p.channel p.body ch e) es d
+    (λ ch e. begun_goes (received l.role l.flow p.channel ch p.body).owes e _ (covers ch.state ch.resetting (hears l.flow ch.traffic p.body) e)))
 received_goes l (Unknown c) es d =
     channel_goes l.phase (channel_of l c) c (λ ch e. after_unreadable l.role c true ch e) es d (λ ch e. begun_goes (unreadable l.role c true ch).owes e e (stays e))
 received_goes l (Faulty c) es d =
@@ -169,7 +169,7 @@ act_goes (Requests c r) l es d =
     found_goes (channel_of l c) c (λ ch e. after_request l.role r ch e) es d
     (λ ch e. begun_goes (requested l.role ch r).owes e _ (logs_unless (refusal l.role ch r) ch.traffic r e))
 act_goes (Expires id) l es d = timer_goes l (timer_named l.role id) es d
-act_goes (Arrives octets) l es d = hearing_goes l (heard octets) es d
+act_goes (Arrives octets) l es d = hearing_goes l (heard l.flow octets) es d
 act_goes _ l es d = inr (stays (es d))
 
 pub grows : GrowsLaw

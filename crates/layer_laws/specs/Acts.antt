@@ -2,6 +2,7 @@
 use Rattle.std.specs.Prelude.{ℕ, Bool, List, [], ◌∷◌, drop}
 use Rattle.link_timers.specs.declared.role.Role.{Role}
 use Rattle.link_timers.specs.declared.timers.TimerId.{TimerId}
+use Rattle.packet_channel.specs.declared.flow.Flow.{Flow}
 use Rattle.packet_layer.specs.Packets.{CallParts}
 use Rattle.packet_layer.specs.Channel.{Request}
 use Rattle.packet_layer.specs.Layer.{Layer, channel_of, made, link_up, link_down, call, request, next_packet}
@@ -15,8 +16,8 @@ pub record World : Type 0 where
   pub epochs : Epochs
 
 -- as `Layer::new` makes it
-abbrev pub start : Role → (channels window : ℕ) → (standing : Bool) → World
-start role channels window standing = record { layer = made role channels window standing; epochs = all_begun }
+abbrev pub start : Role → (channels : ℕ) (flow : Flow) → (standing : Bool) → World
+start role channels flow standing = record { layer = made role channels flow standing; epochs = all_begun }
 
 pub data Act : Type 0 where
   -- `link_up` and `link_down`
@@ -49,7 +50,7 @@ epochs_after Up l es = all_begun
 epochs_after Down l es = all_begun
 epochs_after (Requests c r) l es = on_found (channel_of l c) c (λ ch e. after_request l.role r ch e) es
 epochs_after (Expires id) l es = on_timer l (timer_named l.role id) es
-epochs_after (Arrives octets) l es = on_hearing l (heard octets) es
+epochs_after (Arrives octets) l es = on_hearing l (heard l.flow octets) es
 epochs_after act l es = es
 
 abbrev pub after : Act → World → World

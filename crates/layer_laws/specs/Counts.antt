@@ -1,5 +1,7 @@
 -- What P(S) and P(R) name on the channels of a packet layer: places and counts of the present epochs.
 use Rattle.std.specs.Prelude.{◌≡◌, ℕ, ◌+◌, ◌%◌, ◌<◌, ◌≤◌, Bool, false, List, Option, Some, slice_get}
+use Rattle.packet_layer.specs.Flow.{modulus, shown}
+use Rattle.packet_channel.specs.declared.flow.Flow.{Flow}
 use Rattle.packet_layer.specs.Packets.{Body, Packet}
 use Rattle.packet_layer.specs.Packets.Body.{Data, ReceiveReady, ReceiveNotReady}
 use Rattle.packet_layer.specs.Traffic.{Traffic, fresh}
@@ -14,16 +16,16 @@ use Rattle.layer_laws.specs.Acts.{World}
 
 -- ---- numbers of a packet
 
--- P(S) of a Data packet names its place among those sent in the epoch, the one place within eight from the first that
--- is not covered on; each P(R) names how many packets were released
-abbrev pub IsNamed : Epoch → Body → Type 0
-IsNamed e (Data send receive d) =
-    ((place : ℕ) × (send ≡ place % 8) × (e.covered ≤ place) × (place < e.covered + 8)
+-- P(S) of a Data packet shows its place among those sent in the epoch, the one place that it can show from the first
+-- that is not covered on; each P(R) shows how many packets were released
+abbrev pub IsNamed : Flow → Epoch → Body → Type 0
+IsNamed flow e (Data send receive d) =
+    ((place : ℕ) × (send ≡ shown flow.numbering place) × (e.covered ≤ place) × (place < e.covered + modulus flow.numbering)
     × (slice_get e.sent place ≡ Some d))
-    × (receive ≡ e.released % 8)
-IsNamed e (ReceiveReady receive) = receive ≡ e.released % 8
-IsNamed e (ReceiveNotReady receive) = receive ≡ e.released % 8
-IsNamed e b = Unit {0}
+    × (receive ≡ shown flow.numbering e.released)
+IsNamed flow e (ReceiveReady receive) = receive ≡ shown flow.numbering e.released
+IsNamed flow e (ReceiveNotReady receive) = receive ≡ shown flow.numbering e.released
+IsNamed flow e b = Unit {0}
 
 -- a packet that has neither
 abbrev pub HasNoNumber : Body → Type 0
@@ -42,26 +44,26 @@ pub record IsUnused (resetting : Bool) (t : Traffic) (e : Epoch) : Type 0 where
 
 -- the numbers of a channel in data transfer name the counts of its epoch; one that is not in data transfer is unused;
 -- and what a channel owes besides has no number
-pub record Counts (window : ℕ) (s : CallState) (resetting : Bool) (owed : List Body) (t : Traffic) (e : Epoch) : Type 0
+pub record Counts (flow : Flow) (s : CallState) (resetting : Bool) (owed : List Body) (t : Traffic) (e : Epoch) : Type 0
   where
-    pub names : NamesCounts window t e
+    pub names : NamesCounts flow t e
     pub unused : in_transfer s ≡ false → IsUnused resetting t e
     pub controls : Every HasNoNumber owed
 
-abbrev pub Agrees : (window : ℕ) → Channel → Epoch → Type 0
-Agrees window ch e = Counts window ch.state ch.resetting ch.owed ch.traffic e
+abbrev pub Agrees : (flow : Flow) → Channel → Epoch → Type 0
+Agrees flow ch e = Counts flow ch.state ch.resetting ch.owed ch.traffic e
 
 -- so it is on each channel, and a restart packet has no number either
-pub record AllCounts (window : ℕ) (channels : List Channel) (owed : List Body) (es : Epochs) : Type 0 where
-  pub each : (c : ℕ) (ch : Channel) → nth_channel channels c ≡ Some ch → Agrees window ch (es c)
+pub record AllCounts (flow : Flow) (channels : List Channel) (owed : List Body) (es : Epochs) : Type 0 where
+  pub each : (c : ℕ) (ch : Channel) → nth_channel channels c ≡ Some ch → Agrees flow ch (es c)
   pub restarts : Every HasNoNumber owed
 
 abbrev pub AllAgree : World → Type 0
-AllAgree w = AllCounts w.layer.window w.layer.channels w.layer.owed w.epochs
+AllAgree w = AllCounts w.layer.flow w.layer.channels w.layer.owed w.epochs
 
 -- a packet is named in the epoch of its channel
-abbrev pub IsNamedAmong : Epochs → Option Packet → Type 0
-IsNamedAmong es o = IfAny (λ p. IsNamed (es p.channel) p.body) o
+abbrev pub IsNamedAmong : Flow → Epochs → Option Packet → Type 0
+IsNamedAmong flow es o = IfAny (λ p. IsNamed flow (es p.channel) p.body) o
 
 -- ---- how an epoch goes on
 

@@ -2,6 +2,7 @@
 -- its channel, and begins anew with each reset and each end of a call.
 use Rattle.std.specs.Prelude.{ℕ, Bool, true, false, if◌then◌else◌, ◌==◌, Option, Some, None}
 use Rattle.link_timers.specs.declared.role.Role.{Role}
+use Rattle.packet_channel.specs.declared.flow.Flow.{Flow}
 use Rattle.packet_layer.specs.Packets.{Body, Received}
 use Rattle.packet_layer.specs.Packets.Body.{Clear, ClearConfirmation, Reset, ResetConfirmation, Restart}
 use Rattle.packet_layer.specs.Packets.Body.{RestartConfirmation}
@@ -38,9 +39,9 @@ abbrev pub grown_by : CallState → (resetting : Bool) → Heard → Epoch → E
 grown_by Transfer false h e = logged_heard h e
 grown_by state resetting h e = e
 
-abbrev pub after_packet : Role → (window channel : ℕ) → Body → Channel → Epoch → Epoch
-after_packet role window c b ch e =
-    begun_by (received role window c ch b).owes (grown_by ch.state ch.resetting (hears window ch.traffic b) e)
+abbrev pub after_packet : Role → (flow : Flow) (channel : ℕ) → Body → Channel → Epoch → Epoch
+after_packet role flow c b ch e =
+    begun_by (received role flow c ch b).owes (grown_by ch.state ch.resetting (hears flow ch.traffic b) e)
 
 abbrev pub after_unreadable : Role → (channel : ℕ) → (unknown : Bool) → Channel → Epoch → Epoch
 after_unreadable role c unknown ch e = begun_by (unreadable role c unknown ch).owes e
@@ -74,7 +75,7 @@ on_received l (Whole p) es =
     if p.channel == 0
     then on_restart l.phase p.body es
     else on_channel l.phase (channel_of l p.channel) p.channel
-    (λ ch e. after_packet l.role l.window p.channel p.body ch e) es
+    (λ ch e. after_packet l.role l.flow p.channel p.body ch e) es
 on_received l (Unknown c) es = on_channel l.phase (channel_of l c) c (λ ch e. after_unreadable l.role c true ch e) es
 on_received l (Faulty c) es = on_channel l.phase (channel_of l c) c (λ ch e. after_unreadable l.role c false ch e) es
 

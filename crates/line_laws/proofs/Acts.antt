@@ -52,10 +52,10 @@ pub record Result (role : Role) (v : layers.Line) (me you : PacketEnd) (going co
   pub yours_is : session_of (other_of role) world ≡ yours
 
 pub result_of : (role : Role) (v : layers.Line) (e me you : PacketEnd) (going coming : List Octets) (events : List Event) (x next y : Side) →
-    Told x next y you.layer e me v events → IsReadable you.layer →
+    Told x next y you.layer e me v events → IsReadable you.layer → you.layer.flow ≡ e.layer.flow →
     Goes role me.line.link you.line.link (going ++ me.line.frames) (coming ++ you.line.frames) next y →
     Result role v me you going coming events x.session y.session
-result_of role v e me you going coming events x next y t readable g = record {
+result_of role v e me you going coming events x next y t readable same g = record {
   world = g.world;
   joint = record {
     stands = g.stands;
@@ -63,6 +63,7 @@ result_of role v e me you going coming events x next y t readable g = record {
     yours = subst (λ (s : Side). Follows s you.layer (after_here events v).you) (sym g.yours_is) t.yours;
     readable_here = t.readable;
     readable_there = readable;
+    same_flow = same ∙ sym t.flow;
   };
   rises = t.rises;
   mine_is = ap (λ (s : Side). s.session) g.mine_is ∙ t.session;
@@ -90,10 +91,11 @@ module _ (role : Role) (w : World) (v : layers.Line) (me you : PacketEnd) (going
   nothing_told e is =
       told_nothing here_side there_side you.layer e v
       (subst (λ (l : Layer). Follows here_side l v.me) (sym is) j.mine) j.yours (subst (λ (l : Layer). IsReadable l) (sym is) j.readable_here)
+      (subst (λ (l : Layer). you.layer.flow ≡ l.flow) (sym is) j.same_flow)
 
   quiet : (e : PacketEnd) (out in_ : List Octets) → e.layer ≡ me.layer → at_line role e.line you.line.link out (in_ ++ you.line.frames) here_side there_side →
       Result role v e you out in_ [] (session_of role w) (session_of (other_of role) w)
-  quiet e out in_ is g = result_of role v e e you out in_ [] here_side here_side there_side (nothing_told e is) j.readable_there g
+  quiet e out in_ is g = result_of role v e e you out in_ [] here_side here_side there_side (nothing_told e is) j.readable_there (subst (λ (l : Layer). you.layer.flow ≡ l.flow) (sym is) j.same_flow) g
 
   pub step_begins : Step role Begins w v me you going coming
   step_begins =
@@ -125,14 +127,14 @@ module _ (role : Role) (w : World) (v : layers.Line) (me you : PacketEnd) (going
 
   pub step_calls : (parts : CallParts) → CanBePlaced parts → Step role (Calls parts) w v me you going coming
   step_calls parts fits =
-      let t = told_call here_side there_side you.layer me v j.mine j.yours j.readable_here parts fits in
-      let r = result_of role v me (end.called me parts) you going coming (Event.Calls parts ∷ []) here_side here_side there_side t j.readable_there here in
+      let t = told_call here_side there_side you.layer me v j.mine j.yours j.readable_here j.same_flow parts fits in
+      let r = result_of role v me (end.called me parts) you going coming (Event.Calls parts ∷ []) here_side here_side there_side t j.readable_there j.same_flow here in
       record { world = r.world; joint = r.joint; notes = t.notes; rises = r.rises; mine = r.mine_is; yours = r.yours_is }
 
   pub step_requests : (channel : ℕ) (q : Request) → Step role (Requests channel q) w v me you going coming
   step_requests channel q =
-      let t = told_request here_side there_side you.layer me v j.mine j.yours j.readable_here channel q in
-      let r = result_of role v me (end.asked me channel q) you going coming (Event.Requests channel q ∷ []) here_side here_side there_side t j.readable_there here in
+      let t = told_request here_side there_side you.layer me v j.mine j.yours j.readable_here j.same_flow channel q in
+      let r = result_of role v me (end.asked me channel q) you going coming (Event.Requests channel q ∷ []) here_side here_side there_side t j.readable_there j.same_flow here in
       record { world = r.world; joint = r.joint; notes = t.notes; rises = r.rises; mine = r.mine_is; yours = r.yours_is }
 
   -- ---- the link is set up anew
@@ -145,8 +147,8 @@ module _ (role : Role) (w : World) (v : layers.Line) (me you : PacketEnd) (going
 
   pub step_relinks : Step role Relinks w v me you going coming
   step_relinks =
-      let t = told_down here_side there_side you.layer (record me { line = line.relinked me.line }) v j.mine j.yours j.readable_here in
-      let r = result_of role v (record me { line = line.relinked me.line }) (end.relinked me) you going coming (Event.Down ∷ []) here_side (record here_side { up = false }) there_side t j.readable_there relink_goes in
+      let t = told_down here_side there_side you.layer (record me { line = line.relinked me.line }) v j.mine j.yours j.readable_here j.same_flow in
+      let r = result_of role v (record me { line = line.relinked me.line }) (end.relinked me) you going coming (Event.Down ∷ []) here_side (record here_side { up = false }) there_side t j.readable_there j.same_flow relink_goes in
       record { world = r.world; joint = r.joint; notes = t.notes; rises = r.rises; mine = r.mine_is; yours = r.yours_is }
 
   -- an act that may do nothing
@@ -173,10 +175,10 @@ module _ (role : Role) (w : World) (v : layers.Line) (me you : PacketEnd) (going
 
   -- ---- a timer expires
 
-  either_told : (next : Side) (e before : PacketEnd) (events : List Event) → before.notes ≡ me.notes → Told here_side next there_side you.layer before e v events →
+  either_told : (next : Side) (e before : PacketEnd) (events : List Event) → before.notes ≡ me.notes → you.layer.flow ≡ before.layer.flow → Told here_side next there_side you.layer before e v events →
       at_line role e.line you.line.link going (coming ++ you.line.frames) next there_side → Either e events
-  either_told next e before events is t g =
-      let r = result_of role v before e you going coming events here_side next there_side t j.readable_there g in
+  either_told next e before events is same t g =
+      let r = result_of role v before e you going coming events here_side next there_side t j.readable_there same g in
       record { world = r.world; joint = r.joint; notes = t.notes ∙ ap (λ (z : List Note). z ++ notes_of events v) is; rises = r.rises; mine = r.mine_is; yours = r.yours_is }
 
   t1_expires : Either (end.expired timer.T1 me) (expiry_events (coming_session role w) timer.T1 me)
@@ -185,15 +187,15 @@ module _ (role : Role) (w : World) (v : layers.Line) (me you : PacketEnd) (going
       let before : PacketEnd = record me { line = line.expired timer.T1 me.line } in
       let g = goes_t1 me.line.link you.line.link (going ++ me.line.frames) (coming ++ you.line.frames) here_side there_side role here in
       let d = did_goes role (record me.line { timers = stopped me.line.timers timer.T1 }) step you.line.link going (coming ++ you.line.frames) (at_link here_side step.link) there_side role_is g in
-      let t = told_note here_side there_side you.layer before v j.mine j.yours j.readable_here step.note (coming_session role w) (at_link here_side step.link)
+      let t = told_note here_side there_side you.layer before v j.mine j.yours j.readable_here j.same_flow step.note (coming_session role w) (at_link here_side step.link)
       (plain_takes me.line.link step (coming_session role w) here_side there_side refl (tells_on_t1 me.line.link) (plain_on_t1 me.line.link)) in
-      either_told (at_link here_side step.link) (end.expired timer.T1 me) before (expiry_events (coming_session role w) timer.T1 me) refl t
+      either_told (at_link here_side step.link) (end.expired timer.T1 me) before (expiry_events (coming_session role w) timer.T1 me) refl j.same_flow t
       (subst (λ (q : End). at_line role q you.line.link going (coming ++ you.line.frames) (at_link here_side step.link) there_side) (sym t.line) d)
 
   named_expires : (id : TimerId) → Either (gathered (record me { timers = stopped me.timers id; layer = Rattle.packet_layer.specs.Events.on_named me.layer (timer_named me.layer.role id) })) (timer_events (timer_named me.layer.role id))
   named_expires id =
-      either_told here_side (gathered (record me { timers = stopped me.timers id; layer = Rattle.packet_layer.specs.Events.on_named me.layer (timer_named me.layer.role id) })) me (timer_events (timer_named me.layer.role id)) refl
-      (told_timer here_side there_side you.layer me v j.mine j.yours j.readable_here (stopped me.timers id) (timer_named me.layer.role id)) here
+      either_told here_side (gathered (record me { timers = stopped me.timers id; layer = Rattle.packet_layer.specs.Events.on_named me.layer (timer_named me.layer.role id) })) me (timer_events (timer_named me.layer.role id)) refl j.same_flow
+      (told_timer here_side there_side you.layer me v j.mine j.yours j.readable_here j.same_flow (stopped me.timers id) (timer_named me.layer.role id)) here
 
   any_expires : (id : TimerId) → Either (end.expired id me) (expiry_events (coming_session role w) id me)
   any_expires timer.T1 = t1_expires
@@ -221,7 +223,7 @@ module _ (role : Role) (w : World) (v : layers.Line) (me you : PacketEnd) (going
       let b = goes_relink fresh.link you.line.link [] [] (at_link here_side fresh.link) there_side role a in
       let d = did_goes role fresh (link.relink fresh.link) you.line.link [] [] (at_link here_side (link.relink fresh.link).link) there_side role_is b in
       let g = subst (λ (q : Bool). at_line role (line.restarted me.line) you.line.link [] [] (record here_side { up = q }) there_side) (relink_not_up fresh.link) d in
-      let t = told_down here_side there_side you.layer me v j.mine j.yours j.readable_here in
+      let t = told_down here_side there_side you.layer me v j.mine j.yours j.readable_here j.same_flow in
       record {
         world = g.world;
         joint = record {
@@ -230,6 +232,7 @@ module _ (role : Role) (w : World) (v : layers.Line) (me you : PacketEnd) (going
           yours = subst (λ (s : Side). Follows s you.layer v.you) (sym g.yours_is) j.yours;
           readable_here = readable_link_down me.layer j.readable_here;
           readable_there = j.readable_there;
+          same_flow = j.same_flow;
         };
         notes = refl;
         rises = tt;
@@ -249,9 +252,9 @@ step_frame role w v me you going octets coming j =
     let is = role_of role w me.line.link you.line.link (going ++ me.line.frames) (octets ∷ (coming ++ you.line.frames)) j.stands in
     let d = did_goes role me.line step you.line.link going (coming ++ you.line.frames) h.0 y is h.2 in
     let before : PacketEnd = record me { line = line.received me.line octets } in
-    let t = told_step x y you.layer before v j.mine j.yours j.readable_here step.note step.accepted (coming_session role w) h.0 h.1 in
+    let t = told_step x y you.layer before v j.mine j.yours j.readable_here j.same_flow step.note step.accepted (coming_session role w) h.0 h.1 in
     let g = subst (λ (q : End). at_line role q you.line.link going (coming ++ you.line.frames) h.0 y) (sym t.line) d in
-    let r = result_of role v before (end.received me octets) you going coming (frame_events (coming_session role w) (octets ∷ coming) me) x h.0 y t j.readable_there g in
+    let r = result_of role v before (end.received me octets) you going coming (frame_events (coming_session role w) (octets ∷ coming) me) x h.0 y t j.readable_there j.same_flow g in
     record { world = r.world; joint = r.joint; notes = t.notes; rises = r.rises; mine = r.mine_is; yours = r.yours_is }
 
 pub step_hears : (role : Role) (w : World) (v : layers.Line) (me you : PacketEnd) (going coming : List Octets) → JointAt role w v me you going coming → Step role Hears w v me you going coming

@@ -9,6 +9,8 @@ use Rattle.lapb.specs.Machine as link
 use Rattle.lapb.specs.Machine.{Octets, Link}
 use Rattle.lapb.specs.World.{World, opening}
 use Rattle.lapb.proofs.Lines.{stands_opening}
+use Rattle.packet_channel.specs.declared.flow.Flow.{Flow}
+use Rattle.packet_channel.proofs.Windows.{window_below}
 use Rattle.packet_end.specs.End.{untouched}
 use Rattle.packet_end.specs.End as line
 use Rattle.packet_layer.specs.Layer as machine
@@ -49,8 +51,8 @@ act_steps role (Sends kept) w v me you going coming fits j = step_sends role w v
 
 pub turned_joint : (role : Role) (w : World) (v : layers.Line) (me you : PacketEnd) (going coming : List Octets) → JointAt role w v me you going coming →
     JointAt (other_of role) w (turned v) you me coming going
-turned_joint Dte w v me you going coming j = record { stands = j.stands; mine = j.yours; yours = j.mine; readable_here = j.readable_there; readable_there = j.readable_here }
-turned_joint Dce w v me you going coming j = record { stands = j.stands; mine = j.yours; yours = j.mine; readable_here = j.readable_there; readable_there = j.readable_here }
+turned_joint Dte w v me you going coming j = record { stands = j.stands; mine = j.yours; yours = j.mine; readable_here = j.readable_there; readable_there = j.readable_here; same_flow = sym j.same_flow }
+turned_joint Dce w v me you going coming j = record { stands = j.stands; mine = j.yours; yours = j.mine; readable_here = j.readable_there; readable_there = j.readable_here; same_flow = sym j.same_flow }
 
 -- the first frame on the way to an end is lost
 pub loses_joint : (role : Role) (w : World) (v : layers.Line) (me you : PacketEnd) (going coming : List Octets) → JointAt role w v me you going coming →
@@ -68,6 +70,7 @@ loses_joint role w v me you going (octets ∷ coming) j =
         yours = subst (λ (s : Side). Follows s you.layer v.you) (sym g.yours_is) j.yours;
         readable_here = j.readable_here;
         readable_there = j.readable_there;
+        same_flow = j.same_flow;
       },
       ap (λ (s : Side). s.session) g.mine_is,
       ap (λ (s : Side). s.session) g.yours_is,
@@ -124,18 +127,18 @@ all_lead start (event ∷ events) l fits d = all_lead start events (happens even
 
 -- ---- a line as it is made
 
-abbrev new_end : Role → (channels window k n2 : ℕ) → (standing : Bool) → PacketEnd
-new_end role channels window k n2 standing = record {
+abbrev new_end : Role → (channels : ℕ) (flow : Flow) (k n2 : ℕ) → (standing : Bool) → PacketEnd
+new_end role channels flow k n2 standing = record {
   line = line.made role k n2 standing;
-  layer = machine.made role channels window standing;
+  layer = machine.made role channels flow standing;
   timers = none_running;
   notes = [];
 }
 
-abbrev new_line : (channels window k n2 k' n2' : ℕ) → (standing : Bool) → Line
-new_line channels window k n2 k' n2' standing = record {
-  dte = new_end Dte channels window k n2 standing;
-  dce = new_end Dce channels window k' n2' standing;
+abbrev new_line : (channels : ℕ) (flow : Flow) (k n2 k' n2' : ℕ) → (standing : Bool) → Line
+new_line channels flow k n2 k' n2' standing = record {
+  dte = new_end Dte channels flow k n2 standing;
+  dce = new_end Dce channels flow k' n2' standing;
   up = [];
   down = [];
 }
@@ -144,19 +147,20 @@ turned_goes : (role : Role) (mine yours : Link) (going coming : List Octets) (x 
 turned_goes Dte mine yours going coming x y g = record { world = g.world; stands = g.stands; mine_is = g.yours_is; yours_is = g.mine_is }
 turned_goes Dce mine yours going coming x y g = record { world = g.world; stands = g.stands; mine_is = g.yours_is; yours_is = g.mine_is }
 
-pub new_joint : (channels window k n2 k' n2' : ℕ) (standing : Bool) → k ≤ 7 → k' ≤ 7 → channels ≤ 32 →
-    (w : World) × Joint (new_line channels window k n2 k' n2' standing) w (start_line channels window standing)
-new_joint channels window k n2 k' n2' true small small' few = (
+pub new_joint : (channels : ℕ) (flow : Flow) (k n2 k' n2' : ℕ) (standing : Bool) → k ≤ 7 → k' ≤ 7 → channels ≤ 32 →
+    (w : World) × Joint (new_line channels flow k n2 k' n2' standing) w (start_line channels flow standing)
+new_joint channels flow k n2 k' n2' true small small' few = (
   opening true (record { k = k; n2 = n2 }) (record { k = k'; n2 = n2' }),
   record {
     stands = stands_opening true (record { k = k; n2 = n2 }) (record { k = k'; n2 = n2' }) small small';
     mine = record { session = refl; offered = λ s. tt; accepted = λ s. refl; layer = refl };
     yours = record { session = refl; offered = λ s. tt; accepted = λ s. refl; layer = refl };
-    readable_here = readable_made Dte channels window true few;
-    readable_there = readable_made Dce channels window true few;
+    readable_here = readable_made Dte channels flow true few;
+    readable_there = readable_made Dce channels flow true few;
+    same_flow = refl;
   },
 )
-new_joint channels window k n2 k' n2' false small small' few =
+new_joint channels flow k n2 k' n2' false small small' few =
     let dte : Link = link.new Dte k n2 false in
     let dce : Link = link.new Dce k' n2' false in
     let w : World = opening false (record { k = k; n2 = n2 }) (record { k = k'; n2 = n2' }) in
@@ -171,12 +175,13 @@ new_joint channels window k n2 k' n2' false small small' few =
       g.world,
       record {
         stands = g.stands;
-        mine = subst (λ (s : Side). Follows s (machine.made Dte channels window false) (start_line channels window false).me) (sym g.mine_is)
+        mine = subst (λ (s : Side). Follows s (machine.made Dte channels flow false) (start_line channels flow false).me) (sym g.mine_is)
             (record { session = refl; offered = λ s. tt; accepted = λ s. refl; layer = refl });
-        yours = subst (λ (s : Side). Follows s (machine.made Dce channels window false) (start_line channels window false).you) (sym g.yours_is)
+        yours = subst (λ (s : Side). Follows s (machine.made Dce channels flow false) (start_line channels flow false).you) (sym g.yours_is)
             (record { session = refl; offered = λ s. tt; accepted = λ s. refl; layer = refl });
-        readable_here = readable_made Dte channels window false few;
-        readable_there = readable_made Dce channels window false few;
+        readable_here = readable_made Dte channels flow false few;
+        readable_there = readable_made Dce channels flow false few;
+        same_flow = refl;
       },
     )
 
@@ -184,13 +189,13 @@ new_joint channels window k n2 k' n2' false small small' few =
 
 pub line_ends_hold : LineEndsLaw
 line_ends_hold dte dce are are' alike events fits =
-    let start : layers.Line = start_line dte.channels dte.window dte.standing in
-    let n = new_joint dte.channels dte.window dte.k dte.n2 dce.k dce.n2 dte.standing are.link.k_most are'.link.k_most are.layer.channels_most in
+    let start : layers.Line = start_line dte.channels dte.flow dte.standing in
+    let n = new_joint dte.channels dte.flow dte.k dte.n2 dce.k dce.n2 dte.standing are.link.k_most are'.link.k_most are.layer.channels_most in
     let j : Joint (made dte dce) n.0 start =
     subst (λ (e : PacketEnd). Joint (record (made dte dce) { dce = e }) n.0 start)
-    (λ i. new_end Dce (sym alike.channels i) (sym alike.window i) dce.k dce.n2 (sym alike.standing i)) n.1 in
+    (λ i. new_end Dce (sym alike.channels i) (sym alike.flow i) dce.k dce.n2 (sym alike.standing i)) n.1 in
     let d = all_lead start events (made dte dce) fits (record { world = n.0; happenings = []; joint = j }) in
-    let h = line_holds dte.channels dte.window dte.standing are.layer.channels_least are.layer.window_most d.happenings in
+    let h = line_holds dte.channels dte.flow dte.standing are.layer.channels_least (window_below _ are.layer.flow_is) d.happenings in
     record {
       world = d.world;
       happenings = d.happenings;

@@ -4,6 +4,7 @@ use Rattle.std.proofs.Common.{refl, sym, ap, ◌∙◌, subst, arith, length-app
 use Rattle.std.proofs.lemmas.Bool.{eq-eqb, ne_eqb}
 use Rattle.lapb.specs.Machine.{Octets}
 use Rattle.lapb.specs.World.{logged, emptied}
+use Rattle.packet_channel.specs.declared.flow.Flow.{Flow}
 use Rattle.packet_layer.specs.Packets.{CallParts, Packet}
 use Rattle.packet_layer.specs.Packets.Received.{Whole}
 use Rattle.packet_layer.specs.Octets.{heard}
@@ -14,31 +15,33 @@ use Rattle.packet_layer.specs.Layer.{Layer, Timer, unread, link_up, link_down, o
 use Rattle.packet_laws.specs.Line.{End, Line, begun, offers, accepts, arrives_in, handed_over, next_of_session, happens, with_layer, told}
 use Rattle.packet_laws.specs.Line.Event.{Up, Offers, Arrives}
 use Rattle.line_laws.specs.Joint.{Side, AreHeard, Follows}
+use Rattle.line_laws.proofs.Flows.{octets_flow, next_flow}
 use Rattle.line_laws.proofs.Unread.{request_unread, call_unread, timer_unread, next_unread}
 
 -- ---- packets heard in octets
 
-heard_append : (os : List Octets) (ps : List Packet) (o : Octets) (p : Packet) → AreHeard os ps → heard o ≡ Some (Whole p) → AreHeard (os ++ o ∷ []) (ps ++ p ∷ [])
-heard_append [] [] o p h e = (e, tt)
-heard_append [] (q ∷ ps) o p h e = absurd h
-heard_append (x ∷ os) [] o p h e = absurd h
-heard_append (x ∷ os) (q ∷ ps) o p h e = (h.0, heard_append os ps o p h.1 e)
+heard_append : (flow : Flow) (os : List Octets) (ps : List Packet) (o : Octets) (p : Packet) → AreHeard flow os ps → heard flow o ≡ Some (Whole p) →
+    AreHeard flow (os ++ o ∷ []) (ps ++ p ∷ [])
+heard_append flow [] [] o p h e = (e, tt)
+heard_append flow [] (q ∷ ps) o p h e = absurd h
+heard_append flow (x ∷ os) [] o p h e = absurd h
+heard_append flow (x ∷ os) (q ∷ ps) o p h e = (h.0, heard_append flow os ps o p h.1 e)
 
-pub heard_at : (os : List Octets) (ps : List Packet) (n : ℕ) (o : Octets) → AreHeard os ps → slice_get os n ≡ Some o →
-    (p : Packet) × (slice_get ps n ≡ Some p) × (heard o ≡ Some (Whole p))
-heard_at [] ps n o h e = absurd (cc)
-heard_at (x ∷ os) [] n o h e = absurd h
-heard_at (x ∷ os) (p ∷ ps) zero o h e = let same : o ≡ x = cc in (p, refl, ap (λ (z : Octets). heard z) same ∙ h.0)
-heard_at (x ∷ os) (p ∷ ps) (suc n) o h e = heard_at os ps n o h.1 e
+pub heard_at : (flow : Flow) (os : List Octets) (ps : List Packet) (n : ℕ) (o : Octets) → AreHeard flow os ps → slice_get os n ≡ Some o →
+    (p : Packet) × (slice_get ps n ≡ Some p) × (heard flow o ≡ Some (Whole p))
+heard_at flow [] ps n o h e = absurd (cc)
+heard_at flow (x ∷ os) [] n o h e = absurd h
+heard_at flow (x ∷ os) (p ∷ ps) zero o h e = let same : o ≡ x = cc in (p, refl, ap (λ (z : Octets). heard flow z) same ∙ h.0)
+heard_at flow (x ∷ os) (p ∷ ps) (suc n) o h e = heard_at flow os ps n o h.1 e
 
-heard_logged : (v : Bool) (os : List Octets) (ps : List Packet) (o : Octets) (p : Packet) → AreHeard os ps → heard o ≡ Some (Whole p) →
-    AreHeard (if v then os ++ o ∷ [] else os) (cond v (ps ++ p ∷ []) ps)
-heard_logged true os ps o p h e = heard_append os ps o p h e
-heard_logged false os ps o p h e = h
+heard_logged : (flow : Flow) (v : Bool) (os : List Octets) (ps : List Packet) (o : Octets) (p : Packet) → AreHeard flow os ps → heard flow o ≡ Some (Whole p) →
+    AreHeard flow (if v then os ++ o ∷ [] else os) (cond v (ps ++ p ∷ []) ps)
+heard_logged flow true os ps o p h e = heard_append flow os ps o p h e
+heard_logged flow false os ps o p h e = h
 
-heard_emptied : (v : Bool) (os : List Octets) (ps : List Packet) → AreHeard os ps → AreHeard (if true && v then [] else os) (cond v [] ps)
-heard_emptied true os ps h = tt
-heard_emptied false os ps h = h
+heard_emptied : (flow : Flow) (v : Bool) (os : List Octets) (ps : List Packet) → AreHeard flow os ps → AreHeard flow (if true && v then [] else os) (cond v [] ps)
+heard_emptied flow true os ps h = tt
+heard_emptied flow false os ps h = h
 
 count_logged : (v : Bool) (n : ℕ) (os : List Octets) (o : Octets) → n ≡ length os → cond v (n + 1) n ≡ length (if v then os ++ o ∷ [] else os)
 count_logged true n os o e = ap (λ (k : ℕ). k + 1) e ∙ sym (length-append os (o ∷ []))
@@ -68,7 +71,7 @@ pub follows_up : (x : Side) (l : Layer) (a : End) (n : ℕ) → Follows x l a �
     Follows (record x { up = true; session = n; offered = emptied true x.offered n }) (unread (link_up l)) (begun n a)
 follows_up x l a n f = record {
   session = refl;
-  offered = λ s. heard_emptied (s == n) (x.offered s) (a.offered s) (f.offered s);
+  offered = λ s. heard_emptied l.flow (s == n) (x.offered s) (a.offered s) (f.offered s);
   accepted = f.accepted;
   layer = ap (λ (q : Layer). unread (link_up q)) f.layer;
 }
@@ -79,11 +82,11 @@ pub arrives_happens : (v : Line) (s : ℕ) (p : Packet) → v.me.session ≡ Som
     happens Arrives v ≡ record v { me = accepts s (Some p) v.me }
 arrives_happens v s p e f = ap (λ (o : Option ℕ). arrives_in o v) e ∙ ap (λ (o : Option Packet). record v { me = accepts s o v.me }) f
 
-pub follows_arrives : (x : Side) (l : Layer) (a : End) (s : ℕ) (o : Octets) (p : Packet) → Follows x l a → heard o ≡ Some (Whole p) →
+pub follows_arrives : (x : Side) (l : Layer) (a : End) (s : ℕ) (o : Octets) (p : Packet) → Follows x l a → heard l.flow o ≡ Some (Whole p) →
     Follows (record x { accepted = logged x.accepted s (Some o) }) (unread (on_octets l o)) (accepts s (Some p) a)
 follows_arrives x l a s o p f e = record {
   session = f.session;
-  offered = f.offered;
+  offered = λ k. subst (λ (flow : Flow). AreHeard flow (x.offered k) (a.offered k)) (sym (octets_flow l o)) (f.offered k);
   accepted = λ k. count_logged (k == s) (a.accepted k) (x.accepted k) o (f.accepted k);
   layer = ap (λ (q : Layer). unread (on_packet q (Whole p))) f.layer ∙ ap (λ r. unread (after_hearing (unread l) r)) (sym e);
 }
@@ -93,12 +96,13 @@ follows_arrives x l a s o p f e = record {
 pub offers_happens : (v : Line) (s : ℕ) → v.me.session ≡ Some s → happens Offers v ≡ record v { me = offers (Some s) v.me }
 offers_happens v s e = ap (λ (o : Option ℕ). record v { me = offers o v.me }) e
 
-pub follows_offers : (x : Side) (l : Layer) (a : End) (s : ℕ) (o : Octets) (p : Packet) → Follows x l a → (next_packet l).packet ≡ Some p → heard o ≡ Some (Whole p) →
+pub follows_offers : (x : Side) (l : Layer) (a : End) (s : ℕ) (o : Octets) (p : Packet) → Follows x l a → (next_packet l).packet ≡ Some p → heard l.flow o ≡ Some (Whole p) →
     Follows (record x { offered = logged x.offered s (Some o) }) (next_packet l).layer (offers (Some s) a)
 follows_offers x l a s o p f e h = record {
   session = f.session;
-  offered = λ k. subst (λ (r : Option Packet). AreHeard (logged x.offered s (Some o) k) (handed_over s r a.offered k)) (sym packet)
-      (heard_logged (k == s) (x.offered k) (a.offered k) o p (f.offered k) h);
+  offered = λ k. subst (λ (flow : Flow). AreHeard flow (logged x.offered s (Some o) k) (handed_over s (next_packet a.layer).packet a.offered k)) (sym (next_flow l))
+      (subst (λ (r : Option Packet). AreHeard l.flow (logged x.offered s (Some o) k) (handed_over s r a.offered k)) (sym packet)
+      (heard_logged l.flow (k == s) (x.offered k) (a.offered k) o p (f.offered k) h));
   accepted = f.accepted;
   layer = (next_unread a.layer).0 ∙ ap (λ (q : Layer). (next_packet q).layer) f.layer;
 }
@@ -108,8 +112,13 @@ follows_offers x l a s o p f e h = record {
 
 -- ---- calls of the user, expiries
 
-pub follows_told : (x : Side) (l m after : Layer) (a : End) (f : ℕ → History → History) → Follows x l a → unread m ≡ after → Follows x after (with_layer m (told f a))
-follows_told x l m after a f h e = record { session = h.session; offered = h.offered; accepted = h.accepted; layer = e }
+pub follows_told : (x : Side) (l m after : Layer) (a : End) (f : ℕ → History → History) → Follows x l a → after.flow ≡ l.flow → unread m ≡ after → Follows x after (with_layer m (told f a))
+follows_told x l m after a f h same e = record {
+  session = h.session;
+  offered = λ s. subst (λ (flow : Flow). AreHeard flow (x.offered s) (a.offered s)) (sym same) (h.offered s);
+  accepted = h.accepted;
+  layer = e;
+}
 
 pub call_follows : (l : Layer) (a : End) (parts : CallParts) → unread a.layer ≡ l → unread (call a.layer parts) ≡ call l parts
 call_follows l a parts e = call_unread a.layer parts ∙ ap (λ (q : Layer). call q parts) e

@@ -1,5 +1,6 @@
 pub mod Thinning
 pub mod Unread
+pub mod Flows
 pub mod Layers
 pub mod Links
 pub mod Telling

@@ -19,6 +19,7 @@ use Rattle.line_laws.specs.Line.{Offers}
 use Rattle.line_laws.specs.Events.{offer_events, after_here, cleared, notes_of}
 use Rattle.line_laws.specs.Joint.{Side, side, session_of, session_now, Follows, JointAt}
 use Rattle.line_laws.specs.Steps.{session_after, Rise, Step}
+use Rattle.line_laws.proofs.Flows.{next_flow}
 use Rattle.line_laws.proofs.Layers.{follows_offers, offers_happens, next_silent}
 use Rattle.line_laws.proofs.Links.{Goes, goes_offer, takes_up}
 
@@ -49,9 +50,9 @@ one_goes role w v me you going coming j room says =
     let x : Side = side role w me.line.link in
     let y : Side = side (other_of role) w you.line.link in
     let p = some_is (next_packet me.layer).packet says in
-    let octets : Octets = written_packet (next_packet me.layer).packet [] in
-    let is_heard : heard octets ≡ Some (Whole p.0) = ap (λ (q : Option Packet). heard (written_packet q [])) p.1 ∙ next_heard me.layer j.readable_here p.0 p.1 in
-    let short : length octets ≤ 145 = subst (λ (q : Option Packet). length (written_packet q []) ≤ 145) (sym p.1) (next_short me.layer j.readable_here p.0 p.1) in
+    let octets : Octets = written_packet me.layer.flow (next_packet me.layer).packet [] in
+    let is_heard : heard me.layer.flow octets ≡ Some (Whole p.0) = ap (λ (q : Option Packet). heard me.layer.flow (written_packet me.layer.flow q [])) p.1 ∙ next_heard me.layer j.readable_here p.0 p.1 in
+    let short : length octets ≤ 145 = subst (λ (q : Option Packet). length (written_packet me.layer.flow q []) ≤ 145) (sym p.1) (next_short me.layer j.readable_here p.0 p.1) in
     let here : Goes role me.line.link you.line.link (going ++ me.line.frames) (coming ++ you.line.frames) x y = record { world = w; stands = j.stands; mine_is = refl; yours_is = refl } in
     let g = goes_offer me.line.link you.line.link (going ++ me.line.frames) (coming ++ you.line.frames) x y role octets room short here in
     let session : v.me.session ≡ Some x.session = j.mine.session ∙ ap (λ (b : Bool). session_now b x.session) (takes_up me.line.link room) in
@@ -68,6 +69,7 @@ one_goes role w v me you going coming j room says =
             (subst (λ (u : layers.Line). Follows y you.layer u.you) (sym is) j.yours);
         readable_here = readable_next me.layer j.readable_here;
         readable_there = j.readable_there;
+        same_flow = j.same_flow ∙ sym (next_flow me.layer);
       };
       silent = ap (λ (u : layers.Line). u.me.layer.notes) clear ∙ next_silent v.me.layer;
       mine_is = ap (λ (s : Side). s.session) g.mine_is;

@@ -10,6 +10,7 @@ use Rattle.lapb.specs.Machine.{Octets, Link, is_up, is_empty}
 use Rattle.lapb.specs.World.{World}
 use Rattle.lapb.proofs.Inv.{Inv}
 use Rattle.lapb.proofs.Reach.{reached_inv}
+use Rattle.packet_channel.specs.declared.flow.Flow.{Flow}
 use Rattle.packet_layer.specs.Packets.{Packet, Datum}
 use Rattle.packet_layer.specs.Traffic.{Traffic, rests, flow_told}
 use Rattle.packet_layer.specs.Channel.{Channel, channel_rests}
@@ -42,11 +43,11 @@ rests_at : (chs : List Channel) (c : ℕ) (ch : Channel) → list_all channel_re
 rests_at chs zero ch all e = absurd (none-some ch e)
 rests_at chs (suc c) ch all e = all_at channel_rests chs c ch all e
 
-as_many : (xs : List Octets) (ps : List Packet) → AreHeard xs ps → length xs ≡ length ps
-as_many [] [] h = refl
-as_many (x ∷ xs) (p ∷ ps) h = ap suc (as_many xs ps h.1)
-as_many [] (p ∷ ps) h = absurd h
-as_many (x ∷ xs) [] h = absurd h
+as_many : (flow : Flow) (xs : List Octets) (ps : List Packet) → AreHeard flow xs ps → length xs ≡ length ps
+as_many flow [] [] h = refl
+as_many flow (x ∷ xs) (p ∷ ps) h = ap suc (as_many flow xs ps h.1)
+as_many flow [] (p ∷ ps) h = absurd h
+as_many flow (x ∷ xs) [] h = absurd h
 
 -- ---- the links
 
@@ -155,8 +156,8 @@ nothing_missing w v dte dce up down j r c h a b at_a at_b =
       up_there = up_there;
       no_relink_here = ap (λ (l : Layer). l.relink) j.mine.layer ∙ r.no_relink_at_dte;
       no_relink_there = ap (λ (l : Layer). l.relink) j.yours.layer ∙ r.no_relink_at_dce;
-      all_came_here = j.mine.accepted s ∙ came.at_dte ∙ as_many (w.dce_offered s) (v.you.offered s) (j.yours.offered s);
-      all_came_there = j.yours.accepted s ∙ came.at_dce ∙ as_many (w.dte_offered s) (v.me.offered s) (j.mine.offered s);
+      all_came_here = j.mine.accepted s ∙ came.at_dte ∙ as_many dce.layer.flow (w.dce_offered s) (v.you.offered s) (j.yours.offered s);
+      all_came_there = j.yours.accepted s ∙ came.at_dce ∙ as_many dte.layer.flow (w.dte_offered s) (v.me.offered s) (j.mine.offered s);
       no_restart_owed_here = ap (λ (l : Layer). l.owed) j.mine.layer ∙ none_waits dte.layer.owed dte_layer.0;
       no_restart_owed_there = ap (λ (l : Layer). l.owed) j.yours.layer ∙ none_waits dce.layer.owed dce_layer.0;
       found_here = ap (λ (l : Layer). channel_of l c) j.mine.layer ∙ at_a;

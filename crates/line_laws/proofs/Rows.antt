@@ -3,6 +3,7 @@ use Rattle.std.specs.Prelude.{◌≡◌, ℕ, zero, suc, false, List, [], ◌∷
 use Rattle.std.proofs.Common.{refl, arith}
 use Rattle.link_timers.specs.declared.role.Role.{Role}
 use Rattle.link_timers.specs.declared.role.Role.TheVariants.{Dte, Dce}
+use Rattle.packet_layer.specs.Flow.{modulo_8}
 use Rattle.packet_layer.specs.Packets.{CallParts, Datum}
 use Rattle.packet_layer.specs.Packets.Note.{Incoming, Connected}
 use Rattle.packet_layer.specs.Traffic.Taken.{TakenPacket}
@@ -20,7 +21,7 @@ use Rattle.line_laws.proofs.Holding.{line_ends_hold}
 use Rattle.line_laws.specs.Line.{Act, Event, At, Hears, Calls, Requests, Offers, Settles, Sends, made, after}
 
 abbrev params : EndParams
-params = record { k = 7; n2 = 3; channels = 4; window = 2; standing = false }
+params = record { k = 7; n2 = 3; channels = 4; flow = modulo_8 2; standing = false }
 
 -- the end of an event of a node, and a frame that comes to it
 abbrev ends : Role → List Event
@@ -130,8 +131,8 @@ fits =
 are_params : AreParams params
 are_params = record {
   link = record { k_least = omega arith; k_most = omega arith; n2_least = omega arith; n2_most = omega arith };
-  layer = record { channels_least = omega arith; channels_most = omega arith; window_least = omega arith; window_most = omega arith };
+  layer = record { channels_least = omega arith; channels_most = omega arith; flow_is = record { window_least = omega arith; window_most = omega arith; size_is = refl } };
 }
 
 passes : Passes params (after said (made params params))
-passes = line_ends_hold params params are_params are_params (record { channels = refl; window = refl; standing = refl }) said fits
+passes = line_ends_hold params params are_params are_params (record { channels = refl; flow = refl; standing = refl }) said fits

@@ -7,9 +7,11 @@ use Rattle.lapb.specs.declared.note.Note as link_note
 use Rattle.lapb.specs.declared.note.Note.TheVariants.{Up, Down}
 use Rattle.lapb.specs.Machine.{Octets}
 use Rattle.lapb.specs.World.{logged, emptied}
+use Rattle.packet_channel.specs.declared.flow.Flow.{Flow}
 use Rattle.packet_layer.specs.Packets.{CallParts, Note}
 use Rattle.packet_layer.specs.Packets.Received.{Whole}
 use Rattle.packet_layer.specs.Channel.{Request}
+use Rattle.packet_layer.specs.Octets.{heard}
 use Rattle.packet_layer.specs.Events.{on_octets, after_hearing, on_named}
 use Rattle.packet_layer.specs.Layer.{Layer, Timer, unread, link_up, link_down, on_packet, on_timer, call, request, channel_given}
 use Rattle.packet_laws.specs.History.{call_history, request_history, timer_history}
@@ -20,6 +22,7 @@ use Rattle.packet_end.specs.PacketEnd.{PacketEnd, gathered, heeded, after_packet
 use Rattle.line_laws.specs.Joint.{Side, Follows, session_now}
 use Rattle.line_laws.specs.Events.{note_events, packet_events, timer_events, after_here, cleared, notes_of}
 use Rattle.line_laws.specs.Steps.{session_after, Rise}
+use Rattle.line_laws.proofs.Flows.{octets_flow, timer_flow, call_flow, request_flow}
 use Rattle.line_laws.proofs.Layers.{heard_at, follows_down, follows_up, up_happens, follows_arrives, arrives_happens, follows_told, call_follows, request_follows, timer_follows, call_silent, request_silent}
 use Rattle.line_laws.proofs.Links.{Takes, enters, leaves, stays, takes}
 
@@ -28,14 +31,15 @@ pub record Told (x next y : Side) (m : Layer) (e after : PacketEnd) (v : Line) (
   pub mine : Follows next after.layer (after_here events v).me
   pub yours : Follows y m (after_here events v).you
   pub readable : IsReadable after.layer
+  pub flow : after.layer.flow ≡ e.layer.flow
   pub notes : after.notes ≡ e.notes ++ notes_of events v
   pub line : after.line ≡ e.line
   pub rises : Rise events x.session y.session
   pub session : next.session ≡ session_after events x.session
 
-module _ (x y : Side) (m : Layer) (e : PacketEnd) (v : Line) (f : Follows x e.layer v.me) (g : Follows y m v.you) (r : IsReadable e.layer) where
+module _ (x y : Side) (m : Layer) (e : PacketEnd) (v : Line) (f : Follows x e.layer v.me) (g : Follows y m v.you) (r : IsReadable e.layer) (same : m.flow ≡ e.layer.flow) where
   pub told_nothing : Told x x y m e e v []
-  told_nothing = record { mine = f; yours = g; readable = r; notes = sym (append-nil e.notes); line = refl; rises = tt; session = refl }
+  told_nothing = record { mine = f; yours = g; readable = r; flow = refl; notes = sym (append-nil e.notes); line = refl; rises = tt; session = refl }
 
   one_note : (notes given : List Note) → notes ≡ given → e.notes ++ notes ≡ e.notes ++ (given ++ [])
   one_note notes given s = ap (λ (z : List Note). e.notes ++ z) (s ∙ sym (append-nil given))
@@ -56,6 +60,7 @@ module _ (x y : Side) (m : Layer) (e : PacketEnd) (v : Line) (f : Follows x e.la
         mine = subst (λ (u : Line). Follows (record x { up = true; session = n; offered = emptied true x.offered n }) (unread (link_up e.layer)) u.me) (sym is) (follows_up x e.layer v.me n f);
         yours = subst (λ (u : Line). Follows y m u.you) (sym is) g;
         readable = readable_link_up e.layer r;
+        flow = refl;
         notes = one_note (link_up e.layer).notes (happens (Event.Up n) (cleared v)).me.layer.notes
             (sym (ap (λ (u : Line). u.me.layer.notes) clear ∙ ap (λ (q : Layer). (link_up q).notes) f.layer));
         line = refl;
@@ -68,6 +73,7 @@ module _ (x y : Side) (m : Layer) (e : PacketEnd) (v : Line) (f : Follows x e.la
     mine = follows_down x e.layer v.me f;
     yours = g;
     readable = readable_link_down e.layer r;
+    flow = refl;
     notes = one_note (link_down e.layer).notes (link_down v.me.layer).notes (sym (ap (λ (q : Layer). (link_down q).notes) f.layer));
     line = refl;
     rises = tt;
@@ -78,20 +84,22 @@ module _ (x y : Side) (m : Layer) (e : PacketEnd) (v : Line) (f : Follows x e.la
       slice_get (y.offered x.session) (length (x.accepted x.session)) ≡ Some octets →
       Told x (record x { accepted = logged x.accepted x.session (Some octets) }) y m e (after_packet (Some octets) e) v (Event.Arrives ∷ [])
   told_packet octets up before next =
-      let h = heard_at (y.offered x.session) (v.you.offered x.session) (length (x.accepted x.session)) octets (g.offered x.session) next in
+      let h = heard_at m.flow (y.offered x.session) (v.you.offered x.session) (length (x.accepted x.session)) octets (g.offered x.session) next in
+      let is_heard : heard e.layer.flow octets ≡ Some (Whole h.0) = ap (λ (flow : Flow). heard flow octets) (sym same) ∙ h.2 in
       let session : v.me.session ≡ Some x.session = f.session ∙ ap (λ (b : Bool). session_now b x.session) up in
       let first : next_of_session v x.session ≡ Some h.0 = ap (λ (k : ℕ). slice_get (v.you.offered x.session) k) (f.accepted x.session) ∙ h.1 in
       let is = arrives_happens v x.session h.0 session first in
       let clear = arrives_happens (cleared v) x.session h.0 session first in
       record {
         mine = subst (λ (u : Line). Follows (record x { accepted = logged x.accepted x.session (Some octets) }) (unread (on_octets e.layer octets)) u.me) (sym is)
-            (follows_arrives x e.layer v.me x.session octets h.0 f h.2);
+            (follows_arrives x e.layer v.me x.session octets h.0 f is_heard);
         yours = subst (λ (u : Line). Follows y m u.you) (sym is) g;
         readable = readable_on_octets e.layer octets r;
+        flow = octets_flow e.layer octets;
         notes = one_note (on_octets e.layer octets).notes (happens Event.Arrives (cleared v)).me.layer.notes
             (sym (ap (λ (u : Line). u.me.layer.notes) clear
             ∙ ap (λ (q : Layer). (on_packet q (Whole h.0)).notes) f.layer
-            ∙ ap (λ z. (after_hearing (unread e.layer) z).notes) (sym h.2)));
+            ∙ ap (λ z. (after_hearing (unread e.layer) z).notes) (sym is_heard)));
         line = refl;
         rises = (before, tt);
         session = refl;
@@ -135,15 +143,17 @@ module _ (x y : Side) (m : Layer) (e : PacketEnd) (v : Line) (f : Follows x e.la
     mine = record { session = f.session; offered = f.offered; accepted = f.accepted; layer = ap (λ (q : Layer). unread q) f.layer };
     yours = g;
     readable = r;
+    flow = refl;
     notes = ap (λ (z : List Note). e.notes ++ z) (sym (ap (λ (q : Layer). q.notes) f.layer));
     line = refl;
     rises = tt;
     session = refl;
   }
   told_timer timers (Some t) = record {
-    mine = follows_told x e.layer (on_timer v.me.layer t) (unread (on_timer e.layer t)) v.me (λ d st. timer_history v.me.layer t d st) f (timer_follows e.layer v.me t f.layer);
+    mine = follows_told x e.layer (on_timer v.me.layer t) (unread (on_timer e.layer t)) v.me (λ d st. timer_history v.me.layer t d st) f (timer_flow e.layer t) (timer_follows e.layer v.me t f.layer);
     yours = g;
     readable = readable_on_timer e.layer t r;
+    flow = timer_flow e.layer t;
     notes = one_note (on_timer e.layer t).notes (on_timer (unread v.me.layer) t).notes (sym (ap (λ (q : Layer). (on_timer q t).notes) f.layer));
     line = refl;
     rises = tt;
@@ -152,10 +162,11 @@ module _ (x y : Side) (m : Layer) (e : PacketEnd) (v : Line) (f : Follows x e.la
 
   pub told_call : (parts : CallParts) → CanBePlaced parts → Told x x y m e (called e parts) v (Event.Calls parts ∷ [])
   told_call parts fits = record {
-    mine = follows_told x e.layer (call v.me.layer parts) (call e.layer parts) v.me (λ d st. call_history parts (channel_given v.me.layer v.me.layer.phase) d st) f
+    mine = follows_told x e.layer (call v.me.layer parts) (call e.layer parts) v.me (λ d st. call_history parts (channel_given v.me.layer v.me.layer.phase) d st) f (call_flow e.layer parts)
         (call_follows e.layer v.me parts f.layer);
     yours = g;
     readable = readable_call e.layer parts fits r;
+    flow = call_flow e.layer parts;
     notes = no_note (call (unread v.me.layer) parts).notes (call_silent v.me parts);
     line = refl;
     rises = tt;
@@ -164,10 +175,11 @@ module _ (x y : Side) (m : Layer) (e : PacketEnd) (v : Line) (f : Follows x e.la
 
   pub told_request : (channel : ℕ) (q : Request) → Told x x y m e (asked e channel q) v (Event.Requests channel q ∷ [])
   told_request channel q = record {
-    mine = follows_told x e.layer (request v.me.layer channel q) (request e.layer channel q) v.me (λ d st. request_history v.me.layer channel q d st) f
+    mine = follows_told x e.layer (request v.me.layer channel q) (request e.layer channel q) v.me (λ d st. request_history v.me.layer channel q d st) f (request_flow e.layer channel q)
         (request_follows e.layer v.me channel q f.layer);
     yours = g;
     readable = readable_request e.layer channel q r;
+    flow = request_flow e.layer channel q;
     notes = no_note (request (unread v.me.layer) channel q).notes (request_silent v.me channel q);
     line = refl;
     rises = tt;

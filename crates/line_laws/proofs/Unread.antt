@@ -77,7 +77,7 @@ served_same l c n false a b h = h
 
 found_same : (l : Layer) (c : ℕ) (found : Option Channel) (a b : Next) → SameNext a b → SameNext (serve_found l c found a) (serve_found (unread l) c found b)
 found_same l c None a b h = h
-found_same l c (Some ch) a b h = served_same l c (next_of l.window ch) (is_some (next_of l.window ch).body) a b h
+found_same l c (Some ch) a b h = served_same l c (next_of l.flow ch) (is_some (next_of l.flow ch).body) a b h
 
 serve_same : (k : ℕ) (l : Layer) (c : ℕ) → SameNext (serve k l c) (serve k (unread l) c)
 serve_same zero l c = (refl, refl)

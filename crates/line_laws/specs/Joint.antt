@@ -7,6 +7,7 @@ use Rattle.link_timers.specs.Role.{other_of}
 use Rattle.lapb.specs.Machine.{Octets, Link, is_up}
 use Rattle.lapb.specs.World.{Sent, World}
 use Rattle.lapb.specs.Line.{StandsIn}
+use Rattle.packet_channel.specs.declared.flow.Flow.{Flow}
 use Rattle.packet_layer.specs.Packets.{Packet}
 use Rattle.packet_layer.specs.Packets.Received.{Whole}
 use Rattle.packet_layer.specs.Octets.{heard}
@@ -61,17 +62,18 @@ abbrev pub session_now : (up : Bool) → ℕ → Option ℕ
 session_now true session = Some session
 session_now false session = None
 
--- the packets are, one by one, heard in the octets
-abbrev pub AreHeard : List Octets → List Packet → Type 0
-AreHeard [] [] = Unit {0}
-AreHeard (octets ∷ more) (packet ∷ packets) = (heard octets ≡ Some (Whole packet)) × AreHeard more packets
-AreHeard _ _ = ⊥
+-- the packets are, one by one, heard in the octets, on a line with this flow control
+abbrev pub AreHeard : Flow → List Octets → List Packet → Type 0
+AreHeard flow [] [] = Unit {0}
+AreHeard flow (octets ∷ more) (packet ∷ packets) =
+    (heard flow octets ≡ Some (Whole packet)) × AreHeard flow more packets
+AreHeard flow _ _ = ⊥
 
 -- an end of two packet layers is that of a link with this layer, but for notes that it has not read, of which this one
 -- has none
 pub record Follows (x : Side) (l : Layer) (a : End) : Type 0 where
   pub session : a.session ≡ session_now x.up x.session
-  pub offered : (s : ℕ) → AreHeard (x.offered s) (a.offered s)
+  pub offered : (s : ℕ) → AreHeard l.flow (x.offered s) (a.offered s)
   pub accepted : (s : ℕ) → a.accepted s ≡ length (x.accepted s)
   pub layer : unread a.layer ≡ l
 
@@ -91,7 +93,8 @@ pub record Part : Type 0 where
 abbrev pub part_of : PacketEnd → Part
 part_of e = record { link = e.line.link; waiting = e.line.frames; layer = e.layer }
 
--- as the end of a role sees it: the frames that wait at an end are behind those on the way from it
+-- as the end of a role sees it: the frames that wait at an end come after those on the way from it, and both ends have
+-- the same flow control
 pub record JointOf (role : Role) (w : World) (v : layers.Line) (me you : Part) (going coming : List Octets) : Type 0
   where
     pub stands : Stands role w me.link you.link (going ++ me.waiting) (coming ++ you.waiting)
@@ -99,6 +102,7 @@ pub record JointOf (role : Role) (w : World) (v : layers.Line) (me you : Part) (
     pub yours : Follows (side (other_of role) w you.link) you.layer v.you
     pub readable_here : IsReadable me.layer
     pub readable_there : IsReadable you.layer
+    pub same_flow : you.layer.flow ≡ me.layer.flow
 
 abbrev pub JointAt : Role → World → layers.Line → (me you : PacketEnd) → (going coming : List Octets) → Type 0
 JointAt role w v me you going coming = JointOf role w v (part_of me) (part_of you) going coming

@@ -20,11 +20,11 @@ use Rattle.line_laws.specs.Steps.{Step}
 pub record Passes (p : EndParams) (l : Line) : Type 0 where
   pub world : World
   pub happenings : List Happening
-  pub joint : Joint l world (layers.after happenings (start_line p.channels p.window p.standing))
+  pub joint : Joint l world (layers.after happenings (start_line p.channels p.flow p.standing))
   pub holds : (s c : ℕ) → 1 ≤ c → c ≤ p.channels
-      → Holds (layers.after happenings (start_line p.channels p.window p.standing)) s c
-  pub no_fault_at_dte : NoFault (layers.after happenings (start_line p.channels p.window p.standing))
-  pub no_fault_at_dce : NoFault (turned (layers.after happenings (start_line p.channels p.window p.standing)))
+      → Holds (layers.after happenings (start_line p.channels p.flow p.standing)) s c
+  pub no_fault_at_dte : NoFault (layers.after happenings (start_line p.channels p.flow p.standing))
+  pub no_fault_at_dce : NoFault (turned (layers.after happenings (start_line p.channels p.flow p.standing)))
 
 -- whatever happens on a line whose parameters are in range and whose requests are fit
 abbrev pub LineEndsLaw : Type 0

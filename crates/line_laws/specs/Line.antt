@@ -101,10 +101,10 @@ abbrev pub after : List Event → Line → Line
 after [] l = l
 after (event ∷ events) l = after events (happens event l)
 
--- the ends are made for the same line: with as many channels, the same window of each, and standing or not
+-- the ends are made for the same line: with as many channels, the same flow control of each, and standing or not
 pub record AreAlike (dte dce : EndParams) : Type 0 where
   pub channels : dce.channels ≡ dte.channels
-  pub window : dce.window ≡ dte.window
+  pub flow : dce.flow ≡ dte.flow
   pub standing : dce.standing ≡ dte.standing
 
 -- both ends are made, and nothing is on the way

@@ -6,6 +6,8 @@ use Rattle.std.proofs.lemmas.List.{length-map}
 use Rattle.link_timers.specs.declared.role.Role.{Role}
 use Rattle.link_timers.specs.declared.role.Role.TheVariants.{Dte, Dce}
 use Rattle.epochs.specs.Item.{DataPacket}
+use Rattle.packet_channel.specs.declared.flow.Flow.{Flow}
+use Rattle.packet_channel.proofs.Windows.{window_below}
 use Rattle.packet_layer.specs.Packets.{Datum}
 use Rattle.packet_layer.specs.Channel.{Channel, in_transfer}
 use Rattle.packet_layer.specs.Layer.{Layer, channel_of, confirmed_at}
@@ -84,13 +86,13 @@ is_said (Some ch) e =
 said_of : (o : Option Channel) (ch : Channel) → o ≡ Some ch → in_transfer ch.state ≡ true → ch.traffic.undelivered ≡ 0 → confirmed_at o ≡ true
 said_of o ch found flows none = ap confirmed_at found ∙ ap (λ (v : Bool). v && (ch.traffic.undelivered == 0)) flows ∙ eq-eqb ch.traffic.undelivered 0 none
 
-says : (window : ℕ) (l : Layer) (channel : ℕ) (r : RecordValue) (e : Epoch) → HasLast r e
-    → ((ch : Channel) → channel_of l channel ≡ Some ch → in_transfer ch.state ≡ true → NamesCounts window ch.traffic e) → SaysConfirmed l channel r
-says window l channel r e h counts = record {
+says : (flow : Flow) (l : Layer) (channel : ℕ) (r : RecordValue) (e : Epoch) → HasLast r e
+    → ((ch : Channel) → channel_of l channel ≡ Some ch → in_transfer ch.state ≡ true → NamesCounts flow ch.traffic e) → SaysConfirmed l channel r
+says flow l channel r e h counts = record {
   covered = λ said.
       let is = is_said (channel_of l channel) said in
-      covered_of r e h ((counts_hold.delivered window is.ch.traffic e (counts is.ch is.found is.flows)).0 is.none);
-  said = λ ch found flows all. said_of (channel_of l channel) ch found flows ((counts_hold.delivered window ch.traffic e (counts ch found flows)).1 (delivered_of r e h all));
+      covered_of r e h ((counts_hold.delivered flow is.ch.traffic e (counts is.ch is.found is.flows)).0 is.none);
+  said = λ ch found flows all. said_of (channel_of l channel) ch found flows ((counts_hold.delivered flow ch.traffic e (counts ch found flows)).1 (delivered_of r e h all));
 }
 
 -- ---- the law
@@ -107,10 +109,10 @@ module _ (s : Setting) (b : Book) (l : Line) (k : Kept s b l) where
       → SaysConfirmed (end_at role l).layer channel r
   says_so role channel number r at there =
       let p = k.setting.dte.layer in
-      let h = (opened s.dte_node s.dce_node s.dte.channels s.dte.window s.dte.standing p.channels_least p.window_most k.moves k.allowed).present role channel number r at there in
-      let counted : IsCounted s.dte.window (layers_at role world.line) h.0 channel =
-      counted_there s.dte_node s.dce_node s.dte.channels s.dte.window s.dte.standing p.channels_least p.window_most k.moves k.allowed role channel number at h.0 in
-      says s.dte.window (end_at role l).layer channel r (epoch_now ((layers_at role world.line).histories h.0 channel)) h.1.last
+      let h = (opened s.dte_node s.dce_node s.dte.channels s.dte.flow s.dte.standing p.channels_least (window_below _ p.flow_is) k.moves k.allowed).present role channel number r at there in
+      let counted : IsCounted s.dte.flow (layers_at role world.line) h.0 channel =
+      counted_there s.dte_node s.dce_node s.dte.channels s.dte.flow s.dte.standing p.channels_least (window_below _ p.flow_is) k.moves k.allowed role channel number at h.0 in
+      says s.dte.flow (end_at role l).layer channel r (epoch_now ((layers_at role world.line).histories h.0 channel)) h.1.last
       (λ ch found flows. counted ch h.1.up (same_layer role channel ∙ found) flows)
 
 pub confirmed_kept : ConfirmedLaw

@@ -1,11 +1,14 @@
 -- What the records of a line count is what its packet layers let pass.
-use Rattle.std.specs.Prelude.{◌≡◌, ℕ, ◌≤◌, true, List, [], ◌∷◌, ◌++◌, length, slice_get, Some}
+use Rattle.std.specs.Prelude.{◌≡◌, ℕ, ◌<◌, true, List, [], ◌∷◌, ◌++◌, length, slice_get, Some}
 use Rattle.std.proofs.Common.{inl, inr, sym, ap, ◌∙◌, arith}
 use Rattle.std.proofs.lemmas.List.{length-map}
 use Rattle.link_timers.specs.declared.role.Role.{Role}
 use Rattle.link_timers.specs.declared.role.Role.TheVariants.{Dte, Dce}
 use Rattle.epochs.specs.Item.{DataPacket}
 use Rattle.epochs.specs.Epoch.{SentEpoch, TakenEpoch}
+use Rattle.packet_layer.specs.Flow.{modulus}
+use Rattle.packet_channel.specs.declared.flow.Flow.{Flow}
+use Rattle.packet_channel.proofs.Windows.{window_below}
 use Rattle.packet_layer.specs.Channel.{Channel, in_transfer}
 use Rattle.packet_layer.specs.Layer.{Layer, channel_of, unread}
 use Rattle.packet_laws.specs.History.{Epoch, empty_epoch}
@@ -25,17 +28,17 @@ use Rattle.book_laws.proofs.Counting.{records_counted}
 use Rattle.line_record_laws.specs.Kept.{Setting, Kept, beginning, end_at}
 use Rattle.line_record_laws.specs.Counted.{ShowsCounts, ShownLaw, HasItsEpochs, IsCountedThere, CountsLaw}
 
-shows : (window : ℕ) → window ≤ 7 → (l : Layer) (channel : ℕ) (r : RecordValue) (e : Epoch) → HasLast r e
-    → ((ch : Channel) → channel_of l channel ≡ Some ch → in_transfer ch.state ≡ true → NamesCounts window ch.traffic e) → ShowsCounts l channel r
-shows window small l channel r e h counts = record {
+shows : (flow : Flow) → flow.window < modulus flow.numbering → (l : Layer) (channel : ℕ) (r : RecordValue) (e : Epoch) → HasLast r e
+    → ((ch : Channel) → channel_of l channel ≡ Some ch → in_transfer ch.state ≡ true → NamesCounts flow ch.traffic e) → ShowsCounts l channel r
+shows flow small l channel r e h counts = record {
   covered = λ ch found flows.
-      let flight = uncovered_is window ch.traffic e small (counts ch found flows) in
+      let flight = uncovered_is flow ch.traffic e small (counts ch found flows) in
       let many = ap (λ (ps : List DataPacket). length ps) h.sent in
       let same = length-map e.sent packet_of in
       let count = h.covered in
       omega arith;
   released = λ ch found flows.
-      let rest = unreleased_is window ch.traffic e small (counts ch found flows) in
+      let rest = unreleased_is flow ch.traffic e small (counts ch found flows) in
       let many = ap (λ (ps : List DataPacket). length ps) h.taken in
       let same = length-map e.taken packet_of in
       let count = h.released in
@@ -54,16 +57,16 @@ module _ (s : Setting) (b : Book) (l : Line) (k : Kept s b l) where
       → ShowsCounts (end_at role l).layer channel r
   shows_so role channel number r at there =
       let p = k.setting.dte.layer in
-      let h = (opened s.dte_node s.dce_node s.dte.channels s.dte.window s.dte.standing p.channels_least p.window_most k.moves k.allowed).present role channel number r at there in
-      let counted : IsCounted s.dte.window (layers_at role world.line) h.0 channel =
-      counted_there s.dte_node s.dce_node s.dte.channels s.dte.window s.dte.standing p.channels_least p.window_most k.moves k.allowed role channel number at h.0 in
-      shows s.dte.window p.window_most (end_at role l).layer channel r (epoch_now ((layers_at role world.line).histories h.0 channel)) h.1.last
+      let h = (opened s.dte_node s.dce_node s.dte.channels s.dte.flow s.dte.standing p.channels_least (window_below _ p.flow_is) k.moves k.allowed).present role channel number r at there in
+      let counted : IsCounted s.dte.flow (layers_at role world.line) h.0 channel =
+      counted_there s.dte_node s.dce_node s.dte.channels s.dte.flow s.dte.standing p.channels_least (window_below _ p.flow_is) k.moves k.allowed role channel number at h.0 in
+      shows s.dte.flow (window_below _ p.flow_is) (end_at role l).layer channel r (epoch_now ((layers_at role world.line).histories h.0 channel)) h.1.last
       (λ ch found flows. counted ch h.1.up (ap (λ (x : Layer). channel_of x channel) (same_layer role) ∙ found) flows)
 
   pub counted_so : (i : ℕ) (r : RecordValue) → slice_get world.book.records i ≡ Some r → IsCountedThere b l r
   counted_so i r there =
       let p = k.setting.dte.layer in
-      let c : IsCountedAt world r = records_counted s.dte_node s.dce_node s.dte.channels s.dte.window s.dte.standing p.channels_least p.window_most k.moves k.allowed i r there in
+      let c : IsCountedAt world r = records_counted s.dte_node s.dce_node s.dte.channels s.dte.flow s.dte.standing p.channels_least (window_below _ p.flow_is) k.moves k.allowed i r there in
       record {
         role = c.role;
         node = c.node ∙ ap (λ (x : Book). (side_of c.role x).node) k.book;

@@ -5,6 +5,7 @@ use Rattle.call_records.specs.Book.{Book}
 use Rattle.book_laws.proofs.Counting.{records_counted}
 use Rattle.book_laws.proofs.AcceptedPairs.{pairs_accepted}
 use Rattle.line_record_laws.specs.Histories.{LineHistory, HistoryLaw}
+use Rattle.packet_channel.proofs.Windows.{window_below}
 use Rattle.line_record_laws.proofs.Counting.{same_layer}
 
 pub history_kept : HistoryLaw
@@ -16,8 +17,8 @@ history_kept s b l k =
         possible = record { setting = k.setting; allowed = k.allowed };
         layers = λ role. same_layer s b l k role;
         book = k.book;
-        counts = λ i r there. records_counted s.dte_node s.dce_node s.dte.channels s.dte.window s.dte.standing p.channels_least p.window_most k.moves k.allowed i r
+        counts = λ i r there. records_counted s.dte_node s.dce_node s.dte.channels s.dte.flow s.dte.standing p.channels_least (window_below _ p.flow_is) k.moves k.allowed i r
             (ap (λ (x : Book). slice_get x.records i) k.book ∙ there);
-        accepted = pairs_accepted s.dte_node s.dce_node s.dte.channels s.dte.window s.dte.standing p.channels_least p.window_most k.moves k.allowed;
+        accepted = pairs_accepted s.dte_node s.dce_node s.dte.channels s.dte.flow s.dte.standing p.channels_least (window_below _ p.flow_is) k.moves k.allowed;
       },
     )

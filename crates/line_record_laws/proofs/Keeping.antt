@@ -7,6 +7,7 @@ use Rattle.link_timers.specs.Role.{other_of}
 use Rattle.lapb.specs.Machine.{Octets, Link}
 use Rattle.lapb.specs.World as links
 use Rattle.link_timers.specs.Timers.{none_running}
+use Rattle.packet_channel.proofs.Windows.{window_below}
 use Rattle.packet_end.specs.End as line
 use Rattle.packet_layer.specs.Packets.{Note}
 use Rattle.packet_layer.specs.Packets.Note.{Closed}
@@ -40,12 +41,12 @@ use Rattle.line_record_laws.proofs.Acting.{hears_at, expires_at, relinks_at, rel
 
 pub made_kept : MadeLaw
 made_kept s is =
-    let n = new_joint s.dte.channels s.dte.window s.dte.k s.dte.n2 s.dce.k s.dce.n2 s.dte.standing is.dte.link.k_most is.dce.link.k_most is.dte.layer.channels_most in
+    let n = new_joint s.dte.channels s.dte.flow s.dte.k s.dte.n2 s.dce.k s.dce.n2 s.dte.standing is.dte.link.k_most is.dce.link.k_most is.dte.layer.channels_most in
     let j : Joint (made s.dte s.dce) n.0 (beginning s).line =
     subst (λ (e : PacketEnd). Joint (record (made s.dte s.dce) { dce = e }) n.0 (beginning s).line)
     (λ i. record {
       line = line.made Dce s.dce.k s.dce.n2 (sym is.alike.standing i);
-      layer = machine.made Dce (sym is.alike.channels i) (sym is.alike.window i) (sym is.alike.standing i);
+      layer = machine.made Dce (sym is.alike.channels i) (sym is.alike.flow i) (sym is.alike.standing i);
       timers = none_running;
       notes = [];
     }) n.1 in
@@ -146,6 +147,8 @@ like_joint w v l m h j = record {
       (subst (λ (x : Layer). Follows (side Dce w l.dce.line.link) x v.you) (sym h.dce_layer) j.yours);
   readable_here = subst (λ (x : Layer). IsReadable x) (sym h.dte_layer) j.readable_here;
   readable_there = subst (λ (x : Layer). IsReadable x) (sym h.dce_layer) j.readable_there;
+  same_flow =
+      ap (λ (x : Layer). x.flow) h.dce_layer ∙ j.same_flow ∙ ap (λ (x : Layer). x.flow) (sym h.dte_layer);
 }
 
 pub like_kept : LikeLaw
@@ -165,10 +168,10 @@ like_kept s b l m h k = record {
 pub holds_kept : HoldsLaw
 holds_kept s b l k =
     subst (λ (x : Book). BookHolds x) k.book
-    (book_holds s.dte_node s.dce_node s.dte.channels s.dte.window s.dte.standing k.setting.dte.layer.channels_least k.setting.dte.layer.window_most k.moves k.allowed)
+    (book_holds s.dte_node s.dce_node s.dte.channels s.dte.flow s.dte.standing k.setting.dte.layer.channels_least (window_below _ k.setting.dte.layer.flow_is) k.moves k.allowed)
 
 pub beside : (s : Setting) (b : Book) (l : Line) → (k : Kept s b l) → IsBeside (after_all k.moves (beginning s))
-beside s b l k = is_beside s.dte_node s.dce_node s.dte.channels s.dte.window s.dte.standing k.setting.dte.layer.channels_least k.setting.dte.layer.window_most k.moves k.allowed
+beside s b l k = is_beside s.dte_node s.dce_node s.dte.channels s.dte.flow s.dte.standing k.setting.dte.layer.channels_least (window_below _ k.setting.dte.layer.flow_is) k.moves k.allowed
 
 pub present_kept : PresentLaw
 present_kept s b l Dte channel k =

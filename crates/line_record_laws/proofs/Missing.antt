@@ -6,6 +6,7 @@ use Rattle.link_timers.specs.declared.role.Role.{Role}
 use Rattle.link_timers.specs.declared.role.Role.TheVariants.{Dte, Dce}
 use Rattle.link_timers.specs.Role.{other_of}
 use Rattle.epochs.specs.Item.{DataPacket, all_items}
+use Rattle.packet_channel.proofs.Windows.{window_below}
 use Rattle.packet_layer.specs.Packets.{Datum}
 use Rattle.packet_layer.specs.Channel.{Channel}
 use Rattle.packet_layer.specs.Layer.{channel_of}
@@ -58,7 +59,7 @@ module _ (s : Setting) (b : Book) (l : Line) (k : Kept s b l) (rests : AreAtRest
       let mine = found Dte c n here in
       let yours = found Dce c m there in
       let none = nothing_missing k.world world.line l.dte l.dce l.up l.down k.joint rests c
-      (holds_there s.dte_node s.dce_node s.dte.channels s.dte.window s.dte.standing p.channels_least p.window_most k.moves k.allowed Dte c n here)
+      (holds_there s.dte_node s.dce_node s.dte.channels s.dte.flow s.dte.standing p.channels_least (window_below _ p.flow_is) k.moves k.allowed Dte c n here)
       mine.0 yours.0 mine.1 yours.1 in
       let same : k.world.session ≡ session = same_Some k.world.session session (sym none.up_at_dte ∙ up) in
       subst (λ (i : ℕ). HasAll (epoch_now (world.line.me.histories i c)) (epoch_now (world.line.you.histories i c))
@@ -75,7 +76,7 @@ module _ (s : Setting) (b : Book) (l : Line) (k : Kept s b l) (rests : AreAtRest
   none_missing i pair caller callee at a c open_a open_c =
       let p = k.setting.dte.layer in
       let h : ShareChannel world pair caller callee =
-      (opened s.dte_node s.dce_node s.dte.channels s.dte.window s.dte.standing p.channels_least p.window_most k.moves k.allowed).pairs i pair caller callee at a c open_a open_c in
+      (opened s.dte_node s.dce_node s.dte.channels s.dte.flow s.dte.standing p.channels_least (window_below _ p.flow_is) k.moves k.allowed).pairs i pair caller callee at a c open_a open_c in
       both h.role h.session h.channel pair caller callee h.at_caller h.at_callee
 
 pub rest_kept : RestLaw

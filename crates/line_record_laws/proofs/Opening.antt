@@ -9,6 +9,7 @@ use Rattle.lapb.specs.declared.note.Note as link_note
 use Rattle.lapb.specs.declared.note.Note.TheVariants.{Nothing, Up, Down}
 use Rattle.lapb.specs.Machine.{Octets, on_t1}
 use Rattle.lapb.specs.Octets as link_octets
+use Rattle.packet_channel.specs.declared.flow.Flow.{Flow}
 use Rattle.packet_end.specs.End as line
 use Rattle.packet_layer.specs.Packets.{CallParts, Body, Packet, Received, Note, Reason}
 use Rattle.packet_layer.specs.Packets.Body.{Call, Accepted, Clear, ClearConfirmation, Data, Interrupt, InterruptConfirmation, ReceiveReady, ReceiveNotReady, Reset, ResetConfirmation, Restart, RestartConfirmation}
@@ -89,16 +90,16 @@ heard_one role c ch (Keeps n t) = one_of (covered_note c n) (covered_none c n (n
 heard_one role c ch (Confirms t) = omega arith
 heard_one role c ch (Wrong diagnostic) = omega arith
 
-flow_one : (role : Role) (window c : ℕ) (ch : Channel) (body : Body) → AtMostOne (in_flow_ready role window c ch body).notes
-flow_one role window c ch (Clear cause diagnostic) = omega arith
-flow_one role window c ch (Reset cause diagnostic) = omega arith
-flow_one role window c ch ResetConfirmation = omega arith
-flow_one role window c ch (Data send receive d) = heard_one role c ch (hears window ch.traffic (Data send receive d))
-flow_one role window c ch (ReceiveReady receive) = heard_one role c ch (hears window ch.traffic (ReceiveReady receive))
-flow_one role window c ch (ReceiveNotReady receive) = heard_one role c ch (hears window ch.traffic (ReceiveNotReady receive))
-flow_one role window c ch (Interrupt octets) = heard_one role c ch (hears window ch.traffic (Interrupt octets))
-flow_one role window c ch InterruptConfirmation = heard_one role c ch (hears window ch.traffic InterruptConfirmation)
-flow_one role window c ch _ = omega arith
+flow_one : (role : Role) (flow : Flow) (c : ℕ) (ch : Channel) (body : Body) → AtMostOne (in_flow_ready role flow c ch body).notes
+flow_one role flow c ch (Clear cause diagnostic) = omega arith
+flow_one role flow c ch (Reset cause diagnostic) = omega arith
+flow_one role flow c ch ResetConfirmation = omega arith
+flow_one role flow c ch (Data send receive d) = heard_one role c ch (hears flow ch.traffic (Data send receive d))
+flow_one role flow c ch (ReceiveReady receive) = heard_one role c ch (hears flow ch.traffic (ReceiveReady receive))
+flow_one role flow c ch (ReceiveNotReady receive) = heard_one role c ch (hears flow ch.traffic (ReceiveNotReady receive))
+flow_one role flow c ch (Interrupt octets) = heard_one role c ch (hears flow ch.traffic (Interrupt octets))
+flow_one role flow c ch InterruptConfirmation = heard_one role c ch (hears flow ch.traffic InterruptConfirmation)
+flow_one role flow c ch _ = omega arith
 
 reset_one : (role : Role) (c : ℕ) (ch : Channel) (body : Body) → AtMostOne (in_own_reset role c ch body).notes
 reset_one role c ch (Clear cause diagnostic) = omega arith
@@ -146,14 +147,14 @@ either_one : (v : Bool) (a b : Step) → AtMostOne a.notes → AtMostOne b.notes
 either_one true a b g h = g
 either_one false a b g h = h
 
-received_one : (s : CallState) (role : Role) (window c : ℕ) (ch : Channel) (body : Body) → AtMostOne (received_in s role window c ch body).notes
-received_one Ready role window c ch body = ready_one role c ch body
-received_one OwnWaiting role window c ch body = own_one role c ch body
-received_one FarWaiting role window c ch body = far_one role c ch body
-received_one Transfer role window c ch body =
-    either_one ch.resetting (in_own_reset role c ch body) (in_flow_ready role window c ch body) (reset_one role c ch body) (flow_one role window c ch body)
-received_one Collision role window c ch body = collision_one role c ch body
-received_one OwnClear role window c ch body = clear_one ch body
+received_one : (s : CallState) (role : Role) (flow : Flow) (c : ℕ) (ch : Channel) (body : Body) → AtMostOne (received_in s role flow c ch body).notes
+received_one Ready role flow c ch body = ready_one role c ch body
+received_one OwnWaiting role flow c ch body = own_one role c ch body
+received_one FarWaiting role flow c ch body = far_one role c ch body
+received_one Transfer role flow c ch body =
+    either_one ch.resetting (in_own_reset role c ch body) (in_flow_ready role flow c ch body) (reset_one role c ch body) (flow_one role flow c ch body)
+received_one Collision role flow c ch body = collision_one role c ch body
+received_one OwnClear role flow c ch body = clear_one ch body
 
 unreadable_one : (s : CallState) (role : Role) (c : ℕ) (unknown : Bool) (ch : Channel) → AtMostOne (unreadable_in s role c unknown ch).notes
 unreadable_one Ready role c unknown ch = omega arith
@@ -184,9 +185,9 @@ restart_one phase _ l = omega arith
 packet_one : (l : Layer) (p : Packet) → AtMostOne (packet_in (unread l) p).notes
 packet_one l p = by (p.channel == 0)
   where
-    by : (v : Bool) → AtMostOne (cond v (restart_packet l.phase p.body (unread l)) (on_channel l.phase (unread l) p.channel (λ ch. channel_received l.role l.window p.channel ch p.body))).notes
+    by : (v : Bool) → AtMostOne (cond v (restart_packet l.phase p.body (unread l)) (on_channel l.phase (unread l) p.channel (λ ch. channel_received l.role l.flow p.channel ch p.body))).notes
     by true = restart_one l.phase p.body l
-    by false = channel_one l.phase l p.channel (λ ch. channel_received l.role l.window p.channel ch p.body) (λ ch. received_one ch.state l.role l.window p.channel ch p.body)
+    by false = channel_one l.phase l p.channel (λ ch. channel_received l.role l.flow p.channel ch p.body) (λ ch. received_one ch.state l.role l.flow p.channel ch p.body)
 
 hearing_one : (l : Layer) (o : Option Received) → AtMostOne (after_hearing (unread l) o).notes
 hearing_one l None = omega arith
@@ -204,7 +205,7 @@ heeded_none Down e h = none_more e.notes (link_down e.layer).notes h ∙ down_no
 after_packet_one : (o : Option Octets) (e : PacketEnd) → IsNone e.notes → AtMostOne (after_packet o e).notes
 after_packet_one None e h = one_of e.notes h
 after_packet_one (Some octets) e h =
-    subst (λ (n : ℕ). n ≤ 1) (sym (none_more e.notes (on_octets e.layer octets).notes h)) (hearing_one e.layer (heard octets))
+    subst (λ (n : ℕ). n ≤ 1) (sym (none_more e.notes (on_octets e.layer octets).notes h)) (hearing_one e.layer (heard e.layer.flow octets))
 
 received_at_most : (e : PacketEnd) (octets : Octets) → AtMostOne (received (begun e) octets).notes
 received_at_most e octets =

@@ -26,7 +26,7 @@ either P false x y g h = h
 
 found_relink : (l : Layer) (d : ℕ) (o : Option Channel) (others : Next) → others.layer.relink ≡ l.relink → (serve_found l d o others).layer.relink ≡ l.relink
 found_relink l d None others h = h
-found_relink l d (Some ch) others h = either (λ (n : Next). n.layer.relink ≡ l.relink) (is_some (next_of l.window ch).body) _ others refl h
+found_relink l d (Some ch) others h = either (λ (n : Next). n.layer.relink ≡ l.relink) (is_some (next_of l.flow ch).body) _ others refl h
 
 serve_relink : (k : ℕ) (l : Layer) (d : ℕ) → (serve k l d).layer.relink ≡ l.relink
 serve_relink zero l d = refl

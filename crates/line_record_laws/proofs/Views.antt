@@ -105,4 +105,4 @@ pub kept_waits : (s : Setting) (b : Book) (role : Role) (me you : PacketEnd) (go
 kept_waits s b role me you going coming k =
     subst (λ (l : Layer). AllWaitInTransfer l) k.joint.mine.layer
     (mine_waits role k.line b k.top_mine k.top_yours
-    (subst (λ (v : World). BothWaitInTransfer v.line) k.reaches.ends (moves_waits k.reaches.moves (beginning s) (start_waits s.dte.channels s.dte.window s.dte.standing))))
+    (subst (λ (v : World). BothWaitInTransfer v.line) k.reaches.ends (moves_waits k.reaches.moves (beginning s) (start_waits s.dte.channels s.dte.flow s.dte.standing))))

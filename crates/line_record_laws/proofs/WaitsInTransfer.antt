@@ -4,6 +4,7 @@ use Rattle.std.proofs.Common.{refl, sym, ap, ◌∙◌, true≢false}
 use Rattle.std.proofs.lemmas.Option.{none-some, same_Some}
 use Rattle.link_timers.specs.declared.role.Role.{Role}
 use Rattle.link_timers.specs.declared.role.Role.TheVariants.{Dte, Dce}
+use Rattle.packet_channel.specs.declared.flow.Flow.{Flow}
 use Rattle.packet_layer.specs.Packets.{CallParts, Body, Packet}
 use Rattle.packet_layer.specs.Packets.Body.{Call, Accepted, Clear, ClearConfirmation, Data, Interrupt, InterruptConfirmation, ReceiveReady, ReceiveNotReady, Reset, ResetConfirmation, Restart, RestartConfirmation}
 use Rattle.packet_layer.specs.Packets.Received.{Whole}
@@ -66,16 +67,16 @@ heard_waits role c ch (Keeps n t) = open_waits (record (entered Transfer ch) { t
 heard_waits role c ch (Confirms t) = open_waits (record (entered Transfer ch) { traffic = t }) refl
 heard_waits role c ch (Wrong diagnostic) = λ e. refl
 
-flow_waits : (role : Role) (window c : ℕ) (ch : Channel) (body : Body) → WaitsInTransfer (in_flow_ready role window c (entered Transfer ch) body).channel
-flow_waits role window c ch (Clear cause diagnostic) = λ e. refl
-flow_waits role window c ch (Reset cause diagnostic) = λ e. refl
-flow_waits role window c ch ResetConfirmation = λ e. refl
-flow_waits role window c ch (Data send receive d) = heard_waits role c ch (hears window ch.traffic (Data send receive d))
-flow_waits role window c ch (ReceiveReady receive) = heard_waits role c ch (hears window ch.traffic (ReceiveReady receive))
-flow_waits role window c ch (ReceiveNotReady receive) = heard_waits role c ch (hears window ch.traffic (ReceiveNotReady receive))
-flow_waits role window c ch (Interrupt octets) = heard_waits role c ch (hears window ch.traffic (Interrupt octets))
-flow_waits role window c ch InterruptConfirmation = heard_waits role c ch (hears window ch.traffic InterruptConfirmation)
-flow_waits role window c ch _ = λ e. refl
+flow_waits : (role : Role) (flow : Flow) (c : ℕ) (ch : Channel) (body : Body) → WaitsInTransfer (in_flow_ready role flow c (entered Transfer ch) body).channel
+flow_waits role flow c ch (Clear cause diagnostic) = λ e. refl
+flow_waits role flow c ch (Reset cause diagnostic) = λ e. refl
+flow_waits role flow c ch ResetConfirmation = λ e. refl
+flow_waits role flow c ch (Data send receive d) = heard_waits role c ch (hears flow ch.traffic (Data send receive d))
+flow_waits role flow c ch (ReceiveReady receive) = heard_waits role c ch (hears flow ch.traffic (ReceiveReady receive))
+flow_waits role flow c ch (ReceiveNotReady receive) = heard_waits role c ch (hears flow ch.traffic (ReceiveNotReady receive))
+flow_waits role flow c ch (Interrupt octets) = heard_waits role c ch (hears flow ch.traffic (Interrupt octets))
+flow_waits role flow c ch InterruptConfirmation = heard_waits role c ch (hears flow ch.traffic InterruptConfirmation)
+flow_waits role flow c ch _ = λ e. refl
 
 collision_waits : (role : Role) (c : ℕ) (ch : Channel) (body : Body) → WaitsInTransfer (in_collision role c ch body).channel
 collision_waits Dte c ch Accepted = open_waits (entered Transfer ch) refl
@@ -89,15 +90,15 @@ clear_waits ch (Clear cause diagnostic) h = λ e. h refl
 clear_waits ch ClearConfirmation h = λ e. h refl
 clear_waits ch _ h = h
 
-received_waits : (s : CallState) (role : Role) (window c : ℕ) (ch : Channel) (body : Body) → WaitsInTransfer (entered s ch) → WaitsInTransfer (received_in s role window c (entered s ch) body).channel
-received_waits Ready role window c ch body h = ready_waits role c ch body h
-received_waits OwnWaiting role window c ch body h = own_waits role c ch body h
-received_waits FarWaiting role window c ch body h = far_waits role c (entered FarWaiting ch) body
-received_waits Transfer role window c ch body h =
-    either_way (λ (st : Step). WaitsInTransfer st.channel) ch.resetting (in_own_reset role c (entered Transfer ch) body) (in_flow_ready role window c (entered Transfer ch) body)
-    (reset_waits role c ch body) (flow_waits role window c ch body)
-received_waits Collision role window c ch body h = collision_waits role c (entered Collision ch) body
-received_waits OwnClear role window c ch body h = clear_waits ch body h
+received_waits : (s : CallState) (role : Role) (flow : Flow) (c : ℕ) (ch : Channel) (body : Body) → WaitsInTransfer (entered s ch) → WaitsInTransfer (received_in s role flow c (entered s ch) body).channel
+received_waits Ready role flow c ch body h = ready_waits role c ch body h
+received_waits OwnWaiting role flow c ch body h = own_waits role c ch body h
+received_waits FarWaiting role flow c ch body h = far_waits role c (entered FarWaiting ch) body
+received_waits Transfer role flow c ch body h =
+    either_way (λ (st : Step). WaitsInTransfer st.channel) ch.resetting (in_own_reset role c (entered Transfer ch) body) (in_flow_ready role flow c (entered Transfer ch) body)
+    (reset_waits role c ch body) (flow_waits role flow c ch body)
+received_waits Collision role flow c ch body h = collision_waits role c (entered Collision ch) body
+received_waits OwnClear role flow c ch body h = clear_waits ch body h
 
 -- ---- what the user asks of a channel
 
@@ -129,12 +130,12 @@ flow_open : (a b : Bool) → (a && b) ≡ true → a ≡ true
 flow_open true b e = refl
 flow_open false b e = absurd (true≢false (sym e))
 
-next_waits : (window : ℕ) (owed : List Body) (ch : Channel) → WaitsInTransfer ch → WaitsInTransfer (next_owed window owed ch).channel
-next_waits window (b ∷ bs) ch h = h
-next_waits window [] ch h = by (has_flow ch) refl
+next_waits : (flow : Flow) (owed : List Body) (ch : Channel) → WaitsInTransfer ch → WaitsInTransfer (next_owed flow owed ch).channel
+next_waits flow (b ∷ bs) ch h = h
+next_waits flow [] ch h = by (has_flow ch) refl
   where
-    by : (v : Bool) → has_flow ch ≡ v → WaitsInTransfer (cond {A = ChannelNext} v (record { channel = record ch { traffic = (says window ch.traffic).traffic }; body = (says window ch.traffic).body }) (record { channel = ch; body = None })).channel
-    by true e = open_waits (record ch { traffic = (says window ch.traffic).traffic }) (flow_open (in_transfer ch.state) (not ch.resetting) e)
+    by : (v : Bool) → has_flow ch ≡ v → WaitsInTransfer (cond {A = ChannelNext} v (record { channel = record ch { traffic = (says flow ch.traffic).traffic }; body = (says flow ch.traffic).body }) (record { channel = ch; body = None })).channel
+    by true e = open_waits (record ch { traffic = (says flow ch.traffic).traffic }) (flow_open (in_transfer ch.state) (not ch.resetting) e)
     by false e = h
 
 -- ---- lists of channels
@@ -167,8 +168,8 @@ standing_waits true [] h = tt
 standing_waits true (x ∷ chs) h = (open_waits (entered Transfer x) refl, h.1)
 standing_waits false chs h = h
 
-made_waits : (role : Role) (channels window : ℕ) (standing : Bool) → AllWaitInTransfer (made role channels window standing)
-made_waits role channels window standing = standing_waits standing (replicate channels closed_channel) (new_waits channels)
+made_waits : (role : Role) (channels : ℕ) (flow : Flow) (standing : Bool) → AllWaitInTransfer (made role channels flow standing)
+made_waits role channels flow standing = standing_waits standing (replicate channels closed_channel) (new_waits channels)
 
 -- ---- a layer
 
@@ -194,9 +195,9 @@ restart_waits phase _ l h = h
 
 packet_waits : (l : Layer) (p : Packet) → AllWaitInTransfer l → AllWaitInTransfer (on_packet l (Whole p))
 packet_waits l p h =
-    either_way AllWaitInTransfer (p.channel == 0) (restart_packet l.phase p.body (unread l)) (on_channel l.phase (unread l) p.channel (λ ch. received l.role l.window p.channel ch p.body))
+    either_way AllWaitInTransfer (p.channel == 0) (restart_packet l.phase p.body (unread l)) (on_channel l.phase (unread l) p.channel (λ ch. received l.role l.flow p.channel ch p.body))
     (restart_waits l.phase p.body (unread l) h)
-    (channel_waits l.phase (unread l) p.channel (λ ch. received l.role l.window p.channel ch p.body) h (λ ch k. received_waits ch.state l.role l.window p.channel ch p.body k))
+    (channel_waits l.phase (unread l) p.channel (λ ch. received l.role l.flow p.channel ch p.body) h (λ ch k. received_waits ch.state l.role l.flow p.channel ch p.body k))
 
 expired_waits : (l : Layer) (t : Timer) → AllWaitInTransfer l → AllWaitInTransfer (expired l t)
 expired_waits l RestartTimer h = h
@@ -232,8 +233,8 @@ call_waits l parts h = placed_waits l parts (channel_given l l.phase) (λ d e. g
 found_next_waits : (l : Layer) (c : ℕ) (found : Option Channel) (others : Next) → channel_of l c ≡ found → AllWaitInTransfer l → AllWaitInTransfer others.layer → AllWaitInTransfer (serve_found l c found others).layer
 found_next_waits l c None others e h g = g
 found_next_waits l c (Some ch) others e h g =
-    either_way (λ (n : Next). AllWaitInTransfer n.layer) (is_some (next_of l.window ch).body) _ others
-    (put_waits l.channels c (next_of l.window ch).channel h (next_waits l.window ch.owed ch (get_waits l.channels c ch h e))) g
+    either_way (λ (n : Next). AllWaitInTransfer n.layer) (is_some (next_of l.flow ch).body) _ others
+    (put_waits l.channels c (next_of l.flow ch).channel h (next_waits l.flow ch.owed ch (get_waits l.channels c ch h e))) g
 
 serve_waits : (k : ℕ) (l : Layer) (c : ℕ) → AllWaitInTransfer l → AllWaitInTransfer (serve k l c).layer
 serve_waits zero l c h = h
@@ -285,8 +286,8 @@ pub moves_waits : (ms : List Move) (v : World) → BothWaitInTransfer v.line →
 moves_waits [] v h = h
 moves_waits (m ∷ ms) v h = moves_waits ms (after_move m v) (move_waits m v h)
 
-pub start_waits : (channels window : ℕ) (standing : Bool) → BothWaitInTransfer (start_line channels window standing)
-start_waits channels window standing = (made_waits Dte channels window standing, made_waits Dce channels window standing)
+pub start_waits : (channels : ℕ) (flow : Flow) (standing : Bool) → BothWaitInTransfer (start_line channels flow standing)
+start_waits channels flow standing = (made_waits Dte channels flow standing, made_waits Dce channels flow standing)
 
 -- ---- what waits to be taken may be taken
 

@@ -29,7 +29,7 @@ pub record IsSetting (s : Setting) : Type 0 where
 
 -- its two packet layers and its book, before anything happened
 abbrev pub beginning : Setting → World
-beginning s = start s.dte_node s.dce_node s.dte.channels s.dte.window s.dte.standing
+beginning s = start s.dte_node s.dce_node s.dte.channels s.dte.flow s.dte.standing
 
 -- ---- the end of a role, and the frames on the way to it
 

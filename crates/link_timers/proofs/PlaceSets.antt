@@ -1,5 +1,5 @@
 -- The first place of a set is the first number of the first part that has one.
-use Rattle.std.proofs.Common.{◌≡◌, ℕ, ◌+◌, ◌*◌, ◌/◌, ◌%◌, ◌<◌, ◌≤◌, Bool, true, false, not, ◌&&◌, ◌==◌, ◌⊎◌, inl, inr}
+use Rattle.std.proofs.Common.{◌≡◌, true≢false, ℕ, ◌+◌, ◌*◌, ◌/◌, ◌%◌, ◌<◌, ◌≤◌, Bool, true, false, not, ◌&&◌, ◌==◌, ◌⊎◌, inl, inr}
 use Rattle.std.proofs.Common.{List, length, get_or, set, sym, ap, ap₂, ◌∙◌, arith, get_or-set_other, get_or-set_same, refl}
 use Rattle.std.proofs.lemmas.Bool.{eq-eqb, ne_eqb, cases_eq, cases_lt}
 use Rattle.number_set.specs.declared.NumberSet.{NumberSet}
@@ -51,3 +51,10 @@ found parts i place rest inside small earlier is = record {
         ap (λ (s : NumberSet). numbers.has s (n % 64)) (get_or-set_other parts i (n / 64) rest empty apart)
         ∙ sym (ap (λ (b : Bool). at parts n && not b)
         (ne_eqb n (64 * i + place) (λ e. apart (ap (λ (m : ℕ). m / 64) e ∙ part))) ∙ and_true (at parts n))
+
+-- a set with a part that has a number is not empty
+pub not_empty : (parts : List NumberSet) (i number : ℕ) → number < 64 → numbers.has (get_or parts i empty) number ≡ true → ((n : ℕ) → at parts n ≡ false) → ⊥
+not_empty parts i number small there none =
+    let part : (64 * i + number) / 64 ≡ i = omega (arith, small) in
+    let rest : (64 * i + number) % 64 ≡ number = omega (arith, small) in
+    true≢false (sym (ap₂ (λ (j k : ℕ). numbers.has (get_or parts j empty) k) part rest ∙ there) ∙ none (64 * i + number))

@@ -10,6 +10,7 @@ use Rattle.link_timers.specs.declared.timers.TimerId.{TimerId}
 use Rattle.link_timers.specs.PlaceSet.{has, IsFirstOf}
 use Rattle.link_timers.specs.Timers.{Places, place_of, timer_at, left_of, none_running, stopped, lowered}
 use Rattle.link_timers.specs.Timers.{after_ticks, is_due, due_from, due_timers, first_of, AreTimers}
+use Rattle.link_timers.proofs.DueLaws.{place_back}
 use Rattle.link_timers.proofs.PlaceLaws.{past_end, none_at, others_left, lowered_at}
 
 -- no timer runs
@@ -24,6 +25,15 @@ pub none_runs : (timers : Places) (running : PlaceSet) → AreTimers timers runn
     (id : TimerId) → left_of timers id ≡ None
 none_runs timers running are none id =
     none_at_place (left_of timers id) (sym (are.runs (place_of id)) ∙ none (place_of id))
+
+-- where no timer runs, no place is set
+pub none_set : (timers : Places) (running : PlaceSet) → AreTimers timers running → ((id : TimerId) → left_of timers id ≡ None) →
+    (n : ℕ) → has running n ≡ false
+none_set timers running are none n = are.runs n ∙ ap is_some (go (cases_lt n 211))
+  where
+    go : (n < 211) ⊎ (211 ≤ n) → get_or timers n None ≡ None
+    go (inl less) = ap (λ (m : ℕ). get_or timers m None) (sym (place_back n less)) ∙ none (timer_at n)
+    go (inr past) = past_end timers n (omega (arith, are.whole))
 
 -- one place is set
 pub one_set : (timers : Places) (running after : PlaceSet) (place : ℕ) (left : Option ℕ) (f : Bool → Bool → Bool) →

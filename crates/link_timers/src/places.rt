@@ -1,6 +1,5 @@
 //! Sets of places of timers.
-ghost use Rattle.std.specs.Prelude.{◌≡◌, ◌<◌, ℕ, false, ◌&&◌, ◌||◌, not, ◌==◌, MatchOption};
-ghost use Rattle.std.specs.Bool.{OnTrue};
+ghost use Rattle.std.specs.Prelude.{◌≡◌, ◌<◌, ◌↔◌, ℕ, IsTrue, false, ◌&&◌, ◌||◌, not, ◌==◌, MatchOption};
 ghost use Rattle.link_timers.specs.PlaceSet.{has, size, IsFirstOf};
 
 use number_set::NumberSet;
@@ -44,7 +43,7 @@ impl PlaceSet {
 
     /// Whether there is no place.
     pub(crate) fn is_empty(&self) -> bool
-        ensures { OnTrue result ((n : ℕ) → has self.now n ≡ false) }
+        ensures { IsTrue result ↔ ((n : ℕ) → has self.now n ≡ false) }
     {
         for part in self.parts.iter() {
             if !part.is_empty() {

@@ -14,9 +14,9 @@ ghost use Rattle.std.specs.Prelude.{
   None,
   is_some,
   MatchOption,
+  IsTrue,
   Contains,
 };
-ghost use Rattle.std.specs.Bool.{OnTrue};
 ghost use Rattle.link_timers.specs.declared.timers.TimerId.{TimerId};
 ghost use Rattle.link_timers.specs.Timers.{
   places,
@@ -154,10 +154,9 @@ impl Timers {
         self.running_place(id).is_some()
     }
 
-    /// Whether no timer runs. If it says no, it may still be that none does.
-    #[tactic(auto, using(crate::proofs::RunningLaws::none_runs))]
+    /// Whether no timer runs.
     pub fn is_empty(&self) -> bool
-        ensures { OnTrue result ((id : TimerId) → left_of self.now id ≡ None) }
+        ensures { IsTrue result ↔ ((id : TimerId) → left_of self.now id ≡ None) }
     {
         self.running.is_empty()
     }

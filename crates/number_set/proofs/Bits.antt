@@ -2,8 +2,9 @@
 use Rattle.std.proofs.Common.{◌≡◌, ℕ, zero, suc, ◌+◌, ◌*◌, ◌^◌, ◌%◌, ◌<◌, ◌≤◌, Bool, false, not, ◌&&◌, ◌||◌, ◌==◌, ◌⊎◌}
 use Rattle.std.proofs.Common.{inl, inr, refl, sym, ap, ap₂, ◌∙◌, arith, max, ◌-◌}
 use Rattle.std.specs.Prelude.{bit_and, bit_or, bit_xor, nat_lt, true}
+use Rattle.std.specs.Bool.{OnFalse}
 use Rattle.std.specs.Int.{bit_at, w64, trailing_zeros, bit_not}
-use Rattle.std.proofs.lemmas.Bool.{eq-eqb, ne_eqb, cases_eq, cases_lt, lt-ltb, le-ltb}
+use Rattle.std.proofs.lemmas.Bool.{eqb-false, eq-eqb, ne_eqb, cases_eq, cases_lt, lt-ltb, le-ltb}
 use Rattle.std.proofs.lemmas.Nat.{one_shl, pow_pos}
 use Rattle.std.proofs.Math.Nat.{pow-le-pow_right}
 use Rattle.std.proofs.lemmas.Nat.Bits.{bit_at-lt, bit_at-zero, bit_at-pow_same, bit_at-pow_other, bit_at_or, bit_at_xor}
@@ -176,3 +177,13 @@ pub bits_between : (a k m n : ℕ) → k ≤ m → m < 64 →
     ≡ (bit a n && (not (nat_lt n k) && nat_lt n m))
 bits_between a k m n order most =
     ap (λ (x : ℕ). bit (bit_and a x) n) (mask_is k m order most) ∙ of_mask a k m n
+
+-- a number that is not 0 has a bit
+pub some_bit : (s : NumberSet) → s.bits < 2 ^ 64 → OnFalse (s.bits == 0) ((n : ℕ) × (n < 64) × (bit s.bits n ≡ true))
+some_bit s fits = go (s.bits == 0) refl
+  where
+    go : (b : Bool) → (s.bits == 0) ≡ b → OnFalse b ((n : ℕ) × (n < 64) × (bit s.bits n ≡ true))
+    go true none = tt
+    go false some =
+        let low = bit_at-trailing_zeros w64 s.bits (omega (arith, eqb-false s.bits 0 some)) fits in
+        (lowest s.bits, low.0, ap (λ (x : ℕ). x == 1) low.1)

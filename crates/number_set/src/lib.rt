@@ -1,8 +1,8 @@
 //! Sets of small numbers.
 #![tactic(auto)]
 
-ghost use Rattle.std.specs.Prelude.{◌≡◌, ℕ, ◌<◌, ◌≤◌, false, nat_lt, ◌||◌, ◌&&◌, not, ◌==◌, MatchOption};
-ghost use Rattle.std.specs.Bool.{OnTrue};
+ghost use Rattle.std.specs.Prelude.{◌≡◌, ℕ, ◌<◌, ◌≤◌, true, false, nat_lt, ◌||◌, ◌&&◌, not, ◌==◌, MatchOption};
+ghost use Rattle.std.specs.Bool.{OnTrue, OnFalse};
 ghost use Rattle.number_set.specs.NumberSet.{has, IsFirstOf};
 
 /// Numbers below 64, as of lines or of channels.
@@ -72,6 +72,7 @@ impl NumberSet {
     pub fn is_empty(self) -> bool
         ensures exact { result ≡ (self.bits == 0) }
         ensures none { OnTrue result ((n : ℕ) → has self n ≡ false) }
+        ensures some { OnFalse result ((n : ℕ) × (n < 64) × (has self n ≡ true)) }
     {
         self.bits == 0
     }

@@ -1,4 +1,5 @@
 pub mod Queues
 pub mod Fitting
+pub mod Windows
 pub mod Owing
 pub mod Sending

@@ -17,6 +17,7 @@ use Rattle.packet_channel.specs.Traffic.{Traffic, Heard, fresh, queue, queue_int
 use Rattle.packet_channel.specs.Traffic.{interrupt_pending, stopping, taking, may_release, releasing, confirming}
 use Rattle.packet_channel.specs.Traffic.{hears, says, rests}
 use Rattle.packet_channel.specs.Traffic.Heard.{Keeps, Confirms, Wrong}
+use Rattle.packet_channel.specs.declared.flow.Flow.{Flow}
 
 -- p1; p2 of a DTE or p3 of a DCE; p3 of a DTE or p2 of a DCE; p4; p5; p6 of a DTE or p7 of a DCE
 pub data CallState : Type 0 where
@@ -112,25 +113,25 @@ after_heard role c ch (Keeps n t) = record { channel = moved t ch; owes = None; 
 after_heard role c ch (Confirms t) = record { channel = moved t ch; owes = None; notes = InterruptConfirmed c ∷ [] }
 after_heard role c ch (Wrong diagnostic) = reset_error role c diagnostic ch
 
-abbrev pub in_flow_ready : Role → ℕ → ℕ → Channel → Body → Step
-in_flow_ready role window c ch (Clear cause diagnostic) = far_cleared c cause diagnostic ch
-in_flow_ready role window c ch (Reset cause diagnostic) =
+abbrev pub in_flow_ready : Role → Flow → ℕ → Channel → Body → Step
+in_flow_ready role flow c ch (Clear cause diagnostic) = far_cleared c cause diagnostic ch
+in_flow_ready role flow c ch (Reset cause diagnostic) =
     record {
       channel = renewed false ch;
       owes = Some ResetConfirmation;
       notes = WasReset c cause diagnostic FarEnd ∷ [];
     }
-in_flow_ready role window c ch ResetConfirmation = reset_error role c not_allowed_in_d1 ch
-in_flow_ready role window c ch (Data send receive d) =
-    after_heard role c ch (hears window ch.traffic (Data send receive d))
-in_flow_ready role window c ch (ReceiveReady receive) =
-    after_heard role c ch (hears window ch.traffic (ReceiveReady receive))
-in_flow_ready role window c ch (ReceiveNotReady receive) =
-    after_heard role c ch (hears window ch.traffic (ReceiveNotReady receive))
-in_flow_ready role window c ch (Interrupt octets) = after_heard role c ch (hears window ch.traffic (Interrupt octets))
-in_flow_ready role window c ch InterruptConfirmation =
-    after_heard role c ch (hears window ch.traffic InterruptConfirmation)
-in_flow_ready role window c ch _ = not_allowed role c ch
+in_flow_ready role flow c ch ResetConfirmation = reset_error role c not_allowed_in_d1 ch
+in_flow_ready role flow c ch (Data send receive d) =
+    after_heard role c ch (hears flow ch.traffic (Data send receive d))
+in_flow_ready role flow c ch (ReceiveReady receive) =
+    after_heard role c ch (hears flow ch.traffic (ReceiveReady receive))
+in_flow_ready role flow c ch (ReceiveNotReady receive) =
+    after_heard role c ch (hears flow ch.traffic (ReceiveNotReady receive))
+in_flow_ready role flow c ch (Interrupt octets) = after_heard role c ch (hears flow ch.traffic (Interrupt octets))
+in_flow_ready role flow c ch InterruptConfirmation =
+    after_heard role c ch (hears flow ch.traffic InterruptConfirmation)
+in_flow_ready role flow c ch _ = not_allowed role c ch
 
 abbrev pub in_own_reset : Role → ℕ → Channel → Body → Step
 in_own_reset role c ch (Clear cause diagnostic) = far_cleared c cause diagnostic ch
@@ -176,17 +177,17 @@ in_own_clear ch (Clear cause diagnostic) = quiet (entered Ready ch)
 in_own_clear ch ClearConfirmation = quiet (entered Ready ch)
 in_own_clear ch _ = quiet ch
 
-abbrev pub received_in : CallState → Role → ℕ → ℕ → Channel → Body → Step
-received_in Ready role window c ch body = in_ready role c ch body
-received_in OwnWaiting role window c ch body = in_own_waiting role c ch body
-received_in FarWaiting role window c ch body = in_far_waiting role c ch body
-received_in Transfer role window c ch body =
-    if ch.resetting then in_own_reset role c ch body else in_flow_ready role window c ch body
-received_in Collision role window c ch body = in_collision role c ch body
-received_in OwnClear role window c ch body = in_own_clear ch body
+abbrev pub received_in : CallState → Role → Flow → ℕ → Channel → Body → Step
+received_in Ready role flow c ch body = in_ready role c ch body
+received_in OwnWaiting role flow c ch body = in_own_waiting role c ch body
+received_in FarWaiting role flow c ch body = in_far_waiting role c ch body
+received_in Transfer role flow c ch body =
+    if ch.resetting then in_own_reset role c ch body else in_flow_ready role flow c ch body
+received_in Collision role flow c ch body = in_collision role c ch body
+received_in OwnClear role flow c ch body = in_own_clear ch body
 
-abbrev pub received : Role → ℕ → ℕ → Channel → Body → Step
-received role window c ch body = received_in ch.state role window c ch body
+abbrev pub received : Role → Flow → ℕ → Channel → Body → Step
+received role flow c ch body = received_in ch.state role flow c ch body
 
 -- an unreadable packet counts as one that the state does not allow: in d1 it resets the call, and else it clears it
 abbrev pub diagnostic_if : (unknown : Bool) → ℕ → ℕ
@@ -322,15 +323,15 @@ pub record ChannelNext : Type 0 where
   pub channel : Channel
   pub body : Option Body
 
-abbrev pub next_owed : ℕ → List Body → Channel → ChannelNext
-next_owed window (b ∷ bs) ch = record { channel = record ch { owed = bs }; body = Some b }
-next_owed window [] ch =
+abbrev pub next_owed : Flow → List Body → Channel → ChannelNext
+next_owed flow (b ∷ bs) ch = record { channel = record ch { owed = bs }; body = Some b }
+next_owed flow [] ch =
     if has_flow ch
-    then record { channel = moved (says window ch.traffic).traffic ch; body = (says window ch.traffic).body }
+    then record { channel = moved (says flow ch.traffic).traffic ch; body = (says flow ch.traffic).body }
     else record { channel = ch; body = None }
 
-abbrev pub next_of : ℕ → Channel → ChannelNext
-next_of window ch = next_owed window ch.owed ch
+abbrev pub next_of : Flow → Channel → ChannelNext
+next_of flow ch = next_owed flow ch.owed ch
 
 -- ---- placing a call
 

@@ -4,6 +4,7 @@ use Rattle.flow_window.specs.Pool.{Buffer, weight}
 use Rattle.packet_channel.specs.Packets.{Datum}
 use Rattle.packet_channel.specs.Traffic as machine
 use Rattle.packet_channel.specs.Channel as channel
+use Rattle.packet_channel.specs.declared.flow.Flow.{Flow}
 
 -- a packet in a buffer
 pub record Kept : Type 0 where
@@ -21,8 +22,9 @@ contents ps = map datum_in ps
 abbrev pub buffers : List Kept → List Buffer
 buffers ps = map (λ p. p.buffer) ps
 
--- packets in order, and the buffers that they lie in
+-- packets in order, for which there are so many places, and the buffers that they lie in
 pub record Queue : Type 0 where
+  pub places : ℕ
   pub packets : List Datum
   pub held : List Buffer
 
@@ -38,9 +40,9 @@ pub record Channel : Type 0 where
 
 -- no more packets wait to be taken than the window has room for, and no more buffers are held than that and the send
 -- queue have room for
-pub record Fits (window : ℕ) (c : Channel) : Type 0 where
-  pub arrived : length c.channel.traffic.arrived ≤ window
-  pub held : length c.held ≤ window + 8
+pub record Fits (flow : Flow) (c : Channel) : Type 0 where
+  pub arrived : length c.channel.traffic.arrived ≤ flow.window
+  pub held : length c.held ≤ flow.window + 8
 
 -- ---- buffers that change hands
 

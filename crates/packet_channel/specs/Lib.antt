@@ -1,4 +1,5 @@
 pub mod Packets
+pub mod Flow
 pub mod Traffic
 pub mod Channel
 pub mod Held

@@ -6,6 +6,7 @@ use Rattle.packet_codec.specs.declared.fault.PacketFault.TheVariants.{BadAddress
 use Rattle.packet_codec.specs.Packet.{PacketValue, ContentValue, CallValue, DataValue, spelling}
 use Rattle.packet_codec.specs.Packet.{ContentValue as content}
 use Rattle.packet_codec.specs.Reading.{reading, named_channel}
+use Rattle.packet_channel.specs.declared.flow.Flow.{Flow}
 use Rattle.packet_channel.specs.Packets.{CallParts, Datum, Body, Received}
 use Rattle.packet_channel.specs.Packets.{Body as body}
 
@@ -64,14 +65,16 @@ content_of body.RestartConfirmation = content.RestartConfirmation
 -- ---- octets to the link
 
 -- the octets of a packet that goes to the link, or what stood there before where none goes
-abbrev pub written : ℕ → Option Body → List ℕ → List ℕ
-written channel None old = old
-written channel (Some b) old = spelling (record { channel = channel; content = content_of b })
+abbrev pub written : Flow → ℕ → Option Body → List ℕ → List ℕ
+written flow channel None old = old
+written flow channel (Some b) old =
+    spelling (record { numbering = flow.numbering; channel = channel; content = content_of b })
 
 -- they read back as that packet
-abbrev pub ReadsAs : ℕ → Option Body → List ℕ → Type 0
-ReadsAs channel None octets = Unit {0}
-ReadsAs channel (Some b) octets = reading octets ≡ Ok (record { channel = channel; content = content_of b })
+abbrev pub ReadsAs : Flow → ℕ → Option Body → List ℕ → Type 0
+ReadsAs flow channel None octets = Unit {0}
+ReadsAs flow channel (Some b) octets =
+    reading flow.numbering 128 octets ≡ Ok (record { numbering = flow.numbering; channel = channel; content = content_of b })
 
 -- ---- octets from the link. Too few octets and another format are ignored; an unknown type and the other faults
 -- count as a packet that the state of the channel does not allow
@@ -90,5 +93,5 @@ heard_by octets (Err BadLength) = unreadable_as false (named_channel octets)
 heard_by octets (Err BadAddress) = unreadable_as false (named_channel octets)
 heard_by octets (Err DataTooLong) = unreadable_as false (named_channel octets)
 
-abbrev pub heard : List ℕ → Option Received
-heard octets = heard_by octets (reading octets)
+abbrev pub heard : Flow → List ℕ → Option Received
+heard flow octets = heard_by octets (reading flow.numbering 128 octets)

@@ -1,4 +1,4 @@
--- The packets of one line as its packet layers see them (X.25 5). Numbers are modulo 8.
+-- The packets of one line as its packet layers see them (X.25 5). Numbers are modulo 8 or 128.
 use Rattle.std.specs.Prelude.{ℕ, List}
 use Rattle.epochs.specs.Item.{DataPacket}
 

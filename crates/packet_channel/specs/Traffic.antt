@@ -5,15 +5,17 @@ use Rattle.std.specs.Prelude.{List, [], ◌∷◌, ◌++◌, length, Option, Som
 use Rattle.packet_codec.specs.Diagnostic.{no_information, invalid_send_number, invalid_receive_number}
 use Rattle.packet_channel.specs.Packets.{Datum, Body}
 use Rattle.packet_channel.specs.Packets.Body.{Data, Interrupt, InterruptConfirmation, ReceiveReady, ReceiveNotReady}
+use Rattle.packet_channel.specs.Flow.{shown, ahead_shown}
+use Rattle.packet_channel.specs.declared.flow.Flow.{Flow}
 
 pub record Traffic : Type 0 where
-  -- packets waiting to be sent, the P(S) of the next one, and the P(R) received last (both modulo 8)
+  -- packets waiting to be sent, the P(S) of the next one, and the P(R) received last (both kept modulo 128)
   pub waiting : List Datum
   pub send_number : ℕ
   pub covered : ℕ
   -- how many of the packets not yet covered, the oldest first, have to be covered until all with D = 1 are
   pub undelivered : ℕ
-  -- packets to be taken, the P(S) expected, the P(R) that may be sent (modulo 8), and whether the partner has to be
+  -- packets to be taken, the P(S) expected, the P(R) that may be sent (kept modulo 128), and whether the partner has to be
   -- told of it
   pub arrived : List Datum
   pub receive_number : ℕ
@@ -52,10 +54,10 @@ fresh = record {
   confirmation_due = false;
 }
 
--- the counts that numbers modulo 8 stand for, since no window is above 7: packets sent and not covered, packets
+-- the counts that numbers modulo 128 stand for, since no window is above 127: packets sent and not covered, packets
 -- accepted and not released
 abbrev pub distance : ℕ → ℕ → ℕ
-distance from to = (to + 8 - from) % 8
+distance from to = (to + 128 - from) % 128
 
 abbrev pub in_flight : Traffic → ℕ
 in_flight t = distance t.covered t.send_number
@@ -106,7 +108,7 @@ abbrev pub may_release : ℕ → Traffic → Bool
 may_release n t = nat_le (n + length t.arrived) (unreleased t)
 
 abbrev pub releasing : ℕ → Traffic → Traffic
-releasing n t = record t { released = (t.released + n) % 8; untold = t.untold || nat_lt 0 n }
+releasing n t = record t { released = (t.released + n) % 128; untold = t.untold || nat_lt 0 n }
 
 abbrev pub confirming : Traffic → Traffic
 confirming t = record t { interrupt_taken = false; confirmation_due = true }
@@ -136,40 +138,40 @@ rests t =
     && not (is_some t.interrupt_arrived)
     && not t.confirmation_due && flow_told t
 
-abbrev pub says_flow : Traffic → Said
-says_flow t =
+abbrev pub says_flow : Flow → Traffic → Said
+says_flow flow t =
     if flow_told t
     then record { traffic = t; body = None }
     else record {
       traffic = record t { untold = false; told_stopped = t.stopped };
-      body = Some (ready_or_not t.stopped t.released);
+      body = Some (ready_or_not t.stopped (shown flow.numbering t.released));
     }
 
-abbrev pub window_open : ℕ → Traffic → Bool
-window_open window t = nat_lt (in_flight t) window && not t.partner_busy
+abbrev pub window_open : Flow → Traffic → Bool
+window_open flow t = nat_lt (in_flight t) flow.window && not t.partner_busy
 
-abbrev pub says_data : ℕ → List Datum → Traffic → Said
-says_data window [] t = says_flow t
-says_data window (d ∷ ds) t =
-    if window_open window t
+abbrev pub says_data : Flow → List Datum → Traffic → Said
+says_data flow [] t = says_flow flow t
+says_data flow (d ∷ ds) t =
+    if window_open flow t
     then record {
-      traffic = record t { waiting = ds; send_number = (t.send_number + 1) % 8; untold = false };
-      body = Some (Data t.send_number t.released d);
+      traffic = record t { waiting = ds; send_number = (t.send_number + 1) % 128; untold = false };
+      body = Some (Data (shown flow.numbering t.send_number) (shown flow.numbering t.released) d);
     }
-    else says_flow t
+    else says_flow flow t
 
-abbrev pub says_interrupt : ℕ → Option (List ℕ) → Traffic → Said
-says_interrupt window (Some octets) t = record {
+abbrev pub says_interrupt : Flow → Option (List ℕ) → Traffic → Said
+says_interrupt flow (Some octets) t = record {
   traffic = record t { interrupt_waiting = None; interrupt_unconfirmed = true };
   body = Some (Interrupt octets);
 }
-says_interrupt window None t = says_data window t.waiting t
+says_interrupt flow None t = says_data flow t.waiting t
 
-abbrev pub says : ℕ → Traffic → Said
-says window t =
+abbrev pub says : Flow → Traffic → Said
+says flow t =
     if t.confirmation_due
     then record { traffic = record t { confirmation_due = false }; body = Some InterruptConfirmation }
-    else says_interrupt window t.interrupt_waiting t
+    else says_interrupt flow t.interrupt_waiting t
 
 -- ---- what comes from the link
 
@@ -179,16 +181,17 @@ pub data Heard : Type 0 where
   Confirms : Traffic → Heard
   Wrong : (diagnostic : ℕ) → Heard
 
+-- so many more packets are covered
+abbrev pub covering : ℕ → Traffic → Traffic
+covering newly t = record t { covered = (t.covered + newly) % 128; undelivered = t.undelivered - newly }
+
 -- a P(R) is valid if it names a packet that is not covered yet, or the next one to be sent; it counts by how many
 -- packets it covers
-abbrev pub covers : ℕ → Traffic → Heard
-covers receive t =
-    if nat_le (distance t.covered receive) (in_flight t)
-    then Heard.Keeps (distance t.covered receive)
-    (record t {
-      covered = (t.covered + distance t.covered receive) % 8;
-      undelivered = t.undelivered - distance t.covered receive;
-    })
+abbrev pub covers : Flow → ℕ → Traffic → Heard
+covers flow receive t =
+    if nat_le (ahead_shown flow.numbering t.covered receive) (in_flight t)
+    then Heard.Keeps (ahead_shown flow.numbering t.covered receive)
+    (covering (ahead_shown flow.numbering t.covered receive) t)
     else Heard.Wrong invalid_receive_number
 
 abbrev pub keeps : (Traffic → Traffic) → Heard → Heard
@@ -197,7 +200,7 @@ keeps f (Heard.Confirms t) = Heard.Confirms t
 keeps f (Heard.Wrong d) = Heard.Wrong d
 
 abbrev pub arrives : Datum → Traffic → Traffic
-arrives d t = record t { arrived = t.arrived ++ d ∷ []; receive_number = (t.receive_number + 1) % 8 }
+arrives d t = record t { arrived = t.arrived ++ d ∷ []; receive_number = (t.receive_number + 1) % 128 }
 
 abbrev pub partner_says : Bool → Traffic → Traffic
 partner_says b t = record t { partner_busy = b }
@@ -206,18 +209,24 @@ partner_says b t = record t { partner_busy = b }
 abbrev pub interrupted : Traffic → Bool
 interrupted t = is_some t.interrupt_arrived || (t.interrupt_taken || t.confirmation_due)
 
--- a Data packet needs the expected P(S), room in the window of what is not released, and then a valid P(R)
-abbrev pub hears : ℕ → Traffic → Body → Heard
-hears window t (Data send receive d) =
-    if (send == t.receive_number) && nat_lt (unreleased t) window
-    then keeps (λ u. arrives d u) (covers receive t)
-    else Heard.Wrong invalid_send_number
-hears window t (ReceiveReady receive) = keeps (λ u. partner_says false u) (covers receive t)
-hears window t (ReceiveNotReady receive) = keeps (λ u. partner_says true u) (covers receive t)
-hears window t (Interrupt octets) =
+abbrev pub hears_interrupt : List ℕ → Traffic → Heard
+hears_interrupt octets t =
     if interrupted t then Heard.Wrong no_information else Heard.Keeps 0 (record t { interrupt_arrived = Some octets })
-hears window t InterruptConfirmation =
+
+abbrev pub hears_confirmation : Traffic → Heard
+hears_confirmation t =
     if t.interrupt_unconfirmed
     then Heard.Confirms (record t { interrupt_unconfirmed = false })
     else Heard.Wrong no_information
-hears window t _ = Heard.Wrong no_information
+
+-- a Data packet needs the expected P(S), room in the window of what is not released, and then a valid P(R)
+abbrev pub hears : Flow → Traffic → Body → Heard
+hears flow t (Data send receive d) =
+    if (send == shown flow.numbering t.receive_number) && nat_lt (unreleased t) flow.window
+    then keeps (λ u. arrives d u) (covers flow receive t)
+    else Heard.Wrong invalid_send_number
+hears flow t (ReceiveReady receive) = keeps (λ u. partner_says false u) (covers flow receive t)
+hears flow t (ReceiveNotReady receive) = keeps (λ u. partner_says true u) (covers flow receive t)
+hears flow t (Interrupt octets) = hears_interrupt octets t
+hears flow t InterruptConfirmation = hears_confirmation t
+hears flow t _ = Heard.Wrong no_information

@@ -7,7 +7,7 @@ use Rattle.packet_channel.specs.declared.traffic.Traffic.TheInside.{Inside}
 abbrev pub traffic_of : Inside → Traffic
 traffic_of a = record {
   waiting = a.waiting.packets;
-  send_number = (a.send.oldest + a.send.next) % 8;
+  send_number = (a.send.oldest + a.send.next) % 128;
   covered = a.send.oldest;
   undelivered = a.undelivered;
   arrived = a.arrived.packets;
@@ -27,16 +27,19 @@ traffic_of a = record {
 abbrev pub holding : Inside → held.Traffic
 holding a = record { traffic = traffic_of a; held = a.waiting.held ++ a.arrived.held }
 
--- each packet of both queues has its buffer; at most 8 wait to be sent; numbers are modulo 8 and none is sent again;
+-- each packet of both queues has its buffer; at most 8 wait to be sent; at most 32 to be taken; numbers are modulo 128
+-- and none is sent again;
 -- what waits to be taken is not released
 pub record IsTraffic (a : Inside) : Type 0 where
   pub waiting_held : length a.waiting.held ≡ length a.waiting.packets
   pub arrived_held : length a.arrived.held ≡ length a.arrived.packets
   pub waiting : length a.waiting.packets ≤ 8
-  pub size : a.send.size ≡ 7
-  pub oldest : a.send.oldest < 8
-  pub next : a.send.next ≤ 7
+  pub waiting_places : a.waiting.places ≡ 8
+  pub arrived_places : a.arrived.places ≡ 32
+  pub size : a.send.size ≡ 127
+  pub oldest : a.send.oldest < 128
+  pub next : a.send.next ≤ 127
   pub top : a.send.top ≡ a.send.next
-  pub expected : a.expected < 8
-  pub released : a.released < 8
+  pub expected : a.expected < 128
+  pub released : a.released < 128
   pub arrived : length a.arrived.packets ≤ distance a.released a.expected

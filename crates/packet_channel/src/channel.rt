@@ -10,6 +10,7 @@ ghost use Rattle.packet_channel.specs.Held.{Fits, Loses};
 ghost use Rattle.packet_channel.specs.StateView.{state_of};
 ghost use Rattle.packet_channel.specs.Octets.{parts_of, written, ReadsAs};
 ghost use Rattle.packet_channel.specs.Packets.{Body as body};
+ghost use Rattle.packet_channel.specs.declared.flow.Flow.{Flow as FlowValue};
 ghost use Rattle.packet_codec.specs.Diagnostic.{no_information};
 
 mod errors;
@@ -17,6 +18,7 @@ mod receiving;
 mod requests;
 
 use crate::control::{Control, write_control};
+use crate::flow::Flow;
 use crate::notes::Notes;
 use crate::owed::Owed;
 use crate::state::{CallState, End};
@@ -151,7 +153,7 @@ impl Channel {
         ensures channel { (role : Role)
             → self.new.channel ≡ machine.owing (machine.requested role self.old.channel machine.Request.Taking) }
         ensures held { Loses self.old.held (maybe_buffers_in result) self.new.held }
-        ensures fits { (window : ℕ) → Fits window self.old → Fits window self.new }
+        ensures fits { (flow : FlowValue) → Fits flow self.old → Fits flow self.new }
     {
         if !self.state.in_transfer() {
             return None;
@@ -177,31 +179,31 @@ impl Channel {
     /// Writes the packet that goes to the link next, if there is one.
     pub fn next_packet(
         &mut self,
-        window: u8,
+        flow: Flow,
         channel: u8,
         buf: &mut PacketBuf,
         pool: &mut Pool,
     ) -> bool
-        requires window { window ≤ 7 }
+        requires window { flow.window ≤ 32 }
         requires channel { 0 < channel }
         requires holds { Holds pool.old self.old.held }
-        ensures channel { self.new.channel ≡ (machine.next_of window self.old.channel).channel }
+        ensures channel { self.new.channel ≡ (machine.next_of flow self.old.channel).channel }
         ensures pool { Balances pool.old self.old.held pool.new self.new.held }
-        ensures fits { (most : ℕ) → Fits most self.old → Fits most self.new }
-        ensures said { result ≡ is_some (machine.next_of window self.old.channel).body }
-        ensures octets { buf.new.items ≡ written channel (machine.next_of window self.old.channel).body buf.old.items }
-        ensures reads_back { ReadsAs channel (machine.next_of window self.old.channel).body buf.new.items }
+        ensures fits { (other : FlowValue) → Fits other self.old → Fits other self.new }
+        ensures said { result ≡ is_some (machine.next_of flow self.old.channel).body }
+        ensures octets { buf.new.items ≡ written flow channel (machine.next_of flow self.old.channel).body buf.old.items }
+        ensures reads_back { ReadsAs flow channel (machine.next_of flow self.old.channel).body buf.new.items }
         ensures same { OnFalse result (self.new ≡ self.old) }
     {
         if let Some(control) = self.owed.first() {
-            write_control(channel, control, buf);
+            write_control(flow, channel, control, buf);
             self.owed.drop_first();
             return true;
         }
         if !self.has_flow() {
             return false;
         }
-        self.traffic.next_packet(window, channel, buf, pool)
+        self.traffic.next_packet(flow, channel, buf, pool)
     }
 
     /// Clears the call whose timer expired, and answers whether one control packet too many is owed.
@@ -211,7 +213,7 @@ impl Channel {
         ensures done { IsDone (machine.clear_error end.role end.channel no_information true self.old.channel)
             self.new.channel result notes.new }
         ensures pool { Balances pool.old self.old.held pool.new self.new.held }
-        ensures fits { (window : ℕ) → Fits window self.old → Fits window self.new }
+        ensures fits { (flow : FlowValue) → Fits flow self.old → Fits flow self.new }
     {
         self.clear_error(end, diagnostic::NO_INFORMATION, true, pool, notes)
     }

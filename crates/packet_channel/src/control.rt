@@ -3,6 +3,7 @@ ghost use Rattle.std.specs.Prelude.{◌≡◌, ◌<◌, Some};
 ghost use Rattle.packet_channel.specs.Octets.{written, ReadsAs};
 ghost use Rattle.packet_channel.specs.ControlView.{control_body};
 
+use crate::flow::Flow;
 use packet_codec::{CallBuf, Content, Packet, PacketBuf, write_packet};
 
 /// A packet of call set-up, clearing or reset (X.25 5.2, 5.4.3).
@@ -23,10 +24,10 @@ impl Default for Control {
 }
 
 /// Writes the packet of a channel.
-pub(crate) fn write_control(channel: u8, control: &Control, buf: &mut PacketBuf)
+pub(crate) fn write_control(flow: Flow, channel: u8, control: &Control, buf: &mut PacketBuf)
     requires { 0 < channel }
-    ensures octets { buf.new.items ≡ written channel (Some (control_body control.now)) buf.old.items }
-    ensures reads_back { ReadsAs channel (Some (control_body control.now)) buf.new.items }
+    ensures octets { buf.new.items ≡ written flow channel (Some (control_body control.now)) buf.old.items }
+    ensures reads_back { ReadsAs flow channel (Some (control_body control.now)) buf.new.items }
 {
     let content = match control {
         Control::Call(call) => Content::CallRequest(call.data()),
@@ -43,6 +44,7 @@ pub(crate) fn write_control(channel: u8, control: &Control, buf: &mut PacketBuf)
         Control::ResetConfirmation => Content::ResetConfirmation,
     };
     let packet = Packet {
+        numbering: flow.numbering,
         channel: u16::from(channel),
         content,
     };

@@ -5,6 +5,7 @@
 mod channel;
 mod control;
 mod fault;
+mod flow;
 mod heard;
 mod kept;
 mod note;
@@ -18,6 +19,7 @@ mod user_data;
 
 pub use channel::{BareRequest, Channel, Request};
 pub use fault::{ChannelFault, RefusedBuf};
+pub use flow::Flow;
 pub use kept::KeptPacket;
 pub use note::{LayerNote, Reason};
 pub use notes::{NoteQueue, Notes};

@@ -10,38 +10,34 @@ use flow_window::pool::Pool;
 use std::alloc::{AllocError, Global};
 use std::marker::Model;
 
-/// How many packets a queue has room for.
-pub(crate) const QUEUE_PLACES: usize = 8;
-
-/// Up to eight packets in order, each in a buffer of a pool.
+/// Packets in order, each in a buffer of a pool.
 #[derive(Drop)]
 pub(crate) struct PacketQueue {
     packets: HeapCircularBuffer<KeptPacket>,
 }
 
 impl Model for PacketQueue {
-    ghost use Rattle.std.specs.Prelude.{◌≡◌};
     ghost use Rattle.packet_channel.specs.Held.{Queue, contents, buffers};
 
     ghost Value = { Queue };
 
-    ghost view = { λ q. record { packets = contents q.packets.items; held = buffers q.packets.items } };
-
-    ghost invariant = { λ q. q.packets.capacity ≡ 8 };
+    ghost view = { λ q. record { places = q.packets.capacity; packets = contents q.packets.items; held = buffers q.packets.items } };
 }
 
 impl PacketQueue {
-    pub(crate) fn new(alloc: Global) -> Result<Self, AllocError>
-        ensures { IfOk result (λ q. q ≡ record { packets = []; held = [] }) }
+    /// A queue with room for so many packets.
+    pub(crate) fn new(alloc: Global, places: usize) -> Result<Self, AllocError>
+        requires { places ≤ 32 }
+        ensures { IfOk result (λ q. q ≡ record { places = places; packets = []; held = [] }) }
     {
-        let packets = HeapCircularBuffer::with_capacity(alloc, QUEUE_PLACES)?;
+        let packets = HeapCircularBuffer::with_capacity(alloc, places)?;
         Ok(PacketQueue { packets })
     }
 
     pub(crate) fn len(&self) -> usize
         ensures value { result ≡ length self.now.packets }
         ensures held { result ≡ length self.now.held }
-        ensures most { result ≤ 8 }
+        ensures most { result ≤ self.now.places }
     {
         self.packets.len()
     }
@@ -64,8 +60,8 @@ impl PacketQueue {
 
     /// Appends a packet.
     pub(crate) fn push(&mut self, packet: KeptPacket)
-        requires { length self.old.packets < 8 }
-        ensures { self.new ≡ record {
+        requires { length self.old.packets < self.old.places }
+        ensures { self.new ≡ record self.old {
           packets = self.old.packets ++ datum_in packet ∷ [];
           held = self.old.held ++ packet.buffer ∷ [];
         } }
@@ -79,7 +75,7 @@ impl PacketQueue {
             (λ p. slice_get self.old.packets 0 ≡ Some (datum_in p)) }
         ensures buffer { MatchOption result (slice_get self.old.held 0 ≡ None)
             (λ p. slice_get self.old.held 0 ≡ Some p.buffer) }
-        ensures rest { self.new ≡ record { packets = drop 1 self.old.packets; held = drop 1 self.old.held } }
+        ensures rest { self.new ≡ record self.old { packets = drop 1 self.old.packets; held = drop 1 self.old.held } }
     {
         self.packets.pop_front()
     }
@@ -87,7 +83,7 @@ impl PacketQueue {
     /// Gives all packets up, and their buffers back.
     pub(crate) fn clear(&mut self, pool: &mut Pool)
         requires { Holds pool.old self.old.held }
-        ensures queue { self.new ≡ record { packets = []; held = [] } }
+        ensures queue { self.new ≡ record self.old { packets = []; held = [] } }
         ensures pool { Balances pool.old self.old.held pool.new [] }
     {
         while let Some(packet) = self.pop() {
@@ -99,7 +95,7 @@ impl PacketQueue {
     #[tactic(auto, using(flow_window::proofs::Weights::held_in))]
     pub(crate) fn drop_front(&mut self, pool: &mut Pool)
         requires { Holds pool.old self.old.held }
-        ensures queue { self.new ≡ record { packets = drop 1 self.old.packets; held = drop 1 self.old.held } }
+        ensures queue { self.new ≡ record self.old { packets = drop 1 self.old.packets; held = drop 1 self.old.held } }
         ensures pool { Balances pool.old self.old.held pool.new self.new.held }
     {
         if let Some(packet) = self.pop() {

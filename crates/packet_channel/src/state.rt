@@ -3,6 +3,7 @@ ghost use Rattle.std.specs.Prelude.{◌≡◌, ◌≤◌};
 ghost use Rattle.packet_channel.specs.Channel as machine;
 ghost use Rattle.packet_channel.specs.StateView.{state_of};
 
+use crate::flow::Flow;
 use link_timers::Role;
 use packet_codec::clear_cause;
 
@@ -126,11 +127,12 @@ impl CallState {
 /// The most logical channels of a line.
 pub const MOST_CHANNELS: u8 = 32;
 
-/// The end of a line at which a channel is seen: its role, the window of the line, at most 7, and the channel's number.
+/// The end of a line at which a channel is seen: its role, the flow control parameters of the line, and the channel's
+/// number.
 #[derive(Clone, Copy)]
 pub struct End {
     pub role: Role,
-    pub window: u8,
+    pub flow: Flow,
     pub channel: u8,
 }
 

@@ -5,33 +5,37 @@ ghost use Rattle.packet_channel.specs.Held.{datum_in, Loses};
 ghost use Rattle.packet_channel.specs.Traffic as machine;
 
 mod hearing;
+mod numbers;
 mod saying;
 
 use crate::kept::KeptPacket;
-use crate::queue::{PacketQueue, QUEUE_PLACES};
+use crate::queue::PacketQueue;
 use crate::taken::{Front, TakenBuf};
 use crate::user_data::InterruptData;
 use flow_window::pool::Pool;
-use flow_window::{Mod8, SendWindow, Seq};
+use flow_window::{Mod128, SendWindow, Seq};
 use std::alloc::{AllocError, Global};
 use std::marker::Model;
 
 /// How many packets of a call may wait to be sent.
-pub const SEND_QUEUE: usize = QUEUE_PLACES;
+pub const SEND_QUEUE: usize = 8;
 
-/// The most that may be unacknowledged by numbers modulo 8. The window of the line is no larger.
-const LARGEST_WINDOW: u8 = 7;
+/// How many packets of a call may wait to be taken: as many as the largest window has.
+const ARRIVED_PLACES: usize = 32;
+
+/// The most that may be unacknowledged by numbers modulo 128. The window of the line is no larger.
+const LARGEST_WINDOW: u8 = 127;
 
 /// The queues, numbers, busy states and interrupts of a call since its last reset.
 #[derive(Drop)]
 pub(crate) struct Traffic {
     waiting: PacketQueue,
-    send: SendWindow<Mod8>,
+    send: SendWindow<Mod128>,
     // how many of the packets not yet covered have to be covered until all with D = 1 are
     undelivered: u8,
     arrived: PacketQueue,
-    expected: Seq<Mod8>,
-    released: Seq<Mod8>,
+    expected: Seq<Mod128>,
+    released: Seq<Mod128>,
     // P(R) went on since the partner was told
     untold: bool,
     partner_busy: bool,
@@ -63,8 +67,8 @@ impl Traffic {
     pub(crate) fn new(alloc: Global) -> Result<Self, AllocError>
         ensures { IfOk result (λ t. t ≡ record { traffic = machine.fresh; held = [] }) }
     {
-        let waiting = PacketQueue::new(alloc)?;
-        let arrived = PacketQueue::new(alloc)?;
+        let waiting = PacketQueue::new(alloc, SEND_QUEUE)?;
+        let arrived = PacketQueue::new(alloc, ARRIVED_PLACES)?;
         Ok(Traffic {
             waiting,
             send: SendWindow::new(LARGEST_WINDOW),
@@ -200,7 +204,7 @@ impl Traffic {
     /// How many packets came and are not released.
     pub(crate) fn unreleased(&self) -> u8
         ensures value { result ≡ machine.unreleased self.now.traffic }
-        ensures most { result < 8 }
+        ensures most { result < 128 }
     {
         self.expected.ahead_of(&self.released)
     }

@@ -4,6 +4,7 @@ use borrow.Author.Tests.{le-leb, lt-ltb}
 use Rattle.std.specs.Prelude.{Option, Some, None, is_some, ◌&&◌, nat_lt}
 use Rattle.lapb.specs.declared.phase.Phase.{Phase}
 use Rattle.lapb.specs.Machine.{Octets, Link, can_offer, is_up, settle_in, send_all, sendable, offer}
+use Rattle.packet_channel.specs.declared.flow.Flow.{Flow}
 use Rattle.packet_layer.specs.Packets.{Body, Packet}
 use Rattle.packet_layer.specs.Channel.{Channel}
 use Rattle.packet_layer.specs.Layer.{Layer, Next, channel_of, next_of, next_number, serve, serve_found, served, next_restart, next_in, next_packet}
@@ -23,7 +24,7 @@ found_none : (l : Layer) (c : ℕ) (found : Option Channel) (others : Next) → 
     is_some (serve_found l c found others).packet ≡ false → (serve_found l c found others).layer ≡ l
 found_none l c None others rest silent = rest silent
 found_none l c (Some ch) others rest silent =
-    served_none l c (next_of l.window ch).channel (next_of l.window ch).body others rest silent
+    served_none l c (next_of l.flow ch).channel (next_of l.flow ch).body others rest silent
 
 serve_none : (count : ℕ) (l : Layer) (c : ℕ) → is_some (serve count l c).packet ≡ false → (serve count l c).layer ≡ l
 serve_none zero l c silent = refl
@@ -56,7 +57,7 @@ found_relink : (l : Layer) (c : ℕ) (found : Option Channel) (others : Next) �
     (serve_found l c found others).layer.relink ≡ l.relink
 found_relink l c None others rest = rest
 found_relink l c (Some ch) others rest =
-    served_relink l c (next_of l.window ch).channel (next_of l.window ch).body others rest
+    served_relink l c (next_of l.flow ch).channel (next_of l.flow ch).body others rest
 
 serve_relink : (count : ℕ) (l : Layer) (c : ℕ) → (serve count l c).layer.relink ≡ l.relink
 serve_relink zero l c = refl
@@ -76,9 +77,10 @@ in_relink machine.Phase.PacketReady false l = restart_relink l.owed l
 
 -- ---- one packet more
 
-pub written_same : (packet : Option Packet) (old : Octets) → is_some packet ≡ true → written_packet packet old ≡ written_packet packet []
-written_same None old says = absurd (cc)
-written_same (Some packet) old says = refl
+pub written_same : (flow : Flow) (packet : Option Packet) (old : Octets) → is_some packet ≡ true →
+    written_packet flow packet old ≡ written_packet flow packet []
+written_same flow None old says = absurd (cc)
+written_same flow (Some packet) old says = refl
 
 cond_same : (b : Bool) (e : PacketEnd) → cond b e e ≡ e
 cond_same true e = refl
@@ -215,7 +217,7 @@ pub longer_offered : (e : PacketEnd) (count : ℕ) → may_offer e ≡ true → 
     count + 1 ≤ length (offered 1 e).line.link.queue
 longer_offered e count may within =
     let is = both_true (can_offer e.line.link) (is_some (next_packet e.layer).packet) may in
-    rw (next_offered e may) (longer e.line.link (written_packet (next_packet e.layer).packet []) count is.0 within)
+    rw (next_offered e may) (longer e.line.link (written_packet e.layer.flow (next_packet e.layer).packet []) count is.0 within)
 
 pub none_left : (e : PacketEnd) → may_offer e ≡ false → HasOfferedAll e
 none_left e none = go (can_offer e.line.link) refl

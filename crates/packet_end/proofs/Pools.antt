@@ -5,6 +5,7 @@ use Rattle.link_timers.specs.declared.role.Role.{Role}
 use Rattle.link_timers.specs.declared.role.Role.TheVariants.{Dte, Dce}
 use Rattle.flow_window.specs.Pool.{Pool, Buffer, weight, in_use, Holds, Balances}
 use Rattle.flow_window.proofs.Weights.{weight_append, weight_ones, holds_after}
+use Rattle.packet_channel.specs.declared.flow.Flow.{Flow}
 use Rattle.line_end.specs.End as line
 use Rattle.line_end.specs.Held.{LineEnd}
 use Rattle.packet_layer.specs.Channel.{closed_channel}
@@ -155,9 +156,9 @@ made_length true (suc n) = ap (λ m. suc m) (made_length false n)
 made_length false zero = refl
 made_length false (suc n) = ap (λ m. suc m) (made_length false n)
 
-pub made_most : (role : Role) (channels window : ℕ) (standing : Bool) →
-    most_held (machine.made role channels window standing) ≡ channels * (window + 8)
-made_most role channels window standing = ap (λ n. n * (window + 8)) (made_length standing channels)
+pub made_most : (role : Role) (channels : ℕ) (flow : Flow) (standing : Bool) →
+    most_held (machine.made role channels flow standing) ≡ channels * (flow.window + 8)
+made_most role channels flow standing = ap (λ n. n * (flow.window + 8)) (made_length standing channels)
 
 pub replicated : {X : Type 0} (n : ℕ) (x : X) → length (replicate n x) ≡ n
 replicated zero x = refl

@@ -10,9 +10,11 @@ use Rattle.link_timers.specs.Timers.{Places}
 use Rattle.packet_codec.specs.declared.fault.PacketFault.{PacketFault}
 use Rattle.packet_codec.specs.declared.fault.PacketFault.TheVariants.{TooShort, BadFormatId, UnknownType, BadLength, BadAddress, DataTooLong}
 use Rattle.packet_codec.specs.declared.packet_type.PacketType.{PacketType}
-use Rattle.packet_codec.specs.Packet.{PacketValue, ContentValue}
+use Rattle.packet_codec.specs.declared.packet.Numbering.{Numbering}
+use Rattle.packet_codec.specs.Packet.{PacketValue, ContentValue, format_id}
 use Rattle.packet_codec.specs.Reading.{reading, typed, on_channel, named_channel, named_type, format_of}
 use Rattle.packet_codec.specs.Reading as codec
+use Rattle.packet_channel.specs.declared.flow.Flow.{Flow}
 use Rattle.packet_layer.specs.Packets.{CallParts, Packet, Body}
 use Rattle.packet_layer.specs.Channel.{CallState, Channel, Step, Request, Refusal, carried_out, unless, refusal, requested, owing, in_transfer, has_flow, moved, next_of, next_owed, ChannelNext, waits_for_call, waits_for_clear, received, unreadable, placing}
 use Rattle.packet_layer.specs.Channel.Request.{Accept, Clearing, Resetting, Sending, Interrupting, Stopping, Taking, Releasing, Confirming}
@@ -236,7 +238,7 @@ step_apart OwnRestart l c n f apart = same_as l n
 packet_apart : (l : Layer) (p : Packet) (n : ℕ) → 1 ≤ p.channel → n ≢ p.channel → Alike l (packet_in l p) n
 packet_apart l p n least apart =
     rw (ne_eqb p.channel 0 (λ e. omega (arith, e)))
-    (step_apart l.phase l p.channel n (λ ch. received l.role l.window p.channel ch p.body) apart)
+    (step_apart l.phase l p.channel n (λ ch. received l.role l.flow p.channel ch p.body) apart)
 
 unreadable_apart : (l : Layer) (unknown : Bool) (named : Option ℕ) (n : ℕ) → NamesAnother named n →
     Alike l (after_hearing l (unreadable_as unknown named)) n
@@ -256,46 +258,50 @@ read_apart l octets (Err BadLength) n another own = unreadable_apart l false (na
 read_apart l octets (Err BadAddress) n another own = unreadable_apart l false (named_channel octets) n another
 read_apart l octets (Err DataTooLong) n another own = unreadable_apart l false (named_channel octets) n another
 
-content_named : (c : ℕ) (content : Result ContentValue PacketFault) (p : PacketValue) → on_channel c content ≡ Ok p →
-    p.channel ≡ c
-content_named c (Ok content) p e = cc
-content_named c (Err fault) p e = absurd (cc)
+content_named : (numbering : Numbering) (c : ℕ) (content : Result ContentValue PacketFault) (p : PacketValue) →
+    on_channel numbering c content ≡ Ok p → p.channel ≡ c
+content_named numbering c (Ok content) p e = cc
+content_named numbering c (Err fault) p e = absurd (cc)
 
-typed_named : (kind : Option PacketType) (first second third : ℕ) (rest : List ℕ) (p : PacketValue) →
-    typed kind first second third rest ≡ Ok p → p.channel ≡ codec.channel_of first second
-typed_named None first second third rest p e = absurd (cc)
-typed_named (Some kind) first second third rest p e =
-    content_named (codec.channel_of first second)
-    (codec.content_of kind (codec.bit_8 first) (codec.bit_7 first) third rest) p e
+typed_named : (numbering : Numbering) (kind : Option PacketType) (first second third : ℕ) (rest : List ℕ) (p : PacketValue) →
+    typed numbering 128 kind first second third rest ≡ Ok p → p.channel ≡ codec.channel_of first second
+typed_named numbering None first second third rest p e = absurd (cc)
+typed_named numbering (Some kind) first second third rest p e =
+    content_named numbering (codec.channel_of first second)
+    (codec.content_of numbering 128 kind (codec.bit_8 first) (codec.bit_7 first) third rest) p e
 
-formed_named : (formed : Bool) (first second third : ℕ) (rest : List ℕ) (p : PacketValue) →
-    cond formed (typed (named_type first second third) first second third rest) (Err BadFormatId) ≡ Ok p →
+formed_named : (numbering : Numbering) (formed : Bool) (first second third : ℕ) (rest : List ℕ) (p : PacketValue) →
+    cond formed (typed numbering 128 (named_type numbering first second third rest) first second third rest) (Err BadFormatId)
+    ≡ Ok p →
     p.channel ≡ codec.channel_of first second
-formed_named true first second third rest p e = typed_named (named_type first second third) first second third rest p e
-formed_named false first second third rest p e = absurd (cc)
+formed_named numbering true first second third rest p e =
+    typed_named numbering (named_type numbering first second third rest) first second third rest p e
+formed_named numbering false first second third rest p e = absurd (cc)
 
-read_named : (octets : List ℕ) (p : PacketValue) (n : ℕ) → reading octets ≡ Ok p →
+read_named : (numbering : Numbering) (octets : List ℕ) (p : PacketValue) (n : ℕ) → reading numbering 128 octets ≡ Ok p →
     NamesAnother (named_channel octets) n → NamesAnother (Some p.channel) n
-read_named [] p n e another = absurd another
-read_named (first ∷ []) p n e another = absurd another
-read_named (first ∷ second ∷ []) p n e another = absurd (cc)
-read_named (first ∷ second ∷ third ∷ rest) p n e another =
-    rw (formed_named (format_of first == 1) first second third rest p e) another
+read_named numbering [] p n e another = absurd another
+read_named numbering (first ∷ []) p n e another = absurd another
+read_named numbering (first ∷ second ∷ []) p n e another = absurd (cc)
+read_named numbering (first ∷ second ∷ third ∷ rest) p n e another =
+    rw (formed_named numbering (format_of first == format_id numbering) first second third rest p e) another
 
 pub octets_apart : (l : Layer) (octets : List ℕ) (n : ℕ) → NamesAnother (named_channel octets) n →
     Alike l (on_octets l octets) n
 octets_apart l octets n another =
-    let heard_apart = read_apart (unread l) octets (reading octets) n another (λ p e. read_named octets p n e another) in
+    let heard_apart =
+    read_apart (unread l) octets (reading l.flow.numbering 128 octets) n another
+    (λ p e. read_named l.flow.numbering octets p n e another) in
     record { role = heard_apart.role; phase = heard_apart.phase; channel = heard_apart.channel }
 
 -- ---- a packet that goes
 
-next_seen : (window : ℕ) (owed : List Body) (ch : Channel) → seen (Some (next_owed window owed ch).channel) ≡ seen (Some ch)
-next_seen window (b ∷ bs) ch = refl
-next_seen window [] ch = by_flow (has_flow ch)
+next_seen : (flow : Flow) (owed : List Body) (ch : Channel) → seen (Some (next_owed flow owed ch).channel) ≡ seen (Some ch)
+next_seen flow (b ∷ bs) ch = refl
+next_seen flow [] ch = by_flow (has_flow ch)
   where
     by_flow : (flows : Bool) →
-        let flowing : ChannelNext = record { channel = moved (says window ch.traffic).traffic ch; body = (says window ch.traffic).body } in
+        let flowing : ChannelNext = record { channel = moved (says flow ch.traffic).traffic ch; body = (says flow ch.traffic).body } in
         let silent : ChannelNext = record { channel = ch; body = None } in
         let next : ChannelNext = if flows then flowing else silent in
         seen (Some next.channel) ≡ seen (Some ch)
@@ -317,8 +323,8 @@ serve_alike (suc count) l c n = go (channel_of l c) refl (serve_alike count l (n
         Alike l (serve_found l c found (serve count l (next_number l c))).layer n
     go None is rest = rest
     go (Some ch) is rest =
-        served_alike l c n ch (next_of l.window ch).body (next_of l.window ch).channel
-        (serve count l (next_number l c)) is (next_seen l.window ch.owed ch) rest
+        served_alike l c n ch (next_of l.flow ch).body (next_of l.flow ch).channel
+        (serve count l (next_number l c)) is (next_seen l.flow ch.owed ch) rest
 
 restart_next_alike : (owed : List Body) (l : Layer) (n : ℕ) → Alike l (next_restart owed l).layer n
 restart_next_alike [] l n = serve_alike (length l.channels) l (next_number l l.served_last) n

@@ -103,7 +103,7 @@ restarted e = record {
 
 abbrev pub with_next : PacketEnd → Next → PacketEnd
 with_next e next = record e {
-  line = line.offered e.line (written_packet next.packet []);
+  line = line.offered e.line (written_packet e.layer.flow next.packet []);
   layer = next.layer;
 }
 
@@ -186,7 +186,7 @@ without_first_note e = record e { notes = drop 1 e.notes }
 abbrev pub made : Role → EndParams → PacketEnd
 made role p = record {
   line = line.made role p.k p.n2 p.standing;
-  layer = machine.made role p.channels p.window p.standing;
+  layer = machine.made role p.channels p.flow p.standing;
   timers = none_running;
   notes = [];
 }

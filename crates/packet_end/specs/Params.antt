@@ -9,7 +9,7 @@ use Rattle.packet_end.specs.declared.params.EndParams.{EndParams}
 
 pub record AreParams (p : EndParams) : Type 0 where
   pub link : link.AreParams p.k p.n2
-  pub layer : layer.AreParams p.channels p.window
+  pub layer : layer.AreParams p.channels p.flow
 
 abbrev pub MadeNot : EndParams → EndFault → Type 0
 MadeNot p BadConfig = AreParams p → ⊥

@@ -21,7 +21,7 @@ share_of line layer = line.link.k + most_held layer + 1
 
 -- as it is made
 abbrev pub share_with : EndParams → ℕ
-share_with p = p.k + p.channels * (p.window + 8) + 1
+share_with p = p.k + p.channels * (p.flow.window + 8) + 1
 
 -- a pool has the buffers that are held, and beside what others hold of it there is room for the whole share
 pub record Serves (pool : Pool) (held : List Buffer) (share : ℕ) : Type 0 where

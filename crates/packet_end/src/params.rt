@@ -6,7 +6,7 @@ ghost use Rattle.packet_end.specs.declared.fault.EndFault.TheVariants as fault_i
 
 use crate::fault::EndFault;
 use lapb::LinkParams;
-use packet_layer::{LayerParams, SEND_QUEUE};
+use packet_layer::{Flow, LayerParams, SEND_QUEUE};
 
 /// How one end of a line is to be made.
 #[derive(Clone, Copy, PartialEq, Eq)]
@@ -17,8 +17,8 @@ pub struct EndParams {
     pub n2: u8,
     /// How many logical channels the line has, from 1 to 32: they are numbered from 1.
     pub channels: u8,
-    /// How many Data packets of a call may be unacknowledged in each direction, from 1 to 7 (X.25 4.4.1.2).
-    pub window: u8,
+    /// The window, the numbering and the packet size (X.25 4.4.1).
+    pub flow: Flow,
     /// Whether the line stands from the beginning on: the link is up, and a call stands on channel 1.
     pub standing: bool,
 }
@@ -38,7 +38,7 @@ impl EndParams {
         link.check()?;
         let layer = LayerParams {
             channels: self.channels,
-            window: self.window,
+            flow: self.flow,
             standing: self.standing,
         };
         layer.check()?;
@@ -50,7 +50,7 @@ impl EndParams {
     pub fn buffers(&self) -> usize
         ensures { result ≡ share_with self.now }
     {
-        let of_channel = usize::from(self.window) + SEND_QUEUE;
+        let of_channel = usize::from(self.flow.window) + SEND_QUEUE;
         usize::from(self.k) + usize::from(self.channels) * of_channel + 1
     }
 }

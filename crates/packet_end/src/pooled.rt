@@ -86,12 +86,12 @@ impl PooledEnd {
             k,
             n2,
             channels,
-            window,
+            flow,
             standing,
         } = params;
         let layer = LayerParams {
             channels,
-            window,
+            flow,
             standing,
         };
         let layer = Layer::new(alloc, role, layer)?;

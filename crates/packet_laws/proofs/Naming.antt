@@ -2,14 +2,17 @@
 use Rattle.std.proofs.Common.{◌≡◌, ℕ, zero, suc, ◌+◌, ◌-◌, ◌%◌, ◌<◌, ◌≤◌, Bool, true, false, cond, ◌&&◌, ◌==◌, nat_lt, nat_le, List, [], ◌∷◌, ◌++◌, length, Option, Some, None, refl, sym, ap, subst, ◌∙◌, append_assoc, length-append, arith}
 use Rattle.std.specs.Prelude.{◌↔◌}
 use Rattle.std.proofs.lemmas.Bool.{leb-true, ltb-true, eqb-true}
+use Rattle.packet_layer.specs.Flow.{modulus, shown, ahead_shown}
+use Rattle.packet_channel.specs.declared.flow.Flow.{Flow}
+use Rattle.packet_channel.proofs.Windows.{below_small}
 use Rattle.packet_layer.specs.Packets.{Datum, Body}
 use Rattle.packet_layer.specs.Packets.Body.{Data, Interrupt, InterruptConfirmation, ReceiveReady, ReceiveNotReady}
-use Rattle.packet_layer.specs.Traffic.{Traffic, Said, queue, Heard, distance, in_flight, unreleased, interrupted, covers, keeps, arrives, partner_says, hears, says, says_interrupt, says_data, says_flow, flow_told, window_open, ready_or_not, taking_of, front_of, may_release, releasing, confirming}
+use Rattle.packet_layer.specs.Traffic.{Traffic, Said, queue, Heard, in_flight, unreleased, interrupted, covers, keeps, arrives, partner_says, hears, says, says_interrupt, says_data, says_flow, flow_told, window_open, ready_or_not, taking_of, front_of, may_release, releasing, confirming, covering}
 use Rattle.packet_layer.specs.Channel.{Request, traffic_after}
 use Rattle.packet_layer.specs.Channel.Request.{Sending, Interrupting, Stopping, Taking, Releasing, Confirming}
 use Rattle.packet_laws.specs.History.{Epoch, logged, with_taken}
 use Rattle.packet_laws.specs.Counts.{NamesCounts, NamesPlace, NamesAfter, NamesNext, AreDelivered, CountsLaw, or_first, through_delivery}
-use Rattle.packet_laws.proofs.Numbers.{more_mod, flight_is, unreleased_is, uncovered_is}
+use Rattle.packet_laws.proofs.Numbers.{more_mod, flight_is, unreleased_is, uncovered_is, shown_is}
 use Rattle.packet_laws.proofs.Call.Saying.{by_cond, and_parts}
 use Rattle.packet_laws.proofs.Call.Asking.{same_length}
 
@@ -54,8 +57,8 @@ through_covered (x ∷ xs) c all =
     onward zero false c le first = omega arith
     onward (suc k) b c le first = omega arith
 
-names_delivered : (window : ℕ) (t : Traffic) (e : Epoch) → NamesCounts window t e → (t.undelivered ≡ 0) ↔ AreDelivered e
-names_delivered window t e n = (all_are, none_left)
+names_delivered : (flow : Flow) (t : Traffic) (e : Epoch) → NamesCounts flow t e → (t.undelivered ≡ 0) ↔ AreDelivered e
+names_delivered flow t e n = (all_are, none_left)
   where
     all_are : t.undelivered ≡ 0 → AreDelivered e
     all_are none before after d split marked =
@@ -72,24 +75,24 @@ names_delivered window t e n = (all_are, none_left)
 
 -- ---- the same of the fields that matter, so that a change of the others leaves it as it is
 
-record Counts (window : ℕ) (waiting arrived : List Datum) (send covered expected released undelivered : ℕ) (sent taken : List Datum) (c r : ℕ) : Type 0 where
+record Counts (flow : Flow) (waiting arrived : List Datum) (send covered expected released undelivered : ℕ) (sent taken : List Datum) (c r : ℕ) : Type 0 where
   gone : List Datum
   sent_is : gone ++ waiting ≡ sent
-  send_is : send ≡ length gone % 8
-  covered_is : covered ≡ c % 8
+  send_is : send ≡ length gone % 128
+  covered_is : covered ≡ c % 128
   covered_went : c ≤ length gone
-  went_within : length gone ≤ c + window
-  expected_is : expected ≡ (length taken + length arrived) % 8
-  released_is : released ≡ r % 8
+  went_within : length gone ≤ c + flow.window
+  expected_is : expected ≡ (length taken + length arrived) % 128
+  released_is : released ≡ r % 128
   released_taken : r ≤ length taken
-  came_within : length taken + length arrived ≤ r + window
+  came_within : length taken + length arrived ≤ r + flow.window
   undelivered_is : undelivered ≡ through_delivery sent - c
 
-abbrev Of : ℕ → Traffic → Epoch → Type 0
-Of window t e = Counts window t.waiting t.arrived t.send_number t.covered t.receive_number t.released t.undelivered e.sent e.taken e.covered e.released
+abbrev Of : Flow → Traffic → Epoch → Type 0
+Of flow t e = Counts flow t.waiting t.arrived t.send_number t.covered t.receive_number t.released t.undelivered e.sent e.taken e.covered e.released
 
-into : (window : ℕ) (t : Traffic) (e : Epoch) → NamesCounts window t e → Of window t e
-into window t e n = record {
+into : (flow : Flow) (t : Traffic) (e : Epoch) → NamesCounts flow t e → Of flow t e
+into flow t e n = record {
   gone = n.gone;
   sent_is = n.sent;
   send_is = n.send;
@@ -103,8 +106,8 @@ into window t e n = record {
   undelivered_is = n.undelivered;
 }
 
-back : (window : ℕ) (t : Traffic) (e : Epoch) → Of window t e → NamesCounts window t e
-back window t e k = record {
+back : (flow : Flow) (t : Traffic) (e : Epoch) → Of flow t e → NamesCounts flow t e
+back flow t e k = record {
   gone = k.gone;
   sent = k.sent_is;
   send = k.send_is;
@@ -120,11 +123,11 @@ back window t e k = record {
 
 -- ---- asked
 
-asked_take : (window : ℕ) (a : Option (List ℕ)) (ds : List Datum) (t : Traffic) (e : Epoch) → Of window (record t { interrupt_arrived = a; arrived = ds }) e
-    → Of window (taking_of a ds (record t { interrupt_arrived = a; arrived = ds })) (with_taken (front_of a ds) e)
-asked_take window (Some octets) ds t e k = k
-asked_take window None [] t e k = k
-asked_take window None (d ∷ ds) t e k =
+asked_take : (flow : Flow) (a : Option (List ℕ)) (ds : List Datum) (t : Traffic) (e : Epoch) → Of flow (record t { interrupt_arrived = a; arrived = ds }) e
+    → Of flow (taking_of a ds (record t { interrupt_arrived = a; arrived = ds })) (with_taken (front_of a ds) e)
+asked_take flow (Some octets) ds t e k = k
+asked_take flow None [] t e k = k
+asked_take flow None (d ∷ ds) t e k =
     let same = same_length e.taken ds d in
     let more = length-append e.taken (d ∷ []) in
     let taken = k.released_taken in
@@ -136,21 +139,21 @@ asked_take window None (d ∷ ds) t e k =
       covered_is = k.covered_is;
       covered_went = k.covered_went;
       went_within = k.went_within;
-      expected_is = k.expected_is ∙ ap (λ (n : ℕ). n % 8) (sym same);
+      expected_is = k.expected_is ∙ ap (λ (n : ℕ). n % 128) (sym same);
       released_is = k.released_is;
       released_taken = omega arith;
       came_within = omega arith;
       undelivered_is = k.undelivered_is;
     }
 
-asked_release : (window n : ℕ) (t : Traffic) (e : Epoch) → window ≤ 7 → Of window t e
-    → Of window (cond (may_release n t) (releasing n t) t) (cond (may_release n t) (record e { released = e.released + n }) e)
-asked_release window n t e seven k = by_test (may_release n t) (λ may. leb-true (n + length t.arrived) (unreleased t) may)
+asked_release : (flow : Flow) (n : ℕ) (t : Traffic) (e : Epoch) → flow.window < modulus flow.numbering → Of flow t e
+    → Of flow (cond (may_release n t) (releasing n t) t) (cond (may_release n t) (record e { released = e.released + n }) e)
+asked_release flow n t e small k = by_test (may_release n t) (λ may. leb-true (n + length t.arrived) (unreleased t) may)
   where
-    by_test : (b : Bool) → (b ≡ true → n + length t.arrived ≤ unreleased t) → Of window (cond b (releasing n t) t) (cond b (record e { released = e.released + n }) e)
+    by_test : (b : Bool) → (b ≡ true → n + length t.arrived ≤ unreleased t) → Of flow (cond b (releasing n t) t) (cond b (record e { released = e.released + n }) e)
     by_test true room =
         let some = room refl in
-        let count = unreleased_is window t e seven (back window t e k) in
+        let count = unreleased_is flow t e small (back flow t e k) in
         let taken = k.released_taken in
         let within = k.came_within in
         record {
@@ -168,13 +171,13 @@ asked_release window n t e seven k = by_test (may_release n t) (λ may. leb-true
         }
     by_test false room = k
 
-asked_confirm : (window : ℕ) (b : Bool) (t : Traffic) (e : Epoch) → Of window t e → Of window (cond b (confirming t) t) e
-asked_confirm window true t e k = k
-asked_confirm window false t e k = k
+asked_confirm : (flow : Flow) (b : Bool) (t : Traffic) (e : Epoch) → Of flow t e → Of flow (cond b (confirming t) t) e
+asked_confirm flow true t e k = k
+asked_confirm flow false t e k = k
 
-asked_send : (window : ℕ) (d : Datum) (t : Traffic) (e : Epoch) → window ≤ 7 → Of window t e → Of window (queue d t) (record e { sent = e.sent ++ d ∷ [] })
-asked_send window d t e seven k =
-    let flight = uncovered_is window t e seven (back window t e k) in
+asked_send : (flow : Flow) (d : Datum) (t : Traffic) (e : Epoch) → flow.window < modulus flow.numbering → Of flow t e → Of flow (queue d t) (record e { sent = e.sent ++ d ∷ [] })
+asked_send flow d t e small k =
+    let flight = uncovered_is flow t e small (back flow t e k) in
     let left = k.undelivered_is in
     let more = through_more e.sent d in
     record {
@@ -197,36 +200,37 @@ asked_send window d t e seven k =
     by_delivery true count all c through e old = e
     by_delivery false count all c through e old = old
 
-names_asked : (window : ℕ) → window ≤ 7 → (t : Traffic) (e : Epoch) (r : Request) → NamesCounts window t e → NamesCounts window (traffic_after r t) (logged t r e)
-names_asked window seven t e (Sending d) n = back window _ _ (asked_send window d t e seven (into window t e n))
-names_asked window seven t e (Interrupting octets) n = back window _ _ (into window t e n)
-names_asked window seven t e (Stopping b) n = back window _ _ (into window t e n)
-names_asked window seven t e Taking n = back window _ _ (asked_take window t.interrupt_arrived t.arrived t e (into window t e n))
-names_asked window seven t e (Releasing m) n = back window _ _ (asked_release window m t e seven (into window t e n))
-names_asked window seven t e Confirming n = back window _ _ (asked_confirm window t.interrupt_taken t e (into window t e n))
-names_asked window seven t e _ n = n
+names_asked : (flow : Flow) → flow.window < modulus flow.numbering → (t : Traffic) (e : Epoch) (r : Request) → NamesCounts flow t e → NamesCounts flow (traffic_after r t) (logged t r e)
+names_asked flow small t e (Sending d) n = back flow _ _ (asked_send flow d t e small (into flow t e n))
+names_asked flow small t e (Interrupting octets) n = back flow _ _ (into flow t e n)
+names_asked flow small t e (Stopping b) n = back flow _ _ (into flow t e n)
+names_asked flow small t e Taking n = back flow _ _ (asked_take flow t.interrupt_arrived t.arrived t e (into flow t e n))
+names_asked flow small t e (Releasing m) n = back flow _ _ (asked_release flow m t e small (into flow t e n))
+names_asked flow small t e Confirming n = back flow _ _ (asked_confirm flow t.interrupt_taken t e (into flow t e n))
+names_asked flow small t e _ n = n
 
 -- ---- said
 
-abbrev Named : ℕ → Epoch → Said → Type 0
-Named window e s = Of window s.traffic e × NamesPlace e s.traffic.waiting s.body
+abbrev Named : Flow → Epoch → Said → Type 0
+Named flow e s = Of flow s.traffic e × NamesPlace flow e s.traffic.waiting s.body
 
-named_ready : (window : ℕ) (stop : Bool) (t : Traffic) (e : Epoch) → Of window t e → Named window e (record { traffic = record t { untold = false; told_stopped = t.stopped }; body = Some (ready_or_not stop t.released) })
-named_ready window true t e k = (k, k.released_is)
-named_ready window false t e k = (k, k.released_is)
+named_ready : (flow : Flow) (stop : Bool) (t : Traffic) (e : Epoch) → Of flow t e → Named flow e (record { traffic = record t { untold = false; told_stopped = t.stopped }; body = Some (ready_or_not stop (shown flow.numbering t.released)) })
+named_ready flow true t e k = (k, shown_is flow.numbering t.released e.released k.released_is)
+named_ready flow false t e k = (k, shown_is flow.numbering t.released e.released k.released_is)
 
-named_flow : (window : ℕ) (t : Traffic) (e : Epoch) → Of window t e → Named window e (says_flow t)
-named_flow window t e k = by_cond (λ (s : Said). Named window e s) (flow_told t) _ _ (λ h. (k, tt)) (λ h. named_ready window t.stopped t e k)
+named_flow : (flow : Flow) (t : Traffic) (e : Epoch) → Of flow t e → Named flow e (says_flow flow t)
+named_flow flow t e k = by_cond (λ (s : Said). Named flow e s) (flow_told t) _ _ (λ h. (k, tt)) (λ h. named_ready flow t.stopped t e k)
 
-named_datum : (window : ℕ) (d : Datum) (ds : List Datum) (t : Traffic) (e : Epoch) → window ≤ 7 → window_open window t ≡ true → t.waiting ≡ d ∷ ds → Of window t e
-    → Named window e (record { traffic = record t { waiting = ds; send_number = (t.send_number + 1) % 8; untold = false }; body = Some (Data t.send_number t.released d) })
-named_datum window d ds t e seven may w k =
+named_datum : (flow : Flow) (d : Datum) (ds : List Datum) (t : Traffic) (e : Epoch) → flow.window < modulus flow.numbering → window_open flow t ≡ true → t.waiting ≡ d ∷ ds → Of flow t e
+    → Named flow e (record { traffic = record t { waiting = ds; send_number = (t.send_number + 1) % 128; untold = false }; body = Some (Data (shown flow.numbering t.send_number) (shown flow.numbering t.released) d) })
+named_datum flow d ds t e small may w k =
     let whole : k.gone ++ (d ∷ ds) ≡ e.sent = ap (λ (l : List Datum). k.gone ++ l) (sym w) ∙ k.sent_is in
     let len = length-append k.gone (d ∷ []) in
-    let number = k.send_is in
+    let number = shown_is flow.numbering t.send_number (length k.gone) k.send_is in
     let went = k.covered_went in
-    let flight = flight_is window t e seven (back window t e k) in
-    let room : in_flight t < window = ltb-true (in_flight t) window (and_parts (nat_lt (in_flight t) window) _ may).0 in (
+    let flight = flight_is flow t e small (back flow t e k) in
+    let most = below_small flow small in
+    let room : in_flight t < flow.window = ltb-true (in_flight t) flow.window (and_parts (nat_lt (in_flight t) flow.window) _ may).0 in (
       record {
         gone = k.gone ++ d ∷ [];
         sent_is = append_assoc k.gone (d ∷ []) ds ∙ whole;
@@ -240,40 +244,40 @@ named_datum window d ds t e seven may w k =
         came_within = k.came_within;
         undelivered_is = k.undelivered_is;
       },
-      ((k.gone, (whole, number)), k.released_is),
+      ((k.gone, (whole, number)), shown_is flow.numbering t.released e.released k.released_is),
     )
 
-named_data : (window : ℕ) (ds : List Datum) (t : Traffic) (e : Epoch) → window ≤ 7 → t.waiting ≡ ds → Of window t e → Named window e (says_data window ds t)
-named_data window [] t e seven w k = named_flow window t e k
-named_data window (d ∷ ds) t e seven w k =
-    by_cond (λ (s : Said). Named window e s) (window_open window t) _ _ (λ h. named_datum window d ds t e seven h w k) (λ h. named_flow window t e k)
+named_data : (flow : Flow) (ds : List Datum) (t : Traffic) (e : Epoch) → flow.window < modulus flow.numbering → t.waiting ≡ ds → Of flow t e → Named flow e (says_data flow ds t)
+named_data flow [] t e small w k = named_flow flow t e k
+named_data flow (d ∷ ds) t e small w k =
+    by_cond (λ (s : Said). Named flow e s) (window_open flow t) _ _ (λ h. named_datum flow d ds t e small h w k) (λ h. named_flow flow t e k)
 
-named_interrupt : (window : ℕ) (q : Option (List ℕ)) (t : Traffic) (e : Epoch) → window ≤ 7 → Of window t e → Named window e (says_interrupt window q t)
-named_interrupt window (Some octets) t e seven k = (k, tt)
-named_interrupt window None t e seven k = named_data window t.waiting t e seven refl k
+named_interrupt : (flow : Flow) (q : Option (List ℕ)) (t : Traffic) (e : Epoch) → flow.window < modulus flow.numbering → Of flow t e → Named flow e (says_interrupt flow q t)
+named_interrupt flow (Some octets) t e small k = (k, tt)
+named_interrupt flow None t e small k = named_data flow t.waiting t e small refl k
 
-named_says : (window : ℕ) (t : Traffic) (e : Epoch) → window ≤ 7 → Of window t e → Named window e (says window t)
-named_says window t e seven k =
-    by_cond (λ (s : Said). Named window e s) t.confirmation_due _ _ (λ h. (k, tt)) (λ h. named_interrupt window t.interrupt_waiting t e seven k)
+named_says : (flow : Flow) (t : Traffic) (e : Epoch) → flow.window < modulus flow.numbering → Of flow t e → Named flow e (says flow t)
+named_says flow t e small k =
+    by_cond (λ (s : Said). Named flow e s) t.confirmation_due _ _ (λ h. (k, tt)) (λ h. named_interrupt flow t.interrupt_waiting t e small k)
 
-names_said : (window : ℕ) → window ≤ 7 → (t : Traffic) (e : Epoch) → NamesCounts window t e
-    → NamesCounts window (says window t).traffic e × NamesPlace e (says window t).traffic.waiting (says window t).body
-names_said window seven t e n = let s = named_says window t e seven (into window t e n) in (back window _ e s.0, s.1)
+names_said : (flow : Flow) → flow.window < modulus flow.numbering → (t : Traffic) (e : Epoch) → NamesCounts flow t e
+    → NamesCounts flow (says flow t).traffic e × NamesPlace flow e (says flow t).traffic.waiting (says flow t).body
+names_said flow small t e n = let s = named_says flow t e small (into flow t e n) in (back flow _ e s.0, s.1)
 
 -- ---- heard
 
-heard_cover : (window r : ℕ) (t : Traffic) (e : Epoch) → window ≤ 7 → nat_le (distance t.covered r) (in_flight t) ≡ true → Of window t e
-    → Of window (record t { covered = (t.covered + distance t.covered r) % 8; undelivered = t.undelivered - distance t.covered r }) (record e { covered = e.covered + distance t.covered r })
-heard_cover window r t e seven valid k =
-    let le : distance t.covered r ≤ in_flight t = leb-true (distance t.covered r) (in_flight t) valid in
-    let flight = flight_is window t e seven (back window t e k) in
+heard_cover : (flow : Flow) (r : ℕ) (t : Traffic) (e : Epoch) → flow.window < modulus flow.numbering → nat_le (ahead_shown flow.numbering t.covered r) (in_flight t) ≡ true → Of flow t e
+    → Of flow (covering (ahead_shown flow.numbering t.covered r) t) (record e { covered = e.covered + ahead_shown flow.numbering t.covered r })
+heard_cover flow r t e small valid k =
+    let le : ahead_shown flow.numbering t.covered r ≤ in_flight t = leb-true (ahead_shown flow.numbering t.covered r) (in_flight t) valid in
+    let flight = flight_is flow t e small (back flow t e k) in
     let within = k.went_within in
     let left = k.undelivered_is in
     record {
       gone = k.gone;
       sent_is = k.sent_is;
       send_is = k.send_is;
-      covered_is = more_mod t.covered e.covered (distance t.covered r) k.covered_is;
+      covered_is = more_mod t.covered e.covered (ahead_shown flow.numbering t.covered r) k.covered_is;
       covered_went = omega arith;
       went_within = omega arith;
       expected_is = k.expected_is;
@@ -283,23 +287,23 @@ heard_cover window r t e seven valid k =
       undelivered_is = omega arith;
     }
 
-heard_ready : (window : ℕ) (busy : Bool) (r : ℕ) (t : Traffic) (e : Epoch) (b : Body) → window ≤ 7 → NamesNext t e b → Of window t e
-    → NamesAfter window (keeps (λ u. partner_says busy u) (covers r t)) t e b
-heard_ready window busy r t e b seven next k =
-    by_cond (λ (h : Heard). NamesAfter window (keeps (λ u. partner_says busy u) h) t e b) (nat_le (distance t.covered r) (in_flight t)) _ _
-    (λ h. (back window _ _ (heard_cover window r t e seven h k), next)) (λ h. tt)
+heard_ready : (flow : Flow) (busy : Bool) (r : ℕ) (t : Traffic) (e : Epoch) (b : Body) → flow.window < modulus flow.numbering → NamesNext flow t e b → Of flow t e
+    → NamesAfter flow (keeps (λ u. partner_says busy u) (covers flow r t)) t e b
+heard_ready flow busy r t e b small next k =
+    by_cond (λ (h : Heard). NamesAfter flow (keeps (λ u. partner_says busy u) h) t e b) (nat_le (ahead_shown flow.numbering t.covered r) (in_flight t)) _ _
+    (λ h. (back flow _ _ (heard_cover flow r t e small h k), next)) (λ h. tt)
 
-heard_datum : (window : ℕ) (s r : ℕ) (d : Datum) (t : Traffic) (e : Epoch) → window ≤ 7 → s ≡ t.receive_number → unreleased t < window → Of window t e
-    → NamesAfter window (keeps (λ u. arrives d u) (covers r t)) t e (Data s r d)
-heard_datum window s r d t e seven number room k =
-    by_cond (λ (h : Heard). NamesAfter window (keeps (λ u. arrives d u) h) t e (Data s r d)) (nat_le (distance t.covered r) (in_flight t)) _ _
+heard_datum : (flow : Flow) (s r : ℕ) (d : Datum) (t : Traffic) (e : Epoch) → flow.window < modulus flow.numbering → s ≡ shown flow.numbering t.receive_number → unreleased t < flow.window → Of flow t e
+    → NamesAfter flow (keeps (λ u. arrives d u) (covers flow r t)) t e (Data s r d)
+heard_datum flow s r d t e small number room k =
+    by_cond (λ (h : Heard). NamesAfter flow (keeps (λ u. arrives d u) h) t e (Data s r d)) (nat_le (ahead_shown flow.numbering t.covered r) (in_flight t)) _ _
     (λ h.
-    let c = heard_cover window r t e seven h k in
+    let c = heard_cover flow r t e small h k in
     let len = length-append t.arrived (d ∷ []) in
     let expected = k.expected_is in
-    let count = unreleased_is window t e seven (back window t e k) in
+    let count = unreleased_is flow t e small (back flow t e k) in
     let taken = k.released_taken in (
-      back window _ _ (record {
+      back flow _ _ (record {
         gone = c.gone;
         sent_is = c.sent_is;
         send_is = c.send_is;
@@ -312,31 +316,31 @@ heard_datum window s r d t e seven number room k =
         came_within = omega arith;
         undelivered_is = c.undelivered_is;
       }),
-      number ∙ expected,
+      number ∙ shown_is flow.numbering t.receive_number (length e.taken + length t.arrived) expected,
     )) (λ h. tt)
 
-names_heard : (window : ℕ) → window ≤ 7 → (t : Traffic) (e : Epoch) (b : Body) → NamesCounts window t e → NamesAfter window (hears window t b) t e b
-names_heard window seven t e (Data s r d) n =
-    by_cond (λ (h : Heard). NamesAfter window h t e (Data s r d)) ((s == t.receive_number) && nat_lt (unreleased t) window) _ _
+names_heard : (flow : Flow) → flow.window < modulus flow.numbering → (t : Traffic) (e : Epoch) (b : Body) → NamesCounts flow t e → NamesAfter flow (hears flow t b) t e b
+names_heard flow small t e (Data s r d) n =
+    by_cond (λ (h : Heard). NamesAfter flow h t e (Data s r d)) ((s == shown flow.numbering t.receive_number) && nat_lt (unreleased t) flow.window) _ _
     (λ h.
-    let both = and_parts (s == t.receive_number) (nat_lt (unreleased t) window) h in
-    heard_datum window s r d t e seven (eqb-true s t.receive_number both.0) (ltb-true (unreleased t) window both.1) (into window t e n)) (λ h. tt)
-names_heard window seven t e (ReceiveReady r) n = heard_ready window false r t e (ReceiveReady r) seven tt (into window t e n)
-names_heard window seven t e (ReceiveNotReady r) n = heard_ready window true r t e (ReceiveNotReady r) seven tt (into window t e n)
-names_heard window seven t e (Interrupt octets) n =
-    let k = into window t e n in
-    by_cond (λ (h : Heard). NamesAfter window h t e (Interrupt octets)) (interrupted t) _ _ (λ h. tt)
-    (λ h. (back window _ _ (none_more window t e k), tt))
+    let both = and_parts (s == shown flow.numbering t.receive_number) (nat_lt (unreleased t) flow.window) h in
+    heard_datum flow s r d t e small (eqb-true s (shown flow.numbering t.receive_number) both.0) (ltb-true (unreleased t) flow.window both.1) (into flow t e n)) (λ h. tt)
+names_heard flow small t e (ReceiveReady r) n = heard_ready flow false r t e (ReceiveReady r) small tt (into flow t e n)
+names_heard flow small t e (ReceiveNotReady r) n = heard_ready flow true r t e (ReceiveNotReady r) small tt (into flow t e n)
+names_heard flow small t e (Interrupt octets) n =
+    let k = into flow t e n in
+    by_cond (λ (h : Heard). NamesAfter flow h t e (Interrupt octets)) (interrupted t) _ _ (λ h. tt)
+    (λ h. (back flow _ _ (none_more flow t e k), tt))
   where
-    none_more : (window : ℕ) (t : Traffic) (e : Epoch) → Of window t e → Of window t (record e { covered = e.covered + 0 })
-    none_more window t e k = let same : e.covered ≡ e.covered + 0 = omega arith in subst (λ (c : ℕ). Of window t (record e { covered = c })) same k
-names_heard window seven t e InterruptConfirmation n =
-    by_cond (λ (h : Heard). NamesAfter window h t e InterruptConfirmation) t.interrupt_unconfirmed _ _ (λ h. back window _ _ (into window t e n)) (λ h. tt)
-names_heard window seven t e _ n = tt
+    none_more : (flow : Flow) (t : Traffic) (e : Epoch) → Of flow t e → Of flow t (record e { covered = e.covered + 0 })
+    none_more flow t e k = let same : e.covered ≡ e.covered + 0 = omega arith in subst (λ (c : ℕ). Of flow t (record e { covered = c })) same k
+names_heard flow small t e InterruptConfirmation n =
+    by_cond (λ (h : Heard). NamesAfter flow h t e InterruptConfirmation) t.interrupt_unconfirmed _ _ (λ h. back flow _ _ (into flow t e n)) (λ h. tt)
+names_heard flow small t e _ n = tt
 
 pub counts_hold : CountsLaw
 counts_hold = record {
-  begins = λ window. record {
+  begins = λ flow. record {
     gone = [];
     sent = refl;
     send = refl;

@@ -5,13 +5,17 @@ use Rattle.std.proofs.lemmas.List.{length-append, length-replicate, length-map, 
 use Rattle.std.proofs.lemmas.Option.{slice_get_within}
 use Rattle.link_timers.specs.declared.role.Role.{Role}
 use Rattle.link_timers.specs.declared.role.Role.TheVariants.{Dte, Dce}
+use Rattle.packet_codec.specs.declared.packet.Numbering.TheVariants.{Modulo8, Modulo128}
 use Rattle.packet_codec.specs.Packet.{IsPacket, IsLogicalChannel, IsContentOn, spelling, packed}
 use Rattle.packet_codec.proofs.Cases.{cond_by}
 use Rattle.packet_codec.proofs.Blocks.{length-packed}
 use Rattle.packet_codec.proofs.Spellings.{reading-spelling}
+use Rattle.packet_codec.specs.declared.packet.Numbering.{Numbering}
+use Rattle.packet_layer.specs.Flow.{modulus, shown, ahead_shown}
+use Rattle.packet_channel.specs.declared.flow.Flow.{Flow}
 use Rattle.packet_layer.specs.Packets.{CallParts, Datum, Body, Packet, Received}
 use Rattle.packet_layer.specs.Packets.Body.{Call, Accepted, Clear, ClearConfirmation, Data, Interrupt, InterruptConfirmation, ReceiveReady, ReceiveNotReady, Reset, ResetConfirmation, Restart, RestartConfirmation}
-use Rattle.packet_layer.specs.Traffic.{Traffic, Said, Heard, fresh, in_flight, distance, window_open, flow_told, interrupted, unreleased, ready_or_not, may_release, releasing, confirming, taking_of, covers, keeps, arrives, partner_says, hears, says, says_interrupt, says_data, says_flow}
+use Rattle.packet_layer.specs.Traffic.{Traffic, Said, Heard, fresh, in_flight, window_open, flow_told, interrupted, unreleased, ready_or_not, may_release, releasing, confirming, taking_of, covers, keeps, arrives, partner_says, hears, says, says_interrupt, says_data, says_flow}
 use Rattle.packet_layer.specs.Traffic.Heard.{Keeps, Confirms, Wrong}
 use Rattle.packet_layer.specs.Channel.{CallState, Channel, Step, Request, Refusal, closed_channel, clear_error, reset_error, far_cleared, after_heard, in_flow_ready, in_own_reset, in_ready, in_own_waiting, in_far_waiting, in_collision, in_own_clear, received_in, received, unreadable_in, unreadable, in_transfer, has_flow, refused_if, refusal, carried_out, unless, requested}
 use Rattle.packet_layer.specs.Channel.CallState.{Ready, OwnWaiting, FarWaiting, Transfer, Collision, OwnClear}
@@ -21,7 +25,7 @@ use Rattle.packet_layer.specs.Layer.Phase.{NoSession, OwnRestart, PacketReady}
 use Rattle.packet_layer.specs.Layer.Timer.{RestartTimer, CallTimer, ResetTimer, ClearTimer}
 use Rattle.packet_layer.specs.Octets.{content_of, heard}
 use Rattle.packet_layer.specs.Events.{on_octets, after_hearing, written_packet}
-use Rattle.packet_laws.specs.Readable.{Every, IfAny, value_of, FitsChannels, FitsRestarts, IsShortDatum, IsInterrupt, TrafficReads, ChannelReads, AllRead, IsReadable, CanBePlaced}
+use Rattle.packet_laws.specs.Readable.{Every, IfAny, value_of, FitsChannels, FitsRestarts, FitsLine, IsShortDatum, IsInterrupt, TrafficReads, ChannelReads, AllRead, IsReadable, CanBePlaced}
 use Rattle.packet_layer.proofs.Serving.{heard_of_reading}
 
 -- ---- facts of each element of a list
@@ -49,7 +53,7 @@ every-owed P owed (Some b) all p =
 -- ---- channels
 
 fresh-reads : TrafficReads fresh
-fresh-reads = record { waiting_fits = tt; send_fits = omega arith; released_fits = omega arith; interrupt_fits = tt }
+fresh-reads = record { waiting_fits = tt; interrupt_fits = tt }
 
 closed-reads : ChannelReads closed_channel
 closed-reads = (tt, fresh-reads)
@@ -63,13 +67,13 @@ abbrev StepReads : Step → Type 0
 StepReads st = ChannelReads st.channel × IfAny FitsChannels st.owes
 
 clear-reads : (role : Role) (c d : ℕ) (had : Bool) (ch : Channel) → ChannelReads ch → StepReads (clear_error role c d had ch)
-clear-reads role c d had ch r = ((r.0, fresh-reads), λ channel is. is)
+clear-reads role c d had ch r = ((r.0, fresh-reads), λ numbering channel is. is)
 
 reset-reads : (role : Role) (c d : ℕ) (ch : Channel) → ChannelReads ch → StepReads (reset_error role c d ch)
-reset-reads role c d ch r = ((r.0, fresh-reads), λ channel is. is)
+reset-reads role c d ch r = ((r.0, fresh-reads), λ numbering channel is. is)
 
 far_cleared-reads : (c cause d : ℕ) (ch : Channel) → ChannelReads ch → StepReads (far_cleared c cause d ch)
-far_cleared-reads c cause d ch r = ((r.0, fresh-reads), λ channel is. is)
+far_cleared-reads c cause d ch r = ((r.0, fresh-reads), λ numbering channel is. is)
 
 -- ---- what comes in d1
 
@@ -83,38 +87,38 @@ heard-reads role c ch (Keeps n t) r p = ((r.0, p), tt)
 heard-reads role c ch (Confirms t) r p = ((r.0, p), tt)
 heard-reads role c ch (Wrong d) r p = reset-reads role c d ch r
 
-covers-reads : (n : ℕ) (t : Traffic) (f : Traffic → Traffic) → TrafficReads t → ((u : Traffic) → TrafficReads u → TrafficReads (f u)) →
-    HeardReads (keeps f (covers n t))
-covers-reads n t f r go =
-    cond_by (λ h. HeardReads (keeps f h)) (nat_le (distance t.covered n) (in_flight t)) _ _ (λ _. go _ r) (λ _. tt)
+covers-reads : (flow : Flow) (n : ℕ) (t : Traffic) (f : Traffic → Traffic) → TrafficReads t → ((u : Traffic) → TrafficReads u → TrafficReads (f u)) →
+    HeardReads (keeps f (covers flow n t))
+covers-reads flow n t f r go =
+    cond_by (λ h. HeardReads (keeps f h)) (nat_le (ahead_shown flow.numbering t.covered n) (in_flight t)) _ _ (λ _. go _ r) (λ _. tt)
 
-hears-reads : (window : ℕ) (t : Traffic) (b : Body) → TrafficReads t → HeardReads (hears window t b)
-hears-reads window t (Data send receive d) r =
-    cond_by HeardReads ((send == t.receive_number) && nat_lt (unreleased t) window) (keeps (λ u. arrives d u) (covers receive t)) (Wrong 1)
-    (λ _. covers-reads receive t (λ u. arrives d u) r (λ u s. s)) (λ _. tt)
-hears-reads window t (ReceiveReady receive) r = covers-reads receive t (λ u. partner_says false u) r (λ u s. s)
-hears-reads window t (ReceiveNotReady receive) r = covers-reads receive t (λ u. partner_says true u) r (λ u s. s)
-hears-reads window t (Interrupt octets) r =
+hears-reads : (flow : Flow) (t : Traffic) (b : Body) → TrafficReads t → HeardReads (hears flow t b)
+hears-reads flow t (Data send receive d) r =
+    cond_by HeardReads ((send == shown flow.numbering t.receive_number) && nat_lt (unreleased t) flow.window) (keeps (λ u. arrives d u) (covers flow receive t)) (Wrong 1)
+    (λ _. covers-reads flow receive t (λ u. arrives d u) r (λ u s. s)) (λ _. tt)
+hears-reads flow t (ReceiveReady receive) r = covers-reads flow receive t (λ u. partner_says false u) r (λ u s. s)
+hears-reads flow t (ReceiveNotReady receive) r = covers-reads flow receive t (λ u. partner_says true u) r (λ u s. s)
+hears-reads flow t (Interrupt octets) r =
     cond_by HeardReads (interrupted t) (Wrong 0) (Keeps 0 (record t { interrupt_arrived = Some octets })) (λ _. tt) (λ _. r)
-hears-reads window t InterruptConfirmation r =
+hears-reads flow t InterruptConfirmation r =
     cond_by HeardReads t.interrupt_unconfirmed (Confirms (record t { interrupt_unconfirmed = false })) (Wrong 0) (λ _. r) (λ _. tt)
-hears-reads window t _ r = tt
+hears-reads flow t _ r = tt
 
-in_flow_ready-reads : (role : Role) (window c : ℕ) (ch : Channel) (b : Body) → ChannelReads ch → StepReads (in_flow_ready role window c ch b)
-in_flow_ready-reads role window c ch (Clear cause diagnostic) r = far_cleared-reads c cause diagnostic ch r
-in_flow_ready-reads role window c ch (Reset cause diagnostic) r = ((r.0, fresh-reads), λ channel is. is)
-in_flow_ready-reads role window c ch ResetConfirmation r = reset-reads role c 27 ch r
-in_flow_ready-reads role window c ch (Data send receive d) r =
-    heard-reads role c ch (hears window ch.traffic (Data send receive d)) r (hears-reads window ch.traffic (Data send receive d) r.1)
-in_flow_ready-reads role window c ch (ReceiveReady receive) r =
-    heard-reads role c ch (hears window ch.traffic (ReceiveReady receive)) r (hears-reads window ch.traffic (ReceiveReady receive) r.1)
-in_flow_ready-reads role window c ch (ReceiveNotReady receive) r =
-    heard-reads role c ch (hears window ch.traffic (ReceiveNotReady receive)) r (hears-reads window ch.traffic (ReceiveNotReady receive) r.1)
-in_flow_ready-reads role window c ch (Interrupt octets) r =
-    heard-reads role c ch (hears window ch.traffic (Interrupt octets)) r (hears-reads window ch.traffic (Interrupt octets) r.1)
-in_flow_ready-reads role window c ch InterruptConfirmation r =
-    heard-reads role c ch (hears window ch.traffic InterruptConfirmation) r (hears-reads window ch.traffic InterruptConfirmation r.1)
-in_flow_ready-reads role window c ch _ r = clear-reads role c 0 true ch r
+in_flow_ready-reads : (role : Role) (flow : Flow) (c : ℕ) (ch : Channel) (b : Body) → ChannelReads ch → StepReads (in_flow_ready role flow c ch b)
+in_flow_ready-reads role flow c ch (Clear cause diagnostic) r = far_cleared-reads c cause diagnostic ch r
+in_flow_ready-reads role flow c ch (Reset cause diagnostic) r = ((r.0, fresh-reads), λ numbering channel is. is)
+in_flow_ready-reads role flow c ch ResetConfirmation r = reset-reads role c 27 ch r
+in_flow_ready-reads role flow c ch (Data send receive d) r =
+    heard-reads role c ch (hears flow ch.traffic (Data send receive d)) r (hears-reads flow ch.traffic (Data send receive d) r.1)
+in_flow_ready-reads role flow c ch (ReceiveReady receive) r =
+    heard-reads role c ch (hears flow ch.traffic (ReceiveReady receive)) r (hears-reads flow ch.traffic (ReceiveReady receive) r.1)
+in_flow_ready-reads role flow c ch (ReceiveNotReady receive) r =
+    heard-reads role c ch (hears flow ch.traffic (ReceiveNotReady receive)) r (hears-reads flow ch.traffic (ReceiveNotReady receive) r.1)
+in_flow_ready-reads role flow c ch (Interrupt octets) r =
+    heard-reads role c ch (hears flow ch.traffic (Interrupt octets)) r (hears-reads flow ch.traffic (Interrupt octets) r.1)
+in_flow_ready-reads role flow c ch InterruptConfirmation r =
+    heard-reads role c ch (hears flow ch.traffic InterruptConfirmation) r (hears-reads flow ch.traffic InterruptConfirmation r.1)
+in_flow_ready-reads role flow c ch _ r = clear-reads role c 0 true ch r
 
 -- ---- what comes in the other states
 
@@ -131,7 +135,7 @@ in_own_reset-reads role c ch _ r = clear-reads role c 0 true ch r
 
 in_ready-reads : (role : Role) (c : ℕ) (ch : Channel) (b : Body) → ChannelReads ch → StepReads (in_ready role c ch b)
 in_ready-reads role c ch (Call parts) r = (r, tt)
-in_ready-reads role c ch (Clear cause diagnostic) r = (r, λ channel is. is)
+in_ready-reads role c ch (Clear cause diagnostic) r = (r, λ numbering channel is. is)
 in_ready-reads role c ch _ r = clear-reads role c 20 false ch r
 
 in_own_waiting-reads : (role : Role) (c : ℕ) (ch : Channel) (b : Body) → ChannelReads ch → StepReads (in_own_waiting role c ch b)
@@ -155,16 +159,16 @@ in_own_clear-reads : (ch : Channel) (b : Body) → ChannelReads ch → StepReads
 in_own_clear-reads ch ClearConfirmation r = (r, tt)
 in_own_clear-reads ch _ r = (r, tt)
 
-received_in-reads : (s : CallState) (role : Role) (window c : ℕ) (ch : Channel) (b : Body) → ChannelReads ch →
-    StepReads (received_in s role window c ch b)
-received_in-reads Ready role window c ch b r = in_ready-reads role c ch b r
-received_in-reads OwnWaiting role window c ch b r = in_own_waiting-reads role c ch b r
-received_in-reads FarWaiting role window c ch b r = in_far_waiting-reads role c ch b r
-received_in-reads Transfer role window c ch b r =
-    cond_by StepReads ch.resetting (in_own_reset role c ch b) (in_flow_ready role window c ch b)
-    (λ _. in_own_reset-reads role c ch b r) (λ _. in_flow_ready-reads role window c ch b r)
-received_in-reads Collision role window c ch b r = in_collision-reads role c ch b r
-received_in-reads OwnClear role window c ch b r = in_own_clear-reads ch b r
+received_in-reads : (s : CallState) (role : Role) (flow : Flow) (c : ℕ) (ch : Channel) (b : Body) → ChannelReads ch →
+    StepReads (received_in s role flow c ch b)
+received_in-reads Ready role flow c ch b r = in_ready-reads role c ch b r
+received_in-reads OwnWaiting role flow c ch b r = in_own_waiting-reads role c ch b r
+received_in-reads FarWaiting role flow c ch b r = in_far_waiting-reads role c ch b r
+received_in-reads Transfer role flow c ch b r =
+    cond_by StepReads ch.resetting (in_own_reset role c ch b) (in_flow_ready role flow c ch b)
+    (λ _. in_own_reset-reads role c ch b r) (λ _. in_flow_ready-reads role flow c ch b r)
+received_in-reads Collision role flow c ch b r = in_collision-reads role c ch b r
+received_in-reads OwnClear role flow c ch b r = in_own_clear-reads ch b r
 
 unreadable_in-reads : (s : CallState) (role : Role) (c : ℕ) (unknown : Bool) (ch : Channel) → ChannelReads ch →
     StepReads (unreadable_in s role c unknown ch)
@@ -179,13 +183,10 @@ unreadable_in-reads Collision role c unknown ch r = clear-reads role c 0 true ch
 
 -- ---- what the user asks of a channel
 
-modulo-8 : (n : ℕ) → n % 8 < 8
-modulo-8 n = omega arith
-
 released-reads : (n : ℕ) (t : Traffic) → TrafficReads t → TrafficReads (cond (may_release n t) (releasing n t) t)
 released-reads n t r =
     cond_by TrafficReads (may_release n t) (releasing n t) t
-    (λ _. record { waiting_fits = r.waiting_fits; send_fits = r.send_fits; released_fits = modulo-8 (t.released + n); interrupt_fits = r.interrupt_fits })
+    (λ _. record { waiting_fits = r.waiting_fits; interrupt_fits = r.interrupt_fits })
     (λ _. r)
 
 taken-reads : (o : Option (List ℕ)) (ds : List Datum) (t : Traffic) → TrafficReads t → TrafficReads (taking_of o ds t)
@@ -210,9 +211,9 @@ not-empty zero e = absurd (cc)
 not-empty (suc n) e = omega arith
 
 carried_out-reads : (role : Role) (ch : Channel) (r : Request) → refusal role ch r ≡ None → ChannelReads ch → StepReads (carried_out ch r)
-carried_out-reads role ch Accept e p = (p, λ channel is. is)
-carried_out-reads role ch (Clearing cause diagnostic) e p = ((p.0, fresh-reads), λ channel is. is)
-carried_out-reads role ch (Resetting cause diagnostic) e p = ((p.0, fresh-reads), λ channel is. is)
+carried_out-reads role ch Accept e p = (p, λ numbering channel is. is)
+carried_out-reads role ch (Clearing cause diagnostic) e p = ((p.0, fresh-reads), λ numbering channel is. is)
+carried_out-reads role ch (Resetting cause diagnostic) e p = ((p.0, fresh-reads), λ numbering channel is. is)
 carried_out-reads role ch (Sending d) e p =
     let in_call = passes (not (in_transfer ch.state)) Refusal.NoCall _ e in
     let not_resetting = passes ch.resetting Refusal.IsResetting _ in_call.1 in
@@ -222,8 +223,6 @@ carried_out-reads role ch (Sending d) e p =
         p.0,
         record {
           waiting_fits = every-append IsShortDatum ch.traffic.waiting d p.1.waiting_fits (not-less 128 (length d.octets) short.0);
-          send_fits = p.1.send_fits;
-          released_fits = p.1.released_fits;
           interrupt_fits = p.1.interrupt_fits;
         },
       ),
@@ -238,8 +237,6 @@ carried_out-reads role ch (Interrupting octets) e p =
         p.0,
         record {
           waiting_fits = p.1.waiting_fits;
-          send_fits = p.1.send_fits;
-          released_fits = p.1.released_fits;
           interrupt_fits = (not-empty (length octets) both.0, not-less 32 (length octets) both.1);
         },
       ),
@@ -312,8 +309,8 @@ without_owed : (chs : List Channel) (owed : List Body) → AllRead chs owed → 
 without_owed chs owed r = record { few = r.few; channels_read = r.channels_read; owed_read = tt }
 
 restart-reads : (phase : Phase) (b : Body) (l : Layer) → IsReadable l → IsReadable (restart_packet phase b l)
-restart-reads PacketReady (Restart cause diagnostic) l r = owes-reads _ l.owed RestartConfirmation refl (closed l.channels l.owed r)
-restart-reads PacketReady RestartConfirmation l r = owes-reads _ l.owed (Restart _ 17) refl (closed l.channels l.owed r)
+restart-reads PacketReady (Restart cause diagnostic) l r = owes-reads _ l.owed RestartConfirmation (λ numbering. refl) (closed l.channels l.owed r)
+restart-reads PacketReady RestartConfirmation l r = owes-reads _ l.owed (Restart _ 17) (λ numbering. refl) (closed l.channels l.owed r)
 restart-reads PacketReady _ l r = r
 restart-reads OwnRestart RestartConfirmation l r = r
 restart-reads OwnRestart _ l r = r
@@ -336,8 +333,8 @@ new-reads : (n : ℕ) → Every ChannelReads (replicate n closed_channel)
 new-reads zero = tt
 new-reads (suc n) = (closed-reads, new-reads n)
 
-pub readable_made : (role : Role) (channels window : ℕ) (standing : Bool) → channels ≤ 32 → IsReadable (made role channels window standing)
-readable_made role channels window standing few = record {
+pub readable_made : (role : Role) (channels : ℕ) (flow : Flow) (standing : Bool) → channels ≤ 32 → IsReadable (made role channels flow standing)
+readable_made role channels flow standing few = record {
   few = let same = standing-length standing (replicate channels closed_channel) in let many = length-replicate channels closed_channel in omega arith;
   channels_read = standing-reads standing (replicate channels closed_channel) (new-reads channels);
   owed_read = tt;
@@ -347,7 +344,7 @@ pub readable_unread : (l : Layer) → IsReadable l → IsReadable (unread l)
 readable_unread l r = r
 
 pub readable_link_up : (l : Layer) → IsReadable l → IsReadable (link_up l)
-readable_link_up l r = owes-reads _ [] (Restart _ 0) refl (without_owed _ l.owed (closed l.channels l.owed r))
+readable_link_up l r = owes-reads _ [] (Restart _ 0) (λ numbering. refl) (without_owed _ l.owed (closed l.channels l.owed r))
 
 pub readable_link_down : (l : Layer) → IsReadable l → IsReadable (link_down l)
 readable_link_down l r = without_owed _ l.owed (closed l.channels l.owed r)
@@ -356,10 +353,10 @@ readable_link_down l r = without_owed _ l.owed (closed l.channels l.owed r)
 pub readable_received : (l : Layer) (r : Received) → IsReadable l → IsReadable (on_received l r)
 readable_received l (Received.Whole p) i =
     cond_by IsReadable (p.channel == 0) (restart_packet l.phase p.body l)
-    (on_channel l.phase l p.channel (λ ch. received l.role l.window p.channel ch p.body))
+    (on_channel l.phase l p.channel (λ ch. received l.role l.flow p.channel ch p.body))
     (λ _. restart-reads l.phase p.body l i)
-    (λ _. on_channel-reads l.phase l p.channel (λ ch. received l.role l.window p.channel ch p.body)
-    (λ ch s. received_in-reads ch.state l.role l.window p.channel ch p.body s) i)
+    (λ _. on_channel-reads l.phase l p.channel (λ ch. received l.role l.flow p.channel ch p.body)
+    (λ ch s. received_in-reads ch.state l.role l.flow p.channel ch p.body s) i)
 readable_received l (Received.Unknown c) i =
     on_channel-reads l.phase l c (λ ch. unreadable l.role c true ch) (λ ch s. unreadable_in-reads ch.state l.role c true ch s) i
 readable_received l (Received.Faulty c) i =
@@ -369,7 +366,7 @@ pub readable_on_packet : (l : Layer) (r : Received) → IsReadable l → IsReada
 readable_on_packet l r i = readable_received (unread l) r i
 
 pub readable_on_octets : (l : Layer) (octets : List ℕ) → IsReadable l → IsReadable (on_octets l octets)
-readable_on_octets l octets i = after (heard octets)
+readable_on_octets l octets i = after (heard l.flow octets)
   where
     after : (o : Option Received) → IsReadable (after_hearing (unread l) o)
     after None = i
@@ -379,7 +376,7 @@ expired-reads : (l : Layer) (t : Timer) → IsReadable l → IsReadable (expired
 expired-reads l RestartTimer r = r
 expired-reads l (CallTimer c) r = found-reads l c (λ ch. clear_error l.role c 0 true ch) (λ ch s. clear-reads l.role c 0 true ch s) r (channel_of l c) refl
 expired-reads l (ResetTimer c) r = found-reads l c (λ ch. clear_error l.role c 0 true ch) (λ ch s. clear-reads l.role c 0 true ch s) r (channel_of l c) refl
-expired-reads l (ClearTimer c) r = owes-reads _ l.owed (Restart _ 0) refl (closed l.channels l.owed r)
+expired-reads l (ClearTimer c) r = owes-reads _ l.owed (Restart _ 0) (λ numbering. refl) (closed l.channels l.owed r)
 
 pub readable_on_timer : (l : Layer) (t : Timer) → IsReadable l → IsReadable (on_timer l t)
 readable_on_timer l t r = cond_by IsReadable (runs l t) (expired (unread l) t) l (λ _. expired-reads (unread l) t r) (λ _. r)
@@ -389,7 +386,7 @@ readable_call l parts fits r = given (channel_given l l.phase)
   where
     given : (o : Option ℕ) → IsReadable (placed_on l parts o)
     given None = r
-    given (Some c) = found-reads l c (λ ch. placing parts ch) (λ ch s. (s, λ channel is. (is, fits))) r (channel_of l c) refl
+    given (Some c) = found-reads l c (λ ch. placing parts ch) (λ ch s. (s, λ numbering channel is. (is, fits))) r (channel_of l c) refl
 
 -- a refused request changes nothing, and the others fit
 pub readable_request : (l : Layer) (c : ℕ) (r : Request) → IsReadable l → IsReadable (request l c r)
@@ -397,83 +394,89 @@ readable_request l c r i = found-reads l c (λ ch. requested l.role ch r) (λ ch
 
 -- ---- what goes to the link
 
-abbrev SaidReads : Said → Type 0
-SaidReads s = TrafficReads s.traffic × IfAny FitsChannels s.body
+abbrev SaidReads : Flow → Said → Type 0
+SaidReads flow s = TrafficReads s.traffic × IfAny (FitsLine flow) s.body
 
-ready-reads : (b : Bool) (n : ℕ) → n < 8 → FitsChannels (ready_or_not b n)
-ready-reads true n le = λ channel is. (is, le)
-ready-reads false n le = λ channel is. (is, le)
+ready-reads : (flow : Flow) (b : Bool) (n : ℕ) → n < modulus flow.numbering → FitsLine flow (ready_or_not b n)
+ready-reads flow true n le = λ channel is. (is, le)
+ready-reads flow false n le = λ channel is. (is, le)
 
-flow-reads : (t : Traffic) → TrafficReads t → SaidReads (says_flow t)
-flow-reads t r = cond_by SaidReads (flow_told t) _ _ (λ _. (r, tt)) (λ _. (r, ready-reads t.stopped t.released r.released_fits))
+shown-fits : (n : Numbering) (number : ℕ) → shown n number < modulus n
+shown-fits Modulo8 number = omega arith
+shown-fits Modulo128 number = omega arith
 
-data-reads : (window : ℕ) (ds : List Datum) (t : Traffic) → Every IsShortDatum ds → TrafficReads t → SaidReads (says_data window ds t)
-data-reads window [] t all r = flow-reads t r
-data-reads window (d ∷ ds) t all r =
-    cond_by SaidReads (window_open window t) _ (says_flow t)
+flow-reads : (flow : Flow) (t : Traffic) → TrafficReads t → SaidReads flow (says_flow flow t)
+flow-reads flow t r =
+    cond_by (λ (s : Said). SaidReads flow s) (flow_told t) _ _ (λ _. (r, tt))
+    (λ _. (r, ready-reads flow t.stopped (shown flow.numbering t.released) (shown-fits flow.numbering t.released)))
+
+data-reads : (flow : Flow) (ds : List Datum) (t : Traffic) → Every IsShortDatum ds → TrafficReads t → SaidReads flow (says_data flow ds t)
+data-reads flow [] t all r = flow-reads flow t r
+data-reads flow (d ∷ ds) t all r =
+    cond_by (λ (s : Said). SaidReads flow s) (window_open flow t) _ (says_flow flow t)
     (λ _. (
-      record { waiting_fits = all.1; send_fits = modulo-8 (t.send_number + 1); released_fits = r.released_fits; interrupt_fits = r.interrupt_fits },
-      λ channel is. (is, record { send = r.send_fits; receive = r.released_fits; short = all.0 }),
+      record { waiting_fits = all.1; interrupt_fits = r.interrupt_fits },
+      λ channel is. (is, record { send = shown-fits flow.numbering t.send_number; receive = shown-fits flow.numbering t.released; short = all.0 }),
     ))
-    (λ _. flow-reads t r)
+    (λ _. flow-reads flow t r)
 
-interrupt-reads : (window : ℕ) (o : Option (List ℕ)) (t : Traffic) → IfAny IsInterrupt o → TrafficReads t → SaidReads (says_interrupt window o t)
-interrupt-reads window (Some octets) t fits r = (
-  record { waiting_fits = r.waiting_fits; send_fits = r.send_fits; released_fits = r.released_fits; interrupt_fits = tt },
+interrupt-reads : (flow : Flow) (o : Option (List ℕ)) (t : Traffic) → IfAny IsInterrupt o → TrafficReads t → SaidReads flow (says_interrupt flow o t)
+interrupt-reads flow (Some octets) t fits r = (
+  record { waiting_fits = r.waiting_fits; interrupt_fits = tt },
   λ channel is. (is, fits),
 )
-interrupt-reads window None t fits r = data-reads window t.waiting t r.waiting_fits r
+interrupt-reads flow None t fits r = data-reads flow t.waiting t r.waiting_fits r
 
-says-reads : (window : ℕ) (t : Traffic) → TrafficReads t → SaidReads (says window t)
-says-reads window t r =
-    cond_by SaidReads t.confirmation_due _ (says_interrupt window t.interrupt_waiting t) (λ _. (r, λ channel is. is))
-    (λ _. interrupt-reads window t.interrupt_waiting t r.interrupt_fits r)
+says-reads : (flow : Flow) (t : Traffic) → TrafficReads t → SaidReads flow (says flow t)
+says-reads flow t r =
+    cond_by (λ (s : Said). SaidReads flow s) t.confirmation_due _ (says_interrupt flow t.interrupt_waiting t) (λ _. (r, λ channel is. is))
+    (λ _. interrupt-reads flow t.interrupt_waiting t r.interrupt_fits r)
 
-abbrev NextReads : ChannelNext → Type 0
-NextReads n = ChannelReads n.channel × IfAny FitsChannels n.body
+abbrev NextReads : Flow → ChannelNext → Type 0
+NextReads flow n = ChannelReads n.channel × IfAny (FitsLine flow) n.body
 
-next-reads : (window : ℕ) (owed : List Body) (ch : Channel) → Every FitsChannels owed → ch.owed ≡ owed → ChannelReads ch → NextReads (next_owed window owed ch)
-next-reads window (b ∷ bs) ch all e r = ((all.1, r.1), all.0)
-next-reads window [] ch all e r =
-    let said = says-reads window ch.traffic r.1 in
-    cond_by NextReads (has_flow ch) _ _ (λ _. ((r.0, said.0), said.1)) (λ _. (r, tt))
+next-reads : (flow : Flow) (owed : List Body) (ch : Channel) → Every FitsChannels owed → ch.owed ≡ owed → ChannelReads ch → NextReads flow (next_owed flow owed ch)
+next-reads flow (b ∷ bs) ch all e r = ((all.1, r.1), all.0 flow.numbering)
+next-reads flow [] ch all e r =
+    let said = says-reads flow ch.traffic r.1 in
+    cond_by (λ (n : ChannelNext). NextReads flow n) (has_flow ch) _ _ (λ _. ((r.0, said.0), said.1)) (λ _. (r, tt))
 
-abbrev Goes : Packet → Type 0
-Goes p = IsPacket (value_of p)
+abbrev Goes : Flow → Packet → Type 0
+Goes flow p = IsPacket 128 (value_of flow p)
 
-abbrev GivesReadable : Next → Type 0
-GivesReadable n = IsReadable n.layer × IfAny Goes n.packet
+abbrev GivesReadable : Flow → Next → Type 0
+GivesReadable flow n = IsReadable n.layer × IfAny (Goes flow) n.packet
 
 logical : (chs : List Channel) (c : ℕ) (ch : Channel) → length chs ≤ 32 → nth_channel chs c ≡ Some ch → IsLogicalChannel c
 logical chs zero ch few e = absurd (cc)
 logical chs (suc i) ch few e = let within = slice_get_within chs i ch e in (omega arith, omega arith)
 
-served-reads : (l : Layer) (c : ℕ) (n : ChannelNext) (others : Next) → IsLogicalChannel c → IsReadable l → NextReads n → GivesReadable others →
-    GivesReadable (served l c n others)
+served-reads : (l : Layer) (c : ℕ) (n : ChannelNext) (others : Next) → IsLogicalChannel c → IsReadable l → NextReads l.flow n → GivesReadable l.flow others →
+    GivesReadable l.flow (served l c n others)
 served-reads l c n others is r reads rest = by_body n.body n.channel reads.0 reads.1
   where
-    by_body : (o : Option Body) (ch : Channel) → ChannelReads ch → IfAny FitsChannels o → GivesReadable (served l c (record { channel = ch; body = o }) others)
+    by_body : (o : Option Body) (ch : Channel) → ChannelReads ch → IfAny (FitsLine l.flow) o → GivesReadable l.flow (served l c (record { channel = ch; body = o }) others)
     by_body None ch p fits = rest
     by_body (Some b) ch p fits = (with_channel l.channels l.owed c ch r p, fits c is)
 
-found-gives : (l : Layer) (c : ℕ) (others : Next) (o : Option Channel) → channel_of l c ≡ o → IsReadable l → GivesReadable others →
-    GivesReadable (serve_found l c o others)
+found-gives : (l : Layer) (c : ℕ) (others : Next) (o : Option Channel) → channel_of l c ≡ o → IsReadable l → GivesReadable l.flow others →
+    GivesReadable l.flow (serve_found l c o others)
 found-gives l c others None e r rest = rest
 found-gives l c others (Some ch) e r rest =
     let reads = nth-reads l.channels c ch r.channels_read e in
-    served-reads l c (next_of l.window ch) others (logical l.channels c ch r.few e) r (next-reads l.window ch.owed ch reads.0 refl reads) rest
+    served-reads l c (next_of l.flow ch) others (logical l.channels c ch r.few e) r (next-reads l.flow ch.owed ch reads.0 refl reads) rest
 
-serve-gives : (k : ℕ) (l : Layer) (c : ℕ) → IsReadable l → GivesReadable (serve k l c)
+serve-gives : (k : ℕ) (l : Layer) (c : ℕ) → IsReadable l → GivesReadable l.flow (serve k l c)
 serve-gives zero l c r = (r, tt)
 serve-gives (suc k) l c r = found-gives l c (serve k l (next_number l c)) (channel_of l c) refl r (serve-gives k l (next_number l c) r)
 
-restart-gives : (owed : List Body) (l : Layer) → l.owed ≡ owed → IsReadable l → GivesReadable (next_restart owed l)
+restart-gives : (owed : List Body) (l : Layer) → l.owed ≡ owed → IsReadable l → GivesReadable l.flow (next_restart owed l)
 restart-gives [] l e r = serve-gives (length l.channels) l (next_number l l.served_last) r
 restart-gives (b ∷ bs) l e r =
     let all : Every FitsRestarts (b ∷ bs) = subst (λ (owed : List Body). Every FitsRestarts owed) e r.owed_read in
-    (record { few = r.few; channels_read = r.channels_read; owed_read = all.1 }, all.0)
+    (record { few = r.few; channels_read = r.channels_read; owed_read = all.1 }, all.0 l.flow.numbering)
 
-in-gives : (phase : Phase) (relink : Bool) (l : Layer) → IsReadable l → GivesReadable (next_in phase relink l)
+in-gives : (phase : Phase) (relink : Bool) (l : Layer) → IsReadable l → GivesReadable l.flow (next_in phase relink l)
 in-gives NoSession relink l r = (r, tt)
 in-gives OwnRestart true l r = (r, tt)
 in-gives PacketReady true l r = (r, tt)
@@ -483,16 +486,16 @@ in-gives PacketReady false l r = restart-gives l.owed l refl r
 pub readable_next : (l : Layer) → IsReadable l → IsReadable (next_packet l).layer
 readable_next l r = (in-gives l.phase l.relink l r).0
 
-pub next_goes : (l : Layer) → IsReadable l → (p : Packet) → (next_packet l).packet ≡ Some p → IsPacket (value_of p)
-next_goes l r p e = subst (IfAny Goes) e (in-gives l.phase l.relink l r).1
+pub next_goes : (l : Layer) → IsReadable l → (p : Packet) → (next_packet l).packet ≡ Some p → IsPacket 128 (value_of l.flow p)
+next_goes l r p e = subst (IfAny (Goes l.flow)) e (in-gives l.phase l.relink l r).1
 
 -- ---- its octets
 
-spelling-short : (p : Packet) → IsPacket (value_of p) → length (spelling (value_of p)) ≤ 145
-spelling-short p is = short p.body is
+spelling-short : (flow : Flow) (p : Packet) → IsPacket 128 (value_of flow p) → length (spelling (value_of flow p)) ≤ 145
+spelling-short flow p is = short flow.numbering p.body is
   where
-    short : (b : Body) → IsContentOn p.channel (content_of b) → length (spelling (record { channel = p.channel; content = content_of b })) ≤ 145
-    short (Call parts) fits =
+    short : (n : Numbering) (b : Body) → IsContentOn n 128 p.channel (content_of b) → length (spelling (record { numbering = n; channel = p.channel; content = content_of b })) ≤ 145
+    short n (Call parts) fits =
         let c = fits.1 in
         let called = c.called.1 in
         let calling = c.calling.0 in
@@ -503,27 +506,30 @@ spelling-short p is = short p.body is
         let tail = length-append parts.facilities parts.user_part in
         let block = length-append (packed 0 (parts.called ++ parts.calling)) (length parts.facilities ∷ (parts.facilities ++ parts.user_part)) in
         omega arith
-    short Accepted fits = omega arith
-    short (Clear cause diagnostic) fits = omega arith
-    short ClearConfirmation fits = omega arith
-    short (Data send receive d) fits = let few = fits.1.short in omega arith
-    short (Interrupt octets) fits = let few = fits.1.1 in omega arith
-    short InterruptConfirmation fits = omega arith
-    short (ReceiveReady receive) fits = omega arith
-    short (ReceiveNotReady receive) fits = omega arith
-    short (Reset cause diagnostic) fits = omega arith
-    short ResetConfirmation fits = omega arith
-    short (Restart cause diagnostic) fits = omega arith
-    short RestartConfirmation fits = omega arith
+    short n Accepted fits = omega arith
+    short n (Clear cause diagnostic) fits = omega arith
+    short n ClearConfirmation fits = omega arith
+    short Modulo8 (Data send receive d) fits = let few = fits.1.short in omega arith
+    short Modulo128 (Data send receive d) fits = let few = fits.1.short in omega arith
+    short n (Interrupt octets) fits = let few = fits.1.1 in omega arith
+    short n InterruptConfirmation fits = omega arith
+    short Modulo8 (ReceiveReady receive) fits = omega arith
+    short Modulo128 (ReceiveReady receive) fits = omega arith
+    short Modulo8 (ReceiveNotReady receive) fits = omega arith
+    short Modulo128 (ReceiveNotReady receive) fits = omega arith
+    short n (Reset cause diagnostic) fits = omega arith
+    short n ResetConfirmation fits = omega arith
+    short n (Restart cause diagnostic) fits = omega arith
+    short n RestartConfirmation fits = omega arith
 
 -- what a layer gives is heard as it was given, and a link takes it
 pub next_heard : (l : Layer) → IsReadable l → (p : Packet) → (next_packet l).packet ≡ Some p →
-    heard (written_packet (Some p) []) ≡ Some (Received.Whole p)
-next_heard l r p e = heard_of_reading (Some p) (written_packet (Some p) []) (reading-spelling (value_of p) (next_goes l r p e))
+    heard l.flow (written_packet l.flow (Some p) []) ≡ Some (Received.Whole p)
+next_heard l r p e = heard_of_reading l.flow (Some p) (written_packet l.flow (Some p) []) (reading-spelling 128 (value_of l.flow p) (next_goes l r p e))
 
-pub next_short : (l : Layer) → IsReadable l → (p : Packet) → (next_packet l).packet ≡ Some p → length (written_packet (Some p) []) ≤ 145
-next_short l r p e = spelling-short p (next_goes l r p e)
+pub next_short : (l : Layer) → IsReadable l → (p : Packet) → (next_packet l).packet ≡ Some p → length (written_packet l.flow (Some p) []) ≤ 145
+next_short l r p e = spelling-short l.flow p (next_goes l r p e)
 
 -- octets of a packet are that packet
-pub octets_heard : (l : Layer) (octets : List ℕ) (p : Packet) → heard octets ≡ Some (Received.Whole p) → on_octets l octets ≡ on_packet l (Received.Whole p)
+pub octets_heard : (l : Layer) (octets : List ℕ) (p : Packet) → heard l.flow octets ≡ Some (Received.Whole p) → on_octets l octets ≡ on_packet l (Received.Whole p)
 octets_heard l octets p e = ap (λ o. after_hearing (unread l) o) e

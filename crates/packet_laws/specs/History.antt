@@ -2,6 +2,7 @@
 use Rattle.std.specs.Prelude.{ℕ, ◌+◌, Bool, true, false, if◌then◌else◌, ◌&&◌, ◌==◌, List, [], ◌∷◌, ◌++◌, Option, Some}
 use Rattle.std.specs.Prelude.{None}
 use Rattle.link_timers.specs.declared.role.Role.{Role}
+use Rattle.packet_channel.specs.declared.flow.Flow.{Flow}
 use Rattle.packet_layer.specs.Packets.{CallParts, Datum, Body, Packet}
 use Rattle.packet_layer.specs.Packets.Body.{Clear, ClearConfirmation, Reset, ResetConfirmation, Restart}
 use Rattle.packet_layer.specs.Packets.Body.{RestartConfirmation}
@@ -132,9 +133,9 @@ heard_history Transfer false (Wrong diagnostic) st = st
 heard_history Transfer false h st = grown (λ e. logged_heard h e) st
 heard_history s b h st = st
 
-abbrev pub received_history : Role → ℕ → ℕ → Channel → Body → History → History
-received_history role window c ch body st =
-    opened (received role window c ch body).owes (heard_history ch.state ch.resetting (hears window ch.traffic body) st)
+abbrev pub received_history : Role → Flow → ℕ → Channel → Body → History → History
+received_history role flow c ch body st =
+    opened (received role flow c ch body).owes (heard_history ch.state ch.resetting (hears flow ch.traffic body) st)
 
 abbrev pub found_history : Option Channel → (Channel → History → History) → History → History
 found_history None f st = st
@@ -163,7 +164,7 @@ packet_history l p c st =
     then restart_history l.phase p.body st
     else if c == p.channel
     then channel_history l.phase (channel_of l p.channel)
-    (λ ch s. received_history l.role l.window p.channel ch p.body s) st
+    (λ ch s. received_history l.role l.flow p.channel ch p.body s) st
     else st
 
 abbrev pub expired_history : Timer → ℕ → History → History

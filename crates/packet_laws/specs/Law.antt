@@ -4,6 +4,8 @@ use Rattle.std.specs.Prelude.{length}
 use Rattle.std.specs.Prelude.{Option, Some, None, is_some, ◌<◌}
 use Rattle.link_timers.specs.declared.role.Role.{Role}
 use Rattle.link_timers.specs.declared.role.Role.TheVariants.{Dte}
+use Rattle.packet_layer.specs.Flow.{modulus}
+use Rattle.packet_channel.specs.declared.flow.Flow.{Flow}
 use Rattle.packet_layer.specs.Packets.{Body, Packet, CallParts}
 use Rattle.packet_layer.specs.Packets.Body.{Clear, Reset, RestartConfirmation, Call}
 use Rattle.packet_layer.specs.Channel.{CallState, Channel, received}
@@ -33,7 +35,7 @@ is_request _ = false
 
 abbrev pub is_fault_on : Layer → Packet → Option Channel → Bool
 is_fault_on l p None = false
-is_fault_on l p (Some ch) = is_request (received l.role l.window p.channel ch p.body).owes
+is_fault_on l p (Some ch) = is_request (received l.role l.flow p.channel ch p.body).owes
 
 abbrev pub is_restart_fault : Phase → Body → Bool
 is_restart_fault PacketReady RestartConfirmation = true
@@ -214,9 +216,9 @@ pub record Holds (w : Line) (s c : ℕ) : Type 0 where
 abbrev pub NoFault : Line → Type 0
 NoFault w = (s : ℕ) (p : Packet) → w.me.session ≡ Some s → next_of_session w s ≡ Some p → is_fault w.me.layer p ≡ false
 
--- whatever happens on a line with any number of channels and a window of at most 7, standing or not, on each of its
+-- whatever happens on a line with any number of channels and a window below the modulus, standing or not, on each of its
 -- channels
 abbrev pub LineLaw : Type 0
-LineLaw = (channels window : ℕ) (standing : Bool) → 1 ≤ channels → window ≤ 7 → (hs : List Happening)
-    → let w = after hs (start_line channels window standing) in
+LineLaw = (channels : ℕ) (flow : Flow) (standing : Bool) → 1 ≤ channels → flow.window < modulus flow.numbering → (hs : List Happening)
+    → let w = after hs (start_line channels flow standing) in
     ((s c : ℕ) → 1 ≤ c → c ≤ channels → Holds w s c) × NoFault w × NoFault (turned w)

@@ -5,6 +5,7 @@ use Rattle.std.specs.Prelude.{ℕ, zero, suc, ◌+◌, Bool, true, false, if◌t
 use Rattle.std.specs.Prelude.{slice_get, Option, Some, None}
 use Rattle.link_timers.specs.declared.role.Role.{Role}
 use Rattle.link_timers.specs.declared.role.Role.TheVariants.{Dte, Dce}
+use Rattle.packet_channel.specs.declared.flow.Flow.{Flow}
 use Rattle.packet_layer.specs.Packets.{CallParts, Packet}
 use Rattle.packet_layer.specs.Packets.Received.{Whole}
 use Rattle.packet_layer.specs.Channel.{Request}
@@ -46,19 +47,19 @@ abbrev pub start_history : Role → Bool → ℕ → ℕ → History
 start_history role true zero (suc zero) = standing_history role
 start_history role standing s c = new_history
 
-abbrev pub start_end : Role → ℕ → ℕ → Bool → End
-start_end role channels window standing = record {
-  layer = made role channels window standing;
+abbrev pub start_end : Role → ℕ → Flow → Bool → End
+start_end role channels flow standing = record {
+  layer = made role channels flow standing;
   session = start_session standing;
   offered = λ s. [];
   accepted = λ s. 0;
   histories = λ s c. start_history role standing s c;
 }
 
-abbrev pub start_line : ℕ → ℕ → Bool → Line
-start_line channels window standing = record {
-  me = start_end Dte channels window standing;
-  you = start_end Dce channels window standing;
+abbrev pub start_line : ℕ → Flow → Bool → Line
+start_line channels flow standing = record {
+  me = start_end Dte channels flow standing;
+  you = start_end Dce channels flow standing;
 }
 
 -- what happens at an end

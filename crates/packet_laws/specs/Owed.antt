@@ -1,6 +1,8 @@
 -- How much an end owes at most, and what makes it ask for a relink: between two ends of this project the limit on owed
 -- packets is never passed.
-use Rattle.std.specs.Prelude.{◌≡◌, ℕ, ◌≤◌, Bool, true, false, List, length, Some}
+use Rattle.std.specs.Prelude.{◌≡◌, ℕ, ◌<◌, ◌≤◌, Bool, true, false, List, length, Some}
+use Rattle.packet_layer.specs.Flow.{modulus}
+use Rattle.packet_channel.specs.declared.flow.Flow.{Flow}
 use Rattle.packet_layer.specs.Channel.{CallState, Channel}
 use Rattle.packet_layer.specs.Channel.CallState.{Ready, OwnWaiting, FarWaiting, Transfer, Collision, OwnClear}
 use Rattle.packet_layer.specs.Layer.{channel_of}
@@ -38,7 +40,8 @@ pub record WithinLimit (w : Line) : Type 0 where
   pub asked_before : (event : Event) → is_restart_expiry event ≡ false → (happens event w).me.layer.relink ≡ true
       → w.me.layer.relink ≡ true
 
--- whatever happens on a line with any number of channels and a window of at most 7, standing or not, at both its ends
+-- whatever happens on a line with any number of channels and a window below the modulus, standing or not, at both its
+-- ends
 abbrev pub OwedLaw : Type 0
-OwedLaw = (channels window : ℕ) (standing : Bool) → 1 ≤ channels → window ≤ 7 → (hs : List Happening)
-    → let w = after hs (start_line channels window standing) in WithinLimit w × WithinLimit (turned w)
+OwedLaw = (channels : ℕ) (flow : Flow) (standing : Bool) → 1 ≤ channels → flow.window < modulus flow.numbering → (hs : List Happening)
+    → let w = after hs (start_line channels flow standing) in WithinLimit w × WithinLimit (turned w)

@@ -1,6 +1,8 @@
 -- A packet layer whose packets can all be read at the other end of the line.
 use Rattle.std.specs.Prelude.{ℕ, ◌<◌, ◌≤◌, List, [], ◌∷◌, length, Option, Some, None}
+use Rattle.packet_codec.specs.declared.packet.Numbering.{Numbering}
 use Rattle.packet_codec.specs.Packet.{PacketValue, IsLogicalChannel, IsCallValue, IsContentOn}
+use Rattle.packet_channel.specs.declared.flow.Flow.{Flow}
 use Rattle.packet_layer.specs.Packets.{CallParts, Datum, Body, Packet}
 use Rattle.packet_layer.specs.Traffic.{Traffic}
 use Rattle.packet_layer.specs.Channel.{Channel}
@@ -22,31 +24,34 @@ abbrev pub AreOctets : List ℕ → Type 0
 AreOctets xs = Every (λ x. x < 256) xs
 
 -- a packet with a spelling, from which it is read again
-abbrev pub value_of : Packet → PacketValue
-value_of p = record { channel = p.channel; content = content_of p.body }
+abbrev pub value_of : Flow → Packet → PacketValue
+value_of flow p = record { numbering = flow.numbering; channel = p.channel; content = content_of p.body }
 
--- what each logical channel can carry, and what the channel of the restart packets can
+-- what each logical channel can carry, whatever the numbering, and what the channel of the restart packets can
 abbrev pub FitsChannels : Body → Type 0
-FitsChannels b = (channel : ℕ) → IsLogicalChannel channel → IsContentOn channel (content_of b)
+FitsChannels b =
+    (numbering : Numbering) (channel : ℕ) → IsLogicalChannel channel → IsContentOn numbering 128 channel (content_of b)
 
 abbrev pub FitsRestarts : Body → Type 0
-FitsRestarts b = IsContentOn 0 (content_of b)
+FitsRestarts b = (numbering : Numbering) → IsContentOn numbering 128 0 (content_of b)
 
--- what waits on a channel is short enough, and its next numbers are numbers modulo 8
+-- what each logical channel of a line with this flow control can carry
+abbrev pub FitsLine : Flow → Body → Type 0
+FitsLine flow b = (channel : ℕ) → IsLogicalChannel channel → IsContentOn flow.numbering 128 channel (content_of b)
+
+-- what waits on a channel is short enough
 abbrev pub IsShortDatum : Datum → Type 0
 IsShortDatum d = length d.octets ≤ 128
 
 abbrev pub IsInterrupt : List ℕ → Type 0
 IsInterrupt octets = (1 ≤ length octets) × (length octets ≤ 32)
 
-pub record TrafficFits (waiting : List Datum) (send_number released : ℕ) (interrupt : Option (List ℕ)) : Type 0 where
+pub record TrafficFits (waiting : List Datum) (interrupt : Option (List ℕ)) : Type 0 where
   pub waiting_fits : Every IsShortDatum waiting
-  pub send_fits : send_number < 8
-  pub released_fits : released < 8
   pub interrupt_fits : IfAny IsInterrupt interrupt
 
 abbrev pub TrafficReads : Traffic → Type 0
-TrafficReads t = TrafficFits t.waiting t.send_number t.released t.interrupt_waiting
+TrafficReads t = TrafficFits t.waiting t.interrupt_waiting
 
 abbrev pub ChannelReads : Channel → Type 0
 ChannelReads ch = Every FitsChannels ch.owed × TrafficReads ch.traffic

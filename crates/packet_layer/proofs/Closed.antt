@@ -9,6 +9,7 @@ use Rattle.packet_channel.specs.Packets.{Note, Reason, Closed}
 use Rattle.packet_channel.specs.Channel.{Channel, closed_channel, entered}
 use Rattle.packet_channel.specs.Channel.CallState.{Transfer}
 use Rattle.packet_channel.specs.Held.{Channel as Holder}
+use Rattle.packet_channel.specs.declared.flow.Flow.{Flow}
 use Rattle.packet_layer.specs.Held.{plain, buffers, AllFit}
 use Rattle.packet_layer.specs.Layer.{closing_notes, had_call, standing_channels}
 
@@ -30,9 +31,9 @@ pub none_held : (chs : List Holder) → buffers (map (λ ch. closed) chs) ≡ []
 none_held [] = refl
 none_held (x ∷ xs) = none_held xs
 
-pub all_fit : (window : ℕ) (chs : List Holder) → AllFit window (map (λ ch. closed) chs)
-all_fit window [] = tt
-all_fit window (x ∷ xs) = (record { arrived = omega arith; held = omega arith }, all_fit window xs)
+pub all_fit : (flow : Flow) (chs : List Holder) → AllFit flow (map (λ ch. closed) chs)
+all_fit flow [] = tt
+all_fit flow (x ∷ xs) = (record { arrived = omega arith; held = omega arith }, all_fit flow xs)
 
 pub plain_closed : (chs : List Holder) → plain (map (λ ch. closed) chs) ≡ map (λ ch. closed_channel) (plain chs)
 plain_closed [] = refl
@@ -106,14 +107,14 @@ made_holds true zero = refl
 made_holds true (suc n) = none_replicated n
 made_holds false n = none_replicated n
 
-replicated_fit : (window n : ℕ) → AllFit window (replicate n closed)
-replicated_fit window zero = tt
-replicated_fit window (suc n) = (record { arrived = omega arith; held = omega arith }, replicated_fit window n)
+replicated_fit : (flow : Flow) (n : ℕ) → AllFit flow (replicate n closed)
+replicated_fit flow zero = tt
+replicated_fit flow (suc n) = (record { arrived = omega arith; held = omega arith }, replicated_fit flow n)
 
-pub made_fit : (window : ℕ) (standing : Bool) (n : ℕ) → AllFit window (made standing n)
-made_fit window true zero = tt
-made_fit window true (suc n) = (record { arrived = omega arith; held = omega arith }, replicated_fit window n)
-made_fit window false n = replicated_fit window n
+pub made_fit : (flow : Flow) (standing : Bool) (n : ℕ) → AllFit flow (made standing n)
+made_fit flow true zero = tt
+made_fit flow true (suc n) = (record { arrived = omega arith; held = omega arith }, replicated_fit flow n)
+made_fit flow false n = replicated_fit flow n
 
 plain_replicated : (n : ℕ) → plain (replicate n closed) ≡ replicate n closed_channel
 plain_replicated zero = refl

@@ -8,6 +8,7 @@ use Rattle.flow_window.proofs.Weights.{weight_append, weight_ones}
 use Rattle.packet_channel.specs.Packets.{CallParts}
 use Rattle.packet_channel.specs.Channel.{owing, placing}
 use Rattle.packet_channel.specs.Held.{Channel as Holder, Fits, Loses, Takes}
+use Rattle.packet_channel.specs.declared.flow.Flow.{Flow}
 use Rattle.packet_layer.specs.declared.layer.Layer.TheInside.{Inside}
 use Rattle.packet_layer.specs.Held.{Layer as Held, plain, buffers, AllFit, HasRoom, most_held}
 use Rattle.packet_layer.specs.LayerView.{holding, IsLayer}
@@ -87,28 +88,28 @@ buffers_same (x ∷ xs) (suc i) old new e same = ap (λ bs. x.held ++ bs) (buffe
 
 -- ---- how many
 
-pub fits_at : (window : ℕ) (cs : List Holder) (i : ℕ) (c : Holder) → AllFit window cs → slice_get cs i ≡ Some c →
-    Fits window c
-fits_at window [] i c all e = absurd (none-some c e)
-fits_at window (x ∷ xs) zero c all e =
+pub fits_at : (flow : Flow) (cs : List Holder) (i : ℕ) (c : Holder) → AllFit flow cs → slice_get cs i ≡ Some c →
+    Fits flow c
+fits_at flow [] i c all e = absurd (none-some c e)
+fits_at flow (x ∷ xs) zero c all e =
     let same = same_Some x c e in
     record {
       arrived = omega (arith, all.0.arrived, ap (λ (c : Holder). length c.channel.traffic.arrived) same);
       held = omega (arith, all.0.held, ap (λ (c : Holder). length c.held) same);
     }
-fits_at window (x ∷ xs) (suc i) c all e = fits_at window xs i c all.1 e
+fits_at flow (x ∷ xs) (suc i) c all e = fits_at flow xs i c all.1 e
 
-pub fits_set : (window : ℕ) (cs : List Holder) (i : ℕ) (new : Holder) → AllFit window cs → Fits window new →
-    AllFit window (set cs i new)
-fits_set window [] i new all fits = tt
-fits_set window (x ∷ xs) zero new all fits = (fits, all.1)
-fits_set window (x ∷ xs) (suc i) new all fits = (all.0, fits_set window xs i new all.1 fits)
+pub fits_set : (flow : Flow) (cs : List Holder) (i : ℕ) (new : Holder) → AllFit flow cs → Fits flow new →
+    AllFit flow (set cs i new)
+fits_set flow [] i new all fits = tt
+fits_set flow (x ∷ xs) zero new all fits = (fits, all.1)
+fits_set flow (x ∷ xs) (suc i) new all fits = (all.0, fits_set flow xs i new all.1 fits)
 
-pub few : (window : ℕ) (cs : List Holder) → AllFit window cs →
-    length (buffers cs) ≤ length (plain cs) * (window + 8)
-few window [] all = omega arith
-few window (c ∷ cs) all =
-    let rest = few window cs all.1 in
+pub few : (flow : Flow) (cs : List Holder) → AllFit flow cs →
+    length (buffers cs) ≤ length (plain cs) * (flow.window + 8)
+few flow [] all = omega arith
+few flow (c ∷ cs) all =
+    let rest = few flow cs all.1 in
     let ones = weight_append (λ _. 1) c.held (buffers cs) in
     let own = weight_ones c.held in
     let others = weight_ones (buffers cs) in
@@ -116,9 +117,9 @@ few window (c ∷ cs) all =
     omega (arith, rest, ones, own, others, together, all.0.held)
 
 -- there is a buffer for one packet more
-pub room_for_one : (pool : Pool) (window : ℕ) (cs : List Holder) → AllFit window cs →
-    HasRoom pool (buffers cs) (length (plain cs) * (window + 8) + 1) → in_use pool < length pool.places
-room_for_one pool window cs all room = let most = few window cs all in omega (arith, most, room)
+pub room_for_one : (pool : Pool) (flow : Flow) (cs : List Holder) → AllFit flow cs →
+    HasRoom pool (buffers cs) (length (plain cs) * (flow.window + 8) + 1) → in_use pool < length pool.places
+room_for_one pool flow cs all room = let most = few flow cs all in omega (arith, most, room)
 
 -- ---- a step of the channel at a place
 
@@ -136,7 +137,7 @@ own_held a x pool i c view all e =
 pub own_room : (a : Inside) (x : Held) (pool : Pool) → IsLayer a → holding a ≡ x →
     HasRoom pool x.held (most_held x.layer + 1) → in_use pool < length pool.places
 own_room a x pool is view room =
-    room_for_one pool a.window a.channels.items is.fits
+    room_for_one pool a.flow a.channels.items is.fits
     (subst (λ (x : Held). HasRoom pool x.held (most_held x.layer + 1)) (sym view) room)
 
 pub own_balance : (a : Inside) (x : Held) (before after : Pool) (i : ℕ) (old new : Holder) → holding a ≡ x →
@@ -146,28 +147,28 @@ own_balance a x before after i old new view e change =
     subst (λ (x : Held). Balances before x.held after (buffers (set a.channels.items i new))) view
     (balances_at before after a.channels.items i old new e change)
 
-pub fits_after : (window : ℕ) (cs : List Holder) (i : ℕ) (old new : Holder) → AllFit window cs →
-    slice_get cs i ≡ Some old → (Fits window old → Fits window new) → AllFit window (set cs i new)
-fits_after window cs i old new all e fits = fits_set window cs i new all (fits (fits_at window cs i old all e))
+pub fits_after : (flow : Flow) (cs : List Holder) (i : ℕ) (old new : Holder) → AllFit flow cs →
+    slice_get cs i ≡ Some old → (Fits flow old → Fits flow new) → AllFit flow (set cs i new)
+fits_after flow cs i old new all e fits = fits_set flow cs i new all (fits (fits_at flow cs i old all e))
 
-pub rw_fits : (window other : ℕ) (old new : Holder) → other ≡ window → (Fits other old → Fits other new) →
-    Fits window old → Fits window new
-rw_fits window other old new e fits = subst (λ (n : ℕ). Fits n old → Fits n new) e fits
+pub rw_fits : (flow other : Flow) (old new : Holder) → other ≡ flow → (Fits other old → Fits other new) →
+    Fits flow old → Fits flow new
+rw_fits flow other old new e fits = subst (λ (f : Flow). Fits f old → Fits f new) e fits
 
 -- a call that is placed takes no buffer
-pub fits_kept : (window : ℕ) (old new : Holder) (parts : CallParts) →
-    new ≡ record old { channel = owing (placing parts old.channel) } → Fits window old → Fits window new
-fits_kept window old new parts e fits = rw e (record { arrived = fits.arrived; held = fits.held })
+pub fits_kept : (flow : Flow) (old new : Holder) (parts : CallParts) →
+    new ≡ record old { channel = owing (placing parts old.channel) } → Fits flow old → Fits flow new
+fits_kept flow old new parts e fits = rw e (record { arrived = fits.arrived; held = fits.held })
 
 pub own_few : (a : Inside) (x : Held) → IsLayer a → holding a ≡ x → length x.held ≤ most_held x.layer
 own_few a x is view =
-    subst (λ (x : Held). length x.held ≤ most_held x.layer) view (few a.window a.channels.items is.fits)
+    subst (λ (x : Held). length x.held ≤ most_held x.layer) view (few a.flow a.channels.items is.fits)
 
 -- also where the channel at a place changed
-pub few_after : (window : ℕ) (cs : List Holder) (i : ℕ) (old new : Holder) → AllFit window cs →
-    slice_get cs i ≡ Some old → (Fits window old → Fits window new) →
-    length (buffers (set cs i new)) ≤ length (plain (set cs i new)) * (window + 8)
-few_after window cs i old new all e fits = few window (set cs i new) (fits_after window cs i old new all e fits)
+pub few_after : (flow : Flow) (cs : List Holder) (i : ℕ) (old new : Holder) → AllFit flow cs →
+    slice_get cs i ≡ Some old → (Fits flow old → Fits flow new) →
+    length (buffers (set cs i new)) ≤ length (plain (set cs i new)) * (flow.window + 8)
+few_after flow cs i old new all e fits = few flow (set cs i new) (fits_after flow cs i old new all e fits)
 
 -- ---- a buffer is handed out or in
 

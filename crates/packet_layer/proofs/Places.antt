@@ -17,6 +17,7 @@ use Rattle.packet_channel.specs.Held.{Kept}
 use Rattle.packet_channel.specs.RequestView.{refusal_of}
 use Rattle.packet_channel.specs.Octets.{unreadable_as}
 use Rattle.packet_codec.specs.Diagnostic.{no_information}
+use Rattle.packet_channel.specs.declared.flow.Flow.{Flow}
 use Rattle.packet_layer.specs.Events.{after_hearing}
 use Rattle.packet_channel.specs.declared.fault.ChannelFault.{ChannelFault}
 use Rattle.packet_channel.specs.declared.fault.RefusedBuf.{RefusedBuf}
@@ -104,19 +105,19 @@ step_taken l c place ch new relink notes f e h unread done =
 
 -- a packet that comes on a channel
 pub packet_taken : (l : Layer) (c place : ℕ) (ch new : Channel) (b : Body) (relink : Bool) (notes : List Note)
-    (role : Role) (window channel : ℕ) → l.phase ≡ PacketReady → place + 1 ≡ c → slice_get l.channels place ≡ Some ch →
-    l.notes ≡ [] → role ≡ l.role → window ≡ l.window → channel ≡ place + 1 →
-    IsDone (received role window channel ch b) new relink notes →
+    (role : Role) (flow : Flow) (channel : ℕ) → l.phase ≡ PacketReady → place + 1 ≡ c → slice_get l.channels place ≡ Some ch →
+    l.notes ≡ [] → role ≡ l.role → flow ≡ l.flow → channel ≡ place + 1 →
+    IsDone (received role flow channel ch b) new relink notes →
     record l { channels = set l.channels place new; relink = set_if relink l.relink; notes = notes }
-    ≡ on_channel l.phase l c (λ x. received l.role l.window c x b)
-packet_taken l c place ch new b relink notes role window channel ready e h unread same_role same_window same_channel done =
-    let as_end : received role window channel ch b ≡ received l.role l.window c ch b =
-    ap (λ (r : Role). received r window channel ch b) same_role
-    ∙ ap (λ (w : ℕ). received l.role w channel ch b) same_window
-    ∙ ap (λ (n : ℕ). received l.role l.window n ch b) (same_channel ∙ e) in
-    step_taken l c place ch new relink notes (λ x. received l.role l.window c x b) e h unread
+    ≡ on_channel l.phase l c (λ x. received l.role l.flow c x b)
+packet_taken l c place ch new b relink notes role flow channel ready e h unread same_role same_flow same_channel done =
+    let as_end : received role flow channel ch b ≡ received l.role l.flow c ch b =
+    ap (λ (r : Role). received r flow channel ch b) same_role
+    ∙ ap (λ (f : Flow). received l.role f channel ch b) same_flow
+    ∙ ap (λ (n : ℕ). received l.role l.flow n ch b) (same_channel ∙ e) in
+    step_taken l c place ch new relink notes (λ x. received l.role l.flow c x b) e h unread
     (subst (λ (st : Step). IsDone st new relink notes) as_end done)
-    ∙ ap (λ (p : Phase). on_channel p l c (λ x. received l.role l.window c x b)) (sym ready)
+    ∙ ap (λ (p : Phase). on_channel p l c (λ x. received l.role l.flow c x b)) (sym ready)
 
 -- a channel that is left as it is
 pub unchanged : (l : Layer) (place : ℕ) (ch new : Channel) → slice_get l.channels place ≡ Some ch → new ≡ ch → record l { channels = set l.channels place new } ≡ l

@@ -32,7 +32,7 @@ body_or l c ch (Some b) n m = refl
 found_or : (l : Layer) (c : ℕ) (found : Option Channel) (n m : Next) →
     serve_found l c found (or_else n m) ≡ or_else (serve_found l c found n) m
 found_or l c None n m = refl
-found_or l c (Some ch) n m = body_or l c (next_of l.window ch).channel (next_of l.window ch).body n m
+found_or l c (Some ch) n m = body_or l c (next_of l.flow ch).channel (next_of l.flow ch).body n m
 
 last_is : (l : Layer) (c : ℕ) → length l.channels ≡ c → next_number l c ≡ 1
 last_is l c e = ap (λ (b : Bool). if b then 1 else suc c) (le-leb (length l.channels) c (omega (arith, e)))
@@ -149,7 +149,7 @@ and_true : (b : Bool) → (b && true) ≡ b
 and_true true = refl
 and_true false = refl
 
-pub none_passed : (l : Layer) (first end : ℕ) (all places : NumberSet) → OthersAreSilent l.window all l.channels →
+pub none_passed : (l : Layer) (first end : ℕ) (all places : NumberSet) → OthersAreSilent l.flow all l.channels →
     ((n : ℕ) → has places n ≡ (has all n && (not (nat_lt n first) && nat_lt n end))) → ArePassed l first end places
 none_passed l first end all places others is = record {
   among = λ p there.
@@ -220,7 +220,7 @@ body_silent l c ch (Some b) n h = absurd (cc)
 found_silent : (l : Layer) (c : ℕ) (found : Option Channel) (n : Next) →
     is_some (serve_found l c found n).packet ≡ false → serve_found l c found n ≡ n
 found_silent l c None n h = refl
-found_silent l c (Some ch) n h = body_silent l c (next_of l.window ch).channel (next_of l.window ch).body n h
+found_silent l c (Some ch) n h = body_silent l c (next_of l.flow ch).channel (next_of l.flow ch).body n h
 
 pub nothing_served : (k : ℕ) (l : Layer) (c : ℕ) → is_some (serve k l c).packet ≡ false → serve k l c ≡ nothing l
 nothing_served zero l c h = refl
@@ -240,26 +240,26 @@ less_none n = omega arith
 
 -- ---- where the set is empty nothing goes to the link
 
-each_silent : (l : Layer) (s : NumberSet) (c : ℕ) → OthersAreSilent l.window s l.channels →
+each_silent : (l : Layer) (s : NumberSet) (c : ℕ) → OthersAreSilent l.flow s l.channels →
     ((n : ℕ) → has s n ≡ false) → is_some (serve 1 l c).packet ≡ false
 each_silent l s zero others none = refl
 each_silent l s (suc p) others none =
     let at : suc p ≡ p + 1 = omega arith in
     ap (λ (n : ℕ). is_some (serve 1 l n).packet) at ∙ silent_there l s p others (none p)
 
-all_silent : (k : ℕ) (l : Layer) (s : NumberSet) (c : ℕ) → OthersAreSilent l.window s l.channels →
+all_silent : (k : ℕ) (l : Layer) (s : NumberSet) (c : ℕ) → OthersAreSilent l.flow s l.channels →
     ((n : ℕ) → has s n ≡ false) → is_some (serve k l c).packet ≡ false
 all_silent zero l s c others none = refl
 all_silent (suc k) l s c others none =
     ap (λ (n : Next). is_some n.packet) (goes_on_from (suc k) k l c refl (each_silent l s c others none))
     ∙ all_silent k l s (next_number l c) others none
 
-none_owed : (l : Layer) (s : NumberSet) (owed : List Body) → length owed ≡ 0 → OthersAreSilent l.window s l.channels →
+none_owed : (l : Layer) (s : NumberSet) (owed : List Body) → length owed ≡ 0 → OthersAreSilent l.flow s l.channels →
     ((n : ℕ) → has s n ≡ false) → is_some (next_restart owed l).packet ≡ false
 none_owed l s [] none_left others none = all_silent (length l.channels) l s (next_number l l.served_last) others none
 none_owed l s (b ∷ bs) none_left others none = absurd (omega (arith, none_left))
 
-pub silent_layer : (l : Layer) (s : NumberSet) → length l.owed ≡ 0 → OthersAreSilent l.window s l.channels →
+pub silent_layer : (l : Layer) (s : NumberSet) → length l.owed ≡ 0 → OthersAreSilent l.flow s l.channels →
     ((n : ℕ) → has s n ≡ false) → is_some (next_packet l).packet ≡ false
 silent_layer l s none_left others none = by_phase l.phase l.relink
   where

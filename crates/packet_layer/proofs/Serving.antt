@@ -1,6 +1,7 @@
 -- What goes to the link: the channels one by one, round.
 use Rattle.std.proofs.Common.{◌≡◌, ℕ, zero, suc, ◌+◌, ◌-◌, ◌<◌, true, false, List, set, refl, sym, ap, ◌∙◌, arith}
 use Rattle.std.specs.Prelude.{Option, Some, None, Result, is_some, slice_get}
+use Rattle.packet_channel.specs.declared.flow.Flow.{Flow}
 use Rattle.packet_channel.specs.Packets.{Body, Packet, Received}
 use Rattle.packet_channel.specs.Channel.{Channel}
 use Rattle.packet_layer.specs.Layer.{Layer, Next, channel_of, next_of, next_number, packet_of, serve, serve_found, served}
@@ -19,7 +20,7 @@ body_goes_on l c ch (Some b) others h = absurd (cc)
 
 found_goes_on : (l : Layer) (c : ℕ) (found : Option Channel) (others : Next) → is_some (serve_found l c found (nothing l)).packet ≡ false → serve_found l c found others ≡ others
 found_goes_on l c None others h = refl
-found_goes_on l c (Some ch) others h = body_goes_on l c (next_of l.window ch).channel (next_of l.window ch).body others h
+found_goes_on l c (Some ch) others h = body_goes_on l c (next_of l.flow ch).channel (next_of l.flow ch).body others h
 
 body_stops : (l : Layer) (c : ℕ) (ch : Channel) (b : Option Body) (others : Next) → is_some (served l c (record { channel = ch; body = b }) (nothing l)).packet ≡ true → served l c (record { channel = ch; body = b }) others ≡ served l c (record { channel = ch; body = b }) (nothing l)
 body_stops l c ch None others h = absurd (cc)
@@ -27,7 +28,7 @@ body_stops l c ch (Some b) others h = refl
 
 found_stops : (l : Layer) (c : ℕ) (found : Option Channel) (others : Next) → is_some (serve_found l c found (nothing l)).packet ≡ true → serve_found l c found others ≡ serve_found l c found (nothing l)
 found_stops l c None others h = absurd (cc)
-found_stops l c (Some ch) others h = body_stops l c (next_of l.window ch).channel (next_of l.window ch).body others h
+found_stops l c (Some ch) others h = body_stops l c (next_of l.flow ch).channel (next_of l.flow ch).body others h
 
 pub goes_on_from : (m : ℕ) (k : ℕ) (l : Layer) (c : ℕ) → m ≡ suc k → is_some (serve 1 l c).packet ≡ false → serve m l c ≡ serve k l (next_number l c)
 goes_on_from zero k l c e h = absurd (omega arith)
@@ -53,43 +54,43 @@ body_says : (l : Layer) (c : ℕ) (ch : Channel) (b : Option Body) → is_some b
 body_says l c ch None h = absurd (cc)
 body_says l c ch (Some b) h = refl
 
-found_at : (l : Layer) (c place : ℕ) (ch : Channel) → place + 1 ≡ c → slice_get l.channels place ≡ Some ch → serve 1 l c ≡ served l c (next_of l.window ch) (nothing l)
+found_at : (l : Layer) (c place : ℕ) (ch : Channel) → place + 1 ≡ c → slice_get l.channels place ≡ Some ch → serve 1 l c ≡ served l c (next_of l.flow ch) (nothing l)
 found_at l c place ch e h = rw (channel_at l.channels c place e, h) refl
 
-pub silent_at : (l : Layer) (c place : ℕ) (ch : Channel) → place + 1 ≡ c → slice_get l.channels place ≡ Some ch → is_some (next_of l.window ch).body ≡ false → serve 1 l c ≡ nothing l
-silent_at l c place ch e h silent = found_at l c place ch e h ∙ body_silent l c (next_of l.window ch).channel (next_of l.window ch).body silent
+pub silent_at : (l : Layer) (c place : ℕ) (ch : Channel) → place + 1 ≡ c → slice_get l.channels place ≡ Some ch → is_some (next_of l.flow ch).body ≡ false → serve 1 l c ≡ nothing l
+silent_at l c place ch e h silent = found_at l c place ch e h ∙ body_silent l c (next_of l.flow ch).channel (next_of l.flow ch).body silent
 
 with_nth_at : (chs : List Channel) (c place : ℕ) (ch : Channel) → place + 1 ≡ c → Rattle.packet_layer.specs.Layer.with_nth chs c ch ≡ set chs place ch
 with_nth_at chs zero place ch e = absurd (omega arith)
 with_nth_at chs (suc i) place ch e = let same : i ≡ place = omega arith in ap (λ n. set chs n ch) same
 
-pub says_at : (l : Layer) (c place : ℕ) (ch : Channel) → place + 1 ≡ c → slice_get l.channels place ≡ Some ch → is_some (next_of l.window ch).body ≡ true → serve 1 l c ≡ record { layer = record l { channels = set l.channels place (next_of l.window ch).channel; served_last = c }; packet = packet_of c (next_of l.window ch).body }
+pub says_at : (l : Layer) (c place : ℕ) (ch : Channel) → place + 1 ≡ c → slice_get l.channels place ≡ Some ch → is_some (next_of l.flow ch).body ≡ true → serve 1 l c ≡ record { layer = record l { channels = set l.channels place (next_of l.flow ch).channel; served_last = c }; packet = packet_of c (next_of l.flow ch).body }
 says_at l c place ch e h says =
     found_at l c place ch e h
-    ∙ body_says l c (next_of l.window ch).channel (next_of l.window ch).body says
-    ∙ ap (λ chs. record { layer = record l { channels = chs; served_last = c }; packet = packet_of c (next_of l.window ch).body }) (with_nth_at l.channels c place (next_of l.window ch).channel e)
+    ∙ body_says l c (next_of l.flow ch).channel (next_of l.flow ch).body says
+    ∙ ap (λ chs. record { layer = record l { channels = chs; served_last = c }; packet = packet_of c (next_of l.flow ch).body }) (with_nth_at l.channels c place (next_of l.flow ch).channel e)
 
 -- a channel that has nothing leaves all as it was
 pub silent_same : (l : Layer) (c : ℕ) → is_some (serve 1 l c).packet ≡ false → serve 1 l c ≡ nothing l
 silent_same l c h = found_goes_on l c (channel_of l c) (nothing l) h
 
 -- what is written of the packet of a channel
-pub written_none : (b : Option Body) (c : ℕ) (old : List ℕ) → is_some b ≡ false → written c b old ≡ old
-written_none None c old h = refl
-written_none (Some b) c old h = absurd (cc)
+pub written_none : (flow : Flow) (b : Option Body) (c : ℕ) (old : List ℕ) → is_some b ≡ false → written flow c b old ≡ old
+written_none flow None c old h = refl
+written_none flow (Some b) c old h = absurd (cc)
 
-pub written_of : (b : Option Body) (c : ℕ) (old : List ℕ) → written c b old ≡ written_packet (packet_of c b) old
-written_of None c old = refl
-written_of (Some b) c old = refl
+pub written_of : (flow : Flow) (b : Option Body) (c : ℕ) (old : List ℕ) → written flow c b old ≡ written_packet flow (packet_of c b) old
+written_of flow None c old = refl
+written_of flow (Some b) c old = refl
 
 pub said_of : (b : Option Body) (c : ℕ) → is_some (packet_of c b) ≡ is_some b
 said_of None c = refl
 said_of (Some b) c = refl
 
 -- what is written of a channel's packet reads back
-pub reads_of : (b : Option Body) (c : ℕ) (octets : List ℕ) → ReadsAs c b octets → ReadsBack (packet_of c b) octets
-reads_of None c octets h = h
-reads_of (Some b) c octets h = h
+pub reads_of : (flow : Flow) (b : Option Body) (c : ℕ) (octets : List ℕ) → ReadsAs flow c b octets → ReadsBack flow (packet_of c b) octets
+reads_of flow None c octets h = h
+reads_of flow (Some b) c octets h = h
 
 same_body : (b : Body) → body_of (content_of b) ≡ b
 same_body (Body.Call parts) = refl
@@ -107,6 +108,6 @@ same_body (Body.Restart cause diagnostic) = refl
 same_body Body.RestartConfirmation = refl
 
 -- what reads back is what the far end hears
-pub heard_of_reading : (p : Option Packet) (octets : List ℕ) → ReadsBack p octets → IsHeard p octets
-heard_of_reading None octets h = h
-heard_of_reading (Some p) octets h = ap (λ (r : Result PacketValue PacketFault). heard_by octets r) h ∙ ap (λ (b : Body). Some (Received.Whole (record { channel = p.channel; body = b }))) (same_body p.body)
+pub heard_of_reading : (flow : Flow) (p : Option Packet) (octets : List ℕ) → ReadsBack flow p octets → IsHeard flow p octets
+heard_of_reading flow None octets h = h
+heard_of_reading flow (Some p) octets h = ap (λ (r : Result PacketValue PacketFault). heard_by octets r) h ∙ ap (λ (b : Body). Some (Received.Whole (record { channel = p.channel; body = b }))) (same_body p.body)

@@ -13,6 +13,7 @@ use Rattle.packet_channel.specs.Channel.{Channel, Step, closed_channel, entered,
 use Rattle.packet_channel.specs.Done.{IsDone}
 use Rattle.packet_channel.specs.Channel.CallState.{Transfer}
 use Rattle.packet_channel.specs.Held.{Channel as Holder, Fits}
+use Rattle.packet_channel.specs.declared.flow.Flow.{Flow}
 use Rattle.packet_layer.specs.Held.{plain, AllFit}
 use Rattle.packet_layer.specs.Layer.{Layer, Next, channel_of, serve, standing_channels}
 use Rattle.packet_layer.specs.Silence.{OthersAreSilent}
@@ -39,10 +40,10 @@ differs : (p place : ℕ) → (p == place) ≡ false → p ≡ place → ⊥
 differs p place other e = absurd (let same : (p == place) ≡ true = eq-eqb p place e in cc)
 
 -- a channel that is put into the set may have anything from then on
-pub touched : (window : ℕ) (old new : NumberSet) (chs : List Channel) (place : ℕ) (ch : Channel) →
-    OthersAreSilent window old chs → ((n : ℕ) → has new n ≡ (has old n || n == place)) →
-    OthersAreSilent window new (set chs place ch)
-touched window old new chs place ch others is = record {
+pub touched : (flow : Flow) (old new : NumberSet) (chs : List Channel) (place : ℕ) (ch : Channel) →
+    OthersAreSilent flow old chs → ((n : ℕ) → has new n ≡ (has old n || n == place)) →
+    OthersAreSilent flow new (set chs place ch)
+touched flow old new chs place ch others is = record {
   silent = λ p x there out.
       let parts = put_in (has old p) (p == place) (sym (is p) ∙ out) in
       others.silent p x (sym (other_item chs p place ch (differs p place parts.1)) ∙ there) parts.0;
@@ -51,27 +52,27 @@ touched window old new chs place ch others is = record {
 -- of a whole layer
 pub layer_touched : (a : Inside) (new : NumberSet) (place : ℕ) (old ch : Holder) (relink : Bool) → IsLayer a →
     ((n : ℕ) → has new n ≡ (has a.to_serve n || n == place)) → slice_get a.channels.items place ≡ Some old →
-    (Fits a.window old → Fits a.window ch) →
+    (Fits a.flow old → Fits a.flow ch) →
     IsLayer (record a { channels = with_item a.channels place ch; to_serve = new; relink = relink })
 layer_touched a new place old ch relink is puts_in there fits = record {
-  window = is.window;
+  flow = is.flow;
   channels = omega (arith, is.channels, length-set a.channels.items place ch);
-  others = subst (OthersAreSilent a.window new) (sym (plain_set a.channels.items place ch))
-      (touched a.window a.to_serve new (plain a.channels.items) place ch.channel is.others puts_in);
+  others = subst (OthersAreSilent a.flow new) (sym (plain_set a.channels.items place ch))
+      (touched a.flow a.to_serve new (plain a.channels.items) place ch.channel is.others puts_in);
   notes = is.notes;
-  fits = fits_after a.window a.channels.items place old ch is.fits there fits;
+  fits = fits_after a.flow a.channels.items place old ch is.fits there fits;
 }
 
 -- also where the step of its channel notes something
 pub layer_stepped : (a : Inside) (new : NumberSet) (place : ℕ) (old ch : Holder) (st : Step) (relink : Bool)
     (notes : List Note) → IsLayer a → ((n : ℕ) → has new n ≡ (has a.to_serve n || n == place)) →
-    slice_get a.channels.items place ≡ Some old → (Fits a.window old → Fits a.window ch) →
+    slice_get a.channels.items place ≡ Some old → (Fits a.flow old → Fits a.flow ch) →
     IsDone st ch.channel relink notes →
     IsLayer (record a { channels = with_item a.channels place ch; to_serve = new; notes = notes })
 layer_stepped a new place old ch st relink notes is puts_in there fits done =
     let touched = layer_touched a new place old ch a.relink is puts_in there fits in
     record {
-      window = touched.window;
+      flow = touched.flow;
       channels = touched.channels;
       others = touched.others;
       notes = let few = done.few in omega (arith, few);
@@ -79,15 +80,15 @@ layer_stepped a new place old ch st relink notes is puts_in there fits done =
     }
 
 -- one that has something is in the set
-pub spoke : (window : ℕ) (s : NumberSet) (chs : List Channel) (place : ℕ) (old new : Channel) →
-    OthersAreSilent window s chs → slice_get chs place ≡ Some old → is_some (next_of window old).body ≡ true →
-    OthersAreSilent window s (set chs place new)
-spoke window s chs place old new others found says = record {
+pub spoke : (flow : Flow) (s : NumberSet) (chs : List Channel) (place : ℕ) (old new : Channel) →
+    OthersAreSilent flow s chs → slice_get chs place ≡ Some old → is_some (next_of flow old).body ≡ true →
+    OthersAreSilent flow s (set chs place new)
+spoke flow s chs place old new others found says = record {
   silent = λ p x there out. by_place p x there out (cases_eq p place);
 }
   where
     by_place : (p : ℕ) (x : Channel) → slice_get (set chs place new) p ≡ Some x → has s p ≡ false →
-        (p ≡ place) ⊎ (p ≡ place → ⊥) → is_some (next_of window x).body ≡ false
+        (p ≡ place) ⊎ (p ≡ place → ⊥) → is_some (next_of flow x).body ≡ false
     by_place p x there out (inl e) =
         let silent = others.silent place old found (subst (λ (n : ℕ). has s n ≡ false) e out) in absurd (cc)
     by_place p x there out (inr apart) = others.silent p x (sym (other_item chs p place new apart) ∙ there) out
@@ -105,50 +106,50 @@ equal p place same = go (cases_eq p place)
     go (inr apart) = absurd (let other = ne_eqb p place apart in cc)
 
 -- one that has nothing can be taken out
-pub quieted : (window : ℕ) (old new : NumberSet) (chs : List Channel) (place : ℕ) (ch : Channel) →
-    OthersAreSilent window old chs → ((n : ℕ) → has new n ≡ (has old n && not (n == place))) →
-    slice_get chs place ≡ Some ch → is_some (next_of window ch).body ≡ false → OthersAreSilent window new chs
-quieted window old new chs place ch others is found silent = record {
+pub quieted : (flow : Flow) (old new : NumberSet) (chs : List Channel) (place : ℕ) (ch : Channel) →
+    OthersAreSilent flow old chs → ((n : ℕ) → has new n ≡ (has old n && not (n == place))) →
+    slice_get chs place ≡ Some ch → is_some (next_of flow ch).body ≡ false → OthersAreSilent flow new chs
+quieted flow old new chs place ch others is found silent = record {
   silent = λ p x there out. by_place p x there (taken_out (has old p) (p == place) (sym (is p) ∙ out));
 }
   where
     by_place : (p : ℕ) (x : Channel) → slice_get chs p ≡ Some x → ((p == place) ≡ true) ⊎ (has old p ≡ false) →
-        is_some (next_of window x).body ≡ false
+        is_some (next_of flow x).body ≡ false
     by_place p x there (inl here) =
         let found_there : slice_get chs p ≡ Some ch = ap (λ (n : ℕ). slice_get chs n) (equal p place here) ∙ found in
         let same : ch ≡ x = cc in
-        subst (λ (y : Channel). is_some (next_of window y).body ≡ false) same silent
+        subst (λ (y : Channel). is_some (next_of flow y).body ≡ false) same silent
     by_place p x there (inr out) = others.silent p x there out
 
 pub layer_spoke : (a : Inside) (place : ℕ) (old new : Holder) (served : ℕ) → IsLayer a →
-    slice_get a.channels.items place ≡ Some old → is_some (next_of a.window old.channel).body ≡ true →
-    (Fits a.window old → Fits a.window new) →
+    slice_get a.channels.items place ≡ Some old → is_some (next_of a.flow old.channel).body ≡ true →
+    (Fits a.flow old → Fits a.flow new) →
     IsLayer (record a { channels = with_item a.channels place new; served_last = served })
 layer_spoke a place old new served is found says fits = record {
-  window = is.window;
+  flow = is.flow;
   channels = omega (arith, is.channels, length-set a.channels.items place new);
-  others = subst (OthersAreSilent a.window a.to_serve) (sym (plain_set a.channels.items place new))
-      (spoke a.window a.to_serve (plain a.channels.items) place old.channel new.channel is.others
+  others = subst (OthersAreSilent a.flow a.to_serve) (sym (plain_set a.channels.items place new))
+      (spoke a.flow a.to_serve (plain a.channels.items) place old.channel new.channel is.others
       (plain_at a.channels.items place old found) says);
   notes = is.notes;
-  fits = fits_after a.window a.channels.items place old new is.fits found fits;
+  fits = fits_after a.flow a.channels.items place old new is.fits found fits;
 }
 
 pub layer_quieted : (a : Inside) (rest : NumberSet) (place : ℕ) (ch new : Holder) → IsLayer a →
     ((n : ℕ) → has rest n ≡ (has a.to_serve n && not (n == place))) → slice_get a.channels.items place ≡ Some ch →
-    is_some (next_of a.window ch.channel).body ≡ false → new ≡ ch →
+    is_some (next_of a.flow ch.channel).body ≡ false → new ≡ ch →
     IsLayer (record a { channels = with_item a.channels place new; to_serve = rest })
 layer_quieted a rest place ch new is takes_out found silent same =
     let as_before = sym (set_same a.channels.items place ch found)
     ∙ ap (λ (x : Holder). set a.channels.items place x) (sym same) in
     record {
-      window = is.window;
+      flow = is.flow;
       channels = omega (arith, is.channels, length-set a.channels.items place new);
-      others = subst (λ (cs : List Holder). OthersAreSilent a.window rest (plain cs)) as_before
-          (quieted a.window a.to_serve rest (plain a.channels.items) place ch.channel is.others takes_out
+      others = subst (λ (cs : List Holder). OthersAreSilent a.flow rest (plain cs)) as_before
+          (quieted a.flow a.to_serve rest (plain a.channels.items) place ch.channel is.others takes_out
           (plain_at a.channels.items place ch found) silent);
       notes = is.notes;
-      fits = subst (AllFit a.window) as_before is.fits;
+      fits = subst (AllFit a.flow) as_before is.fits;
     }
 
 -- closed channels have nothing
@@ -158,11 +159,11 @@ each_closed [] p x h = absurd (cc)
 each_closed (ch ∷ chs) zero x h = cc
 each_closed (ch ∷ chs) (suc p) x h = each_closed chs p x h
 
-pub closed_are_silent : (window : ℕ) (s : NumberSet) (chs : List Channel) →
-    OthersAreSilent window s (map (λ ch. closed_channel) chs)
-closed_are_silent window s chs = record {
+pub closed_are_silent : (flow : Flow) (s : NumberSet) (chs : List Channel) →
+    OthersAreSilent flow s (map (λ ch. closed_channel) chs)
+closed_are_silent flow s chs = record {
   silent = λ p x there out.
-      subst (λ (y : Channel). is_some (next_of window y).body ≡ false) (each_closed chs p x there) refl;
+      subst (λ (y : Channel). is_some (next_of flow y).body ≡ false) (each_closed chs p x there) refl;
 }
 
 replicated_closed : (n p : ℕ) (x : Channel) → slice_get (replicate n closed_channel) p ≡ Some x → closed_channel ≡ x
@@ -171,27 +172,27 @@ replicated_closed (suc n) zero x h = cc
 replicated_closed (suc n) (suc p) x h = replicated_closed n p x h
 
 -- so have the channels of a layer as it is made
-pub made_silent : (window : ℕ) (s : NumberSet) (standing : Bool) (n : ℕ) →
-    OthersAreSilent window s (standing_channels standing (replicate n closed_channel))
-made_silent window s standing n = record { silent = λ p x there out. at_place standing n p x there }
+pub made_silent : (flow : Flow) (s : NumberSet) (standing : Bool) (n : ℕ) →
+    OthersAreSilent flow s (standing_channels standing (replicate n closed_channel))
+made_silent flow s standing n = record { silent = λ p x there out. at_place standing n p x there }
   where
     at_place : (standing : Bool) (n p : ℕ) (x : Channel) →
         slice_get (standing_channels standing (replicate n closed_channel)) p ≡ Some x →
-        is_some (next_of window x).body ≡ false
+        is_some (next_of flow x).body ≡ false
     at_place true zero p x h = absurd (cc)
     at_place true (suc n) zero x h =
         let e : entered Transfer closed_channel ≡ x = cc in
-        subst (λ (y : Channel). is_some (next_of window y).body ≡ false) e refl
+        subst (λ (y : Channel). is_some (next_of flow y).body ≡ false) e refl
     at_place true (suc n) (suc p) x h =
-        subst (λ (y : Channel). is_some (next_of window y).body ≡ false) (replicated_closed n p x h) refl
+        subst (λ (y : Channel). is_some (next_of flow y).body ≡ false) (replicated_closed n p x h) refl
     at_place false n p x h =
-        subst (λ (y : Channel). is_some (next_of window y).body ≡ false) (replicated_closed n p x h) refl
+        subst (λ (y : Channel). is_some (next_of flow y).body ≡ false) (replicated_closed n p x h) refl
 
 -- a channel that is not in the set has nothing
 nowhere : (l : Layer) (c : ℕ) → channel_of l c ≡ None → is_some (serve 1 l c).packet ≡ false
 nowhere l c e = rw e refl
 
-pub silent_there : (l : Layer) (s : NumberSet) (p : ℕ) → OthersAreSilent l.window s l.channels → has s p ≡ false →
+pub silent_there : (l : Layer) (s : NumberSet) (p : ℕ) → OthersAreSilent l.flow s l.channels → has s p ≡ false →
     is_some (serve 1 l (p + 1)).packet ≡ false
 silent_there l s p others out = go (slice_get l.channels p) refl
   where

@@ -6,6 +6,7 @@ use Rattle.link_timers.specs.declared.timers.TimerId.{TimerId}
 use Rattle.link_timers.specs.declared.timers.TimerId.TheVariants.{T10, T20, T11, T12, T13, T21, T22, T23}
 use Rattle.packet_codec.specs.Packet.{spelling}
 use Rattle.packet_codec.specs.Reading.{reading}
+use Rattle.packet_channel.specs.declared.flow.Flow.{Flow}
 use Rattle.packet_channel.specs.Packets.{Packet, Received}
 use Rattle.packet_layer.specs.Layer.{Layer, Timer, unread, on_received, on_timer, runs}
 use Rattle.packet_channel.specs.Octets.{content_of, heard}
@@ -18,21 +19,23 @@ after_hearing l (Some r) = on_received l r
 
 -- notes that were not read are dropped, and then octets that name no channel are ignored
 abbrev pub on_octets : Layer → List ℕ → Layer
-on_octets l octets = after_hearing (unread l) (heard octets)
+on_octets l octets = after_hearing (unread l) (heard l.flow octets)
 
 -- the octets of a packet that goes to the link, or what stood there before where none goes
-abbrev pub written_packet : Option Packet → List ℕ → List ℕ
-written_packet None old = old
-written_packet (Some p) old = spelling (record { channel = p.channel; content = content_of p.body })
+abbrev pub written_packet : Flow → Option Packet → List ℕ → List ℕ
+written_packet flow None old = old
+written_packet flow (Some p) old =
+    spelling (record { numbering = flow.numbering; channel = p.channel; content = content_of p.body })
 
-abbrev pub ReadsBack : Option Packet → List ℕ → Type 0
-ReadsBack None octets = Unit {0}
-ReadsBack (Some p) octets = reading octets ≡ Ok (record { channel = p.channel; content = content_of p.body })
+abbrev pub ReadsBack : Flow → Option Packet → List ℕ → Type 0
+ReadsBack flow None octets = Unit {0}
+ReadsBack flow (Some p) octets =
+    reading flow.numbering 128 octets ≡ Ok (record { numbering = flow.numbering; channel = p.channel; content = content_of p.body })
 
 -- the far end hears that packet in the octets
-abbrev pub IsHeard : Option Packet → List ℕ → Type 0
-IsHeard None octets = Unit {0}
-IsHeard (Some p) octets = heard octets ≡ Some (Received.Whole p)
+abbrev pub IsHeard : Flow → Option Packet → List ℕ → Type 0
+IsHeard flow None octets = Unit {0}
+IsHeard flow (Some p) octets = heard flow octets ≡ Some (Received.Whole p)
 
 -- ---- timers: T20 to T23 are a DTE's, T10 to T13 a DCE's
 

@@ -4,6 +4,7 @@ use Rattle.flow_window.specs.Pool.{Pool, Buffer, in_use}
 use Rattle.packet_channel.specs.Channel.{Channel}
 pub use Rattle.packet_channel.specs.Held.{Loses, Takes}
 use Rattle.packet_channel.specs.Held.{Channel as Holder, Fits}
+use Rattle.packet_channel.specs.declared.flow.Flow.{Flow}
 use Rattle.packet_layer.specs.Layer as machine
 
 pub record Layer : Type 0 where
@@ -20,13 +21,13 @@ buffers [] = []
 buffers (c ∷ cs) = c.held ++ buffers cs
 
 -- each channel holds no more than the window and the send queue have room for
-abbrev pub AllFit : (window : ℕ) → List Holder → Type 0
-AllFit window [] = Unit {0}
-AllFit window (c ∷ cs) = Fits window c × AllFit window cs
+abbrev pub AllFit : (flow : Flow) → List Holder → Type 0
+AllFit flow [] = Unit {0}
+AllFit flow (c ∷ cs) = Fits flow c × AllFit flow cs
 
 -- the most buffers that a layer holds: on each channel those of the window and of the send queue
 abbrev pub most_held : machine.Layer → ℕ
-most_held l = length l.channels * (l.window + 8)
+most_held l = length l.channels * (l.flow.window + 8)
 
 -- beside what others hold of the pool there is room for so many buffers
 abbrev pub HasRoom : Pool → (held : List Buffer) → (most : ℕ) → Type 0

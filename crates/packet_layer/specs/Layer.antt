@@ -21,6 +21,7 @@ use Rattle.packet_channel.specs.Channel.CallState.{Transfer}
 pub use Rattle.packet_channel.specs.Channel.{is_full, with_owed, passes_limit, owing, had_call, waits_for_call}
 pub use Rattle.packet_channel.specs.Channel.{waits_for_clear, ChannelNext, next_owed, next_of, is_ready, is_free}
 pub use Rattle.packet_channel.specs.Channel.{placing, channel_rests}
+use Rattle.packet_channel.specs.declared.flow.Flow.{Flow}
 
 -- no session of the link; r2 of a DTE or r3 of a DCE; r1
 pub data Phase : Type 0 where
@@ -28,12 +29,12 @@ pub data Phase : Type 0 where
   OwnRestart : Phase
   PacketReady : Phase
 
--- a packet layer: its role, the window of its channels, the channels 1, 2 and so on, the phase of the restart
+-- a packet layer: its role, the flow control of its channels, the channels 1, 2 and so on, the phase of the restart
 -- procedure, the restart packets owed, the channel served last, whether the link has to be set up anew, and the notes
 -- not yet read
 pub record Layer : Type 0 where
   pub role : Role
-  pub window : ℕ
+  pub flow : Flow
   pub channels : List Channel
   pub phase : Phase
   pub owed : List Body
@@ -65,10 +66,10 @@ start_phase true = PacketReady
 start_phase false = NoSession
 
 -- `standing`: the line is made in r1 with a call on channel 1
-abbrev pub made : Role → (channels window : ℕ) → (standing : Bool) → Layer
-made role channels window standing = record {
+abbrev pub made : Role → (channels : ℕ) (flow : Flow) → (standing : Bool) → Layer
+made role channels flow standing = record {
   role = role;
-  window = window;
+  flow = flow;
   channels = standing_channels standing (replicate channels closed_channel);
   phase = start_phase standing;
   owed = [];
@@ -156,7 +157,7 @@ abbrev pub packet_in : Layer → Packet → Layer
 packet_in l p =
     if p.channel == 0
     then restart_packet l.phase p.body l
-    else on_channel l.phase l p.channel (λ ch. received l.role l.window p.channel ch p.body)
+    else on_channel l.phase l p.channel (λ ch. received l.role l.flow p.channel ch p.body)
 
 abbrev pub on_received : Layer → Received → Layer
 on_received l (Whole p) = packet_in l p
@@ -224,7 +225,7 @@ served l c n others =
 
 abbrev pub serve_found : Layer → ℕ → Option Channel → Next → Next
 serve_found l c None others = others
-serve_found l c (Some ch) others = served l c (next_of l.window ch) others
+serve_found l c (Some ch) others = served l c (next_of l.flow ch) others
 
 -- the first of k channels from c on, round
 abbrev pub serve : ℕ → Layer → ℕ → Next

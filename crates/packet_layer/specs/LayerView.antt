@@ -1,5 +1,6 @@
 -- What contracts see of the code's packet layer, and what always holds of it.
 use Rattle.std.specs.Prelude.{◌≤◌, length}
+use Rattle.packet_channel.specs.Flow.{IsFlow}
 use Rattle.packet_layer.specs.Layer.{Layer}
 use Rattle.packet_layer.specs.Held as held
 use Rattle.packet_layer.specs.Held.{plain, buffers, AllFit}
@@ -10,7 +11,7 @@ use Rattle.packet_layer.specs.declared.layer.Layer.TheInside.{Inside}
 abbrev pub layer_of : Inside → Layer
 layer_of a = record {
   role = a.role;
-  window = a.window;
+  flow = a.flow;
   channels = plain a.channels.items;
   phase = phase_of a.phase;
   owed = restart_bodies a.owed;
@@ -22,11 +23,11 @@ layer_of a = record {
 abbrev pub holding : Inside → held.Layer
 holding a = record { layer = layer_of a; held = buffers a.channels.items }
 
--- the window is one modulo 8, there are at most 32 channels, those that are not to be served have nothing for the
+-- the flow control parameters are ones of a line, there are at most 32 channels, those that are not to be served have nothing for the
 -- link, at most so many notes are not read, and no channel holds more buffers than it has room for
 pub record IsLayer (a : Inside) : Type 0 where
-  pub window : a.window ≤ 7
+  pub flow : IsFlow a.flow
   pub channels : length a.channels.items ≤ 32
-  pub others : OthersAreSilent a.window a.to_serve (plain a.channels.items)
+  pub others : OthersAreSilent a.flow a.to_serve (plain a.channels.items)
   pub notes : length a.notes ≤ 32
-  pub fits : AllFit a.window a.channels.items
+  pub fits : AllFit a.flow a.channels.items

@@ -1,3 +1,4 @@
+pub use Rattle.packet_channel.specs.Flow
 pub use Rattle.packet_channel.specs.Packets
 pub use Rattle.packet_channel.specs.Traffic
 pub use Rattle.packet_channel.specs.Channel

@@ -1,14 +1,15 @@
 -- The parameters of a packet layer.
 use Rattle.std.specs.Prelude.{ℕ, ◌≤◌}
+use Rattle.packet_channel.specs.Flow.{IsFlow}
+use Rattle.packet_channel.specs.declared.flow.Flow.{Flow}
 use Rattle.packet_layer.specs.declared.fault.MakeFault.{MakeFault}
 use Rattle.packet_layer.specs.declared.fault.MakeFault.TheVariants.{BadParams, OutOfMemory}
 
-pub record AreParams (channels window : ℕ) : Type 0 where
+pub record AreParams (channels : ℕ) (flow : Flow) : Type 0 where
   pub channels_least : 1 ≤ channels
   pub channels_most : channels ≤ 32
-  pub window_least : 1 ≤ window
-  pub window_most : window ≤ 7
+  pub flow_is : IsFlow flow
 
-abbrev pub MadeNot : (channels window : ℕ) → MakeFault → Type 0
-MadeNot channels window BadParams = AreParams channels window → ⊥
-MadeNot channels window OutOfMemory = AreParams channels window
+abbrev pub MadeNot : (channels : ℕ) (flow : Flow) → MakeFault → Type 0
+MadeNot channels flow BadParams = AreParams channels flow → ⊥
+MadeNot channels flow OutOfMemory = AreParams channels flow

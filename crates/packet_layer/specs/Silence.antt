@@ -3,8 +3,9 @@ use Rattle.std.specs.Prelude.{◌≡◌, ℕ, false, List, Some, is_some, slice_
 use Rattle.number_set.specs.NumberSet.{has}
 use Rattle.number_set.specs.declared.NumberSet.{NumberSet}
 use Rattle.packet_channel.specs.Channel.{Channel, next_of}
+use Rattle.packet_channel.specs.declared.flow.Flow.{Flow}
 
 -- those whose places are not in the set
-pub record OthersAreSilent (window : ℕ) (places : NumberSet) (chs : List Channel) : Type 0 where
+pub record OthersAreSilent (flow : Flow) (places : NumberSet) (chs : List Channel) : Type 0 where
   pub silent : (place : ℕ) (ch : Channel) → slice_get chs place ≡ Some ch → has places place ≡ false →
-      is_some (next_of window ch).body ≡ false
+      is_some (next_of flow ch).body ≡ false

@@ -19,7 +19,7 @@ use crate::params::LayerParams;
 use crate::restart::{Phase, RestartPacket};
 use link_timers::Role;
 use number_set::NumberSet;
-use packet_channel::{Channel, End, LayerNote, Notes, Owed};
+use packet_channel::{Channel, End, Flow, LayerNote, Notes, Owed};
 use std::alloc::{AllocError, Global};
 use std::marker::Model;
 
@@ -27,7 +27,7 @@ use std::marker::Model;
 #[derive(Drop)]
 pub struct Layer {
     role: Role,
-    window: u8,
+    flow: Flow,
     channels: Vec<Channel>,
     /// The places of the channels that may have something for the link. The others have nothing.
     to_serve: NumberSet,
@@ -67,21 +67,21 @@ impl Layer {
     /// A packet layer without a session of the link, or on a standing line one in data transfer on channel 1. It
     /// takes all the memory that it ever uses.
     ///
-    /// `BadParams` comes where the channels are not 1 to 32 or the window not 1 to 7, and then `OutOfMemory` for want
-    /// of memory.
+    /// `BadParams` comes where the channels are not 1 to 32 or the flow control parameters none that a line may
+    /// have, and then `OutOfMemory` for want of memory.
     pub fn new(alloc: Global, role: Role, params: LayerParams) -> Result<Layer, MakeFault>
         ensures { MatchResult result
-            (λ layer. AreParams params.channels params.window
+            (λ layer. AreParams params.channels params.flow
             × (layer ≡ record {
-              layer = machine.made role params.channels params.window params.standing;
+              layer = machine.made role params.channels params.flow params.standing;
               held = [];
             }))
-            (λ fault. MadeNot params.channels params.window fault) }
+            (λ fault. MadeNot params.channels params.flow fault) }
     {
         params.check()?;
         let LayerParams {
             channels,
-            window,
+            flow,
             standing,
         } = params;
         let notes = Notes::new(alloc)?;
@@ -92,7 +92,7 @@ impl Layer {
         }
         Ok(Layer {
             role,
-            window,
+            flow,
             channels,
             to_serve: NumberSet::new(),
             phase: if standing {
@@ -165,16 +165,17 @@ impl Layer {
     }
 
     // The end at which the channel with this place is seen.
+    #[tactic(auto, using(packet_channel::proofs::Windows::window_small))]
     fn end(&self, place: usize) -> End
         requires { place < length self.now.layer.channels }
         ensures role { result.role ≡ self.now.layer.role }
-        ensures window { result.window ≡ self.now.layer.window }
-        ensures most { result.window ≤ 7 }
+        ensures flow { result.flow ≡ self.now.layer.flow }
+        ensures most { result.flow.window ≤ 32 }
         ensures channel { result.channel ≡ place + 1 }
     {
         End {
             role: self.role,
-            window: self.window,
+            flow: self.flow,
             channel: place as u8 + 1,
         }
     }

@@ -3,6 +3,7 @@ ghost use Rattle.std.specs.Prelude.{◌≡◌, Some};
 ghost use Rattle.packet_channel.specs.Octets.{written, ReadsAs};
 ghost use Rattle.packet_layer.specs.RestartView.{restart_body};
 
+use packet_channel::Flow;
 use packet_codec::{Content, Packet, PacketBuf, write_packet};
 
 /// Where the restart procedure stands (X.25 table C-1).
@@ -30,9 +31,9 @@ impl Default for RestartPacket {
 }
 
 /// Writes a restart packet.
-pub(crate) fn write_restart(packet: RestartPacket, buf: &mut PacketBuf)
-    ensures octets { buf.new.items ≡ written 0 (Some (restart_body packet)) buf.old.items }
-    ensures reads_back { ReadsAs 0 (Some (restart_body packet)) buf.new.items }
+pub(crate) fn write_restart(flow: Flow, packet: RestartPacket, buf: &mut PacketBuf)
+    ensures octets { buf.new.items ≡ written flow 0 (Some (restart_body packet)) buf.old.items }
+    ensures reads_back { ReadsAs flow 0 (Some (restart_body packet)) buf.new.items }
 {
     let content = match packet {
         RestartPacket::Restart { cause, diagnostic } => Content::RestartRequest {
@@ -42,6 +43,7 @@ pub(crate) fn write_restart(packet: RestartPacket, buf: &mut PacketBuf)
         RestartPacket::Confirmation => Content::RestartConfirmation,
     };
     let packet = Packet {
+        numbering: flow.numbering,
         channel: 0,
         content,
     };

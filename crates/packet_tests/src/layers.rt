@@ -9,7 +9,8 @@ use Step::{
 };
 use Turn::{Dce, Dte, ToDce, ToDte};
 use link_timers::{Role, TimerId};
-use packet_layer::{CallFault, ChannelFault, Front, LayerParams, MakeFault, Reason};
+use packet_codec::Numbering;
+use packet_layer::{CallFault, ChannelFault, Flow, Front, LayerParams, MakeFault, Reason};
 use std::alloc::Global;
 use std::process::Abort;
 
@@ -21,10 +22,14 @@ const RESET: &[u8] = &[0x10, 0x01, 0x1b, 0x00, 0x00];
 
 const CALL: &[u8] = &[0x10, 0x01, 0x0b, 0x04, 0x20, 0x01, 0x00];
 
-fn params(channels: u8, window: u8, standing: bool) -> LayerParams {
+fn params(channels: u8, window: u8, numbering: Numbering, standing: bool) -> LayerParams {
     LayerParams {
         channels,
-        window,
+        flow: Flow {
+            window,
+            numbering,
+            size: 128,
+        },
         standing,
     }
 }
@@ -53,7 +58,7 @@ struct Example<'a> {
 
 fn play(rt: &impl Abort, alloc: Global, example: &Example<'_>) {
     let standing = matches!(example.begins, Beginning::Standing);
-    let params = params(example.channels, 2, standing);
+    let params = params(example.channels, 2, Numbering::Modulo8, standing);
     let mut dte = Station::new(alloc, Role::Dte, params).expect(rt, "a DTE");
     let mut dce = Station::new(alloc, Role::Dce, params).expect(rt, "a DCE");
     let rule = example.rule;
@@ -111,10 +116,18 @@ fn are_bad(alloc: Global, params: LayerParams) -> bool {
 
 #[test]
 fn parameters_have_ranges(rt: HostRuntime) {
-    const BAD: &[(u8, u8)] = &[(4, 0), (4, 8), (0, 2), (33, 2)];
-    for (channels, window) in BAD {
+    const BAD: &[(u8, u8, Numbering)] = &[
+        (4, 0, Numbering::Modulo8),
+        (4, 8, Numbering::Modulo8),
+        (0, 2, Numbering::Modulo8),
+        (33, 2, Numbering::Modulo8),
+        (4, 0, Numbering::Modulo128),
+        (4, 33, Numbering::Modulo128),
+        (4, 128, Numbering::Modulo128),
+    ];
+    for (channels, window, numbering) in BAD {
         assert!(rt;
-            are_bad(rt.alloc(), params(*channels, *window, false)),
+            are_bad(rt.alloc(), params(*channels, *window, *numbering, false)),
             "{channels} channels, window {window}"
         );
     }

@@ -6,6 +6,8 @@ mod calls;
 #[cfg(test)]
 mod layers;
 #[cfg(test)]
+mod numbers;
+#[cfg(test)]
 mod packets;
 #[cfg(test)]
 mod resets;

@@ -5,9 +5,9 @@ use packet_codec::{
     PacketType, logical_channel, read_packet, write_packet,
 };
 
-/// Whether octets are a packet that is written as these.
-fn is_written_as(octets: &[u8], written: &[u8]) -> bool {
-    match read_packet(octets, Numbering::Modulo8) {
+/// Whether octets are a packet of this numbering that is written as these.
+fn is_written_as(numbering: Numbering, octets: &[u8], written: &[u8]) -> bool {
+    match read_packet(octets, numbering, 128) {
         Ok(packet) => {
             let mut buf = PacketBuf::new();
             write_packet(&packet, &mut buf);
@@ -29,7 +29,10 @@ fn reads_and_writes(rt: HostRuntime) {
         (&[0x10, 0x04, 0x0f, 0x00, 0x00], ACCEPTED),
     ];
     for (octets, written) in PAIRS {
-        assert!(rt; is_written_as(octets, written), "{octets:?}");
+        assert!(rt;
+            is_written_as(Numbering::Modulo8, octets, written),
+            "{octets:?}"
+        );
     }
 }
 
@@ -51,13 +54,89 @@ fn writes_what_it_read(rt: HostRuntime) {
         &[0x10, 0x00, 0xff],
     ];
     for octets in PACKETS {
-        assert!(rt; is_written_as(octets, octets), "{octets:?}");
+        assert!(rt;
+            is_written_as(Numbering::Modulo8, octets, octets),
+            "{octets:?}"
+        );
     }
 }
 
+#[test]
+fn writes_what_it_read_modulo_128(rt: HostRuntime) {
+    const PACKETS: &[&[u8]] = &[
+        &[0x20, 0x04, 0x00, 0x00, 0x48, 0x45, 0x4c, 0x4c, 0x4f, 0x0d],
+        &[0xe0, 0x04, 0xfe, 0xfd, 0x48, 0x49],
+        &[0x20, 0x01, 0x02, 0x00],
+        &[0x20, 0x04, 0x01, 0x02],
+        &[0x20, 0x04, 0x05, 0xfe],
+        &[0x20, 0x04, 0x0b, 0x04, 0x20, 0x01, 0x00],
+        &[0x20, 0x04, 0x0f],
+        &[0x20, 0x04, 0x13, 0x03, 0x00],
+        &[0x20, 0x04, 0x23, 0x01],
+        &[0x20, 0x00, 0xfb, 0x07, 0x00],
+        &[0x20, 0x00, 0xff],
+    ];
+    for octets in PACKETS {
+        assert!(rt;
+            is_written_as(Numbering::Modulo128, octets, octets),
+            "{octets:?}"
+        );
+    }
+}
+
+/// Whether octets are one Data packet, with these numbers and user data, M = 1, Q = 1 and D = 0.
+fn is_more(numbering: Numbering, octets: &[u8], send: u8, receive: u8, user_data: &[u8]) -> bool {
+    match read_packet(octets, numbering, 128) {
+        Ok(packet) => match packet.content {
+            Content::Data(data) => {
+                data.more
+                    && data.qualified
+                    && !data.delivery
+                    && (data.send, data.receive) == (send, receive)
+                    && data.user_data == user_data
+            }
+            _ => false,
+        },
+        Err(_) => false,
+    }
+}
+
+/// Whether octets are RNR with this number.
+fn is_not_ready(numbering: Numbering, octets: &[u8], receive: u8) -> bool {
+    match read_packet(octets, numbering, 128) {
+        Ok(packet) => packet.content == Content::ReceiveNotReady(receive),
+        Err(_) => false,
+    }
+}
+
+#[test]
+fn numbers(rt: HostRuntime) {
+    const HI: &[u8] = &[0x48, 0x49];
+    assert!(rt;
+        is_more(
+            Numbering::Modulo8,
+            &[0x90, 0x04, 0xdc, 0x48, 0x49],
+            6,
+            6,
+            HI
+        )
+    );
+    assert!(rt;
+        is_more(
+            Numbering::Modulo128,
+            &[0xa0, 0x04, 0xfe, 0xcb, 0x48, 0x49],
+            127,
+            101,
+            HI
+        )
+    );
+    assert!(rt; is_not_ready(Numbering::Modulo8, &[0x10, 0x04, 0xe5], 7));
+    assert!(rt; is_not_ready(Numbering::Modulo128, &[0x20, 0x04, 0x05, 0x0e], 7));
+}
+
 /// Whether octets have this fault, or none.
-fn has_fault(octets: &[u8], wanted: Option<PacketFault>) -> bool {
-    match read_packet(octets, Numbering::Modulo8) {
+fn has_fault(numbering: Numbering, size: u16, octets: &[u8], wanted: Option<PacketFault>) -> bool {
+    match read_packet(octets, numbering, size) {
         Ok(_) => wanted.is_none(),
         Err(fault) => wanted == Some(fault),
     }
@@ -83,18 +162,62 @@ fn faults(rt: HostRuntime) {
         (&[], PacketFault::TooShort),
     ];
     for (octets, fault) in FAULTS {
-        assert!(rt; has_fault(octets, Some(*fault)), "{octets:?}");
+        assert!(rt;
+            has_fault(Numbering::Modulo8, 128, octets, Some(*fault)),
+            "{octets:?}"
+        );
     }
 }
 
 #[test]
-fn data_have_128_octets_at_most(rt: HostRuntime) {
-    let mut long = [0x41; 132];
+fn faults_modulo_128(rt: HostRuntime) {
+    const FAULTS: &[(&[u8], PacketFault)] = &[
+        (&[0x20, 0x04], PacketFault::TooShort),
+        (&[0x10, 0x04, 0x00, 0x00], PacketFault::BadFormatId),
+        (&[0x20, 0x04, 0x21], PacketFault::UnknownType),
+        (&[0x20, 0x04, 0x01, 0x03], PacketFault::UnknownType),
+        (&[0x20, 0x04, 0x05, 0x01], PacketFault::UnknownType),
+        (&[0xa0, 0x04, 0x01, 0x02], PacketFault::UnknownType),
+        (&[0x20, 0x00, 0x01, 0x02], PacketFault::UnknownType),
+        (&[0x20, 0x04, 0x00], PacketFault::BadLength),
+        (&[0x20, 0x04, 0x01], PacketFault::BadLength),
+        (&[0x20, 0x04, 0x05], PacketFault::BadLength),
+        (&[0x20, 0x04, 0x01, 0x02, 0x00], PacketFault::BadLength),
+    ];
+    for (octets, fault) in FAULTS {
+        assert!(rt;
+            has_fault(Numbering::Modulo128, 128, octets, Some(*fault)),
+            "{octets:?}"
+        );
+    }
+}
+
+#[test]
+fn data_are_not_beyond_the_size(rt: HostRuntime) {
+    let mut long = [0x41; 261];
     long[0] = 0x10;
     long[1] = 0x01;
     long[2] = 0x00;
-    assert!(rt; has_fault(&long, Some(PacketFault::DataTooLong)));
-    assert!(rt; has_fault(&long[..131], None));
+    assert!(rt; has_fault(Numbering::Modulo8, 128, &long[..131], None));
+    assert!(rt;
+        has_fault(
+            Numbering::Modulo8,
+            128,
+            &long[..132],
+            Some(PacketFault::DataTooLong)
+        )
+    );
+    long[0] = 0x20;
+    long[3] = 0x02;
+    assert!(rt; has_fault(Numbering::Modulo128, 256, &long[..260], None));
+    assert!(rt;
+        has_fault(
+            Numbering::Modulo128,
+            256,
+            &long,
+            Some(PacketFault::DataTooLong)
+        )
+    );
 }
 
 /// A Call by its octets: the addresses, that of the caller empty for none, the facilities and the user data.
@@ -116,7 +239,7 @@ impl Call<'_> {
 
     /// Whether its octets are a Call that tells this, also where it is kept in a buffer.
     fn is_read(&self) -> bool {
-        let Ok(packet) = read_packet(self.octets, Numbering::Modulo8) else {
+        let Ok(packet) = read_packet(self.octets, Numbering::Modulo8, 128) else {
             return false;
         };
         match &packet.content {
@@ -177,7 +300,7 @@ fn call_blocks(rt: HostRuntime) {
         },
     ];
     for call in CALLS {
-        assert!(rt; is_written_as(call.octets, call.octets) && call.is_read());
+        assert!(rt; is_written_as(Numbering::Modulo8, call.octets, call.octets) && call.is_read());
     }
 }
 
@@ -200,7 +323,7 @@ fn is_2001(address: &Address) -> bool {
 
 /// Whether octets are a packet of this type, on this channel.
 fn is_headed(octets: &[u8], wanted: PacketType, channel: u16) -> bool {
-    match read_packet(octets, Numbering::Modulo8) {
+    match read_packet(octets, Numbering::Modulo8, 128) {
         Ok(packet) => packet.content.packet_type() == wanted && packet.channel == channel,
         Err(_) => false,
     }

@@ -33,12 +33,8 @@ impl Model for Station {
 impl Station {
     pub(crate) fn new(alloc: Global, role: Role, params: LayerParams) -> Result<Self, MakeFault> {
         let layer = Layer::new(alloc, role, params)?;
-        let LayerParams {
-            channels,
-            window,
-            ..
-        } = params;
-        let buffers = usize::from(channels) * (usize::from(window) + SEND_QUEUE) + 1;
+        let LayerParams { channels, flow, .. } = params;
+        let buffers = usize::from(channels) * (usize::from(flow.window) + SEND_QUEUE) + 1;
         let pool = Pool::new(alloc, buffers, MAX_USER_DATA)?;
         Ok(Station { layer, pool })
     }

@@ -60,6 +60,11 @@ pub(crate) enum Turn<'a> {
     Dce(Step<'a>),
     ToDce(&'a [u8]),
     ToDte(&'a [u8]),
+    /// Packets numbered modulo 128 go from the DTE to the DCE on channel 1, from the first of these numbers on and up
+    /// to the second. Each has one octet, its number before it is taken modulo 128.
+    Sends(u8, u8),
+    /// The DCE takes these packets and lets P(R) pass each.
+    Takes(u8, u8),
 }
 
 /// Whether all turns fit.
@@ -77,7 +82,32 @@ fn fits(dte: &mut Station, dce: &mut Station, turn: &Turn<'_>) -> bool {
         Turn::Dce(step) => step_fits(dce, step),
         Turn::ToDce(octets) => delivers(dte, dce, octets),
         Turn::ToDte(octets) => delivers(dce, dte, octets),
+        Turn::Sends(first, end) => sends_all(dte, dce, *first, *end),
+        Turn::Takes(first, end) => takes_all(dce, *first, *end),
     }
+}
+
+fn sends_all(from: &mut Station, to: &mut Station, first: u8, end: u8) -> bool {
+    let mut all = true;
+    for number in first..end {
+        all = all && sends(from, to, number);
+    }
+    all
+}
+
+// P(S) has the upper seven bits of its octet, and P(R) is 0.
+fn sends(from: &mut Station, to: &mut Station, number: u8) -> bool {
+    from.send(1, &[number], false).is_ok()
+        && delivers(from, to, &[0x20, 0x01, number % 128 * 2, 0x00, number])
+}
+
+fn takes_all(station: &mut Station, first: u8, end: u8) -> bool {
+    let mut all = true;
+    for number in first..end {
+        all = all && takes(station, 1, Some(&[number]));
+        station.release(1, 1);
+    }
+    all
 }
 
 fn delivers(from: &mut Station, to: &mut Station, octets: &[u8]) -> bool {

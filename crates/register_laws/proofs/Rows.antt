@@ -1,9 +1,10 @@
 -- A worked run of two lines, by computation: a call on each, placed and accepted in turns, and data on both.
-use Rattle.std.proofs.Common.{◌≡◌, ℕ, zero, suc, ◌≤◌, false, List, [], ◌∷◌, Some, None, refl, subst, arith}
+use Rattle.std.proofs.Common.{◌≡◌, ℕ, zero, suc, ◌<◌, false, List, [], ◌∷◌, Some, None, refl, subst, arith}
 use Rattle.std.specs.Prelude.{slice_get}
 use Rattle.std.proofs.lemmas.Option.{none-some, same_Some}
 use Rattle.link_timers.specs.declared.role.Role.TheVariants.{Dte, Dce}
 use Rattle.epochs.specs.Epoch.{nothing_sent, nothing_taken}
+use Rattle.packet_layer.specs.Flow.{modulo_8}
 use Rattle.packet_layer.specs.Packets.Note.{Incoming, Connected}
 use Rattle.packet_layer.specs.Traffic.Taken.{TakenPacket}
 use Rattle.packet_layer.specs.Channel.Request.{Accept, Sending, Taking}
@@ -31,7 +32,7 @@ abbrev moves : List Move
 moves = set_up (called (says 72 []))
 
 abbrev world : ℕ → ℕ → World
-world a b = start a b 1 2 false
+world a b = start a b 1 (modulo_8 2) false
 
 is_allowed : (a b : ℕ) → AreAllowed moves (world a b)
 is_allowed a b = (zero_one, (zero_one, (tt, (tt, (one_one, (one_one, (tt, (tt, (one_one, (tt, (tt, (one_one, (tt, (tt, (one_one, (tt, tt))))))))))))))))
@@ -39,11 +40,11 @@ is_allowed a b = (zero_one, (zero_one, (tt, (tt, (one_one, (one_one, (tt, (tt, (
 abbrev book : ℕ → ℕ → Book
 book a b = (after_all moves (world a b)).book
 
-small : 2 ≤ 7
+small : 2 < 8
 small = omega arith
 
 book_is_right : (a b : ℕ) → BookHolds (book a b)
-book_is_right a b = book_holds a b 1 2 false one_one small moves (is_allowed a b)
+book_is_right a b = book_holds a b 1 (modulo_8 2) false one_one small moves (is_allowed a b)
 
 -- ---- the same, written in turns
 
@@ -122,8 +123,8 @@ all_holds = promised all (book 3 4 ∷ book 5 6 ∷ []) all_seen books_hold
 
 -- the four records are open and present
 books_have : (line : ℕ) (b : Book) → slice_get (book 3 4 ∷ book 5 6 ∷ []) line ≡ Some b → HaveRecords b
-books_have zero b at = subst HaveRecords (same_Some (book 3 4) b at) (have_records 3 4 1 2 false one_one small moves (is_allowed 3 4))
-books_have (suc zero) b at = subst HaveRecords (same_Some (book 5 6) b at) (have_records 5 6 1 2 false one_one small moves (is_allowed 5 6))
+books_have zero b at = subst HaveRecords (same_Some (book 3 4) b at) (have_records 3 4 1 (modulo_8 2) false one_one small moves (is_allowed 3 4))
+books_have (suc zero) b at = subst HaveRecords (same_Some (book 5 6) b at) (have_records 5 6 1 (modulo_8 2) false one_one small moves (is_allowed 5 6))
 books_have (suc (suc line)) b at = absurd (none-some b at)
 
 all_have_records : HasRecords all
@@ -133,7 +134,7 @@ all_have_records = records_seen all (book 3 4 ∷ book 5 6 ∷ []) all_seen book
 has_callee : HasCallee (book_at 1 all) Dte 1
 has_callee =
     callee_seen all (book 3 4 ∷ book 5 6 ∷ []) 1 (book 5 6) Dte 1 refl all_seen
-    ((are_answered 5 6 1 2 false one_one small moves (is_allowed 5 6)).placed Dte 1 _ refl refl refl)
+    ((are_answered 5 6 1 (modulo_8 2) false one_one small moves (is_allowed 5 6)).placed Dte 1 _ refl refl refl)
 
 -- the callers have the first two numbers, and the second line accepted first
 pairs_are : all.pairs ≡ record { caller = 1; callee = 2 } ∷ record { caller = 0; callee = 3 } ∷ []

@@ -3,6 +3,7 @@ use Rattle.std.proofs.Common.{◌≡◌, ℕ, Bool, true, false, List, refl, sym
 use Rattle.std.specs.Prelude.{◌≢◌, Option, Some, None}
 use Rattle.link_timers.specs.declared.role.Role.{Role}
 use Rattle.link_timers.specs.declared.role.Role.TheVariants.{Dte, Dce}
+use Rattle.packet_channel.specs.declared.flow.Flow.{Flow}
 use Rattle.call_states.specs.declared.table.CallNote.TheVariants.{InDataTransfer}
 use Rattle.call_states.specs.declared.table.CallStep.{CallStep}
 use Rattle.reset_restart.specs.declared.reset.ResetStep.{ResetStep}
@@ -28,61 +29,61 @@ of_followed None None row P none e ne h = absurd h
 of_followed None (Some x) row P none e ne h = let same : x ≡ row = cc in subst P same (h (λ q. ne (ap (λ (r : CallStep). r.note) (sym same) ∙ q)))
 of_followed (Some x) found row P none e ne h = absurd (cc)
 
-abbrev pub FollowedAt : Role → ℕ → Channel → Received → Type 0
-FollowedAt role window ch r = Followed (reset_row role ch r) (call_row role ch r) (λ row. FollowsCall role (channel_named r) (body_read r) ch row (step_by role window ch r))
+abbrev pub FollowedAt : Role → Flow → Channel → Received → Type 0
+FollowedAt role flow ch r = Followed (reset_row role ch r) (call_row role ch r) (λ row. FollowsCall role (channel_named r) (body_read r) ch row (step_by role flow ch r))
 
-whole_followed : (role : Role) (window : ℕ) (s : CallState) (resetting : Bool) (owed : List Body) (t : Traffic) (c : ℕ) (b : Body)
-    → FollowedAt role window (channel_in s resetting owed t) (Whole (packet_on c b))
-whole_followed Dte window Ready resetting owed t c (body.Call parts) = search
-whole_followed Dte window Ready resetting owed t c _ = search
-whole_followed Dte window OwnWaiting resetting owed t c (body.Call parts) = search
-whole_followed Dte window OwnWaiting resetting owed t c _ = search
-whole_followed Dte window FarWaiting resetting owed t c (body.Call parts) = search
-whole_followed Dte window FarWaiting resetting owed t c _ = search
-whole_followed Dte window Transfer true owed t c (body.Call parts) = search
-whole_followed Dte window Transfer true owed t c _ = search
-whole_followed Dte window Transfer false owed t c (body.Data send receive d) = λ ne. absurd (ne refl)
-whole_followed Dte window Transfer false owed t c (body.Interrupt octets) = λ ne. absurd (ne refl)
-whole_followed Dte window Transfer false owed t c body.InterruptConfirmation = λ ne. absurd (ne refl)
-whole_followed Dte window Transfer false owed t c (body.ReceiveReady receive) = λ ne. absurd (ne refl)
-whole_followed Dte window Transfer false owed t c (body.ReceiveNotReady receive) = λ ne. absurd (ne refl)
-whole_followed Dte window Transfer false owed t c _ = search
-whole_followed Dte window Collision resetting owed t c (body.Call parts) = search
-whole_followed Dte window Collision resetting owed t c _ = search
-whole_followed Dte window OwnClear resetting owed t c (body.Call parts) = search
-whole_followed Dte window OwnClear resetting owed t c _ = search
-whole_followed Dce window Ready resetting owed t c (body.Call parts) = search
-whole_followed Dce window Ready resetting owed t c _ = search
-whole_followed Dce window OwnWaiting resetting owed t c (body.Call parts) = search
-whole_followed Dce window OwnWaiting resetting owed t c _ = search
-whole_followed Dce window FarWaiting resetting owed t c (body.Call parts) = search
-whole_followed Dce window FarWaiting resetting owed t c _ = search
-whole_followed Dce window Transfer true owed t c (body.Call parts) = search
-whole_followed Dce window Transfer true owed t c _ = search
-whole_followed Dce window Transfer false owed t c (body.Data send receive d) = λ ne. absurd (ne refl)
-whole_followed Dce window Transfer false owed t c (body.Interrupt octets) = λ ne. absurd (ne refl)
-whole_followed Dce window Transfer false owed t c body.InterruptConfirmation = λ ne. absurd (ne refl)
-whole_followed Dce window Transfer false owed t c (body.ReceiveReady receive) = λ ne. absurd (ne refl)
-whole_followed Dce window Transfer false owed t c (body.ReceiveNotReady receive) = λ ne. absurd (ne refl)
-whole_followed Dce window Transfer false owed t c _ = search
-whole_followed Dce window Collision resetting owed t c (body.Call parts) = search
-whole_followed Dce window Collision resetting owed t c _ = search
-whole_followed Dce window OwnClear resetting owed t c (body.Call parts) = search
-whole_followed Dce window OwnClear resetting owed t c _ = search
+whole_followed : (role : Role) (flow : Flow) (s : CallState) (resetting : Bool) (owed : List Body) (t : Traffic) (c : ℕ) (b : Body)
+    → FollowedAt role flow (channel_in s resetting owed t) (Whole (packet_on c b))
+whole_followed Dte flow Ready resetting owed t c (body.Call parts) = search
+whole_followed Dte flow Ready resetting owed t c _ = search
+whole_followed Dte flow OwnWaiting resetting owed t c (body.Call parts) = search
+whole_followed Dte flow OwnWaiting resetting owed t c _ = search
+whole_followed Dte flow FarWaiting resetting owed t c (body.Call parts) = search
+whole_followed Dte flow FarWaiting resetting owed t c _ = search
+whole_followed Dte flow Transfer true owed t c (body.Call parts) = search
+whole_followed Dte flow Transfer true owed t c _ = search
+whole_followed Dte flow Transfer false owed t c (body.Data send receive d) = λ ne. absurd (ne refl)
+whole_followed Dte flow Transfer false owed t c (body.Interrupt octets) = λ ne. absurd (ne refl)
+whole_followed Dte flow Transfer false owed t c body.InterruptConfirmation = λ ne. absurd (ne refl)
+whole_followed Dte flow Transfer false owed t c (body.ReceiveReady receive) = λ ne. absurd (ne refl)
+whole_followed Dte flow Transfer false owed t c (body.ReceiveNotReady receive) = λ ne. absurd (ne refl)
+whole_followed Dte flow Transfer false owed t c _ = search
+whole_followed Dte flow Collision resetting owed t c (body.Call parts) = search
+whole_followed Dte flow Collision resetting owed t c _ = search
+whole_followed Dte flow OwnClear resetting owed t c (body.Call parts) = search
+whole_followed Dte flow OwnClear resetting owed t c _ = search
+whole_followed Dce flow Ready resetting owed t c (body.Call parts) = search
+whole_followed Dce flow Ready resetting owed t c _ = search
+whole_followed Dce flow OwnWaiting resetting owed t c (body.Call parts) = search
+whole_followed Dce flow OwnWaiting resetting owed t c _ = search
+whole_followed Dce flow FarWaiting resetting owed t c (body.Call parts) = search
+whole_followed Dce flow FarWaiting resetting owed t c _ = search
+whole_followed Dce flow Transfer true owed t c (body.Call parts) = search
+whole_followed Dce flow Transfer true owed t c _ = search
+whole_followed Dce flow Transfer false owed t c (body.Data send receive d) = λ ne. absurd (ne refl)
+whole_followed Dce flow Transfer false owed t c (body.Interrupt octets) = λ ne. absurd (ne refl)
+whole_followed Dce flow Transfer false owed t c body.InterruptConfirmation = λ ne. absurd (ne refl)
+whole_followed Dce flow Transfer false owed t c (body.ReceiveReady receive) = λ ne. absurd (ne refl)
+whole_followed Dce flow Transfer false owed t c (body.ReceiveNotReady receive) = λ ne. absurd (ne refl)
+whole_followed Dce flow Transfer false owed t c _ = search
+whole_followed Dce flow Collision resetting owed t c (body.Call parts) = search
+whole_followed Dce flow Collision resetting owed t c _ = search
+whole_followed Dce flow OwnClear resetting owed t c (body.Call parts) = search
+whole_followed Dce flow OwnClear resetting owed t c _ = search
 
-unknown_followed : (role : Role) (window : ℕ) (s : CallState) (resetting : Bool) (owed : List Body) (t : Traffic) (c : ℕ) → FollowedAt role window (channel_in s resetting owed t) (Unknown c)
-unknown_followed Dte window Transfer true owed t c = search
-unknown_followed Dte window _ _ owed t c = search
-unknown_followed Dce window Transfer true owed t c = search
-unknown_followed Dce window _ _ owed t c = search
+unknown_followed : (role : Role) (flow : Flow) (s : CallState) (resetting : Bool) (owed : List Body) (t : Traffic) (c : ℕ) → FollowedAt role flow (channel_in s resetting owed t) (Unknown c)
+unknown_followed Dte flow Transfer true owed t c = search
+unknown_followed Dte flow _ _ owed t c = search
+unknown_followed Dce flow Transfer true owed t c = search
+unknown_followed Dce flow _ _ owed t c = search
 
-faulty_followed : (role : Role) (window : ℕ) (s : CallState) (resetting : Bool) (owed : List Body) (t : Traffic) (c : ℕ) → FollowedAt role window (channel_in s resetting owed t) (Faulty c)
-faulty_followed Dte window Transfer true owed t c = search
-faulty_followed Dte window _ _ owed t c = search
-faulty_followed Dce window Transfer true owed t c = search
-faulty_followed Dce window _ _ owed t c = search
+faulty_followed : (role : Role) (flow : Flow) (s : CallState) (resetting : Bool) (owed : List Body) (t : Traffic) (c : ℕ) → FollowedAt role flow (channel_in s resetting owed t) (Faulty c)
+faulty_followed Dte flow Transfer true owed t c = search
+faulty_followed Dte flow _ _ owed t c = search
+faulty_followed Dce flow Transfer true owed t c = search
+faulty_followed Dce flow _ _ owed t c = search
 
-pub followed : (role : Role) (window : ℕ) (ch : Channel) (r : Received) → FollowedAt role window ch r
-followed role window ch (Whole p) = whole_followed role window ch.state ch.resetting ch.owed ch.traffic p.channel p.body
-followed role window ch (Unknown c) = unknown_followed role window ch.state ch.resetting ch.owed ch.traffic c
-followed role window ch (Faulty c) = faulty_followed role window ch.state ch.resetting ch.owed ch.traffic c
+pub followed : (role : Role) (flow : Flow) (ch : Channel) (r : Received) → FollowedAt role flow ch r
+followed role flow ch (Whole p) = whole_followed role flow ch.state ch.resetting ch.owed ch.traffic p.channel p.body
+followed role flow ch (Unknown c) = unknown_followed role flow ch.state ch.resetting ch.owed ch.traffic c
+followed role flow ch (Faulty c) = faulty_followed role flow ch.state ch.resetting ch.owed ch.traffic c

@@ -3,6 +3,7 @@ use Rattle.std.proofs.Common.{◌≡◌, ℕ, zero, suc, Bool, true, false, List
 use Rattle.std.proofs.lemmas.Bool.{ne_eqb}
 use Rattle.std.specs.Prelude.{◌==◌, cond, Option, Some, None, IfSome}
 use Rattle.link_timers.specs.declared.role.Role.{Role}
+use Rattle.packet_channel.specs.declared.flow.Flow.{Flow}
 use Rattle.packet_layer.specs.Packets.{Body, Packet, Received}
 use Rattle.packet_layer.specs.Packets.Received.{Whole, Unknown, Faulty}
 use Rattle.packet_layer.specs.Traffic.{Traffic}
@@ -19,10 +20,10 @@ abbrev pub packet_on : ℕ → Body → Packet
 packet_on c b = record { channel = c; body = b }
 
 -- the step of a channel by what comes
-abbrev pub step_by : Role → ℕ → Channel → Received → Step
-step_by role window ch (Whole p) = received role window p.channel ch p.body
-step_by role window ch (Unknown c) = unreadable role c true ch
-step_by role window ch (Faulty c) = unreadable role c false ch
+abbrev pub step_by : Role → Flow → Channel → Received → Step
+step_by role flow ch (Whole p) = received role flow p.channel ch p.body
+step_by role flow ch (Unknown c) = unreadable role c true ch
+step_by role flow ch (Faulty c) = unreadable role c false ch
 
 -- a fact of the value that there is
 pub of_some : {X : Type 0} (o : Option X) (x : X) (P : X → Type 0) → o ≡ Some x → IfSome o P → P x
@@ -37,9 +38,9 @@ is_not_zero chs (suc i) ch e = ne_eqb (suc i) 0 (λ q. let no : ⊥ = omega arit
 found_step : (l : Layer) (c : ℕ) (ch : Channel) (f : Channel → Step) → l.phase ≡ PacketReady → channel_of l c ≡ Some ch → on_channel l.phase l c f ≡ after_step l c (f ch)
 found_step l c ch f ready found = ap (λ (ph : Phase). on_channel ph l c f) ready ∙ ap (λ (o : Option Channel). on_found l c f o) found
 
-pub comes_step : (l : Layer) (r : Received) (ch : Channel) → ComesOn l r ch → on_packet l r ≡ after_step (unread l) (channel_named r) (step_by l.role l.window ch r)
+pub comes_step : (l : Layer) (r : Received) (ch : Channel) → ComesOn l r ch → on_packet l r ≡ after_step (unread l) (channel_named r) (step_by l.role l.flow ch r)
 comes_step l (Whole p) ch at =
-    ap (λ (z : Bool). cond z (restart_packet l.phase p.body (unread l)) (on_channel l.phase (unread l) p.channel (λ x. received l.role l.window p.channel x p.body))) (is_not_zero l.channels p.channel ch at.found)
-    ∙ found_step (unread l) p.channel ch (λ x. received l.role l.window p.channel x p.body) at.ready at.found
+    ap (λ (z : Bool). cond z (restart_packet l.phase p.body (unread l)) (on_channel l.phase (unread l) p.channel (λ x. received l.role l.flow p.channel x p.body))) (is_not_zero l.channels p.channel ch at.found)
+    ∙ found_step (unread l) p.channel ch (λ x. received l.role l.flow p.channel x p.body) at.ready at.found
 comes_step l (Unknown c) ch at = found_step (unread l) c ch (λ x. unreadable l.role c true x) at.ready at.found
 comes_step l (Faulty c) ch at = found_step (unread l) c ch (λ x. unreadable l.role c false x) at.ready at.found

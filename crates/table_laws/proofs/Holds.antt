@@ -20,15 +20,15 @@ use Rattle.table_laws.proofs.Restarts.{restart_at, unreadable_at}
 
 pub call_packets : CallPackets
 call_packets l r ch row at none e ne =
-    (step_by l.role l.window ch r, comes_step l r ch at, of_followed (reset_row l.role ch r) (call_row l.role ch r) row (λ x. FollowsCall l.role (channel_named r) (body_read r) ch x (step_by l.role l.window ch r)) none e ne (followed l.role l.window ch r))
+    (step_by l.role l.flow ch r, comes_step l r ch at, of_followed (reset_row l.role ch r) (call_row l.role ch r) row (λ x. FollowsCall l.role (channel_named r) (body_read r) ch x (step_by l.role l.flow ch r)) none e ne (followed l.role l.flow ch r))
 
 pub reset_packets : ResetPackets
 reset_packets l r ch row at e =
-    (step_by l.role l.window ch r, comes_step l r ch at, of_some (reset_row l.role ch r) row (λ x. FollowsReset l.role (channel_named r) (body_read r) ch x (step_by l.role l.window ch r)) e (reset_at l.role l.window ch r))
+    (step_by l.role l.flow ch r, comes_step l r ch at, of_some (reset_row l.role ch r) row (λ x. FollowsReset l.role (channel_named r) (body_read r) ch x (step_by l.role l.flow ch r)) e (reset_at l.role l.flow ch r))
 
 pub data_packets : DataPackets
 data_packets l p ch row at none e n =
-    (step_by l.role l.window ch (Whole p), comes_step l (Whole p) ch at, of_left (reset_row l.role ch (Whole p)) (call_row l.role ch (Whole p)) row (λ x. Heeds l.role l.window p.channel ch p.body x) none e n (left_at l.role l.window ch p.channel p.body))
+    (step_by l.role l.flow ch (Whole p), comes_step l (Whole p) ch at, of_left (reset_row l.role ch (Whole p)) (call_row l.role ch (Whole p)) row (λ x. Heeds l.role l.flow p.channel ch p.body x) none e n (left_at l.role l.flow ch p.channel p.body))
 
 found_request : (l : Layer) (c : ℕ) (ch : Channel) (r : Request) → channel_of l c ≡ Some ch → request l c r ≡ after_step l c (requested l.role ch r)
 found_request l c ch r found = ap (λ (o : Option Channel). on_found l c (λ x. requested l.role x r) o) found

@@ -57,7 +57,7 @@ abbrev pub DataPackets : Type 0
 DataPackets =
     (l : Layer) (p : Packet) (ch : Channel) (row : CallStep) → ComesOn l (Whole p) ch
     → reset_row l.role ch (Whole p) ≡ None → call_row l.role ch (Whole p) ≡ Some row → row.note ≡ InDataTransfer
-    → Steps l (Whole p) (λ done. (done ≡ after_heard l.role p.channel ch (hears l.window ch.traffic p.body))
+    → Steps l (Whole p) (λ done. (done ≡ after_heard l.role p.channel ch (hears l.flow ch.traffic p.body))
     × (call_state l.role done.channel.state ≡ row.state))
 
 -- ---- what the user does

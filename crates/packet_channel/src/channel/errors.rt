@@ -5,6 +5,7 @@ ghost use Rattle.packet_channel.specs.Channel as machine;
 ghost use Rattle.packet_channel.specs.Held.{Fits};
 ghost use Rattle.packet_channel.specs.StateView.{state_of};
 ghost use Rattle.packet_channel.specs.Done.{IsDone};
+ghost use Rattle.packet_channel.specs.declared.flow.Flow.{Flow as FlowValue};
 
 use crate::channel::Channel;
 use crate::control::Control;
@@ -161,7 +162,7 @@ impl Channel {
         ensures done { IsDone (machine.unreadable end.role end.channel unknown self.old.channel) self.new.channel
             result notes.new }
         ensures pool { Balances pool.old self.old.held pool.new self.new.held }
-        ensures fits { (window : ℕ) → Fits window self.old → Fits window self.new }
+        ensures fits { (flow : FlowValue) → Fits flow self.old → Fits flow self.new }
     {
         let number = self.state.number(end.role);
         let in_state = diagnostic_if(unknown, diagnostic::NOT_ALLOWED_IN_P + number);

@@ -1,14 +1,15 @@
 //! Packets from the link, by the state of the call (X.25 tables C-3 and C-4).
 ghost use Rattle.std.specs.Prelude.{◌≡◌, ◌≤◌, ◌<◌, ℕ, [], length, true, false};
 ghost use Rattle.flow_window.specs.Pool.{Holds, Balances, in_use};
-ghost use Rattle.packet_codec.specs.Packet.{IsPacket};
-ghost use Rattle.packet_codec.specs.View.{view, content_view};
+ghost use Rattle.packet_codec.specs.Packet.{IsContentOn};
+ghost use Rattle.packet_codec.specs.View.{content_view};
 ghost use Rattle.packet_channel.specs.Packets.{Body as body};
 ghost use Rattle.packet_channel.specs.Channel as machine;
 ghost use Rattle.packet_channel.specs.Held.{Fits};
 ghost use Rattle.packet_channel.specs.Octets.{body_of};
 ghost use Rattle.packet_channel.specs.HeardView.{heard_of};
 ghost use Rattle.packet_channel.specs.Done.{IsDone};
+ghost use Rattle.packet_channel.specs.declared.flow.Flow.{Flow as FlowValue};
 
 use crate::channel::Channel;
 use crate::control::Control;
@@ -18,7 +19,7 @@ use crate::notes::Notes;
 use crate::state::{CallState, End};
 use flow_window::pool::Pool;
 use link_timers::Role;
-use packet_codec::{CallBuf, Content, Packet, clear_cause, diagnostic};
+use packet_codec::{CallBuf, Content, Numbering, Packet, clear_cause, diagnostic};
 
 impl Channel {
     /// Takes a packet that the link brings, and answers whether one control packet too many is owed.
@@ -29,16 +30,16 @@ impl Channel {
         pool: &mut Pool,
         notes: &mut Notes,
     ) -> bool
-        requires window { end.window ≤ 7 }
-        requires fits { IsPacket (view packet.now) }
+        requires window { end.flow.window ≤ 32 }
+        requires fits { IsContentOn end.flow.numbering 128 packet.now.channel (content_view packet.now.content) }
         requires holds { Holds pool.old self.old.held }
         requires read { notes.old ≡ [] }
         requires size { 128 ≤ pool.old.size }
         requires room { in_use pool.old < length pool.old.places }
-        ensures done { IsDone (machine.received end.role end.window end.channel self.old.channel
+        ensures done { IsDone (machine.received end.role end.flow end.channel self.old.channel
             (body_of (content_view packet.now.content))) self.new.channel result notes.new }
         ensures pool { Balances pool.old self.old.held pool.new self.new.held }
-        ensures fits { Fits end.window self.old → Fits end.window self.new }
+        ensures fits { Fits end.flow self.old → Fits end.flow self.new }
     {
         match self.state {
             CallState::Ready => self.in_ready(end, packet, pool, notes),
@@ -62,13 +63,13 @@ impl Channel {
         notes: &mut Notes,
     ) -> bool
         requires state { self.old.channel.state ≡ machine.CallState.Ready }
-        requires fits { IsPacket (view packet.now) }
+        requires fits { IsContentOn end.flow.numbering 128 packet.now.channel (content_view packet.now.content) }
         requires holds { Holds pool.old self.old.held }
         requires read { notes.old ≡ [] }
         ensures done { IsDone (machine.in_ready end.role end.channel self.old.channel
             (body_of (content_view packet.now.content))) self.new.channel result notes.new }
         ensures pool { Balances pool.old self.old.held pool.new self.new.held }
-        ensures fits { (window : ℕ) → Fits window self.old → Fits window self.new }
+        ensures fits { (flow : FlowValue) → Fits flow self.old → Fits flow self.new }
     {
         match &packet.content {
             Content::CallRequest(call) => {
@@ -90,13 +91,13 @@ impl Channel {
         notes: &mut Notes,
     ) -> bool
         requires state { self.old.channel.state ≡ machine.CallState.OwnWaiting }
-        requires fits { IsPacket (view packet.now) }
+        requires fits { IsContentOn end.flow.numbering 128 packet.now.channel (content_view packet.now.content) }
         requires holds { Holds pool.old self.old.held }
         requires read { notes.old ≡ [] }
         ensures done { IsDone (machine.in_own_waiting end.role end.channel self.old.channel
             (body_of (content_view packet.now.content))) self.new.channel result notes.new }
         ensures pool { Balances pool.old self.old.held pool.new self.new.held }
-        ensures fits { (window : ℕ) → Fits window self.old → Fits window self.new }
+        ensures fits { (flow : FlowValue) → Fits flow self.old → Fits flow self.new }
     {
         match &packet.content {
             Content::CallAccepted => {
@@ -139,7 +140,7 @@ impl Channel {
         ensures done { IsDone (machine.in_far_waiting end.role end.channel self.old.channel
             (body_of (content_view packet.now.content))) self.new.channel result notes.new }
         ensures pool { Balances pool.old self.old.held pool.new self.new.held }
-        ensures fits { (window : ℕ) → Fits window self.old → Fits window self.new }
+        ensures fits { (flow : FlowValue) → Fits flow self.old → Fits flow self.new }
     {
         match packet.content {
             Content::ClearRequest { cause, diagnostic } => self.far_cleared(
@@ -161,7 +162,7 @@ impl Channel {
         ensures done { IsDone (machine.in_collision end.role end.channel self.old.channel
             (body_of (content_view packet.now.content))) self.new.channel result notes.new }
         ensures pool { Balances pool.old self.old.held pool.new self.new.held }
-        ensures fits { (window : ℕ) → Fits window self.old → Fits window self.new }
+        ensures fits { (flow : FlowValue) → Fits flow self.old → Fits flow self.new }
     {
         match packet.content {
             Content::CallAccepted => match end.role {
@@ -208,7 +209,7 @@ impl Channel {
         ensures done { IsDone (machine.in_own_reset end.role end.channel self.old.channel
             (body_of (content_view packet.now.content))) self.new.channel result notes.new }
         ensures pool { Balances pool.old self.old.held pool.new self.new.held }
-        ensures fits { (window : ℕ) → Fits window self.old → Fits window self.new }
+        ensures fits { (flow : FlowValue) → Fits flow self.old → Fits flow self.new }
     {
         match packet.content {
             Content::ClearRequest { cause, diagnostic } => self.far_cleared(
@@ -234,17 +235,17 @@ impl Channel {
         pool: &mut Pool,
         notes: &mut Notes,
     ) -> bool
-        requires window { end.window ≤ 7 }
-        requires fits { IsPacket (view packet.now) }
+        requires window { end.flow.window ≤ 32 }
+        requires fits { IsContentOn end.flow.numbering 128 packet.now.channel (content_view packet.now.content) }
         requires state { self.old.channel.state ≡ machine.CallState.Transfer }
         requires holds { Holds pool.old self.old.held }
         requires read { notes.old ≡ [] }
         requires size { 128 ≤ pool.old.size }
         requires room { in_use pool.old < length pool.old.places }
-        ensures done { IsDone (machine.in_flow_ready end.role end.window end.channel self.old.channel
+        ensures done { IsDone (machine.in_flow_ready end.role end.flow end.channel self.old.channel
             (body_of (content_view packet.now.content))) self.new.channel result notes.new }
         ensures pool { Balances pool.old self.old.held pool.new self.new.held }
-        ensures fits { Fits end.window self.old → Fits end.window self.new }
+        ensures fits { Fits end.flow self.old → Fits end.flow self.new }
     {
         match packet.content {
             Content::ClearRequest { cause, diagnostic } => self.far_cleared(
@@ -260,15 +261,15 @@ impl Channel {
                 notes,
             ),
             Content::Data(packet) => {
-                let heard = self.traffic.hear_data(end.window, &packet, pool);
+                let heard = self.traffic.hear_data(end.flow, &packet, pool);
                 self.after_heard(end, heard, pool, notes)
             }
             Content::ReceiveReady(receive) => {
-                let heard = self.traffic.hear_ready(receive, false);
+                let heard = self.traffic.hear_ready(end.flow, receive, false);
                 self.after_heard(end, heard, pool, notes)
             }
             Content::ReceiveNotReady(receive) => {
-                let heard = self.traffic.hear_ready(receive, true);
+                let heard = self.traffic.hear_ready(end.flow, receive, true);
                 self.after_heard(end, heard, pool, notes)
             }
             Content::Interrupt(octets) => {
@@ -295,7 +296,7 @@ impl Channel {
         requires state { self.old.channel.state ≡ machine.CallState.Transfer }
         requires holds { Holds pool.old self.old.held }
         requires read { notes.old ≡ [] }
-        ensures done { IsDone (machine.in_flow_ready end.role end.window end.channel self.old.channel
+        ensures done { IsDone (machine.in_flow_ready end.role end.flow end.channel self.old.channel
             (body.Reset cause diagnostic)) self.new.channel result notes.new }
         ensures held { self.new.held ≡ [] }
         ensures pool { Balances pool.old self.old.held pool.new [] }
@@ -319,7 +320,7 @@ impl Channel {
         ensures done { IsDone (machine.after_heard end.role end.channel self.old.channel
             (heard_of heard self.old.channel.traffic)) self.new.channel result notes.new }
         ensures pool { Balances pool.old self.old.held pool.new self.new.held }
-        ensures fits { (window : ℕ) → Fits window self.old → Fits window self.new }
+        ensures fits { (flow : FlowValue) → Fits flow self.old → Fits flow self.new }
     {
         match heard {
             Heard::Keeps(0) => false,

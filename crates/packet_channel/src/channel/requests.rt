@@ -6,6 +6,7 @@ ghost use Rattle.packet_channel.specs.Channel as machine;
 ghost use Rattle.packet_channel.specs.Answers.{Answers, BufAnswers, handed_back};
 ghost use Rattle.packet_channel.specs.Held.{Fits, Takes};
 ghost use Rattle.packet_channel.specs.Packets.{Datum};
+ghost use Rattle.packet_channel.specs.declared.flow.Flow.{Flow as FlowValue};
 ghost use Rattle.packet_channel.specs.RequestView.{request_of, bare_request_of, refusal_of};
 
 use crate::channel::Channel;
@@ -84,7 +85,7 @@ impl Channel {
         requires room { in_use pool.old < length pool.old.places }
         ensures answer { Answers role self.old.channel (request_of request.now) result self.new.channel }
         ensures pool { Balances pool.old self.old.held pool.new self.new.held }
-        ensures fits { (window : ℕ) → Fits window self.old → Fits window self.new }
+        ensures fits { (flow : FlowValue) → Fits flow self.old → Fits flow self.new }
     {
         match request {
             Request::Accept => self.accept(role),
@@ -140,7 +141,7 @@ impl Channel {
         ensures answer { (role : RoleValue)
             → Answers role self.old.channel (machine.Request.Clearing cause diagnostic) result self.new.channel }
         ensures pool { Balances pool.old self.old.held pool.new self.new.held }
-        ensures fits { (window : ℕ) → Fits window self.old → Fits window self.new }
+        ensures fits { (flow : FlowValue) → Fits flow self.old → Fits flow self.new }
     {
         if !self.state.has_call() {
             return Err(ChannelFault::NoCall);
@@ -154,7 +155,7 @@ impl Channel {
         ensures answer { (role : RoleValue)
             → Answers role self.old.channel (machine.Request.Resetting cause diagnostic) result self.new.channel }
         ensures pool { Balances pool.old self.old.held pool.new self.new.held }
-        ensures fits { (window : ℕ) → Fits window self.old → Fits window self.new }
+        ensures fits { (flow : FlowValue) → Fits flow self.old → Fits flow self.new }
     {
         if !self.state.in_transfer() {
             return Err(ChannelFault::NoCall);
@@ -183,7 +184,7 @@ impl Channel {
             (record { octets = octets.now; more = more; qualified = qualified; delivery = delivery }))
             result self.new.channel }
         ensures pool { Balances pool.old self.old.held pool.new self.new.held }
-        ensures fits { (window : ℕ) → Fits window self.old → Fits window self.new }
+        ensures fits { (flow : FlowValue) → Fits flow self.old → Fits flow self.new }
     {
         self.check_send(octets)?;
         let Some(buffer) = pool.put(octets) else {
@@ -210,7 +211,7 @@ impl Channel {
             (record { buffer = buffer; more = more; qualified = qualified; delivery = delivery }) result
             self.new.channel }
         ensures held { Takes self.old.held buffer (handed_back result) self.new.held }
-        ensures fits { (window : ℕ) → Fits window self.old → Fits window self.new }
+        ensures fits { (flow : FlowValue) → Fits flow self.old → Fits flow self.new }
     {
         if let Err(fault) = self.check_send(pool.octets(&buffer)) {
             return Err(RefusedBuf { fault, buffer });

@@ -6,35 +6,38 @@ ghost use Rattle.flow_window.specs.Pool.{Holds, Balances};
 ghost use Rattle.packet_channel.specs.Traffic as machine;
 ghost use Rattle.packet_channel.specs.Octets.{written, ReadsAs};
 
+use crate::flow::Flow;
 use crate::traffic::Traffic;
+use crate::traffic::numbers::shown;
 use flow_window::pool::Pool;
 use packet_codec::{Content, DataPacket, Packet, PacketBuf, write_packet};
 
 impl Traffic {
-    /// Writes the next packet, if there is one, with a window of at most 7.
+    /// Writes the next packet, if there is one, with a window of at most 32.
     pub(crate) fn next_packet(
         &mut self,
-        window: u8,
+        flow: Flow,
         channel: u8,
         buf: &mut PacketBuf,
         pool: &mut Pool,
     ) -> bool
-        requires window { window ≤ 7 }
+        requires window { flow.window ≤ 32 }
         requires channel { 0 < channel }
         requires holds { Holds pool.old self.old.held }
-        ensures traffic { self.new.traffic ≡ (machine.says window self.old.traffic).traffic }
-        ensures said { result ≡ is_some (machine.says window self.old.traffic).body }
-        ensures octets { buf.new.items ≡ written channel (machine.says window self.old.traffic).body buf.old.items }
-        ensures reads_back { ReadsAs channel (machine.says window self.old.traffic).body buf.new.items }
+        ensures traffic { self.new.traffic ≡ (machine.says flow self.old.traffic).traffic }
+        ensures said { result ≡ is_some (machine.says flow self.old.traffic).body }
+        ensures octets { buf.new.items ≡ written flow channel (machine.says flow self.old.traffic).body buf.old.items }
+        ensures reads_back { ReadsAs flow channel (machine.says flow self.old.traffic).body buf.new.items }
         ensures pool { Balances pool.old self.old.held pool.new self.new.held }
         ensures most { length self.new.held ≤ 8 + length self.new.traffic.arrived }
         ensures arrived { self.new.traffic.arrived ≡ self.old.traffic.arrived }
         ensures same { OnFalse result (self.new ≡ self.old) }
     {
         if !self.confirmation_due {
-            return self.next_interrupt(window, channel, buf, pool);
+            return self.next_interrupt(flow, channel, buf, pool);
         }
         let packet = Packet {
+            numbering: flow.numbering,
             channel: u16::from(channel),
             content: Content::InterruptConfirmation,
         };
@@ -45,32 +48,33 @@ impl Traffic {
 
     fn next_interrupt(
         &mut self,
-        window: u8,
+        flow: Flow,
         channel: u8,
         buf: &mut PacketBuf,
         pool: &mut Pool,
     ) -> bool
-        requires window { window ≤ 7 }
+        requires window { flow.window ≤ 32 }
         requires channel { 0 < channel }
         requires holds { Holds pool.old self.old.held }
         ensures traffic { self.new.traffic
-            ≡ (machine.says_interrupt window self.old.traffic.interrupt_waiting self.old.traffic).traffic }
+            ≡ (machine.says_interrupt flow self.old.traffic.interrupt_waiting self.old.traffic).traffic }
         ensures said { result
-            ≡ is_some (machine.says_interrupt window self.old.traffic.interrupt_waiting self.old.traffic).body }
+            ≡ is_some (machine.says_interrupt flow self.old.traffic.interrupt_waiting self.old.traffic).body }
         ensures octets { buf.new.items
-            ≡ written channel (machine.says_interrupt window self.old.traffic.interrupt_waiting self.old.traffic).body
+            ≡ written flow channel (machine.says_interrupt flow self.old.traffic.interrupt_waiting self.old.traffic).body
             buf.old.items }
-        ensures reads_back { ReadsAs channel
-            (machine.says_interrupt window self.old.traffic.interrupt_waiting self.old.traffic).body buf.new.items }
+        ensures reads_back { ReadsAs flow channel
+            (machine.says_interrupt flow self.old.traffic.interrupt_waiting self.old.traffic).body buf.new.items }
         ensures pool { Balances pool.old self.old.held pool.new self.new.held }
         ensures most { length self.new.held ≤ 8 + length self.new.traffic.arrived }
         ensures arrived { self.new.traffic.arrived ≡ self.old.traffic.arrived }
         ensures same { OnFalse result (self.new ≡ self.old) }
     {
         let Some(interrupt) = &self.interrupt_waiting else {
-            return self.next_data(window, channel, buf, pool);
+            return self.next_data(flow, channel, buf, pool);
         };
         let packet = Packet {
+            numbering: flow.numbering,
             channel: u16::from(channel),
             content: Content::Interrupt(interrupt.octets()),
         };
@@ -80,37 +84,38 @@ impl Traffic {
         true
     }
 
-    fn next_data(&mut self, window: u8, channel: u8, buf: &mut PacketBuf, pool: &mut Pool) -> bool
-        requires window { window ≤ 7 }
+    fn next_data(&mut self, flow: Flow, channel: u8, buf: &mut PacketBuf, pool: &mut Pool) -> bool
+        requires window { flow.window ≤ 32 }
         requires channel { 0 < channel }
         requires holds { Holds pool.old self.old.held }
         ensures traffic { self.new.traffic
-            ≡ (machine.says_data window self.old.traffic.waiting self.old.traffic).traffic }
-        ensures said { result ≡ is_some (machine.says_data window self.old.traffic.waiting self.old.traffic).body }
+            ≡ (machine.says_data flow self.old.traffic.waiting self.old.traffic).traffic }
+        ensures said { result ≡ is_some (machine.says_data flow self.old.traffic.waiting self.old.traffic).body }
         ensures octets { buf.new.items
-            ≡ written channel (machine.says_data window self.old.traffic.waiting self.old.traffic).body buf.old.items }
-        ensures reads_back { ReadsAs channel
-            (machine.says_data window self.old.traffic.waiting self.old.traffic).body buf.new.items }
+            ≡ written flow channel (machine.says_data flow self.old.traffic.waiting self.old.traffic).body buf.old.items }
+        ensures reads_back { ReadsAs flow channel
+            (machine.says_data flow self.old.traffic.waiting self.old.traffic).body buf.new.items }
         ensures pool { Balances pool.old self.old.held pool.new self.new.held }
         ensures most { length self.new.held ≤ 8 + length self.new.traffic.arrived }
         ensures arrived { self.new.traffic.arrived ≡ self.old.traffic.arrived }
         ensures same { OnFalse result (self.new ≡ self.old) }
     {
-        if self.send.unacknowledged() >= window || self.partner_busy {
-            return self.next_flow(channel, buf);
+        if self.send.unacknowledged() >= flow.window || self.partner_busy {
+            return self.next_flow(flow, channel, buf);
         }
         let Some(data) = self.waiting.front() else {
-            return self.next_flow(channel, buf);
+            return self.next_flow(flow, channel, buf);
         };
         let packet = DataPacket {
             qualified: data.qualified(),
             delivery: data.delivery(),
             more: data.more(),
-            send: self.send.next_number(),
-            receive: self.released.number(),
+            send: shown(flow.numbering, self.send.next_number()),
+            receive: shown(flow.numbering, self.released.number()),
             user_data: data.octets(pool),
         };
         let packet = Packet {
+            numbering: flow.numbering,
             channel: u16::from(channel),
             content: Content::Data(packet),
         };
@@ -121,24 +126,25 @@ impl Traffic {
         true
     }
 
-    fn next_flow(&mut self, channel: u8, buf: &mut PacketBuf) -> bool
+    fn next_flow(&mut self, flow: Flow, channel: u8, buf: &mut PacketBuf) -> bool
         requires { 0 < channel }
-        ensures traffic { self.new ≡ record self.old { traffic = (machine.says_flow self.old.traffic).traffic } }
-        ensures said { result ≡ is_some (machine.says_flow self.old.traffic).body }
-        ensures octets { buf.new.items ≡ written channel (machine.says_flow self.old.traffic).body buf.old.items }
-        ensures reads_back { ReadsAs channel (machine.says_flow self.old.traffic).body buf.new.items }
+        ensures traffic { self.new ≡ record self.old { traffic = (machine.says_flow flow self.old.traffic).traffic } }
+        ensures said { result ≡ is_some (machine.says_flow flow self.old.traffic).body }
+        ensures octets { buf.new.items ≡ written flow channel (machine.says_flow flow self.old.traffic).body buf.old.items }
+        ensures reads_back { ReadsAs flow channel (machine.says_flow flow self.old.traffic).body buf.new.items }
         ensures same { OnFalse result (self.new ≡ self.old) }
     {
         if !self.untold && self.told_stopped == self.stopped {
             return false;
         }
-        let receive = self.released.number();
+        let receive = shown(flow.numbering, self.released.number());
         let content = if self.stopped {
             Content::ReceiveNotReady(receive)
         } else {
             Content::ReceiveReady(receive)
         };
         let packet = Packet {
+            numbering: flow.numbering,
             channel: u16::from(channel),
             content,
         };

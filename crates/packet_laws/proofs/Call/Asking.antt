@@ -1,6 +1,8 @@
 -- What the user asks in a call keeps the two ends of its epoch in agreement.
 use Rattle.std.proofs.Common.{◌≡◌, ℕ, suc, ◌+◌, ◌%◌, ◌≤◌, Bool, true, false, cond, ◌||◌, List, [], ◌∷◌, ◌++◌, length, Option, Some, None, is_some, refl, sym, ap, subst, ◌∙◌, append_assoc, length-append, arith, true≢false}
 use Rattle.std.proofs.lemmas.Bool.{leb-true}
+use Rattle.packet_channel.specs.declared.flow.Flow.{Flow}
+use Rattle.packet_channel.proofs.Windows.{below_small}
 use Rattle.packet_layer.specs.Packets.{Datum, Body}
 use Rattle.packet_layer.specs.Traffic.{taking_of, front_of, may_release, releasing, confirming, unreleased}
 use Rattle.packet_layer.specs.Channel.{Request}
@@ -19,8 +21,8 @@ pub push_last : {X : Type 0} (a b c d e : List X) → a ++ (b ++ (c ++ (d ++ e))
 push_last a b c d e =
     ap (λ l. a ++ (b ++ l)) (sym (append_assoc c d e)) ∙ ap (λ l. a ++ l) (sym (append_assoc b (c ++ d) e)) ∙ sym (append_assoc a (b ++ (c ++ d)) e)
 
-asks_send : (window : ℕ) (d : Datum) (x y : Inner) (o b : List Body) → Epochs_agree window (pair_of x y o b) → Epochs_agree window (pair_of (inner_after (Sending d) x) y o b)
-asks_send window d x y o b i =
+asks_send : (flow : Flow) (d : Datum) (x y : Inner) (o b : List Body) → Epochs_agree flow (pair_of x y o b) → Epochs_agree flow (pair_of (inner_after (Sending d) x) y o b)
+asks_send flow d x y o b i =
     let s = i.forth.stream in
     record {
       small = i.small;
@@ -42,8 +44,8 @@ none_waits None true e = absurd (true≢false e)
 none_waits None false e = (refl, refl)
 none_waits (Some x) b e = absurd (true≢false e)
 
-asks_interrupt : (window : ℕ) (octets : List ℕ) (x y : Inner) (o b : List Body) → Askable (Interrupting octets) x → Epochs_agree window (pair_of x y o b) → Epochs_agree window (pair_of (inner_after (Interrupting octets) x) y o b)
-asks_interrupt window octets x y o b a i =
+asks_interrupt : (flow : Flow) (octets : List ℕ) (x y : Inner) (o b : List Body) → Askable (Interrupting octets) x → Epochs_agree flow (pair_of x y o b) → Epochs_agree flow (pair_of (inner_after (Interrupting octets) x) y o b)
+asks_interrupt flow octets x y o b a i =
     let u = i.forth.urgent in
     let free = none_waits x.traffic.interrupt_waiting x.traffic.interrupt_unconfirmed a in
     let items0 : y.epoch.interrupts_taken ++ (listed y.traffic.interrupt_arrived ++ (interrupts o ++ [])) ≡ x.epoch.interrupts_sent =
@@ -70,10 +72,10 @@ taken_false true true due p q c e = let n : ⊥ = omega arith in absurd n
 taken_false true false due p q c e = let n : ⊥ = omega arith in absurd n
 taken_false false u due p q c e = refl
 
-asks_take : (window : ℕ) (a : Option (List ℕ)) (ds : List Datum) (x y : Inner) (o b : List Body)
-    → Epochs_agree window (pair_of (record x { traffic = record x.traffic { interrupt_arrived = a; arrived = ds } }) y o b)
-    → Epochs_agree window (pair_of (record { traffic = taking_of a ds (record x.traffic { interrupt_arrived = a; arrived = ds }); epoch = with_taken (front_of a ds) x.epoch }) y o b)
-asks_take window (Some octets) ds x y o b i =
+asks_take : (flow : Flow) (a : Option (List ℕ)) (ds : List Datum) (x y : Inner) (o b : List Body)
+    → Epochs_agree flow (pair_of (record x { traffic = record x.traffic { interrupt_arrived = a; arrived = ds } }) y o b)
+    → Epochs_agree flow (pair_of (record { traffic = taking_of a ds (record x.traffic { interrupt_arrived = a; arrived = ds }); epoch = with_taken (front_of a ds) x.epoch }) y o b)
+asks_take flow (Some octets) ds x y o b i =
     let u = i.back.urgent in
     let free = taken_false x.traffic.interrupt_taken y.traffic.interrupt_unconfirmed x.traffic.confirmation_due _ _ _ u.pending in
     record {
@@ -89,8 +91,8 @@ asks_take window (Some octets) ds x y o b i =
         };
       };
     }
-asks_take window None [] x y o b i = record { small = i.small; forth = record { stream = i.forth.stream; acking = i.forth.acking; urgent = i.forth.urgent }; back = record { stream = i.back.stream; acking = i.back.acking; urgent = i.back.urgent } }
-asks_take window None (d ∷ ds) x y o b i =
+asks_take flow None [] x y o b i = record { small = i.small; forth = record { stream = i.forth.stream; acking = i.forth.acking; urgent = i.forth.urgent }; back = record { stream = i.back.stream; acking = i.back.acking; urgent = i.back.urgent } }
+asks_take flow None (d ∷ ds) x y o b i =
     let s = i.back.stream in
     let k = i.back.acking in
     let same = sym (same_length x.epoch.taken ds d) in
@@ -101,9 +103,9 @@ asks_take window None (d ∷ ds) x y o b i =
       back = record {
         stream = record {
           items = append_assoc x.epoch.taken (d ∷ []) (ds ++ (datas b ++ y.traffic.waiting)) ∙ s.items;
-          numbers = subst (λ (n : ℕ). Numbers n b) same s.numbers;
-          expected = s.expected ∙ ap (λ (n : ℕ). n % 8) same;
-          next = s.next ∙ ap (λ (n : ℕ). (n + length (datas b)) % 8) same;
+          numbers = subst (λ (n : ℕ). Numbers flow n b) same s.numbers;
+          expected = s.expected ∙ ap (λ (n : ℕ). n % 128) same;
+          next = s.next ∙ ap (λ (n : ℕ). (n + length (datas b)) % 128) same;
         };
         acking = record {
           acks = k.acks;
@@ -116,16 +118,16 @@ asks_take window None (d ∷ ds) x y o b i =
       };
     }
 
-asks_release : (window n : ℕ) (ok : Bool) (x y : Inner) (o b : List Body) → may_release n x.traffic ≡ ok → Epochs_agree window (pair_of x y o b)
-    → Epochs_agree window (pair_of (record { traffic = cond ok (releasing n x.traffic) x.traffic; epoch = cond ok (record x.epoch { released = x.epoch.released + n }) x.epoch }) y o b)
-asks_release window n false x y o b e i = record { small = i.small; forth = record { stream = i.forth.stream; acking = i.forth.acking; urgent = i.forth.urgent }; back = record { stream = i.back.stream; acking = i.back.acking; urgent = i.back.urgent } }
-asks_release window n true x y o b e i =
+asks_release : (flow : Flow) (n : ℕ) (ok : Bool) (x y : Inner) (o b : List Body) → may_release n x.traffic ≡ ok → Epochs_agree flow (pair_of x y o b)
+    → Epochs_agree flow (pair_of (record { traffic = cond ok (releasing n x.traffic) x.traffic; epoch = cond ok (record x.epoch { released = x.epoch.released + n }) x.epoch }) y o b)
+asks_release flow n false x y o b e i = record { small = i.small; forth = record { stream = i.forth.stream; acking = i.forth.acking; urgent = i.forth.urgent }; back = record { stream = i.back.stream; acking = i.back.acking; urgent = i.back.urgent } }
+asks_release flow n true x y o b e i =
     let s = i.back.stream in
     let k = i.back.acking in
     let le : n + length x.traffic.arrived ≤ unreleased x.traffic = leb-true (n + length x.traffic.arrived) (unreleased x.traffic) e in
-    let covered_le = acks_le o y.epoch.covered x.epoch.released k.acks in
+    let covered_le = acks_le flow o y.epoch.covered x.epoch.released k.acks in
     let got : ℕ = length x.epoch.taken + length x.traffic.arrived in
-    let w = k.in_window in let sm = i.small in let rt = k.released_taken in
+    let w = k.in_window in let sm = below_small flow i.small in let rt = k.released_taken in
     let rest : x.epoch.released + unreleased x.traffic ≡ got =
     apart x.traffic.released x.traffic.receive_number x.epoch.released got k.released_is s.expected (omega arith) (omega arith) in
     record {
@@ -134,7 +136,7 @@ asks_release window n true x y o b e i =
       back = record {
         stream = s;
         acking = record {
-          acks = acks_more o y.epoch.covered x.epoch.released (x.epoch.released + n) (omega arith) k.acks;
+          acks = acks_more flow o y.epoch.covered x.epoch.released (x.epoch.released + n) (omega arith) k.acks;
           covered_is = k.covered_is;
           released_is = more_mod x.traffic.released x.epoch.released n k.released_is;
           in_window = k.in_window;
@@ -149,11 +151,11 @@ due_false true true p q c e = let n : ⊥ = omega arith in absurd n
 due_false true false p q c e = let n : ⊥ = omega arith in absurd n
 due_false false u p q c e = refl
 
-asks_confirm : (window : ℕ) (tk : Bool) (x y : Inner) (o b : List Body)
-    → Epochs_agree window (pair_of (record x { traffic = record x.traffic { interrupt_taken = tk } }) y o b)
-    → Epochs_agree window (pair_of (record x { traffic = cond tk (confirming (record x.traffic { interrupt_taken = tk })) (record x.traffic { interrupt_taken = tk }) }) y o b)
-asks_confirm window false x y o b i = i
-asks_confirm window true x y o b i =
+asks_confirm : (flow : Flow) (tk : Bool) (x y : Inner) (o b : List Body)
+    → Epochs_agree flow (pair_of (record x { traffic = record x.traffic { interrupt_taken = tk } }) y o b)
+    → Epochs_agree flow (pair_of (record x { traffic = cond tk (confirming (record x.traffic { interrupt_taken = tk })) (record x.traffic { interrupt_taken = tk }) }) y o b)
+asks_confirm flow false x y o b i = i
+asks_confirm flow true x y o b i =
     let u = i.back.urgent in
     let free = due_false x.traffic.confirmation_due y.traffic.interrupt_unconfirmed _ _ _ u.pending in
     record {
@@ -166,14 +168,14 @@ asks_confirm window true x y o b i =
       };
     }
 
-abbrev again : (window : ℕ) (x x' y : Inner) (o b : List Body) → Type 0
-again window x x' y o b = Epochs_agree window (pair_of x y o b) → Epochs_agree window (pair_of x' y o b)
+abbrev again : (flow : Flow) (x x' y : Inner) (o b : List Body) → Type 0
+again flow x x' y o b = Epochs_agree flow (pair_of x y o b) → Epochs_agree flow (pair_of x' y o b)
 
-pub asking : (window : ℕ) (r : Request) (x y : Inner) (o b : List Body) → Askable r x → again window x (inner_after r x) y o b
-asking window (Sending d) x y o b a i = asks_send window d x y o b i
-asking window (Interrupting octets) x y o b a i = asks_interrupt window octets x y o b a i
-asking window (Stopping s) x y o b a i = record { small = i.small; forth = record { stream = i.forth.stream; acking = i.forth.acking; urgent = i.forth.urgent }; back = record { stream = i.back.stream; acking = i.back.acking; urgent = i.back.urgent } }
-asking window Taking x y o b a i = asks_take window x.traffic.interrupt_arrived x.traffic.arrived x y o b i
-asking window (Releasing n) x y o b a i = asks_release window n (may_release n x.traffic) x y o b refl i
-asking window Confirming x y o b a i = asks_confirm window x.traffic.interrupt_taken x y o b i
-asking window _ x y o b a i = i
+pub asking : (flow : Flow) (r : Request) (x y : Inner) (o b : List Body) → Askable r x → again flow x (inner_after r x) y o b
+asking flow (Sending d) x y o b a i = asks_send flow d x y o b i
+asking flow (Interrupting octets) x y o b a i = asks_interrupt flow octets x y o b a i
+asking flow (Stopping s) x y o b a i = record { small = i.small; forth = record { stream = i.forth.stream; acking = i.forth.acking; urgent = i.forth.urgent }; back = record { stream = i.back.stream; acking = i.back.acking; urgent = i.back.urgent } }
+asking flow Taking x y o b a i = asks_take flow x.traffic.interrupt_arrived x.traffic.arrived x y o b i
+asking flow (Releasing n) x y o b a i = asks_release flow n (may_release n x.traffic) x y o b refl i
+asking flow Confirming x y o b a i = asks_confirm flow x.traffic.interrupt_taken x y o b i
+asking flow _ x y o b a i = i

@@ -1,6 +1,8 @@
--- One epoch of a call at both ends: what is sent, on the way, waiting and taken; numbers modulo 8 and the counts they stand for;
+-- One epoch of a call at both ends: what is sent, on the way, waiting and taken; numbers and the counts they stand for;
 -- interrupts and their confirmations.
-use Rattle.std.proofs.Common.{◌≡◌, ℕ, suc, ◌+◌, ◌%◌, ◌≤◌, Bool, true, false, List, [], ◌∷◌, ◌++◌, length, Option, Some, None}
+use Rattle.std.proofs.Common.{◌≡◌, ℕ, suc, ◌+◌, ◌%◌, ◌<◌, ◌≤◌, Bool, true, false, List, [], ◌∷◌, ◌++◌, length, Option, Some, None}
+use Rattle.packet_layer.specs.Flow.{modulus, shown}
+use Rattle.packet_channel.specs.declared.flow.Flow.{Flow}
 use Rattle.packet_layer.specs.Packets.{Datum, Body}
 use Rattle.packet_layer.specs.Packets.Body.{Data, Interrupt, InterruptConfirmation, ReceiveReady, ReceiveNotReady}
 use Rattle.packet_layer.specs.Traffic.{Traffic, Heard, fresh, says, hears, interrupt_pending}
@@ -30,14 +32,14 @@ abbrev pub NotWrong : Heard → Type 0
 NotWrong (Wrong d) = ⊥
 NotWrong _ = Unit {0}
 
-abbrev pub inner_hears : ℕ → Inner → Body → Did Inner
-inner_hears window i b = record { end_ = heard_inner (hears window i.traffic b) i; says = None }
+abbrev pub inner_hears : Flow → Inner → Body → Did Inner
+inner_hears flow i b = record { end_ = heard_inner (hears flow i.traffic b) i; says = None }
 
-abbrev pub inner_ok : ℕ → Inner → Body → Type 0
-inner_ok window i b = NotWrong (hears window i.traffic b)
+abbrev pub inner_ok : Flow → Inner → Body → Type 0
+inner_ok flow i b = NotWrong (hears flow i.traffic b)
 
-abbrev pub inner_says : ℕ → Inner → Did Inner
-inner_says window i = record { end_ = record i { traffic = (says window i.traffic).traffic }; says = (says window i.traffic).body }
+abbrev pub inner_says : Flow → Inner → Did Inner
+inner_says flow i = record { end_ = record i { traffic = (says flow i.traffic).traffic }; says = (says flow i.traffic).body }
 
 -- ---- what is in a pipe
 
@@ -66,42 +68,42 @@ confirmations [] = 0
 confirmations (t ∷ ts) = confirmation_of t + confirmations ts
 
 -- the P(S) on the way follow one another from count k on, and nothing but traffic is on the way
-abbrev pub NumberOf : Body → ℕ → (ℕ → Type 0) → Type 0
-NumberOf (Data s r d) k rest = (s ≡ k % 8) × rest (suc k)
-NumberOf (Interrupt octets) k rest = rest k
-NumberOf InterruptConfirmation k rest = rest k
-NumberOf (ReceiveReady r) k rest = rest k
-NumberOf (ReceiveNotReady r) k rest = rest k
-NumberOf _ k rest = ⊥
+abbrev pub NumberOf : Flow → Body → ℕ → (ℕ → Type 0) → Type 0
+NumberOf flow (Data s r d) k rest = (s ≡ shown flow.numbering k) × rest (suc k)
+NumberOf flow (Interrupt octets) k rest = rest k
+NumberOf flow InterruptConfirmation k rest = rest k
+NumberOf flow (ReceiveReady r) k rest = rest k
+NumberOf flow (ReceiveNotReady r) k rest = rest k
+NumberOf flow _ k rest = ⊥
 
-abbrev pub Numbers : ℕ → List Body → Type 0
-Numbers k [] = Unit {0}
-Numbers k (t ∷ ts) = NumberOf t k (λ j. Numbers j ts)
+abbrev pub Numbers : Flow → ℕ → List Body → Type 0
+Numbers flow k [] = Unit {0}
+Numbers flow k (t ∷ ts) = NumberOf flow t k (λ j. Numbers flow j ts)
 
 -- the P(R) on the way name counts that do not fall, from the last one covered to what is released
-abbrev pub AckOf : Body → ℕ → (ℕ → Type 0) → Type 0
-AckOf (Data s r d) c rest = (n : ℕ) × ((r ≡ n % 8) × (c ≤ n) × rest n)
-AckOf (ReceiveReady r) c rest = (n : ℕ) × ((r ≡ n % 8) × (c ≤ n) × rest n)
-AckOf (ReceiveNotReady r) c rest = (n : ℕ) × ((r ≡ n % 8) × (c ≤ n) × rest n)
-AckOf _ c rest = rest c
+abbrev pub AckOf : Flow → Body → ℕ → (ℕ → Type 0) → Type 0
+AckOf flow (Data s r d) c rest = (n : ℕ) × ((r ≡ shown flow.numbering n) × (c ≤ n) × rest n)
+AckOf flow (ReceiveReady r) c rest = (n : ℕ) × ((r ≡ shown flow.numbering n) × (c ≤ n) × rest n)
+AckOf flow (ReceiveNotReady r) c rest = (n : ℕ) × ((r ≡ shown flow.numbering n) × (c ≤ n) × rest n)
+AckOf flow _ c rest = rest c
 
-abbrev pub Acks : ℕ → List Body → ℕ → Type 0
-Acks c [] f = c ≤ f
-Acks c (t ∷ ts) f = AckOf t c (λ n. Acks n ts f)
+abbrev pub Acks : Flow → ℕ → List Body → ℕ → Type 0
+Acks flow c [] f = c ≤ f
+Acks flow c (t ∷ ts) f = AckOf flow t c (λ n. Acks flow n ts f)
 
 -- ---- from the end x to the end y
 
-pub record Stream (taken arrived waiting sent : List Datum) (receive send : ℕ) (o : List Body) : Type 0 where
+pub record Stream (flow : Flow) (taken arrived waiting sent : List Datum) (receive send : ℕ) (o : List Body) : Type 0 where
   pub items : taken ++ (arrived ++ (datas o ++ waiting)) ≡ sent
-  pub numbers : Numbers (length taken + length arrived) o
-  pub expected : receive ≡ (length taken + length arrived) % 8
-  pub next : send ≡ (length taken + length arrived + length (datas o)) % 8
+  pub numbers : Numbers flow (length taken + length arrived) o
+  pub expected : receive ≡ (length taken + length arrived) % 128
+  pub next : send ≡ (length taken + length arrived + length (datas o)) % 128
 
-pub record Acking (window wire taken covered covered_count released released_count : ℕ) (b : List Body) : Type 0 where
-  pub acks : Acks covered_count b released_count
-  pub covered_is : covered ≡ covered_count % 8
-  pub released_is : released ≡ released_count % 8
-  pub in_window : wire ≤ covered_count + window
+pub record Acking (flow : Flow) (wire taken covered covered_count released released_count : ℕ) (b : List Body) : Type 0 where
+  pub acks : Acks flow covered_count b released_count
+  pub covered_is : covered ≡ covered_count % 128
+  pub released_is : released ≡ released_count % 128
+  pub in_window : wire ≤ covered_count + flow.window
   pub released_taken : released_count ≤ taken
 
 abbrev pub one : Bool → ℕ
@@ -120,16 +122,16 @@ pub record Urgent (taken sent : List (List ℕ)) (arrived waiting : Option (List
 abbrev pub wire : List Datum → List Datum → List Body → ℕ
 wire taken arrived o = length taken + length arrived + length (datas o)
 
-pub record Way (window : ℕ) (x y : Inner) (o b : List Body) : Type 0 where
-  pub stream : Stream y.epoch.taken y.traffic.arrived x.traffic.waiting x.epoch.sent y.traffic.receive_number x.traffic.send_number o
-  pub acking : Acking window (wire y.epoch.taken y.traffic.arrived o) (length y.epoch.taken) x.traffic.covered x.epoch.covered y.traffic.released y.epoch.released b
+pub record Way (flow : Flow) (x y : Inner) (o b : List Body) : Type 0 where
+  pub stream : Stream flow y.epoch.taken y.traffic.arrived x.traffic.waiting x.epoch.sent y.traffic.receive_number x.traffic.send_number o
+  pub acking : Acking flow (wire y.epoch.taken y.traffic.arrived o) (length y.epoch.taken) x.traffic.covered x.epoch.covered y.traffic.released y.epoch.released b
   pub urgent : Urgent y.epoch.interrupts_taken x.epoch.interrupts_sent y.traffic.interrupt_arrived x.traffic.interrupt_waiting x.traffic.interrupt_unconfirmed y.traffic.interrupt_taken y.traffic.confirmation_due o b
 
--- both ways, with a window of at most 7
-pub record Epochs_agree (window : ℕ) (v : Two Inner) : Type 0 where
-  pub small : window ≤ 7
-  pub forth : Way window v.me v.you v.out v.back
-  pub back : Way window v.you v.me v.back v.out
+-- both ways, with a window below the modulus
+pub record Epochs_agree (flow : Flow) (v : Two Inner) : Type 0 where
+  pub small : flow.window < modulus flow.numbering
+  pub forth : Way flow v.me v.you v.out v.back
+  pub back : Way flow v.you v.me v.back v.out
 
 -- ---- what the user asks in the call
 

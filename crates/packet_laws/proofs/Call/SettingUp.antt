@@ -399,17 +399,17 @@ flow_fore r m y (Some b) e out h = path_push r (Open m) (Open m) out (b ∷ []) 
 pub setup_acts : (I : Type 0) (start : I) (Good : Two I → Type 0) (role : Role) (m : Bool) (d : Did I) (w : Two (Use I)) → w.me.stage ≡ Open m → SaysFlow d.says
     → ((z : I) (o l : List Body) → Good (record { me = w.me.call; you = z; out = o; back = l }) → Good (record { me = d.end_; you = z; out = said d.says o; back = l }))
     → UseInv I start Good role w → UseInv I start Good role (does w (in_call d w.me))
-setup_acts I start Good role m d w is_open flow keeps i = record {
+setup_acts I start Good role m d w is_open is_flowing keeps i = record {
   fore = subst (λ (s : Stage). Path (other_of role) s w.you.stage (said d.says w.out)) (sym is_open)
-      (flow_fore (other_of role) m w.you.stage d.says flow w.out (subst (λ (s : Stage). Path (other_of role) s w.you.stage w.out) is_open i.fore));
+      (flow_fore (other_of role) m w.you.stage d.says is_flowing w.out (subst (λ (s : Stage). Path (other_of role) s w.you.stage w.out) is_open i.fore));
   aft = i.aft;
   idle_me = subst (λ (s : Stage). Idle start s d.end_) (sym is_open) tt;
   idle_you = i.idle_you;
-  calls_me = said_called d.says w.me.placed w.out flow i.calls_me;
+  calls_me = said_called d.says w.me.placed w.out is_flowing i.calls_me;
   calls_you = i.calls_you;
   placed_me = i.placed_me;
   placed_you = i.placed_you;
-  call = subst (λ (o : List Body). Good (record { me = d.end_; you = w.you.call; out = o; back = flows w.back })) (sym (flows_said d.says flow w.out)) (keeps w.you.call (flows w.out) (flows w.back) i.call);
+  call = subst (λ (o : List Body). Good (record { me = d.end_; you = w.you.call; out = o; back = flows w.back })) (sym (flows_said d.says is_flowing w.out)) (keeps w.you.call (flows w.out) (flows w.back) i.call);
 }
 
 hear_use : (I : Type 0) (start : I) (Good : Two I → Type 0) (role : Role)
@@ -418,7 +418,7 @@ hear_use : (I : Type 0) (start : I) (Good : Two I → Type 0) (role : Role)
     → (k : Sort) (s : Stage) (x y : Use I) (out : List Body) (t : Body) (ts : List Body) → sort t ≡ k
     → UseInv I start Good role (record { me = record x { stage = s }; you = y; out = out; back = t ∷ ts })
     → use_ok ok role k s x t × UseInv I start Good role (does (record { me = record x { stage = s }; you = y; out = out; back = ts }) (use_hears role start hear k s (record x { stage = s }) t))
-hear_use I start Good role hear ok flow hears Calling Free x y out t ts e i =
+hear_use I start Good role hear ok is_flowing hears Calling Free x y out t ts e i =
     let p : Path role y.stage Waiting ts = subst (λ (k : Sort). Passes role k Free (λ s. Path role y.stage s ts)) e i.aft in (
       tt,
       record {
@@ -433,7 +433,7 @@ hear_use I start Good role hear ok flow hears Calling Free x y out t ts e i =
         call = subst (λ (k : Sort). Good (record { me = x.call; you = y.call; out = flows out; back = kept_flow k t (flows ts) })) e i.call;
       },
     )
-hear_use I start Good role hear ok flow hears Calling Placed x y out t ts e i =
+hear_use I start Good role hear ok is_flowing hears Calling Placed x y out t ts e i =
     let p : Path role y.stage Collided ts = subst (λ (k : Sort). Passes role k Placed (λ s. Path role y.stage s ts)) e i.aft in (
       tt,
       record {
@@ -452,7 +452,7 @@ hear_use I start Good role hear ok flow hears Calling Placed x y out t ts e i =
     twice : (r : Role) → other_of (other_of r) ≡ r
     twice Dte = refl
     twice Dce = refl
-hear_use I start Good role hear ok flow hears Accepting Placed x y out t ts e i =
+hear_use I start Good role hear ok is_flowing hears Accepting Placed x y out t ts e i =
     let p : Path role y.stage (Open true) ts = subst (λ (k : Sort). Passes role k Placed (λ s. Path role y.stage s ts)) e i.aft in (
       tt,
       record {
@@ -468,7 +468,7 @@ hear_use I start Good role hear ok flow hears Accepting Placed x y out t ts e i 
             (subst (λ (k : Sort). Good (record { me = x.call; you = y.call; out = flows out; back = kept_flow k t (flows ts) })) e i.call);
       },
     )
-hear_use I start Good Dte hear ok flow hears Accepting Collided x y out t ts e i =
+hear_use I start Good Dte hear ok is_flowing hears Accepting Collided x y out t ts e i =
     let p : Path Dte y.stage (Open true) ts = subst (λ (k : Sort). Passes Dte k Collided (λ s. Path Dte y.stage s ts)) e i.aft in (
       tt,
       record {
@@ -484,31 +484,31 @@ hear_use I start Good Dte hear ok flow hears Accepting Collided x y out t ts e i
             (subst (λ (k : Sort). Good (record { me = x.call; you = y.call; out = flows out; back = kept_flow k t (flows ts) })) e i.call);
       },
     )
-hear_use I start Good role hear ok flow hears Flowing (Open m) x y out t ts e i =
+hear_use I start Good role hear ok is_flowing hears Flowing (Open m) x y out t ts e i =
     let p : Path role y.stage (Open m) ts = subst (λ (k : Sort). Passes role k (Open m) (λ s. Path role y.stage s ts)) e i.aft in
     let g : Good (record { me = x.call; you = y.call; out = flows out; back = t ∷ flows ts }) = subst (λ (k : Sort). Good (record { me = x.call; you = y.call; out = flows out; back = kept_flow k t (flows ts) })) e i.call in
     let h = hears (record { me = x.call; you = y.call; out = flows out; back = [] }) t (flows ts) g in (
       h.0,
       record {
-        fore = flow_fore (other_of role) m y.stage (hear x.call t).says (flow x.call t) out i.fore;
+        fore = flow_fore (other_of role) m y.stage (hear x.call t).says (is_flowing x.call t) out i.fore;
         aft = p;
         idle_me = tt;
         idle_you = i.idle_you;
-        calls_me = said_called (hear x.call t).says x.placed out (flow x.call t) i.calls_me;
+        calls_me = said_called (hear x.call t).says x.placed out (is_flowing x.call t) i.calls_me;
         calls_you = i.calls_you.1;
         placed_me = i.placed_me;
         placed_you = i.placed_you;
-        call = subst (λ (o : List Body). Good (record { me = (hear x.call t).end_; you = y.call; out = o; back = flows ts })) (sym (flows_said (hear x.call t).says (flow x.call t) out)) h.1;
+        call = subst (λ (o : List Body). Good (record { me = (hear x.call t).end_; you = y.call; out = o; back = flows ts })) (sym (flows_said (hear x.call t).says (is_flowing x.call t) out)) h.1;
       },
     )
-hear_use I start Good role hear ok flow hears k s x y out t ts e i = absurd (subst (λ (k : Sort). Passes role k s (λ z. Path role y.stage z ts)) e i.aft)
+hear_use I start Good role hear ok is_flowing hears k s x y out t ts e i = absurd (subst (λ (k : Sort). Passes role k s (λ z. Path role y.stage z ts)) e i.aft)
 
 pub setup_hears : (I : Type 0) (start : I) (Good : Two I → Type 0) (role : Role)
     → (hear : I → Body → Did I) (ok : I → Body → Type 0) → ((e : I) (b : Body) → SaysFlow (hear e b).says)
     → ((v : Two I) (t : Body) (ts : List Body) → Good (record v { back = t ∷ ts }) → ok v.me t × Good (does (record v { back = ts }) (hear v.me t)))
     → (w : Two (Use I)) (t : Body) (ts : List Body) → UseInv I start Good role (record w { back = t ∷ ts })
     → use_ok ok role (sort t) w.me.stage w.me t × UseInv I start Good role (does (record w { back = ts }) (use_hears role start hear (sort t) w.me.stage w.me t))
-setup_hears I start Good role hear ok flow hears w t ts i = hear_use I start Good role hear ok flow hears (sort t) w.me.stage w.me w.you w.out t ts refl i
+setup_hears I start Good role hear ok is_flowing hears w t ts i = hear_use I start Good role hear ok is_flowing hears (sort t) w.me.stage w.me w.you w.out t ts refl i
 
 pub setup_turned : (I : Type 0) (start : I) (Good Back : Two I → Type 0) → ((v : Two I) → Good v → Back (turned_two v)) → (role : Role) (w : Two (Use I)) → UseInv I start Good role w → UseInv I start Back (other_of role) (turned_two w)
 setup_turned I start Good Back turn Dte w i = record { fore = i.aft; aft = i.fore; idle_me = i.idle_you; idle_you = i.idle_me; calls_me = i.calls_you; calls_you = i.calls_me; placed_me = i.placed_you; placed_you = i.placed_me; call = turn (record { me = w.me.call; you = w.you.call; out = flows w.out; back = flows w.back }) i.call }

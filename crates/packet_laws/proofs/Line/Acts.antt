@@ -2,6 +2,7 @@
 use Rattle.std.proofs.Common.{◌≡◌, ℕ, Bool, true, false, cond, ◌==◌, List, Option, Some, None, refl, sym, ap, subst, ◌∙◌, arith, true≢false}
 use Rattle.link_timers.specs.declared.role.Role.{Role}
 use Rattle.link_timers.specs.declared.role.Role.TheVariants.{Dte, Dce}
+use Rattle.packet_channel.specs.declared.flow.Flow.{Flow}
 use Rattle.packet_layer.specs.Packets.{CallParts, Body}
 use Rattle.packet_layer.specs.Packets.Body.{Call, Accepted, Clear, Reset}
 use Rattle.packet_layer.specs.Traffic.{says}
@@ -19,7 +20,7 @@ use Rattle.packet_laws.proofs.Call.Levels.{restart_kind, Epochs, CallUse, Whole,
 use Rattle.packet_laws.proofs.Line.Stored.{stored, shown, Settled, HistoryTie, Laters, kept_history, grown_history, next_epoch_tie, same_in_use, grows_in_use, through_whole, through_epochs, mark, look, marked, logged_marked, use_history, marks_in_use}
 use Rattle.packet_laws.proofs.Line.Agreement.{in_state}
 
-pub record Act (window : ℕ) (role : Role) (n : Whole) (owed : List Body) (ch : Channel) (o : Option Body) (f : History → History) : Type 0 where
+pub record Act (flow : Flow) (role : Role) (n : Whole) (owed : List Body) (ch : Channel) (o : Option Body) (f : History → History) : Type 0 where
   pub did : Did Whole
   pub channel_is : ch ≡ shown (stored did.end_) owed
   pub owes_is : o ≡ did.says
@@ -28,11 +29,11 @@ pub record Act (window : ℕ) (role : Role) (n : Whole) (owed : List Body) (ch :
   pub settled : Settled did.end_
   pub past_is : did.end_.past ≡ n.past
   pub history : (st : History) → HistoryTie n st → HistoryTie did.end_ (f st)
-  pub keeps : (y : Whole) (p b : List Body) → GoodWhole window role (record { me = n; you = y; out = p; back = b }) → GoodWhole window role (record { me = did.end_; you = y; out = said did.says p; back = b })
+  pub keeps : (y : Whole) (p b : List Body) → GoodWhole flow role (record { me = n; you = y; out = p; back = b }) → GoodWhole flow role (record { me = did.end_; you = y; out = said did.says p; back = b })
   pub idle : n.own ≡ true → (did.end_ ≡ n) × (did.says ≡ None)
 
-pub unchanged : (window : ℕ) (role : Role) (n : Whole) (owed : List Body) → Settled n → Act window role n owed (shown (stored n) owed) None (λ st. st)
-unchanged window role n owed s = record {
+pub unchanged : (flow : Flow) (role : Role) (n : Whole) (owed : List Body) → Settled n → Act flow role n owed (shown (stored n) owed) None (λ st. st)
+unchanged flow role n owed s = record {
   did = record { end_ = n; says = None };
   channel_is = refl;
   owes_is = refl;
@@ -67,9 +68,9 @@ clear_history s rs n cause diagnostic l st t = record {
       (ap (λ (v : CallUse). look v g) (at_next CallUse first_call true (in_state false s rs n).now u l.later_uses)));
 }
 
-pub clear_act : (window : ℕ) (role : Role) (s : Stage) (rs : Bool) (n : Whole) (owed : List Body) (cause diagnostic : ℕ) → Laters (in_state false s rs n)
-    → Act window role (in_state false s rs n) owed (ended OwnClear (shown (stored (in_state false s rs n)) owed)) (Some (Clear cause diagnostic)) (λ st. next_use_of st)
-clear_act window role s rs n owed cause diagnostic l = record {
+pub clear_act : (flow : Flow) (role : Role) (s : Stage) (rs : Bool) (n : Whole) (owed : List Body) (cause diagnostic : ℕ) → Laters (in_state false s rs n)
+    → Act flow role (in_state false s rs n) owed (ended OwnClear (shown (stored (in_state false s rs n)) owed)) (Some (Clear cause diagnostic)) (λ st. next_use_of st)
+clear_act flow role s rs n owed cause diagnostic l = record {
   did = in_uses (begins_clear cause diagnostic (in_state false s rs n).now) (in_state false s rs n);
   channel_is = refl;
   owes_is = refl;
@@ -78,13 +79,13 @@ clear_act window role s rs n owed cause diagnostic l = record {
   settled = refl;
   past_is = refl;
   history = λ st t. clear_history s rs n cause diagnostic l st t;
-  keeps = λ y p b g. whole_clears window role cause diagnostic (record { me = in_state false s rs n; you = y; out = p; back = b }) refl g;
+  keeps = λ y p b g. whole_clears flow role cause diagnostic (record { me = in_state false s rs n; you = y; out = p; back = b }) refl g;
   idle = λ e. never_own e;
 }
 
-with_history : (window : ℕ) (role : Role) (n : Whole) (owed : List Body) (ch : Channel) (o : Option Body) (f h : History → History)
-    → ((m : Whole) (st : History) → HistoryTie m (f st) → HistoryTie m (h st)) → Act window role n owed ch o f → Act window role n owed ch o h
-with_history window role n owed ch o f h g a = record {
+with_history : (flow : Flow) (role : Role) (n : Whole) (owed : List Body) (ch : Channel) (o : Option Body) (f h : History → History)
+    → ((m : Whole) (st : History) → HistoryTie m (f st) → HistoryTie m (h st)) → Act flow role n owed ch o f → Act flow role n owed ch o h
+with_history flow role n owed ch o f h g a = record {
   did = a.did;
   channel_is = a.channel_is;
   owes_is = a.owes_is;
@@ -100,15 +101,15 @@ with_history window role n owed ch o f h g a = record {
 next_use_same : (m : Whole) (st : History) → HistoryTie m (next_use_of st) → HistoryTie m (next_use_of (grown (λ e. e) st))
 next_use_same m st t = record { restart_is = t.restart_is; use_is = t.use_is; epoch_is = t.epoch_is; epochs_are = λ r u g. pick_same _ (st.epochs r u g) ∙ t.epochs_are r u g }
 
-request_clears : (window : ℕ) (role : Role) (s : Stage) (rs : Bool) (n : Whole) (owed : List Body) (cause diagnostic : ℕ) → Laters (in_state false s rs n)
-    → Act window role (in_state false s rs n) owed (ended OwnClear (shown (stored (in_state false s rs n)) owed)) (Some (Clear cause diagnostic)) (λ st. next_use_of (grown (λ e. e) st))
-request_clears window role s rs n owed cause diagnostic l =
-    with_history window role (in_state false s rs n) owed _ _ (λ st. next_use_of st) (λ st. next_use_of (grown (λ e. e) st)) (λ m st t. next_use_same m st t) (clear_act window role s rs n owed cause diagnostic l)
+request_clears : (flow : Flow) (role : Role) (s : Stage) (rs : Bool) (n : Whole) (owed : List Body) (cause diagnostic : ℕ) → Laters (in_state false s rs n)
+    → Act flow role (in_state false s rs n) owed (ended OwnClear (shown (stored (in_state false s rs n)) owed)) (Some (Clear cause diagnostic)) (λ st. next_use_of (grown (λ e. e) st))
+request_clears flow role s rs n owed cause diagnostic l =
+    with_history flow role (in_state false s rs n) owed _ _ (λ st. next_use_of st) (λ st. next_use_of (grown (λ e. e) st)) (λ m st t. next_use_same m st t) (clear_act flow role s rs n owed cause diagnostic l)
 
 -- a call accepted: nothing was done in it before
-accept_waiting : (window : ℕ) (role : Role) (rs : Bool) (n : Whole) (owed : List Body) → Laters (in_state false Waiting rs n)
-    → Act window role (in_state false Waiting rs n) owed (entered Transfer (shown (stored (in_state false Waiting rs n)) owed)) (Some Accepted) (λ st. call_accepted st)
-accept_waiting window role rs n owed l = record {
+accept_waiting : (flow : Flow) (role : Role) (rs : Bool) (n : Whole) (owed : List Body) → Laters (in_state false Waiting rs n)
+    → Act flow role (in_state false Waiting rs n) owed (entered Transfer (shown (stored (in_state false Waiting rs n)) owed)) (Some Accepted) (λ st. call_accepted st)
+accept_waiting flow role rs n owed l = record {
   did = in_use (accepts_call first_epoch (in_state false Waiting rs n).now.now) (in_state false Waiting rs n);
   channel_is = refl;
   owes_is = refl;
@@ -119,13 +120,13 @@ accept_waiting window role rs n owed l = record {
   history = λ st t. use_history (λ e. with_answer e) (in_state false Waiting rs n) _ st refl refl (sym (ap (λ (v : Epochs). v.number) l.idle))
       (λ r u g. marks_in_use (λ e. with_answer e) (in_state false Waiting rs n) (accepts_call first_epoch (in_state false Waiting rs n).now.now).end_ _ _
       (λ g. ap (λ (v : Epochs). marked (record { called = n.now.now.placed; answered = true }) (at v g).epoch) (sym l.idle)) r u g) t;
-  keeps = λ y p b g. whole_accepts window role (record { me = in_state false Waiting rs n; you = y; out = p; back = b }) tt g;
+  keeps = λ y p b g. whole_accepts flow role (record { me = in_state false Waiting rs n; you = y; out = p; back = b }) tt g;
   idle = λ e. never_own e;
 }
 
-accept_collided : (window : ℕ) (rs : Bool) (n : Whole) (owed : List Body) → Laters (in_state false Collided rs n)
-    → Act window Dce (in_state false Collided rs n) owed (entered Transfer (shown (stored (in_state false Collided rs n)) owed)) (Some Accepted) (λ st. call_accepted st)
-accept_collided window rs n owed l = record {
+accept_collided : (flow : Flow) (rs : Bool) (n : Whole) (owed : List Body) → Laters (in_state false Collided rs n)
+    → Act flow Dce (in_state false Collided rs n) owed (entered Transfer (shown (stored (in_state false Collided rs n)) owed)) (Some Accepted) (λ st. call_accepted st)
+accept_collided flow rs n owed l = record {
   did = in_use (accepts_call first_epoch (in_state false Collided rs n).now.now) (in_state false Collided rs n);
   channel_is = refl;
   owes_is = refl;
@@ -136,14 +137,14 @@ accept_collided window rs n owed l = record {
   history = λ st t. use_history (λ e. with_answer e) (in_state false Collided rs n) _ st refl refl (sym (ap (λ (v : Epochs). v.number) l.idle))
       (λ r u g. marks_in_use (λ e. with_answer e) (in_state false Collided rs n) (accepts_call first_epoch (in_state false Collided rs n).now.now).end_ _ _
       (λ g. ap (λ (v : Epochs). marked (record { called = n.now.now.placed; answered = true }) (at v g).epoch) (sym l.idle)) r u g) t;
-  keeps = λ y p b g. whole_accepts window Dce (record { me = in_state false Collided rs n; you = y; out = p; back = b }) tt g;
+  keeps = λ y p b g. whole_accepts flow Dce (record { me = in_state false Collided rs n; you = y; out = p; back = b }) tt g;
   idle = λ e. never_own e;
 }
 
 -- a reset begun
-reset_act : (window : ℕ) (role : Role) (m : Bool) (n : Whole) (owed : List Body) (cause diagnostic : ℕ) → Laters (in_state false (Open m) false n)
-    → Act window role (in_state false (Open m) false n) owed (requested role (shown (stored (in_state false (Open m) false n)) owed) (Resetting cause diagnostic)).channel (Some (Reset cause diagnostic)) (λ st. next_epoch_of (grown (λ e. e) st))
-reset_act window role m n owed cause diagnostic l =
+reset_act : (flow : Flow) (role : Role) (m : Bool) (n : Whole) (owed : List Body) (cause diagnostic : ℕ) → Laters (in_state false (Open m) false n)
+    → Act flow role (in_state false (Open m) false n) owed (requested role (shown (stored (in_state false (Open m) false n)) owed) (Resetting cause diagnostic)).channel (Some (Reset cause diagnostic)) (λ st. next_epoch_of (grown (λ e. e) st))
+reset_act flow role m n owed cause diagnostic l =
     let N : Whole = in_state false (Open m) false n in
     record {
       did = in_the_call (begins_reset cause diagnostic N.now.now.call) N;
@@ -155,15 +156,15 @@ reset_act window role m n owed cause diagnostic l =
       past_is = refl;
       history = λ st t. next_epoch_tie N _ (grown (λ e. e) st) refl refl refl
           (λ r u g. same_in_use N (record N.now.now { call = advanced begun_epoch true N.now.now.call }) false _ _ (λ g. ap (λ (i : Inner). marked (mark N.now.now) i.epoch) (at_next Inner begun_epoch true N.now.now.call g l.later_epochs)) r u g) (same_history N st t);
-      keeps = λ y p b g. whole_resets window role m cause diagnostic (record { me = N; you = y; out = p; back = b }) refl refl g;
+      keeps = λ y p b g. whole_resets flow role m cause diagnostic (record { me = N; you = y; out = p; back = b }) refl refl g;
       idle = λ e. never_own e;
     }
 
 -- something asked in a call
-inner_act : (window : ℕ) (role : Role) (m rs : Bool) (n : Whole) (owed : List Body) (r : Request) (ch : Channel)
+inner_act : (flow : Flow) (role : Role) (m rs : Bool) (n : Whole) (owed : List Body) (r : Request) (ch : Channel)
     → let N : Whole = in_state false (Open m) rs n in ch ≡ shown (stored (in_the_epoch (asked_inner r N.now.now.call.now) N).end_) owed → Askable r N.now.now.call.now
-    → Act window role N owed ch None (λ st. grown (λ e. logged N.now.now.call.now.traffic r e) st)
-inner_act window role m rs n owed r ch same a =
+    → Act flow role N owed ch None (λ st. grown (λ e. logged N.now.now.call.now.traffic r e) st)
+inner_act flow role m rs n owed r ch same a =
     let N : Whole = in_state false (Open m) rs n in
     record {
       did = in_the_epoch (asked_inner r N.now.now.call.now) N;
@@ -175,7 +176,7 @@ inner_act window role m rs n owed r ch same a =
       past_is = refl;
       history = λ st t. grown_history (λ e. logged N.now.now.call.now.traffic r e) N _ st refl refl refl
           (λ x u g. grows_in_use (λ e. logged N.now.now.call.now.traffic r e) N (inner_after r N.now.now.call.now) false rs _ _ _ _ (λ q v. logged_marked N.now.now.call.now.traffic r q v) refl x u g) t;
-      keeps = λ y p b g. whole_asked window role m r (record { me = N; you = y; out = p; back = b }) refl a g;
+      keeps = λ y p b g. whole_asked flow role m r (record { me = N; you = y; out = p; back = b }) refl a g;
       idle = λ e. never_own e;
     }
 
@@ -184,62 +185,62 @@ refused_none true r o e = absurd cc
 refused_none false r o e = (refl, e)
 
 -- a request that may be refused
-maybe_act : (window : ℕ) (role : Role) (m : Bool) (n : Whole) (owed : List Body) (r : Request) (o : Option Refusal) (done : Step)
+maybe_act : (flow : Flow) (role : Role) (m : Bool) (n : Whole) (owed : List Body) (r : Request) (o : Option Refusal) (done : Step)
     → let N : Whole = in_state false (Open m) false n in (o ≡ None → Askable r N.now.now.call.now) → done.channel ≡ shown (stored (in_the_epoch (asked_inner r N.now.now.call.now) N).end_) owed → done.owes ≡ None
-    → Act window role N owed (unless o done (shown (stored N) owed)).channel (unless o done (shown (stored N) owed)).owes (λ st. opened (unless o done (shown (stored N) owed)).owes (grown_unless o (λ e. logged N.now.now.call.now.traffic r e) st))
-maybe_act window role m n owed r None done a same none =
+    → Act flow role N owed (unless o done (shown (stored N) owed)).channel (unless o done (shown (stored N) owed)).owes (λ st. opened (unless o done (shown (stored N) owed)).owes (grown_unless o (λ e. logged N.now.now.call.now.traffic r e) st))
+maybe_act flow role m n owed r None done a same none =
     let N : Whole = in_state false (Open m) false n in
-    subst (λ (p : Option Body). Act window role N owed done.channel p (λ st. opened p (grown (λ e. logged N.now.now.call.now.traffic r e) st))) (sym none) (inner_act window role m false n owed r done.channel same (a refl))
-maybe_act window role m n owed r (Some f) done a same none = unchanged window role (in_state false (Open m) false n) owed tt
+    subst (λ (p : Option Body). Act flow role N owed done.channel p (λ st. opened p (grown (λ e. logged N.now.now.call.now.traffic r e) st))) (sym none) (inner_act flow role m false n owed r done.channel same (a refl))
+maybe_act flow role m n owed r (Some f) done a same none = unchanged flow role (in_state false (Open m) false n) owed tt
 
-abbrev pub Requested : ℕ → Role → Whole → List Body → Request → Type 0
-Requested window role n owed r = Act window role n owed (requested role (shown (stored n) owed) r).channel (requested role (shown (stored n) owed) r).owes (λ st. requested_history role (shown (stored n) owed) r st)
+abbrev pub Requested : Flow → Role → Whole → List Body → Request → Type 0
+Requested flow role n owed r = Act flow role n owed (requested role (shown (stored n) owed) r).channel (requested role (shown (stored n) owed) r).owes (λ st. requested_history role (shown (stored n) owed) r st)
 
 abbrev pub in_any : Bool → Bool → Stage → Bool → Whole → Whole
 in_any rown own s rs n = record n { own = rown; now = record n.now { own = own; now = record n.now.now { stage = s; call = record n.now.now.call { own = rs } } } }
 
-request_at : (window : ℕ) (role : Role) (rown own : Bool) (s : Stage) (rs : Bool) (n : Whole) (owed : List Body) (r : Request) → Laters (in_any rown own s rs n) → Settled (in_any rown own s rs n) → Requested window role (in_any rown own s rs n) owed r
-request_at window role true own s rs n owed Accept l e = unchanged window role (in_any true own s rs n) owed e
-request_at window role true own s rs n owed _ l e = unchanged window role (in_any true own s rs n) owed e
-request_at window role false true s rs n owed Accept l e = unchanged window role (in_any false true s rs n) owed e
-request_at window role false true s rs n owed _ l e = unchanged window role (in_any false true s rs n) owed e
-request_at window role false false Free rs n owed Accept l e = unchanged window role (in_any false false Free rs n) owed e
-request_at window role false false Free rs n owed _ l e = unchanged window role (in_any false false Free rs n) owed e
-request_at window role false false Placed rs n owed (Clearing x y) l e = request_clears window role Placed rs n owed x y l
-request_at window role false false Placed rs n owed _ l e = unchanged window role (in_any false false Placed rs n) owed e
-request_at window role false false Waiting rs n owed Accept l e = accept_waiting window role rs n owed l
-request_at window role false false Waiting rs n owed (Clearing x y) l e = request_clears window role Waiting rs n owed x y l
-request_at window role false false Waiting rs n owed _ l e = unchanged window role (in_any false false Waiting rs n) owed e
-request_at window Dte false false Collided rs n owed Accept l e = unchanged window Dte (in_any false false Collided rs n) owed e
-request_at window Dce false false Collided rs n owed Accept l e = accept_collided window rs n owed l
-request_at window role false false Collided rs n owed (Clearing x y) l e = request_clears window role Collided rs n owed x y l
-request_at window role false false Collided rs n owed _ l e = unchanged window role (in_any false false Collided rs n) owed e
-request_at window role false false (Open m) true n owed (Clearing x y) l e = request_clears window role (Open m) true n owed x y l
-request_at window role false false (Open m) true n owed Accept l e = unchanged window role (in_any false false (Open m) true n) owed e
-request_at window role false false (Open m) true n owed (Resetting x y) l e = unchanged window role (in_any false false (Open m) true n) owed e
-request_at window role false false (Open m) true n owed (Sending x) l e = unchanged window role (in_any false false (Open m) true n) owed e
-request_at window role false false (Open m) true n owed (Interrupting x) l e = unchanged window role (in_any false false (Open m) true n) owed e
-request_at window role false false (Open m) true n owed (Stopping x) l e = inner_act window role m true n owed (Stopping x) _ refl tt
-request_at window role false false (Open m) true n owed Taking l e = inner_act window role m true n owed Taking _ refl tt
-request_at window role false false (Open m) true n owed (Releasing x) l e = inner_act window role m true n owed (Releasing x) _ refl tt
-request_at window role false false (Open m) true n owed Confirming l e = inner_act window role m true n owed Confirming _ refl tt
-request_at window role false false (Open m) false n owed (Clearing x y) l e = request_clears window role (Open m) false n owed x y l
-request_at window role false false (Open m) false n owed Accept l e = unchanged window role (in_any false false (Open m) false n) owed e
-request_at window role false false (Open m) false n owed (Resetting x y) l e = reset_act window role m n owed x y l
-request_at window role false false (Open m) false n owed (Sending x) l e = maybe_act window role m n owed (Sending x) (refusal role (shown (stored (in_state false (Open m) false n)) owed) (Sending x)) (carried_out (shown (stored (in_state false (Open m) false n)) owed) (Sending x)) (λ f. tt) refl refl
-request_at window role false false (Open m) false n owed (Interrupting x) l e = maybe_act window role m n owed (Interrupting x) (refusal role (shown (stored (in_state false (Open m) false n)) owed) (Interrupting x)) (carried_out (shown (stored (in_state false (Open m) false n)) owed) (Interrupting x)) (λ f. (refused_none _ Refusal.InterruptPending None (refused_none _ Refusal.TooLong _ f).1).0) refl refl
-request_at window role false false (Open m) false n owed (Stopping x) l e = inner_act window role m false n owed (Stopping x) _ refl tt
-request_at window role false false (Open m) false n owed Taking l e = inner_act window role m false n owed Taking _ refl tt
-request_at window role false false (Open m) false n owed (Releasing x) l e = inner_act window role m false n owed (Releasing x) _ refl tt
-request_at window role false false (Open m) false n owed Confirming l e = inner_act window role m false n owed Confirming _ refl tt
+request_at : (flow : Flow) (role : Role) (rown own : Bool) (s : Stage) (rs : Bool) (n : Whole) (owed : List Body) (r : Request) → Laters (in_any rown own s rs n) → Settled (in_any rown own s rs n) → Requested flow role (in_any rown own s rs n) owed r
+request_at flow role true own s rs n owed Accept l e = unchanged flow role (in_any true own s rs n) owed e
+request_at flow role true own s rs n owed _ l e = unchanged flow role (in_any true own s rs n) owed e
+request_at flow role false true s rs n owed Accept l e = unchanged flow role (in_any false true s rs n) owed e
+request_at flow role false true s rs n owed _ l e = unchanged flow role (in_any false true s rs n) owed e
+request_at flow role false false Free rs n owed Accept l e = unchanged flow role (in_any false false Free rs n) owed e
+request_at flow role false false Free rs n owed _ l e = unchanged flow role (in_any false false Free rs n) owed e
+request_at flow role false false Placed rs n owed (Clearing x y) l e = request_clears flow role Placed rs n owed x y l
+request_at flow role false false Placed rs n owed _ l e = unchanged flow role (in_any false false Placed rs n) owed e
+request_at flow role false false Waiting rs n owed Accept l e = accept_waiting flow role rs n owed l
+request_at flow role false false Waiting rs n owed (Clearing x y) l e = request_clears flow role Waiting rs n owed x y l
+request_at flow role false false Waiting rs n owed _ l e = unchanged flow role (in_any false false Waiting rs n) owed e
+request_at flow Dte false false Collided rs n owed Accept l e = unchanged flow Dte (in_any false false Collided rs n) owed e
+request_at flow Dce false false Collided rs n owed Accept l e = accept_collided flow rs n owed l
+request_at flow role false false Collided rs n owed (Clearing x y) l e = request_clears flow role Collided rs n owed x y l
+request_at flow role false false Collided rs n owed _ l e = unchanged flow role (in_any false false Collided rs n) owed e
+request_at flow role false false (Open m) true n owed (Clearing x y) l e = request_clears flow role (Open m) true n owed x y l
+request_at flow role false false (Open m) true n owed Accept l e = unchanged flow role (in_any false false (Open m) true n) owed e
+request_at flow role false false (Open m) true n owed (Resetting x y) l e = unchanged flow role (in_any false false (Open m) true n) owed e
+request_at flow role false false (Open m) true n owed (Sending x) l e = unchanged flow role (in_any false false (Open m) true n) owed e
+request_at flow role false false (Open m) true n owed (Interrupting x) l e = unchanged flow role (in_any false false (Open m) true n) owed e
+request_at flow role false false (Open m) true n owed (Stopping x) l e = inner_act flow role m true n owed (Stopping x) _ refl tt
+request_at flow role false false (Open m) true n owed Taking l e = inner_act flow role m true n owed Taking _ refl tt
+request_at flow role false false (Open m) true n owed (Releasing x) l e = inner_act flow role m true n owed (Releasing x) _ refl tt
+request_at flow role false false (Open m) true n owed Confirming l e = inner_act flow role m true n owed Confirming _ refl tt
+request_at flow role false false (Open m) false n owed (Clearing x y) l e = request_clears flow role (Open m) false n owed x y l
+request_at flow role false false (Open m) false n owed Accept l e = unchanged flow role (in_any false false (Open m) false n) owed e
+request_at flow role false false (Open m) false n owed (Resetting x y) l e = reset_act flow role m n owed x y l
+request_at flow role false false (Open m) false n owed (Sending x) l e = maybe_act flow role m n owed (Sending x) (refusal role (shown (stored (in_state false (Open m) false n)) owed) (Sending x)) (carried_out (shown (stored (in_state false (Open m) false n)) owed) (Sending x)) (λ f. tt) refl refl
+request_at flow role false false (Open m) false n owed (Interrupting x) l e = maybe_act flow role m n owed (Interrupting x) (refusal role (shown (stored (in_state false (Open m) false n)) owed) (Interrupting x)) (carried_out (shown (stored (in_state false (Open m) false n)) owed) (Interrupting x)) (λ f. (refused_none _ Refusal.InterruptPending None (refused_none _ Refusal.TooLong _ f).1).0) refl refl
+request_at flow role false false (Open m) false n owed (Stopping x) l e = inner_act flow role m false n owed (Stopping x) _ refl tt
+request_at flow role false false (Open m) false n owed Taking l e = inner_act flow role m false n owed Taking _ refl tt
+request_at flow role false false (Open m) false n owed (Releasing x) l e = inner_act flow role m false n owed (Releasing x) _ refl tt
+request_at flow role false false (Open m) false n owed Confirming l e = inner_act flow role m false n owed Confirming _ refl tt
 
-pub request_act : (window : ℕ) (role : Role) (n : Whole) (owed : List Body) (r : Request) → Laters n → Settled n → Requested window role n owed r
-request_act window role n owed r l e = request_at window role n.own n.now.own n.now.now.stage n.now.now.call.own n owed r l e
+pub request_act : (flow : Flow) (role : Role) (n : Whole) (owed : List Body) (r : Request) → Laters n → Settled n → Requested flow role n owed r
+request_act flow role n owed r l e = request_at flow role n.own n.now.own n.now.now.stage n.now.now.call.own n owed r l e
 
 -- a call placed on a free channel
-pub place_act : (window : ℕ) (role : Role) (rs : Bool) (n : Whole) (owed : List Body) (parts : CallParts)
-    → Act window role (in_state false Free rs n) owed (placing parts (shown (stored (in_state false Free rs n)) owed)).channel (Some (Call parts)) (λ st. placed parts st)
-place_act window role rs n owed parts = record {
+pub place_act : (flow : Flow) (role : Role) (rs : Bool) (n : Whole) (owed : List Body) (parts : CallParts)
+    → Act flow role (in_state false Free rs n) owed (placing parts (shown (stored (in_state false Free rs n)) owed)).channel (Some (Call parts)) (λ st. placed parts st)
+place_act flow role rs n owed parts = record {
   did = in_use (places parts (in_state false Free rs n).now.now) (in_state false Free rs n);
   channel_is = refl;
   owes_is = refl;
@@ -248,26 +249,26 @@ place_act window role rs n owed parts = record {
   settled = tt;
   past_is = refl;
   history = λ st t. use_history (λ e. with_call parts e) (in_state false Free rs n) _ st refl refl refl (λ r u g. marks_in_use (λ e. with_call parts e) (in_state false Free rs n) (places parts (in_state false Free rs n).now.now).end_ _ _ (λ g. refl) r u g) t;
-  keeps = λ y p b g. whole_places window role parts (record { me = in_state false Free rs n; you = y; out = p; back = b }) refl g;
+  keeps = λ y p b g. whole_places flow role parts (record { me = in_state false Free rs n; you = y; out = p; back = b }) refl g;
   idle = λ e. never_own e;
 }
 
 -- what the traffic of a call in d1 says
-pub says_act : (window : ℕ) (role : Role) (m : Bool) (n : Whole) (owed : List Body)
+pub says_act : (flow : Flow) (role : Role) (m : Bool) (n : Whole) (owed : List Body)
     → let N : Whole = in_state false (Open m) false n in
-    Act window role N owed (record (shown (stored N) owed) { traffic = (says window N.now.now.call.now.traffic).traffic }) (says window N.now.now.call.now.traffic).body (λ st. st)
-says_act window role m n owed =
+    Act flow role N owed (record (shown (stored N) owed) { traffic = (says flow N.now.now.call.now.traffic).traffic }) (says flow N.now.now.call.now.traffic).body (λ st. st)
+says_act flow role m n owed =
     let N : Whole = in_state false (Open m) false n in
     let i : Inner = N.now.now.call.now in
     record {
-      did = in_the_epoch (inner_says window i) N;
+      did = in_the_epoch (inner_says flow i) N;
       channel_is = refl;
       owes_is = refl;
-      plain = traffic_restart _ (traffic_is window i.traffic);
+      plain = traffic_restart _ (traffic_is flow i.traffic);
       own_is = refl;
       settled = tt;
       past_is = refl;
-      history = λ st t. kept_history N _ st refl refl refl (λ r u g. same_in_use N _ false _ _ (λ g. ap (λ (e : Epoch). marked (mark N.now.now) e) (through_epochs (g == N.now.now.call.number) i (inner_says window i).end_ (N.now.now.call.past g) refl)) r u g) t;
-      keeps = λ y p b g. whole_says window role m (record { me = N; you = y; out = p; back = b }) refl g;
+      history = λ st t. kept_history N _ st refl refl refl (λ r u g. same_in_use N _ false _ _ (λ g. ap (λ (e : Epoch). marked (mark N.now.now) e) (through_epochs (g == N.now.now.call.number) i (inner_says flow i).end_ (N.now.now.call.past g) refl)) r u g) t;
+      keeps = λ y p b g. whole_says flow role m (record { me = N; you = y; out = p; back = b }) refl g;
       idle = λ e. never_own e;
     }

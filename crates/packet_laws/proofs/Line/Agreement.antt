@@ -2,6 +2,7 @@
 use Rattle.std.proofs.Common.{◌≡◌, ℕ, ◌+◌, Bool, true, false, not, ◌==◌, List, Option, None, refl, sym, ap, subst, ◌∙◌, arith}
 use Rattle.link_timers.specs.declared.role.Role.{Role}
 use Rattle.link_timers.specs.declared.role.Role.TheVariants.{Dte, Dce}
+use Rattle.packet_channel.specs.declared.flow.Flow.{Flow}
 use Rattle.packet_layer.specs.Packets.{Body}
 use Rattle.packet_layer.specs.Packets.Body.{Call, Accepted, Clear, ClearConfirmation, Data, Interrupt, InterruptConfirmation, ReceiveReady, ReceiveNotReady, Reset, ResetConfirmation, Restart, RestartConfirmation}
 use Rattle.packet_layer.specs.Traffic.{Heard, hears}
@@ -19,13 +20,13 @@ use Rattle.packet_laws.proofs.Call.OneEpoch.{Inner, begun_epoch, heard_traffic, 
 use Rattle.packet_laws.proofs.Call.Levels.{restart_kind, Epochs, CallUse, Whole, first_epoch, first_call, whole_hears, whole_ok}
 use Rattle.packet_laws.proofs.Line.Stored.{stored, stored_call, shown, Settled, SettledUses, HistoryTie, Laters, kept_history, grown_history, next_epoch_tie, same_in_use, grows_in_use, through_whole, look, marked, heard_marked}
 
-pub record Ties (role : Role) (window c : ℕ) (n : Whole) (owed : List Body) (b : Body) : Type 0 where
-  pub channel_is : (received role window c (shown (stored n) owed) b).channel ≡ shown (stored (whole_hears window role n b).end_) owed
-  pub owes_is : (received role window c (shown (stored n) owed) b).owes ≡ (whole_hears window role n b).says
-  pub no_fault : is_request (received role window c (shown (stored n) owed) b).owes ≡ false
-  pub ready : (whole_hears window role n b).end_.own ≡ false
-  pub settled : Settled (whole_hears window role n b).end_
-  pub history : (st : History) → HistoryTie n st → HistoryTie (whole_hears window role n b).end_ (received_history role window c (shown (stored n) owed) b st)
+pub record Ties (role : Role) (flow : Flow) (c : ℕ) (n : Whole) (owed : List Body) (b : Body) : Type 0 where
+  pub channel_is : (received role flow c (shown (stored n) owed) b).channel ≡ shown (stored (whole_hears flow role n b).end_) owed
+  pub owes_is : (received role flow c (shown (stored n) owed) b).owes ≡ (whole_hears flow role n b).says
+  pub no_fault : is_request (received role flow c (shown (stored n) owed) b).owes ≡ false
+  pub ready : (whole_hears flow role n b).end_.own ≡ false
+  pub settled : Settled (whole_hears flow role n b).end_
+  pub history : (st : History) → HistoryTie n st → HistoryTie (whole_hears flow role n b).end_ (received_history role flow c (shown (stored n) owed) b st)
 
 -- a channel in r1, by the state of the clear, of the call and of the reset
 abbrev pub in_state : Bool → Stage → Bool → Whole → Whole
@@ -53,9 +54,9 @@ heard_owes role c ch (Confirms t) ok = refl
 heard_owes role c ch (Wrong d) ok = absurd ok
 
 -- learning of a clear
-learnt_clear : (role : Role) (window c : ℕ) (s : Stage) (rs : Bool) (n : Whole) (cause diagnostic : ℕ) → Laters (in_state false s rs n)
-    → (st : History) → HistoryTie (in_state false s rs n) st → HistoryTie (whole_hears window role (in_state false s rs n) (Clear cause diagnostic)).end_ (record st { use_ = st.use_ + 1; epoch = 0 })
-learnt_clear role window c s rs n cause diagnostic l st t = record {
+learnt_clear : (role : Role) (flow : Flow) (c : ℕ) (s : Stage) (rs : Bool) (n : Whole) (cause diagnostic : ℕ) → Laters (in_state false s rs n)
+    → (st : History) → HistoryTie (in_state false s rs n) st → HistoryTie (whole_hears flow role (in_state false s rs n) (Clear cause diagnostic)).end_ (record st { use_ = st.use_ + 1; epoch = 0 })
+learnt_clear role flow c s rs n cause diagnostic l st t = record {
   restart_is = t.restart_is;
   use_is = let e = t.use_is in omega arith;
   epoch_is = refl;
@@ -70,16 +71,16 @@ heard_whole h n =
     reacted (reacted (in_call (reacted (record { end_ = heard_inner h n.now.now.call.now; says = None }) n.now.now.call)
     n.now.now) n.now) n
 
-flows : (role : Role) (window c : ℕ) (m : Bool) (n : Whole) (owed : List Body) (b : Body)
-    → let N = in_state false (Open m) false n in let h = hears window n.now.now.call.now.traffic b in
-    received role window c (shown (stored N) owed) b ≡ after_heard role c (shown (stored N) owed) h
-    → whole_hears window role N b ≡ heard_whole h N → NotWrong h → Ties role window c N owed b
-flows role window c m n owed b step is ok =
+flows : (role : Role) (flow : Flow) (c : ℕ) (m : Bool) (n : Whole) (owed : List Body) (b : Body)
+    → let N = in_state false (Open m) false n in let h = hears flow n.now.now.call.now.traffic b in
+    received role flow c (shown (stored N) owed) b ≡ after_heard role c (shown (stored N) owed) h
+    → whole_hears flow role N b ≡ heard_whole h N → NotWrong h → Ties role flow c N owed b
+flows role flow c m n owed b step is ok =
     let N : Whole = in_state false (Open m) false n in
-    let h : Heard = hears window n.now.now.call.now.traffic b in
+    let h : Heard = hears flow n.now.now.call.now.traffic b in
     let ch : Channel = shown (stored N) owed in
     let E : Whole = (heard_whole h N).end_ in
-    let owes : (received role window c ch b).owes ≡ None = ap (λ (s : Step). s.owes) step ∙ heard_owes role c ch h ok in
+    let owes : (received role flow c ch b).owes ≡ None = ap (λ (s : Step). s.owes) step ∙ heard_owes role c ch h ok in
     record {
       channel_is = ap (λ (s : Step). s.channel) step ∙ heard_channel role c ch h ok
           ∙ ap (λ (d : Did Whole). shown (stored d.end_) owed) (sym is);
@@ -88,17 +89,17 @@ flows role window c m n owed b step is ok =
       ready = ap (λ (d : Did Whole). d.end_.own) is;
       settled = subst (λ (d : Did Whole). Settled d.end_) (sym is) tt;
       history = λ st t.
-          subst (λ (d : Did Whole). HistoryTie d.end_ (received_history role window c ch b st)) (sym is)
+          subst (λ (d : Did Whole). HistoryTie d.end_ (received_history role flow c ch b st)) (sym is)
           (subst (λ (o : Option Body). HistoryTie E (opened o (heard_history Transfer false h st))) (sym owes)
           (subst (λ (z : History). HistoryTie E z) (heard_grown h st ok)
           (grown_history (λ v. logged_heard h v) N E st refl refl refl
           (λ r u g. grows_in_use (λ v. logged_heard h v) N (heard_inner h N.now.now.call.now) false false _ _ _ _ (λ q v. heard_marked h q v) refl r u g) t)));
     }
 
-pub received_at : (role : Role) (window c : ℕ) (own : Bool) (s : Stage) (rs : Bool) (n : Whole) (owed : List Body) (b : Body) → restart_kind b ≡ Payload
-    → Laters (in_state own s rs n) → SettledUses own (in_state own s rs n).now.now → whole_ok window role (in_state own s rs n) b → Ties role window c (in_state own s rs n) owed b
+pub received_at : (role : Role) (flow : Flow) (c : ℕ) (own : Bool) (s : Stage) (rs : Bool) (n : Whole) (owed : List Body) (b : Body) → restart_kind b ≡ Payload
+    → Laters (in_state own s rs n) → SettledUses own (in_state own s rs n).now.now → whole_ok flow role (in_state own s rs n) b → Ties role flow c (in_state own s rs n) owed b
 -- in the own clear
-received_at role window c true s rs n owed (Clear x y) plain l e ok = record {
+received_at role flow c true s rs n owed (Clear x y) plain l e ok = record {
   channel_is = ap (λ (u : CallUse). shown (stored_call u.stage u.call) owed) (sym e);
   owes_is = refl;
   no_fault = refl;
@@ -106,7 +107,7 @@ received_at role window c true s rs n owed (Clear x y) plain l e ok = record {
   settled = tt;
   history = λ st t. kept_history (in_state true s rs n) _ st refl refl refl (λ r u g. same_in_use (in_state true s rs n) _ false _ _ (λ g. refl) r u g) t;
 }
-received_at role window c true s rs n owed ClearConfirmation plain l e ok = record {
+received_at role flow c true s rs n owed ClearConfirmation plain l e ok = record {
   channel_is = ap (λ (u : CallUse). shown (stored_call u.stage u.call) owed) (sym e);
   owes_is = refl;
   no_fault = refl;
@@ -114,9 +115,9 @@ received_at role window c true s rs n owed ClearConfirmation plain l e ok = reco
   settled = tt;
   history = λ st t. kept_history (in_state true s rs n) _ st refl refl refl (λ r u g. same_in_use (in_state true s rs n) _ false _ _ (λ g. refl) r u g) t;
 }
-received_at role window c true s rs n owed (Restart x y) plain l e ok = absurd (not_payload plain)
-received_at role window c true s rs n owed RestartConfirmation plain l e ok = absurd (not_payload' plain)
-received_at role window c true s rs n owed _ plain l e ok = record {
+received_at role flow c true s rs n owed (Restart x y) plain l e ok = absurd (not_payload plain)
+received_at role flow c true s rs n owed RestartConfirmation plain l e ok = absurd (not_payload' plain)
+received_at role flow c true s rs n owed _ plain l e ok = record {
   channel_is = refl;
   owes_is = refl;
   no_fault = refl;
@@ -125,7 +126,7 @@ received_at role window c true s rs n owed _ plain l e ok = record {
   history = λ st t. kept_history (in_state true s rs n) _ st refl refl refl (λ r u g. same_in_use (in_state true s rs n) _ true _ _ (λ g. refl) r u g) t;
 }
 -- p1
-received_at role window c false Free rs n owed (Call p) plain l e ok = record {
+received_at role flow c false Free rs n owed (Call p) plain l e ok = record {
   channel_is = refl;
   owes_is = refl;
   no_fault = refl;
@@ -133,19 +134,19 @@ received_at role window c false Free rs n owed (Call p) plain l e ok = record {
   settled = tt;
   history = λ st t. kept_history (in_state false Free rs n) _ st refl refl refl (λ r u g. same_in_use (in_state false Free rs n) _ false _ _ (λ g. refl) r u g) t;
 }
-received_at role window c false Free rs n owed (Clear x y) plain l e ok = record {
+received_at role flow c false Free rs n owed (Clear x y) plain l e ok = record {
   channel_is = refl;
   owes_is = refl;
   no_fault = refl;
   ready = refl;
   settled = tt;
-  history = λ st t. learnt_clear role window c Free rs n x y l st t;
+  history = λ st t. learnt_clear role flow c Free rs n x y l st t;
 }
-received_at role window c false Free rs n owed (Restart x y) plain l e ok = absurd (not_payload plain)
-received_at role window c false Free rs n owed RestartConfirmation plain l e ok = absurd (not_payload' plain)
-received_at role window c false Free rs n owed _ plain l e ok = absurd ok
+received_at role flow c false Free rs n owed (Restart x y) plain l e ok = absurd (not_payload plain)
+received_at role flow c false Free rs n owed RestartConfirmation plain l e ok = absurd (not_payload' plain)
+received_at role flow c false Free rs n owed _ plain l e ok = absurd ok
 -- the own call waits
-received_at role window c false Placed rs n owed (Call p) plain l e ok = record {
+received_at role flow c false Placed rs n owed (Call p) plain l e ok = record {
   channel_is = refl;
   owes_is = refl;
   no_fault = refl;
@@ -153,7 +154,7 @@ received_at role window c false Placed rs n owed (Call p) plain l e ok = record 
   settled = tt;
   history = λ st t. kept_history (in_state false Placed rs n) _ st refl refl refl (λ r u g. same_in_use (in_state false Placed rs n) _ false _ _ (λ g. refl) r u g) t;
 }
-received_at role window c false Placed rs n owed Accepted plain l e ok = record {
+received_at role flow c false Placed rs n owed Accepted plain l e ok = record {
   channel_is = refl;
   owes_is = refl;
   no_fault = refl;
@@ -162,33 +163,33 @@ received_at role window c false Placed rs n owed Accepted plain l e ok = record 
   history = λ st t. kept_history (in_state false Placed rs n) _ st refl refl (sym (ap (λ (v : Epochs). v.number) l.idle))
       (λ r u g. same_in_use (in_state false Placed rs n) (record (in_state false Placed rs n).now.now { stage = Open true; call = first_epoch }) false _ _ (λ g. ap (λ (v : Epochs). marked (record { called = n.now.now.placed; answered = false }) (at v g).epoch) (sym l.idle)) r u g) t;
 }
-received_at role window c false Placed rs n owed (Clear x y) plain l e ok = record {
+received_at role flow c false Placed rs n owed (Clear x y) plain l e ok = record {
   channel_is = refl;
   owes_is = refl;
   no_fault = refl;
   ready = refl;
   settled = tt;
-  history = λ st t. learnt_clear role window c Placed rs n x y l st t;
+  history = λ st t. learnt_clear role flow c Placed rs n x y l st t;
 }
-received_at role window c false Placed rs n owed (Restart x y) plain l e ok = absurd (not_payload plain)
-received_at role window c false Placed rs n owed RestartConfirmation plain l e ok = absurd (not_payload' plain)
-received_at role window c false Placed rs n owed _ plain l e ok = absurd ok
+received_at role flow c false Placed rs n owed (Restart x y) plain l e ok = absurd (not_payload plain)
+received_at role flow c false Placed rs n owed RestartConfirmation plain l e ok = absurd (not_payload' plain)
+received_at role flow c false Placed rs n owed _ plain l e ok = absurd ok
 -- the far end's call waits
-received_at role window c false Waiting rs n owed (Clear x y) plain l e ok = record {
+received_at role flow c false Waiting rs n owed (Clear x y) plain l e ok = record {
   channel_is = refl;
   owes_is = refl;
   no_fault = refl;
   ready = refl;
   settled = tt;
-  history = λ st t. learnt_clear role window c Waiting rs n x y l st t;
+  history = λ st t. learnt_clear role flow c Waiting rs n x y l st t;
 }
-received_at role window c false Waiting rs n owed (Restart x y) plain l e ok = absurd (not_payload plain)
-received_at role window c false Waiting rs n owed RestartConfirmation plain l e ok = absurd (not_payload' plain)
-received_at Dte window c false Waiting rs n owed Accepted plain l e ok = absurd ok
-received_at Dce window c false Waiting rs n owed Accepted plain l e ok = absurd ok
-received_at role window c false Waiting rs n owed _ plain l e ok = absurd ok
+received_at role flow c false Waiting rs n owed (Restart x y) plain l e ok = absurd (not_payload plain)
+received_at role flow c false Waiting rs n owed RestartConfirmation plain l e ok = absurd (not_payload' plain)
+received_at Dte flow c false Waiting rs n owed Accepted plain l e ok = absurd ok
+received_at Dce flow c false Waiting rs n owed Accepted plain l e ok = absurd ok
+received_at role flow c false Waiting rs n owed _ plain l e ok = absurd ok
 -- a collision
-received_at Dte window c false Collided rs n owed Accepted plain l e ok = record {
+received_at Dte flow c false Collided rs n owed Accepted plain l e ok = record {
   channel_is = refl;
   owes_is = refl;
   no_fault = refl;
@@ -197,45 +198,37 @@ received_at Dte window c false Collided rs n owed Accepted plain l e ok = record
   history = λ st t. kept_history (in_state false Collided rs n) _ st refl refl (sym (ap (λ (v : Epochs). v.number) l.idle))
       (λ r u g. same_in_use (in_state false Collided rs n) (record (in_state false Collided rs n).now.now { stage = Open true; call = first_epoch }) false _ _ (λ g. ap (λ (v : Epochs). marked (record { called = n.now.now.placed; answered = false }) (at v g).epoch) (sym l.idle)) r u g) t;
 }
-received_at Dce window c false Collided rs n owed Accepted plain l e ok = absurd ok
-received_at Dte window c false Collided rs n owed (Clear x y) plain l e ok = record {
+received_at Dce flow c false Collided rs n owed Accepted plain l e ok = absurd ok
+received_at Dte flow c false Collided rs n owed (Clear x y) plain l e ok = record {
   channel_is = refl;
   owes_is = refl;
   no_fault = refl;
   ready = refl;
   settled = tt;
-  history = λ st t. learnt_clear Dte window c Collided rs n x y l st t;
+  history = λ st t. learnt_clear Dte flow c Collided rs n x y l st t;
 }
-received_at Dce window c false Collided rs n owed (Clear x y) plain l e ok = record {
+received_at Dce flow c false Collided rs n owed (Clear x y) plain l e ok = record {
   channel_is = refl;
   owes_is = refl;
   no_fault = refl;
   ready = refl;
   settled = tt;
-  history = λ st t. learnt_clear Dce window c Collided rs n x y l st t;
+  history = λ st t. learnt_clear Dce flow c Collided rs n x y l st t;
 }
-received_at role window c false Collided rs n owed (Restart x y) plain l e ok = absurd (not_payload plain)
-received_at role window c false Collided rs n owed RestartConfirmation plain l e ok = absurd (not_payload' plain)
-received_at Dte window c false Collided rs n owed _ plain l e ok = absurd ok
-received_at Dce window c false Collided rs n owed _ plain l e ok = absurd ok
+received_at role flow c false Collided rs n owed (Restart x y) plain l e ok = absurd (not_payload plain)
+received_at role flow c false Collided rs n owed RestartConfirmation plain l e ok = absurd (not_payload' plain)
+received_at Dte flow c false Collided rs n owed _ plain l e ok = absurd ok
+received_at Dce flow c false Collided rs n owed _ plain l e ok = absurd ok
 -- in the own reset
-received_at role window c false (Open m) true n owed (Clear x y) plain l e ok = record {
+received_at role flow c false (Open m) true n owed (Clear x y) plain l e ok = record {
   channel_is = refl;
   owes_is = refl;
   no_fault = refl;
   ready = refl;
   settled = tt;
-  history = λ st t. learnt_clear role window c (Open m) true n x y l st t;
+  history = λ st t. learnt_clear role flow c (Open m) true n x y l st t;
 }
-received_at role window c false (Open m) true n owed (Reset x y) plain l e ok = record {
-  channel_is = refl;
-  owes_is = refl;
-  no_fault = refl;
-  ready = refl;
-  settled = tt;
-  history = λ st t. kept_history (in_state false (Open m) true n) _ st refl refl refl (λ r u g. same_in_use (in_state false (Open m) true n) _ false _ _ (λ g. refl) r u g) t;
-}
-received_at role window c false (Open m) true n owed ResetConfirmation plain l e ok = record {
+received_at role flow c false (Open m) true n owed (Reset x y) plain l e ok = record {
   channel_is = refl;
   owes_is = refl;
   no_fault = refl;
@@ -243,13 +236,21 @@ received_at role window c false (Open m) true n owed ResetConfirmation plain l e
   settled = tt;
   history = λ st t. kept_history (in_state false (Open m) true n) _ st refl refl refl (λ r u g. same_in_use (in_state false (Open m) true n) _ false _ _ (λ g. refl) r u g) t;
 }
-received_at role window c false (Open m) true n owed (Restart x y) plain l e ok = absurd (not_payload plain)
-received_at role window c false (Open m) true n owed RestartConfirmation plain l e ok = absurd (not_payload' plain)
-received_at role window c false (Open m) true n owed (Call p) plain l e ok = absurd ok
-received_at Dte window c false (Open m) true n owed Accepted plain l e ok = absurd ok
-received_at Dce window c false (Open m) true n owed Accepted plain l e ok = absurd ok
-received_at role window c false (Open m) true n owed ClearConfirmation plain l e ok = absurd ok
-received_at role window c false (Open m) true n owed _ plain l e ok = record {
+received_at role flow c false (Open m) true n owed ResetConfirmation plain l e ok = record {
+  channel_is = refl;
+  owes_is = refl;
+  no_fault = refl;
+  ready = refl;
+  settled = tt;
+  history = λ st t. kept_history (in_state false (Open m) true n) _ st refl refl refl (λ r u g. same_in_use (in_state false (Open m) true n) _ false _ _ (λ g. refl) r u g) t;
+}
+received_at role flow c false (Open m) true n owed (Restart x y) plain l e ok = absurd (not_payload plain)
+received_at role flow c false (Open m) true n owed RestartConfirmation plain l e ok = absurd (not_payload' plain)
+received_at role flow c false (Open m) true n owed (Call p) plain l e ok = absurd ok
+received_at Dte flow c false (Open m) true n owed Accepted plain l e ok = absurd ok
+received_at Dce flow c false (Open m) true n owed Accepted plain l e ok = absurd ok
+received_at role flow c false (Open m) true n owed ClearConfirmation plain l e ok = absurd ok
+received_at role flow c false (Open m) true n owed _ plain l e ok = record {
   channel_is = refl;
   owes_is = refl;
   no_fault = refl;
@@ -258,15 +259,15 @@ received_at role window c false (Open m) true n owed _ plain l e ok = record {
   history = λ st t. kept_history (in_state false (Open m) true n) _ st refl refl refl (λ r u g. same_in_use (in_state false (Open m) true n) _ false _ _ (λ g. refl) r u g) t;
 }
 -- in d1
-received_at role window c false (Open m) false n owed (Clear x y) plain l e ok = record {
+received_at role flow c false (Open m) false n owed (Clear x y) plain l e ok = record {
   channel_is = refl;
   owes_is = refl;
   no_fault = refl;
   ready = refl;
   settled = tt;
-  history = λ st t. learnt_clear role window c (Open m) false n x y l st t;
+  history = λ st t. learnt_clear role flow c (Open m) false n x y l st t;
 }
-received_at role window c false (Open m) false n owed (Reset x y) plain l e ok = record {
+received_at role flow c false (Open m) false n owed (Reset x y) plain l e ok = record {
   channel_is = refl;
   owes_is = refl;
   no_fault = refl;
@@ -276,15 +277,15 @@ received_at role window c false (Open m) false n owed (Reset x y) plain l e ok =
       (λ r u g. same_in_use (in_state false (Open m) false n) (record (in_state false (Open m) false n).now.now { call = advanced begun_epoch false (in_state false (Open m) false n).now.now.call }) false _ _
       (λ g. ap (λ (i : Inner). marked (record { called = n.now.now.placed; answered = not m }) i.epoch) (at_next Inner begun_epoch false (in_state false (Open m) false n).now.now.call g l.later_epochs)) r u g) t;
 }
-received_at role window c false (Open m) false n owed (Restart x y) plain l e ok = absurd (not_payload plain)
-received_at role window c false (Open m) false n owed RestartConfirmation plain l e ok = absurd (not_payload' plain)
-received_at role window c false (Open m) false n owed (Call p) plain l e ok = absurd ok
-received_at Dte window c false (Open m) false n owed Accepted plain l e ok = absurd ok
-received_at Dce window c false (Open m) false n owed Accepted plain l e ok = absurd ok
-received_at role window c false (Open m) false n owed ClearConfirmation plain l e ok = absurd ok
-received_at role window c false (Open m) false n owed ResetConfirmation plain l e ok = absurd ok
-received_at role window c false (Open m) false n owed (Data x y d) plain l e ok = flows role window c m n owed (Data x y d) refl refl ok
-received_at role window c false (Open m) false n owed (Interrupt x) plain l e ok = flows role window c m n owed (Interrupt x) refl refl ok
-received_at role window c false (Open m) false n owed InterruptConfirmation plain l e ok = flows role window c m n owed InterruptConfirmation refl refl ok
-received_at role window c false (Open m) false n owed (ReceiveReady x) plain l e ok = flows role window c m n owed (ReceiveReady x) refl refl ok
-received_at role window c false (Open m) false n owed (ReceiveNotReady x) plain l e ok = flows role window c m n owed (ReceiveNotReady x) refl refl ok
+received_at role flow c false (Open m) false n owed (Restart x y) plain l e ok = absurd (not_payload plain)
+received_at role flow c false (Open m) false n owed RestartConfirmation plain l e ok = absurd (not_payload' plain)
+received_at role flow c false (Open m) false n owed (Call p) plain l e ok = absurd ok
+received_at Dte flow c false (Open m) false n owed Accepted plain l e ok = absurd ok
+received_at Dce flow c false (Open m) false n owed Accepted plain l e ok = absurd ok
+received_at role flow c false (Open m) false n owed ClearConfirmation plain l e ok = absurd ok
+received_at role flow c false (Open m) false n owed ResetConfirmation plain l e ok = absurd ok
+received_at role flow c false (Open m) false n owed (Data x y d) plain l e ok = flows role flow c m n owed (Data x y d) refl refl ok
+received_at role flow c false (Open m) false n owed (Interrupt x) plain l e ok = flows role flow c m n owed (Interrupt x) refl refl ok
+received_at role flow c false (Open m) false n owed InterruptConfirmation plain l e ok = flows role flow c m n owed InterruptConfirmation refl refl ok
+received_at role flow c false (Open m) false n owed (ReceiveReady x) plain l e ok = flows role flow c m n owed (ReceiveReady x) refl refl ok
+received_at role flow c false (Open m) false n owed (ReceiveNotReady x) plain l e ok = flows role flow c m n owed (ReceiveNotReady x) refl refl ok

@@ -1,6 +1,7 @@
 -- In a use in which anything was done one end accepted a call, and the other one had placed it.
 use Rattle.std.proofs.Common.{◌≡◌, ℕ, Bool, true, false, ◌&&◌, ◌||◌, List, is_some, refl, sym, ap, subst, ◌∙◌}
 use Rattle.link_timers.specs.declared.role.Role.{Role}
+use Rattle.packet_channel.specs.declared.flow.Flow.{Flow}
 use Rattle.packet_layer.specs.Packets.{Body}
 use Rattle.packet_laws.specs.History.{Epoch, History}
 use Rattle.packet_layer.specs.Channel.{Channel}
@@ -28,8 +29,8 @@ is_open v Waiting g i h = absurd (h (blank v g i))
 is_open v Collided g i h = absurd (h (blank v g i))
 is_open v (Open m) g i h = (m, refl)
 
-pub one_answers : (window : ℕ) (role : Role) (x y : Whole) (o b : List Body) (st zt : History) → HistoryTie x st → HistoryTie y zt → GoodWhole window role (record { me = x; you = y; out = o; back = b }) → OneAnswers st zt
-one_answers window role x y o b st zt p q i = record {
+pub one_answers : (flow : Flow) (role : Role) (x y : Whole) (o b : List Body) (st zt : History) → HistoryTie x st → HistoryTie y zt → GoodWhole flow role (record { me = x; you = y; out = o; back = b }) → OneAnswers st zt
+one_answers flow role x y o b st zt p q i = record {
   answered = λ r u g some.
       let call = (i.inners r).inners u in
       let open_ = is_open (at (at x r) u) (at (at x r) u).stage g call.idle_me (λ none. some (subst (λ (e : Epoch). HasNoLogs e) (sym (p.epochs_are r u g)) none)) in
@@ -62,8 +63,8 @@ open_whole : (own : Bool) (s : Uses) → (stored_whole own s).state ≡ Transfer
 open_whole true s h = absurd cc
 open_whole false s h = open_use s.own s.now h
 
-pub is_accepted : (window : ℕ) (role : Role) (w : Line) (s c : ℕ) → Tied window role w s c → IsAccepted w.me (w.you.histories s c) s c
-is_accepted window role w s c t ch g up found transfer =
+pub is_accepted : (flow : Flow) (role : Role) (w : Line) (s c : ℕ) → Tied flow role w s c → IsAccepted w.me (w.you.histories s c) s c
+is_accepted flow role w s c t ch g up found transfer =
     let x : Whole = t.x in let y : Whole = t.y in
     let st : History = w.me.histories s c in
     let zt : History = w.you.histories s c in

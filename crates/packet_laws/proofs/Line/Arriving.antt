@@ -4,6 +4,7 @@ use Rattle.std.proofs.lemmas.Bool.{ne_eqb, eqb-true, eqb-false, cases_eq}
 use Rattle.std.proofs.lemmas.Option.{slice_get_within}
 use Rattle.link_timers.specs.declared.role.Role.{Role}
 use Rattle.link_timers.specs.Role.{other_of}
+use Rattle.packet_channel.specs.declared.flow.Flow.{Flow}
 use Rattle.packet_layer.specs.Packets.{Body, Packet, Received, Reason}
 use Rattle.packet_layer.specs.Packets.Body.{Restart, RestartConfirmation}
 use Rattle.packet_layer.specs.Channel.{Channel, Step, received, closed_channel}
@@ -24,10 +25,10 @@ use Rattle.packet_laws.proofs.Line.Lines.{on_c, Well, WellOf, AllWell, AllRestar
 use Rattle.packet_laws.proofs.Line.Moves.{SameLine, found_same, map_length, not_now}
 
 -- what the arrival makes of the channel
-pub record Arrival (window : ℕ) (role : Role) (x y : Whole) (link b : List Body) (l : Layer) (c : ℕ) (f : History → History) : Type 0 where
+pub record Arrival (flow : Flow) (role : Role) (x y : Whole) (link b : List Body) (l : Layer) (c : ℕ) (f : History → History) : Type 0 where
   pub next : Whole
   pub rest : List Body
-  pub good : GoodWhole window role (record { me = next; you = y; out = link ++ rest; back = b })
+  pub good : GoodWhole flow role (record { me = next; you = y; out = link ++ rest; back = b })
   pub settled : Settled next
   pub frozen : Frozen x → Frozen next
   pub history : (st : History) → HistoryTie x st → HistoryTie next (f st)
@@ -38,28 +39,28 @@ own_path x v e = ap (λ (o : Bool). record x { own = o }) e
 
 -- ---- a restart packet
 
-pub confirm_good : (window : ℕ) (role : Role) (x y : Whole) (o ts : List Body) (t : Body) → IsRestart t → x.own ≡ true → GoodWhole window role (record { me = x; you = y; out = o; back = t ∷ ts })
-    → GoodWhole window role (record { me = confirmed_side x; you = y; out = o; back = ts })
-confirm_good window role x y o ts (Restart a d) r e g =
-    subst (λ (v : Bool). GoodWhole window role (does (record { me = x; you = y; out = o; back = ts }) (side_hears RestartConfirmation first_use (λ s t. uses_hear window role s t) Request v x (Restart a d)))) e
-    (whole_heard window role (record { me = x; you = y; out = o; back = [] }) (Restart a d) ts g).1
-confirm_good window role x y o ts RestartConfirmation r e g =
-    subst (λ (v : Bool). GoodWhole window role (does (record { me = x; you = y; out = o; back = ts }) (side_hears RestartConfirmation first_use (λ s t. uses_hear window role s t) Confirmation v x RestartConfirmation))) e
-    (whole_heard window role (record { me = x; you = y; out = o; back = [] }) RestartConfirmation ts g).1
-confirm_good window role x y o ts _ r e g = absurd r
+pub confirm_good : (flow : Flow) (role : Role) (x y : Whole) (o ts : List Body) (t : Body) → IsRestart t → x.own ≡ true → GoodWhole flow role (record { me = x; you = y; out = o; back = t ∷ ts })
+    → GoodWhole flow role (record { me = confirmed_side x; you = y; out = o; back = ts })
+confirm_good flow role x y o ts (Restart a d) r e g =
+    subst (λ (v : Bool). GoodWhole flow role (does (record { me = x; you = y; out = o; back = ts }) (side_hears RestartConfirmation first_use (λ s t. uses_hear flow role s t) Request v x (Restart a d)))) e
+    (whole_heard flow role (record { me = x; you = y; out = o; back = [] }) (Restart a d) ts g).1
+confirm_good flow role x y o ts RestartConfirmation r e g =
+    subst (λ (v : Bool). GoodWhole flow role (does (record { me = x; you = y; out = o; back = ts }) (side_hears RestartConfirmation first_use (λ s t. uses_hear flow role s t) Confirmation v x RestartConfirmation))) e
+    (whole_heard flow role (record { me = x; you = y; out = o; back = [] }) RestartConfirmation ts g).1
+confirm_good flow role x y o ts _ r e g = absurd r
 
 pub settled_first : (s : Uses) → s ≡ first_use → SettledWhole false s
 settled_first s e = subst (λ (v : Uses). SettledWhole false v) (sym e) tt
 
-confirms_restart : (window : ℕ) (role : Role) (x y : Whole) (link b ts rest : List Body) (l : Layer) (c : ℕ) (t : Body) → IsRestart t → x.own ≡ true
-    → GoodWhole window role (record { me = x; you = y; out = link ++ rest; back = t ∷ ts }) → Settled x → Present l c x rest
-    → Arrival window role x y link ts (record l { phase = PacketReady; served_last = 0; notes = [] }) c (λ st. st)
-confirms_restart window role x y link b ts rest l c t r e g s p =
+confirms_restart : (flow : Flow) (role : Role) (x y : Whole) (link b ts rest : List Body) (l : Layer) (c : ℕ) (t : Body) → IsRestart t → x.own ≡ true
+    → GoodWhole flow role (record { me = x; you = y; out = link ++ rest; back = t ∷ ts }) → Settled x → Present l c x rest
+    → Arrival flow role x y link ts (record l { phase = PacketReady; served_last = 0; notes = [] }) c (λ st. st)
+confirms_restart flow role x y link b ts rest l c t r e g s p =
     let first : x.now ≡ first_use = subst (λ (v : Bool). SettledWhole v x.now) e s in
     record {
       next = confirmed_side x;
       rest = rest;
-      good = confirm_good window role x y (link ++ rest) ts t r e g;
+      good = confirm_good flow role x y (link ++ rest) ts t r e g;
       settled = settled_first x.now first;
       frozen = λ f. f;
       history = λ st q. record { restart_is = q.restart_is; use_is = q.use_is; epoch_is = q.epoch_is; epochs_are = q.epochs_are };
@@ -73,23 +74,23 @@ confirms_restart window role x y link b ts rest l c t r e g s p =
       };
     }
 
-learn_out : (window : ℕ) (role : Role) (x y : Whole) (link ts rest owed owed_c : List Body) (a d : ℕ) → AllPayload restart_kind owed_c → x.own ≡ false → rest ≡ owed ++ owed_c
-    → GoodWhole window role (record { me = x; you = y; out = link ++ rest; back = Restart a d ∷ ts }) → GoodWhole window role (record { me = advanced first_use false x; you = y; out = link ++ (owed ++ RestartConfirmation ∷ []); back = ts })
-learn_out window role x y link ts rest owed owed_c a d plain ready e g =
-    subst (λ (o : List Body). GoodWhole window role (record { me = advanced first_use false x; you = y; out = o; back = ts })) (append_assoc link owed (RestartConfirmation ∷ []))
-    (whole_learns window role a d x y (link ++ owed) owed_c ts plain ready
-    (subst (λ (o : List Body). GoodWhole window role (record { me = x; you = y; out = o; back = Restart a d ∷ ts })) (ap (λ (q : List Body). link ++ q) e ∙ sym (append_assoc link owed owed_c)) g))
+learn_out : (flow : Flow) (role : Role) (x y : Whole) (link ts rest owed owed_c : List Body) (a d : ℕ) → AllPayload restart_kind owed_c → x.own ≡ false → rest ≡ owed ++ owed_c
+    → GoodWhole flow role (record { me = x; you = y; out = link ++ rest; back = Restart a d ∷ ts }) → GoodWhole flow role (record { me = advanced first_use false x; you = y; out = link ++ (owed ++ RestartConfirmation ∷ []); back = ts })
+learn_out flow role x y link ts rest owed owed_c a d plain ready e g =
+    subst (λ (o : List Body). GoodWhole flow role (record { me = advanced first_use false x; you = y; out = o; back = ts })) (append_assoc link owed (RestartConfirmation ∷ []))
+    (whole_learns flow role a d x y (link ++ owed) owed_c ts plain ready
+    (subst (λ (o : List Body). GoodWhole flow role (record { me = x; you = y; out = o; back = Restart a d ∷ ts })) (ap (λ (q : List Body). link ++ q) e ∙ sym (append_assoc link owed owed_c)) g))
 
-learns_at : (window : ℕ) (role : Role) (x y : Whole) (link ts rest : List Body) (l : Layer) (c : ℕ) (a d : ℕ) (relink : Bool) → l.relink ≡ relink → x.own ≡ false
-    → GoodWhole window role (record { me = x; you = y; out = link ++ rest; back = Restart a d ∷ ts }) → Settled x → Present l c x rest
-    → Arrival window role x y link ts (owes_restart (Some RestartConfirmation) (record (all_closed Reason.FarRestart (unread l)) { served_last = 0 })) c (λ st. next_restart_of st)
-learns_at window role x y link ts rest l c a d false rl ready g s p = record {
+learns_at : (flow : Flow) (role : Role) (x y : Whole) (link ts rest : List Body) (l : Layer) (c : ℕ) (a d : ℕ) (relink : Bool) → l.relink ≡ relink → x.own ≡ false
+    → GoodWhole flow role (record { me = x; you = y; out = link ++ rest; back = Restart a d ∷ ts }) → Settled x → Present l c x rest
+    → Arrival flow role x y link ts (owes_restart (Some RestartConfirmation) (record (all_closed Reason.FarRestart (unread l)) { served_last = 0 })) c (λ st. next_restart_of st)
+learns_at flow role x y link ts rest l c a d false rl ready g s p = record {
   next = advanced first_use false x;
   rest = l.owed ++ RestartConfirmation ∷ [];
-  good = learn_out window role x y link ts rest l.owed p.owed a d p.plain ready (p.rest_is rl) g;
+  good = learn_out flow role x y link ts rest l.owed p.owed a d p.plain ready (p.rest_is rl) g;
   settled = tt;
   frozen = λ f. frozen_next false x s f;
-  history = λ st t. restart_history_tie false x st (laters window role x y (link ++ rest) (Restart a d ∷ ts) g) t;
+  history = λ st t. restart_history_tie false x st (laters flow role x y (link ++ rest) (Restart a d ∷ ts) g) t;
   present = record {
     phase_is = p.phase_is ∙ ap (λ (v : Bool). phase_of v) ready;
     owed = [];
@@ -99,13 +100,13 @@ learns_at window role x y link ts rest l c a d false rl ready g s p = record {
     rest_is = λ h. sym (owed_said l.owed (Some RestartConfirmation) (set_if_false _ l.relink h).0) ∙ sym (append-nil _);
   };
 }
-learns_at window role x y link ts rest l c a d true rl ready g s p = record {
+learns_at flow role x y link ts rest l c a d true rl ready g s p = record {
   next = advanced first_use false x;
   rest = rest ++ RestartConfirmation ∷ [];
-  good = learn_out window role x y link ts rest rest [] a d tt ready (sym (append-nil rest)) g;
+  good = learn_out flow role x y link ts rest rest [] a d tt ready (sym (append-nil rest)) g;
   settled = tt;
   frozen = λ f. frozen_next false x s f;
-  history = λ st t. restart_history_tie false x st (laters window role x y (link ++ rest) (Restart a d ∷ ts) g) t;
+  history = λ st t. restart_history_tie false x st (laters flow role x y (link ++ rest) (Restart a d ∷ ts) g) t;
   present = record {
     phase_is = p.phase_is ∙ ap (λ (v : Bool). phase_of v) ready;
     owed = [];
@@ -116,89 +117,89 @@ learns_at window role x y link ts rest l c a d true rl ready g s p = record {
   };
 }
 
-pub confirmation_unexpected : (window : ℕ) (role : Role) (x y : Whole) (o ts : List Body) → x.own ≡ false → GoodWhole window role (record { me = x; you = y; out = o; back = RestartConfirmation ∷ ts }) → ⊥
-confirmation_unexpected window role x y o ts e g =
-    subst (λ (v : Bool). side_ok (λ s t. uses_ok window role s t) Confirmation v x RestartConfirmation) e (whole_heard window role (record { me = x; you = y; out = o; back = [] }) RestartConfirmation ts g).0
+pub confirmation_unexpected : (flow : Flow) (role : Role) (x y : Whole) (o ts : List Body) → x.own ≡ false → GoodWhole flow role (record { me = x; you = y; out = o; back = RestartConfirmation ∷ ts }) → ⊥
+confirmation_unexpected flow role x y o ts e g =
+    subst (λ (v : Bool). side_ok (λ s t. uses_ok flow role s t) Confirmation v x RestartConfirmation) e (whole_heard flow role (record { me = x; you = y; out = o; back = [] }) RestartConfirmation ts g).0
 
-restart_arrives : (window : ℕ) (role : Role) (x y : Whole) (link ts rest : List Body) (l : Layer) (c : ℕ) (t : Body) (own : Bool) → IsRestart t → x.own ≡ own
-    → GoodWhole window role (record { me = x; you = y; out = link ++ rest; back = t ∷ ts }) → Settled x → Present l c x rest
-    → Arrival window role x y link ts (restart_packet (phase_of own) t (unread l)) c (λ st. restart_history (phase_of own) t st)
-restart_arrives window role x y link ts rest l c (Restart a d) true r e g s p = confirms_restart window role x y link [] ts rest l c (Restart a d) tt e g s p
-restart_arrives window role x y link ts rest l c RestartConfirmation true r e g s p = confirms_restart window role x y link [] ts rest l c RestartConfirmation tt e g s p
-restart_arrives window role x y link ts rest l c (Restart a d) false r e g s p =
-    learns_at window role x y link ts rest l c a d l.relink refl e g s p
-restart_arrives window role x y link ts rest l c RestartConfirmation false r e g s p = absurd (confirmation_unexpected window role x y (link ++ rest) ts e g)
-restart_arrives window role x y link ts rest l c _ own r e g s p = absurd r
+restart_arrives : (flow : Flow) (role : Role) (x y : Whole) (link ts rest : List Body) (l : Layer) (c : ℕ) (t : Body) (own : Bool) → IsRestart t → x.own ≡ own
+    → GoodWhole flow role (record { me = x; you = y; out = link ++ rest; back = t ∷ ts }) → Settled x → Present l c x rest
+    → Arrival flow role x y link ts (restart_packet (phase_of own) t (unread l)) c (λ st. restart_history (phase_of own) t st)
+restart_arrives flow role x y link ts rest l c (Restart a d) true r e g s p = confirms_restart flow role x y link [] ts rest l c (Restart a d) tt e g s p
+restart_arrives flow role x y link ts rest l c RestartConfirmation true r e g s p = confirms_restart flow role x y link [] ts rest l c RestartConfirmation tt e g s p
+restart_arrives flow role x y link ts rest l c (Restart a d) false r e g s p =
+    learns_at flow role x y link ts rest l c a d l.relink refl e g s p
+restart_arrives flow role x y link ts rest l c RestartConfirmation false r e g s p = absurd (confirmation_unexpected flow role x y (link ++ rest) ts e g)
+restart_arrives flow role x y link ts rest l c _ own r e g s p = absurd r
 
 -- ---- a packet of the channel
 
-pub discard_good : (window : ℕ) (role : Role) (x y : Whole) (o ts : List Body) (t : Body) → restart_kind t ≡ Payload → x.own ≡ true → GoodWhole window role (record { me = x; you = y; out = o; back = t ∷ ts })
-    → GoodWhole window role (record { me = x; you = y; out = o; back = ts })
-discard_good window role x y o ts t k e g =
-    subst (λ (v : Bool). GoodWhole window role (does (record { me = x; you = y; out = o; back = ts }) (side_hears RestartConfirmation first_use (λ s t. uses_hear window role s t) Payload v x t))) e
-    (subst (λ (q : Kind). GoodWhole window role (does (record { me = x; you = y; out = o; back = ts }) (side_hears RestartConfirmation first_use (λ s t. uses_hear window role s t) q x.own x t))) k
-    (whole_heard window role (record { me = x; you = y; out = o; back = [] }) t ts g).1)
+pub discard_good : (flow : Flow) (role : Role) (x y : Whole) (o ts : List Body) (t : Body) → restart_kind t ≡ Payload → x.own ≡ true → GoodWhole flow role (record { me = x; you = y; out = o; back = t ∷ ts })
+    → GoodWhole flow role (record { me = x; you = y; out = o; back = ts })
+discard_good flow role x y o ts t k e g =
+    subst (λ (v : Bool). GoodWhole flow role (does (record { me = x; you = y; out = o; back = ts }) (side_hears RestartConfirmation first_use (λ s t. uses_hear flow role s t) Payload v x t))) e
+    (subst (λ (q : Kind). GoodWhole flow role (does (record { me = x; you = y; out = o; back = ts }) (side_hears RestartConfirmation first_use (λ s t. uses_hear flow role s t) q x.own x t))) k
+    (whole_heard flow role (record { me = x; you = y; out = o; back = [] }) t ts g).1)
 
-says_payload : (window : ℕ) (role : Role) (own : Bool) (x : Whole) (t : Body) → handshake.SaysPayload restart_kind (side_hears RestartConfirmation first_use (λ s b. uses_hear window role s b) Payload own x t).says
-says_payload window role true x t = tt
-says_payload window role false x t = uses_say (λ o. handshake.SaysPayload restart_kind o) tt refl refl window role x.now t
+says_payload : (flow : Flow) (role : Role) (own : Bool) (x : Whole) (t : Body) → handshake.SaysPayload restart_kind (side_hears RestartConfirmation first_use (λ s b. uses_hear flow role s b) Payload own x t).says
+says_payload flow role true x t = tt
+says_payload flow role false x t = uses_say (λ o. handshake.SaysPayload restart_kind o) tt refl refl flow role x.now t
 
-pub says_plain : (window : ℕ) (role : Role) (x : Whole) (t : Body) → restart_kind t ≡ Payload → handshake.SaysPayload restart_kind (whole_hears window role x t).says
-says_plain window role x t k = subst (λ (q : Kind). handshake.SaysPayload restart_kind (side_hears RestartConfirmation first_use (λ s b. uses_hear window role s b) q x.own x t).says) (sym k) (says_payload window role x.own x t)
+pub says_plain : (flow : Flow) (role : Role) (x : Whole) (t : Body) → restart_kind t ≡ Payload → handshake.SaysPayload restart_kind (whole_hears flow role x t).says
+says_plain flow role x t k = subst (λ (q : Kind). handshake.SaysPayload restart_kind (side_hears RestartConfirmation first_use (λ s b. uses_hear flow role s b) q x.own x t).says) (sym k) (says_payload flow role x.own x t)
 
-pub ties_of : (window : ℕ) (role : Role) (x y : Whole) (o ts : List Body) (c : ℕ) (owed : List Body) (t : Body) → restart_kind t ≡ Payload → x.own ≡ false → Settled x
-    → GoodWhole window role (record { me = x; you = y; out = o; back = t ∷ ts }) → Ties role window c x owed t
-ties_of window role x y o ts c owed t k e s g =
+pub ties_of : (flow : Flow) (role : Role) (x y : Whole) (o ts : List Body) (c : ℕ) (owed : List Body) (t : Body) → restart_kind t ≡ Payload → x.own ≡ false → Settled x
+    → GoodWhole flow role (record { me = x; you = y; out = o; back = t ∷ ts }) → Ties role flow c x owed t
+ties_of flow role x y o ts c owed t k e s g =
     let path : x ≡ record x { own = false } = own_path x false e in
-    subst (λ (n : Whole). Ties role window c n owed t) (sym path)
-    (received_at role window c x.now.own x.now.now.stage x.now.now.call.own x owed t k
-    (subst (λ (n : Whole). Laters n) path (laters window role x y o (t ∷ ts) g))
+    subst (λ (n : Whole). Ties role flow c n owed t) (sym path)
+    (received_at role flow c x.now.own x.now.now.stage x.now.now.call.own x owed t k
+    (subst (λ (n : Whole). Laters n) path (laters flow role x y o (t ∷ ts) g))
     (subst (λ (v : Bool). SettledWhole v x.now) e s)
-    (subst (λ (n : Whole). whole_ok window role n t) path (whole_heard window role (record { me = x; you = y; out = o; back = [] }) t ts g).0))
+    (subst (λ (n : Whole). whole_ok flow role n t) path (whole_heard flow role (record { me = x; you = y; out = o; back = [] }) t ts g).0))
 
 -- no earlier restart is touched
-past_heard : (window : ℕ) (role : Role) (k : Kind) (own : Bool) (x : Whole) (t : Body) → k ≡ Payload → (side_hears RestartConfirmation first_use (λ s b. uses_hear window role s b) k own x t).end_.past ≡ x.past
-past_heard window role Payload true x t e = refl
-past_heard window role Payload false x t e = refl
-past_heard window role Request own x t e = absurd cc
-past_heard window role Confirmation own x t e = absurd cc
+past_heard : (flow : Flow) (role : Role) (k : Kind) (own : Bool) (x : Whole) (t : Body) → k ≡ Payload → (side_hears RestartConfirmation first_use (λ s b. uses_hear flow role s b) k own x t).end_.past ≡ x.past
+past_heard flow role Payload true x t e = refl
+past_heard flow role Payload false x t e = refl
+past_heard flow role Request own x t e = absurd cc
+past_heard flow role Confirmation own x t e = absurd cc
 
-channel_arrives : (window : ℕ) (role : Role) (x y : Whole) (link ts rest : List Body) (l : Layer) (c : ℕ) (t : Body) (own : Bool) → l.role ≡ role → l.window ≡ window → restart_kind t ≡ Payload → x.own ≡ own
-    → GoodWhole window role (record { me = x; you = y; out = link ++ rest; back = t ∷ ts }) → Settled x → Present l c x rest
-    → Arrival window role x y link ts (on_channel (phase_of own) (unread l) c (λ ch. received role window c ch t)) c (λ st. channel_history (phase_of own) (channel_of l c) (λ ch z. received_history role window c ch t z) st)
-channel_arrives window role x y link ts rest l c t true ro wi k e g s p = record {
+channel_arrives : (flow : Flow) (role : Role) (x y : Whole) (link ts rest : List Body) (l : Layer) (c : ℕ) (t : Body) (own : Bool) → l.role ≡ role → l.flow ≡ flow → restart_kind t ≡ Payload → x.own ≡ own
+    → GoodWhole flow role (record { me = x; you = y; out = link ++ rest; back = t ∷ ts }) → Settled x → Present l c x rest
+    → Arrival flow role x y link ts (on_channel (phase_of own) (unread l) c (λ ch. received role flow c ch t)) c (λ st. channel_history (phase_of own) (channel_of l c) (λ ch z. received_history role flow c ch t z) st)
+channel_arrives flow role x y link ts rest l c t true ro wi k e g s p = record {
   next = x;
   rest = rest;
-  good = discard_good window role x y (link ++ rest) ts t k e g;
+  good = discard_good flow role x y (link ++ rest) ts t k e g;
   settled = s;
   frozen = λ f. f;
   history = λ st q. q;
   present = record { phase_is = p.phase_is; owed = p.owed; channel_is = p.channel_is; plain = p.plain; restarts = p.restarts; rest_is = p.rest_is };
 }
-channel_arrives window role x y link ts rest l c t false ro wi k e g s p =
+channel_arrives flow role x y link ts rest l c t false ro wi k e g s p =
     let ch : Channel = shown (stored x) p.owed in
-    let st : Step = received role window c ch t in
-    let ties = ties_of window role x y (link ++ rest) ts c p.owed t k e s g in
-    let says : Option Body = (whole_hears window role x t).says in
-    let x' : Whole = (whole_hears window role x t).end_ in
-    let good' = (whole_heard window role (record { me = x; you = y; out = link ++ rest; back = [] }) t ts g).1 in
+    let st : Step = received role flow c ch t in
+    let ties = ties_of flow role x y (link ++ rest) ts c p.owed t k e s g in
+    let says : Option Body = (whole_hears flow role x t).says in
+    let x' : Whole = (whole_hears flow role x t).end_ in
+    let good' = (whole_heard flow role (record { me = x; you = y; out = link ++ rest; back = [] }) t ts g).1 in
     let owing_is : owing st ≡ shown (stored x') (with_owed p.owed says) =
     ap (λ (q : Channel). record q { owed = with_owed q.owed st.owes }) ties.channel_is ∙ ap (λ (o : Option Body). shown (stored x') (with_owed p.owed o)) ties.owes_is in
     let limit : passes_limit st.channel.owed st.owes ≡ false → passes_limit p.owed says ≡ false = λ h.
     sym (ap (λ (q : Channel). passes_limit q.owed st.owes) ties.channel_is ∙ ap (λ (o : Option Body). passes_limit p.owed o) ties.owes_is) ∙ h in
-    subst (λ (found : Option Channel). Arrival window role x y link ts (on_found (unread l) c (λ q. received role window c q t) found) c (λ z. found_history found (λ q v. received_history role window c q t v) z)) (sym p.channel_is)
+    subst (λ (found : Option Channel). Arrival flow role x y link ts (on_found (unread l) c (λ q. received role flow c q t) found) c (λ z. found_history found (λ q v. received_history role flow c q t v) z)) (sym p.channel_is)
     (record {
       next = x';
       rest = said says rest;
-      good = subst (λ (o : List Body). GoodWhole window role (record { me = x'; you = y; out = o; back = ts })) (said_append link rest says) good';
+      good = subst (λ (o : List Body). GoodWhole flow role (record { me = x'; you = y; out = o; back = ts })) (said_append link rest says) good';
       settled = ties.settled;
-      frozen = λ f. frozen_same x x' (past_heard window role (restart_kind t) x.own x t k) f;
+      frozen = λ f. frozen_same x x' (past_heard flow role (restart_kind t) x.own x t k) f;
       history = ties.history;
       present = record {
         phase_is = p.phase_is ∙ ap (λ (v : Bool). phase_of v) (e ∙ sym ties.ready);
         owed = with_owed p.owed says;
         channel_is = nth_same l.channels c ch (owing st) p.channel_is ∙ ap (λ (q : Channel). Some q) owing_is;
-        plain = owed_payload p.owed says p.plain (says_plain window role x t k);
+        plain = owed_payload p.owed says p.plain (says_plain flow role x t k);
         restarts = p.restarts;
         rest_is = λ h.
             let z = set_if_false (passes_limit st.channel.owed st.owes) l.relink h in
@@ -221,10 +222,10 @@ stays l c p F ne PacketReady = stays_found l c p.channel F ne (channel_of l p.ch
 stays l c p F ne OwnRestart = (refl, refl, refl, λ h. h)
 stays l c p F ne NoSession = (refl, refl, refl, λ h. h)
 
-other_arrival : (window : ℕ) (role : Role) (x y : Whole) (link bs rest : List Body) (l : Layer) (c : ℕ) (p : Packet) (l' : Layer) (F : History → History) → (c ≡ p.channel → ⊥) → Stays l l' c
-    → GoodWhole window role (record { me = x; you = y; out = link ++ rest; back = bs }) → Settled x → Present l c x rest
-    → Arrival window role x y link bs l' c (λ st. cond (c == p.channel) (F st) st)
-other_arrival window role x y link bs rest l c p l' F ne k g s pr = record {
+other_arrival : (flow : Flow) (role : Role) (x y : Whole) (link bs rest : List Body) (l : Layer) (c : ℕ) (p : Packet) (l' : Layer) (F : History → History) → (c ≡ p.channel → ⊥) → Stays l l' c
+    → GoodWhole flow role (record { me = x; you = y; out = link ++ rest; back = bs }) → Settled x → Present l c x rest
+    → Arrival flow role x y link bs l' c (λ st. cond (c == p.channel) (F st) st)
+other_arrival flow role x y link bs rest l c p l' F ne k g s pr = record {
   next = x;
   rest = rest;
   good = g;
@@ -241,27 +242,27 @@ other_arrival window role x y link bs rest l c p l' F ne k g s pr = record {
   };
 }
 
-any_arrival : (window : ℕ) (role : Role) (x y : Whole) (link bs back rest : List Body) (l : Layer) (c : ℕ) (p : Packet) (v0 v1 : Bool) → l.role ≡ role → l.window ≡ window
+any_arrival : (flow : Flow) (role : Role) (x y : Whole) (link bs back rest : List Body) (l : Layer) (c : ℕ) (p : Packet) (v0 v1 : Bool) → l.role ≡ role → l.flow ≡ flow
     → (p.channel == 0) ≡ v0 → (p.channel == c) ≡ v1 → WellOf v0 v1 p.body → back ≡ cond (v0 || v1) (p.body ∷ bs) bs
-    → GoodWhole window role (record { me = x; you = y; out = link ++ rest; back = back }) → Settled x → Present l c x rest
-    → Arrival window role x y link bs (cond v0 (restart_packet l.phase p.body (unread l)) (on_channel l.phase (unread l) p.channel (λ ch. received role window p.channel ch p.body))) c
-    (λ st. cond v0 (restart_history l.phase p.body st) (cond (c == p.channel) (channel_history l.phase (channel_of l p.channel) (λ ch z. received_history role window p.channel ch p.body z) st) st))
-any_arrival window role x y link bs back rest l c p true v1 ro wi e0 e1 well b_is g s pr =
-    subst (λ (ph : Phase). Arrival window role x y link bs (restart_packet ph p.body (unread l)) c (λ st. restart_history ph p.body st)) (sym pr.phase_is)
-    (restart_arrives window role x y link bs rest l c p.body x.own well refl (subst (λ (q : List Body). GoodWhole window role (record { me = x; you = y; out = link ++ rest; back = q })) b_is g) s pr)
-any_arrival window role x y link bs back rest l c p false true ro wi e0 e1 well b_is g s pr =
+    → GoodWhole flow role (record { me = x; you = y; out = link ++ rest; back = back }) → Settled x → Present l c x rest
+    → Arrival flow role x y link bs (cond v0 (restart_packet l.phase p.body (unread l)) (on_channel l.phase (unread l) p.channel (λ ch. received role flow p.channel ch p.body))) c
+    (λ st. cond v0 (restart_history l.phase p.body st) (cond (c == p.channel) (channel_history l.phase (channel_of l p.channel) (λ ch z. received_history role flow p.channel ch p.body z) st) st))
+any_arrival flow role x y link bs back rest l c p true v1 ro wi e0 e1 well b_is g s pr =
+    subst (λ (ph : Phase). Arrival flow role x y link bs (restart_packet ph p.body (unread l)) c (λ st. restart_history ph p.body st)) (sym pr.phase_is)
+    (restart_arrives flow role x y link bs rest l c p.body x.own well refl (subst (λ (q : List Body). GoodWhole flow role (record { me = x; you = y; out = link ++ rest; back = q })) b_is g) s pr)
+any_arrival flow role x y link bs back rest l c p false true ro wi e0 e1 well b_is g s pr =
     let here : c ≡ p.channel = sym (eqb-true p.channel c e1) in
-    subst (λ (ph : Phase). Arrival window role x y link bs (on_channel ph (unread l) p.channel (λ ch. received role window p.channel ch p.body)) c
-    (λ st. cond (c == p.channel) (channel_history ph (channel_of l p.channel) (λ ch z. received_history role window p.channel ch p.body z) st) st)) (sym pr.phase_is)
-    (subst (λ (k : ℕ). Arrival window role x y link bs (on_channel (phase_of x.own) (unread l) k (λ ch. received role window k ch p.body)) c
-    (λ st. cond (c == k) (channel_history (phase_of x.own) (channel_of l k) (λ ch z. received_history role window k ch p.body z) st) st)) here
-    (subst (λ (v : Bool). Arrival window role x y link bs (on_channel (phase_of x.own) (unread l) c (λ ch. received role window c ch p.body)) c
-    (λ st. cond v (channel_history (phase_of x.own) (channel_of l c) (λ ch z. received_history role window c ch p.body z) st) st)) (sym (same c))
-    (channel_arrives window role x y link bs rest l c p.body x.own ro wi well refl (subst (λ (q : List Body). GoodWhole window role (record { me = x; you = y; out = link ++ rest; back = q })) b_is g) s pr)))
-any_arrival window role x y link bs back rest l c p false false ro wi e0 e1 well b_is g s pr =
-    other_arrival window role x y link bs rest l c p (on_channel l.phase (unread l) p.channel (λ ch. received role window p.channel ch p.body)) _
-    (λ h. eqb-false p.channel c e1 (sym h)) (stays l c p (λ ch. received role window p.channel ch p.body) (λ h. eqb-false p.channel c e1 (sym h)) l.phase)
-    (subst (λ (q : List Body). GoodWhole window role (record { me = x; you = y; out = link ++ rest; back = q })) b_is g) s pr
+    subst (λ (ph : Phase). Arrival flow role x y link bs (on_channel ph (unread l) p.channel (λ ch. received role flow p.channel ch p.body)) c
+    (λ st. cond (c == p.channel) (channel_history ph (channel_of l p.channel) (λ ch z. received_history role flow p.channel ch p.body z) st) st)) (sym pr.phase_is)
+    (subst (λ (k : ℕ). Arrival flow role x y link bs (on_channel (phase_of x.own) (unread l) k (λ ch. received role flow k ch p.body)) c
+    (λ st. cond (c == k) (channel_history (phase_of x.own) (channel_of l k) (λ ch z. received_history role flow k ch p.body z) st) st)) here
+    (subst (λ (v : Bool). Arrival flow role x y link bs (on_channel (phase_of x.own) (unread l) c (λ ch. received role flow c ch p.body)) c
+    (λ st. cond v (channel_history (phase_of x.own) (channel_of l c) (λ ch z. received_history role flow c ch p.body z) st) st)) (sym (same c))
+    (channel_arrives flow role x y link bs rest l c p.body x.own ro wi well refl (subst (λ (q : List Body). GoodWhole flow role (record { me = x; you = y; out = link ++ rest; back = q })) b_is g) s pr)))
+any_arrival flow role x y link bs back rest l c p false false ro wi e0 e1 well b_is g s pr =
+    other_arrival flow role x y link bs rest l c p (on_channel l.phase (unread l) p.channel (λ ch. received role flow p.channel ch p.body)) _
+    (λ h. eqb-false p.channel c e1 (sym h)) (stays l c p (λ ch. received role flow p.channel ch p.body) (λ h. eqb-false p.channel c e1 (sym h)) l.phase)
+    (subst (λ (q : List Body). GoodWhole flow role (record { me = x; you = y; out = link ++ rest; back = q })) b_is g) s pr
 
 -- ---- the link accepted the other end's next packet
 
@@ -296,8 +297,8 @@ restart_same l c OwnRestart (Restart a d) = (refl, refl, λ t. t, refl)
 restart_same l c OwnRestart RestartConfirmation = (refl, refl, λ t. t, refl)
 restart_same l c ph _ = (refl, refl, λ t. t, refl)
 
-on_same : (l : Layer) (c : ℕ) (p : Packet) (ph : Phase) → SameLine l (on_channel ph l p.channel (λ ch. received l.role l.window p.channel ch p.body)) c
-on_same l c p PacketReady = found_same l c p.channel (λ ch. received l.role l.window p.channel ch p.body) (channel_of l p.channel)
+on_same : (l : Layer) (c : ℕ) (p : Packet) (ph : Phase) → SameLine l (on_channel ph l p.channel (λ ch. received l.role l.flow p.channel ch p.body)) c
+on_same l c p PacketReady = found_same l c p.channel (λ ch. received l.role l.flow p.channel ch p.body) (channel_of l p.channel)
 on_same l c p OwnRestart = (refl, refl, λ t. t, refl)
 on_same l c p NoSession = (refl, refl, λ t. t, refl)
 
@@ -305,7 +306,7 @@ pub packet_same : (l : Layer) (c : ℕ) (p : Packet) → SameLine l (on_packet l
 packet_same l c p =
     by_cond (λ (k : Layer). SameLine l k c) (p.channel == 0) _ _ (λ e. restart_same (unread l) c l.phase p.body) (λ e. on_same (unread l) c p l.phase)
 
-arrives_now : (w : Line) (s c : ℕ) (p : Packet) → w.me.session ≡ Some s → next_of_session w s ≡ Some p → Tied w.me.layer.window w.me.layer.role w s c → Tied w.me.layer.window w.me.layer.role (record w { me = accepts s (Some p) w.me }) s c
+arrives_now : (w : Line) (s c : ℕ) (p : Packet) → w.me.session ≡ Some s → next_of_session w s ≡ Some p → Tied w.me.layer.flow w.me.layer.role w s c → Tied w.me.layer.flow w.me.layer.role (record w { me = accepts s (Some p) w.me }) s c
 arrives_now w s c p ses got t =
     let l : Layer = w.me.layer in
     let m = t.mine in
@@ -314,8 +315,8 @@ arrives_now w s c p ses got t =
     let left : List Body = on_c c (drop (suc a) (w.you.offered s)) ++ t.yours.rest in
     let back_is : t.b ≡ cond ((p.channel == 0) || (p.channel == c)) (p.body ∷ left) left =
     t.yours.out_is ∙ ap (λ (q : List Packet). on_c c q ++ t.yours.rest) (drop_packet (w.you.offered s) a p got) ∙ cond_append ((p.channel == 0) || (p.channel == c)) p.body (on_c c (drop (suc a) (w.you.offered s))) t.yours.rest in
-    let r = any_arrival l.window l.role t.x t.y link left t.b m.rest l c p (p.channel == 0) (p.channel == c) refl refl refl refl (well_get c (w.you.offered s) a p got t.yours.well) back_is
-    (subst (λ (o : List Body). GoodWhole l.window l.role (record { me = t.x; you = t.y; out = o; back = t.b })) m.out_is t.good) m.settled (m.present ses) in
+    let r = any_arrival l.flow l.role t.x t.y link left t.b m.rest l c p (p.channel == 0) (p.channel == c) refl refl refl refl (well_get c (w.you.offered s) a p got t.yours.well) back_is
+    (subst (λ (o : List Body). GoodWhole l.flow l.role (record { me = t.x; you = t.y; out = o; back = t.b })) m.out_is t.good) m.settled (m.present ses) in
     let acc : cond (s == s) (a + 1) a ≡ suc a = ap (λ (v : Bool). cond v (a + 1) a) (same s) ∙ (omega arith) in
     let ls = packet_same l c p in
     record {
@@ -338,7 +339,7 @@ arrives_now w s c p ses got t =
         present = λ h. r.present;
         still = λ lt h. absurd (suc_zero a (sym acc ∙ h));
       };
-      yours = subst (λ (k : ℕ). EndTie l.window (other_of l.role) w.you k s c t.y left) (sym acc) (record {
+      yours = subst (λ (k : ℕ). EndTie l.flow (other_of l.role) w.you k s c t.y left) (sym acc) (record {
         role_is = t.yours.role_is;
         window_is = t.yours.window_is;
         there = t.yours.there;
@@ -354,31 +355,31 @@ arrives_now w s c p ses got t =
       });
     }
 
-pub arrives_some : (window : ℕ) (role : Role) (w : Line) (k s c : ℕ) (p : Packet) → w.me.session ≡ Some k → next_of_session w k ≡ Some p → Tied window role w s c → Tied window role (record w { me = accepts k (Some p) w.me }) s c
-arrives_some window role w k s c p ses got t =
+pub arrives_some : (flow : Flow) (role : Role) (w : Line) (k s c : ℕ) (p : Packet) → w.me.session ≡ Some k → next_of_session w k ≡ Some p → Tied flow role w s c → Tied flow role (record w { me = accepts k (Some p) w.me }) s c
+arrives_some flow role w k s c p ses got t =
     elim (cases_eq s k) [
       | inl e ↦
           let ses' : w.me.session ≡ Some s = ses ∙ ap (λ (j : ℕ). Some j) (sym e) in
           let got' : next_of_session w s ≡ Some p = subst (λ (j : ℕ). next_of_session w j ≡ Some p) (sym e) got in
-          subst (λ (j : ℕ). Tied window role (record w { me = accepts j (Some p) w.me }) s c) e
-          (subst (λ (wi : ℕ). Tied wi role (record w { me = accepts s (Some p) w.me }) s c) t.mine.window_is
-          (subst (λ (r : Role). Tied w.me.layer.window r (record w { me = accepts s (Some p) w.me }) s c) t.mine.role_is
+          subst (λ (j : ℕ). Tied flow role (record w { me = accepts j (Some p) w.me }) s c) e
+          (subst (λ (f : Flow). Tied f role (record w { me = accepts s (Some p) w.me }) s c) t.mine.window_is
+          (subst (λ (r : Role). Tied w.me.layer.flow r (record w { me = accepts s (Some p) w.me }) s c) t.mine.role_is
           (arrives_now w s c p ses' got'
-          (subst (λ (wi : ℕ). Tied wi w.me.layer.role w s c) (sym t.mine.window_is) (subst (λ (r : Role). Tied window r w s c) (sym t.mine.role_is) t)))))
+          (subst (λ (f : Flow). Tied f w.me.layer.role w s c) (sym t.mine.window_is) (subst (λ (r : Role). Tied flow r w s c) (sym t.mine.role_is) t)))))
       | inr ne ↦
           let ls = packet_same w.me.layer c p in
           let absent : is_session w.me.session s ≡ false = ap (λ (o : Option ℕ). is_session o s) ses ∙ ne_eqb s k ne in
-          not_now window role w (accepts k (Some p) w.me) s c (λ st. packet_history w.me.layer p c st) absent (λ h. session_other s k (ne_eqb s k ne) (sym ses ∙ h)) ls.0 ls.1 ls.2
+          not_now flow role w (accepts k (Some p) w.me) s c (λ st. packet_history w.me.layer p c st) absent (λ h. session_other s k (ne_eqb s k ne) (sym ses ∙ h)) ls.0 ls.1 ls.2
           (refl, refl, ap (λ (v : Bool). cond v (w.me.accepted s + 1) (w.me.accepted s)) (ne_eqb s k ne), refl) t
     ]
 
-arrives_packet : (window : ℕ) (role : Role) (w : Line) (k s c : ℕ) (o : Option Packet) → w.me.session ≡ Some k → next_of_session w k ≡ o → Tied window role w s c → Tied window role (record w { me = accepts k o w.me }) s c
-arrives_packet window role w k s c None ses got t = t
-arrives_packet window role w k s c (Some p) ses got t = arrives_some window role w k s c p ses got t
+arrives_packet : (flow : Flow) (role : Role) (w : Line) (k s c : ℕ) (o : Option Packet) → w.me.session ≡ Some k → next_of_session w k ≡ o → Tied flow role w s c → Tied flow role (record w { me = accepts k o w.me }) s c
+arrives_packet flow role w k s c None ses got t = t
+arrives_packet flow role w k s c (Some p) ses got t = arrives_some flow role w k s c p ses got t
 
-arrives_by : (window : ℕ) (role : Role) (w : Line) (o : Option ℕ) (s c : ℕ) → w.me.session ≡ o → Tied window role w s c → Tied window role (arrives_in o w) s c
-arrives_by window role w None s c ses t = t
-arrives_by window role w (Some k) s c ses t = arrives_packet window role w k s c (next_of_session w k) ses refl t
+arrives_by : (flow : Flow) (role : Role) (w : Line) (o : Option ℕ) (s c : ℕ) → w.me.session ≡ o → Tied flow role w s c → Tied flow role (arrives_in o w) s c
+arrives_by flow role w None s c ses t = t
+arrives_by flow role w (Some k) s c ses t = arrives_packet flow role w k s c (next_of_session w k) ses refl t
 
-pub arrives_tied : (window : ℕ) (role : Role) (w : Line) (s c : ℕ) → Tied window role w s c → Tied window role (happens Arrives w) s c
-arrives_tied window role w s c t = arrives_by window role w w.me.session s c refl t
+pub arrives_tied : (flow : Flow) (role : Role) (w : Line) (s c : ℕ) → Tied flow role w s c → Tied flow role (happens Arrives w) s c
+arrives_tied flow role w s c t = arrives_by flow role w w.me.session s c refl t

@@ -2,6 +2,8 @@
 use Rattle.std.proofs.Common.{◌≡◌, ℕ, zero, suc, ◌<◌, ◌≤◌, Bool, true, false, cond, ◌&&◌, ◌==◌, [], ◌∷◌, replicate, slice_get, Option, Some, None, refl, sym, ap, subst, ◌∙◌, arith}
 use Rattle.link_timers.specs.declared.role.Role.{Role}
 use Rattle.link_timers.specs.declared.role.Role.TheVariants.{Dte, Dce}
+use Rattle.packet_layer.specs.Flow.{modulus}
+use Rattle.packet_channel.specs.declared.flow.Flow.{Flow}
 use Rattle.packet_layer.specs.Packets.{CallParts}
 use Rattle.packet_layer.specs.Packets.Body.{Restart}
 use Rattle.packet_layer.specs.Channel.{closed_channel}
@@ -18,8 +20,8 @@ use Rattle.packet_laws.proofs.Line.Lines.{There, EndTie, Tied}
 
 -- ---- at the beginning the ends of each level agree
 
-epochs_begin : (window : ℕ) → window ≤ 7 → Epochs_agree window (record { me = begun_epoch; you = begun_epoch; out = []; back = [] })
-epochs_begin window small = record {
+epochs_begin : (flow : Flow) → flow.window < modulus flow.numbering → Epochs_agree flow (record { me = begun_epoch; you = begun_epoch; out = []; back = [] })
+epochs_begin flow small = record {
   small = small;
   forth = record {
     stream = record { items = refl; numbers = tt; expected = refl; next = refl };
@@ -33,8 +35,8 @@ epochs_begin window small = record {
   };
 }
 
-agree_begin : (window : ℕ) → window ≤ 7 → Agree window (record { me = begun_epoch; you = begun_epoch; out = []; back = [] })
-agree_begin window small = record { ways = epochs_begin window small; mine = refl; yours = refl }
+agree_begin : (flow : Flow) → flow.window < modulus flow.numbering → Agree flow (record { me = begun_epoch; you = begun_epoch; out = []; back = [] })
+agree_begin flow small = record { ways = epochs_begin flow small; mine = refl; yours = refl }
 
 -- the ends of one number, picked by a test
 picked : (I : Type 0) (Good : Two I → Type 0) (b : Bool) (x y x' y' : I) → Good (record { me = x; you = y; out = []; back = [] }) → Good (record { me = x'; you = y'; out = []; back = [] })
@@ -45,15 +47,15 @@ picked I Good false x y x' y' g h = h
 zero_le_zero : 0 ≤ 0
 zero_le_zero = omega arith
 
-call_first : (window : ℕ) → window ≤ 7 → GoodEpochs window (record { me = first_epoch; you = first_epoch; out = []; back = [] })
-call_first window small = record {
+call_first : (flow : Flow) → flow.window < modulus flow.numbering → GoodEpochs flow (record { me = first_epoch; you = first_epoch; out = []; back = [] })
+call_first flow small = record {
   fore = record { walk = (refl, refl); within = λ k. zero_le_zero; later = λ k lt. (refl, refl, refl) };
   aft = record { walk = (refl, refl); within = λ k. zero_le_zero; later = λ k lt. (refl, refl, refl) };
-  inners = λ k. picked Inner (λ u. Agree window u) (k == 0) begun_epoch begun_epoch begun_epoch begun_epoch (agree_begin window small) (agree_begin window small);
+  inners = λ k. picked Inner (λ u. Agree flow u) (k == 0) begun_epoch begun_epoch begun_epoch begun_epoch (agree_begin flow small) (agree_begin flow small);
 }
 
-free_first : (window : ℕ) (role : Role) → window ≤ 7 → GoodCall window role (record { me = first_call; you = first_call; out = []; back = [] })
-free_first window role small = record { fore = tt; aft = tt; idle_me = refl; idle_you = refl; calls_me = tt; calls_you = tt; placed_me = refl; placed_you = refl; call = call_first window small }
+free_first : (flow : Flow) (role : Role) → flow.window < modulus flow.numbering → GoodCall flow role (record { me = first_call; you = first_call; out = []; back = [] })
+free_first flow role small = record { fore = tt; aft = tt; idle_me = refl; idle_you = refl; calls_me = tt; calls_you = tt; placed_me = refl; placed_you = refl; call = call_first flow small }
 
 -- a standing call was placed by the DTE
 abbrev standing_placed : Bool → Option CallParts
@@ -63,42 +65,42 @@ standing_placed false = None
 abbrev standing_call : Bool → CallUse
 standing_call mine = record { stage = Open mine; call = first_epoch; placed = standing_placed mine }
 
-open_first : (window : ℕ) → window ≤ 7 → GoodCall window Dte (record { me = standing_call true; you = standing_call false; out = []; back = [] })
-open_first window small = record { fore = refl; aft = refl; idle_me = tt; idle_you = tt; calls_me = tt; calls_you = tt; placed_me = refl; placed_you = tt; call = call_first window small }
+open_first : (flow : Flow) → flow.window < modulus flow.numbering → GoodCall flow Dte (record { me = standing_call true; you = standing_call false; out = []; back = [] })
+open_first flow small = record { fore = refl; aft = refl; idle_me = tt; idle_you = tt; calls_me = tt; calls_you = tt; placed_me = refl; placed_you = tt; call = call_first flow small }
 
 abbrev uses_with : CallUse → Uses
 uses_with u = record first_use { now = u }
 
-uses_first : (window : ℕ) (role : Role) (u v : CallUse) → GoodCall window role (record { me = u; you = v; out = []; back = [] }) → GoodCall window role (record { me = first_call; you = first_call; out = []; back = [] })
-    → GoodUses window role (record { me = uses_with u; you = uses_with v; out = []; back = [] })
-uses_first window role u v g h = record {
+uses_first : (flow : Flow) (role : Role) (u v : CallUse) → GoodCall flow role (record { me = u; you = v; out = []; back = [] }) → GoodCall flow role (record { me = first_call; you = first_call; out = []; back = [] })
+    → GoodUses flow role (record { me = uses_with u; you = uses_with v; out = []; back = [] })
+uses_first flow role u v g h = record {
   fore = record { walk = (refl, refl); within = λ k. zero_le_zero; later = λ k lt. (refl, refl, refl) };
   aft = record { walk = (refl, refl); within = λ k. zero_le_zero; later = λ k lt. (refl, refl, refl) };
-  inners = λ k. picked CallUse (λ w. GoodCall window role w) (k == 0) u v first_call first_call g h;
+  inners = λ k. picked CallUse (λ w. GoodCall flow role w) (k == 0) u v first_call first_call g h;
 }
 
-fresh_uses : (window : ℕ) (role : Role) → window ≤ 7 → GoodUses window role (record { me = first_use; you = first_use; out = []; back = [] })
-fresh_uses window role small = uses_first window role first_call first_call (free_first window role small) (free_first window role small)
+fresh_uses : (flow : Flow) (role : Role) → flow.window < modulus flow.numbering → GoodUses flow role (record { me = first_use; you = first_use; out = []; back = [] })
+fresh_uses flow role small = uses_first flow role first_call first_call (free_first flow role small) (free_first flow role small)
 
 -- both ends in their own restart
-restarts_first : (window : ℕ) (role : Role) (a b : ℕ) → window ≤ 7 → GoodWhole window role (record { me = begun_whole; you = begun_whole; out = Restart a 0 ∷ []; back = Restart b 0 ∷ [] })
-restarts_first window role a b small = record {
+restarts_first : (flow : Flow) (role : Role) (a b : ℕ) → flow.window < modulus flow.numbering → GoodWhole flow role (record { me = begun_whole; you = begun_whole; out = Restart a 0 ∷ []; back = Restart b 0 ∷ [] })
+restarts_first flow role a b small = record {
   fore = record { walk = (refl, refl); within = λ k. zero_le_zero; later = λ k lt. (refl, refl, refl) };
   aft = record { walk = (refl, refl); within = λ k. zero_le_zero; later = λ k lt. (refl, refl, refl) };
-  inners = λ k. picked Uses (λ w. GoodUses window role w) (k == 0) first_use first_use first_use first_use (fresh_uses window role small) (fresh_uses window role small);
+  inners = λ k. picked Uses (λ w. GoodUses flow role w) (k == 0) first_use first_use first_use first_use (fresh_uses flow role small) (fresh_uses flow role small);
 }
 
 -- both in r1
 abbrev standing_whole : CallUse → Whole
 standing_whole u = record (started false first_use) { now = uses_with u }
 
-standing_first : (window : ℕ) (role : Role) (u v : CallUse) → window ≤ 7 → GoodCall window role (record { me = u; you = v; out = []; back = [] })
-    → GoodWhole window role (record { me = standing_whole u; you = standing_whole v; out = []; back = [] })
-standing_first window role u v small g = record {
+standing_first : (flow : Flow) (role : Role) (u v : CallUse) → flow.window < modulus flow.numbering → GoodCall flow role (record { me = u; you = v; out = []; back = [] })
+    → GoodWhole flow role (record { me = standing_whole u; you = standing_whole v; out = []; back = [] })
+standing_first flow role u v small g = record {
   fore = record { walk = (refl, refl); within = λ k. zero_le_zero; later = λ k lt. (refl, refl, refl) };
   aft = record { walk = (refl, refl); within = λ k. zero_le_zero; later = λ k lt. (refl, refl, refl) };
-  inners = λ k. picked Uses (λ w. GoodUses window role w) (k == 0) (uses_with u) (uses_with v) first_use first_use
-      (uses_first window role u v g (free_first window role small)) (fresh_uses window role small);
+  inners = λ k. picked Uses (λ w. GoodUses flow role w) (k == 0) (uses_with u) (uses_with v) first_use first_use
+      (uses_first flow role u v g (free_first flow role small)) (fresh_uses flow role small);
 }
 
 -- ---- channels as made
@@ -124,9 +126,9 @@ standing_at mine zero (suc i) lo hi = let e : ⊥ = omega arith in absurd e
 standing_at mine (suc n) (suc zero) lo hi = refl
 standing_at mine (suc n) (suc (suc i)) lo hi = nth_replicate n i (omega arith)
 
-there_at : (role : Role) (channels window : ℕ) (standing : Bool) (c : ℕ) → 1 ≤ c → c ≤ channels → There (made role channels window standing) c
-there_at role channels window true c lo hi = (shown (stored (standing_whole (use_at true c))) [], standing_at true channels c lo hi)
-there_at role channels window false c lo hi = (closed_channel, closed_at channels c lo hi)
+there_at : (role : Role) (channels : ℕ) (flow : Flow) (standing : Bool) (c : ℕ) → 1 ≤ c → c ≤ channels → There (made role channels flow standing) c
+there_at role channels flow true c lo hi = (shown (stored (standing_whole (use_at true c))) [], standing_at true channels c lo hi)
+there_at role channels flow false c lo hi = (closed_channel, closed_at channels c lo hi)
 
 -- ---- the ties
 
@@ -179,12 +181,12 @@ start_tie true (suc zero) = standing_tie (standing_call true) refl
 start_tie false (suc zero) = standing_tie (standing_call false) refl
 start_tie mine (suc (suc i)) = free_tie
 
-begun_end : (window : ℕ) (role : Role) (channels : ℕ) (standing : Bool) (s c cause : ℕ) → 1 ≤ c → c ≤ channels → ((start_end role channels window standing).session ≡ Some s → ⊥) → start_history role standing s c ≡ new_history
-    → EndTie window role (start_end role channels window standing) 0 s c begun_whole (Restart cause 0 ∷ [])
-begun_end window role channels standing s c cause lo hi never new = record {
+begun_end : (flow : Flow) (role : Role) (channels : ℕ) (standing : Bool) (s c cause : ℕ) → 1 ≤ c → c ≤ channels → ((start_end role channels flow standing).session ≡ Some s → ⊥) → start_history role standing s c ≡ new_history
+    → EndTie flow role (start_end role channels flow standing) 0 s c begun_whole (Restart cause 0 ∷ [])
+begun_end flow role channels standing s c cause lo hi never new = record {
   role_is = refl;
   window_is = refl;
-  there = there_at role channels window standing c lo hi;
+  there = there_at role channels flow standing c lo hi;
   rest = Restart cause 0 ∷ [];
   out_is = refl;
   well = tt;
@@ -196,11 +198,11 @@ begun_end window role channels standing s c cause lo hi never new = record {
   still = λ lt h. refl;
 }
 
-standing_end : (window channels : ℕ) (mine : Bool) (c : ℕ) → 1 ≤ c → c ≤ channels → EndTie window (standing_role mine) (start_end (standing_role mine) channels window true) 0 0 c (standing_whole (use_at mine c)) []
-standing_end window channels mine c lo hi = record {
+standing_end : (flow : Flow) (channels : ℕ) (mine : Bool) (c : ℕ) → 1 ≤ c → c ≤ channels → EndTie flow (standing_role mine) (start_end (standing_role mine) channels flow true) 0 0 c (standing_whole (use_at mine c)) []
+standing_end flow channels mine c lo hi = record {
   role_is = refl;
   window_is = refl;
-  there = there_at (standing_role mine) channels window true c lo hi;
+  there = there_at (standing_role mine) channels flow true c lo hi;
   rest = [];
   out_is = refl;
   well = tt;
@@ -215,10 +217,10 @@ standing_end window channels mine c lo hi = record {
     no_less : 0 < 0 → ⊥
     no_less lt = omega arith
 
-use_first : (window c : ℕ) → window ≤ 7 → GoodCall window Dte (record { me = use_at true c; you = use_at false c; out = []; back = [] })
-use_first window zero small = free_first window Dte small
-use_first window (suc zero) small = open_first window small
-use_first window (suc (suc i)) small = free_first window Dte small
+use_first : (flow : Flow) (c : ℕ) → flow.window < modulus flow.numbering → GoodCall flow Dte (record { me = use_at true c; you = use_at false c; out = []; back = [] })
+use_first flow zero small = free_first flow Dte small
+use_first flow (suc zero) small = open_first flow small
+use_first flow (suc (suc i)) small = free_first flow Dte small
 
 never_none : (s : ℕ) → None ≡ Some s → ⊥
 never_none s e = cc
@@ -226,31 +228,31 @@ never_none s e = cc
 never_zero : (s : ℕ) → Some 0 ≡ Some (suc s) → ⊥
 never_zero s e = cc
 
-pub starts_tied : (channels window : ℕ) (standing : Bool) (s c : ℕ) → window ≤ 7 → 1 ≤ c → c ≤ channels → Tied window Dte (start_line channels window standing) s c
-starts_tied channels window false s c small lo hi = record {
+pub starts_tied : (channels : ℕ) (flow : Flow) (standing : Bool) (s c : ℕ) → flow.window < modulus flow.numbering → 1 ≤ c → c ≤ channels → Tied flow Dte (start_line channels flow standing) s c
+starts_tied channels flow false s c small lo hi = record {
   x = begun_whole;
   y = begun_whole;
   o = Restart 0 0 ∷ [];
   b = Restart 7 0 ∷ [];
-  good = restarts_first window Dte 0 7 small;
-  mine = begun_end window Dte channels false s c 0 lo hi (never_none s) refl;
-  yours = begun_end window Dce channels false s c 7 lo hi (never_none s) refl;
+  good = restarts_first flow Dte 0 7 small;
+  mine = begun_end flow Dte channels false s c 0 lo hi (never_none s) refl;
+  yours = begun_end flow Dce channels false s c 7 lo hi (never_none s) refl;
 }
-starts_tied channels window true zero c small lo hi = record {
+starts_tied channels flow true zero c small lo hi = record {
   x = standing_whole (use_at true c);
   y = standing_whole (use_at false c);
   o = [];
   b = [];
-  good = standing_first window Dte (use_at true c) (use_at false c) small (use_first window c small);
-  mine = standing_end window channels true c lo hi;
-  yours = standing_end window channels false c lo hi;
+  good = standing_first flow Dte (use_at true c) (use_at false c) small (use_first flow c small);
+  mine = standing_end flow channels true c lo hi;
+  yours = standing_end flow channels false c lo hi;
 }
-starts_tied channels window true (suc s) c small lo hi = record {
+starts_tied channels flow true (suc s) c small lo hi = record {
   x = begun_whole;
   y = begun_whole;
   o = Restart 0 0 ∷ [];
   b = Restart 7 0 ∷ [];
-  good = restarts_first window Dte 0 7 small;
-  mine = begun_end window Dte channels true (suc s) c 0 lo hi (never_zero s) refl;
-  yours = begun_end window Dce channels true (suc s) c 7 lo hi (never_zero s) refl;
+  good = restarts_first flow Dte 0 7 small;
+  mine = begun_end flow Dte channels true (suc s) c 0 lo hi (never_zero s) refl;
+  yours = begun_end flow Dce channels true (suc s) c 7 lo hi (never_zero s) refl;
 }

@@ -2,6 +2,7 @@
 use Rattle.std.proofs.Common.{◌≡◌, ℕ, suc, ◌<◌, ◌≤◌, Bool, true, false, cond, ◌||◌, ◌==◌, List, ◌∷◌, ◌++◌, drop, slice_get, Some, None, refl, sym, ap, subst, ◌∙◌, arith, inl, inr}
 use Rattle.std.proofs.lemmas.Bool.{eq-eqb, ne_eqb, cases_eq}
 use Rattle.link_timers.specs.declared.role.Role.{Role}
+use Rattle.packet_channel.specs.declared.flow.Flow.{Flow}
 use Rattle.packet_layer.specs.Packets.{CallParts, Body, Packet}
 use Rattle.packet_layer.specs.Packets.Body.{Call}
 use Rattle.packet_layer.specs.Channel.{Channel}
@@ -73,8 +74,8 @@ takes_own : (own : Bool) (s : Uses) → TakesCall (stored_whole false (record s 
 takes_own true s h = absurd h
 takes_own false s h = refl
 
-pub call_known : (window : ℕ) (role : Role) (w : Line) (s c : ℕ) (parts : CallParts) → Tied window role w s c → CallArrives w s c parts → CallKnown (w.me.histories s c) (w.you.histories s c) parts
-call_known window role w s c parts t a =
+pub call_known : (flow : Flow) (role : Role) (w : Line) (s c : ℕ) (parts : CallParts) → Tied flow role w s c → CallArrives w s c parts → CallKnown (w.me.histories s c) (w.you.histories s c) parts
+call_known flow role w s c parts t a =
     let x : Whole = t.x in let y : Whole = t.y in
     let pr = t.mine.present a.up in
     let ready : x.own ≡ false = ready_phase x.own (sym pr.phase_is ∙ a.ready) in
@@ -88,9 +89,9 @@ call_known window role w s c parts t a =
     t.yours.out_is ∙ ap (λ (q : List Packet). on_c c q ++ t.yours.rest) (drop_packet (w.you.offered s) (w.me.accepted s) p a.next)
     ∙ cond_append ((c == 0) || (c == c)) (Call parts) (on_c c (drop (suc (w.me.accepted s)) (w.you.offered s))) t.yours.rest
     ∙ ap (λ (v : Bool). cond v (Call parts ∷ left) left) here in
-    let g : GoodWhole window role (record { me = x; you = y; out = t.o; back = Call parts ∷ left }) = subst (λ (l : List Body). GoodWhole window role (record { me = x; you = y; out = t.o; back = l })) b_is t.good in
-    let uses = peek restart_kind Uses first_use (λ u. GoodUses window role u) x y t.o (Call parts) left refl ready g in
-    let call = peek clear_kind CallUse first_call (λ u. GoodCall window role u) x.now (at y x.number) _ (Call parts) _ refl clear uses in
+    let g : GoodWhole flow role (record { me = x; you = y; out = t.o; back = Call parts ∷ left }) = subst (λ (l : List Body). GoodWhole flow role (record { me = x; you = y; out = t.o; back = l })) b_is t.good in
+    let uses = peek restart_kind Uses first_use (λ u. GoodUses flow role u) x y t.o (Call parts) left refl ready g in
+    let call = peek clear_kind CallUse first_call (λ u. GoodCall flow role u) x.now (at y x.number) _ (Call parts) _ refl clear uses in
     let st : History = w.me.histories s c in let zt : History = w.you.histories s c in
     let tie = t.yours.history in
     let rs = t.mine.history.restart_is in let us = t.mine.history.use_is in
@@ -100,10 +101,10 @@ call_known window role w s c parts t a =
           ∙ ap (λ (k : ℕ). (at (at y k) st.use_).placed) rs ∙ ap (λ (k : ℕ). (at (at y x.number) k).placed) us ∙ call.calls_you.0;
       last_restart = λ r u g lt.
           ap (λ (e : Epoch). e.called) (tie.epochs_are r u g)
-          ∙ ap (λ (v : Uses). (at v u).placed) (ahead restart_kind Uses first_use (λ u. GoodUses window role u) x y t.o t.b r (unsettled y t.yours.settled) (omega arith) t.good)
+          ∙ ap (λ (v : Uses). (at v u).placed) (ahead restart_kind Uses first_use (λ u. GoodUses flow role u) x y t.o t.b r (unsettled y t.yours.settled) (omega arith) t.good)
           ∙ first_placed (u == 0);
       last_use = λ u g lt.
           ap (λ (e : Epoch). e.called) (tie.epochs_are st.restart u g)
           ∙ ap (λ (k : ℕ). (at (at y k) u).placed) rs
-          ∙ ap (λ (v : CallUse). v.placed) (ahead clear_kind CallUse first_call (λ u. GoodCall window role u) x.now (at y x.number) _ _ u (settled_in y x.number t.yours.settled t.yours.frozen) (omega arith) uses);
+          ∙ ap (λ (v : CallUse). v.placed) (ahead clear_kind CallUse first_call (λ u. GoodCall flow role u) x.now (at y x.number) _ _ u (settled_in y x.number t.yours.settled t.yours.frozen) (omega arith) uses);
     }

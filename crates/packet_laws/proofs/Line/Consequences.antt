@@ -24,21 +24,22 @@ use Rattle.packet_laws.proofs.Line.Using.{holds_at}
 use Rattle.packet_laws.proofs.Line.Answering.{one_answers, is_accepted}
 use Rattle.link_timers.specs.declared.role.Role.TheVariants.{Dte, Dce}
 use Rattle.link_timers.specs.Role.{other_of}
+use Rattle.packet_channel.specs.declared.flow.Flow.{Flow}
 
-way_aligned : (window : ℕ) (x y : Inner) (p q : Mark) (o b : List Body) → Way window x y o b → Aligned (marked p x.epoch) (marked q y.epoch)
-way_aligned window x y p q o b w = record {
+way_aligned : (flow : Flow) (x y : Inner) (p q : Mark) (o b : List Body) → Way flow x y o b → Aligned (marked p x.epoch) (marked q y.epoch)
+way_aligned flow x y p q o b w = record {
   packets = (y.traffic.arrived ++ (datas o ++ x.traffic.waiting), w.stream.items);
   interrupts = (listed y.traffic.interrupt_arrived ++ (interrupts o ++ listed x.traffic.interrupt_waiting), w.urgent.items);
-  covered_is_released = acks_le b x.epoch.covered y.epoch.released w.acking.acks;
+  covered_is_released = acks_le flow b x.epoch.covered y.epoch.released w.acking.acks;
   released_is_taken = w.acking.released_taken;
 }
 
 -- the two ends of each epoch agree
-epoch_agrees : (window : ℕ) (role : Role) (x y : Whole) (o b : List Body) (r u g : ℕ) → GoodWhole window role (record { me = x; you = y; out = o; back = b })
+epoch_agrees : (flow : Flow) (role : Role) (x y : Whole) (o b : List Body) (r u g : ℕ) → GoodWhole flow role (record { me = x; you = y; out = o; back = b })
     → Aligned (epoch_in x r u g) (epoch_in y r u g) × Aligned (epoch_in y r u g) (epoch_in x r u g)
-epoch_agrees window role x y o b r u g i =
+epoch_agrees flow role x y o b r u g i =
     let e = (((i.inners r).inners u).call).inners g in
-    (way_aligned window _ _ _ _ _ _ e.ways.forth, way_aligned window _ _ _ _ _ _ e.ways.back)
+    (way_aligned flow _ _ _ _ _ _ e.ways.forth, way_aligned flow _ _ _ _ _ _ e.ways.back)
 
 retold : (x y : Whole) (st zt : History) → HistoryTie x st → HistoryTie y zt → (r u g : ℕ) → Aligned (epoch_in x r u g) (epoch_in y r u g) → Aligned (st.epochs r u g) (zt.epochs r u g)
 retold x y st zt p q r u g a =
@@ -49,35 +50,35 @@ retold x y st zt p q r u g a =
 at_now : {I : Type 0} → (s : Side I) (k : ℕ) → k ≡ s.number → at s k ≡ s.now
 at_now s k e = ap (λ (b : Bool). cond b s.now (s.past k)) (eq-eqb k s.number e)
 
-whole_step : (window : ℕ) (role : Role) (x y : Whole) (o b : List Body) → GoodWhole window role (record { me = x; you = y; out = o; back = b }) → (x.number ≤ y.number + 1) × (y.number ≤ x.number + 1)
-whole_step window role x y o b i =
+whole_step : (flow : Flow) (role : Role) (x y : Whole) (o b : List Body) → GoodWhole flow role (record { me = x; you = y; out = o; back = b }) → (x.number ≤ y.number + 1) × (y.number ≤ x.number + 1)
+whole_step flow role x y o b i =
     let p = walk_above restart_kind y.put y.number b x.own x.number (x.came x.number) i.aft.walk in
     let q = walk_above restart_kind x.put x.number o y.own y.number (y.came y.number) i.fore.walk in
     (omega arith, omega arith)
 
-uses_step : (window : ℕ) (role : Role) (x y : Uses) (o b : List Body) → GoodUses window role (record { me = x; you = y; out = o; back = b }) → (x.number ≤ y.number + 1) × (y.number ≤ x.number + 1)
-uses_step window role x y o b i =
+uses_step : (flow : Flow) (role : Role) (x y : Uses) (o b : List Body) → GoodUses flow role (record { me = x; you = y; out = o; back = b }) → (x.number ≤ y.number + 1) × (y.number ≤ x.number + 1)
+uses_step flow role x y o b i =
     let p = walk_above clear_kind y.put y.number b x.own x.number (x.came x.number) i.aft.walk in
     let q = walk_above clear_kind x.put x.number o y.own y.number (y.came y.number) i.fore.walk in
     (omega arith, omega arith)
 
-epochs_step : (window : ℕ) (x y : Epochs) (o b : List Body) → GoodEpochs window (record { me = x; you = y; out = o; back = b }) → (x.number ≤ y.number + 1) × (y.number ≤ x.number + 1)
-epochs_step window x y o b i =
+epochs_step : (flow : Flow) (x y : Epochs) (o b : List Body) → GoodEpochs flow (record { me = x; you = y; out = o; back = b }) → (x.number ≤ y.number + 1) × (y.number ≤ x.number + 1)
+epochs_step flow x y o b i =
     let p = walk_above reset_kind y.put y.number b x.own x.number (x.came x.number) i.aft.walk in
     let q = walk_above reset_kind x.put x.number o y.own y.number (y.came y.number) i.fore.walk in
     (omega arith, omega arith)
 
-uses_both : (window : ℕ) (role : Role) (x y : Whole) (o b : List Body) → x.number ≡ y.number → GoodWhole window role (record { me = x; you = y; out = o; back = b })
-    → GoodUses window role (record { me = x.now; you = y.now; out = (inner x y x.number).out; back = (inner x y x.number).back })
-uses_both window role x y o b e i =
-    subst (λ (v : Uses). GoodUses window role (record { me = x.now; you = v; out = (inner x y x.number).out; back = (inner x y x.number).back })) (at_now y x.number e)
-    (subst (λ (v : Uses). GoodUses window role (record { me = v; you = at y x.number; out = (inner x y x.number).out; back = (inner x y x.number).back })) (at_now x x.number refl) (i.inners x.number))
+uses_both : (flow : Flow) (role : Role) (x y : Whole) (o b : List Body) → x.number ≡ y.number → GoodWhole flow role (record { me = x; you = y; out = o; back = b })
+    → GoodUses flow role (record { me = x.now; you = y.now; out = (inner x y x.number).out; back = (inner x y x.number).back })
+uses_both flow role x y o b e i =
+    subst (λ (v : Uses). GoodUses flow role (record { me = x.now; you = v; out = (inner x y x.number).out; back = (inner x y x.number).back })) (at_now y x.number e)
+    (subst (λ (v : Uses). GoodUses flow role (record { me = v; you = at y x.number; out = (inner x y x.number).out; back = (inner x y x.number).back })) (at_now x x.number refl) (i.inners x.number))
 
-call_both : (window : ℕ) (role : Role) (x y : Uses) (o b : List Body) → x.number ≡ y.number → GoodUses window role (record { me = x; you = y; out = o; back = b })
-    → GoodCall window role (record { me = x.now; you = y.now; out = (inner x y x.number).out; back = (inner x y x.number).back })
-call_both window role x y o b e i =
-    subst (λ (v : CallUse). GoodCall window role (record { me = x.now; you = v; out = (inner x y x.number).out; back = (inner x y x.number).back })) (at_now y x.number e)
-    (subst (λ (v : CallUse). GoodCall window role (record { me = v; you = at y x.number; out = (inner x y x.number).out; back = (inner x y x.number).back })) (at_now x x.number refl) (i.inners x.number))
+call_both : (flow : Flow) (role : Role) (x y : Uses) (o b : List Body) → x.number ≡ y.number → GoodUses flow role (record { me = x; you = y; out = o; back = b })
+    → GoodCall flow role (record { me = x.now; you = y.now; out = (inner x y x.number).out; back = (inner x y x.number).back })
+call_both flow role x y o b e i =
+    subst (λ (v : CallUse). GoodCall flow role (record { me = x.now; you = v; out = (inner x y x.number).out; back = (inner x y x.number).back })) (at_now y x.number e)
+    (subst (λ (v : CallUse). GoodCall flow role (record { me = v; you = at y x.number; out = (inner x y x.number).out; back = (inner x y x.number).back })) (at_now x x.number refl) (i.inners x.number))
 
 abbrev InStepNumbers : ℕ → ℕ → Type 0
 InStepNumbers a b = (a ≤ b + 1) × (b ≤ a + 1)
@@ -85,86 +86,86 @@ InStepNumbers a b = (a ≤ b + 1) × (b ≤ a + 1)
 renumber : (a a' b b' : ℕ) → a' ≡ a → b' ≡ b → InStepNumbers a b → InStepNumbers a' b'
 renumber a a' b b' e f h = let p = h.0 in let q = h.1 in (omega arith, omega arith)
 
-histories_in_step : (window : ℕ) (role : Role) (x y : Whole) (o b : List Body) (st zt : History) → HistoryTie x st → HistoryTie y zt → GoodWhole window role (record { me = x; you = y; out = o; back = b }) → InStep st zt
-histories_in_step window role x y o b st zt p q i = record {
-  restarts = renumber _ _ _ _ p.restart_is q.restart_is (whole_step window role x y o b i);
+histories_in_step : (flow : Flow) (role : Role) (x y : Whole) (o b : List Body) (st zt : History) → HistoryTie x st → HistoryTie y zt → GoodWhole flow role (record { me = x; you = y; out = o; back = b }) → InStep st zt
+histories_in_step flow role x y o b st zt p q i = record {
+  restarts = renumber _ _ _ _ p.restart_is q.restart_is (whole_step flow role x y o b i);
   uses = λ e.
       let e' : x.number ≡ y.number = sym p.restart_is ∙ e ∙ q.restart_is in
-      renumber _ _ _ _ p.use_is q.use_is (uses_step window role x.now y.now _ _ (uses_both window role x y o b e' i));
+      renumber _ _ _ _ p.use_is q.use_is (uses_step flow role x.now y.now _ _ (uses_both flow role x y o b e' i));
   epochs = λ e f.
       let e' : x.number ≡ y.number = sym p.restart_is ∙ e ∙ q.restart_is in
       let f' : x.now.number ≡ y.now.number = sym p.use_is ∙ f ∙ q.use_is in
-      renumber _ _ _ _ p.epoch_is q.epoch_is (epochs_step window x.now.now.call y.now.now.call _ _ (call_both window role x.now y.now _ _ f' (uses_both window role x y o b e' i)).call);
+      renumber _ _ _ _ p.epoch_is q.epoch_is (epochs_step flow x.now.now.call y.now.now.call _ _ (call_both flow role x.now y.now _ _ f' (uses_both flow role x y o b e' i)).call);
 }
 
 twice : (r : Role) → other_of (other_of r) ≡ r
 twice Dte = refl
 twice Dce = refl
 
-pub turned_tied : (window : ℕ) (role : Role) (w : Line) (s c : ℕ) → Tied window role w s c → Tied window (other_of role) (turned w) s c
-turned_tied window role w s c t = record {
+pub turned_tied : (flow : Flow) (role : Role) (w : Line) (s c : ℕ) → Tied flow role w s c → Tied flow (other_of role) (turned w) s c
+turned_tied flow role w s c t = record {
   x = t.y;
   y = t.x;
   o = t.b;
   b = t.o;
-  good = whole_turned window role _ t.good;
+  good = whole_turned flow role _ t.good;
   mine = t.yours;
-  yours = subst (λ (r : Role). EndTie window r w.me (w.you.accepted s) s c t.x t.o) (sym (twice role)) t.mine;
+  yours = subst (λ (r : Role). EndTie flow r w.me (w.you.accepted s) s c t.x t.o) (sym (twice role)) t.mine;
 }
 
-pub tied_holds : (window : ℕ) (role : Role) (w : Line) (s c : ℕ) → Tied window role w s c → Holds w s c
-tied_holds window role w s c t = record {
-  forth = λ r u g. retold t.x t.y _ _ t.mine.history t.yours.history r u g (epoch_agrees window role t.x t.y t.o t.b r u g t.good).0;
-  back = λ r u g. retold t.y t.x _ _ t.yours.history t.mine.history r u g (epoch_agrees window role t.x t.y t.o t.b r u g t.good).1;
-  in_step = histories_in_step window role t.x t.y t.o t.b _ _ t.mine.history t.yours.history t.good;
-  at_rest = λ a b q. tied_rests window role w s c t a b q;
-  call_here = λ parts a. call_known window role w s c parts t a;
-  call_there = λ parts a. call_known window (other_of role) (turned w) s c parts (turned_tied window role w s c t) a;
-  here = holds_at window role w s c t;
-  there = holds_at window (other_of role) (turned w) s c (turned_tied window role w s c t);
-  answers_here = one_answers window role t.x t.y t.o t.b _ _ t.mine.history t.yours.history t.good;
-  answers_there = one_answers window (other_of role) t.y t.x t.b t.o _ _ t.yours.history t.mine.history (whole_turned window role _ t.good);
-  accepted_here = is_accepted window role w s c t;
-  accepted_there = is_accepted window (other_of role) (turned w) s c (turned_tied window role w s c t);
+pub tied_holds : (flow : Flow) (role : Role) (w : Line) (s c : ℕ) → Tied flow role w s c → Holds w s c
+tied_holds flow role w s c t = record {
+  forth = λ r u g. retold t.x t.y _ _ t.mine.history t.yours.history r u g (epoch_agrees flow role t.x t.y t.o t.b r u g t.good).0;
+  back = λ r u g. retold t.y t.x _ _ t.yours.history t.mine.history r u g (epoch_agrees flow role t.x t.y t.o t.b r u g t.good).1;
+  in_step = histories_in_step flow role t.x t.y t.o t.b _ _ t.mine.history t.yours.history t.good;
+  at_rest = λ a b q. tied_rests flow role w s c t a b q;
+  call_here = λ parts a. call_known flow role w s c parts t a;
+  call_there = λ parts a. call_known flow (other_of role) (turned w) s c parts (turned_tied flow role w s c t) a;
+  here = holds_at flow role w s c t;
+  there = holds_at flow (other_of role) (turned w) s c (turned_tied flow role w s c t);
+  answers_here = one_answers flow role t.x t.y t.o t.b _ _ t.mine.history t.yours.history t.good;
+  answers_there = one_answers flow (other_of role) t.y t.x t.b t.o _ _ t.yours.history t.mine.history (whole_turned flow role _ t.good);
+  accepted_here = is_accepted flow role w s c t;
+  accepted_there = is_accepted flow (other_of role) (turned w) s c (turned_tied flow role w s c t);
 }
 
 -- ---- no procedure error
 
-back_is : (window : ℕ) (role : Role) (w : Line) (s c : ℕ) (p : Packet) (t : Tied window role w s c) → next_of_session w s ≡ Some p
+back_is : (flow : Flow) (role : Role) (w : Line) (s c : ℕ) (p : Packet) (t : Tied flow role w s c) → next_of_session w s ≡ Some p
     → t.b ≡ cond ((p.channel == 0) || (p.channel == c)) (p.body ∷ (on_c c (drop (suc (w.me.accepted s)) (w.you.offered s)) ++ t.yours.rest)) (on_c c (drop (suc (w.me.accepted s)) (w.you.offered s)) ++ t.yours.rest)
-back_is window role w s c p t got =
+back_is flow role w s c p t got =
     t.yours.out_is ∙ ap (λ (q : List Packet). on_c c q ++ t.yours.rest) (drop_packet (w.you.offered s) (w.me.accepted s) p got)
     ∙ cond_append ((p.channel == 0) || (p.channel == c)) p.body (on_c c (drop (suc (w.me.accepted s)) (w.you.offered s))) t.yours.rest
 
-no_restart_fault : (window : ℕ) (role : Role) (x y : Whole) (o ts : List Body) (b : Body) (own : Bool) → x.own ≡ own → GoodWhole window role (record { me = x; you = y; out = o; back = b ∷ ts }) → is_restart_fault (phase_of own) b ≡ false
-no_restart_fault window role x y o ts RestartConfirmation false e g = absurd (confirmation_unexpected window role x y o ts e g)
-no_restart_fault window role x y o ts RestartConfirmation true e g = refl
-no_restart_fault window role x y o ts _ false e g = refl
-no_restart_fault window role x y o ts _ true e g = refl
+no_restart_fault : (flow : Flow) (role : Role) (x y : Whole) (o ts : List Body) (b : Body) (own : Bool) → x.own ≡ own → GoodWhole flow role (record { me = x; you = y; out = o; back = b ∷ ts }) → is_restart_fault (phase_of own) b ≡ false
+no_restart_fault flow role x y o ts RestartConfirmation false e g = absurd (confirmation_unexpected flow role x y o ts e g)
+no_restart_fault flow role x y o ts RestartConfirmation true e g = refl
+no_restart_fault flow role x y o ts _ false e g = refl
+no_restart_fault flow role x y o ts _ true e g = refl
 
-pub restart_faultless : (window : ℕ) (role : Role) (w : Line) (s c : ℕ) (p : Packet) → w.me.session ≡ Some s → next_of_session w s ≡ Some p → (p.channel == 0) ≡ true → Tied window role w s c → is_restart_fault w.me.layer.phase p.body ≡ false
-restart_faultless window role w s c p ses got e t =
-    let b = back_is window role w s c p t got ∙ ap (λ (v : Bool). cond (v || (p.channel == c)) (p.body ∷ (on_c c (drop (suc (w.me.accepted s)) (w.you.offered s)) ++ t.yours.rest)) (on_c c (drop (suc (w.me.accepted s)) (w.you.offered s)) ++ t.yours.rest)) e in
-    let g = subst (λ (l : List Body). GoodWhole window role (record { me = t.x; you = t.y; out = t.o; back = l })) b t.good in
-    subst (λ (ph : Phase). is_restart_fault ph p.body ≡ false) (sym (t.mine.present ses).phase_is) (no_restart_fault window role t.x t.y t.o _ p.body t.x.own refl g)
+pub restart_faultless : (flow : Flow) (role : Role) (w : Line) (s c : ℕ) (p : Packet) → w.me.session ≡ Some s → next_of_session w s ≡ Some p → (p.channel == 0) ≡ true → Tied flow role w s c → is_restart_fault w.me.layer.phase p.body ≡ false
+restart_faultless flow role w s c p ses got e t =
+    let b = back_is flow role w s c p t got ∙ ap (λ (v : Bool). cond (v || (p.channel == c)) (p.body ∷ (on_c c (drop (suc (w.me.accepted s)) (w.you.offered s)) ++ t.yours.rest)) (on_c c (drop (suc (w.me.accepted s)) (w.you.offered s)) ++ t.yours.rest)) e in
+    let g = subst (λ (l : List Body). GoodWhole flow role (record { me = t.x; you = t.y; out = t.o; back = l })) b t.good in
+    subst (λ (ph : Phase). is_restart_fault ph p.body ≡ false) (sym (t.mine.present ses).phase_is) (no_restart_fault flow role t.x t.y t.o _ p.body t.x.own refl g)
 
 channel_fault_at : (own : Bool) (l : Layer) (p : Packet) → (own ≡ false → is_fault_on l p (channel_of l p.channel) ≡ false) → is_channel_fault (phase_of own) l p ≡ false
 channel_fault_at true l p h = refl
 channel_fault_at false l p h = h refl
 
-pub channel_faultless : (window : ℕ) (role : Role) (w : Line) (s : ℕ) (p : Packet) → w.me.session ≡ Some s → next_of_session w s ≡ Some p → (p.channel == 0) ≡ false → Tied window role w s p.channel → is_channel_fault w.me.layer.phase w.me.layer p ≡ false
-channel_faultless window role w s p ses got nz t =
+pub channel_faultless : (flow : Flow) (role : Role) (w : Line) (s : ℕ) (p : Packet) → w.me.session ≡ Some s → next_of_session w s ≡ Some p → (p.channel == 0) ≡ false → Tied flow role w s p.channel → is_channel_fault w.me.layer.phase w.me.layer p ≡ false
+channel_faultless flow role w s p ses got nz t =
     let c : ℕ = p.channel in
     let l : Layer = w.me.layer in
     let here : (c == c) ≡ true = same c in
     let left : List Body = on_c c (drop (suc (w.me.accepted s)) (w.you.offered s)) ++ t.yours.rest in
-    let b : t.b ≡ p.body ∷ left = back_is window role w s c p t got ∙ ap (λ (v : Bool). cond (v || (c == c)) (p.body ∷ left) left) nz ∙ ap (λ (v : Bool). cond v (p.body ∷ left) left) here in
-    let g = subst (λ (q : List Body). GoodWhole window role (record { me = t.x; you = t.y; out = t.o; back = q })) b t.good in
+    let b : t.b ≡ p.body ∷ left = back_is flow role w s c p t got ∙ ap (λ (v : Bool). cond (v || (c == c)) (p.body ∷ left) left) nz ∙ ap (λ (v : Bool). cond v (p.body ∷ left) left) here in
+    let g = subst (λ (q : List Body). GoodWhole flow role (record { me = t.x; you = t.y; out = t.o; back = q })) b t.good in
     let pr = t.mine.present ses in
     let well : WellOf false true p.body = subst (λ (v : Bool). WellOf false v p.body) here (subst (λ (v : Bool). WellOf v (c == c) p.body) nz (well_get c (w.you.offered s) (w.me.accepted s) p got t.yours.well)) in
     subst (λ (ph : Phase). is_channel_fault ph l p ≡ false) (sym pr.phase_is)
     (channel_fault_at t.x.own l p (λ ready.
     subst (λ (found : Option Channel). is_fault_on l p found ≡ false) (sym pr.channel_is)
-    (subst (λ (r : Role). is_request (received r l.window c (shown (stored t.x) pr.owed) p.body).owes ≡ false) (sym t.mine.role_is)
-    (subst (λ (k : ℕ). is_request (received role k c (shown (stored t.x) pr.owed) p.body).owes ≡ false) (sym t.mine.window_is)
-    (ties_of window role t.x t.y t.o left c pr.owed p.body well ready t.mine.settled g).no_fault))))
+    (subst (λ (r : Role). is_request (received r l.flow c (shown (stored t.x) pr.owed) p.body).owes ≡ false) (sym t.mine.role_is)
+    (subst (λ (f : Flow). is_request (received role f c (shown (stored t.x) pr.owed) p.body).owes ≡ false) (sym t.mine.window_is)
+    (ties_of flow role t.x t.y t.o left c pr.owed p.body well ready t.mine.settled g).no_fault))))

@@ -3,6 +3,7 @@ use Rattle.std.proofs.Common.{◌≡◌, ℕ, Bool, true, false, cond, List, ref
 use Rattle.link_timers.specs.declared.role.Role.{Role}
 use Rattle.link_timers.specs.declared.role.Role.TheVariants.{Dte}
 use Rattle.link_timers.specs.Role.{other_of}
+use Rattle.packet_channel.specs.declared.flow.Flow.{Flow}
 use Rattle.packet_layer.specs.Packets.{Body}
 use Rattle.packet_layer.specs.Traffic.{Traffic}
 use Rattle.packet_layer.specs.Channel.{Channel, in_transfer}
@@ -44,21 +45,21 @@ whole_traffic false s h = uses_traffic s.own s.now h
 
 -- ---- the present epoch of an end, with some epoch of the other one
 
-epoch_names : (window : ℕ) (x y : Epochs) (o b : List Body) → GoodEpochs window (record { me = x; you = y; out = o; back = b }) → NamesCounts window x.now.traffic x.now.epoch
-epoch_names window x y o b i =
+epoch_names : (flow : Flow) (x y : Epochs) (o b : List Body) → GoodEpochs flow (record { me = x; you = y; out = o; back = b }) → NamesCounts flow x.now.traffic x.now.epoch
+epoch_names flow x y o b i =
     let n : ℕ = x.number in
-    let a : Agree window (record { me = x.now; you = at y n; out = (inner x y n).out; back = (inner x y n).back }) =
-    subst (λ (c : Bool). Agree window (record { me = cond c x.now (x.past n); you = at y n; out = (inner x y n).out; back = (inner x y n).back })) (same n) (i.inners n) in
-    names window x.now (at y n) (inner x y n).out (inner x y n).back a.ways a.mine
+    let a : Agree flow (record { me = x.now; you = at y n; out = (inner x y n).out; back = (inner x y n).back }) =
+    subst (λ (c : Bool). Agree flow (record { me = cond c x.now (x.past n); you = at y n; out = (inner x y n).out; back = (inner x y n).back })) (same n) (i.inners n) in
+    names flow x.now (at y n) (inner x y n).out (inner x y n).back a.ways a.mine
 
-whole_names : (window : ℕ) (role : Role) (x y : Whole) (o b : List Body) → GoodWhole window role (record { me = x; you = y; out = o; back = b }) → NamesCounts window x.now.now.call.now.traffic x.now.now.call.now.epoch
-whole_names window role x y o b i =
-    let c = call_now window role x.now (at y x.number) (inner x y x.number).out (inner x y x.number).back (uses_now window role x y o b i) in
-    epoch_names window x.now.now.call _ _ _ c.call
+whole_names : (flow : Flow) (role : Role) (x y : Whole) (o b : List Body) → GoodWhole flow role (record { me = x; you = y; out = o; back = b }) → NamesCounts flow x.now.now.call.now.traffic x.now.now.call.now.epoch
+whole_names flow role x y o b i =
+    let c = call_now flow role x.now (at y x.number) (inner x y x.number).out (inner x y x.number).back (uses_now flow role x y o b i) in
+    epoch_names flow x.now.now.call _ _ _ c.call
 
 -- whatever is known of its call
-still_names : (window : ℕ) (t : Traffic) (q : Mark) (e : Epoch) → NamesCounts window t e → NamesCounts window t (marked q e)
-still_names window t q e n = record {
+still_names : (flow : Flow) (t : Traffic) (q : Mark) (e : Epoch) → NamesCounts flow t e → NamesCounts flow t (marked q e)
+still_names flow t q e n = record {
   gone = n.gone;
   sent = n.sent;
   send = n.send;
@@ -72,19 +73,19 @@ still_names window t q e n = record {
   undelivered = n.undelivered;
 }
 
-tied_counted : (window : ℕ) (role : Role) (w : Line) (s c : ℕ) → Tied window role w s c → IsCounted window w.me s c
-tied_counted window role w s c t ch up found flows =
+tied_counted : (flow : Flow) (role : Role) (w : Line) (s c : ℕ) → Tied flow role w s c → IsCounted flow w.me s c
+tied_counted flow role w s c t ch up found flows =
     let p = t.mine.present up in
     let x : Whole = t.x in
     let is : ch ≡ shown (stored x) p.owed = some_same ch (shown (stored x) p.owed) (sym found ∙ p.channel_is) in
     let traffic : ch.traffic ≡ x.now.now.call.now.traffic =
     ap (λ (z : Channel). z.traffic) is ∙ whole_traffic x.own x.now (ap (λ (z : Channel). in_transfer z.state) (sym is) ∙ flows) in
-    subst (λ (z : Traffic). NamesCounts window z (epoch_now (w.me.histories s c))) (sym traffic)
-    (subst (λ (e : Epoch). NamesCounts window x.now.now.call.now.traffic e) (sym (epoch_is x (w.me.histories s c) t.mine.history))
-    (still_names window x.now.now.call.now.traffic (mark x.now.now) x.now.now.call.now.epoch (whole_names window role x t.y t.o t.b t.good)))
+    subst (λ (z : Traffic). NamesCounts flow z (epoch_now (w.me.histories s c))) (sym traffic)
+    (subst (λ (e : Epoch). NamesCounts flow x.now.now.call.now.traffic e) (sym (epoch_is x (w.me.histories s c) t.mine.history))
+    (still_names flow x.now.now.call.now.traffic (mark x.now.now) x.now.now.call.now.epoch (whole_names flow role x t.y t.o t.b t.good)))
 
 pub line_counts : LineCountsLaw
-line_counts channels window standing some small hs s c least most =
-    let w : Line = after hs (start_line channels window standing) in
-    let t : Tied window Dte w s c = all_tied window Dte hs (start_line channels window standing) s c (starts_tied channels window standing s c small least most) in
-    (tied_counted window Dte w s c t, tied_counted window (other_of Dte) (turned w) s c (turned_tied window Dte w s c t))
+line_counts channels flow standing some small hs s c least most =
+    let w : Line = after hs (start_line channels flow standing) in
+    let t : Tied flow Dte w s c = all_tied flow Dte hs (start_line channels flow standing) s c (starts_tied channels flow standing s c small least most) in
+    (tied_counted flow Dte w s c t, tied_counted flow (other_of Dte) (turned w) s c (turned_tied flow Dte w s c t))

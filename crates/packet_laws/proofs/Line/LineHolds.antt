@@ -4,6 +4,7 @@ use Rattle.std.proofs.lemmas.Option.{slice_get_within}
 use Rattle.link_timers.specs.declared.role.Role.{Role}
 use Rattle.link_timers.specs.declared.role.Role.TheVariants.{Dte, Dce}
 use Rattle.link_timers.specs.Role.{other_of}
+use Rattle.packet_channel.specs.declared.flow.Flow.{Flow}
 use Rattle.packet_layer.specs.Packets.{Packet}
 use Rattle.packet_layer.specs.Channel.{Channel, closed_channel, requested}
 use Rattle.packet_layer.specs.Layer.Phase.{NoSession, OwnRestart, PacketReady}
@@ -22,28 +23,28 @@ use Rattle.packet_laws.proofs.Line.Consequences.{turned_tied, tied_holds, restar
 
 -- ---- every event keeps the ties
 
-pub happens_tied : (window : ℕ) (role : Role) (e : Event) (w : Line) (s c : ℕ) → Tied window role w s c → Tied window role (happens e w) s c
-happens_tied window role (Up k) w s c t = up_tied window role w k s c t
-happens_tied window role Down w s c t = down_tied window role w s c t
-happens_tied window role (Calls parts) w s c t = calls_tied window role w s c parts t
-happens_tied window role (Requests d r) w s c t = requests_tied window role w s c d r t
-happens_tied window role (Expires timer) w s c t = expires_tied window role w s c timer t
-happens_tied window role Offers w s c t = offers_tied window role w s c t
-happens_tied window role Arrives w s c t = arrives_tied window role w s c t
+pub happens_tied : (flow : Flow) (role : Role) (e : Event) (w : Line) (s c : ℕ) → Tied flow role w s c → Tied flow role (happens e w) s c
+happens_tied flow role (Up k) w s c t = up_tied flow role w k s c t
+happens_tied flow role Down w s c t = down_tied flow role w s c t
+happens_tied flow role (Calls parts) w s c t = calls_tied flow role w s c parts t
+happens_tied flow role (Requests d r) w s c t = requests_tied flow role w s c d r t
+happens_tied flow role (Expires timer) w s c t = expires_tied flow role w s c timer t
+happens_tied flow role Offers w s c t = offers_tied flow role w s c t
+happens_tied flow role Arrives w s c t = arrives_tied flow role w s c t
 
 twice : (r : Role) → other_of (other_of r) ≡ r
 twice Dte = refl
 twice Dce = refl
 
-one_tied : (window : ℕ) (role : Role) (h : Happening) (w : Line) (s c : ℕ) → Tied window role w s c → Tied window role (after_one h w) s c
-one_tied window role (Here e) w s c t = happens_tied window role e w s c t
-one_tied window role (There e) w s c t =
-    subst (λ (r : Role). Tied window r (turned (happens e (turned w))) s c) (twice role)
-    (turned_tied window (other_of role) (happens e (turned w)) s c (happens_tied window (other_of role) e (turned w) s c (turned_tied window role w s c t)))
+one_tied : (flow : Flow) (role : Role) (h : Happening) (w : Line) (s c : ℕ) → Tied flow role w s c → Tied flow role (after_one h w) s c
+one_tied flow role (Here e) w s c t = happens_tied flow role e w s c t
+one_tied flow role (There e) w s c t =
+    subst (λ (r : Role). Tied flow r (turned (happens e (turned w))) s c) (twice role)
+    (turned_tied flow (other_of role) (happens e (turned w)) s c (happens_tied flow (other_of role) e (turned w) s c (turned_tied flow role w s c t)))
 
-pub all_tied : (window : ℕ) (role : Role) (hs : List Happening) (w : Line) (s c : ℕ) → Tied window role w s c → Tied window role (after hs w) s c
-all_tied window role [] w s c t = t
-all_tied window role (h ∷ hs) w s c t = all_tied window role hs (after_one h w) s c (one_tied window role h w s c t)
+pub all_tied : (flow : Flow) (role : Role) (hs : List Happening) (w : Line) (s c : ℕ) → Tied flow role w s c → Tied flow role (after hs w) s c
+all_tied flow role [] w s c t = t
+all_tied flow role (h ∷ hs) w s c t = all_tied flow role hs (after_one h w) s c (one_tied flow role h w s c t)
 
 -- ---- the number of channels stays
 
@@ -88,8 +89,8 @@ standing_length true [] = refl
 standing_length true (x ∷ chs) = refl
 standing_length false chs = refl
 
-pub start_count : (channels window : ℕ) (standing : Bool) → Counts channels (start_line channels window standing)
-start_count channels window standing =
+pub start_count : (channels : ℕ) (flow : Flow) (standing : Bool) → Counts channels (start_line channels flow standing)
+start_count channels flow standing =
     let e = standing_length standing (replicate channels closed_channel) ∙ replicate_length channels in (e, e)
 
 -- ---- the law
@@ -111,22 +112,22 @@ none_fault : (l : Layer) (p : Packet) (found : Option Channel) → ((ch : Channe
 none_fault l p (Some ch) h e = h ch refl
 none_fault l p None h e = no_channel l p e l.phase
 
-pub faultless : (channels window : ℕ) (role : Role) (w : Line) → 1 ≤ channels → length w.me.layer.channels ≡ channels → ((s c : ℕ) → 1 ≤ c → c ≤ channels → Tied window role w s c) → NoFault w
-faultless channels window role w some count tied s p ses got =
+pub faultless : (channels : ℕ) (flow : Flow) (role : Role) (w : Line) → 1 ≤ channels → length w.me.layer.channels ≡ channels → ((s c : ℕ) → 1 ≤ c → c ≤ channels → Tied flow role w s c) → NoFault w
+faultless channels flow role w some count tied s p ses got =
     fault_at (p.channel == 0) refl
   where
     fault_at : (v : Bool) → (p.channel == 0) ≡ v → cond v (is_restart_fault w.me.layer.phase p.body) (is_channel_fault w.me.layer.phase w.me.layer p) ≡ false
-    fault_at true e = restart_faultless window role w s 1 p ses got e (tied s 1 (omega arith) some)
+    fault_at true e = restart_faultless flow role w s 1 p ses got e (tied s 1 (omega arith) some)
     fault_at false e = none_fault w.me.layer p (channel_of w.me.layer p.channel)
-        (λ ch found. channel_faultless window role w s p ses got e
+        (λ ch found. channel_faultless flow role w s p ses got e
         (tied s p.channel (not_zero p.channel e) (let h = nth_within w.me.layer.channels p.channel ch found in omega arith))) refl
 
 pub line_holds : LineLaw
-line_holds channels window standing some small hs =
-    let w : Line = after hs (start_line channels window standing) in
-    let tied : (s c : ℕ) → 1 ≤ c → c ≤ channels → Tied window Dte w s c = λ s c lo hi. all_tied window Dte hs (start_line channels window standing) s c (starts_tied channels window standing s c small lo hi) in
-    let counts = all_count channels hs (start_line channels window standing) (start_count channels window standing) in (
-      λ s c lo hi. tied_holds window Dte w s c (tied s c lo hi),
-      faultless channels window Dte w some counts.0 tied,
-      faultless channels window Dce (turned w) some counts.1 (λ s c lo hi. turned_tied window Dte w s c (tied s c lo hi)),
+line_holds channels flow standing some small hs =
+    let w : Line = after hs (start_line channels flow standing) in
+    let tied : (s c : ℕ) → 1 ≤ c → c ≤ channels → Tied flow Dte w s c = λ s c lo hi. all_tied flow Dte hs (start_line channels flow standing) s c (starts_tied channels flow standing s c small lo hi) in
+    let counts = all_count channels hs (start_line channels flow standing) (start_count channels flow standing) in (
+      λ s c lo hi. tied_holds flow Dte w s c (tied s c lo hi),
+      faultless channels flow Dte w some counts.0 tied,
+      faultless channels flow Dce (turned w) some counts.1 (λ s c lo hi. turned_tied flow Dte w s c (tied s c lo hi)),
     )

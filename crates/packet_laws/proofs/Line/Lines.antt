@@ -4,6 +4,7 @@ use Rattle.std.proofs.Common.{◌≡◌, ℕ, zero, suc, ◌<◌, ◌≤◌, Boo
 use Rattle.std.proofs.lemmas.Bool.{eq-eqb, cases_eq}
 use Rattle.link_timers.specs.declared.role.Role.{Role}
 use Rattle.link_timers.specs.Role.{other_of}
+use Rattle.packet_channel.specs.declared.flow.Flow.{Flow}
 use Rattle.packet_layer.specs.Packets.{Body, Packet}
 use Rattle.packet_layer.specs.Packets.Body.{Restart, RestartConfirmation}
 use Rattle.packet_layer.specs.Channel.{Channel}
@@ -58,9 +59,9 @@ pub record Present (l : Layer) (c : ℕ) (n : Whole) (rest : List Body) : Type 0
 abbrev pub There : Layer → ℕ → Type 0
 There l c = (ch : Channel) × (channel_of l c ≡ Some ch)
 
-pub record EndTie (window : ℕ) (role : Role) (e : End) (a s c : ℕ) (n : Whole) (o : List Body) : Type 0 where
+pub record EndTie (flow : Flow) (role : Role) (e : End) (a s c : ℕ) (n : Whole) (o : List Body) : Type 0 where
   pub role_is : e.layer.role ≡ role
-  pub window_is : e.layer.window ≡ window
+  pub window_is : e.layer.flow ≡ flow
   pub there : There e.layer c
   pub rest : List Body
   pub out_is : o ≡ on_c c (drop a (e.offered s)) ++ rest
@@ -72,14 +73,14 @@ pub record EndTie (window : ℕ) (role : Role) (e : End) (a s c : ℕ) (n : Whol
   pub present : e.session ≡ Some s → Present e.layer c n rest
   pub still : 0 < s → e.accepted s ≡ 0 → n ≡ begun_whole
 
-pub record Tied (window : ℕ) (role : Role) (w : Line) (s c : ℕ) : Type 0 where
+pub record Tied (flow : Flow) (role : Role) (w : Line) (s c : ℕ) : Type 0 where
   pub x : Whole
   pub y : Whole
   pub o : List Body
   pub b : List Body
-  pub good : GoodWhole window role (record { me = x; you = y; out = o; back = b })
-  pub mine : EndTie window role w.me (w.you.accepted s) s c x o
-  pub yours : EndTie window (other_of role) w.you (w.me.accepted s) s c y b
+  pub good : GoodWhole flow role (record { me = x; you = y; out = o; back = b })
+  pub mine : EndTie flow role w.me (w.you.accepted s) s c x o
+  pub yours : EndTie flow (other_of role) w.you (w.me.accepted s) s c y b
 
 -- ---- channels by number
 
@@ -166,10 +167,10 @@ owed_restart owed b a e = owed_restart_at (is_full owed) owed b a e
 
 -- ---- an event of the layer alone: what it makes of the channel in the present session
 
-pub record Outcome (window : ℕ) (role : Role) (x y : Whole) (link b : List Body) (l : Layer) (c : ℕ) (f : History → History) : Type 0 where
+pub record Outcome (flow : Flow) (role : Role) (x y : Whole) (link b : List Body) (l : Layer) (c : ℕ) (f : History → History) : Type 0 where
   pub next : Whole
   pub rest : List Body
-  pub good : GoodWhole window role (record { me = next; you = y; out = link ++ rest; back = b })
+  pub good : GoodWhole flow role (record { me = next; you = y; out = link ++ rest; back = b })
   pub settled : Settled next
   pub frozen : Frozen x → Frozen next
   pub history : (st : History) → HistoryTie x st → HistoryTie next (f st)
@@ -186,11 +187,11 @@ pub none_some : {X : Type 0} → (s : ℕ) → None ≡ Some s → X
 none_some s e = absurd cc
 
 -- an end of which nothing of this channel and session changed
-pub end_again : (window : ℕ) (role : Role) (e e' : End) (a s c : ℕ) (n : Whole) (o : List Body)
-    → e'.layer.role ≡ e.layer.role → e'.layer.window ≡ e.layer.window → There e'.layer c → e'.offered s ≡ e.offered s → e'.histories s c ≡ e.histories s c → e'.accepted s ≡ e.accepted s
+pub end_again : (flow : Flow) (role : Role) (e e' : End) (a s c : ℕ) (n : Whole) (o : List Body)
+    → e'.layer.role ≡ e.layer.role → e'.layer.flow ≡ e.layer.flow → There e'.layer c → e'.offered s ≡ e.offered s → e'.histories s c ≡ e.histories s c → e'.accepted s ≡ e.accepted s
     → ((rest : List Body) → (e.session ≡ Some s → Present e.layer c n rest) → e'.session ≡ Some s → Present e'.layer c n rest)
-    → EndTie window role e a s c n o → EndTie window role e' a s c n o
-end_again window role e e' a s c n o role_same window_same there off st acc present t = record {
+    → EndTie flow role e a s c n o → EndTie flow role e' a s c n o
+end_again flow role e e' a s c n o role_same window_same there off st acc present t = record {
   role_is = role_same ∙ t.role_is;
   window_is = window_same ∙ t.window_is;
   there = there;

@@ -3,6 +3,7 @@ use Rattle.std.proofs.Common.{◌≡◌, ℕ, zero, suc, ◌<◌, ◌≤◌, Boo
 use Rattle.std.proofs.lemmas.Bool.{ne_eqb, cases_eq}
 use Rattle.std.proofs.lemmas.List.{drop-append-le}
 use Rattle.link_timers.specs.declared.role.Role.{Role}
+use Rattle.packet_channel.specs.declared.flow.Flow.{Flow}
 use Rattle.packet_layer.specs.Packets.{Body, Packet}
 use Rattle.packet_layer.specs.Traffic.{says}
 use Rattle.packet_layer.specs.Channel.{Channel, has_flow, moved}
@@ -48,7 +49,7 @@ abbrev Becomes : Line → ℕ → Next → Line
 Becomes w k n = record w { me = record w.me { layer = n.layer; offered = handed_over k n.packet w.me.offered } }
 
 abbrev pub Found : (Next → Type 0) → Layer → Type 0
-Found P l = (d : ℕ) (ch : Channel) (q : Body) → channel_of l d ≡ Some ch → (next_of l.window ch).body ≡ Some q → P (record { layer = record l { channels = with_nth l.channels d (next_of l.window ch).channel; served_last = d }; packet = packet_of d (next_of l.window ch).body })
+Found P l = (d : ℕ) (ch : Channel) (q : Body) → channel_of l d ≡ Some ch → (next_of l.flow ch).body ≡ Some q → P (record { layer = record l { channels = with_nth l.channels d (next_of l.flow ch).channel; served_last = d }; packet = packet_of d (next_of l.flow ch).body })
 
 has_body : (o : Option Body) → is_some o ≡ true → (q : Body) × (o ≡ Some q)
 has_body (Some q) e = (q, refl)
@@ -57,7 +58,7 @@ has_body None e = absurd (true≢false (sym e))
 serve_one : (P : Next → Type 0) (l : Layer) (d : ℕ) (found : Option Channel) (others : Next) → channel_of l d ≡ found → Found P l → P others → P (serve_found l d found others)
 serve_one P l d None others e some o = o
 serve_one P l d (Some ch) others e some o =
-    by_cond P (is_some (next_of l.window ch).body) _ others (λ h. let b = has_body (next_of l.window ch).body h in some d ch b.0 e b.1) (λ h. o)
+    by_cond P (is_some (next_of l.flow ch).body) _ others (λ h. let b = has_body (next_of l.flow ch).body h in some d ch b.0 e b.1) (λ h. o)
 
 serve_all : (P : Next → Type 0) (l : Layer) → P (record { layer = l; packet = None }) → Found P l → (k d : ℕ) → P (serve k l d)
 serve_all P l none some zero d = none
@@ -98,7 +99,7 @@ next_every P l none restart some = subst P (next_with_is l.phase l.relink l) (ne
 
 pub next_same : (l : Layer) (c : ℕ) → SameLine l (next_packet l).layer c
 next_same l c = next_every (λ (n : Next). SameLine l n.layer c) l (refl, refl, λ t. t, refl) (λ q qs e f. (refl, refl, λ t. t, refl))
-    (λ e f d ch q g h. (refl, refl, λ t. nth_there l.channels c d (next_of l.window ch).channel t, nth_length l.channels d (next_of l.window ch).channel))
+    (λ e f d ch q g h. (refl, refl, λ t. nth_there l.channels c d (next_of l.flow ch).channel t, nth_length l.channels d (next_of l.flow ch).channel))
 
 pub handed_other : (k s : ℕ) (o : Option Packet) (off : ℕ → List Packet) → (s == k) ≡ false → handed_over k o off s ≡ off s
 handed_other k s None off e = refl
@@ -107,12 +108,12 @@ handed_other k s (Some p) off e = ap (λ (v : Bool). cond v (off s ++ p ∷ []) 
 -- ---- in this session
 
 -- the end after a packet was handed over
-pushed : (window : ℕ) (role : Role) (w : Line) (s c : ℕ) (t : Tied window role w s c) (l' : Layer) (p : Packet) (x' : Whole) (rest' : List Body)
-    → l'.role ≡ w.me.layer.role → l'.window ≡ w.me.layer.window → Well c p
-    → GoodWhole window role (record { me = x'; you = t.y; out = (on_c c (drop (w.you.accepted s) (w.me.offered s)) ++ on_c c (p ∷ [])) ++ rest'; back = t.b })
+pushed : (flow : Flow) (role : Role) (w : Line) (s c : ℕ) (t : Tied flow role w s c) (l' : Layer) (p : Packet) (x' : Whole) (rest' : List Body)
+    → l'.role ≡ w.me.layer.role → l'.flow ≡ w.me.layer.flow → Well c p
+    → GoodWhole flow role (record { me = x'; you = t.y; out = (on_c c (drop (w.you.accepted s) (w.me.offered s)) ++ on_c c (p ∷ [])) ++ rest'; back = t.b })
     → Settled x' → Frozen x' → HistoryTie x' (w.me.histories s c) → (0 < s → w.me.accepted s ≡ 0 → x' ≡ begun_whole) → Present l' c x' rest'
-    → Tied window role (Becomes w s (record { layer = l'; packet = Some p })) s c
-pushed window role w s c t l' p x' rest' ro wi well good settled frozen history still present =
+    → Tied flow role (Becomes w s (record { layer = l'; packet = Some p })) s c
+pushed flow role w s c t l' p x' rest' ro wi well good settled frozen history still present =
     let m = t.mine in
     let off : cond (s == s) (w.me.offered s ++ p ∷ []) (w.me.offered s) ≡ w.me.offered s ++ p ∷ [] = ap (λ (v : Bool). cond v (w.me.offered s ++ p ∷ []) (w.me.offered s)) (same s) in
     record {
@@ -139,16 +140,16 @@ pushed window role w s c t l' p x' rest' ro wi well good settled frozen history 
     }
 
 -- a restart packet
-offers_restart : (window : ℕ) (role : Role) (w : Line) (s c : ℕ) (t : Tied window role w s c) → Present w.me.layer c t.x t.mine.rest → (q : Body) (qs : List Body) → w.me.layer.relink ≡ false → w.me.layer.owed ≡ q ∷ qs
-    → Tied window role (Becomes w s (record { layer = record w.me.layer { owed = qs }; packet = packet_of 0 (Some q) })) s c
-offers_restart window role w s c t pr q qs e f =
+offers_restart : (flow : Flow) (role : Role) (w : Line) (s c : ℕ) (t : Tied flow role w s c) → Present w.me.layer c t.x t.mine.rest → (q : Body) (qs : List Body) → w.me.layer.relink ≡ false → w.me.layer.owed ≡ q ∷ qs
+    → Tied flow role (Becomes w s (record { layer = record w.me.layer { owed = qs }; packet = packet_of 0 (Some q) })) s c
+offers_restart flow role w s c t pr q qs e f =
     let l : Layer = w.me.layer in
     let link : List Body = on_c c (drop (w.you.accepted s) (w.me.offered s)) in
     let restarts : AllRestart (q ∷ qs) = subst (λ (z : List Body). AllRestart z) f pr.restarts in
     let out : t.o ≡ (link ++ q ∷ []) ++ (qs ++ pr.owed) =
     t.mine.out_is ∙ ap (λ (z : List Body). link ++ z) (pr.rest_is e ∙ ap (λ (z : List Body). z ++ pr.owed) f) ∙ sym (append_assoc link (q ∷ []) (qs ++ pr.owed)) in
-    pushed window role w s c t (record l { owed = qs }) (record { channel = 0; body = q }) t.x (qs ++ pr.owed) refl refl restarts.0
-    (subst (λ (z : List Body). GoodWhole window role (record { me = t.x; you = t.y; out = z; back = t.b })) out t.good)
+    pushed flow role w s c t (record l { owed = qs }) (record { channel = 0; body = q }) t.x (qs ++ pr.owed) refl refl restarts.0
+    (subst (λ (z : List Body). GoodWhole flow role (record { me = t.x; you = t.y; out = z; back = t.b })) out t.good)
     t.mine.settled t.mine.frozen t.mine.history t.mine.still
     (record { phase_is = pr.phase_is; owed = pr.owed; channel_is = pr.channel_is; plain = pr.plain; restarts = restarts.1; rest_is = λ h. refl })
 
@@ -157,18 +158,18 @@ not_restart_channel l zero ch e = absurd cc
 not_restart_channel l (suc d) ch e = ne_eqb (suc d) 0 (λ h. omega arith)
 
 -- a packet of another channel
-offers_other : (window : ℕ) (role : Role) (w : Line) (s c : ℕ) (t : Tied window role w s c) → Present w.me.layer c t.x t.mine.rest → (d : ℕ) (ch' : Channel) (q : Body) → (d == 0) ≡ false → (c ≡ d → ⊥)
-    → Tied window role (Becomes w s (record { layer = record w.me.layer { channels = with_nth w.me.layer.channels d ch'; served_last = d }; packet = Some (record { channel = d; body = q }) })) s c
-offers_other window role w s c t pr d ch' q nz ne =
+offers_other : (flow : Flow) (role : Role) (w : Line) (s c : ℕ) (t : Tied flow role w s c) → Present w.me.layer c t.x t.mine.rest → (d : ℕ) (ch' : Channel) (q : Body) → (d == 0) ≡ false → (c ≡ d → ⊥)
+    → Tied flow role (Becomes w s (record { layer = record w.me.layer { channels = with_nth w.me.layer.channels d ch'; served_last = d }; packet = Some (record { channel = d; body = q }) })) s c
+offers_other flow role w s c t pr d ch' q nz ne =
     let l : Layer = w.me.layer in
     let p : Packet = record { channel = d; body = q } in
     let dc : (d == c) ≡ false = ne_eqb d c (λ e. ne (sym e)) in
     let none : belongs c p ≡ false = ap (λ (v : Bool). v || (d == c)) nz ∙ dc in
     let nothing : on_c c (p ∷ []) ≡ [] = ap (λ (v : Bool). cond v (q ∷ []) []) none in
     let link : List Body = on_c c (drop (w.you.accepted s) (w.me.offered s)) in
-    pushed window role w s c t (record l { channels = with_nth l.channels d ch'; served_last = d }) p t.x t.mine.rest refl refl
+    pushed flow role w s c t (record l { channels = with_nth l.channels d ch'; served_last = d }) p t.x t.mine.rest refl refl
     (subst (λ (v : Bool). WellOf v (d == c) q) (sym nz) (subst (λ (v : Bool). WellOf false v q) (sym dc) tt))
-    (subst (λ (z : List Body). GoodWhole window role (record { me = t.x; you = t.y; out = z; back = t.b })) (t.mine.out_is ∙ ap (λ (z : List Body). z ++ t.mine.rest) (sym (append-nil link) ∙ ap (λ (z : List Body). link ++ z) (sym nothing))) t.good)
+    (subst (λ (z : List Body). GoodWhole flow role (record { me = t.x; you = t.y; out = z; back = t.b })) (t.mine.out_is ∙ ap (λ (z : List Body). z ++ t.mine.rest) (sym (append-nil link) ∙ ap (λ (z : List Body). link ++ z) (sym nothing))) t.good)
     t.mine.settled t.mine.frozen t.mine.history t.mine.still
     (record { phase_is = pr.phase_is; owed = pr.owed; channel_is = nth_other l.channels c d ch' ne ∙ pr.channel_is; plain = pr.plain; restarts = pr.restarts; rest_is = pr.rest_is })
 
@@ -183,15 +184,15 @@ well_here : (c : ℕ) (q : Body) → (c == 0) ≡ false → restart_kind q ≡ P
 well_here c q nz e = subst (λ (v : Bool). WellOf v (c == c) q) (sym nz) (subst (λ (v : Bool). WellOf false v q) (sym (same c)) e)
 
 -- what the channel's traffic says
-abbrev SaysOf : ℕ → Role → Whole → Type 0
-SaysOf window role n = (owed : List Body) → Act window role n owed (record (shown (stored n) owed) { traffic = (says window (stored n).traffic).traffic }) (says window (stored n).traffic).body (λ st. st)
+abbrev SaysOf : Flow → Role → Whole → Type 0
+SaysOf flow role n = (owed : List Body) → Act flow role n owed (record (shown (stored n) owed) { traffic = (says flow (stored n).traffic).traffic }) (says flow (stored n).traffic).body (λ st. st)
 
-says_any : (window : ℕ) (role : Role) (rown own : Bool) (s : Stage) (rs : Bool) (n : Whole) → has_flow (shown (stored (in_any rown own s rs n)) []) ≡ true → SaysOf window role (in_any rown own s rs n)
-says_any window role false false (Open m) false n e owed = says_act window role m n owed
-says_any window role false false (Open m) true n e owed = absurd (true≢false (sym e))
-says_any window role false false _ rs n e owed = absurd (true≢false (sym e))
-says_any window role false true s rs n e owed = absurd (true≢false (sym e))
-says_any window role true own s rs n e owed = absurd (true≢false (sym e))
+says_any : (flow : Flow) (role : Role) (rown own : Bool) (s : Stage) (rs : Bool) (n : Whole) → has_flow (shown (stored (in_any rown own s rs n)) []) ≡ true → SaysOf flow role (in_any rown own s rs n)
+says_any flow role false false (Open m) false n e owed = says_act flow role m n owed
+says_any flow role false false (Open m) true n e owed = absurd (true≢false (sym e))
+says_any flow role false false _ rs n e owed = absurd (true≢false (sym e))
+says_any flow role false true s rs n e owed = absurd (true≢false (sym e))
+says_any flow role true own s rs n e owed = absurd (true≢false (sym e))
 
 some_body : (a b : Body) → Some a ≡ Some b → a ≡ b
 some_body a b e = cc
@@ -204,46 +205,46 @@ flow_or_none false x y q n e = absurd (none_is (sym n ∙ e))
     none_is h = cc
 
 -- the next packet of this channel
-offers_here : (window : ℕ) (role : Role) (w : Line) (s c : ℕ) (t : Tied window role w s c) (pr : Present w.me.layer c t.x t.mine.rest) (q : Body) (owed : List Body) → pr.owed ≡ owed → w.me.layer.relink ≡ false → w.me.layer.owed ≡ []
-    → (c == 0) ≡ false → (next_owed w.me.layer.window owed (shown (stored t.x) owed)).body ≡ Some q
-    → Tied window role (Becomes w s (record { layer = record w.me.layer { channels = with_nth w.me.layer.channels c (next_owed w.me.layer.window owed (shown (stored t.x) owed)).channel; served_last = c }; packet = packet_of c (next_owed w.me.layer.window owed (shown (stored t.x) owed)).body })) s c
-offers_here window role w s c t pr q (b ∷ bs) is rl none nz e =
+offers_here : (flow : Flow) (role : Role) (w : Line) (s c : ℕ) (t : Tied flow role w s c) (pr : Present w.me.layer c t.x t.mine.rest) (q : Body) (owed : List Body) → pr.owed ≡ owed → w.me.layer.relink ≡ false → w.me.layer.owed ≡ []
+    → (c == 0) ≡ false → (next_owed w.me.layer.flow owed (shown (stored t.x) owed)).body ≡ Some q
+    → Tied flow role (Becomes w s (record { layer = record w.me.layer { channels = with_nth w.me.layer.channels c (next_owed w.me.layer.flow owed (shown (stored t.x) owed)).channel; served_last = c }; packet = packet_of c (next_owed w.me.layer.flow owed (shown (stored t.x) owed)).body })) s c
+offers_here flow role w s c t pr q (b ∷ bs) is rl none nz e =
     let l : Layer = w.me.layer in
     let link : List Body = on_c c (drop (w.you.accepted s) (w.me.offered s)) in
     let plain : AllPayload restart_kind (b ∷ bs) = subst (λ (z : List Body). AllPayload restart_kind z) is pr.plain in
     let out : t.o ≡ (link ++ on_c c (record { channel = c; body = b } ∷ [])) ++ bs =
     t.mine.out_is ∙ ap (λ (z : List Body). link ++ z) (pr.rest_is rl ∙ ap (λ (z : List Body). z ++ pr.owed) none ∙ is) ∙ sym (append_assoc link (b ∷ []) bs)
     ∙ ap (λ (z : List Body). (link ++ z) ++ bs) (sym (one_packet c b)) in
-    pushed window role w s c t _ (record { channel = c; body = b }) t.x bs refl refl (well_here c b nz plain.0)
-    (subst (λ (z : List Body). GoodWhole window role (record { me = t.x; you = t.y; out = z; back = t.b })) out t.good)
+    pushed flow role w s c t _ (record { channel = c; body = b }) t.x bs refl refl (well_here c b nz plain.0)
+    (subst (λ (z : List Body). GoodWhole flow role (record { me = t.x; you = t.y; out = z; back = t.b })) out t.good)
     t.mine.settled t.mine.frozen t.mine.history t.mine.still
     (record { phase_is = pr.phase_is; owed = bs; channel_is = nth_same l.channels c (shown (stored t.x) pr.owed) _ pr.channel_is; plain = plain.1; restarts = pr.restarts; rest_is = λ h. ap (λ (z : List Body). z ++ bs) (sym none) })
-offers_here window role w s c t pr q [] is rl none nz e =
+offers_here flow role w s c t pr q [] is rl none nz e =
     let l : Layer = w.me.layer in
     let x : Whole = t.x in
     let link : List Body = on_c c (drop (w.you.accepted s) (w.me.offered s)) in
-    let flow : ChannelNext = record { channel = moved (says l.window (stored x).traffic).traffic (shown (stored x) []); body = (says l.window (stored x).traffic).body } in
-    let f = flow_or_none (has_flow (shown (stored x) [])) flow (record { channel = shown (stored x) []; body = None }) q refl e in
-    let act : Act window role x [] (record (shown (stored x) []) { traffic = (says window (stored x).traffic).traffic }) (says window (stored x).traffic).body (λ st. st) =
-    says_any window role x.own x.now.own x.now.now.stage x.now.now.call.own x f.0 [] in
-    let win : l.window ≡ window = t.mine.window_is in
-    let body_is : (says window (stored x).traffic).body ≡ Some q =
-    ap (λ (k : ℕ). (says k (stored x).traffic).body) (sym win) ∙ ap (λ (n : ChannelNext). n.body) (sym f.1) ∙ e in
+    let flowing : ChannelNext = record { channel = moved (says l.flow (stored x).traffic).traffic (shown (stored x) []); body = (says l.flow (stored x).traffic).body } in
+    let f = flow_or_none (has_flow (shown (stored x) [])) flowing (record { channel = shown (stored x) []; body = None }) q refl e in
+    let act : Act flow role x [] (record (shown (stored x) []) { traffic = (says flow (stored x).traffic).traffic }) (says flow (stored x).traffic).body (λ st. st) =
+    says_any flow role x.own x.now.own x.now.now.stage x.now.now.call.own x f.0 [] in
+    let win : l.flow ≡ flow = t.mine.window_is in
+    let body_is : (says flow (stored x).traffic).body ≡ Some q =
+    ap (λ (f : Flow). (says f (stored x).traffic).body) (sym win) ∙ ap (λ (n : ChannelNext). n.body) (sym f.1) ∙ e in
     let says_q : act.did.says ≡ Some q = sym act.owes_is ∙ body_is in
     let x' : Whole = act.did.end_ in
     let rest_nil : t.mine.rest ≡ [] = pr.rest_is rl ∙ ap (λ (z : List Body). z ++ pr.owed) none ∙ is in
-    let good1 : GoodWhole window role (record { me = x'; you = t.y; out = t.o ++ q ∷ []; back = t.b }) =
-    subst (λ (o : Option Body). GoodWhole window role (record { me = x'; you = t.y; out = said o t.o; back = t.b })) says_q (act.keeps t.y t.o t.b t.good) in
+    let good1 : GoodWhole flow role (record { me = x'; you = t.y; out = t.o ++ q ∷ []; back = t.b }) =
+    subst (λ (o : Option Body). GoodWhole flow role (record { me = x'; you = t.y; out = said o t.o; back = t.b })) says_q (act.keeps t.y t.o t.b t.good) in
     let out : t.o ++ q ∷ [] ≡ (link ++ on_c c (record { channel = c; body = q } ∷ [])) ++ [] =
     ap (λ (z : List Body). z ++ q ∷ []) (t.mine.out_is ∙ ap (λ (z : List Body). link ++ z) rest_nil ∙ append-nil link)
     ∙ ap (λ (z : List Body). link ++ z) (sym (one_packet c q)) ∙ sym (append-nil _) in
     let payload : restart_kind q ≡ Payload = subst (λ (o : Option Body). Rattle.packet_laws.proofs.Handshakes.Handshake.SaysPayload restart_kind o) says_q act.plain in
-    let next : ChannelNext = next_owed l.window [] (shown (stored x) []) in
+    let next : ChannelNext = next_owed l.flow [] (shown (stored x) []) in
     let ch_is : next.channel ≡ shown (stored x') [] =
-    ap (λ (n : ChannelNext). n.channel) f.1 ∙ ap (λ (k : ℕ). record (shown (stored x) []) { traffic = (says k (stored x).traffic).traffic }) win ∙ act.channel_is in
-    subst (λ (o : Option Packet). Tied window role (Becomes w s (record { layer = record l { channels = with_nth l.channels c next.channel; served_last = c }; packet = o })) s c) (ap (λ (o : Option Body). packet_of c o) (sym e))
-    (pushed window role w s c t (record l { channels = with_nth l.channels c next.channel; served_last = c }) (record { channel = c; body = q }) x' [] refl refl (well_here c q nz payload)
-    (subst (λ (z : List Body). GoodWhole window role (record { me = x'; you = t.y; out = z; back = t.b })) out good1)
+    ap (λ (n : ChannelNext). n.channel) f.1 ∙ ap (λ (f : Flow). record (shown (stored x) []) { traffic = (says f (stored x).traffic).traffic }) win ∙ act.channel_is in
+    subst (λ (o : Option Packet). Tied flow role (Becomes w s (record { layer = record l { channels = with_nth l.channels c next.channel; served_last = c }; packet = o })) s c) (ap (λ (o : Option Body). packet_of c o) (sym e))
+    (pushed flow role w s c t (record l { channels = with_nth l.channels c next.channel; served_last = c }) (record { channel = c; body = q }) x' [] refl refl (well_here c q nz payload)
+    (subst (λ (z : List Body). GoodWhole flow role (record { me = x'; you = t.y; out = z; back = t.b })) out good1)
     act.settled (frozen_same x x' act.past_is t.mine.frozen) (act.history (w.me.histories s c) t.mine.history)
     (λ lt h. let b = t.mine.still lt h in (act.idle (ap (λ (n : Whole). n.own) b)).0 ∙ b)
     (record {
@@ -258,29 +259,29 @@ offers_here window role w s c t pr q [] is rl none nz e =
 some_ch : (a b : Channel) → Some a ≡ Some b → a ≡ b
 some_ch a b e = cc
 
-offers_found : (window : ℕ) (role : Role) (w : Line) (s c : ℕ) (t : Tied window role w s c) → Present w.me.layer c t.x t.mine.rest → w.me.layer.relink ≡ false → w.me.layer.owed ≡ []
-    → Found (λ n. Tied window role (Becomes w s n) s c) w.me.layer
-offers_found window role w s c t pr rl none d ch q found body =
+offers_found : (flow : Flow) (role : Role) (w : Line) (s c : ℕ) (t : Tied flow role w s c) → Present w.me.layer c t.x t.mine.rest → w.me.layer.relink ≡ false → w.me.layer.owed ≡ []
+    → Found (λ n. Tied flow role (Becomes w s n) s c) w.me.layer
+offers_found flow role w s c t pr rl none d ch q found body =
     let l : Layer = w.me.layer in
     elim (cases_eq c d) [
       | inl e ↦
           let here : channel_of l c ≡ Some ch = subst (λ (k : ℕ). channel_of l k ≡ Some ch) (sym e) found in
           let is_ch : shown (stored t.x) pr.owed ≡ ch = some_ch _ _ (sym pr.channel_is ∙ here) in
-          subst (λ (k : ℕ). Tied window role (Becomes w s (record { layer = record l { channels = with_nth l.channels k (next_of l.window ch).channel; served_last = k }; packet = packet_of k (next_of l.window ch).body })) s c) e
-          (subst (λ (z : Channel). Tied window role (Becomes w s (record { layer = record l { channels = with_nth l.channels c (next_of l.window z).channel; served_last = c }; packet = packet_of c (next_of l.window z).body })) s c) is_ch
-          (offers_here window role w s c t pr q pr.owed refl rl none (not_restart_channel l c ch here) (ap (λ (z : Channel). (next_of l.window z).body) is_ch ∙ body)))
+          subst (λ (k : ℕ). Tied flow role (Becomes w s (record { layer = record l { channels = with_nth l.channels k (next_of l.flow ch).channel; served_last = k }; packet = packet_of k (next_of l.flow ch).body })) s c) e
+          (subst (λ (z : Channel). Tied flow role (Becomes w s (record { layer = record l { channels = with_nth l.channels c (next_of l.flow z).channel; served_last = c }; packet = packet_of c (next_of l.flow z).body })) s c) is_ch
+          (offers_here flow role w s c t pr q pr.owed refl rl none (not_restart_channel l c ch here) (ap (λ (z : Channel). (next_of l.flow z).body) is_ch ∙ body)))
       | inr ne ↦
-          subst (λ (o : Option Packet). Tied window role (Becomes w s (record { layer = record l { channels = with_nth l.channels d (next_of l.window ch).channel; served_last = d }; packet = o })) s c) (ap (λ (o : Option Body). packet_of d o) (sym body))
-          (offers_other window role w s c t pr d (next_of l.window ch).channel q (not_restart_channel l d ch found) ne)
+          subst (λ (o : Option Packet). Tied flow role (Becomes w s (record { layer = record l { channels = with_nth l.channels d (next_of l.flow ch).channel; served_last = d }; packet = o })) s c) (ap (λ (o : Option Body). packet_of d o) (sym body))
+          (offers_other flow role w s c t pr d (next_of l.flow ch).channel q (not_restart_channel l d ch found) ne)
     ]
 
-offers_at : (window : ℕ) (role : Role) (w : Line) (k s c : ℕ) → w.me.session ≡ Some k → Tied window role w s c → Tied window role (Becomes w k (next_packet w.me.layer)) s c
-offers_at window role w k s c ses t =
+offers_at : (flow : Flow) (role : Role) (w : Line) (k s c : ℕ) → w.me.session ≡ Some k → Tied flow role w s c → Tied flow role (Becomes w k (next_packet w.me.layer)) s c
+offers_at flow role w k s c ses t =
     elim (cases_eq s k) [
-      | inl e ↦ subst (λ (j : ℕ). Tied window role (Becomes w j (next_packet w.me.layer)) s c) e
-          (next_every (λ (n : Next). Tied window role (Becomes w s n) s c) w.me.layer t
-          (λ q qs rl owed. offers_restart window role w s c t (t.mine.present (ses ∙ ap (λ (j : ℕ). Some j) (sym e))) q qs rl owed)
-          (λ rl owed. offers_found window role w s c t (t.mine.present (ses ∙ ap (λ (j : ℕ). Some j) (sym e))) rl owed))
+      | inl e ↦ subst (λ (j : ℕ). Tied flow role (Becomes w j (next_packet w.me.layer)) s c) e
+          (next_every (λ (n : Next). Tied flow role (Becomes w s n) s c) w.me.layer t
+          (λ q qs rl owed. offers_restart flow role w s c t (t.mine.present (ses ∙ ap (λ (j : ℕ). Some j) (sym e))) q qs rl owed)
+          (λ rl owed. offers_found flow role w s c t (t.mine.present (ses ∙ ap (λ (j : ℕ). Some j) (sym e))) rl owed))
       | inr ne ↦
           let ls = next_same w.me.layer c in
           record {
@@ -289,15 +290,15 @@ offers_at window role w k s c ses t =
             o = t.o;
             b = t.b;
             good = t.good;
-            mine = end_again window role w.me (record w.me { layer = (next_packet w.me.layer).layer; offered = handed_over k (next_packet w.me.layer).packet w.me.offered }) (w.you.accepted s) s c t.x t.o ls.0 ls.1 (ls.2 t.mine.there)
+            mine = end_again flow role w.me (record w.me { layer = (next_packet w.me.layer).layer; offered = handed_over k (next_packet w.me.layer).packet w.me.offered }) (w.you.accepted s) s c t.x t.o ls.0 ls.1 (ls.2 t.mine.there)
                 (handed_other k s (next_packet w.me.layer).packet w.me.offered (ne_eqb s k ne)) refl refl (λ rest p h. absurd (session_other s k (ne_eqb s k ne) (sym ses ∙ h))) t.mine;
             yours = t.yours;
           }
     ]
 
-offers_by : (window : ℕ) (role : Role) (w : Line) (o : Option ℕ) (s c : ℕ) → w.me.session ≡ o → Tied window role w s c → Tied window role (record w { me = offers o w.me }) s c
-offers_by window role w None s c ses t = t
-offers_by window role w (Some k) s c ses t = offers_at window role w k s c ses t
+offers_by : (flow : Flow) (role : Role) (w : Line) (o : Option ℕ) (s c : ℕ) → w.me.session ≡ o → Tied flow role w s c → Tied flow role (record w { me = offers o w.me }) s c
+offers_by flow role w None s c ses t = t
+offers_by flow role w (Some k) s c ses t = offers_at flow role w k s c ses t
 
-pub offers_tied : (window : ℕ) (role : Role) (w : Line) (s c : ℕ) → Tied window role w s c → Tied window role (happens Offers w) s c
-offers_tied window role w s c t = offers_by window role w w.me.session s c refl t
+pub offers_tied : (flow : Flow) (role : Role) (w : Line) (s c : ℕ) → Tied flow role w s c → Tied flow role (happens Offers w) s c
+offers_tied flow role w s c t = offers_by flow role w w.me.session s c refl t

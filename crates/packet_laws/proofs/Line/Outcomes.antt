@@ -3,6 +3,7 @@ use Rattle.std.proofs.Common.{◌≡◌, ℕ, zero, suc, Bool, true, false, cond
 use Rattle.std.proofs.lemmas.Bool.{ne_eqb, cases_eq}
 use Rattle.link_timers.specs.declared.role.Role.{Role}
 use Rattle.link_timers.specs.declared.role.Role.TheVariants.{Dte, Dce}
+use Rattle.packet_channel.specs.declared.flow.Flow.{Flow}
 use Rattle.packet_layer.specs.Packets.{CallParts, Body, Reason}
 use Rattle.packet_layer.specs.Packets.Body.{Call, Clear, Restart}
 use Rattle.packet_layer.specs.Channel.{CallState, Channel, Step, Request, requested, clear_error, closed_channel, error_cause, in_transfer}
@@ -23,10 +24,10 @@ use Rattle.packet_laws.proofs.Line.Lines.{Present, Outcome, AllRestart, nth_same
 
 -- ---- nothing of the channel changed
 
-pub same_outcome : (window : ℕ) (role : Role) (x y : Whole) (link b rest : List Body) (l l' : Layer) (c : ℕ) (f : History → History)
+pub same_outcome : (flow : Flow) (role : Role) (x y : Whole) (link b rest : List Body) (l l' : Layer) (c : ℕ) (f : History → History)
     → ((st : History) → f st ≡ st) → l'.phase ≡ l.phase → channel_of l' c ≡ channel_of l c → l'.owed ≡ l.owed → (l'.relink ≡ false → l.relink ≡ false)
-    → GoodWhole window role (record { me = x; you = y; out = link ++ rest; back = b }) → Settled x → Present l c x rest → Outcome window role x y link b l' c f
-same_outcome window role x y link b rest l l' c f id ph ch ow rl g s p = record {
+    → GoodWhole flow role (record { me = x; you = y; out = link ++ rest; back = b }) → Settled x → Present l c x rest → Outcome flow role x y link b l' c f
+same_outcome flow role x y link b rest l l' c f id ph ch ow rl g s p = record {
   next = x;
   rest = rest;
   good = g;
@@ -46,10 +47,10 @@ same_outcome window role x y link b rest l l' c f id ph ch ow rl g s p = record 
 
 -- ---- a step of this channel
 
-pub act_outcome : (window : ℕ) (role : Role) (x y : Whole) (link b rest : List Body) (l : Layer) (c : ℕ) (st : Step) (f : History → History)
-    → (p : Present l c x rest) → Act window role x p.owed st.channel st.owes f
-    → GoodWhole window role (record { me = x; you = y; out = link ++ rest; back = b }) → Outcome window role x y link b (after_step l c st) c f
-act_outcome window role x y link b rest l c st f p a g =
+pub act_outcome : (flow : Flow) (role : Role) (x y : Whole) (link b rest : List Body) (l : Layer) (c : ℕ) (st : Step) (f : History → History)
+    → (p : Present l c x rest) → Act flow role x p.owed st.channel st.owes f
+    → GoodWhole flow role (record { me = x; you = y; out = link ++ rest; back = b }) → Outcome flow role x y link b (after_step l c st) c f
+act_outcome flow role x y link b rest l c st f p a g =
     let says : Option Body = a.did.says in
     let owed' : List Body = with_owed p.owed says in
     let owing_is : owing st ≡ shown (stored a.did.end_) owed' =
@@ -59,7 +60,7 @@ act_outcome window role x y link b rest l c st f p a g =
     record {
       next = a.did.end_;
       rest = said says rest;
-      good = subst (λ (o : List Body). GoodWhole window role (record { me = a.did.end_; you = y; out = o; back = b })) (said_append link rest says) (a.keeps y (link ++ rest) b g);
+      good = subst (λ (o : List Body). GoodWhole flow role (record { me = a.did.end_; you = y; out = o; back = b })) (said_append link rest says) (a.keeps y (link ++ rest) b g);
       settled = a.settled;
       frozen = λ f. frozen_same x a.did.end_ a.past_is f;
       history = a.history;
@@ -78,34 +79,34 @@ act_outcome window role x y link b rest l c st f p a g =
 
 -- ---- a step of another channel
 
-pub other_outcome : (window : ℕ) (role : Role) (x y : Whole) (link b rest : List Body) (l : Layer) (c d : ℕ) (st : Step) (f : History → History)
-    → ((z : History) → f z ≡ z) → (c ≡ d → ⊥) → GoodWhole window role (record { me = x; you = y; out = link ++ rest; back = b }) → Settled x → Present l c x rest → Outcome window role x y link b (after_step l d st) c f
-other_outcome window role x y link b rest l c d st f id ne g s p =
-    same_outcome window role x y link b rest l (after_step l d st) c f id refl (nth_other l.channels c d (owing st) ne) refl (λ h. (set_if_false _ l.relink h).1) g s p
+pub other_outcome : (flow : Flow) (role : Role) (x y : Whole) (link b rest : List Body) (l : Layer) (c d : ℕ) (st : Step) (f : History → History)
+    → ((z : History) → f z ≡ z) → (c ≡ d → ⊥) → GoodWhole flow role (record { me = x; you = y; out = link ++ rest; back = b }) → Settled x → Present l c x rest → Outcome flow role x y link b (after_step l d st) c f
+other_outcome flow role x y link b rest l c d st f id ne g s p =
+    same_outcome flow role x y link b rest l (after_step l d st) c f id refl (nth_other l.channels c d (owing st) ne) refl (λ h. (set_if_false _ l.relink h).1) g s p
 
-pub other_found : (window : ℕ) (role : Role) (x y : Whole) (link b rest : List Body) (l : Layer) (c d : ℕ) (F : Channel → Step) (found : Option Channel) (f : History → History)
-    → ((z : History) → f z ≡ z) → (c ≡ d → ⊥) → GoodWhole window role (record { me = x; you = y; out = link ++ rest; back = b }) → Settled x → Present l c x rest → Outcome window role x y link b (on_found l d F found) c f
-other_found window role x y link b rest l c d F None f id ne g s p = same_outcome window role x y link b rest l l c f id refl refl refl (λ h. h) g s p
-other_found window role x y link b rest l c d F (Some ch) f id ne g s p = other_outcome window role x y link b rest l c d (F ch) f id ne g s p
+pub other_found : (flow : Flow) (role : Role) (x y : Whole) (link b rest : List Body) (l : Layer) (c d : ℕ) (F : Channel → Step) (found : Option Channel) (f : History → History)
+    → ((z : History) → f z ≡ z) → (c ≡ d → ⊥) → GoodWhole flow role (record { me = x; you = y; out = link ++ rest; back = b }) → Settled x → Present l c x rest → Outcome flow role x y link b (on_found l d F found) c f
+other_found flow role x y link b rest l c d F None f id ne g s p = same_outcome flow role x y link b rest l l c f id refl refl refl (λ h. h) g s p
+other_found flow role x y link b rest l c d F (Some ch) f id ne g s p = other_outcome flow role x y link b rest l c d (F ch) f id ne g s p
 
 -- ---- a restart begun here
 
-restart_out : (window : ℕ) (role : Role) (x y : Whole) (link b rest owed owed_c : List Body) (cause diagnostic : ℕ) → AllPayload restart_kind owed_c → x.own ≡ false → rest ≡ owed ++ owed_c
-    → GoodWhole window role (record { me = x; you = y; out = link ++ rest; back = b }) → GoodWhole window role (record { me = advanced first_use true x; you = y; out = link ++ (owed ++ Restart cause diagnostic ∷ []); back = b })
-restart_out window role x y link b rest owed owed_c cause diagnostic plain ready e g =
-    subst (λ (o : List Body). GoodWhole window role (record { me = advanced first_use true x; you = y; out = o; back = b })) (append_assoc link owed (Restart cause diagnostic ∷ []))
-    (whole_restarts window role cause diagnostic x y (link ++ owed) owed_c b plain ready
-    (subst (λ (o : List Body). GoodWhole window role (record { me = x; you = y; out = o; back = b })) (ap (λ (q : List Body). link ++ q) e ∙ sym (append_assoc link owed owed_c)) g))
+restart_out : (flow : Flow) (role : Role) (x y : Whole) (link b rest owed owed_c : List Body) (cause diagnostic : ℕ) → AllPayload restart_kind owed_c → x.own ≡ false → rest ≡ owed ++ owed_c
+    → GoodWhole flow role (record { me = x; you = y; out = link ++ rest; back = b }) → GoodWhole flow role (record { me = advanced first_use true x; you = y; out = link ++ (owed ++ Restart cause diagnostic ∷ []); back = b })
+restart_out flow role x y link b rest owed owed_c cause diagnostic plain ready e g =
+    subst (λ (o : List Body). GoodWhole flow role (record { me = advanced first_use true x; you = y; out = o; back = b })) (append_assoc link owed (Restart cause diagnostic ∷ []))
+    (whole_restarts flow role cause diagnostic x y (link ++ owed) owed_c b plain ready
+    (subst (λ (o : List Body). GoodWhole flow role (record { me = x; you = y; out = o; back = b })) (ap (λ (q : List Body). link ++ q) e ∙ sym (append_assoc link owed owed_c)) g))
 
-restart_at : (window : ℕ) (role : Role) (x y : Whole) (link b rest : List Body) (l : Layer) (c : ℕ) (cause diagnostic : ℕ) (reason : Reason) (relink : Bool) → l.relink ≡ relink → x.own ≡ false
-    → GoodWhole window role (record { me = x; you = y; out = link ++ rest; back = b }) → Settled x → Present l c x rest → Outcome window role x y link b (restarting cause diagnostic (all_closed reason l)) c (λ st. next_restart_of st)
-restart_at window role x y link b rest l c cause diagnostic reason false rl ready g s p = record {
+restart_at : (flow : Flow) (role : Role) (x y : Whole) (link b rest : List Body) (l : Layer) (c : ℕ) (cause diagnostic : ℕ) (reason : Reason) (relink : Bool) → l.relink ≡ relink → x.own ≡ false
+    → GoodWhole flow role (record { me = x; you = y; out = link ++ rest; back = b }) → Settled x → Present l c x rest → Outcome flow role x y link b (restarting cause diagnostic (all_closed reason l)) c (λ st. next_restart_of st)
+restart_at flow role x y link b rest l c cause diagnostic reason false rl ready g s p = record {
   next = advanced first_use true x;
   rest = l.owed ++ Restart cause diagnostic ∷ [];
-  good = restart_out window role x y link b rest l.owed p.owed cause diagnostic p.plain ready (p.rest_is rl) g;
+  good = restart_out flow role x y link b rest l.owed p.owed cause diagnostic p.plain ready (p.rest_is rl) g;
   settled = refl;
   frozen = λ f. frozen_next true x s f;
-  history = λ st t. restart_history_tie true x st (laters window role x y (link ++ rest) b g) t;
+  history = λ st t. restart_history_tie true x st (laters flow role x y (link ++ rest) b g) t;
   present = record {
     phase_is = refl;
     owed = [];
@@ -116,13 +117,13 @@ restart_at window role x y link b rest l c cause diagnostic reason false rl read
   };
   still = λ e. absurd (true≢false (sym (ap (λ (n : Whole). n.own) e) ∙ ready));
 }
-restart_at window role x y link b rest l c cause diagnostic reason true rl ready g s p = record {
+restart_at flow role x y link b rest l c cause diagnostic reason true rl ready g s p = record {
   next = advanced first_use true x;
   rest = rest ++ Restart cause diagnostic ∷ [];
-  good = restart_out window role x y link b rest rest [] cause diagnostic tt ready (sym (append-nil rest)) g;
+  good = restart_out flow role x y link b rest rest [] cause diagnostic tt ready (sym (append-nil rest)) g;
   settled = refl;
   frozen = λ f. frozen_next true x s f;
-  history = λ st t. restart_history_tie true x st (laters window role x y (link ++ rest) b g) t;
+  history = λ st t. restart_history_tie true x st (laters flow role x y (link ++ rest) b g) t;
   present = record {
     phase_is = refl;
     owed = [];
@@ -134,9 +135,9 @@ restart_at window role x y link b rest l c cause diagnostic reason true rl ready
   still = λ e. absurd (true≢false (sym (ap (λ (n : Whole). n.own) e) ∙ ready));
 }
 
-pub restart_outcome : (window : ℕ) (role : Role) (x y : Whole) (link b rest : List Body) (l : Layer) (c : ℕ) (cause diagnostic : ℕ) (reason : Reason) → x.own ≡ false
-    → GoodWhole window role (record { me = x; you = y; out = link ++ rest; back = b }) → Settled x → Present l c x rest → Outcome window role x y link b (restarting cause diagnostic (all_closed reason l)) c (λ st. next_restart_of st)
-restart_outcome window role x y link b rest l c cause diagnostic reason ready g s p = restart_at window role x y link b rest l c cause diagnostic reason l.relink refl ready g s p
+pub restart_outcome : (flow : Flow) (role : Role) (x y : Whole) (link b rest : List Body) (l : Layer) (c : ℕ) (cause diagnostic : ℕ) (reason : Reason) → x.own ≡ false
+    → GoodWhole flow role (record { me = x; you = y; out = link ++ rest; back = b }) → Settled x → Present l c x rest → Outcome flow role x y link b (restarting cause diagnostic (all_closed reason l)) c (λ st. next_restart_of st)
+restart_outcome flow role x y link b rest l c cause diagnostic reason ready g s p = restart_at flow role x y link b rest l c cause diagnostic reason l.relink refl ready g s p
 
 -- ---- a call placed
 
@@ -175,12 +176,12 @@ free_is Dte chs d e = highest_is chs d e
 free_is Dce chs d e = lowest_is chs d e
 
 -- on a channel that is free in r1
-place_any : (window : ℕ) (role : Role) (rown own : Bool) (s : Stage) (rs : Bool) (n : Whole) (owed : List Body) (parts : CallParts) → rown ≡ false → is_ready (stored (in_any rown own s rs n)).state ≡ true
-    → Act window role (in_any rown own s rs n) owed (placing parts (shown (stored (in_any rown own s rs n)) owed)).channel (Some (Call parts)) (λ st. placed parts st)
-place_any window role true own s rs n owed parts r e = absurd (true≢false r)
-place_any window role false true s rs n owed parts r e = absurd (true≢false (sym e))
-place_any window role false false Free rs n owed parts r e = place_act window role rs n owed parts
-place_any window role false false _ rs n owed parts r e = absurd (true≢false (sym e))
+place_any : (flow : Flow) (role : Role) (rown own : Bool) (s : Stage) (rs : Bool) (n : Whole) (owed : List Body) (parts : CallParts) → rown ≡ false → is_ready (stored (in_any rown own s rs n)).state ≡ true
+    → Act flow role (in_any rown own s rs n) owed (placing parts (shown (stored (in_any rown own s rs n)) owed)).channel (Some (Call parts)) (λ st. placed parts st)
+place_any flow role true own s rs n owed parts r e = absurd (true≢false r)
+place_any flow role false true s rs n owed parts r e = absurd (true≢false (sym e))
+place_any flow role false false Free rs n owed parts r e = place_act flow role rs n owed parts
+place_any flow role false false _ rs n owed parts r e = absurd (true≢false (sym e))
 
 pub ready_phase : (own : Bool) → phase_of own ≡ PacketReady → own ≡ false
 ready_phase true e = absurd cc
@@ -194,62 +195,62 @@ given_ready l NoSession d e = absurd cc
 pub some_same : (a b : Channel) → Some a ≡ Some b → a ≡ b
 some_same a b e = cc
 
-placed_here : (window : ℕ) (role : Role) (x y : Whole) (link b rest : List Body) (l : Layer) (c : ℕ) (parts : CallParts) → x.own ≡ false → Freed l.channels c
-    → GoodWhole window role (record { me = x; you = y; out = link ++ rest; back = b }) → Present l c x rest → Outcome window role x y link b (on_found l c (λ ch. placing parts ch) (channel_of l c)) c (λ st. placed parts st)
-placed_here window role x y link b rest l c parts ready free g p =
+placed_here : (flow : Flow) (role : Role) (x y : Whole) (link b rest : List Body) (l : Layer) (c : ℕ) (parts : CallParts) → x.own ≡ false → Freed l.channels c
+    → GoodWhole flow role (record { me = x; you = y; out = link ++ rest; back = b }) → Present l c x rest → Outcome flow role x y link b (on_found l c (λ ch. placing parts ch) (channel_of l c)) c (λ st. placed parts st)
+placed_here flow role x y link b rest l c parts ready free g p =
     let ch : Channel = shown (stored x) p.owed in
     let is_ch : free.0 ≡ ch = some_same free.0 ch (sym free.1.0 ∙ p.channel_is) in
     let e : is_ready (stored x).state ≡ true = subst (λ (q : Channel). is_ready q.state ≡ true) is_ch (and_parts (is_ready free.0.state) _ free.1.1).0 in
-    subst (λ (found : Option Channel). Outcome window role x y link b (on_found l c (λ q. placing parts q) found) c (λ st. placed parts st)) (sym p.channel_is)
-    (act_outcome window role x y link b rest l c (placing parts ch) (λ st. placed parts st) p (place_any window role x.own x.now.own x.now.now.stage x.now.now.call.own x p.owed parts ready e) g)
+    subst (λ (found : Option Channel). Outcome flow role x y link b (on_found l c (λ q. placing parts q) found) c (λ st. placed parts st)) (sym p.channel_is)
+    (act_outcome flow role x y link b rest l c (placing parts ch) (λ st. placed parts st) p (place_any flow role x.own x.now.own x.now.now.stage x.now.now.call.own x p.owed parts ready e) g)
 
-placed_at : (window : ℕ) (role : Role) (x y : Whole) (link b rest : List Body) (l : Layer) (c : ℕ) (parts : CallParts) (o : Option ℕ) → ((d : ℕ) → o ≡ Some d → (x.own ≡ false) × Freed l.channels d)
-    → GoodWhole window role (record { me = x; you = y; out = link ++ rest; back = b }) → Settled x → Present l c x rest → Outcome window role x y link b (placed_on l parts o) c (λ st. call_history parts o c st)
-placed_at window role x y link b rest l c parts None h g s p = same_outcome window role x y link b rest l l c (λ st. st) (λ st. refl) refl refl refl (λ q. q) g s p
-placed_at window role x y link b rest l c parts (Some d) h g s p =
+placed_at : (flow : Flow) (role : Role) (x y : Whole) (link b rest : List Body) (l : Layer) (c : ℕ) (parts : CallParts) (o : Option ℕ) → ((d : ℕ) → o ≡ Some d → (x.own ≡ false) × Freed l.channels d)
+    → GoodWhole flow role (record { me = x; you = y; out = link ++ rest; back = b }) → Settled x → Present l c x rest → Outcome flow role x y link b (placed_on l parts o) c (λ st. call_history parts o c st)
+placed_at flow role x y link b rest l c parts None h g s p = same_outcome flow role x y link b rest l l c (λ st. st) (λ st. refl) refl refl refl (λ q. q) g s p
+placed_at flow role x y link b rest l c parts (Some d) h g s p =
     elim (cases_eq c d) [
-      | inl e ↦ subst (λ (k : ℕ). Outcome window role x y link b (on_found l k (λ ch. placing parts ch) (channel_of l k)) c (λ st. cond (c == k) (placed parts st) st)) e
-          (subst (λ (v : Bool). Outcome window role x y link b (on_found l c (λ ch. placing parts ch) (channel_of l c)) c (λ st. cond v (placed parts st) st)) (sym (same c)) (placed_here window role x y link b rest l c parts (h d refl).0 (subst (λ (k : ℕ). Freed l.channels k) (sym e) (h d refl).1) g p))
-      | inr ne ↦ other_found window role x y link b rest l c d (λ ch. placing parts ch) (channel_of l d) (λ st. cond (c == d) (placed parts st) st) (λ st. ap (λ (v : Bool). cond v (placed parts st) st) (ne_eqb c d ne)) ne g s p
+      | inl e ↦ subst (λ (k : ℕ). Outcome flow role x y link b (on_found l k (λ ch. placing parts ch) (channel_of l k)) c (λ st. cond (c == k) (placed parts st) st)) e
+          (subst (λ (v : Bool). Outcome flow role x y link b (on_found l c (λ ch. placing parts ch) (channel_of l c)) c (λ st. cond v (placed parts st) st)) (sym (same c)) (placed_here flow role x y link b rest l c parts (h d refl).0 (subst (λ (k : ℕ). Freed l.channels k) (sym e) (h d refl).1) g p))
+      | inr ne ↦ other_found flow role x y link b rest l c d (λ ch. placing parts ch) (channel_of l d) (λ st. cond (c == d) (placed parts st) st) (λ st. ap (λ (v : Bool). cond v (placed parts st) st) (ne_eqb c d ne)) ne g s p
     ]
 
-pub call_outcome : (window : ℕ) (role : Role) (x y : Whole) (link b rest : List Body) (l : Layer) (c : ℕ) (parts : CallParts)
-    → GoodWhole window role (record { me = x; you = y; out = link ++ rest; back = b }) → Settled x → Present l c x rest → Outcome window role x y link b (call l parts) c (λ st. call_history parts (channel_given l l.phase) c st)
-call_outcome window role x y link b rest l c parts g s p =
-    placed_at window role x y link b rest l c parts (channel_given l l.phase)
+pub call_outcome : (flow : Flow) (role : Role) (x y : Whole) (link b rest : List Body) (l : Layer) (c : ℕ) (parts : CallParts)
+    → GoodWhole flow role (record { me = x; you = y; out = link ++ rest; back = b }) → Settled x → Present l c x rest → Outcome flow role x y link b (call l parts) c (λ st. call_history parts (channel_given l l.phase) c st)
+call_outcome flow role x y link b rest l c parts g s p =
+    placed_at flow role x y link b rest l c parts (channel_given l l.phase)
     (λ d e. let q = given_ready l l.phase d e in (ready_phase x.own (sym p.phase_is ∙ q.0), free_is l.role l.channels d q.1)) g s p
 
 -- ---- a request
 
-request_here : (window : ℕ) (role : Role) (x y : Whole) (link b rest : List Body) (l : Layer) (c : ℕ) (r : Request) → l.role ≡ role
-    → GoodWhole window role (record { me = x; you = y; out = link ++ rest; back = b }) → Settled x → Present l c x rest
-    → Outcome window role x y link b (on_found l c (λ ch. requested l.role ch r) (channel_of l c)) c (λ st. found_history (channel_of l c) (λ ch z. requested_history l.role ch r z) st)
-request_here window role x y link b rest l c r role_is g s p =
+request_here : (flow : Flow) (role : Role) (x y : Whole) (link b rest : List Body) (l : Layer) (c : ℕ) (r : Request) → l.role ≡ role
+    → GoodWhole flow role (record { me = x; you = y; out = link ++ rest; back = b }) → Settled x → Present l c x rest
+    → Outcome flow role x y link b (on_found l c (λ ch. requested l.role ch r) (channel_of l c)) c (λ st. found_history (channel_of l c) (λ ch z. requested_history l.role ch r z) st)
+request_here flow role x y link b rest l c r role_is g s p =
     let ch : Channel = shown (stored x) p.owed in
-    subst (λ (found : Option Channel). Outcome window role x y link b (on_found l c (λ q. requested l.role q r) found) c (λ st. found_history found (λ q z. requested_history l.role q r z) st)) (sym p.channel_is)
-    (act_outcome window role x y link b rest l c (requested l.role ch r) (λ st. requested_history l.role ch r st) p
-    (subst (λ (q : Role). Act window role x p.owed (requested q ch r).channel (requested q ch r).owes (λ st. requested_history q ch r st)) (sym role_is)
-    (request_act window role x p.owed r (laters window role x y (link ++ rest) b g) s)) g)
+    subst (λ (found : Option Channel). Outcome flow role x y link b (on_found l c (λ q. requested l.role q r) found) c (λ st. found_history found (λ q z. requested_history l.role q r z) st)) (sym p.channel_is)
+    (act_outcome flow role x y link b rest l c (requested l.role ch r) (λ st. requested_history l.role ch r st) p
+    (subst (λ (q : Role). Act flow role x p.owed (requested q ch r).channel (requested q ch r).owes (λ st. requested_history q ch r st)) (sym role_is)
+    (request_act flow role x p.owed r (laters flow role x y (link ++ rest) b g) s)) g)
 
-pub request_outcome : (window : ℕ) (role : Role) (x y : Whole) (link b rest : List Body) (l : Layer) (c d : ℕ) (r : Request) → l.role ≡ role
-    → GoodWhole window role (record { me = x; you = y; out = link ++ rest; back = b }) → Settled x → Present l c x rest → Outcome window role x y link b (request l d r) c (λ st. request_history l d r c st)
-request_outcome window role x y link b rest l c d r role_is g s p =
+pub request_outcome : (flow : Flow) (role : Role) (x y : Whole) (link b rest : List Body) (l : Layer) (c d : ℕ) (r : Request) → l.role ≡ role
+    → GoodWhole flow role (record { me = x; you = y; out = link ++ rest; back = b }) → Settled x → Present l c x rest → Outcome flow role x y link b (request l d r) c (λ st. request_history l d r c st)
+request_outcome flow role x y link b rest l c d r role_is g s p =
     elim (cases_eq c d) [
-      | inl e ↦ subst (λ (k : ℕ). Outcome window role x y link b (request l k r) c (λ st. request_history l k r c st)) e
-          (subst (λ (v : Bool). Outcome window role x y link b (request l c r) c (λ st. cond v (found_history (channel_of l c) (λ ch z. requested_history l.role ch r z) st) st)) (sym (same c))
-          (request_here window role x y link b rest l c r role_is g s p))
-      | inr ne ↦ other_found window role x y link b rest l c d (λ ch. requested l.role ch r) (channel_of l d) (λ st. request_history l d r c st)
+      | inl e ↦ subst (λ (k : ℕ). Outcome flow role x y link b (request l k r) c (λ st. request_history l k r c st)) e
+          (subst (λ (v : Bool). Outcome flow role x y link b (request l c r) c (λ st. cond v (found_history (channel_of l c) (λ ch z. requested_history l.role ch r z) st) st)) (sym (same c))
+          (request_here flow role x y link b rest l c r role_is g s p))
+      | inr ne ↦ other_found flow role x y link b rest l c d (λ ch. requested l.role ch r) (channel_of l d) (λ st. request_history l d r c st)
           (λ st. ap (λ (v : Bool). cond v (found_history (channel_of l d) (λ ch z. requested_history l.role ch r z) st) st) (ne_eqb c d ne)) ne g s p
     ]
 
 -- ---- an expiry
 
-clear_any : (window : ℕ) (role : Role) (rown own : Bool) (s : Stage) (rs : Bool) (n : Whole) (owed : List Body) (cause diagnostic : ℕ) (test : CallState → Bool) → rown ≡ false → test OwnClear ≡ false
+clear_any : (flow : Flow) (role : Role) (rown own : Bool) (s : Stage) (rs : Bool) (n : Whole) (owed : List Body) (cause diagnostic : ℕ) (test : CallState → Bool) → rown ≡ false → test OwnClear ≡ false
     → test (stored (in_any rown own s rs n)).state ≡ true → Laters (in_any rown own s rs n)
-    → Act window role (in_any rown own s rs n) owed (record (shown (stored (in_any rown own s rs n)) owed) { state = OwnClear; resetting = false; traffic = Rattle.packet_layer.specs.Traffic.fresh }) (Some (Clear cause diagnostic)) (λ st. next_use_of st)
-clear_any window role true own s rs n owed cause diagnostic test r never e l = absurd (true≢false r)
-clear_any window role false true s rs n owed cause diagnostic test r never e l = absurd (true≢false (sym e ∙ never))
-clear_any window role false false s rs n owed cause diagnostic test r never e l = clear_act window role s rs n owed cause diagnostic l
+    → Act flow role (in_any rown own s rs n) owed (record (shown (stored (in_any rown own s rs n)) owed) { state = OwnClear; resetting = false; traffic = Rattle.packet_layer.specs.Traffic.fresh }) (Some (Clear cause diagnostic)) (λ st. next_use_of st)
+clear_any flow role true own s rs n owed cause diagnostic test r never e l = absurd (true≢false r)
+clear_any flow role false true s rs n owed cause diagnostic test r never e l = absurd (true≢false (sym e ∙ never))
+clear_any flow role false false s rs n owed cause diagnostic test r never e l = clear_act flow role s rs n owed cause diagnostic l
 
 pub runs_found : (test : Channel → Bool) (ph : Phase) (found : Option Channel) → runs_at test ph found ≡ true → (ph ≡ PacketReady) × ((ch : Channel) × ((found ≡ Some ch) × (test ch ≡ true)))
 runs_found test PacketReady (Some ch) e = (refl, (ch, (refl, e)))
@@ -257,20 +258,20 @@ runs_found test PacketReady None e = absurd (true≢false (sym e))
 runs_found test OwnRestart found e = absurd (true≢false (sym e))
 runs_found test NoSession found e = absurd (true≢false (sym e))
 
-expiry_here : (window : ℕ) (role : Role) (x y : Whole) (link b rest : List Body) (l : Layer) (c k : ℕ) (test : CallState → Bool) → test OwnClear ≡ false → x.own ≡ false → test (stored x).state ≡ true
-    → GoodWhole window role (record { me = x; you = y; out = link ++ rest; back = b }) → Present l c x rest
-    → Outcome window role x y link b (on_found l c (λ ch. clear_error l.role k 0 true ch) (channel_of l c)) c (λ st. next_use_of st)
-expiry_here window role x y link b rest l c k test never ready e g p =
-    subst (λ (found : Option Channel). Outcome window role x y link b (on_found l c (λ q. clear_error l.role k 0 true q) found) c (λ st. next_use_of st)) (sym p.channel_is)
-    (act_outcome window role x y link b rest l c (clear_error l.role k 0 true (shown (stored x) p.owed)) (λ st. next_use_of st) p
-    (clear_any window role x.own x.now.own x.now.now.stage x.now.now.call.own x p.owed (error_cause l.role 19) 0 test ready never e (laters window role x y (link ++ rest) b g)) g)
+expiry_here : (flow : Flow) (role : Role) (x y : Whole) (link b rest : List Body) (l : Layer) (c k : ℕ) (test : CallState → Bool) → test OwnClear ≡ false → x.own ≡ false → test (stored x).state ≡ true
+    → GoodWhole flow role (record { me = x; you = y; out = link ++ rest; back = b }) → Present l c x rest
+    → Outcome flow role x y link b (on_found l c (λ ch. clear_error l.role k 0 true ch) (channel_of l c)) c (λ st. next_use_of st)
+expiry_here flow role x y link b rest l c k test never ready e g p =
+    subst (λ (found : Option Channel). Outcome flow role x y link b (on_found l c (λ q. clear_error l.role k 0 true q) found) c (λ st. next_use_of st)) (sym p.channel_is)
+    (act_outcome flow role x y link b rest l c (clear_error l.role k 0 true (shown (stored x) p.owed)) (λ st. next_use_of st) p
+    (clear_any flow role x.own x.now.own x.now.now.stage x.now.now.call.own x p.owed (error_cause l.role 19) 0 test ready never e (laters flow role x y (link ++ rest) b g)) g)
 
 -- the expiry of a timer of channel d that clears its call
-expiry_clears : (window : ℕ) (role : Role) (x y : Whole) (link b rest : List Body) (l : Layer) (c d : ℕ) (on_state : CallState → Bool) (test : Channel → Bool)
+expiry_clears : (flow : Flow) (role : Role) (x y : Whole) (link b rest : List Body) (l : Layer) (c d : ℕ) (on_state : CallState → Bool) (test : Channel → Bool)
     → ((ch : Channel) → test ch ≡ true → on_state ch.state ≡ true) → on_state OwnClear ≡ false → runs_at test l.phase (channel_of l d) ≡ true
-    → GoodWhole window role (record { me = x; you = y; out = link ++ rest; back = b }) → Settled x → Present l c x rest
-    → Outcome window role x y link b (on_found l d (λ ch. clear_error l.role d 0 true ch) (channel_of l d)) c (λ st. cond (c == d) (next_use_of st) st)
-expiry_clears window role x y link b rest l c d on_state test means never run g s p =
+    → GoodWhole flow role (record { me = x; you = y; out = link ++ rest; back = b }) → Settled x → Present l c x rest
+    → Outcome flow role x y link b (on_found l d (λ ch. clear_error l.role d 0 true ch) (channel_of l d)) c (λ st. cond (c == d) (next_use_of st) st)
+expiry_clears flow role x y link b rest l c d on_state test means never run g s p =
     elim (cases_eq c d) [
       | inl e ↦
           let run_c : runs_at test l.phase (channel_of l c) ≡ true = subst (λ (k : ℕ). runs_at test l.phase (channel_of l k) ≡ true) (sym e) run in
@@ -278,10 +279,10 @@ expiry_clears window role x y link b rest l c d on_state test means never run g 
           let ready : x.own ≡ false = ready_phase x.own (sym p.phase_is ∙ q.0) in
           let is_ch : q.1.0 ≡ shown (stored x) p.owed = some_same q.1.0 (shown (stored x) p.owed) (sym q.1.1.0 ∙ p.channel_is) in
           let st : on_state (stored x).state ≡ true = subst (λ (ch : Channel). on_state ch.state ≡ true) is_ch (means q.1.0 q.1.1.1) in
-          subst (λ (k : ℕ). Outcome window role x y link b (on_found l k (λ ch. clear_error l.role k 0 true ch) (channel_of l k)) c (λ z. cond (c == k) (next_use_of z) z)) e
-          (subst (λ (v : Bool). Outcome window role x y link b (on_found l c (λ ch. clear_error l.role c 0 true ch) (channel_of l c)) c (λ z. cond v (next_use_of z) z)) (sym (same c))
-          (expiry_here window role x y link b rest l c c on_state never ready st g p))
-      | inr ne ↦ other_found window role x y link b rest l c d (λ ch. clear_error l.role d 0 true ch) (channel_of l d) (λ z. cond (c == d) (next_use_of z) z)
+          subst (λ (k : ℕ). Outcome flow role x y link b (on_found l k (λ ch. clear_error l.role k 0 true ch) (channel_of l k)) c (λ z. cond (c == k) (next_use_of z) z)) e
+          (subst (λ (v : Bool). Outcome flow role x y link b (on_found l c (λ ch. clear_error l.role c 0 true ch) (channel_of l c)) c (λ z. cond v (next_use_of z) z)) (sym (same c))
+          (expiry_here flow role x y link b rest l c c on_state never ready st g p))
+      | inr ne ↦ other_found flow role x y link b rest l c d (λ ch. clear_error l.role d 0 true ch) (channel_of l d) (λ z. cond (c == d) (next_use_of z) z)
           (λ z. ap (λ (v : Bool). cond v (next_use_of z) z) (ne_eqb c d ne)) ne g s p
     ]
 
@@ -289,15 +290,15 @@ waits_never : (role : Role) → waits_for_call role OwnClear ≡ false
 waits_never Dte = refl
 waits_never Dce = refl
 
-expired_outcome : (window : ℕ) (role : Role) (x y : Whole) (link b rest : List Body) (l : Layer) (c : ℕ) (t : Timer) → runs l t ≡ true
-    → GoodWhole window role (record { me = x; you = y; out = link ++ rest; back = b }) → Settled x → Present l c x rest → Outcome window role x y link b (expired l t) c (λ st. expired_history t c st)
-expired_outcome window role x y link b rest l c RestartTimer run g s p = same_outcome window role x y link b rest l (record l { relink = true }) c (λ st. st) (λ st. refl) refl refl refl (λ h. absurd (true≢false h)) g s p
-expired_outcome window role x y link b rest l c (CallTimer d) run g s p =
-    expiry_clears window role x y link b rest l c d (λ st. waits_for_call l.role st) (λ ch. waits_for_call l.role ch.state) (λ ch e. e) (waits_never l.role) run g s p
-expired_outcome window role x y link b rest l c (ResetTimer d) run g s p =
-    expiry_clears window role x y link b rest l c d (λ st. in_transfer st) (λ ch. in_transfer ch.state && ch.resetting) (λ ch e. (and_parts (in_transfer ch.state) ch.resetting e).0) refl run g s p
-expired_outcome window role x y link b rest l c (ClearTimer d) run g s p =
-    restart_outcome window role x y link b rest l c (error_cause l.role 1) 0 Reason.LocalFault
+expired_outcome : (flow : Flow) (role : Role) (x y : Whole) (link b rest : List Body) (l : Layer) (c : ℕ) (t : Timer) → runs l t ≡ true
+    → GoodWhole flow role (record { me = x; you = y; out = link ++ rest; back = b }) → Settled x → Present l c x rest → Outcome flow role x y link b (expired l t) c (λ st. expired_history t c st)
+expired_outcome flow role x y link b rest l c RestartTimer run g s p = same_outcome flow role x y link b rest l (record l { relink = true }) c (λ st. st) (λ st. refl) refl refl refl (λ h. absurd (true≢false h)) g s p
+expired_outcome flow role x y link b rest l c (CallTimer d) run g s p =
+    expiry_clears flow role x y link b rest l c d (λ st. waits_for_call l.role st) (λ ch. waits_for_call l.role ch.state) (λ ch e. e) (waits_never l.role) run g s p
+expired_outcome flow role x y link b rest l c (ResetTimer d) run g s p =
+    expiry_clears flow role x y link b rest l c d (λ st. in_transfer st) (λ ch. in_transfer ch.state && ch.resetting) (λ ch e. (and_parts (in_transfer ch.state) ch.resetting e).0) refl run g s p
+expired_outcome flow role x y link b rest l c (ClearTimer d) run g s p =
+    restart_outcome flow role x y link b rest l c (error_cause l.role 1) 0 Reason.LocalFault
     (ready_phase x.own (sym p.phase_is ∙ (runs_found (λ ch. waits_for_clear ch.state) l.phase (channel_of l d) run).0)) g s p
 
 pub runs_unread : (l : Layer) (t : Timer) → runs (unread l) t ≡ runs l t
@@ -306,14 +307,14 @@ runs_unread l (CallTimer c) = refl
 runs_unread l (ResetTimer c) = refl
 runs_unread l (ClearTimer c) = refl
 
-timer_at : (window : ℕ) (role : Role) (x y : Whole) (link b rest : List Body) (l : Layer) (c : ℕ) (t : Timer) (v : Bool) → runs l t ≡ v
-    → GoodWhole window role (record { me = x; you = y; out = link ++ rest; back = b }) → Settled x → Present l c x rest → Outcome window role x y link b (cond v (expired (unread l) t) l) c (λ st. cond v (expired_history t c st) st)
-timer_at window role x y link b rest l c t true e g s p =
-    expired_outcome window role x y link b rest (unread l) c t (runs_unread l t ∙ e) g s
+timer_at : (flow : Flow) (role : Role) (x y : Whole) (link b rest : List Body) (l : Layer) (c : ℕ) (t : Timer) (v : Bool) → runs l t ≡ v
+    → GoodWhole flow role (record { me = x; you = y; out = link ++ rest; back = b }) → Settled x → Present l c x rest → Outcome flow role x y link b (cond v (expired (unread l) t) l) c (λ st. cond v (expired_history t c st) st)
+timer_at flow role x y link b rest l c t true e g s p =
+    expired_outcome flow role x y link b rest (unread l) c t (runs_unread l t ∙ e) g s
     (record { phase_is = p.phase_is; owed = p.owed; channel_is = p.channel_is; plain = p.plain; restarts = p.restarts; rest_is = p.rest_is })
-timer_at window role x y link b rest l c t false e g s p = same_outcome window role x y link b rest l l c (λ st. st) (λ st. refl) refl refl refl (λ h. h) g s p
+timer_at flow role x y link b rest l c t false e g s p = same_outcome flow role x y link b rest l l c (λ st. st) (λ st. refl) refl refl refl (λ h. h) g s p
 
-pub timer_outcome : (window : ℕ) (role : Role) (x y : Whole) (link b rest : List Body) (l : Layer) (c : ℕ) (t : Timer)
-    → GoodWhole window role (record { me = x; you = y; out = link ++ rest; back = b }) → Settled x → Present l c x rest → Outcome window role x y link b (on_timer l t) c (λ st. timer_history l t c st)
-timer_outcome window role x y link b rest l c t g s p =
-    timer_at window role x y link b rest l c t (runs l t) refl g s p
+pub timer_outcome : (flow : Flow) (role : Role) (x y : Whole) (link b rest : List Body) (l : Layer) (c : ℕ) (t : Timer)
+    → GoodWhole flow role (record { me = x; you = y; out = link ++ rest; back = b }) → Settled x → Present l c x rest → Outcome flow role x y link b (on_timer l t) c (λ st. timer_history l t c st)
+timer_outcome flow role x y link b rest l c t g s p =
+    timer_at flow role x y link b rest l c t (runs l t) refl g s p

@@ -3,6 +3,7 @@ use Rattle.std.proofs.Common.{◌≡◌, ℕ, Bool, true, false, cond, List, [],
 use Rattle.std.proofs.lemmas.Bool.{eq-eqb}
 use Rattle.link_timers.specs.declared.role.Role.{Role}
 use Rattle.link_timers.specs.Role.{other_of}
+use Rattle.packet_channel.specs.declared.flow.Flow.{Flow}
 use Rattle.packet_layer.specs.Packets.{Body, Packet}
 use Rattle.packet_layer.specs.Traffic.{Traffic}
 use Rattle.packet_layer.specs.Channel.{Channel}
@@ -103,8 +104,8 @@ epoch_is x st t =
     ∙ ap (λ (u : CallUse). look u st.epoch) (at_number x.now st.use_ t.use_is)
     ∙ ap (λ (i : Inner). marked (mark x.now.now) i.epoch) (at_number x.now.now.call st.epoch t.epoch_is)
 
-nothing_missing : (window : ℕ) (i j : Inner) (p q : Mark) (a b : Channel) (e f : Epoch) → Way window i j [] [] → a.traffic ≡ i.traffic → b.traffic ≡ j.traffic → e ≡ marked p i.epoch → f ≡ marked q j.epoch → NothingMissing e f a b
-nothing_missing window i j p q a b e f w at bt ee fe = record {
+nothing_missing : (flow : Flow) (i j : Inner) (p q : Mark) (a b : Channel) (e f : Epoch) → Way flow i j [] [] → a.traffic ≡ i.traffic → b.traffic ≡ j.traffic → e ≡ marked p i.epoch → f ≡ marked q j.epoch → NothingMissing e f a b
+nothing_missing flow i j p q a b e f w at bt ee fe = record {
   packets = ap (λ (v : Epoch). v.taken ++ (b.traffic.arrived ++ a.traffic.waiting)) fe
       ∙ ap (λ (t : Traffic). j.epoch.taken ++ (t.arrived ++ a.traffic.waiting)) bt ∙ ap (λ (t : Traffic). j.epoch.taken ++ (j.traffic.arrived ++ t.waiting)) at
       ∙ w.stream.items ∙ sym (ap (λ (v : Epoch). v.sent) ee);
@@ -118,8 +119,8 @@ pipe_nil : (c a : ℕ) (ps : List Packet) (o rest owed owed_c : List Body) → o
 pipe_nil c a ps o rest owed owed_c e len r n m =
     e ∙ ap (λ (k : ℕ). on_c c (drop k ps) ++ rest) len ∙ ap (λ (l : List Packet). on_c c l ++ rest) (drop_all ps) ∙ r ∙ ap (λ (l : List Body). l ++ owed_c) n ∙ m
 
-pub tied_rests : (window : ℕ) (role : Role) (w : Line) (s c : ℕ) → Tied window role w s c → (a b : Channel) → Quiet w s c a b → AtRest w s c a b
-tied_rests window role w s c t a b q =
+pub tied_rests : (flow : Flow) (role : Role) (w : Line) (s c : ℕ) → Tied flow role w s c → (a b : Channel) → Quiet w s c a b → AtRest w s c a b
+tied_rests flow role w s c t a b q =
     let x : Whole = t.x in let y : Whole = t.y in
     let p = t.mine.present q.up_here in
     let r = t.yours.present q.up_there in
@@ -127,12 +128,12 @@ tied_rests window role w s c t a b q =
     let b_is : b ≡ shown (stored y) r.owed = some_same b (shown (stored y) r.owed) (sym q.found_there ∙ r.channel_is) in
     let o_nil : t.o ≡ [] = pipe_nil c (w.you.accepted s) (w.me.offered s) t.o t.mine.rest w.me.layer.owed p.owed t.mine.out_is q.all_came_there (p.rest_is q.no_relink_here) q.no_restart_owed_here (sym (ap (λ (ch : Channel). ch.owed) a_is) ∙ q.nothing_owed_here) in
     let b_nil : t.b ≡ [] = pipe_nil c (w.me.accepted s) (w.you.offered s) t.b t.yours.rest w.you.layer.owed r.owed t.yours.out_is q.all_came_here (r.rest_is q.no_relink_there) q.no_restart_owed_there (sym (ap (λ (ch : Channel). ch.owed) b_is) ∙ q.nothing_owed_there) in
-    let g : GoodWhole window role (record { me = x; you = y; out = []; back = [] }) =
-    subst (λ (l : List Body). GoodWhole window role (record { me = x; you = y; out = []; back = l })) b_nil (subst (λ (l : List Body). GoodWhole window role (record { me = x; you = y; out = l; back = t.b })) o_nil t.good) in
-    let top = side_rest restart_kind Uses first_use (λ u. GoodUses window role u) x y g in
-    let uses = side_rest clear_kind CallUse first_call (λ u. GoodCall window role u) x.now y.now top.inside in
+    let g : GoodWhole flow role (record { me = x; you = y; out = []; back = [] }) =
+    subst (λ (l : List Body). GoodWhole flow role (record { me = x; you = y; out = []; back = l })) b_nil (subst (λ (l : List Body). GoodWhole flow role (record { me = x; you = y; out = l; back = t.b })) o_nil t.good) in
+    let top = side_rest restart_kind Uses first_use (λ u. GoodUses flow role u) x y g in
+    let uses = side_rest clear_kind CallUse first_call (λ u. GoodCall flow role u) x.now y.now top.inside in
     let call = uses.inside in
-    let ep = side_rest reset_kind Inner begun_epoch (λ u. Agree window u) x.now.now.call y.now.now.call call.call in
+    let ep = side_rest reset_kind Inner begun_epoch (λ u. Agree flow u) x.now.now.call y.now.now.call call.call in
     let fx = stored_is x top.mine uses.mine in
     let fy = stored_is y top.yours uses.yours in
     let ax : a.traffic ≡ x.now.now.call.now.traffic = ap (λ (ch : Channel). ch.traffic) a_is ∙ ap (λ (f : Stored). f.traffic) fx ∙ call_traffic x.now.now.stage x.now.now.call call.idle_me in
@@ -150,6 +151,6 @@ tied_rests window role w s c t a b q =
       same_restart = t.mine.history.restart_is ∙ top.numbers ∙ sym t.yours.history.restart_is;
       same_use = t.mine.history.use_is ∙ uses.numbers ∙ sym t.yours.history.use_is;
       same_epoch = t.mine.history.epoch_is ∙ ep.numbers ∙ sym t.yours.history.epoch_is;
-      forth = nothing_missing window x.now.now.call.now y.now.now.call.now (mark x.now.now) (mark y.now.now) a b _ _ ep.inside.ways.forth ax by ex ey;
-      back = nothing_missing window y.now.now.call.now x.now.now.call.now (mark y.now.now) (mark x.now.now) b a _ _ ep.inside.ways.back by ax ey ex;
+      forth = nothing_missing flow x.now.now.call.now y.now.now.call.now (mark x.now.now) (mark y.now.now) a b _ _ ep.inside.ways.forth ax by ex ey;
+      back = nothing_missing flow y.now.now.call.now x.now.now.call.now (mark y.now.now) (mark x.now.now) b a _ _ ep.inside.ways.back by ax ey ex;
     }

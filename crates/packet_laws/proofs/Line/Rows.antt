@@ -1,5 +1,6 @@
 -- Worked runs of a line, by computation.
-use Rattle.std.proofs.Common.{◌≡◌, ℕ, true, false, List, [], ◌∷◌, ◌++◌, Some, refl, length, None, arith}
+use Rattle.std.proofs.Common.{◌≡◌, ℕ, zero, suc, true, false, List, [], ◌∷◌, ◌++◌, ◌+◌, Some, refl, length, None, arith}
+use Rattle.packet_layer.specs.Flow.{modulo_8, modulo_128}
 use Rattle.packet_layer.specs.Packets.{CallParts, Datum, Body, Packet, Reason}
 use Rattle.packet_layer.specs.Packets.Body.{Call, Accepted, Data, ReceiveReady, Reset, Restart}
 use Rattle.packet_layer.specs.Packets.Note.{Incoming, Connected, Closed, Covered}
@@ -9,7 +10,7 @@ use Rattle.packet_layer.specs.Channel.Request.{Accept, Clearing, Resetting, Send
 use Rattle.packet_layer.specs.Layer.{confirmed, request_refusal}
 use Rattle.packet_layer.specs.Layer.Timer.{ClearTimer}
 use Rattle.packet_laws.specs.History.{empty_epoch}
-use Rattle.packet_laws.specs.Line.{Line, Happening, start_line, no_parts, after}
+use Rattle.packet_laws.specs.Line.{Line, Happening, start_line, no_parts, after, turned, next_of_session}
 use Rattle.packet_laws.specs.Line.Happening.{Here, There}
 use Rattle.packet_laws.specs.Line.Event.{Up, Calls, Requests, Expires, Offers, Arrives}
 use Rattle.packet_laws.specs.Law.{CallKnown, IsUnused, InUse}
@@ -29,7 +30,7 @@ abbrev set_up : List Happening
 set_up = Here (Up 1) ∷ There (Up 1) ∷ Here Offers ∷ There Offers ∷ Here Arrives ∷ There Arrives ∷ []
 
 abbrev run : ℕ → List Happening → Line
-run channels hs = after hs (start_line channels 2 false)
+run channels hs = after hs (start_line channels (modulo_8 2) false)
 
 restarts : (run 4 set_up).me.offered 1 ≡ packet 0 (Restart 0 0) ∷ []
 restarts = refl
@@ -141,10 +142,10 @@ resolved_here : ((run 1 resolved).me.histories 1 1).epochs 0 0 0 ≡ record empt
 resolved_here = refl
 
 -- a standing call counts as one that the DTE placed and the DCE accepted
-standing_here : ((start_line 1 2 true).me.histories 0 1).epochs 0 0 0 ≡ record empty_epoch { called = Some no_parts }
+standing_here : ((start_line 1 (modulo_8 2) true).me.histories 0 1).epochs 0 0 0 ≡ record empty_epoch { called = Some no_parts }
 standing_here = refl
 
-standing_there : ((start_line 1 2 true).you.histories 0 1).epochs 0 0 0 ≡ record empty_epoch { answered = true }
+standing_there : ((start_line 1 (modulo_8 2) true).you.histories 0 1).epochs 0 0 0 ≡ record empty_epoch { answered = true }
 standing_there = refl
 
 -- the DCE's Call arrives when the DCE has cleared and begun a further restart meanwhile
@@ -155,7 +156,7 @@ further_restart : ((run 1 overtaken).you.histories 1 1).restart ≡ 1
 further_restart = refl
 
 call_still_known : CallKnown ((run 1 overtaken).me.histories 1 1) ((run 1 overtaken).you.histories 1 1) (parts (2 ∷ []))
-call_still_known = ((line_holds 1 2 false (omega arith) (omega arith) overtaken).0 1 1 (omega arith) (omega arith)).call_here (parts (2 ∷ []))
+call_still_known = ((line_holds 1 (modulo_8 2) false (omega arith) (omega arith) overtaken).0 1 1 (omega arith) (omega arith)).call_here (parts (2 ∷ []))
     (record { up = refl; next = refl; ready = refl; channel = closed_channel; found = refl; takes = tt })
 
 -- a clear ends the use of the channel; the next call on it is another use
@@ -170,3 +171,61 @@ next_use = refl
 
 unused_again : IsUnused ((run 4 cleared).me.histories 1 4)
 unused_again = record { first = refl; empty = λ g. refl }
+
+-- numbers modulo 128 and a window of 32 on a line with one channel, where a call stands: packets of one octet pass one by
+-- one from the DTE to the DCE, which takes and releases each, and a P(R) covers it
+abbrev one : ℕ → Datum
+one n = record { octets = n ∷ []; more = false; qualified = false; delivery = false }
+
+abbrev pass : ℕ → List Happening
+pass n =
+    Here (Requests 1 (Sending (one n))) ∷ Here Offers ∷ There Arrives
+    ∷ There (Requests 1 Taking) ∷ There (Requests 1 (Releasing 1)) ∷ There Offers ∷ Here Arrives ∷ []
+
+abbrev passes : ℕ → List Happening
+passes zero = []
+passes (suc n) = passes n ++ pass n
+
+abbrev up_to : ℕ → List Datum
+up_to zero = []
+up_to (suc n) = up_to n ++ one n ∷ []
+
+abbrev passed : Line
+passed = after (passes 130) (start_line 1 (modulo_128 32) true)
+
+all_taken : ((passed.you.histories 0 1).epochs 0 0 0).taken ≡ up_to 130
+all_taken = refl
+
+all_covered : ((passed.me.histories 0 1).epochs 0 0 0).covered ≡ 130
+all_covered = refl
+
+third_number : next_of_session (turned (after (Here (Requests 1 (Sending hi)) ∷ Here Offers ∷ []) passed)) 0 ≡ Some (packet 1 (Data 2 0 hi))
+third_number = refl
+
+-- after 120 of them 32 are on the way at once, beyond number 127, and one more waits
+abbrev sends : (first count : ℕ) → List Happening
+sends first zero = []
+sends first (suc n) = sends first n ++ Here (Requests 1 (Sending (one (first + n)))) ∷ Here Offers ∷ []
+
+abbrev filled : Line
+filled = after (passes 120 ++ sends 120 33) (start_line 1 (modulo_128 32) true)
+
+window_is_full : length (filled.me.offered 0) ≡ 152
+window_is_full = refl
+
+-- they come, and one P(R) covers them all
+abbrev takes : ℕ → List Happening
+takes zero = []
+takes (suc n) = There Arrives ∷ There (Requests 1 Taking) ∷ There (Requests 1 (Releasing 1)) ∷ takes n
+
+abbrev emptied : Line
+emptied = after (takes 32 ++ There Offers ∷ Here Arrives ∷ Here Offers ∷ []) filled
+
+all_32_taken : ((emptied.you.histories 0 1).epochs 0 0 0).taken ≡ up_to 152
+all_32_taken = refl
+
+all_32_covered : ((emptied.me.histories 0 1).epochs 0 0 0).covered ≡ 152
+all_32_covered = refl
+
+one_more : next_of_session (turned emptied) 0 ≡ Some (packet 1 (Data 24 0 (one 152)))
+one_more = refl

@@ -2,6 +2,7 @@
 -- goes with it.
 use Rattle.std.proofs.Common.{◌≡◌, ℕ, suc, ◌+◌, ◌<◌, Bool, true, false, cond, ◌&&◌, ◌==◌, List, refl, sym, ap, subst, ◌∙◌, arith, Option, Some, None}
 use Rattle.link_timers.specs.declared.role.Role.{Role}
+use Rattle.packet_channel.specs.declared.flow.Flow.{Flow}
 use Rattle.packet_layer.specs.Packets.{CallParts, Body}
 use Rattle.packet_layer.specs.Traffic.{Traffic, Taken, Heard, fresh, front, may_release}
 use Rattle.packet_layer.specs.Channel.{CallState, Channel, Request}
@@ -108,18 +109,18 @@ pub record Laters (n : Whole) : Type 0 where
   pub later_epochs : (j : ℕ) → n.now.now.call.number < j → n.now.now.call.past j ≡ begun_epoch
   pub idle : Idle first_epoch n.now.now.stage n.now.now.call
 
-pub uses_now : (window : ℕ) (role : Role) (x y : Whole) (o b : List Body) → GoodWhole window role (record { me = x; you = y; out = o; back = b })
-    → GoodUses window role (record { me = x.now; you = at y x.number; out = (inner x y x.number).out; back = (inner x y x.number).back })
-uses_now window role x y o b i = subst (λ (c : Bool). GoodUses window role (record { me = cond c x.now (x.past x.number); you = at y x.number; out = (inner x y x.number).out; back = (inner x y x.number).back })) (same x.number) (i.inners x.number)
+pub uses_now : (flow : Flow) (role : Role) (x y : Whole) (o b : List Body) → GoodWhole flow role (record { me = x; you = y; out = o; back = b })
+    → GoodUses flow role (record { me = x.now; you = at y x.number; out = (inner x y x.number).out; back = (inner x y x.number).back })
+uses_now flow role x y o b i = subst (λ (c : Bool). GoodUses flow role (record { me = cond c x.now (x.past x.number); you = at y x.number; out = (inner x y x.number).out; back = (inner x y x.number).back })) (same x.number) (i.inners x.number)
 
-pub call_now : (window : ℕ) (role : Role) (x y : Uses) (o b : List Body) → GoodUses window role (record { me = x; you = y; out = o; back = b })
-    → GoodCall window role (record { me = x.now; you = at y x.number; out = (inner x y x.number).out; back = (inner x y x.number).back })
-call_now window role x y o b i = subst (λ (c : Bool). GoodCall window role (record { me = cond c x.now (x.past x.number); you = at y x.number; out = (inner x y x.number).out; back = (inner x y x.number).back })) (same x.number) (i.inners x.number)
+pub call_now : (flow : Flow) (role : Role) (x y : Uses) (o b : List Body) → GoodUses flow role (record { me = x; you = y; out = o; back = b })
+    → GoodCall flow role (record { me = x.now; you = at y x.number; out = (inner x y x.number).out; back = (inner x y x.number).back })
+call_now flow role x y o b i = subst (λ (c : Bool). GoodCall flow role (record { me = cond c x.now (x.past x.number); you = at y x.number; out = (inner x y x.number).out; back = (inner x y x.number).back })) (same x.number) (i.inners x.number)
 
-pub laters : (window : ℕ) (role : Role) (x y : Whole) (o b : List Body) → GoodWhole window role (record { me = x; you = y; out = o; back = b }) → Laters x
-laters window role x y o b i =
-    let u = uses_now window role x y o b i in
-    let c = call_now window role x.now (at y x.number) (inner x y x.number).out (inner x y x.number).back u in
+pub laters : (flow : Flow) (role : Role) (x y : Whole) (o b : List Body) → GoodWhole flow role (record { me = x; you = y; out = o; back = b }) → Laters x
+laters flow role x y o b i =
+    let u = uses_now flow role x y o b i in
+    let c = call_now flow role x.now (at y x.number) (inner x y x.number).out (inner x y x.number).back u in
     record {
       later_restarts = λ j lt. (i.fore.later j lt).2;
       later_uses = λ j lt. (u.fore.later j lt).2;

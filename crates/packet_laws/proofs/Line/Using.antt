@@ -3,6 +3,7 @@ use Rattle.std.proofs.Common.{◌≡◌, ℕ, ◌<◌, Bool, true, false, cond, 
 use Rattle.std.proofs.lemmas.Bool.{ne_eqb}
 use Rattle.link_timers.specs.declared.role.Role.{Role}
 use Rattle.link_timers.specs.declared.role.Role.TheVariants.{Dte, Dce}
+use Rattle.packet_channel.specs.declared.flow.Flow.{Flow}
 use Rattle.packet_layer.specs.Packets.{CallParts}
 use Rattle.packet_layer.specs.Channel.{Channel}
 use Rattle.packet_laws.specs.History.{Epoch, History, empty_epoch}
@@ -113,13 +114,13 @@ in_whole : (role : Role) (own : Bool) (s : Uses) (st : History) → Shows st s.n
 in_whole role true s st h e i p = first_unused st s.now h (ap (λ (u : Uses). u.now) e)
 in_whole role false s st h e i p = in_uses role s.own s.now st h e i p
 
-pub holds_at : (window : ℕ) (role : Role) (w : Line) (s c : ℕ) → Tied window role w s c → HoldsAt w.me s c
-holds_at window role w s c t =
+pub holds_at : (flow : Flow) (role : Role) (w : Line) (s c : ℕ) → Tied flow role w s c → HoldsAt w.me s c
+holds_at flow role w s c t =
     let x : Whole = t.x in let y : Whole = t.y in
     let st : History = w.me.histories s c in
     let tie = t.mine.history in
-    let l = laters window role x y t.o t.b t.good in
-    let call = call_now window role x.now (at y x.number) (inner x y x.number).out (inner x y x.number).back (uses_now window role x y t.o t.b t.good) in
+    let l = laters flow role x y t.o t.b t.good in
+    let call = call_now flow role x.now (at y x.number) (inner x y x.number).out (inner x y x.number).back (uses_now flow role x y t.o t.b t.good) in
     let known : InUse role (stored x).state st = in_whole role x.own x.now st (tie.epoch_is, λ g. now_epochs x st tie g) t.mine.settled l.idle call.placed_me in
     record {
       begun = is_begun x st tie l;

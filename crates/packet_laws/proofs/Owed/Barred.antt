@@ -3,6 +3,7 @@ use Rattle.std.proofs.Common.{◌≡◌, ℕ, ◌+◌, ◌≤◌, Bool, true, fa
 use Rattle.link_timers.specs.declared.role.Role.{Role}
 use Rattle.link_timers.specs.declared.role.Role.TheVariants.{Dte, Dce}
 use Rattle.link_timers.specs.Role.{other_of}
+use Rattle.packet_channel.specs.declared.flow.Flow.{Flow}
 use Rattle.packet_layer.specs.Packets.{CallParts, Body}
 use Rattle.packet_layer.specs.Packets.Body.{Call, Accepted, Clear, ClearConfirmation, Data, Interrupt, InterruptConfirmation, ReceiveReady, ReceiveNotReady, Reset, ResetConfirmation, Restart, RestartConfirmation}
 use Rattle.packet_layer.specs.Channel.{CallState}
@@ -54,9 +55,9 @@ flow_resets (t ∷ ts) = ap (λ (n : ℕ). counted (reset_kind t) + n) (flow_res
 -- ---- a clear, a call
 
 -- a clear comes to an end that does not clear: no clear packet is on its way back
-no_clear_owed : (window : ℕ) (role : Role) (x y : Uses) (keep owed : List Body) (b : Body) → GoodUses window role (record { me = x; you = y; out = keep ++ owed; back = b ∷ [] }) → x.own ≡ false → clear_kind b ≡ Request → handshake_count clear_kind owed ≡ 0
-no_clear_owed window role x y keep owed b g ready k =
-    let count = on_the_way clear_kind CallUse first_call (λ u. GoodCall window role u) (record { me = x; you = y; out = keep ++ owed; back = b ∷ [] }) g in
+no_clear_owed : (flow : Flow) (role : Role) (x y : Uses) (keep owed : List Body) (b : Body) → GoodUses flow role (record { me = x; you = y; out = keep ++ owed; back = b ∷ [] }) → x.own ≡ false → clear_kind b ≡ Request → handshake_count clear_kind owed ≡ 0
+no_clear_owed flow role x y keep owed b g ready k =
+    let count = on_the_way clear_kind CallUse first_call (λ u. GoodCall flow role u) (record { me = x; you = y; out = keep ++ owed; back = b ∷ [] }) g in
     let here = ap (λ (q : Kind). counted q) k in
     let mine = ap (λ (q : Bool). one q) ready in
     let yours = one_small y.own in
@@ -64,25 +65,25 @@ no_clear_owed window role x y keep owed b g ready k =
     omega arith
 
 -- the ends of the call between which the packet is
-in_the_use : (window : ℕ) (role : Role) (x y : Uses) (out : List Body) (b : Body) → GoodUses window role (record { me = x; you = y; out = out; back = b ∷ [] }) → x.own ≡ false → clear_kind b ≡ Payload
-    → (keep : List Body) × GoodCall window role (record { me = x.now; you = y.now; out = keep ++ []; back = b ∷ [] })
-in_the_use window role x y out b g ready k =
-    inside clear_kind CallUse first_call (λ u. GoodCall window role u) x y out [] b
-    (subst (λ (o : List Body). GoodUses window role (record { me = x; you = y; out = o; back = b ∷ [] })) (sym (append-nil out)) g) ready k tt
+in_the_use : (flow : Flow) (role : Role) (x y : Uses) (out : List Body) (b : Body) → GoodUses flow role (record { me = x; you = y; out = out; back = b ∷ [] }) → x.own ≡ false → clear_kind b ≡ Payload
+    → (keep : List Body) × GoodCall flow role (record { me = x.now; you = y.now; out = keep ++ []; back = b ∷ [] })
+in_the_use flow role x y out b g ready k =
+    inside clear_kind CallUse first_call (λ u. GoodCall flow role u) x y out [] b
+    (subst (λ (o : List Body). GoodUses flow role (record { me = x; you = y; out = o; back = b ∷ [] })) (sym (append-nil out)) g) ready k tt
 
 some_none : (p : CallParts) → None ≡ Some p → ⊥
 some_none p e = cc
 
-call_of_none : (window : ℕ) (role : Role) (x y : CallUse) (out : List Body) (p : CallParts) → y ≡ first_call → GoodCall window role (record { me = x; you = y; out = out; back = Call p ∷ [] }) → ⊥
-call_of_none window role x y out p e g = some_none p (sym (ap (λ (u : CallUse). u.placed) e) ∙ g.calls_you.0)
+call_of_none : (flow : Flow) (role : Role) (x y : CallUse) (out : List Body) (p : CallParts) → y ≡ first_call → GoodCall flow role (record { me = x; you = y; out = out; back = Call p ∷ [] }) → ⊥
+call_of_none flow role x y out p e g = some_none p (sym (ap (λ (u : CallUse). u.placed) e) ∙ g.calls_you.0)
 
-no_clear_before_call : (window : ℕ) (role : Role) (x y : Uses) (own : Bool) (keep owed : List Body) (p : CallParts) → GoodUses window role (record { me = x; you = y; out = keep ++ owed; back = Call p ∷ [] }) → x.own ≡ false
+no_clear_before_call : (flow : Flow) (role : Role) (x y : Uses) (own : Bool) (keep owed : List Body) (p : CallParts) → GoodUses flow role (record { me = x; you = y; out = keep ++ owed; back = Call p ∷ [] }) → x.own ≡ false
     → y.own ≡ own → SettledUses own y.now → handshake_count clear_kind owed ≡ 0
-no_clear_before_call window role x y true keep owed p g ready e s =
-    let u = in_the_use window role x y (keep ++ owed) (Call p) g ready refl in
-    absurd (call_of_none window role x.now y.now (u.0 ++ []) p s u.1)
-no_clear_before_call window role x y false keep owed p g ready e s =
-    let count = on_the_way clear_kind CallUse first_call (λ u. GoodCall window role u) (record { me = x; you = y; out = keep ++ owed; back = Call p ∷ [] }) g in
+no_clear_before_call flow role x y true keep owed p g ready e s =
+    let u = in_the_use flow role x y (keep ++ owed) (Call p) g ready refl in
+    absurd (call_of_none flow role x.now y.now (u.0 ++ []) p s u.1)
+no_clear_before_call flow role x y false keep owed p g ready e s =
+    let count = on_the_way clear_kind CallUse first_call (λ u. GoodCall flow role u) (record { me = x; you = y; out = keep ++ owed; back = Call p ∷ [] }) g in
     let mine = ap (λ (q : Bool). one q) ready in
     let yours = ap (λ (q : Bool). one q) e in
     let parts = handshake_count_append clear_kind keep owed in
@@ -118,72 +119,72 @@ accepted_counts rs o (inr (t, (h, inr q))) z e =
 abbrev NoReset : Bool → List Body → Type 0
 NoReset rs o = (has_accepted o ≡ false) × (resets o ≤ one rs)
 
-call_resets : (window : ℕ) (role : Role) (u v : CallUse) (m : Bool) (keep owed : List Body) (b : Body) → GoodCall window role (record { me = u; you = v; out = keep ++ owed; back = b ∷ [] }) → sort b ≡ Flowing
+call_resets : (flow : Flow) (role : Role) (u v : CallUse) (m : Bool) (keep owed : List Body) (b : Body) → GoodCall flow role (record { me = u; you = v; out = keep ++ owed; back = b ∷ [] }) → sort b ≡ Flowing
     → handshake_count reset_kind (keep ++ owed) + counted (reset_kind b) ≡ one u.call.own + one v.call.own
-call_resets window role u v m keep owed b g flow =
-    let count = on_the_way reset_kind Inner begun_epoch (λ w. Agree window w) (record { me = u.call; you = v.call; out = flows (keep ++ owed); back = flows (b ∷ []) }) g.call in
+call_resets flow role u v m keep owed b g is_flowing =
+    let count = on_the_way reset_kind Inner begun_epoch (λ w. Agree flow w) (record { me = u.call; you = v.call; out = flows (keep ++ owed); back = flows (b ∷ []) }) g.call in
     let out = flow_resets (keep ++ owed) in
     let back = flow_resets (b ∷ []) in
     omega arith
 
 -- the other end is in the call
-no_reset_open : (window : ℕ) (role : Role) (u v : CallUse) (m m' : Bool) (keep owed : List Body) (b : Body) → GoodCall window role (record { me = u; you = v; out = keep ++ owed; back = b ∷ [] })
+no_reset_open : (flow : Flow) (role : Role) (u v : CallUse) (m m' : Bool) (keep owed : List Body) (b : Body) → GoodCall flow role (record { me = u; you = v; out = keep ++ owed; back = b ∷ [] })
     → sort b ≡ Flowing → counted (reset_kind b) ≡ 1 → Path (other_of role) u.stage (Open m') (keep ++ owed) → NoReset u.call.own owed
-no_reset_open window role u v m m' keep owed b g flow one_more path =
-    let count = call_resets window role u v m keep owed b g flow in
+no_reset_open flow role u v m m' keep owed b g is_flowing one_more path =
+    let count = call_resets flow role u v m keep owed b g is_flowing in
     let parts = handshake_count_append reset_kind keep owed in
     let yours = one_small v.call.own in
     (accepted_end keep owed (open_accepts_none (other_of role) u.stage m' (keep ++ owed) path), omega arith)
 
 -- the other end has not opened the call
-no_reset_idle : (window : ℕ) (role : Role) (u v : CallUse) (m rs : Bool) (keep owed : List Body) (b : Body) → GoodCall window role (record { me = u; you = v; out = keep ++ owed; back = b ∷ [] })
+no_reset_idle : (flow : Flow) (role : Role) (u v : CallUse) (m rs : Bool) (keep owed : List Body) (b : Body) → GoodCall flow role (record { me = u; you = v; out = keep ++ owed; back = b ∷ [] })
     → sort b ≡ Flowing → counted (reset_kind b) ≡ 1 → u.call.own ≡ rs → Fits Transfer rs owed → v.call ≡ first_epoch → NoReset rs owed
-no_reset_idle window role u v m true keep owed b g flow one_more e f idle =
-    let count = call_resets window role u v m keep owed b g flow in
+no_reset_idle flow role u v m true keep owed b g is_flowing one_more e f idle =
+    let count = call_resets flow role u v m keep owed b g is_flowing in
     let parts = handshake_count_append reset_kind keep owed in
     let mine = ap (λ (q : Bool). one q) e in
     let yours = ap (λ (q : Epochs). one q.own) idle in
     (accepted_counts true owed f (omega arith) refl, omega arith)
-no_reset_idle window role u v m false keep owed b g flow one_more e f idle =
-    let count = call_resets window role u v m keep owed b g flow in
+no_reset_idle flow role u v m false keep owed b g is_flowing one_more e f idle =
+    let count = call_resets flow role u v m keep owed b g is_flowing in
     let mine = ap (λ (q : Bool). one q) e in
     let yours = ap (λ (q : Epochs). one q.own) idle in
     let no : ⊥ = omega arith in absurd no
 
-no_reset_by : (window : ℕ) (role : Role) (u v : CallUse) (m rs : Bool) (s : Stage) (keep owed : List Body) (b : Body) → GoodCall window role (record { me = u; you = v; out = keep ++ owed; back = b ∷ [] })
+no_reset_by : (flow : Flow) (role : Role) (u v : CallUse) (m rs : Bool) (s : Stage) (keep owed : List Body) (b : Body) → GoodCall flow role (record { me = u; you = v; out = keep ++ owed; back = b ∷ [] })
     → sort b ≡ Flowing → counted (reset_kind b) ≡ 1 → u.call.own ≡ rs → Fits Transfer rs owed → v.stage ≡ s → Pair role s (Open m) → NoReset rs owed
-no_reset_by window role u v m rs (Open m') keep owed b g flow one_more e f st pair =
+no_reset_by flow role u v m rs (Open m') keep owed b g is_flowing one_more e f st pair =
     subst (λ (q : Bool). NoReset q owed) e
-    (no_reset_open window role u v m m' keep owed b g flow one_more (subst (λ (z : Stage). Path (other_of role) u.stage z (keep ++ owed)) st g.fore))
-no_reset_by window role u v m rs Placed keep owed b g flow one_more e f st pair =
-    no_reset_idle window role u v m rs keep owed b g flow one_more e f (subst (λ (z : Stage). Idle first_epoch z v.call) st g.idle_you)
-no_reset_by window role u v m rs Collided keep owed b g flow one_more e f st pair =
-    no_reset_idle window role u v m rs keep owed b g flow one_more e f (subst (λ (z : Stage). Idle first_epoch z v.call) st g.idle_you)
-no_reset_by window role u v m rs Free keep owed b g flow one_more e f st pair = absurd pair
-no_reset_by window role u v m rs Waiting keep owed b g flow one_more e f st pair = absurd pair
+    (no_reset_open flow role u v m m' keep owed b g is_flowing one_more (subst (λ (z : Stage). Path (other_of role) u.stage z (keep ++ owed)) st g.fore))
+no_reset_by flow role u v m rs Placed keep owed b g is_flowing one_more e f st pair =
+    no_reset_idle flow role u v m rs keep owed b g is_flowing one_more e f (subst (λ (z : Stage). Idle first_epoch z v.call) st g.idle_you)
+no_reset_by flow role u v m rs Collided keep owed b g is_flowing one_more e f st pair =
+    no_reset_idle flow role u v m rs keep owed b g is_flowing one_more e f (subst (λ (z : Stage). Idle first_epoch z v.call) st g.idle_you)
+no_reset_by flow role u v m rs Free keep owed b g is_flowing one_more e f st pair = absurd pair
+no_reset_by flow role u v m rs Waiting keep owed b g is_flowing one_more e f st pair = absurd pair
 
-call_pair : (window : ℕ) (role : Role) (u v : CallUse) (m : Bool) (out : List Body) (b : Body) → GoodCall window role (record { me = u; you = v; out = out; back = b ∷ [] }) → u.stage ≡ Open m → sort b ≡ Flowing → Pair role v.stage (Open m)
-call_pair window role u v m out b g st flow =
-    flow_pair role v.stage m (sort b) b flow (subst (λ (z : Stage). Passes role (sort b) z (λ q. Pair role v.stage q)) st g.aft)
+call_pair : (flow : Flow) (role : Role) (u v : CallUse) (m : Bool) (out : List Body) (b : Body) → GoodCall flow role (record { me = u; you = v; out = out; back = b ∷ [] }) → u.stage ≡ Open m → sort b ≡ Flowing → Pair role v.stage (Open m)
+call_pair flow role u v m out b g st is_flowing =
+    flow_pair role v.stage m (sort b) b is_flowing (subst (λ (z : Stage). Passes role (sort b) z (λ q. Pair role v.stage q)) st g.aft)
 
 -- an end in its own clear sends nothing in a call
-you_ready : (window : ℕ) (role : Role) (x y : Uses) (own m : Bool) (out : List Body) (b : Body) → GoodUses window role (record { me = x; you = y; out = out; back = b ∷ [] }) → x.own ≡ false → x.now.stage ≡ Open m
+you_ready : (flow : Flow) (role : Role) (x y : Uses) (own m : Bool) (out : List Body) (b : Body) → GoodUses flow role (record { me = x; you = y; out = out; back = b ∷ [] }) → x.own ≡ false → x.now.stage ≡ Open m
     → y.own ≡ own → SettledUses own y.now → clear_kind b ≡ Payload → sort b ≡ Flowing → own ≡ false
-you_ready window role x y false m out b g ready st e s k flow = refl
-you_ready window role x y true m out b g ready st e s k flow =
-    let u = in_the_use window role x y out b g ready k in
-    let p = call_pair window role x.now y.now m (u.0 ++ []) b u.1 st flow in
+you_ready flow role x y false m out b g ready st e s k is_flowing = refl
+you_ready flow role x y true m out b g ready st e s k is_flowing =
+    let u = in_the_use flow role x y out b g ready k in
+    let p = call_pair flow role x.now y.now m (u.0 ++ []) b u.1 st is_flowing in
     absurd (subst (λ (q : CallUse). Pair role q.stage (Open m)) s p)
 
-no_reset_owed : (window : ℕ) (role : Role) (x y : Uses) (m : Bool) (keep owed : List Body) (b : Body) → GoodUses window role (record { me = x; you = y; out = keep ++ owed; back = b ∷ [] }) → x.own ≡ false → x.now.stage ≡ Open m
+no_reset_owed : (flow : Flow) (role : Role) (x y : Uses) (m : Bool) (keep owed : List Body) (b : Body) → GoodUses flow role (record { me = x; you = y; out = keep ++ owed; back = b ∷ [] }) → x.own ≡ false → x.now.stage ≡ Open m
     → SettledUses y.own y.now → clear_kind b ≡ Payload → sort b ≡ Flowing → counted (reset_kind b) ≡ 1 → Fits Transfer x.now.call.own owed → NoReset x.now.call.own owed
-no_reset_owed window role x y m keep owed b g ready st s k flow one_more f =
-    let yours = ap (λ (q : Bool). one q) (you_ready window role x y y.own m (keep ++ owed) b g ready st refl s k flow) in
+no_reset_owed flow role x y m keep owed b g ready st s k is_flowing one_more f =
+    let yours = ap (λ (q : Bool). one q) (you_ready flow role x y y.own m (keep ++ owed) b g ready st refl s k is_flowing) in
     let mine = ap (λ (q : Bool). one q) ready in
-    let count = on_the_way clear_kind CallUse first_call (λ u. GoodCall window role u) (record { me = x; you = y; out = keep ++ owed; back = b ∷ [] }) g in
+    let count = on_the_way clear_kind CallUse first_call (λ u. GoodCall flow role u) (record { me = x; you = y; out = keep ++ owed; back = b ∷ [] }) g in
     let parts = handshake_count_append clear_kind keep owed in
-    let u = inside clear_kind CallUse first_call (λ w. GoodCall window role w) x y keep owed b g ready k (all_payload clear_kind owed (omega arith)) in
-    no_reset_by window role x.now y.now m x.now.call.own y.now.stage u.0 owed b u.1 flow one_more refl f refl (call_pair window role x.now y.now m (u.0 ++ owed) b u.1 st flow)
+    let u = inside clear_kind CallUse first_call (λ w. GoodCall flow role w) x y keep owed b g ready k (all_payload clear_kind owed (omega arith)) in
+    no_reset_by flow role x.now y.now m x.now.call.own y.now.stage u.0 owed b u.1 is_flowing one_more refl f refl (call_pair flow role x.now y.now m (u.0 ++ owed) b u.1 st is_flowing)
 
 -- ---- the packet may come
 
@@ -193,58 +194,58 @@ Any s rs o = Unit {0}
 abbrev MayCome : Role → Whole → List Body → Body → Type 0
 MayCome role n owed b = Comes role (stored n).state (stored n).resetting owed b (λ s rs o. Any s rs o)
 
-barred_at : (window : ℕ) (role : Role) (own : Bool) (s : Stage) (rs : Bool) (n : Whole) (y : Uses) (keep owed : List Body) (b : Body) → restart_kind b ≡ Payload → whole_ok window role (in_state own s rs n) b
-    → GoodUses window role (record { me = (in_state own s rs n).now; you = y; out = keep ++ owed; back = b ∷ [] }) → SettledUses y.own y.now → Fits (stored (in_state own s rs n)).state (stored (in_state own s rs n)).resetting owed → MayCome role (in_state own s rs n) owed b
-barred_at window role true s rs n y keep owed (Clear c d) plain ok g z f = tt
-barred_at window role true s rs n y keep owed ClearConfirmation plain ok g z f = tt
-barred_at window role true s rs n y keep owed _ plain ok g z f = tt
-barred_at window role false Free rs n y keep owed (Call p) plain ok g z f = (ended_none owed f.1 (no_clear_before_call window role (in_state false Free rs n).now y y.own keep owed p g refl refl z), tt)
-barred_at window role false Free rs n y keep owed (Clear c d) plain ok g z f = (ended_none owed f.1 (no_clear_owed window role (in_state false Free rs n).now y keep owed (Clear c d) g refl refl), tt)
-barred_at window role false Free rs n y keep owed (Restart c d) plain ok g z f = absurd (not_payload plain)
-barred_at window role false Free rs n y keep owed RestartConfirmation plain ok g z f = absurd (not_payload' plain)
-barred_at window role false Free rs n y keep owed _ plain ok g z f = absurd ok
-barred_at window role false Placed rs n y keep owed (Call p) plain ok g z f = tt
-barred_at window role false Placed rs n y keep owed Accepted plain ok g z f = tt
-barred_at window role false Placed rs n y keep owed (Clear c d) plain ok g z f = tt
-barred_at window role false Placed rs n y keep owed (Restart c d) plain ok g z f = absurd (not_payload plain)
-barred_at window role false Placed rs n y keep owed RestartConfirmation plain ok g z f = absurd (not_payload' plain)
-barred_at window role false Placed rs n y keep owed _ plain ok g z f = absurd ok
-barred_at window role false Waiting rs n y keep owed (Clear c d) plain ok g z f = tt
-barred_at window role false Waiting rs n y keep owed (Restart c d) plain ok g z f = absurd (not_payload plain)
-barred_at window role false Waiting rs n y keep owed RestartConfirmation plain ok g z f = absurd (not_payload' plain)
-barred_at window Dte false Waiting rs n y keep owed Accepted plain ok g z f = absurd ok
-barred_at window Dce false Waiting rs n y keep owed Accepted plain ok g z f = absurd ok
-barred_at window role false Waiting rs n y keep owed _ plain ok g z f = absurd ok
-barred_at window Dte false Collided rs n y keep owed Accepted plain ok g z f = tt
-barred_at window Dce false Collided rs n y keep owed Accepted plain ok g z f = absurd ok
-barred_at window role false Collided rs n y keep owed (Clear c d) plain ok g z f = tt
-barred_at window role false Collided rs n y keep owed (Restart c d) plain ok g z f = absurd (not_payload plain)
-barred_at window role false Collided rs n y keep owed RestartConfirmation plain ok g z f = absurd (not_payload' plain)
-barred_at window role false Collided rs n y keep owed _ plain ok g z f = absurd ok
-barred_at window role false (Open m) rs n y keep owed (Clear c d) plain ok g z f = tt
-barred_at window role false (Open m) false n y keep owed (Reset c d) plain ok g z f =
-    let q = no_reset_owed window role (in_state false (Open m) false n).now y m keep owed (Reset c d) g refl refl z refl refl refl f in
+barred_at : (flow : Flow) (role : Role) (own : Bool) (s : Stage) (rs : Bool) (n : Whole) (y : Uses) (keep owed : List Body) (b : Body) → restart_kind b ≡ Payload → whole_ok flow role (in_state own s rs n) b
+    → GoodUses flow role (record { me = (in_state own s rs n).now; you = y; out = keep ++ owed; back = b ∷ [] }) → SettledUses y.own y.now → Fits (stored (in_state own s rs n)).state (stored (in_state own s rs n)).resetting owed → MayCome role (in_state own s rs n) owed b
+barred_at flow role true s rs n y keep owed (Clear c d) plain ok g z f = tt
+barred_at flow role true s rs n y keep owed ClearConfirmation plain ok g z f = tt
+barred_at flow role true s rs n y keep owed _ plain ok g z f = tt
+barred_at flow role false Free rs n y keep owed (Call p) plain ok g z f = (ended_none owed f.1 (no_clear_before_call flow role (in_state false Free rs n).now y y.own keep owed p g refl refl z), tt)
+barred_at flow role false Free rs n y keep owed (Clear c d) plain ok g z f = (ended_none owed f.1 (no_clear_owed flow role (in_state false Free rs n).now y keep owed (Clear c d) g refl refl), tt)
+barred_at flow role false Free rs n y keep owed (Restart c d) plain ok g z f = absurd (not_payload plain)
+barred_at flow role false Free rs n y keep owed RestartConfirmation plain ok g z f = absurd (not_payload' plain)
+barred_at flow role false Free rs n y keep owed _ plain ok g z f = absurd ok
+barred_at flow role false Placed rs n y keep owed (Call p) plain ok g z f = tt
+barred_at flow role false Placed rs n y keep owed Accepted plain ok g z f = tt
+barred_at flow role false Placed rs n y keep owed (Clear c d) plain ok g z f = tt
+barred_at flow role false Placed rs n y keep owed (Restart c d) plain ok g z f = absurd (not_payload plain)
+barred_at flow role false Placed rs n y keep owed RestartConfirmation plain ok g z f = absurd (not_payload' plain)
+barred_at flow role false Placed rs n y keep owed _ plain ok g z f = absurd ok
+barred_at flow role false Waiting rs n y keep owed (Clear c d) plain ok g z f = tt
+barred_at flow role false Waiting rs n y keep owed (Restart c d) plain ok g z f = absurd (not_payload plain)
+barred_at flow role false Waiting rs n y keep owed RestartConfirmation plain ok g z f = absurd (not_payload' plain)
+barred_at flow Dte false Waiting rs n y keep owed Accepted plain ok g z f = absurd ok
+barred_at flow Dce false Waiting rs n y keep owed Accepted plain ok g z f = absurd ok
+barred_at flow role false Waiting rs n y keep owed _ plain ok g z f = absurd ok
+barred_at flow Dte false Collided rs n y keep owed Accepted plain ok g z f = tt
+barred_at flow Dce false Collided rs n y keep owed Accepted plain ok g z f = absurd ok
+barred_at flow role false Collided rs n y keep owed (Clear c d) plain ok g z f = tt
+barred_at flow role false Collided rs n y keep owed (Restart c d) plain ok g z f = absurd (not_payload plain)
+barred_at flow role false Collided rs n y keep owed RestartConfirmation plain ok g z f = absurd (not_payload' plain)
+barred_at flow role false Collided rs n y keep owed _ plain ok g z f = absurd ok
+barred_at flow role false (Open m) rs n y keep owed (Clear c d) plain ok g z f = tt
+barred_at flow role false (Open m) false n y keep owed (Reset c d) plain ok g z f =
+    let q = no_reset_owed flow role (in_state false (Open m) false n).now y m keep owed (Reset c d) g refl refl z refl refl refl f in
     let few = q.1 in (q.0, omega arith, tt)
-barred_at window role false (Open m) true n y keep owed (Reset c d) plain ok g z f =
-    let q = no_reset_owed window role (in_state false (Open m) true n).now y m keep owed (Reset c d) g refl refl z refl refl refl f in (q.0, q.1, tt)
-barred_at window role false (Open m) true n y keep owed ResetConfirmation plain ok g z f =
-    let q = no_reset_owed window role (in_state false (Open m) true n).now y m keep owed ResetConfirmation g refl refl z refl refl refl f in (q.0, q.1, tt)
-barred_at window role false (Open m) rs n y keep owed (Data i j d) plain ok g z f = tt
-barred_at window role false (Open m) rs n y keep owed (Interrupt q) plain ok g z f = tt
-barred_at window role false (Open m) rs n y keep owed InterruptConfirmation plain ok g z f = tt
-barred_at window role false (Open m) rs n y keep owed (ReceiveReady i) plain ok g z f = tt
-barred_at window role false (Open m) rs n y keep owed (ReceiveNotReady i) plain ok g z f = tt
-barred_at window role false (Open m) rs n y keep owed (Restart c d) plain ok g z f = absurd (not_payload plain)
-barred_at window role false (Open m) rs n y keep owed RestartConfirmation plain ok g z f = absurd (not_payload' plain)
-barred_at window role false (Open m) false n y keep owed _ plain ok g z f = absurd ok
-barred_at window role false (Open m) true n y keep owed _ plain ok g z f = absurd ok
+barred_at flow role false (Open m) true n y keep owed (Reset c d) plain ok g z f =
+    let q = no_reset_owed flow role (in_state false (Open m) true n).now y m keep owed (Reset c d) g refl refl z refl refl refl f in (q.0, q.1, tt)
+barred_at flow role false (Open m) true n y keep owed ResetConfirmation plain ok g z f =
+    let q = no_reset_owed flow role (in_state false (Open m) true n).now y m keep owed ResetConfirmation g refl refl z refl refl refl f in (q.0, q.1, tt)
+barred_at flow role false (Open m) rs n y keep owed (Data i j d) plain ok g z f = tt
+barred_at flow role false (Open m) rs n y keep owed (Interrupt q) plain ok g z f = tt
+barred_at flow role false (Open m) rs n y keep owed InterruptConfirmation plain ok g z f = tt
+barred_at flow role false (Open m) rs n y keep owed (ReceiveReady i) plain ok g z f = tt
+barred_at flow role false (Open m) rs n y keep owed (ReceiveNotReady i) plain ok g z f = tt
+barred_at flow role false (Open m) rs n y keep owed (Restart c d) plain ok g z f = absurd (not_payload plain)
+barred_at flow role false (Open m) rs n y keep owed RestartConfirmation plain ok g z f = absurd (not_payload' plain)
+barred_at flow role false (Open m) false n y keep owed _ plain ok g z f = absurd ok
+barred_at flow role false (Open m) true n y keep owed _ plain ok g z f = absurd ok
 
-pub may_come : (window : ℕ) (role : Role) (x y : Whole) (front owed : List Body) (b : Body) → GoodWhole window role (record { me = x; you = y; out = front ++ owed; back = b ∷ [] }) → x.own ≡ false → restart_kind b ≡ Payload
+pub may_come : (flow : Flow) (role : Role) (x y : Whole) (front owed : List Body) (b : Body) → GoodWhole flow role (record { me = x; you = y; out = front ++ owed; back = b ∷ [] }) → x.own ≡ false → restart_kind b ≡ Payload
     → AllPayload restart_kind owed → Settled y → Fits (stored x).state (stored x).resetting owed → MayCome role x owed b
-may_come window role x y front owed b g ready plain all z f =
-    let u = inside restart_kind Uses first_use (λ w. GoodUses window role w) x y front owed b g ready plain all in
+may_come flow role x y front owed b g ready plain all z f =
+    let u = inside restart_kind Uses first_use (λ w. GoodUses flow role w) x y front owed b g ready plain all in
     let path : x ≡ record x { own = false } = ap (λ (o : Bool). record x { own = o }) ready in
-    let ok = (whole_heard window role (record { me = x; you = y; out = front ++ owed; back = [] }) b [] g).0 in
+    let ok = (whole_heard flow role (record { me = x; you = y; out = front ++ owed; back = [] }) b [] g).0 in
     subst (λ (n : Whole). MayCome role n owed b) (sym path)
-    (barred_at window role x.now.own x.now.now.stage x.now.now.call.own x y.now u.0 owed b plain (subst (λ (n : Whole). whole_ok window role n b) path ok) u.1 (settled_uses y.own y.now z)
+    (barred_at flow role x.now.own x.now.now.stage x.now.now.call.own x y.now u.0 owed b plain (subst (λ (n : Whole). whole_ok flow role n b) path ok) u.1 (settled_uses y.own y.now z)
     (subst (λ (n : Whole). Fits (stored n).state (stored n).resetting owed) path f))

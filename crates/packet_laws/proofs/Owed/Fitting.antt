@@ -2,6 +2,7 @@
 use Rattle.std.proofs.Common.{◌≡◌, ℕ, ◌≤◌, Bool, true, false, ◌||◌, List, [], ◌∷◌, ◌++◌, length, refl, sym, ap, ◌∙◌, arith, true≢false, inl, inr}
 use Rattle.link_timers.specs.declared.role.Role.{Role}
 use Rattle.link_timers.specs.declared.role.Role.TheVariants.{Dte, Dce}
+use Rattle.packet_channel.specs.declared.flow.Flow.{Flow}
 use Rattle.packet_layer.specs.Packets.{Body}
 use Rattle.packet_layer.specs.Packets.Body.{Call, Accepted, Clear, ClearConfirmation, Data, Interrupt, InterruptConfirmation, ReceiveReady, ReceiveNotReady, Reset, ResetConfirmation}
 use Rattle.packet_layer.specs.Traffic.{Traffic, Heard, hears}
@@ -101,41 +102,41 @@ heard_after role c o tr (Keeps n t) rest e h = h
 heard_after role c o tr (Confirms t) rest e h = h
 heard_after role c o tr (Wrong d) rest e h = absurd (true≢false e)
 
-pub received_comes : (role : Role) (window c : ℕ) (s : CallState) (rs : Bool) (o : List Body) (tr : Traffic) (b : Body) (rest : CallState → Bool → List Body → Type 0) → is_request (received role window c (channel_with s rs o tr) b).owes ≡ false
-    → Comes role s rs o b rest → After (received role window c (channel_with s rs o tr) b) rest
-received_comes role window c Ready rs o tr (Call p) rest e h = h.1
-received_comes role window c Ready rs o tr (Clear x y) rest e h = h.1
-received_comes role window c Ready rs o tr _ rest e h = absurd h
-received_comes role window c OwnWaiting rs o tr (Call p) rest e h = h
-received_comes role window c OwnWaiting rs o tr Accepted rest e h = h
-received_comes role window c OwnWaiting rs o tr (Clear x y) rest e h = h
-received_comes role window c OwnWaiting rs o tr _ rest e h = absurd h
-received_comes role window c FarWaiting rs o tr (Clear x y) rest e h = h
-received_comes role window c FarWaiting rs o tr _ rest e h = absurd h
-received_comes Dte window c Collision rs o tr Accepted rest e h = h
-received_comes Dce window c Collision rs o tr Accepted rest e h = absurd h
-received_comes role window c Collision rs o tr (Clear x y) rest e h = h
-received_comes role window c Collision rs o tr _ rest e h = absurd h
-received_comes role window c OwnClear rs o tr (Clear x y) rest e h = h
-received_comes role window c OwnClear rs o tr ClearConfirmation rest e h = h
-received_comes role window c OwnClear rs o tr _ rest e h = h
-received_comes role window c Transfer true o tr (Clear x y) rest e h = h
-received_comes role window c Transfer true o tr (Reset x y) rest e h = h.2
-received_comes role window c Transfer true o tr ResetConfirmation rest e h = h.2
-received_comes role window c Transfer true o tr (Data s n d) rest e h = h
-received_comes role window c Transfer true o tr (Interrupt q) rest e h = h
-received_comes role window c Transfer true o tr InterruptConfirmation rest e h = h
-received_comes role window c Transfer true o tr (ReceiveReady n) rest e h = h
-received_comes role window c Transfer true o tr (ReceiveNotReady n) rest e h = h
-received_comes role window c Transfer true o tr _ rest e h = absurd h
-received_comes role window c Transfer false o tr (Clear x y) rest e h = h
-received_comes role window c Transfer false o tr (Reset x y) rest e h = h.2
-received_comes role window c Transfer false o tr (Data s n d) rest e h = heard_after role c o tr (hears window tr (Data s n d)) rest e h
-received_comes role window c Transfer false o tr (Interrupt q) rest e h = heard_after role c o tr (hears window tr (Interrupt q)) rest e h
-received_comes role window c Transfer false o tr InterruptConfirmation rest e h = heard_after role c o tr (hears window tr InterruptConfirmation) rest e h
-received_comes role window c Transfer false o tr (ReceiveReady n) rest e h = heard_after role c o tr (hears window tr (ReceiveReady n)) rest e h
-received_comes role window c Transfer false o tr (ReceiveNotReady n) rest e h = heard_after role c o tr (hears window tr (ReceiveNotReady n)) rest e h
-received_comes role window c Transfer false o tr _ rest e h = absurd h
+pub received_comes : (role : Role) (flow : Flow) (c : ℕ) (s : CallState) (rs : Bool) (o : List Body) (tr : Traffic) (b : Body) (rest : CallState → Bool → List Body → Type 0) → is_request (received role flow c (channel_with s rs o tr) b).owes ≡ false
+    → Comes role s rs o b rest → After (received role flow c (channel_with s rs o tr) b) rest
+received_comes role flow c Ready rs o tr (Call p) rest e h = h.1
+received_comes role flow c Ready rs o tr (Clear x y) rest e h = h.1
+received_comes role flow c Ready rs o tr _ rest e h = absurd h
+received_comes role flow c OwnWaiting rs o tr (Call p) rest e h = h
+received_comes role flow c OwnWaiting rs o tr Accepted rest e h = h
+received_comes role flow c OwnWaiting rs o tr (Clear x y) rest e h = h
+received_comes role flow c OwnWaiting rs o tr _ rest e h = absurd h
+received_comes role flow c FarWaiting rs o tr (Clear x y) rest e h = h
+received_comes role flow c FarWaiting rs o tr _ rest e h = absurd h
+received_comes Dte flow c Collision rs o tr Accepted rest e h = h
+received_comes Dce flow c Collision rs o tr Accepted rest e h = absurd h
+received_comes role flow c Collision rs o tr (Clear x y) rest e h = h
+received_comes role flow c Collision rs o tr _ rest e h = absurd h
+received_comes role flow c OwnClear rs o tr (Clear x y) rest e h = h
+received_comes role flow c OwnClear rs o tr ClearConfirmation rest e h = h
+received_comes role flow c OwnClear rs o tr _ rest e h = h
+received_comes role flow c Transfer true o tr (Clear x y) rest e h = h
+received_comes role flow c Transfer true o tr (Reset x y) rest e h = h.2
+received_comes role flow c Transfer true o tr ResetConfirmation rest e h = h.2
+received_comes role flow c Transfer true o tr (Data s n d) rest e h = h
+received_comes role flow c Transfer true o tr (Interrupt q) rest e h = h
+received_comes role flow c Transfer true o tr InterruptConfirmation rest e h = h
+received_comes role flow c Transfer true o tr (ReceiveReady n) rest e h = h
+received_comes role flow c Transfer true o tr (ReceiveNotReady n) rest e h = h
+received_comes role flow c Transfer true o tr _ rest e h = absurd h
+received_comes role flow c Transfer false o tr (Clear x y) rest e h = h
+received_comes role flow c Transfer false o tr (Reset x y) rest e h = h.2
+received_comes role flow c Transfer false o tr (Data s n d) rest e h = heard_after role c o tr (hears flow tr (Data s n d)) rest e h
+received_comes role flow c Transfer false o tr (Interrupt q) rest e h = heard_after role c o tr (hears flow tr (Interrupt q)) rest e h
+received_comes role flow c Transfer false o tr InterruptConfirmation rest e h = heard_after role c o tr (hears flow tr InterruptConfirmation) rest e h
+received_comes role flow c Transfer false o tr (ReceiveReady n) rest e h = heard_after role c o tr (hears flow tr (ReceiveReady n)) rest e h
+received_comes role flow c Transfer false o tr (ReceiveNotReady n) rest e h = heard_after role c o tr (hears flow tr (ReceiveNotReady n)) rest e h
+received_comes role flow c Transfer false o tr _ rest e h = absurd h
 
 heard_back : (role : Role) (c : ℕ) (o : List Body) (tr : Traffic) (h : Heard) (rest : CallState → Bool → List Body → Type 0) → is_request (after_heard role c (channel_with Transfer false o tr) h).owes ≡ false
     → After (after_heard role c (channel_with Transfer false o tr) h) rest → rest Transfer false o
@@ -144,38 +145,38 @@ heard_back role c o tr (Confirms t) rest e h = h
 heard_back role c o tr (Wrong d) rest e h = absurd (true≢false e)
 
 -- and what holds after the layer's step holds after the packet
-pub received_back : (role : Role) (window c : ℕ) (s : CallState) (rs : Bool) (o : List Body) (tr : Traffic) (b : Body) (rest rest2 : CallState → Bool → List Body → Type 0) → is_request (received role window c (channel_with s rs o tr) b).owes ≡ false
-    → Comes role s rs o b rest → After (received role window c (channel_with s rs o tr) b) rest2 → Comes role s rs o b rest2
-received_back role window c Ready rs o tr (Call p) rest rest2 e h k = (h.0, k)
-received_back role window c Ready rs o tr (Clear x y) rest rest2 e h k = (h.0, k)
-received_back role window c Ready rs o tr _ rest rest2 e h k = absurd h
-received_back role window c OwnWaiting rs o tr (Call p) rest rest2 e h k = k
-received_back role window c OwnWaiting rs o tr Accepted rest rest2 e h k = k
-received_back role window c OwnWaiting rs o tr (Clear x y) rest rest2 e h k = k
-received_back role window c OwnWaiting rs o tr _ rest rest2 e h k = absurd h
-received_back role window c FarWaiting rs o tr (Clear x y) rest rest2 e h k = k
-received_back role window c FarWaiting rs o tr _ rest rest2 e h k = absurd h
-received_back Dte window c Collision rs o tr Accepted rest rest2 e h k = k
-received_back Dce window c Collision rs o tr Accepted rest rest2 e h k = absurd h
-received_back role window c Collision rs o tr (Clear x y) rest rest2 e h k = k
-received_back role window c Collision rs o tr _ rest rest2 e h k = absurd h
-received_back role window c OwnClear rs o tr (Clear x y) rest rest2 e h k = k
-received_back role window c OwnClear rs o tr ClearConfirmation rest rest2 e h k = k
-received_back role window c OwnClear rs o tr _ rest rest2 e h k = k
-received_back role window c Transfer true o tr (Clear x y) rest rest2 e h k = k
-received_back role window c Transfer true o tr (Reset x y) rest rest2 e h k = (h.0, h.1, k)
-received_back role window c Transfer true o tr ResetConfirmation rest rest2 e h k = (h.0, h.1, k)
-received_back role window c Transfer true o tr (Data s n d) rest rest2 e h k = k
-received_back role window c Transfer true o tr (Interrupt q) rest rest2 e h k = k
-received_back role window c Transfer true o tr InterruptConfirmation rest rest2 e h k = k
-received_back role window c Transfer true o tr (ReceiveReady n) rest rest2 e h k = k
-received_back role window c Transfer true o tr (ReceiveNotReady n) rest rest2 e h k = k
-received_back role window c Transfer true o tr _ rest rest2 e h k = absurd h
-received_back role window c Transfer false o tr (Clear x y) rest rest2 e h k = k
-received_back role window c Transfer false o tr (Reset x y) rest rest2 e h k = (h.0, h.1, k)
-received_back role window c Transfer false o tr (Data s n d) rest rest2 e h k = heard_back role c o tr (hears window tr (Data s n d)) rest2 e k
-received_back role window c Transfer false o tr (Interrupt q) rest rest2 e h k = heard_back role c o tr (hears window tr (Interrupt q)) rest2 e k
-received_back role window c Transfer false o tr InterruptConfirmation rest rest2 e h k = heard_back role c o tr (hears window tr InterruptConfirmation) rest2 e k
-received_back role window c Transfer false o tr (ReceiveReady n) rest rest2 e h k = heard_back role c o tr (hears window tr (ReceiveReady n)) rest2 e k
-received_back role window c Transfer false o tr (ReceiveNotReady n) rest rest2 e h k = heard_back role c o tr (hears window tr (ReceiveNotReady n)) rest2 e k
-received_back role window c Transfer false o tr _ rest rest2 e h k = absurd h
+pub received_back : (role : Role) (flow : Flow) (c : ℕ) (s : CallState) (rs : Bool) (o : List Body) (tr : Traffic) (b : Body) (rest rest2 : CallState → Bool → List Body → Type 0) → is_request (received role flow c (channel_with s rs o tr) b).owes ≡ false
+    → Comes role s rs o b rest → After (received role flow c (channel_with s rs o tr) b) rest2 → Comes role s rs o b rest2
+received_back role flow c Ready rs o tr (Call p) rest rest2 e h k = (h.0, k)
+received_back role flow c Ready rs o tr (Clear x y) rest rest2 e h k = (h.0, k)
+received_back role flow c Ready rs o tr _ rest rest2 e h k = absurd h
+received_back role flow c OwnWaiting rs o tr (Call p) rest rest2 e h k = k
+received_back role flow c OwnWaiting rs o tr Accepted rest rest2 e h k = k
+received_back role flow c OwnWaiting rs o tr (Clear x y) rest rest2 e h k = k
+received_back role flow c OwnWaiting rs o tr _ rest rest2 e h k = absurd h
+received_back role flow c FarWaiting rs o tr (Clear x y) rest rest2 e h k = k
+received_back role flow c FarWaiting rs o tr _ rest rest2 e h k = absurd h
+received_back Dte flow c Collision rs o tr Accepted rest rest2 e h k = k
+received_back Dce flow c Collision rs o tr Accepted rest rest2 e h k = absurd h
+received_back role flow c Collision rs o tr (Clear x y) rest rest2 e h k = k
+received_back role flow c Collision rs o tr _ rest rest2 e h k = absurd h
+received_back role flow c OwnClear rs o tr (Clear x y) rest rest2 e h k = k
+received_back role flow c OwnClear rs o tr ClearConfirmation rest rest2 e h k = k
+received_back role flow c OwnClear rs o tr _ rest rest2 e h k = k
+received_back role flow c Transfer true o tr (Clear x y) rest rest2 e h k = k
+received_back role flow c Transfer true o tr (Reset x y) rest rest2 e h k = (h.0, h.1, k)
+received_back role flow c Transfer true o tr ResetConfirmation rest rest2 e h k = (h.0, h.1, k)
+received_back role flow c Transfer true o tr (Data s n d) rest rest2 e h k = k
+received_back role flow c Transfer true o tr (Interrupt q) rest rest2 e h k = k
+received_back role flow c Transfer true o tr InterruptConfirmation rest rest2 e h k = k
+received_back role flow c Transfer true o tr (ReceiveReady n) rest rest2 e h k = k
+received_back role flow c Transfer true o tr (ReceiveNotReady n) rest rest2 e h k = k
+received_back role flow c Transfer true o tr _ rest rest2 e h k = absurd h
+received_back role flow c Transfer false o tr (Clear x y) rest rest2 e h k = k
+received_back role flow c Transfer false o tr (Reset x y) rest rest2 e h k = (h.0, h.1, k)
+received_back role flow c Transfer false o tr (Data s n d) rest rest2 e h k = heard_back role c o tr (hears flow tr (Data s n d)) rest2 e k
+received_back role flow c Transfer false o tr (Interrupt q) rest rest2 e h k = heard_back role c o tr (hears flow tr (Interrupt q)) rest2 e k
+received_back role flow c Transfer false o tr InterruptConfirmation rest rest2 e h k = heard_back role c o tr (hears flow tr InterruptConfirmation) rest2 e k
+received_back role flow c Transfer false o tr (ReceiveReady n) rest rest2 e h k = heard_back role c o tr (hears flow tr (ReceiveReady n)) rest2 e k
+received_back role flow c Transfer false o tr (ReceiveNotReady n) rest rest2 e h k = heard_back role c o tr (hears flow tr (ReceiveNotReady n)) rest2 e k
+received_back role flow c Transfer false o tr _ rest rest2 e h k = absurd h

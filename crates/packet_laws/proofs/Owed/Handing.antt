@@ -2,6 +2,7 @@
 use Rattle.std.proofs.Common.{◌≡◌, ℕ, ◌≤◌, Bool, true, false, cond, ◌||◌, ◌==◌, List, [], ◌∷◌, ◌++◌, length, Option, Some, None, refl, sym, ap, subst, ◌∙◌, arith, true≢false, inl, inr}
 use Rattle.std.proofs.lemmas.Bool.{ne_eqb, cases_eq}
 use Rattle.link_timers.specs.declared.role.Role.{Role}
+use Rattle.packet_channel.specs.declared.flow.Flow.{Flow}
 use Rattle.packet_layer.specs.Packets.{Body, Packet}
 use Rattle.packet_layer.specs.Traffic.{says}
 use Rattle.packet_layer.specs.Channel.{CallState, Channel, has_flow, moved}
@@ -164,16 +165,16 @@ handed_traffic role l c ch ch' q found is is' e_s e_r f e = record {
 abbrev here_next : Layer → ℕ → ChannelNext → Next
 here_next l c n = record { layer = record l { channels = with_nth l.channels c n.channel; served_last = c }; packet = packet_of c n.body }
 
-flow_next : (window : ℕ) (ch : Channel) (v : Bool) (q : Body) → let n : ChannelNext = cond v (record { channel = moved (says window ch.traffic).traffic ch; body = (says window ch.traffic).body }) (record { channel = ch; body = None }) in
+flow_next : (flow : Flow) (ch : Channel) (v : Bool) (q : Body) → let n : ChannelNext = cond v (record { channel = moved (says flow ch.traffic).traffic ch; body = (says flow ch.traffic).body }) (record { channel = ch; body = None }) in
     n.body ≡ Some q → (n.channel.owed ≡ ch.owed) × ((n.channel.state ≡ ch.state) × (n.channel.resetting ≡ ch.resetting))
-flow_next window ch true q e = (refl, (refl, refl))
-flow_next window ch false q e = (refl, (refl, refl))
+flow_next flow ch true q e = (refl, (refl, refl))
+flow_next flow ch false q e = (refl, (refl, refl))
 
-handed_next : (role : Role) (l : Layer) (c : ℕ) (ch : Channel) (o : List Body) (q : Body) → channel_of l c ≡ Some ch → ch.owed ≡ o → FitsAt l.phase ch → l.owed ≡ [] → (next_owed l.window o ch).body ≡ Some q → Handed role l c ch (here_next l c (next_owed l.window o ch))
+handed_next : (role : Role) (l : Layer) (c : ℕ) (ch : Channel) (o : List Body) (q : Body) → channel_of l c ≡ Some ch → ch.owed ≡ o → FitsAt l.phase ch → l.owed ≡ [] → (next_owed l.flow o ch).body ≡ Some q → Handed role l c ch (here_next l c (next_owed l.flow o ch))
 handed_next role l c ch (b ∷ bs) q found is f e body = handed_owed role l c ch found b bs is f e
 handed_next role l c ch [] q found is f e body =
-    let n : ChannelNext = next_owed l.window [] ch in
-    let s = flow_next l.window ch (has_flow ch) q body in
+    let n : ChannelNext = next_owed l.flow [] ch in
+    let s = flow_next l.flow ch (has_flow ch) q body in
     subst (λ (z : Option Body). Handed role l c ch (record { layer = record l { channels = with_nth l.channels c n.channel; served_last = c }; packet = packet_of c z })) (sym body)
     (handed_traffic role l c ch n.channel q found is (s.0 ∙ is) s.1.0 s.1.1 f e)
 
@@ -183,12 +184,12 @@ handed_found role l c ch found f e d there q is body =
       | inl k ↦
           let found' : channel_of l d ≡ Some ch = subst (λ (j : ℕ). channel_of l j ≡ Some ch) k found in
           let same : there ≡ ch = some_same there ch (sym is ∙ found') in
-          subst (λ (z : Channel). Handed role l c ch (here_next l d (next_of l.window z))) (sym same)
-          (subst (λ (j : ℕ). Handed role l c ch (here_next l j (next_of l.window ch))) k
-          (handed_next role l c ch ch.owed q found refl f e (subst (λ (z : Channel). (next_of l.window z).body ≡ Some q) same body)))
+          subst (λ (z : Channel). Handed role l c ch (here_next l d (next_of l.flow z))) (sym same)
+          (subst (λ (j : ℕ). Handed role l c ch (here_next l j (next_of l.flow ch))) k
+          (handed_next role l c ch ch.owed q found refl f e (subst (λ (z : Channel). (next_of l.flow z).body ≡ Some q) same body)))
       | inr ne ↦
-          subst (λ (z : Option Body). Handed role l c ch (record { layer = record l { channels = with_nth l.channels d (next_of l.window there).channel; served_last = d }; packet = packet_of d z })) (sym body)
-          (handed_other role l c ch found f d q (next_of l.window there).channel ne (not_restart_channel l d there is))
+          subst (λ (z : Option Body). Handed role l c ch (record { layer = record l { channels = with_nth l.channels d (next_of l.flow there).channel; served_last = d }; packet = packet_of d z })) (sym body)
+          (handed_other role l c ch found f d q (next_of l.flow there).channel ne (not_restart_channel l d there is))
     ]
 
 pub handed : (role : Role) (l : Layer) (c : ℕ) (ch : Channel) → channel_of l c ≡ Some ch → FitsAt l.phase ch → Handed role l c ch (next_packet l)

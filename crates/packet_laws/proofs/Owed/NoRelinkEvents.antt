@@ -4,6 +4,7 @@ use Rattle.std.proofs.lemmas.Bool.{eq-eqb, eqb-true, ne_eqb, cases_eq}
 use Rattle.std.proofs.lemmas.Option.{slice_get_within}
 use Rattle.link_timers.specs.declared.role.Role.{Role}
 use Rattle.link_timers.specs.Role.{other_of}
+use Rattle.packet_channel.specs.declared.flow.Flow.{Flow}
 use Rattle.packet_layer.specs.Packets.{CallParts, Body, Packet, Received}
 use Rattle.packet_layer.specs.Packets.Body.{Restart}
 use Rattle.packet_layer.specs.Channel.{CallState, Channel, Request, closed_channel}
@@ -106,9 +107,9 @@ left_pushed e e' s c link link' h' same_link = record {
 abbrev Others : ℕ → Line → End → Type 0
 Others channels w e' = (s c : ℕ) → 1 ≤ c → c ≤ channels → w.you.session ≡ Some s → Pushed e'.session s (way (turned w) s c) (way (turned (record w { me = e' })) s c)
 
-rebuilt : (channels window : ℕ) (role : Role) (w : Line) (e' : End) → NoRelink channels window role w → length e'.layer.channels ≡ channels → ((s c : ℕ) → 1 ≤ c → c ≤ channels → Tied window role (record w { me = e' }) s c)
-    → EndOk role (record w { me = e' }) → Others channels w e' → NoRelink channels window role (record w { me = e' })
-rebuilt channels window role w e' k count tied ok others = record {
+rebuilt : (channels : ℕ) (flow : Flow) (role : Role) (w : Line) (e' : End) → NoRelink channels flow role w → length e'.layer.channels ≡ channels → ((s c : ℕ) → 1 ≤ c → c ≤ channels → Tied flow role (record w { me = e' }) s c)
+    → EndOk role (record w { me = e' }) → Others channels w e' → NoRelink channels flow role (record w { me = e' })
+rebuilt channels flow role w e' k count tied ok others = record {
   some = k.some;
   count = (count, k.count.1);
   tied = tied;
@@ -123,29 +124,29 @@ rebuilt channels window role w e' k count tied ok others = record {
         let hi = nth_within w.you.layer.channels c ch found in
         let num = k.count.1 in
         let le : c ≤ channels = omega arith in
-        way_pushed window (other_of role) (turned (record w { me = e' })) s c ch (way (turned w) s c) (turned_tied window role (record w { me = e' }) s c (tied s c lo le)) ses k.you.quiet ok.quiet found (k.you.fits c ch found)
+        way_pushed flow (other_of role) (turned (record w { me = e' })) s c ch (way (turned w) s c) (turned_tied flow role (record w { me = e' }) s c (tied s c lo le)) ses k.you.quiet ok.quiet found (k.you.fits c ch found)
         (others s c lo le ses) (k.you.comes s c ch ses found);
   };
 }
 
 -- how many restart packets are owed
-few_of : (channels window : ℕ) (role : Role) (w : Line) (o : Option ℕ) → 1 ≤ channels → ((s c : ℕ) → 1 ≤ c → c ≤ channels → Tied window role w s c) → w.me.session ≡ o → w.me.layer.relink ≡ false → (w.me.session ≡ None → w.me.layer.owed ≡ []) → length w.me.layer.owed ≤ 2
-few_of channels window role w None some tied ses quiet none = let l = ap (λ (q : List Body). length q) (none ses) in omega arith
-few_of channels window role w (Some s) some tied ses quiet none = few_restarts window role w s 1 (tied s 1 (omega arith) some) ses quiet
+few_of : (channels : ℕ) (flow : Flow) (role : Role) (w : Line) (o : Option ℕ) → 1 ≤ channels → ((s c : ℕ) → 1 ≤ c → c ≤ channels → Tied flow role w s c) → w.me.session ≡ o → w.me.layer.relink ≡ false → (w.me.session ≡ None → w.me.layer.owed ≡ []) → length w.me.layer.owed ≤ 2
+few_of channels flow role w None some tied ses quiet none = let l = ap (λ (q : List Body). length q) (none ses) in omega arith
+few_of channels flow role w (Some s) some tied ses quiet none = few_restarts flow role w s 1 (tied s 1 (omega arith) some) ses quiet
 
 -- ---- an event of the layer alone
 
-layer_no_relink : (channels window : ℕ) (role : Role) (w : Line) (l' : Layer) (f : ℕ → History → History) → NoRelink channels window role w → length l'.channels ≡ channels → ((s c : ℕ) → Tied window role w s c → Tied window role (record w { me = with_layer l' (told f w.me) }) s c)
-    → LayerEvent role w.me.layer l' → NoRelink channels window role (record w { me = with_layer l' (told f w.me) })
-layer_no_relink channels window role w l' f k count keeps ev =
+layer_no_relink : (channels : ℕ) (flow : Flow) (role : Role) (w : Line) (l' : Layer) (f : ℕ → History → History) → NoRelink channels flow role w → length l'.channels ≡ channels → ((s c : ℕ) → Tied flow role w s c → Tied flow role (record w { me = with_layer l' (told f w.me) }) s c)
+    → LayerEvent role w.me.layer l' → NoRelink channels flow role (record w { me = with_layer l' (told f w.me) })
+layer_no_relink channels flow role w l' f k count keeps ev =
     let l : Layer = w.me.layer in
     let e' : End = with_layer l' (told f w.me) in
-    let tied' : (s c : ℕ) → 1 ≤ c → c ≤ channels → Tied window role (record w { me = e' }) s c = λ s c lo hi. keeps s c (k.tied s c lo hi) in
+    let tied' : (s c : ℕ) → 1 ≤ c → c ≤ channels → Tied flow role (record w { me = e' }) s c = λ s c lo hi. keeps s c (k.tied s c lo hi) in
     let idle : w.me.session ≡ None → (l'.phase ≡ NoSession) × (l'.owed ≡ []) = λ h. let i = k.me.idle h in let q = ev.idle i.0 in (q.0, q.1 ∙ i.1) in
-    rebuilt channels window role w e' k count tied'
+    rebuilt channels flow role w e' k count tied'
     (record {
       quiet = ev.quiet;
-      few = few_of channels window role (record w { me = e' }) w.me.session k.some tied' refl ev.quiet (λ h. (idle h).1);
+      few = few_of channels flow role (record w { me = e' }) w.me.session k.some tied' refl ev.quiet (λ h. (idle h).1);
       idle = idle;
       fits = λ c ch found.
           let b = there_back l.channels l'.channels c ch (count ∙ sym k.count.0) found in
@@ -165,23 +166,23 @@ layer_no_relink channels window role w l' f k count keeps ev =
       | inr h ↦ none_pushed w.me e' s c (linked (turned w) s c) (linked (turned w) s c) h.0 h.0 refl
     ])
 
-role_here : (channels window : ℕ) (role : Role) (w : Line) → NoRelink channels window role w → w.me.layer.role ≡ role
-role_here channels window role w k = (k.tied 0 1 (omega arith) k.some).mine.role_is
+role_here : (channels : ℕ) (flow : Flow) (role : Role) (w : Line) → NoRelink channels flow role w → w.me.layer.role ≡ role
+role_here channels flow role w k = (k.tied 0 1 (omega arith) k.some).mine.role_is
 
-calls_no_relink : (channels window : ℕ) (role : Role) (w : Line) (parts : CallParts) → NoRelink channels window role w → NoRelink channels window role (happens (Calls parts) w)
-calls_no_relink channels window role w parts k =
-    layer_no_relink channels window role w (call w.me.layer parts) (λ d st. call_history parts (channel_given w.me.layer w.me.layer.phase) d st) k (happens_count channels (Calls parts) w k.count).0
-    (λ s c t. happens_tied window role (Calls parts) w s c t) (call_event role w.me.layer parts k.me.quiet k.me.fits)
+calls_no_relink : (channels : ℕ) (flow : Flow) (role : Role) (w : Line) (parts : CallParts) → NoRelink channels flow role w → NoRelink channels flow role (happens (Calls parts) w)
+calls_no_relink channels flow role w parts k =
+    layer_no_relink channels flow role w (call w.me.layer parts) (λ d st. call_history parts (channel_given w.me.layer w.me.layer.phase) d st) k (happens_count channels (Calls parts) w k.count).0
+    (λ s c t. happens_tied flow role (Calls parts) w s c t) (call_event role w.me.layer parts k.me.quiet k.me.fits)
 
-requests_no_relink : (channels window : ℕ) (role : Role) (w : Line) (d : ℕ) (r : Request) → NoRelink channels window role w → NoRelink channels window role (happens (Requests d r) w)
-requests_no_relink channels window role w d r k =
-    layer_no_relink channels window role w (request w.me.layer d r) (λ c st. request_history w.me.layer d r c st) k (happens_count channels (Requests d r) w k.count).0
-    (λ s c t. happens_tied window role (Requests d r) w s c t) (request_event role w.me.layer d r (role_here channels window role w k) k.me.quiet k.me.fits)
+requests_no_relink : (channels : ℕ) (flow : Flow) (role : Role) (w : Line) (d : ℕ) (r : Request) → NoRelink channels flow role w → NoRelink channels flow role (happens (Requests d r) w)
+requests_no_relink channels flow role w d r k =
+    layer_no_relink channels flow role w (request w.me.layer d r) (λ c st. request_history w.me.layer d r c st) k (happens_count channels (Requests d r) w k.count).0
+    (λ s c t. happens_tied flow role (Requests d r) w s c t) (request_event role w.me.layer d r (role_here channels flow role w k) k.me.quiet k.me.fits)
 
-expires_no_relink : (channels window : ℕ) (role : Role) (w : Line) (t : Timer) → OtherTimer t → NoRelink channels window role w → NoRelink channels window role (happens (Expires t) w)
-expires_no_relink channels window role w t other k =
-    layer_no_relink channels window role w (on_timer w.me.layer t) (λ c st. timer_history w.me.layer t c st) k (happens_count channels (Expires t) w k.count).0
-    (λ s c q. happens_tied window role (Expires t) w s c q) (timer_event role w.me.layer t other (role_here channels window role w k) k.me.quiet k.me.fits k.me.few)
+expires_no_relink : (channels : ℕ) (flow : Flow) (role : Role) (w : Line) (t : Timer) → OtherTimer t → NoRelink channels flow role w → NoRelink channels flow role (happens (Expires t) w)
+expires_no_relink channels flow role w t other k =
+    layer_no_relink channels flow role w (on_timer w.me.layer t) (λ c st. timer_history w.me.layer t c st) k (happens_count channels (Expires t) w k.count).0
+    (λ s c q. happens_tied flow role (Expires t) w s c q) (timer_event role w.me.layer t other (role_here channels flow role w k) k.me.quiet k.me.fits k.me.few)
 
 -- ---- a packet is handed to the link
 
@@ -199,19 +200,19 @@ some_number a b e = cc
 abbrev handing : ℕ → End → End
 handing k e = record e { layer = (next_packet e.layer).layer; offered = handed_over k (next_packet e.layer).packet e.offered }
 
-offers_at : (channels window : ℕ) (role : Role) (w : Line) (k : ℕ) → w.me.session ≡ Some k → NoRelink channels window role w → NoRelink channels window role (record w { me = handing k w.me })
-offers_at channels window role w k ses0 m =
+offers_at : (channels : ℕ) (flow : Flow) (role : Role) (w : Line) (k : ℕ) → w.me.session ≡ Some k → NoRelink channels flow role w → NoRelink channels flow role (record w { me = handing k w.me })
+offers_at channels flow role w k ses0 m =
     let l : Layer = w.me.layer in
     let n : Next = next_packet l in
     let e' : End = handing k w.me in
     let count : length n.layer.channels ≡ length l.channels = (next_same l 0).3 in
-    let tied' : (s c : ℕ) → 1 ≤ c → c ≤ channels → Tied window role (record w { me = e' }) s c = λ s c lo hi. subst (λ (o : Option ℕ). Tied window role (record w { me = offers o w.me }) s c) ses0 (happens_tied window role Offers w s c (m.tied s c lo hi)) in
+    let tied' : (s c : ℕ) → 1 ≤ c → c ≤ channels → Tied flow role (record w { me = e' }) s c = λ s c lo hi. subst (λ (o : Option ℕ). Tied flow role (record w { me = offers o w.me }) s c) ses0 (happens_tied flow role Offers w s c (m.tied s c lo hi)) in
     let one = (m.tied k 1 (omega arith) m.some).mine.there in
     let first = handed role l 1 one.0 one.1 (m.me.fits 1 one.0 one.1) in
-    rebuilt channels window role w e' m (count ∙ m.count.0) tied'
+    rebuilt channels flow role w e' m (count ∙ m.count.0) tied'
     (record {
       quiet = first.quiet ∙ m.me.quiet;
-      few = few_of channels window role (record w { me = e' }) w.me.session m.some tied' refl (first.quiet ∙ m.me.quiet) (λ h. none_some k (sym h ∙ ses0));
+      few = few_of channels flow role (record w { me = e' }) w.me.session m.some tied' refl (first.quiet ∙ m.me.quiet) (λ h. none_some k (sym h ∙ ses0));
       idle = λ h. none_some k (sym h ∙ ses0);
       fits = λ c ch found.
           let b = there_back l.channels n.layer.channels c ch count found in
@@ -239,9 +240,9 @@ offers_at channels window role w k ses0 m =
           (ap (λ (q : List Packet). on_c c (drop (w.you.accepted s) q)) (handed_other k s n.packet w.me.offered not_k))
     ])
 
-offers_by : (channels window : ℕ) (role : Role) (w : Line) (o : Option ℕ) → w.me.session ≡ o → NoRelink channels window role w → NoRelink channels window role (record w { me = offers o w.me })
-offers_by channels window role w None ses m = m
-offers_by channels window role w (Some k) ses m = offers_at channels window role w k ses m
+offers_by : (channels : ℕ) (flow : Flow) (role : Role) (w : Line) (o : Option ℕ) → w.me.session ≡ o → NoRelink channels flow role w → NoRelink channels flow role (record w { me = offers o w.me })
+offers_by channels flow role w None ses m = m
+offers_by channels flow role w (Some k) ses m = offers_at channels flow role w k ses m
 
 -- ---- the link goes down
 
@@ -251,10 +252,10 @@ closed_fit chs c ch ph e found =
     let is : closed_channel ≡ ch = some_same closed_channel ch (sym (nth_map chs c b.0 closed_channel b.1) ∙ found) in
     subst (λ (q : Channel). FitsAt ph q) is (subst (λ (v : Bool). FitsIn v closed_channel.state closed_channel.resetting closed_channel.owed) (sym e) (refl, refl, refl))
 
-down_no_relink : (channels window : ℕ) (role : Role) (w : Line) → NoRelink channels window role w → NoRelink channels window role (happens Down w)
-down_no_relink channels window role w m =
+down_no_relink : (channels : ℕ) (flow : Flow) (role : Role) (w : Line) → NoRelink channels flow role w → NoRelink channels flow role (happens Down w)
+down_no_relink channels flow role w m =
     let e' : End = record w.me { layer = link_down w.me.layer; session = None } in
-    rebuilt channels window role w e' m (happens_count channels Down w m.count).0 (λ s c lo hi. happens_tied window role Down w s c (m.tied s c lo hi))
+    rebuilt channels flow role w e' m (happens_count channels Down w m.count).0 (λ s c lo hi. happens_tied flow role Down w s c (m.tied s c lo hi))
     (record {
       quiet = refl;
       few = omega arith;
@@ -271,15 +272,15 @@ not_zero_session zero e = absurd (true≢false (sym e))
 not_zero_session (suc s) e = omega arith
 
 -- nothing was accepted, so both ends are as begun, and all that is on the way may come
-begun_way : (channels window : ℕ) (role : Role) (w : Line) (k c : ℕ) → 0 < k → w.me.accepted k ≡ 0 → w.you.accepted k ≡ 0 → Tied window role w k c → w.you.layer.relink ≡ false → AllCome role false CallState.Ready false [] (way w k c)
-begun_way channels window role w k c lt mine yours t quiet =
+begun_way : (channels : ℕ) (flow : Flow) (role : Role) (w : Line) (k c : ℕ) → 0 < k → w.me.accepted k ≡ 0 → w.you.accepted k ≡ 0 → Tied flow role w k c → w.you.layer.relink ≡ false → AllCome role false CallState.Ready false [] (way w k c)
+begun_way channels flow role w k c lt mine yours t quiet =
     let ex = t.mine.still lt mine in
     let ey = t.yours.still lt yours in
     let walk : Walk restart_kind t.y.put t.y.number t.x.own t.x.number (t.x.came t.x.number) t.b = t.good.aft.walk in
     let walk' : Walk restart_kind (λ j. []) 0 true 0 0 t.b =
     subst (λ (z : Whole). Walk restart_kind z.put z.number true 0 0 t.b) ey
     (subst (λ (z : Whole). Walk restart_kind t.y.put t.y.number z.own z.number (z.came z.number) t.b) ex walk) in
-    let front = way_front window role w k c t quiet in
+    let front = way_front flow role w k c t quiet in
     all_front role false CallState.Ready false [] (way w k c) front.0
     (subst (λ (q : List Body). AllCome role false CallState.Ready false [] q) front.1 (begun_comes role CallState.Ready false [] t.b walk'))
 
@@ -290,17 +291,17 @@ begun_linked w k c none =
 begun_pending : (w : Line) (k c : ℕ) → There w.me.layer c → pending (begun k w.me) k c ≡ Restart (start_cause w.me.layer.role) 0 ∷ []
 begun_pending w k c t = pending_here (begun k w.me) k c closed_channel refl (nth_map w.me.layer.channels c t.0 closed_channel t.1)
 
-up_at : (channels window : ℕ) (role : Role) (w : Line) (k : ℕ) → may_begin k w ≡ true → NoRelink channels window role w → NoRelink channels window role (record w { me = begun k w.me })
-up_at channels window role w k may m =
+up_at : (channels : ℕ) (flow : Flow) (role : Role) (w : Line) (k : ℕ) → may_begin k w ≡ true → NoRelink channels flow role w → NoRelink channels flow role (record w { me = begun k w.me })
+up_at channels flow role w k may m =
     let e' : End = begun k w.me in
     let p = and_parts (not (k == 0)) _ may in
     let q = and_parts (w.me.accepted k == 0) (w.you.accepted k == 0) p.1 in
     let lt = not_zero_session k p.0 in
     let mine_none = eqb-true (w.me.accepted k) 0 q.0 in
     let yours_none = eqb-true (w.you.accepted k) 0 q.1 in
-    let tied' : (s c : ℕ) → 1 ≤ c → c ≤ channels → Tied window role (record w { me = e' }) s c = λ s c lo hi.
-    subst (λ (v : Bool). Tied window role (cond v (record w { me = e' }) w) s c) may (happens_tied window role (Up k) w s c (m.tied s c lo hi)) in
-    rebuilt channels window role w e' m (map_length w.me.layer.channels ∙ m.count.0) tied'
+    let tied' : (s c : ℕ) → 1 ≤ c → c ≤ channels → Tied flow role (record w { me = e' }) s c = λ s c lo hi.
+    subst (λ (v : Bool). Tied flow role (cond v (record w { me = e' }) w) s c) may (happens_tied flow role (Up k) w s c (m.tied s c lo hi)) in
+    rebuilt channels flow role w e' m (map_length w.me.layer.channels ∙ m.count.0) tied'
     (record {
       quiet = refl;
       few = omega arith;
@@ -314,7 +315,7 @@ up_at channels window role w k may m =
           let is : closed_channel ≡ ch = some_same closed_channel ch (sym (nth_map w.me.layer.channels c b.0 closed_channel b.1) ∙ found) in
           subst (λ (z : Channel). ComesTo role OwnRestart z (way w s c)) is
           (subst (λ (j : ℕ). AllCome role false CallState.Ready false [] (way w j c)) (some_number k s ses)
-          (begun_way channels window role w k c lt mine_none yours_none (m.tied k c lo (omega arith)) m.you.quiet));
+          (begun_way channels flow role w k c lt mine_none yours_none (m.tied k c lo (omega arith)) m.you.quiet));
     })
     (λ s c lo hi up.
     elim (cases_eq s k) [
@@ -335,8 +336,8 @@ up_at channels window role w k may m =
           (ap (λ (v : Bool). on_c c (drop (w.you.accepted s) (cond v [] (w.me.offered s)))) (ne_eqb s k ne))
     ])
 
-up_no_relink : (channels window : ℕ) (role : Role) (w : Line) (k : ℕ) → NoRelink channels window role w → NoRelink channels window role (happens (Up k) w)
-up_no_relink channels window role w k m = by_cond (λ (v : Line). NoRelink channels window role v) (may_begin k w) (record w { me = begun k w.me }) w (λ e. up_at channels window role w k e m) (λ e. m)
+up_no_relink : (channels : ℕ) (flow : Flow) (role : Role) (w : Line) (k : ℕ) → NoRelink channels flow role w → NoRelink channels flow role (happens (Up k) w)
+up_no_relink channels flow role w k m = by_cond (λ (v : Line). NoRelink channels flow role v) (may_begin k w) (record w { me = begun k w.me }) w (λ e. up_at channels flow role w k e m) (λ e. m)
 
 -- ---- a packet arrives
 
@@ -356,19 +357,19 @@ known_split : (role : Role) (l : Layer) (p : Packet) (v : Bool) → (p.channel =
 known_split role l p true e f g = f refl
 known_split role l p false e f g = g refl
 
-arrives_at : (channels window : ℕ) (role : Role) (w : Line) (k : ℕ) (p : Packet) → w.me.session ≡ Some k → next_of_session w k ≡ Some p → NoRelink channels window role w → NoRelink channels window role (record w { me = accepts k (Some p) w.me })
-arrives_at channels window role w k p ses0 got m =
+arrives_at : (channels : ℕ) (flow : Flow) (role : Role) (w : Line) (k : ℕ) (p : Packet) → w.me.session ≡ Some k → next_of_session w k ≡ Some p → NoRelink channels flow role w → NoRelink channels flow role (record w { me = accepts k (Some p) w.me })
+arrives_at channels flow role w k p ses0 got m =
     let l : Layer = w.me.layer in
     let l' : Layer = on_packet l (Received.Whole p) in
     let e' : End = accepts k (Some p) w.me in
     let a : ℕ = w.me.accepted k in
-    let is = role_here channels window role w m in
+    let is = role_here channels flow role w m in
     let own : Bool = (m.tied k 1 (omega arith) m.some).x.own in
     let phase : l.phase ≡ phase_of own = ((m.tied k 1 (omega arith) m.some).mine.present ses0).phase_is in
-    let fault : NoFaultAt l.phase l p (p.channel == 0) = fault_split l p (p.channel == 0) (faultless channels window role w m.some m.count.0 (λ s c lo hi. m.tied s c lo hi) k p ses0 got) in
+    let fault : NoFaultAt l.phase l p (p.channel == 0) = fault_split l p (p.channel == 0) (faultless channels flow role w m.some m.count.0 (λ s c lo hi. m.tied s c lo hi) k p ses0 got) in
     let well : (c : ℕ) → 1 ≤ c → c ≤ channels → WellOf (p.channel == 0) (p.channel == c) p.body = λ c lo hi. well_get c (w.you.offered k) a p got (m.tied k c lo hi).yours.well in
     let count : length l'.channels ≡ length l.channels = (packet_same l 0 p).3 in
-    let tied' : (s c : ℕ) → 1 ≤ c → c ≤ channels → Tied window role (record w { me = e' }) s c = λ s c lo hi. arrives_some window role w k s c p ses0 got (m.tied s c lo hi) in
+    let tied' : (s c : ℕ) → 1 ≤ c → c ≤ channels → Tied flow role (record w { me = e' }) s c = λ s c lo hi. arrives_some flow role w k s c p ses0 got (m.tied s c lo hi) in
     let num = m.count.0 in
     let range : (c : ℕ) (ch : Channel) → channel_of l c ≡ Some ch → (1 ≤ c) × (c ≤ channels) = λ c ch found. let hi = nth_within l.channels c ch found in (from_one l.channels c ch found, omega arith) in
     let came : (c : ℕ) (ch : Channel) → channel_of l c ≡ Some ch → ComesTo role l.phase ch (cond ((p.channel == 0) || (p.channel == c)) (p.body ∷ next_way w k c) (next_way w k c)) = λ c ch found.
@@ -390,10 +391,10 @@ arrives_at channels window role w k p ses0 got m =
     let quiet : l'.relink ≡ false = arrival_quiet role l own p is phase fault m.me.quiet m.me.few known in
     let acc : cond (k == k) (a + 1) a ≡ suc a = ap (λ (v : Bool). cond v (a + 1) a) (same k) ∙ (omega arith) in
     let way' : (c : ℕ) → way (record w { me = e' }) k c ≡ next_way w k c = λ c. ap (λ (j : ℕ). on_c c (drop j (w.you.offered k)) ++ pending w.you k c) acc in
-    rebuilt channels window role w e' m (count ∙ m.count.0) tied'
+    rebuilt channels flow role w e' m (count ∙ m.count.0) tied'
     (record {
       quiet = quiet;
-      few = few_of channels window role (record w { me = e' }) w.me.session m.some tied' refl quiet (λ h. none_some k (sym h ∙ ses0));
+      few = few_of channels flow role (record w { me = e' }) w.me.session m.some tied' refl quiet (λ h. none_some k (sym h ∙ ses0));
       idle = λ h. none_some k (sym h ∙ ses0);
       fits = λ c ch found.
           let b = there_back l.channels l'.channels c ch count found in
@@ -415,13 +416,13 @@ arrives_at channels window role w k p ses0 got m =
       | inr h ↦ none_pushed w.me e' s c (linked (turned w) s c) (linked (turned w) s c) h.0 h.0 refl
     ])
 
-arrives_packet : (channels window : ℕ) (role : Role) (w : Line) (k : ℕ) (o : Option Packet) → w.me.session ≡ Some k → next_of_session w k ≡ o → NoRelink channels window role w → NoRelink channels window role (record w { me = accepts k o w.me })
-arrives_packet channels window role w k None ses got m = m
-arrives_packet channels window role w k (Some p) ses got m = arrives_at channels window role w k p ses got m
+arrives_packet : (channels : ℕ) (flow : Flow) (role : Role) (w : Line) (k : ℕ) (o : Option Packet) → w.me.session ≡ Some k → next_of_session w k ≡ o → NoRelink channels flow role w → NoRelink channels flow role (record w { me = accepts k o w.me })
+arrives_packet channels flow role w k None ses got m = m
+arrives_packet channels flow role w k (Some p) ses got m = arrives_at channels flow role w k p ses got m
 
-arrives_by : (channels window : ℕ) (role : Role) (w : Line) (o : Option ℕ) → w.me.session ≡ o → NoRelink channels window role w → NoRelink channels window role (arrives_in o w)
-arrives_by channels window role w None ses m = m
-arrives_by channels window role w (Some k) ses m = arrives_packet channels window role w k (next_of_session w k) ses refl m
+arrives_by : (channels : ℕ) (flow : Flow) (role : Role) (w : Line) (o : Option ℕ) → w.me.session ≡ o → NoRelink channels flow role w → NoRelink channels flow role (arrives_in o w)
+arrives_by channels flow role w None ses m = m
+arrives_by channels flow role w (Some k) ses m = arrives_packet channels flow role w k (next_of_session w k) ses refl m
 
 -- ---- any event
 
@@ -429,11 +430,11 @@ abbrev pub OtherEvent : Event → Type 0
 OtherEvent (Expires t) = OtherTimer t
 OtherEvent e = Unit {0}
 
-pub happens_no_relink : (channels window : ℕ) (role : Role) (e : Event) (w : Line) → OtherEvent e → NoRelink channels window role w → NoRelink channels window role (happens e w)
-happens_no_relink channels window role (Up k) w other m = up_no_relink channels window role w k m
-happens_no_relink channels window role Down w other m = down_no_relink channels window role w m
-happens_no_relink channels window role (Calls parts) w other m = calls_no_relink channels window role w parts m
-happens_no_relink channels window role (Requests d r) w other m = requests_no_relink channels window role w d r m
-happens_no_relink channels window role (Expires t) w other m = expires_no_relink channels window role w t other m
-happens_no_relink channels window role Offers w other m = offers_by channels window role w w.me.session refl m
-happens_no_relink channels window role Arrives w other m = arrives_by channels window role w w.me.session refl m
+pub happens_no_relink : (channels : ℕ) (flow : Flow) (role : Role) (e : Event) (w : Line) → OtherEvent e → NoRelink channels flow role w → NoRelink channels flow role (happens e w)
+happens_no_relink channels flow role (Up k) w other m = up_no_relink channels flow role w k m
+happens_no_relink channels flow role Down w other m = down_no_relink channels flow role w m
+happens_no_relink channels flow role (Calls parts) w other m = calls_no_relink channels flow role w parts m
+happens_no_relink channels flow role (Requests d r) w other m = requests_no_relink channels flow role w d r m
+happens_no_relink channels flow role (Expires t) w other m = expires_no_relink channels flow role w t other m
+happens_no_relink channels flow role Offers w other m = offers_by channels flow role w w.me.session refl m
+happens_no_relink channels flow role Arrives w other m = arrives_by channels flow role w w.me.session refl m

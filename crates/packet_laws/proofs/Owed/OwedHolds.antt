@@ -1,8 +1,10 @@
 -- Between two ends of this project the limit on owed packets is never passed.
-use Rattle.std.proofs.Common.{◌≡◌, ℕ, zero, suc, ◌≤◌, ◌⊎◌, Bool, true, false, cond, List, [], ◌∷◌, length, slice_get, replicate, Option, Some, None, refl, sym, ap, subst, ◌∙◌, arith, true≢false, inl, inr}
+use Rattle.std.proofs.Common.{◌≡◌, ℕ, zero, suc, ◌<◌, ◌≤◌, ◌⊎◌, Bool, true, false, cond, List, [], ◌∷◌, length, slice_get, replicate, Option, Some, None, refl, sym, ap, subst, ◌∙◌, arith, true≢false, inl, inr}
 use Rattle.link_timers.specs.declared.role.Role.{Role}
 use Rattle.link_timers.specs.declared.role.Role.TheVariants.{Dte, Dce}
 use Rattle.link_timers.specs.Role.{other_of}
+use Rattle.packet_layer.specs.Flow.{modulus}
+use Rattle.packet_channel.specs.declared.flow.Flow.{Flow}
 use Rattle.packet_layer.specs.Packets.{CallParts, Body, Packet, Note}
 use Rattle.packet_layer.specs.Channel.{CallState, Channel, Step, closed_channel, entered, requested}
 use Rattle.packet_layer.specs.Channel.CallState.{Ready, OwnWaiting, FarWaiting, Transfer, Collision, OwnClear}
@@ -66,8 +68,8 @@ either_empty : (v : Bool) (o : List Body) → o ≡ [] → cond v o [] ≡ []
 either_empty true o e = e
 either_empty false o e = refl
 
-start_way : (mine yours : Role) (channels window : ℕ) (standing : Bool) (s c : ℕ) → way (record { me = start_end mine channels window standing; you = start_end yours channels window standing }) s c ≡ []
-start_way mine yours channels window standing s c =
+start_way : (mine yours : Role) (channels : ℕ) (flow : Flow) (standing : Bool) (s c : ℕ) → way (record { me = start_end mine channels flow standing; you = start_end yours channels flow standing }) s c ≡ []
+start_way mine yours channels flow standing s c =
     either_empty (is_session (start_session standing) s) (owed_at (nth_channel (standing_channels standing (replicate channels closed_channel)) c))
     (found_owes (nth_channel (standing_channels standing (replicate channels closed_channel)) c) (λ ch e. start_owes channels standing c ch e))
 
@@ -75,22 +77,22 @@ start_idle : (standing : Bool) → start_session standing ≡ None → start_pha
 start_idle true e = absurd cc
 start_idle false e = refl
 
-start_end_ok : (mine yours : Role) (channels window : ℕ) (standing : Bool) → EndOk mine (record { me = start_end mine channels window standing; you = start_end yours channels window standing })
-start_end_ok mine yours channels window standing = record {
+start_end_ok : (mine yours : Role) (channels : ℕ) (flow : Flow) (standing : Bool) → EndOk mine (record { me = start_end mine channels flow standing; you = start_end yours channels flow standing })
+start_end_ok mine yours channels flow standing = record {
   quiet = refl;
   few = omega arith;
   idle = λ h. (start_idle standing h, refl);
   fits = λ c ch found. start_fits channels standing c ch found;
-  comes = λ s c ch ses found. subst (λ (q : List Body). ComesTo mine (start_phase standing) ch q) (sym (start_way mine yours channels window standing s c)) tt;
+  comes = λ s c ch ses found. subst (λ (q : List Body). ComesTo mine (start_phase standing) ch q) (sym (start_way mine yours channels flow standing s c)) tt;
 }
 
-start_no_relink : (channels window : ℕ) (standing : Bool) → 1 ≤ channels → window ≤ 7 → NoRelink channels window Dte (start_line channels window standing)
-start_no_relink channels window standing some small = record {
+start_no_relink : (channels : ℕ) (flow : Flow) (standing : Bool) → 1 ≤ channels → flow.window < modulus flow.numbering → NoRelink channels flow Dte (start_line channels flow standing)
+start_no_relink channels flow standing some small = record {
   some = some;
-  count = start_count channels window standing;
-  tied = λ s c lo hi. starts_tied channels window standing s c small lo hi;
-  me = start_end_ok Dte Dce channels window standing;
-  you = start_end_ok Dce Dte channels window standing;
+  count = start_count channels flow standing;
+  tied = λ s c lo hi. starts_tied channels flow standing s c small lo hi;
+  me = start_end_ok Dte Dce channels flow standing;
+  you = start_end_ok Dce Dte channels flow standing;
 }
 
 -- ---- whatever happens
@@ -99,42 +101,42 @@ twice : (r : Role) → other_of (other_of r) ≡ r
 twice Dte = refl
 twice Dce = refl
 
-turned_no_relink : (channels window : ℕ) (role : Role) (w : Line) → NoRelink channels window role w → NoRelink channels window (other_of role) (turned w)
-turned_no_relink channels window role w k = record {
+turned_no_relink : (channels : ℕ) (flow : Flow) (role : Role) (w : Line) → NoRelink channels flow role w → NoRelink channels flow (other_of role) (turned w)
+turned_no_relink channels flow role w k = record {
   some = k.some;
   count = (k.count.1, k.count.0);
-  tied = λ s c lo hi. turned_tied window role w s c (k.tied s c lo hi);
+  tied = λ s c lo hi. turned_tied flow role w s c (k.tied s c lo hi);
   me = k.you;
   you = subst (λ (r : Role). EndOk r w) (sym (twice role)) k.me;
 }
 
 -- such a line once its requests for a relink are taken back
-abbrev TakenBack : ℕ → ℕ → Role → Line → Type 0
-TakenBack channels window role w = (f : ℕ → ℕ → History) × ((g : ℕ → ℕ → History) × ((n : List Note) × ((m : List Note) × NoRelink channels window role (retold f g n m w))))
+abbrev TakenBack : ℕ → Flow → Role → Line → Type 0
+TakenBack channels flow role w = (f : ℕ → ℕ → History) × ((g : ℕ → ℕ → History) × ((n : List Note) × ((m : List Note) × NoRelink channels flow role (retold f g n m w))))
 
-turned_taken_back : (channels window : ℕ) (role : Role) (w : Line) → TakenBack channels window role w → TakenBack channels window (other_of role) (turned w)
-turned_taken_back channels window role w m = (m.1.0, (m.0, (m.1.1.1.0, (m.1.1.0, turned_no_relink channels window role (retold m.0 m.1.0 m.1.1.0 m.1.1.1.0 w) m.1.1.1.1))))
+turned_taken_back : (channels : ℕ) (flow : Flow) (role : Role) (w : Line) → TakenBack channels flow role w → TakenBack channels flow (other_of role) (turned w)
+turned_taken_back channels flow role w m = (m.1.0, (m.0, (m.1.1.1.0, (m.1.1.0, turned_no_relink channels flow role (retold m.0 m.1.0 m.1.1.0 m.1.1.1.0 w) m.1.1.1.1))))
 
 other_instead : (event : Event) → OtherEvent (instead event)
 other_instead (Expires RestartTimer) = tt
 other_instead _ = tt
 
-happens_taken_back : (channels window : ℕ) (role : Role) (event : Event) (w : Line) → TakenBack channels window role w → TakenBack channels window role (happens event w)
-happens_taken_back channels window role event w m =
+happens_taken_back : (channels : ℕ) (flow : Flow) (role : Role) (event : Event) (w : Line) → TakenBack channels flow role w → TakenBack channels flow role (happens event w)
+happens_taken_back channels flow role event w m =
     let other : List Note = m.1.1.1.0 in
     let line : Line = retold m.0 m.1.0 m.1.1.0 other w in
-    let r = happens_again (λ v. NoRelink channels window role v) (λ v k. k.me.quiet) m.0 m.1.0 m.1.1.0 other event w m.1.1.1.1 (happens_no_relink channels window role (instead event) line (other_instead event) m.1.1.1.1) in
+    let r = happens_again (λ v. NoRelink channels flow role v) (λ v k. k.me.quiet) m.0 m.1.0 m.1.1.0 other event w m.1.1.1.1 (happens_no_relink channels flow role (instead event) line (other_instead event) m.1.1.1.1) in
     (r.0, (m.1.0, (r.1.0, (other, r.1.1))))
 
-one_taken_back : (channels window : ℕ) (role : Role) (h : Happening) (w : Line) → TakenBack channels window role w → TakenBack channels window role (after_one h w)
-one_taken_back channels window role (Here e) w m = happens_taken_back channels window role e w m
-one_taken_back channels window role (There e) w m =
-    subst (λ (r : Role). TakenBack channels window r (turned (happens e (turned w)))) (twice role)
-    (turned_taken_back channels window (other_of role) (happens e (turned w)) (happens_taken_back channels window (other_of role) e (turned w) (turned_taken_back channels window role w m)))
+one_taken_back : (channels : ℕ) (flow : Flow) (role : Role) (h : Happening) (w : Line) → TakenBack channels flow role w → TakenBack channels flow role (after_one h w)
+one_taken_back channels flow role (Here e) w m = happens_taken_back channels flow role e w m
+one_taken_back channels flow role (There e) w m =
+    subst (λ (r : Role). TakenBack channels flow r (turned (happens e (turned w)))) (twice role)
+    (turned_taken_back channels flow (other_of role) (happens e (turned w)) (happens_taken_back channels flow (other_of role) e (turned w) (turned_taken_back channels flow role w m)))
 
-all_taken_back : (channels window : ℕ) (role : Role) (hs : List Happening) (w : Line) → TakenBack channels window role w → TakenBack channels window role (after hs w)
-all_taken_back channels window role [] w m = m
-all_taken_back channels window role (h ∷ hs) w m = all_taken_back channels window role hs (after_one h w) (one_taken_back channels window role h w m)
+all_taken_back : (channels : ℕ) (flow : Flow) (role : Role) (hs : List Happening) (w : Line) → TakenBack channels flow role w → TakenBack channels flow role (after hs w)
+all_taken_back channels flow role [] w m = m
+all_taken_back channels flow role (h ∷ hs) w m = all_taken_back channels flow role hs (after_one h w) (one_taken_back channels flow role h w m)
 
 -- ---- within the limit
 
@@ -216,10 +218,10 @@ asked event w false e none h =
     let quiet : w ≡ unasked w = ap (λ (l : Layer). record w { me = record w.me { layer = l } }) (settled_bare w.me.layer e) in
     absurd (true≢false (sym h ∙ ap (λ (v : Line). (happens event v).me.layer.relink) quiet ∙ none))
 
-within_limit : (channels window : ℕ) (role : Role) (w : Line) → TakenBack channels window role w → WithinLimit w
-within_limit channels window role w m =
+within_limit : (channels : ℕ) (flow : Flow) (role : Role) (w : Line) → TakenBack channels flow role w → WithinLimit w
+within_limit channels flow role w m =
     let none : (event : Event) → is_restart_expiry event ≡ false → asks event w ≡ false = λ event e.
-    sym (asks_same m.0 m.1.0 m.1.1.0 m.1.1.1.0 event w) ∙ (happens_no_relink channels window role event (retold m.0 m.1.0 m.1.1.0 m.1.1.1.0 w) (other_event event e) m.1.1.1.1).me.quiet in
+    sym (asks_same m.0 m.1.0 m.1.1.0 m.1.1.1.0 event w) ∙ (happens_no_relink channels flow role event (retold m.0 m.1.0 m.1.1.0 m.1.1.1.0 w) (other_event event e) m.1.1.1.1).me.quiet in
     record {
       restarts = m.1.1.1.1.me.few;
       controls = λ c ch found. fits_in_most (is_r1 w.me.layer.phase) ch.state ch.resetting ch.owed (m.1.1.1.1.me.fits c ch found);
@@ -228,8 +230,8 @@ within_limit channels window role w m =
     }
 
 pub owed_holds : OwedLaw
-owed_holds channels window standing some small hs =
-    let w : Line = after hs (start_line channels window standing) in
-    let m = all_taken_back channels window Dte hs (start_line channels window standing)
-    ((start_line channels window standing).me.histories, ((start_line channels window standing).you.histories, ([], ([], start_no_relink channels window standing some small)))) in
-    (within_limit channels window Dte w m, within_limit channels window Dce (turned w) (turned_taken_back channels window Dte w m))
+owed_holds channels flow standing some small hs =
+    let w : Line = after hs (start_line channels flow standing) in
+    let m = all_taken_back channels flow Dte hs (start_line channels flow standing)
+    ((start_line channels flow standing).me.histories, ((start_line channels flow standing).you.histories, ([], ([], start_no_relink channels flow standing some small)))) in
+    (within_limit channels flow Dte w m, within_limit channels flow Dce (turned w) (turned_taken_back channels flow Dte w m))

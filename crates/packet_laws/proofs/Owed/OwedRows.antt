@@ -1,6 +1,7 @@
 -- Worked runs of a line with one channel on which as much is owed as may be, by computation.
 use Rattle.std.proofs.Common.{◌≡◌, ℕ, zero, suc, true, false, List, [], ◌∷◌, ◌++◌, Option, Some, refl}
 use Rattle.link_timers.specs.declared.role.Role.TheVariants.{Dce}
+use Rattle.packet_layer.specs.Flow.{modulo_8}
 use Rattle.packet_layer.specs.Packets.{CallParts, Body, Received}
 use Rattle.packet_layer.specs.Packets.Body.{Call, Accepted, Clear, Reset, Restart}
 use Rattle.packet_layer.specs.Channel.{Channel, CallState}
@@ -16,7 +17,7 @@ abbrev parts : List ℕ → CallParts
 parts digits = record { called = digits; calling = []; facilities = []; user_part = [] }
 
 abbrev run : List Happening → Line
-run hs = after hs (start_line 1 2 false)
+run hs = after hs (start_line 1 (modulo_8 2) false)
 
 -- the state of the channel, and what it owes
 abbrev Owes : Option Channel → CallState → List Body → Type 0
@@ -83,7 +84,7 @@ cleared_by_stranger zero l = l
 cleared_by_stranger (suc n) l = cleared_by_stranger n (on_packet l (Received.Whole (record { channel = 1; body = Clear 0 0 })))
 
 abbrev after_restart : Layer
-after_restart = on_packet (link_up (made Dce 1 2 false)) (Received.Whole (record { channel = 0; body = Restart 0 0 }))
+after_restart = on_packet (link_up (made Dce 1 (modulo_8 2) false)) (Received.Whole (record { channel = 0; body = Restart 0 0 }))
 
 four_clears : (cleared_by_stranger 4 after_restart).relink ≡ false
 four_clears = refl

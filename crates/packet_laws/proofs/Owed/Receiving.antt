@@ -3,6 +3,7 @@ use Rattle.std.proofs.Common.{◌≡◌, ℕ, ◌≤◌, Bool, true, false, cond
 use Rattle.std.proofs.lemmas.Bool.{eqb-true, eqb-false}
 use Rattle.link_timers.specs.declared.role.Role.{Role}
 use Rattle.link_timers.specs.declared.role.Role.TheVariants.{Dte, Dce}
+use Rattle.packet_channel.specs.declared.flow.Flow.{Flow}
 use Rattle.packet_layer.specs.Packets.{Body, Packet, Received, Reason}
 use Rattle.packet_layer.specs.Packets.Body.{Call, Accepted, Clear, ClearConfirmation, Data, Interrupt, InterruptConfirmation, ReceiveReady, ReceiveNotReady, Reset, ResetConfirmation, Restart, RestartConfirmation}
 use Rattle.packet_layer.specs.Traffic.{Traffic, Heard, hears}
@@ -29,46 +30,46 @@ heard_owed role c o tr (Keeps n t) = refl
 heard_owed role c o tr (Confirms t) = refl
 heard_owed role c o tr (Wrong d) = refl
 
-received_owed : (role : Role) (window c : ℕ) (s : CallState) (rs : Bool) (o : List Body) (tr : Traffic) (b : Body) → (received role window c (channel_with s rs o tr) b).channel.owed ≡ o
-received_owed role window c Ready rs o tr (Call p) = refl
-received_owed role window c Ready rs o tr (Clear x y) = refl
-received_owed role window c Ready rs o tr _ = refl
-received_owed role window c OwnWaiting rs o tr (Call p) = refl
-received_owed role window c OwnWaiting rs o tr Accepted = refl
-received_owed role window c OwnWaiting rs o tr (Clear x y) = refl
-received_owed role window c OwnWaiting rs o tr _ = refl
-received_owed role window c FarWaiting rs o tr (Clear x y) = refl
-received_owed role window c FarWaiting rs o tr _ = refl
-received_owed Dte window c Collision rs o tr Accepted = refl
-received_owed Dce window c Collision rs o tr Accepted = refl
-received_owed role window c Collision rs o tr (Clear x y) = refl
-received_owed role window c Collision rs o tr _ = refl
-received_owed role window c OwnClear rs o tr (Clear x y) = refl
-received_owed role window c OwnClear rs o tr ClearConfirmation = refl
-received_owed role window c OwnClear rs o tr _ = refl
-received_owed role window c Transfer true o tr (Clear x y) = refl
-received_owed role window c Transfer true o tr (Reset x y) = refl
-received_owed role window c Transfer true o tr ResetConfirmation = refl
-received_owed role window c Transfer true o tr _ = refl
-received_owed role window c Transfer false o tr (Clear x y) = refl
-received_owed role window c Transfer false o tr (Reset x y) = refl
-received_owed role window c Transfer false o tr ResetConfirmation = refl
-received_owed role window c Transfer false o tr (Data s n d) = heard_owed role c o tr (hears window tr (Data s n d))
-received_owed role window c Transfer false o tr (Interrupt q) = heard_owed role c o tr (hears window tr (Interrupt q))
-received_owed role window c Transfer false o tr InterruptConfirmation = heard_owed role c o tr (hears window tr InterruptConfirmation)
-received_owed role window c Transfer false o tr (ReceiveReady n) = heard_owed role c o tr (hears window tr (ReceiveReady n))
-received_owed role window c Transfer false o tr (ReceiveNotReady n) = heard_owed role c o tr (hears window tr (ReceiveNotReady n))
-received_owed role window c Transfer false o tr _ = refl
+received_owed : (role : Role) (flow : Flow) (c : ℕ) (s : CallState) (rs : Bool) (o : List Body) (tr : Traffic) (b : Body) → (received role flow c (channel_with s rs o tr) b).channel.owed ≡ o
+received_owed role flow c Ready rs o tr (Call p) = refl
+received_owed role flow c Ready rs o tr (Clear x y) = refl
+received_owed role flow c Ready rs o tr _ = refl
+received_owed role flow c OwnWaiting rs o tr (Call p) = refl
+received_owed role flow c OwnWaiting rs o tr Accepted = refl
+received_owed role flow c OwnWaiting rs o tr (Clear x y) = refl
+received_owed role flow c OwnWaiting rs o tr _ = refl
+received_owed role flow c FarWaiting rs o tr (Clear x y) = refl
+received_owed role flow c FarWaiting rs o tr _ = refl
+received_owed Dte flow c Collision rs o tr Accepted = refl
+received_owed Dce flow c Collision rs o tr Accepted = refl
+received_owed role flow c Collision rs o tr (Clear x y) = refl
+received_owed role flow c Collision rs o tr _ = refl
+received_owed role flow c OwnClear rs o tr (Clear x y) = refl
+received_owed role flow c OwnClear rs o tr ClearConfirmation = refl
+received_owed role flow c OwnClear rs o tr _ = refl
+received_owed role flow c Transfer true o tr (Clear x y) = refl
+received_owed role flow c Transfer true o tr (Reset x y) = refl
+received_owed role flow c Transfer true o tr ResetConfirmation = refl
+received_owed role flow c Transfer true o tr _ = refl
+received_owed role flow c Transfer false o tr (Clear x y) = refl
+received_owed role flow c Transfer false o tr (Reset x y) = refl
+received_owed role flow c Transfer false o tr ResetConfirmation = refl
+received_owed role flow c Transfer false o tr (Data s n d) = heard_owed role c o tr (hears flow tr (Data s n d))
+received_owed role flow c Transfer false o tr (Interrupt q) = heard_owed role c o tr (hears flow tr (Interrupt q))
+received_owed role flow c Transfer false o tr InterruptConfirmation = heard_owed role c o tr (hears flow tr InterruptConfirmation)
+received_owed role flow c Transfer false o tr (ReceiveReady n) = heard_owed role c o tr (hears flow tr (ReceiveReady n))
+received_owed role flow c Transfer false o tr (ReceiveNotReady n) = heard_owed role c o tr (hears flow tr (ReceiveNotReady n))
+received_owed role flow c Transfer false o tr _ = refl
 
-arrival_acts : (role : Role) (window c : ℕ) (ch : Channel) (b : Body) (ts : List Body) → restart_kind b ≡ Payload → Fits ch.state ch.resetting ch.owed → is_request (received role window c ch b).owes ≡ false
-    → AllCome role true ch.state ch.resetting ch.owed (b ∷ ts) → ActsAt role PacketReady ch (received role window c ch b) (b ∷ ts) ts
-arrival_acts role window c ch b ts plain f fault h =
-    let st : Step = received role window c ch b in
-    let is : st.channel.owed ≡ ch.owed = received_owed role window c ch.state ch.resetting ch.owed ch.traffic b in
+arrival_acts : (role : Role) (flow : Flow) (c : ℕ) (ch : Channel) (b : Body) (ts : List Body) → restart_kind b ≡ Payload → Fits ch.state ch.resetting ch.owed → is_request (received role flow c ch b).owes ≡ false
+    → AllCome role true ch.state ch.resetting ch.owed (b ∷ ts) → ActsAt role PacketReady ch (received role flow c ch b) (b ∷ ts) ts
+arrival_acts role flow c ch b ts plain f fault h =
+    let st : Step = received role flow c ch b in
+    let is : st.channel.owed ≡ ch.owed = received_owed role flow c ch.state ch.resetting ch.owed ch.traffic b in
     let comes : Comes role ch.state ch.resetting ch.owed b (λ s rs o. AllCome role true s rs o ts) =
     subst (λ (k : Kind). Hears role k true ch.state ch.resetting ch.owed b (λ q s rs o. AllCome role q s rs o ts)) plain h in
     let after : After st (λ s rs o. Fits s rs o × AllCome role true s rs o ts) =
-    received_comes role window c ch.state ch.resetting ch.owed ch.traffic b (λ s rs o. Fits s rs o × AllCome role true s rs o ts) fault
+    received_comes role flow c ch.state ch.resetting ch.owed ch.traffic b (λ s rs o. Fits s rs o × AllCome role true s rs o ts) fault
     (fits_comes role ch.state ch.resetting ch.owed b (λ s rs o. AllCome role true s rs o ts) f comes) in
     let here = subst (λ (o : List Body). Fits st.channel.state st.channel.resetting (said st.owes o) × AllCome role true st.channel.state st.channel.resetting (said st.owes o) ts) is after in
     record { owed_is = is; fits = here.0; comes = λ h'. here.1 }
@@ -127,7 +128,7 @@ restart_quiet l own _ r fault rl few = absurd r
 -- ---- any packet
 
 abbrev heard_step : Role → Layer → Packet → Channel → Step
-heard_step role l p ch = received role l.window p.channel ch p.body
+heard_step role l p ch = received role l.flow p.channel ch p.body
 
 ignored_comes : (role : Role) (k : Kind) (s : CallState) (rs : Bool) (o ts : List Body) (b : Body) → k ≡ Payload → Hears role k false s rs o b (λ q a v c. AllCome role q a v c ts) → AllCome role false s rs o ts
 ignored_comes role Payload s rs o ts b e h = h
@@ -138,7 +139,7 @@ here_acts : (role : Role) (l : Layer) (p : Packet) (ch : Channel) (ts : List Bod
     → ComesTo role l.phase ch (p.body ∷ ts) → ActsAt role l.phase ch (heard_step role l p ch) (p.body ∷ ts) ts
 here_acts role l p ch ts plain e fault f found h =
     subst (λ (ph : Phase). ActsAt role ph ch (heard_step role l p ch) (p.body ∷ ts) ts) (sym e)
-    (arrival_acts role l.window p.channel ch p.body ts plain (subst (λ (ph : Phase). FitsAt ph ch) e f)
+    (arrival_acts role l.flow p.channel ch p.body ts plain (subst (λ (ph : Phase). FitsAt ph ch) e f)
     (subst (λ (o : Option Channel). is_fault_on (record l { role = role }) p o ≡ false) found fault)
     (subst (λ (ph : Phase). ComesTo role ph ch (p.body ∷ ts)) e h))
 
@@ -203,8 +204,8 @@ pub arrival_turned : (role : Role) (l : Layer) (own : Bool) (p : Packet) (c : �
     → Turned role l (on_packet l (Received.Whole p)) c ch (cond ((p.channel == 0) || (p.channel == c)) (p.body ∷ ts) ts) ts
 arrival_turned role l own p c ch ts is well e fault f few found h =
     unread_turned role l (on_packet l (Received.Whole p)) c ch (cond ((p.channel == 0) || (p.channel == c)) (p.body ∷ ts) ts) ts
-    (subst (λ (r : Role). Turned role (unread l) (cond (p.channel == 0) (restart_packet l.phase p.body (unread l)) (on_channel l.phase (unread l) p.channel (λ q. received r l.window p.channel q p.body))) c ch (cond ((p.channel == 0) || (p.channel == c)) (p.body ∷ ts) ts) ts) (sym is)
-    (subst (λ (ph : Phase). Turned role (unread l) (cond (p.channel == 0) (restart_packet ph p.body (unread l)) (on_channel ph (unread l) p.channel (λ q. received role l.window p.channel q p.body))) c ch (cond ((p.channel == 0) || (p.channel == c)) (p.body ∷ ts) ts) ts) (sym e)
+    (subst (λ (r : Role). Turned role (unread l) (cond (p.channel == 0) (restart_packet l.phase p.body (unread l)) (on_channel l.phase (unread l) p.channel (λ q. received r l.flow p.channel q p.body))) c ch (cond ((p.channel == 0) || (p.channel == c)) (p.body ∷ ts) ts) ts) (sym is)
+    (subst (λ (ph : Phase). Turned role (unread l) (cond (p.channel == 0) (restart_packet ph p.body (unread l)) (on_channel ph (unread l) p.channel (λ q. received role l.flow p.channel q p.body))) c ch (cond ((p.channel == 0) || (p.channel == c)) (p.body ∷ ts) ts) ts) (sym e)
     (arrives_at role (unread l) own p c ch ts (p.channel == 0) (p.channel == c) refl refl well e (fault_role role l own p (p.channel == 0) is e fault) f few found h)))
 
 -- ---- the limit is not passed
@@ -236,6 +237,6 @@ known_unread role l p false k = k
 
 pub arrival_quiet : (role : Role) (l : Layer) (own : Bool) (p : Packet) → l.role ≡ role → l.phase ≡ phase_of own → NoFaultAt l.phase l p (p.channel == 0) → l.relink ≡ false → length l.owed ≤ 2 → Known role l p (p.channel == 0) → (on_packet l (Received.Whole p)).relink ≡ false
 arrival_quiet role l own p is e fault rl few k =
-    subst (λ (r : Role). (cond (p.channel == 0) (restart_packet l.phase p.body (unread l)) (on_channel l.phase (unread l) p.channel (λ q. received r l.window p.channel q p.body))).relink ≡ false) (sym is)
-    (subst (λ (ph : Phase). (cond (p.channel == 0) (restart_packet ph p.body (unread l)) (on_channel ph (unread l) p.channel (λ q. received role l.window p.channel q p.body))).relink ≡ false) (sym e)
+    subst (λ (r : Role). (cond (p.channel == 0) (restart_packet l.phase p.body (unread l)) (on_channel l.phase (unread l) p.channel (λ q. received r l.flow p.channel q p.body))).relink ≡ false) (sym is)
+    (subst (λ (ph : Phase). (cond (p.channel == 0) (restart_packet ph p.body (unread l)) (on_channel ph (unread l) p.channel (λ q. received role l.flow p.channel q p.body))).relink ≡ false) (sym e)
     (quiet_at role (unread l) own p (p.channel == 0) e (fault_role role l own p (p.channel == 0) is e fault) rl few (known_unread role l p (p.channel == 0) k)))

@@ -73,7 +73,7 @@ bare_channel n m l OwnRestart d F = refl
 bare_channel n m l NoSession d F = refl
 
 bare_packet : (n m : List Note) (l : Layer) (p : Packet) → bare n (on_packet (bare m l) (Received.Whole p)) ≡ bare n (on_packet l (Received.Whole p))
-bare_packet n m l p = bare_cond n (p.channel == 0) _ _ _ _ (bare_restart n [] (unread l) l.phase p.body) (bare_channel n [] (unread l) l.phase p.channel (λ ch. received l.role l.window p.channel ch p.body))
+bare_packet n m l p = bare_cond n (p.channel == 0) _ _ _ _ (bare_restart n [] (unread l) l.phase p.body) (bare_channel n [] (unread l) l.phase p.channel (λ ch. received l.role l.flow p.channel ch p.body))
 
 -- ---- a line of which the requests are taken back
 
@@ -113,7 +113,7 @@ cond_renoted n false x y x' y' p q = q
 
 found_renoted : (n : List Note) (l : Layer) (c : ℕ) (found : Option Channel) (others others' : Next) → others ≡ renoted n others' → serve_found (bare n l) c found others ≡ renoted n (serve_found l c found others')
 found_renoted n l c None others others' e = e
-found_renoted n l c (Some ch) others others' e = cond_renoted n (is_some (next_of l.window ch).body) _ others _ others' refl e
+found_renoted n l c (Some ch) others others' e = cond_renoted n (is_some (next_of l.flow ch).body) _ others _ others' refl e
 
 serve_renoted : (n : List Note) (k : ℕ) (l : Layer) (c : ℕ) → serve k (bare n l) c ≡ renoted n (serve k l c)
 serve_renoted n zero l c = refl

@@ -2,9 +2,9 @@
 ghost use Rattle.std.specs.Prelude.{◌≤◌, ◌+◌, ◌≡◌, [], length};
 ghost use Rattle.flow_window.specs.Pool.{Holds, Balances};
 ghost use Rattle.packet_layer.specs.Held.{HasRoom, most_held};
-ghost use Rattle.packet_codec.specs.Packet.{IsPacket};
+ghost use Rattle.packet_codec.specs.Packet.{IsContentOn};
 ghost use Rattle.packet_codec.specs.Reading.{named_channel};
-ghost use Rattle.packet_codec.specs.View.{view, content_view};
+ghost use Rattle.packet_codec.specs.View.{content_view};
 ghost use Rattle.packet_layer.specs.Layer as machine;
 ghost use Rattle.packet_channel.specs.Channel.{received};
 ghost use Rattle.packet_channel.specs.Octets.{body_of, unreadable_as};
@@ -15,7 +15,7 @@ use crate::restart::{Phase, RestartPacket};
 use flow_window::pool::Pool;
 use packet_channel::{Reason, error_cause};
 use packet_codec::{
-    Content, Numbering, Packet, PacketFault, diagnostic, logical_channel, read_packet,
+    Content, MAX_USER_DATA, Packet, PacketFault, diagnostic, logical_channel, read_packet,
     restart_cause,
 };
 
@@ -35,7 +35,7 @@ impl Layer {
         ensures few { length self.new.held ≤ most_held self.new.layer }
     {
         self.notes.clear();
-        match read_packet(octets, Numbering::Modulo8) {
+        match read_packet(octets, self.flow.numbering, MAX_USER_DATA as u16) {
             Ok(packet) => self.take_packet(&packet, pool),
             Err(PacketFault::TooShort | PacketFault::BadFormatId) => {}
             Err(PacketFault::UnknownType) => self.take_unreadable(octets, true, pool),
@@ -47,7 +47,7 @@ impl Layer {
 
     fn take_packet(&mut self, packet: &Packet<'_>, pool: &mut Pool)
         requires read { self.old.layer.notes ≡ [] }
-        requires fits { IsPacket (view packet.now) }
+        requires fits { IsContentOn self.old.layer.flow.numbering 128 packet.now.channel (content_view packet.now.content) }
         requires holds { Holds pool.old self.old.held }
         requires size { 128 ≤ pool.old.size }
         requires room { HasRoom pool.old self.old.held (most_held self.old.layer + 1) }
@@ -96,12 +96,12 @@ impl Layer {
     #[tactic(auto, using(crate::proofs::Placed::own_few, crate::proofs::Placed::few))]
     fn take_on_channel(&mut self, packet: &Packet<'_>, pool: &mut Pool)
         requires read { self.old.layer.notes ≡ [] }
-        requires fits { IsPacket (view packet.now) }
+        requires fits { IsContentOn self.old.layer.flow.numbering 128 packet.now.channel (content_view packet.now.content) }
         requires holds { Holds pool.old self.old.held }
         requires size { 128 ≤ pool.old.size }
         requires room { HasRoom pool.old self.old.held (most_held self.old.layer + 1) }
         ensures layer { self.new.layer ≡ machine.on_channel self.old.layer.phase self.old.layer packet.now.channel
-            (λ ch. received self.old.layer.role self.old.layer.window packet.now.channel ch
+            (λ ch. received self.old.layer.role self.old.layer.flow packet.now.channel ch
             (body_of (content_view packet.now.content))) }
         ensures pool { Balances pool.old self.old.held pool.new self.new.held }
         ensures most { most_held self.new.layer ≡ most_held self.old.layer }

@@ -19,9 +19,9 @@ impl Layer {
         requires holds { Holds pool.old self.old.held }
         ensures layer { self.new.layer ≡ (machine.next_packet self.old.layer).layer }
         ensures said { result ≡ is_some (machine.next_packet self.old.layer).packet }
-        ensures octets { buf.new.items ≡ written_packet (machine.next_packet self.old.layer).packet buf.old.items }
+        ensures octets { buf.new.items ≡ written_packet self.old.layer.flow (machine.next_packet self.old.layer).packet buf.old.items }
         // The far end hears that packet in them.
-        ensures heard { IsHeard (machine.next_packet self.old.layer).packet buf.new.items }
+        ensures heard { IsHeard self.old.layer.flow (machine.next_packet self.old.layer).packet buf.new.items }
         ensures pool { Balances pool.old self.old.held pool.new self.new.held }
         ensures most { most_held self.new.layer ≡ most_held self.old.layer }
         ensures few { length self.new.held ≤ most_held self.new.layer }
@@ -30,7 +30,7 @@ impl Layer {
             return false;
         }
         if let Some(packet) = self.owed.first() {
-            write_restart(*packet, buf);
+            write_restart(self.flow, *packet, buf);
             self.owed.drop_first();
             return true;
         }
@@ -48,9 +48,9 @@ impl Layer {
             ≡ is_some (machine.serve (length self.old.layer.channels) self.old.layer
             (machine.next_number self.old.layer self.old.layer.served_last)).packet }
         ensures octets { buf.new.items
-            ≡ written_packet (machine.serve (length self.old.layer.channels) self.old.layer
+            ≡ written_packet self.old.layer.flow (machine.serve (length self.old.layer.channels) self.old.layer
             (machine.next_number self.old.layer self.old.layer.served_last)).packet buf.old.items }
-        ensures reads_back { ReadsBack
+        ensures reads_back { ReadsBack self.old.layer.flow
             (machine.serve (length self.old.layer.channels) self.old.layer
             (machine.next_number self.old.layer self.old.layer.served_last)).packet buf.new.items }
         ensures pool { Balances pool.old self.old.held pool.new self.new.held }
@@ -87,8 +87,8 @@ impl Layer {
         ensures layer { self.new.layer ≡ (machine.serve (end - first) self.old.layer (first + 1)).layer }
         ensures said { result ≡ is_some (machine.serve (end - first) self.old.layer (first + 1)).packet }
         ensures octets { buf.new.items
-            ≡ written_packet (machine.serve (end - first) self.old.layer (first + 1)).packet buf.old.items }
-        ensures reads_back { ReadsBack (machine.serve (end - first) self.old.layer (first + 1)).packet buf.new.items }
+            ≡ written_packet self.old.layer.flow (machine.serve (end - first) self.old.layer (first + 1)).packet buf.old.items }
+        ensures reads_back { ReadsBack self.old.layer.flow (machine.serve (end - first) self.old.layer (first + 1)).packet buf.new.items }
         ensures pool { Balances pool.old self.old.held pool.new self.new.held }
         ensures most { most_held self.new.layer ≡ most_held self.old.layer }
         ensures few { length self.new.held ≤ most_held self.new.layer }
@@ -103,22 +103,23 @@ impl Layer {
     }
 
     // What one channel has. Where that is nothing, the channel need not be served again.
+    #[tactic(auto, using(packet_channel::proofs::Windows::window_small))]
     fn serve_channel(&mut self, place: usize, buf: &mut PacketBuf, pool: &mut Pool) -> bool
         requires place { place < length self.old.layer.channels }
         requires holds { Holds pool.old self.old.held }
         ensures layer { self.new.layer ≡ (machine.serve 1 self.old.layer (place + 1)).layer }
         ensures said { result ≡ is_some (machine.serve 1 self.old.layer (place + 1)).packet }
         ensures octets { buf.new.items
-            ≡ written_packet (machine.serve 1 self.old.layer (place + 1)).packet buf.old.items }
-        ensures reads_back { ReadsBack (machine.serve 1 self.old.layer (place + 1)).packet buf.new.items }
+            ≡ written_packet self.old.layer.flow (machine.serve 1 self.old.layer (place + 1)).packet buf.old.items }
+        ensures reads_back { ReadsBack self.old.layer.flow (machine.serve 1 self.old.layer (place + 1)).packet buf.new.items }
         ensures pool { Balances pool.old self.old.held pool.new self.new.held }
         ensures most { most_held self.new.layer ≡ most_held self.old.layer }
         ensures few { length self.new.held ≤ most_held self.new.layer }
     {
-        let window = self.window;
+        let flow = self.flow;
         let number = place as u8 + 1;
         let channel = &mut self.channels[place];
-        if channel.next_packet(window, number, buf, pool) {
+        if channel.next_packet(flow, number, buf, pool) {
             self.served_last = number;
             true
         } else {

@@ -10,7 +10,7 @@ returns-clause-end c =
     let line = c.in_ok-line.ensures.end.1 in
     let layer = c.in_ok-layer.ensures.1 in
     let k = ap (λ (x : LineEnd). x.end.link.k) line ∙ made_k c.args.role p.k p.n2 p.standing in
-    let most = ap (λ (x : Layer). most_held x.layer) layer ∙ made_most c.args.role p.channels p.window p.standing in
+    let most = ap (λ (x : Layer). most_held x.layer) layer ∙ made_most c.args.role p.channels p.flow p.standing in
     λ i. record {
       end = record {
         line = (line i).end;

@@ -53,11 +53,11 @@ invariant_of-self c =
     let a = c.self.inside in
     let held = c.index_mut-channel.result.now in
     let there = placed a c.args.self.now c.in-Some.place held c.self.view_is c.in-Some.ensures.1.there c.index_mut-channel.ensures.value in
-    layer_touched a c.insert.new.self c.in-Some.place held c.place_call.new.self true c.self.invariant c.insert.ensures there (fits_kept a.window held c.place_call.new.self _ c.place_call.ensures.channel)
+    layer_touched a c.insert.new.self c.in-Some.place held c.place_call.new.self true c.self.invariant c.insert.ensures there (fits_kept a.flow held c.place_call.new.self _ c.place_call.ensures.channel)
 
 pub invariant_of-self-else-place_call : goal.invariant_of-self-else-place_call
 invariant_of-self-else-place_call c =
     let a = c.self.inside in
     let held = c.index_mut-channel.result.now in
     let there = placed a c.args.self.now c.in-Some.place held c.self.view_is c.in-Some.ensures.1.there c.index_mut-channel.ensures.value in
-    layer_touched a c.insert.new.self c.in-Some.place held c.place_call.new.self c.self.inside.relink c.self.invariant c.insert.ensures there (fits_kept a.window held c.place_call.new.self _ c.place_call.ensures.channel)
+    layer_touched a c.insert.new.self c.in-Some.place held c.place_call.new.self c.self.inside.relink c.self.invariant c.insert.ensures there (fits_kept a.flow held c.place_call.new.self _ c.place_call.ensures.channel)

@@ -39,12 +39,12 @@ invariant_of-self c =
     let a = c.self.inside in
     let held = c.index_mut-channel.result.now in
     let there = placed a c.args.self.now c.in-Some.place held c.self.view_is c.in-Some.ensures.1 c.index_mut-channel.ensures.value in
-    layer_stepped a c.insert.new.self c.in-Some.place held c.expire-relink.new.self _ c.expire-relink.result c.expire-relink.new.notes c.self.invariant c.insert.ensures there (c.expire-relink.ensures.fits a.window) c.expire-relink.ensures.done
+    layer_stepped a c.insert.new.self c.in-Some.place held c.expire-relink.new.self _ c.expire-relink.result c.expire-relink.new.notes c.self.invariant c.insert.ensures there (c.expire-relink.ensures.fits a.flow) c.expire-relink.ensures.done
 
 pub returns-clause-few : goal.returns-clause-few
 returns-clause-few c =
     let a = c.self.inside in
     let held = c.index_mut-channel.result.now in
     let there = placed a c.args.self.now c.in-Some.place held c.self.view_is c.in-Some.ensures.1 c.index_mut-channel.ensures.value in
-    rw c.relink_if.ensures (few_after a.window a.channels.items c.in-Some.place held c.expire-relink.new.self c.self.invariant.fits there
-    (c.expire-relink.ensures.fits a.window))
+    rw c.relink_if.ensures (few_after a.flow a.channels.items c.in-Some.place held c.expire-relink.new.self c.self.invariant.fits there
+    (c.expire-relink.ensures.fits a.flow))

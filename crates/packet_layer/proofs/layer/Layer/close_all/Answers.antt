@@ -19,12 +19,12 @@ invariant_of-self c =
     let long = ap length written ∙ length-map items (λ (ch : Holder). closed) in
     let old = ap length c.deref_mut.ensures.value in
     record {
-      window = c.self.invariant.window;
+      flow = c.self.invariant.flow;
       channels = omega (arith, long, c.self.invariant.channels);
-      others = subst (OthersAreSilent c.self.inside.window c.new-self-inside.result) (sym (ap plain written ∙ plain_closed items))
-          (closed_are_silent c.self.inside.window c.new-self-inside.result (plain items));
+      others = subst (OthersAreSilent c.self.inside.flow c.new-self-inside.result) (sym (ap plain written ∙ plain_closed items))
+          (closed_are_silent c.self.inside.flow c.new-self-inside.result (plain items));
       notes = omega (arith, c.close_channels.ensures.most, old, c.self.invariant.channels);
-      fits = subst (AllFit c.self.inside.window) (sym written) (all_fit c.self.inside.window items);
+      fits = subst (AllFit c.self.inside.flow) (sym written) (all_fit c.self.inside.flow items);
     }
 
 pub returns-clause-layer : goal.returns-clause-layer

@@ -27,11 +27,11 @@ invariant_of-result c =
     let p = c.args.params in
     let long = ap length (channels-are c) ∙ made_length p.standing p.channels in
     record {
-      window = c.in_ok-check.ensures.window_most;
+      flow = c.in_ok-check.ensures.flow_is;
       channels = omega (arith, long, c.in_ok-check.ensures.channels_most);
-      others = subst (OthersAreSilent p.window _) (sym (ap plain (channels-are c) ∙ made_plain p.standing p.channels)) (made_silent p.window _ p.standing p.channels);
+      others = subst (OthersAreSilent p.flow _) (sym (ap plain (channels-are c) ∙ made_plain p.standing p.channels)) (made_silent p.flow _ p.standing p.channels);
       notes = rw c.in_ok-notes.ensures (omega arith);
-      fits = subst (AllFit p.window) (sym (channels-are c)) (made_fit p.window p.standing p.channels);
+      fits = subst (AllFit p.flow) (sym (channels-are c)) (made_fit p.flow p.standing p.channels);
     }
 
 pub returns : goal.returns
@@ -48,7 +48,7 @@ returns c =
       λ i. record {
         layer = record {
           role = c.args.role;
-          window = p.window;
+          flow = p.flow;
           channels = channels i;
           phase = phase i;
           owed = restart_bodies (c.new-3.ensures i);

@@ -6,7 +6,7 @@ returns-then-matches-clause-few c = own_few c.self.inside c.args.self.now c.self
 
 pub returns-in-Some-clause-few : goal.returns-in-Some-clause-few
 returns-in-Some-clause-few c =
-    few c.self.inside.window c.self.inside.channels.items c.self.invariant.fits
+    few c.self.inside.flow c.self.inside.channels.items c.self.invariant.fits
 
 pub returns-clause-few : goal.returns-clause-few
 returns-clause-few c = c.serve.ensures.few

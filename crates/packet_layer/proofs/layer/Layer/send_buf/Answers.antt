@@ -51,11 +51,11 @@ returns-clause-few c =
     let a = c.self.inside in
     let held = c.index_mut-channel.result.now in
     let there = placed a c.args.self.now c.in-Some.place held c.self.view_is c.in-Some.ensures.1 c.index_mut-channel.ensures.value in
-    few_after a.window a.channels.items c.in-Some.place held c.send_buf.new.self c.self.invariant.fits there (c.send_buf.ensures.fits a.window)
+    few_after a.flow a.channels.items c.in-Some.place held c.send_buf.new.self c.self.invariant.fits there (c.send_buf.ensures.fits a.flow)
 
 pub invariant_of-self : goal.invariant_of-self
 invariant_of-self c =
     let a = c.self.inside in
     let held = c.index_mut-channel.result.now in
     let there = placed a c.args.self.now c.in-Some.place held c.self.view_is c.in-Some.ensures.1 c.index_mut-channel.ensures.value in
-    layer_touched a c.insert.new.self c.in-Some.place held c.send_buf.new.self c.self.inside.relink c.self.invariant c.insert.ensures there (c.send_buf.ensures.fits a.window)
+    layer_touched a c.insert.new.self c.in-Some.place held c.send_buf.new.self c.self.inside.relink c.self.invariant c.insert.ensures there (c.send_buf.ensures.fits a.flow)

@@ -8,7 +8,7 @@ use Rattle.packet_layer.proofs.layer.Layer.serve.Goals as goal
 
 served_then : (c : goal.Then-serve_between) →
     let l = c.args.self.now.layer in
-    IsServed (serve (length l.channels) l (next_number l l.served_last)) c.serve_between.new.self.layer true
+    IsServed l.flow (serve (length l.channels) l (next_number l l.served_last)) c.serve_between.new.self.layer true
     c.args.buf.now.items c.serve_between.new.buf.items
 served_then c =
     first_part c.args.self.now.layer c.serve_between.new.self.layer c.len-count.result c.next_place-next.result
@@ -25,7 +25,7 @@ served_then c =
 
 served_else : (c : goal.After-serve_between-else-serve_between) →
     let l = c.args.self.now.layer in
-    IsServed (serve (length l.channels) l (next_number l l.served_last)) c.serve_between-else-serve_between.new.self.layer
+    IsServed l.flow (serve (length l.channels) l (next_number l l.served_last)) c.serve_between-else-serve_between.new.self.layer
     c.serve_between-else-serve_between.result c.args.buf.now.items c.serve_between-else-serve_between.new.buf.items
 served_else c =
     second_part c.args.self.now.layer c.serve_between.new.self.layer c.serve_between-else-serve_between.new.self.layer

@@ -11,7 +11,7 @@ use Rattle.packet_layer.specs.Held.{Layer as Held}
 use Rattle.packet_layer.proofs.layer.Layer.serve_between.Goals as goal
 
 served : (c : goal.Then-serve_channel) →
-    IsServed (serve (c.args.end - c.args.first) c.args.self.now.layer (c.args.first + 1)) c.serve_channel.new.self.layer
+    IsServed c.args.self.now.layer.flow (serve (c.args.end - c.args.first) c.args.self.now.layer (c.args.first + 1)) c.serve_channel.new.self.layer
     true c.args.buf.now.items c.serve_channel.new.buf.items
 served c =
     found c.args.self.now.layer c.loop-place.self.layer c.serve_channel.new.self.layer c.args.first c.args.end
@@ -26,7 +26,7 @@ served c =
     })
 
 none : (c : goal.In_default) →
-    IsServed (serve (c.args.end - c.args.first) c.args.self.now.layer (c.args.first + 1)) c.loop-place.self.layer
+    IsServed c.args.self.now.layer.flow (serve (c.args.end - c.args.first) c.args.self.now.layer (c.args.first + 1)) c.loop-place.self.layer
     false c.args.buf.now.items c.loop-place.buf.items
 none c =
     none_found c.args.self.now.layer c.loop-place.self.layer c.args.first c.args.end c.loop-place.places
@@ -83,8 +83,8 @@ loop-place-preserved c =
           c.loop-place.self.held c.serve_channel.new.self.held c.loop-place.invariant.pool c.serve_channel.ensures.pool;
       few = c.serve_channel.ensures.few;
       octets = c.serve_channel.ensures.octets
-          ∙ ap (λ (x : Layer). written_packet (serve 1 x (place + 1)).packet c.loop-place.buf.items) same
-          ∙ ap (λ (n : Next). written_packet n.packet c.loop-place.buf.items) nothing ∙ c.loop-place.invariant.octets;
+          ∙ ap (λ (x : Layer). written_packet x.flow (serve 1 x (place + 1)).packet c.loop-place.buf.items) same
+          ∙ ap (λ (n : Next). written_packet old.flow n.packet c.loop-place.buf.items) nothing ∙ c.loop-place.invariant.octets;
       passed = one_passed old c.args.first c.args.end place c.loop-place.places c.take_first.new.self
           c.loop-place.invariant.passed c.in-Some.ensures.first silent;
     }

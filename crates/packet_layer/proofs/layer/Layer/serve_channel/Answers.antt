@@ -20,7 +20,7 @@ there_else c =
     c.index_mut-channel.ensures.value
 
 served_then : (c : goal.After-self-then-next_packet-1) →
-    IsServed (serve 1 c.args.self.now.layer (c.args.place + 1))
+    IsServed c.args.self.now.layer.flow (serve 1 c.args.self.now.layer (c.args.place + 1))
     (record (layer_of c.self.inside) {
       channels = plain (set c.self.inside.channels.items c.args.place c.next_packet.new.self);
       served_last = c.args.place + 1;
@@ -32,7 +32,7 @@ served_then c =
     c.if-next_packet.ensures.channel c.if-next_packet.ensures.octets c.if-next_packet.ensures.reads_back
 
 served_else : (c : goal.After-remove) →
-    IsServed (serve 1 c.args.self.now.layer (c.args.place + 1))
+    IsServed c.args.self.now.layer.flow (serve 1 c.args.self.now.layer (c.args.place + 1))
     (record (layer_of c.self.inside) { channels = plain (set c.self.inside.channels.items c.args.place c.next_packet.new.self) })
     false c.args.buf.now.items c.next_packet.new.buf.items
 served_else c =
@@ -43,7 +43,7 @@ served_else c =
 pub invariant_of-self : goal.invariant_of-self
 invariant_of-self c =
     layer_spoke c.self.inside c.args.place c.index_mut-channel.result.now c.next_packet.new.self (c.args.place + 1) c.self.invariant
-    (there_then c) (sym c.if-next_packet.ensures.said) (c.next_packet.ensures.fits c.self.inside.window)
+    (there_then c) (sym c.if-next_packet.ensures.said) (c.next_packet.ensures.fits c.self.inside.flow)
 
 pub invariant_of-self-else-next_packet : goal.invariant_of-self-else-next_packet
 invariant_of-self-else-next_packet c =
@@ -69,8 +69,8 @@ returns-then-next_packet-clause-pool c =
 
 pub returns-then-next_packet-clause-few : goal.returns-then-next_packet-clause-few
 returns-then-next_packet-clause-few c =
-    few_after c.self.inside.window c.self.inside.channels.items c.args.place c.index_mut-channel.result.now c.next_packet.new.self
-    c.self.invariant.fits (there_then c) (c.next_packet.ensures.fits c.self.inside.window)
+    few_after c.self.inside.flow c.self.inside.channels.items c.args.place c.index_mut-channel.result.now c.next_packet.new.self
+    c.self.invariant.fits (there_then c) (c.next_packet.ensures.fits c.self.inside.flow)
 
 pub returns-else-next_packet-clause-layer : goal.returns-else-next_packet-clause-layer
 returns-else-next_packet-clause-layer c = (served_else c).layer
@@ -91,8 +91,8 @@ returns-else-next_packet-clause-pool c =
 
 pub returns-else-next_packet-clause-few : goal.returns-else-next_packet-clause-few
 returns-else-next_packet-clause-few c =
-    few_after c.self.inside.window c.self.inside.channels.items c.args.place c.index_mut-channel.result.now c.next_packet.new.self
-    c.self.invariant.fits (there_else c) (c.next_packet.ensures.fits c.self.inside.window)
+    few_after c.self.inside.flow c.self.inside.channels.items c.args.place c.index_mut-channel.result.now c.next_packet.new.self
+    c.self.invariant.fits (there_else c) (c.next_packet.ensures.fits c.self.inside.flow)
 
 pub next_packet-requires-clause-holds : goal.next_packet-requires-clause-holds
 next_packet-requires-clause-holds c =

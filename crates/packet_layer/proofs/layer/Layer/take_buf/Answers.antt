@@ -38,11 +38,11 @@ invariant_of-self c =
     let a = c.self.inside in
     let held = c.index_mut-channel.result.now in
     let there = placed a c.args.self.now c.in_ok-place.place held c.self.view_is c.in_ok-place.ensures.1 c.index_mut-channel.ensures.value in
-    layer_touched a c.insert.new.self c.in_ok-place.place held c.take_buf.new.self c.self.inside.relink c.self.invariant c.insert.ensures there (c.take_buf.ensures.fits a.window)
+    layer_touched a c.insert.new.self c.in_ok-place.place held c.take_buf.new.self c.self.inside.relink c.self.invariant c.insert.ensures there (c.take_buf.ensures.fits a.flow)
 
 pub returns-clause-few : goal.returns-clause-few
 returns-clause-few c =
     let a = c.self.inside in
     let held = c.index_mut-channel.result.now in
     let there = placed a c.args.self.now c.in_ok-place.place held c.self.view_is c.in_ok-place.ensures.1 c.index_mut-channel.ensures.value in
-    few_after a.window a.channels.items c.in_ok-place.place held c.take_buf.new.self c.self.invariant.fits there (c.take_buf.ensures.fits a.window)
+    few_after a.flow a.channels.items c.in_ok-place.place held c.take_buf.new.self c.self.invariant.fits there (c.take_buf.ensures.fits a.flow)

@@ -24,10 +24,10 @@ returns-clause-layer c =
     ∙ (rw (← c.self.view_is) (ap (λ chs. record l { channels = chs; relink = set_if c.take_packet-relink.result l.relink; notes = c.take_packet-relink.new.notes }) (plain_set a.channels.items c.in-Some.place c.take_packet-relink.new.self)
     ∙ packet_taken l c.args.packet.now.channel c.in-Some.place
     ch c.take_packet-relink.new.self.channel (body_of (content_view c.args.packet.now.content))
-    c.take_packet-relink.result c.take_packet-relink.new.notes c.end-end.result.role c.end-end.result.window c.end-end.result.channel
+    c.take_packet-relink.result c.take_packet-relink.new.notes c.end-end.result.role c.end-end.result.flow c.end-end.result.channel
     (ap phase_of c.in-PacketReady.is) c.in-Some.ensures.0 found (ap (λ (x : Held). x.layer.notes) c.self.view_is ∙ c.requires.read)
     (c.end-end.ensures.role ∙ ap (λ (x : Held). x.layer.role) (sym c.self.view_is))
-    (c.end-end.ensures.window ∙ ap (λ (x : Held). x.layer.window) (sym c.self.view_is))
+    (c.end-end.ensures.flow ∙ ap (λ (x : Held). x.layer.flow) (sym c.self.view_is))
     c.end-end.ensures.channel
     c.take_packet-relink.ensures.done))
 
@@ -54,12 +54,12 @@ invariant_of-self c =
     let a = c.self.inside in
     let held = c.index_mut-channel.result.now in
     let there = placed a c.args.self.now c.in-Some.place held c.self.view_is c.in-Some.ensures.1 c.index_mut-channel.ensures.value in
-    layer_stepped a c.insert.new.self c.in-Some.place held c.take_packet-relink.new.self _ c.take_packet-relink.result c.take_packet-relink.new.notes c.self.invariant c.insert.ensures there (rw_fits a.window c.end-end.result.window held c.take_packet-relink.new.self (c.end-end.ensures.window ∙ ap (λ (x : Held). x.layer.window) (sym c.self.view_is)) c.take_packet-relink.ensures.fits) c.take_packet-relink.ensures.done
+    layer_stepped a c.insert.new.self c.in-Some.place held c.take_packet-relink.new.self _ c.take_packet-relink.result c.take_packet-relink.new.notes c.self.invariant c.insert.ensures there (rw_fits a.flow c.end-end.result.flow held c.take_packet-relink.new.self (c.end-end.ensures.flow ∙ ap (λ (x : Held). x.layer.flow) (sym c.self.view_is)) c.take_packet-relink.ensures.fits) c.take_packet-relink.ensures.done
 
 pub returns-clause-few : goal.returns-clause-few
 returns-clause-few c =
     let a = c.self.inside in
     let held = c.index_mut-channel.result.now in
     let there = placed a c.args.self.now c.in-Some.place held c.self.view_is c.in-Some.ensures.1 c.index_mut-channel.ensures.value in
-    rw c.relink_if.ensures (few_after a.window a.channels.items c.in-Some.place held c.take_packet-relink.new.self c.self.invariant.fits there
-    (rw_fits a.window c.end-end.result.window held c.take_packet-relink.new.self (c.end-end.ensures.window ∙ ap (λ (x : Held). x.layer.window) (sym c.self.view_is)) c.take_packet-relink.ensures.fits))
+    rw c.relink_if.ensures (few_after a.flow a.channels.items c.in-Some.place held c.take_packet-relink.new.self c.self.invariant.fits there
+    (rw_fits a.flow c.end-end.result.flow held c.take_packet-relink.new.self (c.end-end.ensures.flow ∙ ap (λ (x : Held). x.layer.flow) (sym c.self.view_is)) c.take_packet-relink.ensures.fits))

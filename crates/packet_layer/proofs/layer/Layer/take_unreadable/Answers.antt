@@ -43,12 +43,12 @@ invariant_of-self c =
     let a = c.self.inside in
     let held = c.index_mut-channel.result.now in
     let there = placed a c.args.self.now c.in-Some-place.place held c.self.view_is c.in-Some-place.ensures.1 c.index_mut-channel.ensures.value in
-    layer_stepped a c.insert.new.self c.in-Some-place.place held c.take_unreadable-relink.new.self _ c.take_unreadable-relink.result c.take_unreadable-relink.new.notes c.self.invariant c.insert.ensures there (c.take_unreadable-relink.ensures.fits a.window) c.take_unreadable-relink.ensures.done
+    layer_stepped a c.insert.new.self c.in-Some-place.place held c.take_unreadable-relink.new.self _ c.take_unreadable-relink.result c.take_unreadable-relink.new.notes c.self.invariant c.insert.ensures there (c.take_unreadable-relink.ensures.fits a.flow) c.take_unreadable-relink.ensures.done
 
 pub returns-clause-few : goal.returns-clause-few
 returns-clause-few c =
     let a = c.self.inside in
     let held = c.index_mut-channel.result.now in
     let there = placed a c.args.self.now c.in-Some-place.place held c.self.view_is c.in-Some-place.ensures.1 c.index_mut-channel.ensures.value in
-    rw c.relink_if.ensures (few_after a.window a.channels.items c.in-Some-place.place held c.take_unreadable-relink.new.self c.self.invariant.fits there
-    (c.take_unreadable-relink.ensures.fits a.window))
+    rw c.relink_if.ensures (few_after a.flow a.channels.items c.in-Some-place.place held c.take_unreadable-relink.new.self c.self.invariant.fits there
+    (c.take_unreadable-relink.ensures.fits a.flow))

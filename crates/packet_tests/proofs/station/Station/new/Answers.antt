@@ -8,9 +8,9 @@ pub invariant_of-result : goal.invariant_of-result
 invariant_of-result c =
     let p = c.args.params in
     let layer = c.in_ok-layer.ensures.1 in
-    let most = ap (λ (x : Layer). most_held x.layer) layer ∙ made_most c.args.role p.channels p.window p.standing in
+    let most = ap (λ (x : Layer). most_held x.layer) layer ∙ made_most c.args.role p.channels p.flow p.standing in
     let buffers = c.from.result * (c.from-2.result + 8) + 1 in
-    let asked : buffers ≡ p.channels * (p.window + 8) + 1 = λ i. c.from.ensures i * (c.from-2.ensures i + 8) + 1 in
+    let asked : buffers ≡ p.channels * (p.flow.window + 8) + 1 = λ i. c.from.ensures i * (c.from-2.ensures i + 8) + 1 in
     let there = ap (λ (x : Pool). length x.places) c.in_ok-pool.ensures.map ∙ replicated buffers _ in
     record {
       size = ap (λ (x : Pool). x.size) c.in_ok-pool.ensures.map;
