@@ -101,8 +101,8 @@ record_call false c m g b e h = absurd (none-some m (sym h ∙ e))
 pub call_present : (ls : List SwitchLine) (bs : Books) (x : SwitchChannel) (shown : Shown) → Beside ls bs → shown_at (layers_of ls) x ≡ Some shown → had_call shown.channel.state ≡ true → (m : ℕ) × (present_at x bs ≡ Some m)
 call_present ls bs x shown b e call =
     let s = seen_at ls bs x b (ap (λ (o : Option Shown). is_some o) e) in
-    let is : record { role = s.layer.role; window = s.layer.window; channel = s.channel } ≡ shown =
-    same_Some (record { role = s.layer.role; window = s.layer.window; channel = s.channel }) shown (sym (ap (λ (y : Option Layer). shown_on y x.channel) s.there ∙ ap (λ (o : Option Channel). shown_as s.layer o) s.found) ∙ e) in
+    let is : record { role = s.layer.role; flow = s.layer.flow; channel = s.channel } ≡ shown =
+    same_Some (record { role = s.layer.role; flow = s.layer.flow; channel = s.channel }) shown (sym (ap (λ (y : Option Layer). shown_on y x.channel) s.there ∙ ap (λ (o : Option Channel). shown_as s.layer o) s.found) ∙ e) in
     call_record (had_call s.channel.state) x.channel (b.legs x) (bs x.line) (ap (λ (y : Shown). had_call y.channel.state) is ∙ call) s.has
 
 -- ---- a free channel

@@ -10,6 +10,8 @@ use Rattle.lapb.specs.declared.note.Note as link_note
 use Rattle.lapb.specs.declared.note.Note.TheVariants.{Nothing, Up, Down}
 use Rattle.lapb.specs.Machine.{Octets, on_t1, can_offer}
 use Rattle.lapb.specs.Octets.{on_octets}
+use Rattle.packet_channel.proofs.Windows.{window_below}
+use Rattle.packet_channel.specs.declared.flow.Flow.{Flow}
 use Rattle.packet_layer.specs.Packets.{CallParts, Note, Packet, Received}
 use Rattle.packet_layer.specs.Packets.Note.{Incoming, Connected, Closed, WasReset, InterruptConfirmed, Covered}
 use Rattle.packet_layer.specs.Octets.{heard}
@@ -189,9 +191,9 @@ heard_quiet : (n : ℕ) (o : Option Received) → Every IsQuietAct (heard_acts n
 heard_quiet n None = tt
 heard_quiet n (Some r) = (tt, tt)
 
-packets_quiet : (n : ℕ) (o : Option Octets) → Every IsQuietAct (packet_acts n o)
-packets_quiet n None = tt
-packets_quiet n (Some octets) = heard_quiet n (heard octets)
+packets_quiet : (n : ℕ) (flow : Flow) (o : Option Octets) → Every IsQuietAct (packet_acts n flow o)
+packets_quiet n flow None = tt
+packets_quiet n flow (Some octets) = heard_quiet n (heard flow octets)
 
 timers_quiet : (n : ℕ) (o : Option Timer) → Every IsQuietAct (timer_acts n o)
 timers_quiet n None = tt
@@ -202,7 +204,7 @@ expiry_quiet n T1 e = notes_quiet n (on_t1 e.line.link).note
 expiry_quiet n id e = timers_quiet n (timer_named e.layer.role id)
 
 pub happening_quiet : (n : ℕ) (what : Happening) (e : PacketEnd) → Every IsQuietAct (happening_acts n what e)
-happening_quiet n (Brings octets) e = quiet_then (note_acts n (on_octets e.line.link octets).note) (packet_acts n (on_octets e.line.link octets).accepted) (notes_quiet n (on_octets e.line.link octets).note) (packets_quiet n (on_octets e.line.link octets).accepted)
+happening_quiet n (Brings octets) e = quiet_then (note_acts n (on_octets e.line.link octets).note) (packet_acts n e.layer.flow (on_octets e.line.link octets).accepted) (notes_quiet n (on_octets e.line.link octets).note) (packets_quiet n e.layer.flow (on_octets e.line.link octets).accepted)
 happening_quiet n (RunsOut id) e = if_quiet (runs_at e id) _ [] (expiry_quiet n id e) tt
 happening_quiet n Relinks e = (tt, tt)
 
@@ -334,7 +336,7 @@ layer_kept s Dce b l k = k.joint.yours.layer
 kept_answered : (s : Setting) (role : Role) (b : Book) (l : Line) (c : ℕ) (ch : Channel) → Kept s b l → channel_of (end_at role l).layer c ≡ Some ch → may_accept role ch.state ≡ true → is_some (slot_at role c b).caller ≡ true
 kept_answered s role b l c ch k e may =
     let a : AreAnswered (after_all k.moves (beginning s)) =
-    are_answered s.dte_node s.dce_node s.dte.channels s.dte.window s.dte.standing k.setting.dte.layer.channels_least k.setting.dte.layer.window_most k.moves k.allowed in
+    are_answered s.dte_node s.dce_node s.dte.channels s.dte.flow s.dte.standing k.setting.dte.layer.channels_least (window_below _ k.setting.dte.layer.flow_is) k.moves k.allowed in
     subst (λ (x : Book). is_some (slot_at role c x).caller ≡ true) k.book (a.came role c ch (ap (λ (y : Layer). channel_of y c) (layer_kept s role b l k) ∙ e) may)
 
 -- no two records came in from the same one
@@ -345,10 +347,10 @@ kept_once s b l k m n x = subst (λ (y : Book). slice_get (callers_in y) m ≡ S
     w = after_all k.moves (beginning s)
 
     are : callers_in w.book ≡ all_callers k.moves (beginning s) (made_callers s.dte.standing)
-    are = callers_recorded s.dte_node s.dce_node s.dte.channels s.dte.window s.dte.standing k.setting.dte.layer.channels_least k.setting.dte.layer.window_most k.moves k.allowed
+    are = callers_recorded s.dte_node s.dce_node s.dte.channels s.dte.flow s.dte.standing k.setting.dte.layer.channels_least (window_below _ k.setting.dte.layer.flow_is) k.moves k.allowed
 
     calls : CallsHold w.book (all_callers k.moves (beginning s) (made_callers s.dte.standing))
-    calls = calls_hold s.dte_node s.dce_node s.dte.channels s.dte.window s.dte.standing k.setting.dte.layer.channels_least k.setting.dte.layer.window_most k.moves k.allowed
+    calls = calls_hold s.dte_node s.dce_node s.dte.channels s.dte.flow s.dte.standing k.setting.dte.layer.channels_least (window_below _ k.setting.dte.layer.flow_is) k.moves k.allowed
 
     once : slice_get (callers_in w.book) m ≡ Some (Some x) → slice_get (callers_in w.book) n ≡ Some (Some x) → m ≡ n
     once e f = calls.once m n x (ap (λ (cs : List (Option ℕ)). slice_get cs m) (sym are) ∙ e) (ap (λ (cs : List (Option ℕ)). slice_get cs n) (sym are) ∙ f)
@@ -369,7 +371,7 @@ kept_connected s role b l c ch k e up = subst (λ (x : Book). AnsweredAt role c 
     w = after_all k.moves (beginning s)
 
     a : AreAnswered w
-    a = are_answered s.dte_node s.dce_node s.dte.channels s.dte.window s.dte.standing k.setting.dte.layer.channels_least k.setting.dte.layer.window_most k.moves k.allowed
+    a = are_answered s.dte_node s.dce_node s.dte.channels s.dte.flow s.dte.standing k.setting.dte.layer.channels_least (window_below _ k.setting.dte.layer.flow_is) k.moves k.allowed
 
     there : channel_of (layer_at role w) c ≡ Some ch
     there = ap (λ (y : Layer). channel_of y c) (layer_kept s role b l k) ∙ e
@@ -472,7 +474,7 @@ line_of_shown ls x shown e = by_line (slice_get ls x.line) refl
     by_channel : (l : SwitchLine) (o : Option Channel) → slice_get ls x.line ≡ Some l → channel_of l.end.layer x.channel ≡ o → OnLine ls x shown
     by_channel l None f g = absurd (none-some shown (sym (ap (λ (y : Option Layer). shown_on y x.channel) (layer_is ∙ ap (λ (o : Option SwitchLine). option_map (λ l. l.end.layer) o) f) ∙ ap (λ (o : Option Channel). shown_as l.end.layer o) g) ∙ e))
     by_channel l (Some ch) f g =
-        let is : record { role = l.end.layer.role; window = l.end.layer.window; channel = ch } ≡ shown =
+        let is : record { role = l.end.layer.role; flow = l.end.layer.flow; channel = ch } ≡ shown =
         same_Some _ shown (sym (ap (λ (y : Option Layer). shown_on y x.channel) (layer_is ∙ ap (λ (o : Option SwitchLine). option_map (λ l. l.end.layer) o) f) ∙ ap (λ (o : Option Channel). shown_as l.end.layer o) g) ∙ e) in
         record { line = l; there = f; channel = g ∙ ap (λ (y : Shown). Some y.channel) is; role = ap (λ (y : Shown). y.role) is }
 

@@ -1,11 +1,11 @@
 -- What one channel more or less makes of a set of channels.
-use Rattle.std.proofs.Common.{◌≡◌, ◌≢◌, ℕ, ◌<◌, ◌⊎◌, inl, inr, Bool, true, false, not, ◌&&◌, ◌||◌, ◌==◌, List, length, get_or, set, Some, refl, sym, ap, ap₂, ◌∙◌, true≢false, get_or-set_other, get_or-set_same, zero, suc}
+use Rattle.std.proofs.Common.{◌≡◌, ◌≢◌, ℕ, ◌<◌, ◌⊎◌, inl, inr, Bool, true, false, not, ◌&&◌, ◌||◌, ◌==◌, List, length, get_or, set, Option, Some, None, refl, sym, ap, ap₂, ◌∙◌, true≢false, get_or-set_other, get_or-set_same, zero, suc}
 use Rattle.std.specs.Prelude.{replicate}
 use Rattle.std.proofs.lemmas.Nat.Bits.{bit_at-zero}
 use Rattle.std.proofs.lemmas.Bool.{eq-eqb, ne_eqb, cases_eq, lt-ltb, or_parts}
 use Rattle.number_set.specs.declared.NumberSet.{NumberSet}
 use Rattle.number_set.specs.NumberSet as numbers
-use Rattle.switch_joins.specs.ChannelSet.{empty, has, is_small, IsApart}
+use Rattle.switch_joins.specs.ChannelSet.{empty, has, is_small, is_of_join}
 use Rattle.switch_joins.specs.declared.channel_set.ChannelSet.{ChannelSet}
 use Rattle.switch_joins.specs.Joins.{SwitchChannel, same_place}
 use Rattle.switch_joins.proofs.Apart.{decided, place_is}
@@ -75,23 +75,35 @@ none_inserted p x b out = sym (ap (λ (c : Bool). b || (c && same_place p x)) ou
 pub none_removed : (p x : SwitchChannel) (b : Bool) → is_small x ≡ false → b ≡ (b && not (is_small x && same_place p x))
 none_removed p x b out = sym (ap (λ (c : Bool). b && not (c && same_place p x)) out ∙ and_yes b)
 
--- a channel that is not in a set after one was added
-pub not_added : (s t : ChannelSet) (x p : SwitchChannel) → ((q : SwitchChannel) → has t q ≡ (has s q || (is_small x && same_place q x)))
-    → has t p ≡ false → (has s p ≡ false) × (is_small x ≡ true → p ≢ x)
-not_added s t x p adds out =
-    let parts = or_parts (has s p) (is_small x && same_place p x) (sym (adds p) ∙ out) in
-    (parts.0, λ small same. true≢false (sym (ap₂ (λ (a b : Bool). a && b) small (here same)) ∙ parts.1))
-  where
-    here : p ≡ x → same_place p x ≡ true
-    here same = ap₂ (λ (a b : Bool). a && b) (eq-eqb p.line x.line (ap (λ (q : SwitchChannel). q.line) same)) (eq-eqb p.channel x.channel (ap (λ (q : SwitchChannel). q.channel) same))
+-- two channels are added
+or_more : (a b c : Bool) → (a || b || c) ≡ (a || (b || c))
+or_more true b c = refl
+or_more false b c = refl
 
 pub both_added : (s t u : ChannelSet) (x y p : SwitchChannel) → ((q : SwitchChannel) → has t q ≡ (has s q || (is_small x && same_place q x)))
     → ((q : SwitchChannel) → has u q ≡ (has t q || (is_small y && same_place q y)))
-    → has u p ≡ false → (has s p ≡ false) × IsApart p x (Some y)
-both_added s t u x y p adds more out =
-    let second = not_added t u y p more out in
-    let first = not_added s t x p adds second.0 in
-    (first.0, (first.1, second.1))
+    → has u p ≡ (has s p || is_of_join p x (Some y))
+both_added s t u x y p adds more =
+    more p ∙ ap (λ (b : Bool). b || is_small y && same_place p y) (adds p) ∙ or_more (has s p) (is_small x && same_place p x) (is_small y && same_place p y)
+
+-- a channel is neither this one nor the one that it is joined to
+abbrev pub IsApart : (p place : SwitchChannel) → (other : Option SwitchChannel) → Type 0
+IsApart p place None = Unit {0}
+IsApart p place (Some other) = (is_small place ≡ true → p ≢ place) × (is_small other ≡ true → p ≢ other)
+
+-- a channel that is not in a set after a join was added
+pub not_of_join : (s t : ChannelSet) (x : SwitchChannel) (other : Option SwitchChannel) → ((q : SwitchChannel) → has t q ≡ (has s q || is_of_join q x other))
+    → (p : SwitchChannel) → has t p ≡ false → (has s p ≡ false) × IsApart p x other
+not_of_join s t x None adds p out = (sym (adds p ∙ or_no (has s p)) ∙ out, tt)
+not_of_join s t x (Some y) adds p out =
+    let parts = or_parts (has s p) (is_of_join p x (Some y)) (sym (adds p) ∙ out) in
+    let ends = or_parts (is_small x && same_place p x) (is_small y && same_place p y) parts.1 in
+    (parts.0, (apart x ends.0, apart y ends.1))
+  where
+    apart : (z : SwitchChannel) → (is_small z && same_place p z) ≡ false → is_small z ≡ true → p ≢ z
+    apart z none small same =
+        let here : same_place p z ≡ true = ap₂ (λ (a b : Bool). a && b) (eq-eqb p.line z.line (ap (λ (q : SwitchChannel). q.line) same)) (eq-eqb p.channel z.channel (ap (λ (q : SwitchChannel). q.channel) same)) in
+        true≢false (sym (ap₂ (λ (a b : Bool). a && b) small here) ∙ none)
 
 -- a channel that is in a set after others may have been added
 pub still_in : (a b : Bool) → a ≡ true → (a || b) ≡ true

@@ -9,10 +9,10 @@ take_at_least zero (x ∷ xs) le = absurd (omega arith)
 take_at_least (suc n) [] le = refl
 take_at_least (suc n) (x ∷ xs) le = ap (λ ys. x ∷ ys) (take_at_least n xs (omega arith))
 
-pub one_kept : (held : List ℕ) (x : ℕ) → length held < 7 → held ++ x ∷ [] ≡ kept_places (held ++ x ∷ [])
-one_kept held x lt = sym (take_at_least 7 (held ++ x ∷ []) (omega (arith, length-append held (x ∷ []))))
+pub one_kept : (held : List ℕ) (x : ℕ) → length held < 32 → held ++ x ∷ [] ≡ kept_places (held ++ x ∷ [])
+one_kept held x lt = sym (take_at_least 32 (held ++ x ∷ []) (omega (arith, length-append held (x ∷ []))))
 
-pub none_kept : (held : List ℕ) (x : ℕ) → 7 ≤ length held → length held ≤ 7 → held ≡ kept_places (held ++ x ∷ [])
+pub none_kept : (held : List ℕ) (x : ℕ) → 32 ≤ length held → length held ≤ 32 → held ≡ kept_places (held ++ x ∷ [])
 none_kept held x ge le =
-    let same : length held ≡ 7 = omega arith in
+    let same : length held ≡ 32 = omega arith in
     sym (ap (λ n. take n (held ++ x ∷ [])) (sym same) ∙ take-append_seam held (x ∷ []))

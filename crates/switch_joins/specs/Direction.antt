@@ -13,13 +13,13 @@ pub record Direction : Type 0 where
 abbrev pub new_direction : Direction
 new_direction = record { held = []; outstanding = 0 }
 
--- one packet more is sent on: there is a place for 7 that are not released, as many as the largest window has, and the
+-- one packet more is sent on: there is a place for 32 that are not released, as many as the largest window has, and the
 -- count of those that are not covered is an octet
 abbrev pub one_more : ℕ → ℕ
 one_more outstanding = min (outstanding + 1) 255
 
 abbrev pub kept_places : List ℕ → List ℕ
-kept_places held = take 7 held
+kept_places held = take 32 held
 
 -- a packet that was taken, with D = 1 or not, is sent on
 abbrev pub carried : (delivery : Bool) → Direction → Direction

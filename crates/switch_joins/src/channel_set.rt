@@ -1,6 +1,6 @@
 //! Sets of channels of the lines of a switch.
 ghost use Rattle.std.specs.Prelude.{◌≡◌, ℕ, ◌<◌, ◌≤◌, false, ◌||◌, ◌&&◌, not, MatchOption};
-ghost use Rattle.switch_joins.specs.ChannelSet.{has, is_small, IsApart};
+ghost use Rattle.switch_joins.specs.ChannelSet.{has, is_small, is_of_join};
 ghost use Rattle.switch_joins.specs.Joins.{same_place};
 
 use crate::channels::{MOST_LINES, SwitchChannel};
@@ -46,7 +46,7 @@ impl ChannelSet {
 
     /// Adds a joined channel and the one that it is joined to.
     pub fn insert_join(&mut self, place: SwitchChannel, other: Option<SwitchChannel>)
-        ensures { (p : SwitchChannel) → has self.new p ≡ false → (has self.old p ≡ false) × IsApart p place other }
+        ensures { (p : SwitchChannel) → has self.new p ≡ (has self.old p || is_of_join p place other) }
     {
         if let Some(other) = other {
             self.insert(place);

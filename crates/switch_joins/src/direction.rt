@@ -17,7 +17,7 @@ pub enum Change {
 }
 
 /// The most packets of a call that are taken and not released: no window is larger.
-const MOST_HELD: usize = 7;
+const MOST_HELD: usize = 32;
 
 /// How many more packets of the far leg have to be covered, for each packet that was taken on the near leg and is not
 /// released, until this one is; and how many packets sent on the far leg are not covered.
@@ -35,7 +35,7 @@ impl Model for Direction {
 
     ghost view = { λ d. record { held = d.held.items; outstanding = d.outstanding } };
 
-    ghost invariant = { λ d. length d.held.items ≤ 7 };
+    ghost invariant = { λ d. length d.held.items ≤ 32 };
 }
 
 impl Direction {

@@ -2,6 +2,7 @@
 use Rattle.std.proofs.Common.{◌≡◌, ℕ, ◌⊎◌, inl, inr, Bool, true, false, cond, ◌==◌, List, [], ◌∷◌, refl, sym, ◌∙◌, true≢false}
 use Rattle.link_timers.specs.declared.role.Role.{Role}
 use Rattle.link_timers.specs.declared.role.Role.TheVariants.{Dte, Dce}
+use Rattle.packet_channel.specs.declared.flow.Flow.{Flow}
 use Rattle.packet_layer.specs.Packets.{Body, Note}
 use Rattle.packet_layer.specs.Packets.Body.{Call, Accepted, Clear, ClearConfirmation, Data, Interrupt, InterruptConfirmation, ReceiveReady, ReceiveNotReady, Reset, ResetConfirmation}
 use Rattle.packet_layer.specs.Packets.Note.{Incoming, Closed, Covered}
@@ -44,69 +45,69 @@ heard_ends n d role ch (Keeps k t) = by_none (k == 0)
 heard_ends n d role ch (Confirms t) = tt
 heard_ends n d role ch (Wrong x) = tt
 
-abbrev Receives : ℕ → Role → ℕ → ℕ → Channel → Body → Type 0
-Receives n role window d ch p = StepCalls n d ch (received role window d ch p)
+abbrev Receives : ℕ → Role → Flow → ℕ → Channel → Body → Type 0
+Receives n role flow d ch p = StepCalls n d ch (received role flow d ch p)
 
-ready : (n : ℕ) (role : Role) (rs : Bool) (window d : ℕ) (p : Body) (ch : Channel) → Receives n role window d (ch_in Ready rs ch) p
-ready n role rs window d (Call parts) ch = record { begins = λ h. inr (inl refl); ends = λ h. tt }
-ready n role rs window d (Clear cause diagnostic) ch = no_call_after n d _ _ refl
-ready n role rs window d p ch = no_call_after n d (ch_in Ready rs ch) (received role window d (ch_in Ready rs ch) p) refl
+ready : (n : ℕ) (role : Role) (rs : Bool) (flow : Flow) (d : ℕ) (p : Body) (ch : Channel) → Receives n role flow d (ch_in Ready rs ch) p
+ready n role rs flow d (Call parts) ch = record { begins = λ h. inr (inl refl); ends = λ h. tt }
+ready n role rs flow d (Clear cause diagnostic) ch = no_call_after n d _ _ refl
+ready n role rs flow d p ch = no_call_after n d (ch_in Ready rs ch) (received role flow d (ch_in Ready rs ch) p) refl
 
-own_waiting : (n : ℕ) (role : Role) (rs : Bool) (window d : ℕ) (p : Body) (ch : Channel) → Receives n role window d (ch_in OwnWaiting rs ch) p
-own_waiting n role rs window d Accepted ch = call_before n d _ _ refl tt
-own_waiting n Dte rs window d (Call parts) ch = call_before n d _ _ refl tt
-own_waiting n Dce rs window d (Call parts) ch = call_before n d _ _ refl (inl refl, tt)
-own_waiting n role rs window d (Clear cause diagnostic) ch = no_call_after n d _ _ refl
-own_waiting n role rs window d p ch = no_call_after n d (ch_in OwnWaiting rs ch) (received role window d (ch_in OwnWaiting rs ch) p) refl
+own_waiting : (n : ℕ) (role : Role) (rs : Bool) (flow : Flow) (d : ℕ) (p : Body) (ch : Channel) → Receives n role flow d (ch_in OwnWaiting rs ch) p
+own_waiting n role rs flow d Accepted ch = call_before n d _ _ refl tt
+own_waiting n Dte rs flow d (Call parts) ch = call_before n d _ _ refl tt
+own_waiting n Dce rs flow d (Call parts) ch = call_before n d _ _ refl (inl refl, tt)
+own_waiting n role rs flow d (Clear cause diagnostic) ch = no_call_after n d _ _ refl
+own_waiting n role rs flow d p ch = no_call_after n d (ch_in OwnWaiting rs ch) (received role flow d (ch_in OwnWaiting rs ch) p) refl
 
-far_waiting : (n : ℕ) (role : Role) (rs : Bool) (window d : ℕ) (p : Body) (ch : Channel) → Receives n role window d (ch_in FarWaiting rs ch) p
-far_waiting n role rs window d (Clear cause diagnostic) ch = no_call_after n d _ _ refl
-far_waiting n role rs window d p ch = no_call_after n d (ch_in FarWaiting rs ch) (received role window d (ch_in FarWaiting rs ch) p) refl
+far_waiting : (n : ℕ) (role : Role) (rs : Bool) (flow : Flow) (d : ℕ) (p : Body) (ch : Channel) → Receives n role flow d (ch_in FarWaiting rs ch) p
+far_waiting n role rs flow d (Clear cause diagnostic) ch = no_call_after n d _ _ refl
+far_waiting n role rs flow d p ch = no_call_after n d (ch_in FarWaiting rs ch) (received role flow d (ch_in FarWaiting rs ch) p) refl
 
-collision : (n : ℕ) (role : Role) (rs : Bool) (window d : ℕ) (p : Body) (ch : Channel) → Receives n role window d (ch_in Collision rs ch) p
-collision n Dte rs window d Accepted ch = call_before n d _ _ refl tt
-collision n Dte rs window d (Clear cause diagnostic) ch = no_call_after n d _ _ refl
-collision n Dce rs window d (Clear cause diagnostic) ch = no_call_after n d _ _ refl
-collision n role rs window d p ch = no_call_after n d (ch_in Collision rs ch) (received role window d (ch_in Collision rs ch) p) refl
+collision : (n : ℕ) (role : Role) (rs : Bool) (flow : Flow) (d : ℕ) (p : Body) (ch : Channel) → Receives n role flow d (ch_in Collision rs ch) p
+collision n Dte rs flow d Accepted ch = call_before n d _ _ refl tt
+collision n Dte rs flow d (Clear cause diagnostic) ch = no_call_after n d _ _ refl
+collision n Dce rs flow d (Clear cause diagnostic) ch = no_call_after n d _ _ refl
+collision n role rs flow d p ch = no_call_after n d (ch_in Collision rs ch) (received role flow d (ch_in Collision rs ch) p) refl
 
-own_clear : (n : ℕ) (role : Role) (rs : Bool) (window d : ℕ) (p : Body) (ch : Channel) → Receives n role window d (ch_in OwnClear rs ch) p
-own_clear n role rs window d (Clear cause diagnostic) ch = no_call_after n d _ _ refl
-own_clear n role rs window d ClearConfirmation ch = no_call_after n d _ _ refl
-own_clear n role rs window d p ch = no_call_after n d (ch_in OwnClear rs ch) (received role window d (ch_in OwnClear rs ch) p) refl
+own_clear : (n : ℕ) (role : Role) (rs : Bool) (flow : Flow) (d : ℕ) (p : Body) (ch : Channel) → Receives n role flow d (ch_in OwnClear rs ch) p
+own_clear n role rs flow d (Clear cause diagnostic) ch = no_call_after n d _ _ refl
+own_clear n role rs flow d ClearConfirmation ch = no_call_after n d _ _ refl
+own_clear n role rs flow d p ch = no_call_after n d (ch_in OwnClear rs ch) (received role flow d (ch_in OwnClear rs ch) p) refl
 
-own_reset : (n : ℕ) (role : Role) (window d : ℕ) (p : Body) (ch : Channel) → Receives n role window d (ch_in Transfer true ch) p
-own_reset n role window d (Clear cause diagnostic) ch = no_call_after n d _ _ refl
-own_reset n role window d (Reset cause diagnostic) ch = call_before n d _ _ refl tt
-own_reset n role window d ResetConfirmation ch = call_before n d _ _ refl tt
-own_reset n role window d (Data send receive x) ch = call_before n d _ _ refl tt
-own_reset n role window d (ReceiveReady receive) ch = call_before n d _ _ refl tt
-own_reset n role window d (ReceiveNotReady receive) ch = call_before n d _ _ refl tt
-own_reset n role window d (Interrupt octets) ch = call_before n d _ _ refl tt
-own_reset n role window d InterruptConfirmation ch = call_before n d _ _ refl tt
-own_reset n role window d p ch = no_call_after n d (ch_in Transfer true ch) (received role window d (ch_in Transfer true ch) p) refl
+own_reset : (n : ℕ) (role : Role) (flow : Flow) (d : ℕ) (p : Body) (ch : Channel) → Receives n role flow d (ch_in Transfer true ch) p
+own_reset n role flow d (Clear cause diagnostic) ch = no_call_after n d _ _ refl
+own_reset n role flow d (Reset cause diagnostic) ch = call_before n d _ _ refl tt
+own_reset n role flow d ResetConfirmation ch = call_before n d _ _ refl tt
+own_reset n role flow d (Data send receive x) ch = call_before n d _ _ refl tt
+own_reset n role flow d (ReceiveReady receive) ch = call_before n d _ _ refl tt
+own_reset n role flow d (ReceiveNotReady receive) ch = call_before n d _ _ refl tt
+own_reset n role flow d (Interrupt octets) ch = call_before n d _ _ refl tt
+own_reset n role flow d InterruptConfirmation ch = call_before n d _ _ refl tt
+own_reset n role flow d p ch = no_call_after n d (ch_in Transfer true ch) (received role flow d (ch_in Transfer true ch) p) refl
 
-d1 : (n : ℕ) (role : Role) (window d : ℕ) (p : Body) (ch : Channel) → Receives n role window d (ch_in Transfer false ch) p
-d1 n role window d (Clear cause diagnostic) ch = no_call_after n d _ _ refl
-d1 n role window d (Reset cause diagnostic) ch = call_before n d _ _ refl tt
-d1 n role window d ResetConfirmation ch = call_before n d _ _ refl tt
-d1 n role window d (Data send receive x) ch = call_before n d _ _ refl (heard_ends n d role (ch_in Transfer false ch) (hears_in window ch.traffic (Data send receive x)))
-d1 n role window d (ReceiveReady receive) ch = call_before n d _ _ refl (heard_ends n d role (ch_in Transfer false ch) (hears_in window ch.traffic (ReceiveReady receive)))
-d1 n role window d (ReceiveNotReady receive) ch = call_before n d _ _ refl (heard_ends n d role (ch_in Transfer false ch) (hears_in window ch.traffic (ReceiveNotReady receive)))
-d1 n role window d (Interrupt octets) ch = call_before n d _ _ refl (heard_ends n d role (ch_in Transfer false ch) (hears_in window ch.traffic (Interrupt octets)))
-d1 n role window d InterruptConfirmation ch = call_before n d _ _ refl (heard_ends n d role (ch_in Transfer false ch) (hears_in window ch.traffic InterruptConfirmation))
-d1 n role window d p ch = no_call_after n d (ch_in Transfer false ch) (received role window d (ch_in Transfer false ch) p) refl
+d1 : (n : ℕ) (role : Role) (flow : Flow) (d : ℕ) (p : Body) (ch : Channel) → Receives n role flow d (ch_in Transfer false ch) p
+d1 n role flow d (Clear cause diagnostic) ch = no_call_after n d _ _ refl
+d1 n role flow d (Reset cause diagnostic) ch = call_before n d _ _ refl tt
+d1 n role flow d ResetConfirmation ch = call_before n d _ _ refl tt
+d1 n role flow d (Data send receive x) ch = call_before n d _ _ refl (heard_ends n d role (ch_in Transfer false ch) (hears_in flow ch.traffic (Data send receive x)))
+d1 n role flow d (ReceiveReady receive) ch = call_before n d _ _ refl (heard_ends n d role (ch_in Transfer false ch) (hears_in flow ch.traffic (ReceiveReady receive)))
+d1 n role flow d (ReceiveNotReady receive) ch = call_before n d _ _ refl (heard_ends n d role (ch_in Transfer false ch) (hears_in flow ch.traffic (ReceiveNotReady receive)))
+d1 n role flow d (Interrupt octets) ch = call_before n d _ _ refl (heard_ends n d role (ch_in Transfer false ch) (hears_in flow ch.traffic (Interrupt octets)))
+d1 n role flow d InterruptConfirmation ch = call_before n d _ _ refl (heard_ends n d role (ch_in Transfer false ch) (hears_in flow ch.traffic InterruptConfirmation))
+d1 n role flow d p ch = no_call_after n d (ch_in Transfer false ch) (received role flow d (ch_in Transfer false ch) p) refl
 
-received_in : (n : ℕ) (s : CallState) (rs : Bool) (role : Role) (window d : ℕ) (p : Body) (ch : Channel) → Receives n role window d (ch_in s rs ch) p
-received_in n Ready rs role window d p ch = ready n role rs window d p ch
-received_in n OwnWaiting rs role window d p ch = own_waiting n role rs window d p ch
-received_in n FarWaiting rs role window d p ch = far_waiting n role rs window d p ch
-received_in n Transfer true role window d p ch = own_reset n role window d p ch
-received_in n Transfer false role window d p ch = d1 n role window d p ch
-received_in n Collision rs role window d p ch = collision n role rs window d p ch
-received_in n OwnClear rs role window d p ch = own_clear n role rs window d p ch
+received_in : (n : ℕ) (s : CallState) (rs : Bool) (role : Role) (flow : Flow) (d : ℕ) (p : Body) (ch : Channel) → Receives n role flow d (ch_in s rs ch) p
+received_in n Ready rs role flow d p ch = ready n role rs flow d p ch
+received_in n OwnWaiting rs role flow d p ch = own_waiting n role rs flow d p ch
+received_in n FarWaiting rs role flow d p ch = far_waiting n role rs flow d p ch
+received_in n Transfer true role flow d p ch = own_reset n role flow d p ch
+received_in n Transfer false role flow d p ch = d1 n role flow d p ch
+received_in n Collision rs role flow d p ch = collision n role rs flow d p ch
+received_in n OwnClear rs role flow d p ch = own_clear n role rs flow d p ch
 
-pub received_calls : (n : ℕ) (role : Role) (window d : ℕ) (p : Body) (ch : Channel) → StepCalls n d ch (received role window d ch p)
-received_calls n role window d p ch = received_in n ch.state ch.resetting role window d p ch
+pub received_calls : (n : ℕ) (role : Role) (flow : Flow) (d : ℕ) (p : Body) (ch : Channel) → StepCalls n d ch (received role flow d ch p)
+received_calls n role flow d p ch = received_in n ch.state ch.resetting role flow d p ch
 
 unreadable_in : (n : ℕ) (s : CallState) (rs : Bool) (role : Role) (d : ℕ) (unknown : Bool) (ch : Channel) → StepCalls n d (ch_in s rs ch) (unreadable role d unknown (ch_in s rs ch))
 unreadable_in n Transfer false role d unknown ch = call_before n d _ _ refl tt

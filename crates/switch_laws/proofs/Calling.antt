@@ -70,14 +70,14 @@ shown_in f zero c (y ∷ ys) s e = (y, (e, refl))
 shown_in f (suc n) c (y ∷ ys) s e = shown_in f n c ys s e
 
 found_here : (l : Layer) (c : ℕ) (step : Channel → Step) (o : Option Channel) (s : Shown) → channel_of l c ≡ o → shown_as (on_found l c step o) (channel_of (on_found l c step o) c) ≡ Some s
-    → (ch : Channel) × ((channel_of l c ≡ Some ch) × (s ≡ record { role = l.role; window = l.window; channel = owing (step ch) }))
+    → (ch : Channel) × ((channel_of l c ≡ Some ch) × (s ≡ record { role = l.role; flow = l.flow; channel = owing (step ch) }))
 found_here l c step None s got e = absurd (none-some s (sym (ap (λ (o : Option Channel). shown_as l o) got) ∙ e))
 found_here l c step (Some ch) s got e = (ch, (got, same_Some s _ (sym e ∙ ap (λ (o : Option Channel). shown_as l o) (nth_same l.channels c ch (owing (step ch)) got))))
 
 pub record AskedShown (q : SwitchChannel) (r : Request) (ls : List SwitchLine) (s : Shown) : Type 0 where
   pub layer : Layer
   pub old : Channel
-  pub there : shown_at (layers_of ls) q ≡ Some (record { role = layer.role; window = layer.window; channel = old })
+  pub there : shown_at (layers_of ls) q ≡ Some (record { role = layer.role; flow = layer.flow; channel = old })
   pub is : s.channel ≡ owing (requested layer.role old r)
 
 asked_shown : (q : SwitchChannel) (r : Request) (ls : List SwitchLine) (s : Shown) → shown_at (layers_of (ask q r ls)) q ≡ Some s → AskedShown q r ls s
@@ -100,7 +100,7 @@ asked_call q r ls x h = by_place (decided (same_place x q))
         let is = place_is x q t in
         let a = asked_shown q r ls h.channel (ap (λ (y : SwitchChannel). shown_at (layers_of (ask q r ls)) y) (sym is) ∙ h.there) in
         record {
-          channel = record { role = a.layer.role; window = a.layer.window; channel = a.old };
+          channel = record { role = a.layer.role; flow = a.layer.flow; channel = a.old };
           there = ap (λ (y : SwitchChannel). shown_at (layers_of ls) y) is ∙ a.there;
           call = unless_call (refusal a.layer.role a.old r) a.layer.role r a.old refl (ap (λ (ch : Channel). had_call ch.state) (sym a.is) ∙ h.call);
         }

@@ -428,7 +428,7 @@ comes_connected {acts} routes n c ls ms w v st e j k came i s new_here new_there
 
     right : IsJoin (record { a = near; b = far; there = new_direction; back = new_direction })
     right =
-        start_joined near far (start_good near good_p.leg.window start_p).leg (start_good far good_q.leg.window start_q).leg start_p start_q refl refl
+        start_joined near far (start_good near good_p.leg.flow start_p).leg (start_good far good_q.leg.flow start_q).leg start_p start_q refl refl
 
     joined : IsJoin (record { a = a.world p; b = a.world q; there = j.kept; back = k.kept })
     joined =

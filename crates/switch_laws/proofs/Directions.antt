@@ -116,13 +116,13 @@ kept_whole zero (h ∷ hs) le = absurd (omega arith)
 kept_whole (suc n) [] le = refl
 kept_whole (suc n) (h ∷ hs) le = ap (λ ks. h ∷ ks) (kept_whole n hs (omega arith))
 
-carried_whole : (delivery : Bool) (v : Direction) → length v.held < 7 → v.outstanding < 255 →
+carried_whole : (delivery : Bool) (v : Direction) → length v.held < 32 → v.outstanding < 255 →
     carried delivery v ≡ record { held = v.held ++ (if delivery then v.outstanding + 1 else 0) ∷ []; outstanding = v.outstanding + 1 }
 carried_whole delivery v few less =
     let more : one_more v.outstanding ≡ v.outstanding + 1 = omega arith in
     let size = length-append v.held ((if delivery then one_more v.outstanding else 0) ∷ []) in
     ap (λ (hs : List ℕ). record { held = hs; outstanding = one_more v.outstanding })
-    (kept_whole 7 (v.held ++ (if delivery then one_more v.outstanding else 0) ∷ []) (omega arith))
+    (kept_whole 32 (v.held ++ (if delivery then one_more v.outstanding else 0) ∷ []) (omega arith))
     ∙ ap (λ (n : ℕ). record { held = v.held ++ (if delivery then n else 0) ∷ []; outstanding = n }) more
 
 carries_more : (d : Datum) (v : Direction) (n : TakenPart) (f : SentPart) → IsDirection v n f
@@ -152,7 +152,7 @@ carries_more d v n f i =
       held = ap₂ (λ (hs : List ℕ) (p : ℕ). hs ++ (if d.delivery then p else 0) ∷ []) i.held place ∙ sym (needs_append f.covered (length (made_of k.out)) k.kept (h ∷ []));
     }
 
-pub direction_carries : (d : Datum) (v : Direction) (n : TakenPart) (f : SentPart) → length n.packets < n.released + 7
+pub direction_carries : (d : Datum) (v : Direction) (n : TakenPart) (f : SentPart) → length n.packets < n.released + 32
     → length f.packets < f.covered + 255 → IsDirection v n f
     → IsDirection (carried d.delivery v) (record n { packets = n.packets ++ d ∷ [] }) (record f { packets = f.packets ++ d ∷ [] })
 direction_carries d v n f few less i =

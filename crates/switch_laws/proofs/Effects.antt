@@ -72,13 +72,13 @@ epoch_kept Collision rs h e = inl refl
 epoch_kept OwnClear rs h e = inl refl
 
 hears_step : (d : ℕ) (p : Body)
-    → IsStep d (λ s. received s.role s.window d s.channel p) (λ g. heard_epoch g.channel.state g.channel.resetting (hears g.window g.channel.traffic p) g.epoch)
+    → IsStep d (λ s. received s.role s.flow d s.channel p) (λ g. heard_epoch g.channel.state g.channel.resetting (hears g.flow g.channel.traffic p) g.epoch)
 hears_step d p = record {
-  notes_of_it = λ s. received_notes s.role s.window d p s.channel;
-  outcome = λ s. received_outcome s.role s.window d p s.channel;
+  notes_of_it = λ s. received_notes s.role s.flow d p s.channel;
+  outcome = λ s. received_outcome s.role s.flow d p s.channel;
   goes = λ g h there back state i. hears_right d p (record { a = h; b = g; there = there; back = back }) state i;
-  epoch = λ g. epoch_kept g.channel.state g.channel.resetting (hears g.window g.channel.traffic p) g.epoch;
-  calls = λ n s. received_calls n s.role s.window d p s.channel;
+  epoch = λ g. epoch_kept g.channel.state g.channel.resetting (hears g.flow g.channel.traffic p) g.epoch;
+  calls = λ n s. received_calls n s.role s.flow d p s.channel;
 }
 
 mishears_step : (d : ℕ) (unknown : Bool) → IsStep d (λ s. unreadable s.role d unknown s.channel) (λ g. g.epoch)
@@ -130,10 +130,10 @@ restart_effect n p l z ready = by_body p.body refl
     by_body b e = nothing refl (leg b e)
 
 hears_effect : (n : ℕ) (p : Packet) (l : Layer) → (p.channel == 0) ≡ false → l.phase ≡ PacketReady
-    → Effect (λ c g. leg_after (Comes n (Whole p)) (Some l) c g) l (on_found (unread l) p.channel (λ ch. received l.role l.window p.channel ch p.body) (channel_of (unread l) p.channel)).notes
+    → Effect (λ c g. leg_after (Comes n (Whole p)) (Some l) c g) l (on_found (unread l) p.channel (λ ch. received l.role l.flow p.channel ch p.body) (channel_of (unread l) p.channel)).notes
 hears_effect n p l z ready =
     on_one p.channel _ _ (hears_step p.channel p.body) (λ c g f. leg c g ∙ if_apart (c == p.channel) g _ f) (λ g. leg p.channel g ∙ if_here p.channel g _)
-    (λ e. found_none (unread l) p.channel (λ x. received l.role l.window p.channel x p.body) refl e) (λ ch e. found_some (unread l) p.channel (λ x. received l.role l.window p.channel x p.body) ch refl e)
+    (λ e. found_none (unread l) p.channel (λ x. received l.role l.flow p.channel x p.body) refl e) (λ ch e. found_some (unread l) p.channel (λ x. received l.role l.flow p.channel x p.body) ch refl e)
   where
     leg : (c : ℕ) (g : Leg) → leg_after (Comes n (Whole p)) (Some l) c g ≡ (if c == p.channel then heard c p.body g else g)
     leg c g =
@@ -156,7 +156,7 @@ by_test true x y a l f g = f refl
 by_test false x y a l f g = g refl
 
 whole_effect : (phase : Phase) (n : ℕ) (p : Packet) (l : Layer) → l.phase ≡ phase
-    → Effect (λ c g. leg_after (Comes n (Whole p)) (Some l) c g) l (cond (p.channel == 0) (restart_packet phase p.body (unread l)) (on_channel phase (unread l) p.channel (λ ch. received l.role l.window p.channel ch p.body))).notes
+    → Effect (λ c g. leg_after (Comes n (Whole p)) (Some l) c g) l (cond (p.channel == 0) (restart_packet phase p.body (unread l)) (on_channel phase (unread l) p.channel (λ ch. received l.role l.flow p.channel ch p.body))).notes
 whole_effect PacketReady n p l e = by_test (p.channel == 0) _ _ (Comes n (Whole p)) l (λ z. restart_effect n p l z e) (λ z. hears_effect n p l z e)
 whole_effect OwnRestart n p l e =
     by_test (p.channel == 0) _ _ (Comes n (Whole p)) l (λ z. nothing (own_restart_notes p.body l) (λ c g. ap (λ (ph : Phase). came_in ph (Whole p) c g) e))

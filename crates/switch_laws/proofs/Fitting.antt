@@ -85,7 +85,7 @@ offered_fits (suc most) e f =
     (by_bool (λ (x : PacketEnd). Fits x.line.link) (is_some (next_packet e.layer).packet) _ _ (offered_fits most (with_next e (next_packet e.layer)) (next_fits e f)) f) f
   where
     next_fits : (x : PacketEnd) → Fits x.line.link → Fits (with_next x (next_packet x.layer)).line.link
-    next_fits x g = offer_fits x.line.link (written_packet (next_packet x.layer).packet []) g
+    next_fits x g = offer_fits x.line.link (written_packet x.layer.flow (next_packet x.layer).packet []) g
 
 all_offered_fits : (e : PacketEnd) → Fits e.line.link → Fits (all_offered e).line.link
 unfolding all_offered

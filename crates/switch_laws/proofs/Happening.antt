@@ -11,6 +11,7 @@ use Rattle.lapb.specs.declared.phase.Phase.{Phase}
 use Rattle.lapb.specs.declared.phase.Phase.TheVariants as phase
 use Rattle.lapb.specs.Machine as link
 use Rattle.lapb.specs.Machine.{Octets, Link, can_offer, sendable, send_all, settle_in}
+use Rattle.packet_channel.specs.declared.flow.Flow.{Flow}
 use Rattle.packet_end.specs.End as line
 use Rattle.packet_end.specs.End.{End}
 use Rattle.packet_layer.specs.Packets.{Packet}
@@ -35,7 +36,7 @@ use Rattle.switch_laws.specs.Leg.{Leg}
 use Rattle.switch_laws.specs.Calls.{CallsAreJoined}
 use Rattle.switch_laws.specs.World.{World, Shown, Agrees, shown_as, shown_on, shown_at, layers_of, closed}
 use Rattle.switch_laws.specs.Joined.{IsSwitch, Becomes, Reached, has_nth, has_place_on, HasRelayedAll}
-use Rattle.switch_laws.specs.Events.{Event, after_event, SwitchHolds, AfterEvent, AfterExpiry, HoldsOn, window_of, role_of}
+use Rattle.switch_laws.specs.Events.{Event, after_event, SwitchHolds, AfterEvent, AfterExpiry, HoldsOn, flow_of, role_of}
 use Rattle.switch_laws.specs.Events.{new_legs, EventLaw}
 use Rattle.switch_laws.specs.Steps.{Happening, does}
 use Rattle.switch_laws.specs.Steps.Happening.{Brings, RunsOut, Relinks}
@@ -353,8 +354,8 @@ closed_nth zero (suc i) ch e = absurd (none-some ch e)
 closed_nth (suc n) (suc zero) ch e = sym (same_Some closed_channel ch e)
 closed_nth (suc n) (suc (suc i)) ch e = closed_nth n (suc i) ch e
 
-abbrev new_leg : Role → (window : ℕ) → Leg
-new_leg role window = record { role = role; window = window; channel = closed_channel; before = []; epoch = empty_epoch }
+abbrev new_leg : Role → (flow : Flow) → Leg
+new_leg role flow = record { role = role; flow = flow; channel = closed_channel; before = []; epoch = empty_epoch }
 
 new_channel : (standing : Bool) (n c : ℕ) (ch : Channel) → standing ≡ false →
     nth_channel (standing_channels standing (replicate n closed_channel)) c ≡ Some ch → ch ≡ closed_channel
@@ -363,11 +364,11 @@ new_channel false n c ch h e = closed_nth n c ch e
 
 new_shown : (l : Layer) (o : Option Channel) (s : Shown) → ((ch : Channel) → o ≡ Some ch → ch ≡ closed_channel) →
     shown_as l o ≡ Some s
-    → s ≡ record { role = l.role; window = l.window; channel = closed_channel }
+    → s ≡ record { role = l.role; flow = l.flow; channel = closed_channel }
 new_shown l None s is e = absurd (none-some s e)
 new_shown l (Some ch) s is e = sym (same_Some _ s e) ∙ ap (λ (x : Channel). record {
   role = l.role;
-  window = l.window;
+  flow = l.flow;
   channel = x;
 }) (is ch refl)
 
@@ -376,14 +377,14 @@ AreConfigs lines = (n : ℕ) (c : SwitchLineConfig) → slice_get lines n ≡ So
 
 new_agrees : (lines : List SwitchLineConfig) (n c : ℕ) (s : Shown) → AreConfigs lines →
     shown_on (slice_get (layers_of (map made_line lines)) n) c ≡ Some s →
-    Agrees s (new_leg (role_of (slice_get lines n)) (window_of (slice_get lines n)))
+    Agrees s (new_leg (role_of (slice_get lines n)) (flow_of (slice_get lines n)))
 new_agrees [] n c s are e = absurd (none-some s e)
 new_agrees (x ∷ xs) zero c s are e =
     let is = are 0 x refl in
     record {
       shown = new_shown (made_line x).end.layer (channel_of (made_line x).end.layer c) s
           (λ ch f. new_channel x.params.standing x.params.channels c ch is.not_standing f) e;
-      leg = start_good (new_leg x.role x.params.window) is.params.layer.window_most
+      leg = start_good (new_leg x.role x.params.flow) is.params.layer.flow_is
           (record { not_resetting = refl; traffic = refl; before = refl; epoch = refl });
     }
 new_agrees (x ∷ xs) (suc n) c s are e = new_agrees xs n c s (λ m y f. are (suc m) y f) e

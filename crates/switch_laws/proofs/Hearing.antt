@@ -1,6 +1,7 @@
 -- What comes on one leg of a join, and leaves it in data transfer, keeps both clauses once the switch was told.
 use Rattle.std.proofs.Common.{◌≡◌, ℕ, ◌+◌, Bool, true, false, cond, ◌==◌, List, [], ◌∷◌, Option, None, refl, sym, ap, subst, ◌∙◌, true≢false, is_some, ◌||◌, arith}
 use Rattle.std.proofs.lemmas.Bool.{eqb-true}
+use Rattle.packet_channel.proofs.Windows.{window_below}
 use Rattle.packet_layer.specs.Packets.{Body}
 use Rattle.packet_layer.specs.Packets.Note.{Covered}
 use Rattle.packet_layer.specs.Packets.Body.{Clear, Data, Interrupt, InterruptConfirmation, ReceiveReady, ReceiveNotReady, Reset, ResetConfirmation}
@@ -36,10 +37,10 @@ not_transfer s f e = absurd (true≢false (sym (ap (λ (t : CallState). in_trans
 abbrev b_heard : Traffic → (covered : ℕ) → Join → Join
 b_heard u k j = record j { b = record j.b { channel = with_traffic u j.b.channel; epoch = record j.b.epoch { covered = k } } }
 
-b_leg : (n : ℕ) (u : Traffic) (j : Join) → j.b.channel.resetting ≡ false → IsLeg j.b → NamesCounts j.b.window u (record j.b.epoch { covered = j.b.epoch.covered + n })
+b_leg : (n : ℕ) (u : Traffic) (j : Join) → j.b.channel.resetting ≡ false → IsLeg j.b → NamesCounts j.b.flow u (record j.b.epoch { covered = j.b.epoch.covered + n })
     → Flags j.b.channel.traffic u → IsLeg (b_heard u (j.b.epoch.covered + n) j).b
 b_leg n u j clear i k f = record {
-  window = i.window;
+  flow = i.flow;
   counts = k;
   traffic_anew = λ r. absurd (true≢false (sym r ∙ clear));
   epoch_anew = λ r. absurd (true≢false (sym r ∙ clear));
@@ -51,7 +52,7 @@ b_back k u j leg f i =
     right_beside (b_heard u k j).b j.a (way (turned j)) leg i.there.holds.near (ap (λ (b : Bool). record (near_seen j.b) { interrupt_taken = b }) f.taken) refl i.back
 
 -- P(R) covered some
-covers_some : (n : ℕ) (u : Traffic) (j : Join) → j.b.channel.resetting ≡ false → NamesCounts j.b.window u (record j.b.epoch { covered = j.b.epoch.covered + n })
+covers_some : (n : ℕ) (u : Traffic) (j : Join) → j.b.channel.resetting ≡ false → NamesCounts j.b.flow u (record j.b.epoch { covered = j.b.epoch.covered + n })
     → Flags j.b.channel.traffic u → IsJoin j
     → IsJoin (record (b_heard u (j.b.epoch.covered + n) j) { a = (freed (record (way (b_heard u (j.b.epoch.covered + n) j)) { kept = covered_by n j.there })).near; there = (freed (record (way (b_heard u (j.b.epoch.covered + n) j)) { kept = covered_by n j.there })).kept })
 covers_some n u j clear k f i =
@@ -65,7 +66,7 @@ covers_some n u j clear k f i =
       near_call = h.near_call;
       far_call = h.far_call;
       passed = h.passed;
-      direction = direction_covered n j.there (taken_part j.a.epoch) (sent_part j.b.epoch) (covered_within j.b.window u (record j.b.epoch { covered = j.b.epoch.covered + n }) k) h.direction;
+      direction = direction_covered n j.there (taken_part j.a.epoch) (sent_part j.b.epoch) (covered_within j.b.flow u (record j.b.epoch { covered = j.b.epoch.covered + n }) k) h.direction;
       interrupted = h.interrupted ∙ sym f.pending;
     } in
     let right = freed_right w holds in
@@ -76,7 +77,7 @@ covers_some n u j clear k f i =
     }
 
 -- it covered none
-covers_none : (n : ℕ) (u : Traffic) (j : Join) → n ≡ 0 → j.b.channel.resetting ≡ false → NamesCounts j.b.window u (record j.b.epoch { covered = j.b.epoch.covered + n })
+covers_none : (n : ℕ) (u : Traffic) (j : Join) → n ≡ 0 → j.b.channel.resetting ≡ false → NamesCounts j.b.flow u (record j.b.epoch { covered = j.b.epoch.covered + n })
     → Flags j.b.channel.traffic u → IsJoin j → IsJoin (b_heard u (j.b.epoch.covered + n) j)
 covers_none n u j z clear k f i =
     let same : j.b.epoch.covered + n ≡ j.b.epoch.covered = omega arith in
@@ -100,7 +101,7 @@ confirmed_far false g = refl
 abbrev b_confirmed : Join → Join
 b_confirmed j = record j { b = record j.b { channel = with_traffic (record j.b.channel.traffic { interrupt_unconfirmed = false }) j.b.channel } }
 
-confirms_interrupt : (j : Join) → j.b.channel.resetting ≡ false → NamesCounts j.b.window (record j.b.channel.traffic { interrupt_unconfirmed = false }) j.b.epoch
+confirms_interrupt : (j : Join) → j.b.channel.resetting ≡ false → NamesCounts j.b.flow (record j.b.channel.traffic { interrupt_unconfirmed = false }) j.b.epoch
     → j.b.channel.traffic.interrupt_unconfirmed ≡ true → IsJoin j → IsJoin (record (b_confirmed j) { a = asked Confirming j.a })
 confirms_interrupt j clear k sent i =
     let h = i.there.holds in
@@ -110,7 +111,7 @@ confirms_interrupt j clear k sent i =
     h.interrupted ∙ (ap (λ (q : Option (List ℕ)). is_some q || t.interrupt_unconfirmed) none ∙ sent) in
     let g = (b_confirmed j).b in
     let leg : IsLeg g = record {
-      window = h.far.window;
+      flow = h.far.flow;
       counts = k;
       traffic_anew = λ r. absurd (true≢false (sym r ∙ clear));
       epoch_anew = λ r. absurd (true≢false (sym r ∙ clear));
@@ -140,28 +141,28 @@ abbrev After : ℕ → Heard → Join → Type 0
 After c h j = let st = after_heard j.b.role c j.b.channel h in IsJoin (all_told st.notes (record j { b = stepped st (logged_heard h j.b.epoch) j.b }))
 
 after_keeps : (b : Bool) (c n : ℕ) (u : Traffic) (j : Join) → (n == 0) ≡ b → j.b.channel.resetting ≡ false
-    → NamesCounts j.b.window u (record j.b.epoch { covered = j.b.epoch.covered + n }) → Flags j.b.channel.traffic u → IsJoin j
+    → NamesCounts j.b.flow u (record j.b.epoch { covered = j.b.epoch.covered + n }) → Flags j.b.channel.traffic u → IsJoin j
     → IsJoin (all_told (cond b [] (Covered c n ∷ [])) (b_heard u (j.b.epoch.covered + n) j))
 after_keeps true c n u j e clear k f i = covers_none n u j (eqb-true n 0 e) clear k f i
 after_keeps false c n u j e clear k f i = covers_some n u j clear k f i
 
-after_heard_right : (c : ℕ) (h : Heard) (p : Body) (j : Join) → NamesAfter j.b.window h j.b.channel.traffic j.b.epoch p → HearsFlags j.b.channel.traffic h
+after_heard_right : (c : ℕ) (h : Heard) (p : Body) (j : Join) → NamesAfter j.b.flow h j.b.channel.traffic j.b.epoch p → HearsFlags j.b.channel.traffic h
     → j.b.channel.resetting ≡ false → IsJoin j → After c h j
 after_heard_right c (Keeps n u) p j k f clear i = after_keeps (n == 0) c n u j refl clear k.0 f i
 after_heard_right c (Confirms u) p j k f clear i =
-    subst (λ (t : Traffic). NamesCounts j.b.window t j.b.epoch → After c (Confirms t) j) (sym f.1) (λ n. confirms_interrupt j clear n f.0 i) k
+    subst (λ (t : Traffic). NamesCounts j.b.flow t j.b.epoch → After c (Confirms t) j) (sym f.1) (λ n. confirms_interrupt j clear n f.0 i) k
 after_heard_right c (Wrong d) p j k f clear i = reset_right _ _ true _ j i
 
-hears_flow : (c : ℕ) (p : Body) (j : Join) → j.b.channel.resetting ≡ false → IsJoin j → After c (hears_in j.b.window j.b.channel.traffic p) j
+hears_flow : (c : ℕ) (p : Body) (j : Join) → j.b.channel.resetting ≡ false → IsJoin j → After c (hears_in j.b.flow j.b.channel.traffic p) j
 hears_flow c p j clear i =
-    after_heard_right c (hears_in j.b.window j.b.channel.traffic p) p j
-    (counts_hold.heard j.b.window i.there.holds.far.window j.b.channel.traffic j.b.epoch p i.there.holds.far.counts)
-    (hears_flags j.b.window j.b.channel.traffic p) clear i
+    after_heard_right c (hears_in j.b.flow j.b.channel.traffic p) p j
+    (counts_hold.heard j.b.flow (window_below _ i.there.holds.far.flow) j.b.channel.traffic j.b.epoch p i.there.holds.far.counts)
+    (hears_flags j.b.flow j.b.channel.traffic p) clear i
 
 -- ---- by the state of the leg b
 
 abbrev Hears : ℕ → Body → Join → Type 0
-Hears c p j = (received j.b.role j.b.window c j.b.channel p).channel.state ≡ Transfer → IsJoin j → IsJoin (hears c p j)
+Hears c p j = (received j.b.role j.b.flow c j.b.channel p).channel.state ≡ Transfer → IsJoin j → IsJoin (hears c p j)
 
 in_d1 : (c : ℕ) (p : Body) (j : Join) → Hears c p (b_in Transfer false j)
 in_d1 c (Clear cause diagnostic) j e i = not_transfer _ refl e
@@ -179,7 +180,7 @@ reset_ends : (j : Join) → IsJoin (b_in Transfer true j) → IsJoin (b_in Trans
 reset_ends j i =
     let h = i.there.holds in
     let leg : IsLeg (b_in Transfer false j).b = record {
-      window = h.far.window;
+      flow = h.far.flow;
       counts = h.far.counts;
       traffic_anew = λ r. absurd (true≢false (sym r));
       epoch_anew = λ r. absurd (true≢false (sym r));

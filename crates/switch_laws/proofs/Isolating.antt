@@ -47,7 +47,7 @@ HasNoSession (Some phase) = phase ≡ NoSession
 
 abbrev pub HasNothing : Option Shown → Type 0
 HasNothing None = Unit {0}
-HasNothing (Some s) = is_some (next_of s.window s.channel).body ≡ false
+HasNothing (Some s) = is_some (next_of s.flow s.channel).body ≡ false
 
 abbrev pub Mute : Option Link → Option Phase → Option Shown → Type 0
 Mute link phase s = HasNoRoom link ⊎ (HasNoSession phase ⊎ HasNothing s)
@@ -88,9 +88,9 @@ flag_kept true l d c n others ne k = record { shown = ap (λ (o : Option Channel
 
 found_kept : (l : Layer) (d c : ℕ) (o : Option Channel) (others : Next) → channel_of l d ≡ o → Nothing_on l c → LayerKept l others.layer c → LayerKept l (serve_found l d o others).layer c
 found_kept l d c None others there none k = k
-found_kept l d c (Some ch) others there none k = flag_kept (is_some (next_of l.window ch).body) l d c (next_of l.window ch) others differ k
+found_kept l d c (Some ch) others there none k = flag_kept (is_some (next_of l.flow ch).body) l d c (next_of l.flow ch) others differ k
   where
-    differ : is_some (next_of l.window ch).body ≡ true → c ≡ d → ⊥
+    differ : is_some (next_of l.flow ch).body ≡ true → c ≡ d → ⊥
     differ t same =
         let is : channel_of l c ≡ Some ch = ap (λ (k : ℕ). channel_of l k) same ∙ there in
         true≢false (sym t ∙ subst (λ (o : Option Channel). HasNothing (shown_as l o)) is none)
@@ -379,7 +379,7 @@ packet_there d (Some b) e = refl
 found_silent : (l : Layer) (d : ℕ) (o : Option Channel) (others : Next) → is_some (serve_found l d o others).packet ≡ false → HasNothing (shown_as l o) × (is_some others.packet ≡ false)
 found_silent l d None others e = (tt, e)
 found_silent l d (Some ch) others e =
-    flag_silent (is_some (next_of l.window ch).body) _ others (λ t. packet_there d (next_of l.window ch).body t) e
+    flag_silent (is_some (next_of l.flow ch).body) _ others (λ t. packet_there d (next_of l.flow ch).body t) e
 
 run_silent : (k : ℕ) (l : Layer) (d i : ℕ) → is_some (serve k l d).packet ≡ false → i < k → d + i ≤ length l.channels → Nothing_on l (d + i)
 run_silent zero l d i e less within = absurd (omega arith)

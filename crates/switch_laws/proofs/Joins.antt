@@ -1,6 +1,8 @@
 -- Both directions of a join: what is relayed, asked and given on one leg keeps both clauses.
-use Rattle.std.proofs.Common.{◌≡◌, ℕ, ◌≤◌, Bool, true, false, List, [], Option, None, refl, sym, ap, subst, ◌∙◌, is_some, not}
+use Rattle.std.proofs.Common.{◌≡◌, ℕ, Bool, true, false, List, [], Option, None, refl, sym, ap, subst, ◌∙◌, is_some, not}
 use Rattle.link_timers.specs.declared.role.Role.{Role}
+use Rattle.packet_channel.specs.declared.flow.Flow.{Flow}
+use Rattle.packet_layer.specs.Flow.{IsFlow}
 use Rattle.packet_layer.specs.Packets.{Body}
 use Rattle.packet_layer.specs.Traffic.{Traffic, front, fresh, interrupt_pending}
 use Rattle.packet_layer.specs.Channel.{CallState, Refusal, refusal, refused_if, in_transfer}
@@ -47,15 +49,15 @@ both_stuck j i =
 
 -- ---- connected
 
-begins_there : (ra rb : Role) (wa wb : ℕ) (oa ob : List Body) → wa ≤ 7 → wb ≤ 7 → IsRight (record { near = connected ra wa oa; far = connected rb wb ob; kept = new_direction })
-begins_there ra rb wa wb oa ob la lb = record {
-  holds = record { near = leg_connected ra wa oa la; far = leg_connected rb wb ob lb; near_call = refl; far_call = refl; passed = Passed.none; direction = direction_begins; interrupted = refl };
+begins_there : (ra rb : Role) (fa fb : Flow) (oa ob : List Body) → IsFlow fa → IsFlow fb → IsRight (record { near = connected ra fa oa; far = connected rb fb ob; kept = new_direction })
+begins_there ra rb fa fb oa ob la lb = record {
+  holds = record { near = leg_connected ra fa oa la; far = leg_connected rb fb ob lb; near_call = refl; far_call = refl; passed = Passed.none; direction = direction_begins; interrupted = refl };
   all_released = refl;
 }
 
-pub join_begins : (ra rb : Role) (wa wb : ℕ) (oa ob : List Body) → wa ≤ 7 → wb ≤ 7
-    → IsJoin (record { a = connected ra wa oa; b = connected rb wb ob; there = new_direction; back = new_direction })
-join_begins ra rb wa wb oa ob la lb = record { there = begins_there ra rb wa wb oa ob la lb; back = begins_there rb ra wb wa ob oa lb la }
+pub join_begins : (ra rb : Role) (fa fb : Flow) (oa ob : List Body) → IsFlow fa → IsFlow fb
+    → IsJoin (record { a = connected ra fa oa; b = connected rb fb ob; there = new_direction; back = new_direction })
+join_begins ra rb fa fb oa ob la lb = record { there = begins_there ra rb fa fb oa ob la lb; back = begins_there rb ra fb fa ob oa lb la }
 
 -- ---- given to the line
 

@@ -5,6 +5,7 @@ use Rattle.std.specs.List.{list_any}
 use Rattle.std.proofs.lemmas.Option.{same_Some}
 use Rattle.std.proofs.lemmas.Bool.{eqb-true}
 use Rattle.lapb.specs.Machine.{can_offer}
+use Rattle.packet_channel.specs.declared.flow.Flow.{Flow}
 use Rattle.packet_layer.specs.Packets.{Body, Packet}
 use Rattle.packet_layer.specs.Traffic.{Taken, says}
 use Rattle.packet_layer.specs.Channel.{CallState, Channel, ChannelNext, Refusal, had_call, has_flow, next_of, next_owed, moved as with_traffic}
@@ -59,13 +60,13 @@ from_keeps (q ∷ qs) ls = keeps_then ls (relayed most_moves q ls) _ (relayed_ke
 
 -- ---- a packet that goes to the link leaves the state of each channel
 
-next_by : (window : ℕ) (b : Bool) (ch : Channel) → (cond {A = ChannelNext} b (record { channel = with_traffic (says window ch.traffic).traffic ch; body = (says window ch.traffic).body }) (record { channel = ch; body = None })).channel.state ≡ ch.state
-next_by window true ch = refl
-next_by window false ch = refl
+next_by : (flow : Flow) (b : Bool) (ch : Channel) → (cond {A = ChannelNext} b (record { channel = with_traffic (says flow ch.traffic).traffic ch; body = (says flow ch.traffic).body }) (record { channel = ch; body = None })).channel.state ≡ ch.state
+next_by flow true ch = refl
+next_by flow false ch = refl
 
-next_state : (window : ℕ) (owed : List Body) (ch : Channel) → (next_owed window owed ch).channel.state ≡ ch.state
-next_state window (b ∷ bs) ch = refl
-next_state window [] ch = next_by window (has_flow ch) ch
+next_state : (flow : Flow) (owed : List Body) (ch : Channel) → (next_owed flow owed ch).channel.state ≡ ch.state
+next_state flow (b ∷ bs) ch = refl
+next_state flow [] ch = next_by flow (has_flow ch) ch
 
 record SameState (l : Layer) (c : ℕ) (s : Shown) : Type 0 where
   old : Shown
@@ -80,21 +81,21 @@ leaves_none l c p s e = record { old = s; there = e; state = refl }
 
 leaves_found : (l : Layer) (d c : ℕ) (o : Option Channel) (others : Next) → channel_of l d ≡ o → Leaves l c others → Leaves l c (serve_found l d o others)
 leaves_found l d c None others got h = h
-leaves_found l d c (Some ch) others got h = by_body (next_of l.window ch).body
+leaves_found l d c (Some ch) others got h = by_body (next_of l.flow ch).body
   where
-    by_channel : (b : Option Body) (s : Shown) → shown_as l (nth_channel (with_nth l.channels d (next_of l.window ch).channel) c) ≡ Some s → ((c == d) ≡ true) ⊎ ((c == d) ≡ false) → SameState l c s
+    by_channel : (b : Option Body) (s : Shown) → shown_as l (nth_channel (with_nth l.channels d (next_of l.flow ch).channel) c) ≡ Some s → ((c == d) ≡ true) ⊎ ((c == d) ≡ false) → SameState l c s
     by_channel b s e (inl t) =
         let same : c ≡ d = eqb-true c d t in
-        let here : nth_channel (with_nth l.channels d (next_of l.window ch).channel) c ≡ Some (next_of l.window ch).channel =
-        ap (λ (k : ℕ). nth_channel (with_nth l.channels d (next_of l.window ch).channel) k) same ∙ nth_same l.channels d ch (next_of l.window ch).channel got in
+        let here : nth_channel (with_nth l.channels d (next_of l.flow ch).channel) c ≡ Some (next_of l.flow ch).channel =
+        ap (λ (k : ℕ). nth_channel (with_nth l.channels d (next_of l.flow ch).channel) k) same ∙ nth_same l.channels d ch (next_of l.flow ch).channel got in
         record {
-          old = record { role = l.role; window = l.window; channel = ch };
+          old = record { role = l.role; flow = l.flow; channel = ch };
           there = ap (λ (o : Option Channel). shown_as l o) (ap (λ (k : ℕ). channel_of l k) same ∙ got);
-          state = ap (λ (x : Shown). x.channel.state) (same_Some s _ (sym e ∙ ap (λ (o : Option Channel). shown_as l o) here)) ∙ next_state l.window ch.owed ch;
+          state = ap (λ (x : Shown). x.channel.state) (same_Some s _ (sym e ∙ ap (λ (o : Option Channel). shown_as l o) here)) ∙ next_state l.flow ch.owed ch;
         }
-    by_channel b s e (inr f) = record { old = s; there = sym (ap (λ (o : Option Channel). shown_as l o) (nth_other l.channels c d (next_of l.window ch).channel (not_equal c d f))) ∙ e; state = refl }
+    by_channel b s e (inr f) = record { old = s; there = sym (ap (λ (o : Option Channel). shown_as l o) (nth_other l.channels c d (next_of l.flow ch).channel (not_equal c d f))) ∙ e; state = refl }
 
-    by_body : (b : Option Body) → Leaves l c (cond (is_some b) (record { layer = record l { channels = with_nth l.channels d (next_of l.window ch).channel; served_last = d }; packet = packet_of d b }) others)
+    by_body : (b : Option Body) → Leaves l c (cond (is_some b) (record { layer = record l { channels = with_nth l.channels d (next_of l.flow ch).channel; served_last = d }; packet = packet_of d b }) others)
     by_body None = h
     by_body (Some b) = λ s e. by_channel (Some b) s e (decided (c == d))
 

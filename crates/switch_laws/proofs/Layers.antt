@@ -5,6 +5,7 @@ use Rattle.std.proofs.lemmas.Option.{none-some, same_Some}
 use Rattle.std.proofs.lemmas.Bool.{eqb-true}
 use Rattle.link_timers.specs.declared.role.Role.{Role}
 use Rattle.packet_codec.specs.Diagnostic.{no_information}
+use Rattle.packet_channel.specs.declared.flow.Flow.{Flow}
 use Rattle.packet_layer.specs.Packets.{CallParts, Body, Packet, Received}
 use Rattle.packet_layer.specs.Packets.Body.{Clear, ClearConfirmation, Reset, ResetConfirmation, Restart, RestartConfirmation}
 use Rattle.packet_layer.specs.Packets.Received.{Whole, Unknown, Faulty}
@@ -34,7 +35,7 @@ abbrev pub LineAgrees : Layer → (channel : ℕ) → Leg → Type 0
 LineAgrees l c g = (s : Shown) → shown_as l (channel_of l c) ≡ Some s → Agrees s g
 
 abbrev pub seen : Layer → Channel → Shown
-seen l ch = record { role = l.role; window = l.window; channel = ch }
+seen l ch = record { role = l.role; flow = l.flow; channel = ch }
 
 pub opened_shown : (o : Option Body) (g : Leg) → shown_of (opened o g) ≡ shown_of g
 opened_shown None g = refl
@@ -73,8 +74,8 @@ one_channel l d c step (Some ch) h g e f i s q = by_same (decided (c == d))
         subst (λ (b : Bool). Agrees s (if b then h g else g)) (sym t) (i s (sym (ap (λ (o : Option Channel). shown_as l o) other) ∙ q))
 
 -- all calls of the line close
-pub all_close : (l after : Layer) (c : ℕ) (g : Leg) → after.role ≡ l.role → after.window ≡ l.window → after.channels ≡ map (λ ch. closed_channel) l.channels → LineAgrees l c g → LineAgrees after c (closed g)
-all_close l after c g role window channels i s q = by_found (channel_of l c) refl
+pub all_close : (l after : Layer) (c : ℕ) (g : Leg) → after.role ≡ l.role → after.flow ≡ l.flow → after.channels ≡ map (λ ch. closed_channel) l.channels → LineAgrees l c g → LineAgrees after c (closed g)
+all_close l after c g role flow channels i s q = by_found (channel_of l c) refl
   where
     mapped : (k : ℕ) (chs : List Channel) → nth_channel (map (λ ch. closed_channel) chs) k ≡ option_map (λ ch. closed_channel) (nth_channel chs k)
     mapped zero chs = refl
@@ -89,8 +90,8 @@ all_close l after c g role window channels i s q = by_found (channel_of l c) ref
         let old = i (seen l ch) (ap (λ (o : Option Channel). shown_as l o) e) in
         let is : seen after closed_channel ≡ s = same_Some _ _ (sym (ap (λ (o : Option Channel). shown_as after (option_map (λ ch. closed_channel) o)) e) ∙ now) in
         record {
-          shown = sym is ∙ (ap (λ (r : Role). record (seen after closed_channel) { role = r }) role ∙ (ap (λ (k : ℕ). record (seen l closed_channel) { window = k }) window ∙ ap (λ (x : Shown). record x { channel = closed_channel }) old.shown));
-          leg = start_good (closed g) old.leg.leg.window (record { not_resetting = refl; traffic = refl; before = refl; epoch = refl });
+          shown = sym is ∙ (ap (λ (r : Role). record (seen after closed_channel) { role = r }) role ∙ (ap (λ (f : Flow). record (seen l closed_channel) { flow = f }) flow ∙ ap (λ (x : Shown). record x { channel = closed_channel }) old.shown));
+          leg = start_good (closed g) old.leg.leg.flow (record { not_resetting = refl; traffic = refl; before = refl; epoch = refl });
         }
 
 -- ---- asked
@@ -115,11 +116,11 @@ line_restarts RestartConfirmation l c g i = all_close l (restart_packet PacketRe
 line_restarts _ l c g i = i
 
 line_hears : (p : Body) (l : Layer) (d c : ℕ) (g : Leg) → LineAgrees l c g
-    → LineAgrees (on_found l d (λ ch. received l.role l.window d ch p) (channel_of l d)) c (if c == d then heard c p g else g)
+    → LineAgrees (on_found l d (λ ch. received l.role l.flow d ch p) (channel_of l d)) c (if c == d then heard c p g else g)
 line_hears p l d c g i =
-    one_channel l d c (λ ch. received l.role l.window d ch p) (channel_of l d) (λ x. heard c p x) g refl
+    one_channel l d c (λ ch. received l.role l.flow d ch p) (channel_of l d) (λ x. heard c p x) g refl
     (λ ch same here a. record {
-      shown = ap (λ (k : ℕ). seen l (owing (received l.role l.window k ch p))) (sym same) ∙ stepped_shown (λ t. received t.role t.window c t.channel p) (heard_epoch g.channel.state g.channel.resetting (hears g.window g.channel.traffic p) g.epoch) (seen l ch) g a.shown;
+      shown = ap (λ (k : ℕ). seen l (owing (received l.role l.flow k ch p))) (sym same) ∙ stepped_shown (λ t. received t.role t.flow c t.channel p) (heard_epoch g.channel.state g.channel.resetting (hears g.flow g.channel.traffic p) g.epoch) (seen l ch) g a.shown;
       leg = heard_good c p g a.leg;
     }) i
 
@@ -142,7 +143,7 @@ restart_same RestartConfirmation l c g i = i
 restart_same _ l c g i = i
 
 line_whole : (phase : Phase) (p : Packet) (l : Layer) (c : ℕ) (g : Leg) → LineAgrees l c g
-    → LineAgrees (cond (p.channel == 0) (restart_packet phase p.body l) (on_channel phase l p.channel (λ ch. received l.role l.window p.channel ch p.body))) c (came_in phase (Whole p) c g)
+    → LineAgrees (cond (p.channel == 0) (restart_packet phase p.body l) (on_channel phase l p.channel (λ ch. received l.role l.flow p.channel ch p.body))) c (came_in phase (Whole p) c g)
 line_whole PacketReady p l c g i =
     by_both (λ (x : Layer) (y : Leg). LineAgrees x c y) (p.channel == 0) _ _ _ _ (line_restarts p.body l c g i) (line_hears p.body l p.channel c g i)
 line_whole OwnRestart p l c g i = by_cond (λ (x : Layer). LineAgrees x c g) (p.channel == 0) _ _ (λ h. restart_same p.body l c g i) (λ h. i)
@@ -166,7 +167,7 @@ line_clears l d c g i =
     one_channel l d c (λ ch. clear_error l.role d no_information true ch) (channel_of l d) (λ x. stepped (clear_error x.role c no_information true x.channel) x.epoch x) g refl
     (λ ch same here a. record {
       shown = stepped_shown (λ t. clear_error t.role c no_information true t.channel) g.epoch (seen l ch) g a.shown;
-      leg = start_good (stepped (clear_error g.role c no_information true g.channel) g.epoch g) a.leg.leg.window (record { not_resetting = refl; traffic = refl; before = refl; epoch = refl });
+      leg = start_good (stepped (clear_error g.role c no_information true g.channel) g.epoch g) a.leg.leg.flow (record { not_resetting = refl; traffic = refl; before = refl; epoch = refl });
     }) i
 
 line_expired : (t : Timer) (l : Layer) (c : ℕ) (g : Leg) → LineAgrees l c g → LineAgrees (expired l t) c (ran_out t c g)
@@ -196,7 +197,7 @@ line_places (Some d) parts l c g free i =
     let st = a.leg.start (not_in_transfer g.channel.state (ap (λ (t : Shown). is_ready t.channel.state) (sym a.shown) ∙ ready)) in
     record {
       shown = stepped_shown (λ t. placing parts t.channel) g.epoch (seen l ch) g a.shown;
-      leg = start_good (stepped (placing parts g.channel) g.epoch g) a.leg.leg.window (record { not_resetting = st.not_resetting; traffic = st.traffic; before = st.before; epoch = st.epoch });
+      leg = start_good (stepped (placing parts g.channel) g.epoch g) a.leg.leg.flow (record { not_resetting = st.not_resetting; traffic = st.traffic; before = st.before; epoch = st.epoch });
     }) i
 
 line_calls : (parts : CallParts) (l : Layer) (c : ℕ) (g : Leg) → LineAgrees l c g → LineAgrees (call l parts) c (placed_if (is_channel (channel_given l l.phase) c) parts g)
@@ -209,16 +210,16 @@ Gave c g n = LineAgrees n.layer c (gave_if n.packet c g)
 
 serve_one : (l : Layer) (d c : ℕ) (found : Option Channel) (others : Next) (g : Leg) → channel_of l d ≡ found → LineAgrees l c g → Gave c g others → Gave c g (serve_found l d found others)
 serve_one l d c None others g e i o = o
-serve_one l d c (Some ch) others g e i o = by_body (next_of l.window ch).body
+serve_one l d c (Some ch) others g e i o = by_body (next_of l.flow ch).body
   where
     step : Channel → Step
-    step x = record { channel = (next_of l.window x).channel; owes = None; notes = [] }
+    step x = record { channel = (next_of l.flow x).channel; owes = None; notes = [] }
 
-    by_body : (b : Option Body) → Gave c g (cond (is_some b) (record { layer = record l { channels = with_nth l.channels d (next_of l.window ch).channel; served_last = d }; packet = packet_of d b }) others)
+    by_body : (b : Option Body) → Gave c g (cond (is_some b) (record { layer = record l { channels = with_nth l.channels d (next_of l.flow ch).channel; served_last = d }; packet = packet_of d b }) others)
     by_body None = o
     by_body (Some b) =
         one_channel l d c step (Some ch) (λ x. gave x) g e
-        (λ x same here a. record { shown = ap (λ (t : Shown). record t { channel = (next_of t.window t.channel).channel }) a.shown; leg = gave_good g a.leg }) i
+        (λ x same here a. record { shown = ap (λ (t : Shown). record t { channel = (next_of t.flow t.channel).channel }) a.shown; leg = gave_good g a.leg }) i
 
 serve_all : (k : ℕ) (l : Layer) (d c : ℕ) (g : Leg) → LineAgrees l c g → Gave c g (serve k l d)
 serve_all zero l d c g i = i

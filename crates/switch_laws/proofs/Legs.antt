@@ -3,9 +3,12 @@ use Rattle.std.proofs.Common.{◌≡◌, ℕ, zero, suc, ◌+◌, ◌≤◌, Boo
 use Rattle.std.proofs.lemmas.Bool.{leb-true, le-leb}
 use Rattle.std.proofs.lemmas.Option.{none-some}
 use Rattle.link_timers.specs.declared.role.Role.{Role}
+use Rattle.packet_channel.proofs.Windows.{window_below, window_small}
+use Rattle.packet_layer.specs.Flow.{IsFlow, shown, ahead_shown}
+use Rattle.packet_channel.specs.declared.flow.Flow.{Flow}
 use Rattle.packet_layer.specs.Packets.{Datum, Body}
 use Rattle.packet_layer.specs.Packets.Body.{Data, Interrupt, InterruptConfirmation, ReceiveReady, ReceiveNotReady}
-use Rattle.packet_layer.specs.Traffic.{Traffic, fresh, taking, taking_of, distance, may_release, releasing, confirming, interrupt_pending, unreleased, says, says_interrupt, says_data, says_flow, flow_told, window_open, Said, hears, Heard, covers, keeps, arrives, partner_says, interrupted, in_flight}
+use Rattle.packet_layer.specs.Traffic.{Traffic, fresh, taking, taking_of, may_release, releasing, confirming, interrupt_pending, unreleased, says, says_interrupt, says_data, says_flow, flow_told, window_open, Said, hears, Heard, covers, keeps, arrives, partner_says, interrupted, in_flight}
 use Rattle.packet_layer.specs.Traffic.Heard.{Keeps, Confirms, Wrong}
 use Rattle.packet_layer.specs.Channel.{CallState, Request, Refusal, refusal, refused_if, in_transfer, moved, next_owed, ChannelNext, has_flow}
 use Rattle.packet_layer.specs.Channel.CallState.{Transfer}
@@ -54,12 +57,12 @@ confirming_allowed g e = ap (λ (s : CallState). refused_if (not (in_transfer s)
 pub release_allowed : (n : ℕ) (g : Leg) → IsLeg g → g.epoch.released + n ≤ length g.epoch.taken → may_release n g.channel.traffic ≡ true
 release_allowed n g i le =
     let t = g.channel.traffic in
-    let count = unreleased_is g.window t g.epoch i.window i.counts in
+    let count = unreleased_is g.flow t g.epoch (window_below _ i.flow) i.counts in
     le-leb (n + length t.arrived) (unreleased t) (omega arith)
 
-pub arrived_within : (g : Leg) → IsLeg g → length g.channel.traffic.arrived ≤ 7
+pub arrived_within : (g : Leg) → IsLeg g → length g.channel.traffic.arrived ≤ 32
 arrived_within g i =
-    let taken = i.counts.released_taken in let within = i.counts.came_within in let small = i.window in omega arith
+    let taken = i.counts.released_taken in let within = i.counts.came_within in let small = window_small _ i.flow in omega arith
 
 -- ---- interrupts: what a step that only moves them on keeps of them
 
@@ -71,25 +74,25 @@ pub record Flags (t u : Traffic) : Type 0 where
 same_flags : (t : Traffic) → Flags t t
 same_flags t = record { pending = refl; taken = refl; one = λ f. f }
 
-says_flow_flags : (t : Traffic) → Flags t (says_flow t).traffic
-says_flow_flags t = by_cond (λ (s : Said). Flags t s.traffic) (flow_told t) _ _ (λ h. same_flags t) (λ h. record { pending = refl; taken = refl; one = λ f. f })
+says_flow_flags : (flow : Flow) (t : Traffic) → Flags t (says_flow flow t).traffic
+says_flow_flags flow t = by_cond (λ (s : Said). Flags t s.traffic) (flow_told t) _ _ (λ h. same_flags t) (λ h. record { pending = refl; taken = refl; one = λ f. f })
 
-says_data_flags : (window : ℕ) (ds : List Datum) (t : Traffic) → Flags t (says_data window ds t).traffic
-says_data_flags window [] t = says_flow_flags t
-says_data_flags window (d ∷ ds) t = by_cond (λ (s : Said). Flags t s.traffic) (window_open window t) _ _ (λ h. record { pending = refl; taken = refl; one = λ f. f }) (λ h. says_flow_flags t)
+says_data_flags : (flow : Flow) (ds : List Datum) (t : Traffic) → Flags t (says_data flow ds t).traffic
+says_data_flags flow [] t = says_flow_flags flow t
+says_data_flags flow (d ∷ ds) t = by_cond (λ (s : Said). Flags t s.traffic) (window_open flow t) _ _ (λ h. record { pending = refl; taken = refl; one = λ f. f }) (λ h. says_flow_flags flow t)
 
-says_interrupt_flags : (window : ℕ) (q : Option (List ℕ)) (t : Traffic) → t.interrupt_waiting ≡ q → Flags t (says_interrupt window q t).traffic
-says_interrupt_flags window (Some octets) t e = record {
+says_interrupt_flags : (flow : Flow) (q : Option (List ℕ)) (t : Traffic) → t.interrupt_waiting ≡ q → Flags t (says_interrupt flow q t).traffic
+says_interrupt_flags flow (Some octets) t e = record {
   pending = sym (ap (λ (w : Option (List ℕ)). is_some w || t.interrupt_unconfirmed) e);
   taken = refl;
   one = λ f u. refl;
 }
-says_interrupt_flags window None t e = says_data_flags window t.waiting t
+says_interrupt_flags flow None t e = says_data_flags flow t.waiting t
 
-pub says_flags : (window : ℕ) (t : Traffic) → Flags t (says window t).traffic
-says_flags window t =
+pub says_flags : (flow : Flow) (t : Traffic) → Flags t (says flow t).traffic
+says_flags flow t =
     by_cond (λ (s : Said). Flags t s.traffic) t.confirmation_due _ _ (λ h. record { pending = refl; taken = refl; one = λ f. f })
-    (λ h. says_interrupt_flags window t.interrupt_waiting t refl)
+    (λ h. says_interrupt_flags flow t.interrupt_waiting t refl)
 
 abbrev pub HearsFlags : Traffic → Heard → Type 0
 HearsFlags t (Keeps n u) = Flags t u
@@ -99,9 +102,10 @@ HearsFlags t (Wrong d) = Unit {0}
 through : (n c : ℕ) (t : Traffic) (u : Traffic) → Flags (record t { covered = c; undelivered = t.undelivered - n }) u → Flags t u
 through n c t u i = record { pending = i.pending; taken = i.taken; one = i.one }
 
-covers_flags : (f : Traffic → Traffic) → ((u : Traffic) → Flags u (f u)) → (r : ℕ) (t : Traffic) → HearsFlags t (keeps (λ u. f u) (covers r t))
-covers_flags f same r t =
-    by_cond (λ (h : Heard). HearsFlags t (keeps (λ u. f u) h)) (nat_le (distance t.covered r) (in_flight t)) _ _ (λ h. through (distance t.covered r) ((t.covered + distance t.covered r) % 8) t _ (same _)) (λ h. tt)
+covers_flags : (f : Traffic → Traffic) → ((u : Traffic) → Flags u (f u)) → (flow : Flow) (r : ℕ) (t : Traffic) → HearsFlags t (keeps (λ u. f u) (covers flow r t))
+covers_flags f same flow r t =
+    let newly = ahead_shown flow.numbering t.covered r in
+    by_cond (λ (h : Heard). HearsFlags t (keeps (λ u. f u) h)) (nat_le newly (in_flight t)) _ _ (λ h. through newly ((t.covered + newly) % 128) t _ (same _)) (λ h. tt)
 
 arrives_flags : (d : Datum) (u : Traffic) → Flags u (arrives d u)
 arrives_flags d u = record { pending = refl; taken = refl; one = λ f. f }
@@ -109,15 +113,15 @@ arrives_flags d u = record { pending = refl; taken = refl; one = λ f. f }
 busy_flags : (b : Bool) (u : Traffic) → Flags u (partner_says b u)
 busy_flags b u = record { pending = refl; taken = refl; one = λ f. f }
 
-pub hears_flags : (window : ℕ) (t : Traffic) (b : Body) → HearsFlags t (hears window t b)
-hears_flags window t (Data s r d) =
-    by_cond (λ (h : Heard). HearsFlags t h) ((s == t.receive_number) && nat_lt (unreleased t) window) _ _ (λ h. covers_flags (λ u. arrives d u) (λ u. arrives_flags d u) r t) (λ h. tt)
-hears_flags window t (ReceiveReady r) = covers_flags (λ u. partner_says false u) (λ u. busy_flags false u) r t
-hears_flags window t (ReceiveNotReady r) = covers_flags (λ u. partner_says true u) (λ u. busy_flags true u) r t
-hears_flags window t (Interrupt octets) =
+pub hears_flags : (flow : Flow) (t : Traffic) (b : Body) → HearsFlags t (hears flow t b)
+hears_flags flow t (Data s r d) =
+    by_cond (λ (h : Heard). HearsFlags t h) ((s == shown flow.numbering t.receive_number) && nat_lt (unreleased t) flow.window) _ _ (λ h. covers_flags (λ u. arrives d u) (λ u. arrives_flags d u) flow r t) (λ h. tt)
+hears_flags flow t (ReceiveReady r) = covers_flags (λ u. partner_says false u) (λ u. busy_flags false u) flow r t
+hears_flags flow t (ReceiveNotReady r) = covers_flags (λ u. partner_says true u) (λ u. busy_flags true u) flow r t
+hears_flags flow t (Interrupt octets) =
     by_cond (λ (h : Heard). HearsFlags t h) (interrupted t) _ _ (λ h. tt) (λ h. record { pending = refl; taken = refl; one = λ f. f })
-hears_flags window t InterruptConfirmation = by_cond (λ (h : Heard). HearsFlags t h) t.interrupt_unconfirmed _ _ (λ h. (h, refl)) (λ h. tt)
-hears_flags window t _ = tt
+hears_flags flow t InterruptConfirmation = by_cond (λ (h : Heard). HearsFlags t h) t.interrupt_unconfirmed _ _ (λ h. (h, refl)) (λ h. tt)
+hears_flags flow t _ = tt
 
 -- ---- what the switch asks
 
@@ -131,8 +135,8 @@ leg_taken g i =
     let t = g.channel.traffic in
     let f = taking_flags t.interrupt_arrived t.arrived t in
     record {
-      window = i.window;
-      counts = counts_hold.asked g.window i.window t g.epoch Taking i.counts;
+      flow = i.flow;
+      counts = counts_hold.asked g.flow (window_below _ i.flow) t g.epoch Taking i.counts;
       traffic_anew = λ r. ap (λ (u : Traffic). taking u) (i.traffic_anew r);
       epoch_anew = λ r. ap₂ (λ (u : Traffic) (e : Epoch). logged u Taking e) (i.traffic_anew r) (i.epoch_anew r);
       one_interrupt = λ u. f.1 ∙ i.one_interrupt (sym f.0 ∙ u);
@@ -155,8 +159,8 @@ leg_released n g i =
     let t = g.channel.traffic in
     let f = releasing_flags (may_release n t) n t in
     record {
-      window = i.window;
-      counts = counts_hold.asked g.window i.window t g.epoch (Releasing n) i.counts;
+      flow = i.flow;
+      counts = counts_hold.asked g.flow (window_below _ i.flow) t g.epoch (Releasing n) i.counts;
       traffic_anew = λ r. ap (λ (u : Traffic). cond (may_release n u) (releasing n u) u) (i.traffic_anew r) ∙ releasing_fresh n;
       epoch_anew = λ r. ap₂ (λ (u : Traffic) (e : Epoch). logged u (Releasing n) e) (i.traffic_anew r) (i.epoch_anew r) ∙ releasing_empty n;
       one_interrupt = λ u. f.1 ∙ i.one_interrupt (sym f.0 ∙ u);
@@ -171,8 +175,8 @@ leg_confirmed g i =
     let t = g.channel.traffic in
     let f = confirming_flags t.interrupt_taken t in
     record {
-      window = i.window;
-      counts = counts_hold.asked g.window i.window t g.epoch Confirming i.counts;
+      flow = i.flow;
+      counts = counts_hold.asked g.flow (window_below _ i.flow) t g.epoch Confirming i.counts;
       traffic_anew = λ r. ap (λ (u : Traffic). cond u.interrupt_taken (confirming u) u) (i.traffic_anew r);
       epoch_anew = i.epoch_anew;
       one_interrupt = λ u. f.1 ∙ i.one_interrupt (sym f.0 ∙ u);
@@ -180,8 +184,8 @@ leg_confirmed g i =
 
 pub leg_sent : (d : Datum) (g : Leg) → g.channel.resetting ≡ false → IsLeg g → IsLeg (asked_unless None (Sending d) g)
 leg_sent d g clear i = record {
-  window = i.window;
-  counts = counts_hold.asked g.window i.window g.channel.traffic g.epoch (Sending d) i.counts;
+  flow = i.flow;
+  counts = counts_hold.asked g.flow (window_below _ i.flow) g.channel.traffic g.epoch (Sending d) i.counts;
   traffic_anew = λ r. absurd (true≢false (sym r ∙ clear));
   epoch_anew = λ r. absurd (true≢false (sym r ∙ clear));
   one_interrupt = i.one_interrupt;
@@ -189,8 +193,8 @@ leg_sent d g clear i = record {
 
 pub leg_interrupted : (octets : List ℕ) (g : Leg) → g.channel.resetting ≡ false → g.channel.traffic.interrupt_unconfirmed ≡ false → IsLeg g → IsLeg (asked_unless None (Interrupting octets) g)
 leg_interrupted octets g clear none i = record {
-  window = i.window;
-  counts = counts_hold.asked g.window i.window g.channel.traffic g.epoch (Interrupting octets) i.counts;
+  flow = i.flow;
+  counts = counts_hold.asked g.flow (window_below _ i.flow) g.channel.traffic g.epoch (Interrupting octets) i.counts;
   traffic_anew = λ r. absurd (true≢false (sym r ∙ clear));
   epoch_anew = λ r. absurd (true≢false (sym r ∙ clear));
   one_interrupt = λ u. absurd (true≢false (sym u ∙ none));
@@ -203,17 +207,17 @@ anew b owed g = record g { channel = record g.channel { resetting = b; owed = ow
 
 pub leg_anew : (b : Bool) (owed : List Body) (g : Leg) → IsLeg g → IsLeg (anew b owed g)
 leg_anew b owed g i = record {
-  window = i.window;
-  counts = counts_hold.begins g.window;
+  flow = i.flow;
+  counts = counts_hold.begins g.flow;
   traffic_anew = λ r. refl;
   epoch_anew = λ r. refl;
   one_interrupt = λ u. refl;
 }
 
-pub leg_connected : (role : Role) (window : ℕ) (owed : List Body) → window ≤ 7 → IsLeg (connected role window owed)
-leg_connected role window owed le = record {
-  window = le;
-  counts = counts_hold.begins window;
+pub leg_connected : (role : Role) (flow : Flow) (owed : List Body) → IsFlow flow → IsLeg (connected role flow owed)
+leg_connected role flow owed le = record {
+  flow = le;
+  counts = counts_hold.begins flow;
   traffic_anew = λ r. refl;
   epoch_anew = λ r. refl;
   one_interrupt = λ u. refl;
@@ -230,25 +234,25 @@ pub record Gives (g h : Leg) : Type 0 where
   pub epoch : h.epoch ≡ g.epoch
 
 gives_says : (b : Bool) (g : Leg) → IsLeg g → (b ≡ true → g.channel.resetting ≡ false)
-    → Gives g (record g { channel = (cond {A = ChannelNext} b (record { channel = moved (says g.window g.channel.traffic).traffic g.channel; body = (says g.window g.channel.traffic).body }) (record { channel = g.channel; body = None })).channel })
+    → Gives g (record g { channel = (cond {A = ChannelNext} b (record { channel = moved (says g.flow g.channel.traffic).traffic g.channel; body = (says g.flow g.channel.traffic).body }) (record { channel = g.channel; body = None })).channel })
 gives_says true g i clear = record {
   leg = record {
-    window = i.window;
-    counts = (counts_hold.said g.window i.window g.channel.traffic g.epoch i.counts).0;
+    flow = i.flow;
+    counts = (counts_hold.said g.flow (window_below _ i.flow) g.channel.traffic g.epoch i.counts).0;
     traffic_anew = λ r. absurd (true≢false (sym r ∙ clear refl));
     epoch_anew = i.epoch_anew;
-    one_interrupt = (says_flags g.window g.channel.traffic).one i.one_interrupt;
+    one_interrupt = (says_flags g.flow g.channel.traffic).one i.one_interrupt;
   };
   state = refl;
-  flags = says_flags g.window g.channel.traffic;
+  flags = says_flags g.flow g.channel.traffic;
   before = refl;
   epoch = refl;
 }
 gives_says false g i clear = record { leg = i; state = refl; flags = same_flags g.channel.traffic; before = refl; epoch = refl }
 
-gives_owed : (owed : List Body) (g : Leg) → IsLeg g → Gives g (record g { channel = (next_owed g.window owed g.channel).channel })
+gives_owed : (owed : List Body) (g : Leg) → IsLeg g → Gives g (record g { channel = (next_owed g.flow owed g.channel).channel })
 gives_owed (b ∷ bs) g i = record {
-  leg = record { window = i.window; counts = i.counts; traffic_anew = i.traffic_anew; epoch_anew = i.epoch_anew; one_interrupt = i.one_interrupt };
+  leg = record { flow = i.flow; counts = i.counts; traffic_anew = i.traffic_anew; epoch_anew = i.epoch_anew; one_interrupt = i.one_interrupt };
   state = refl;
   flags = same_flags g.channel.traffic;
   before = refl;

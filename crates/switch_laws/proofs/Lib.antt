@@ -40,3 +40,4 @@ pub mod Isolating
 pub mod Untouched
 pub mod Fitting
 pub mod Framing
+pub mod RolesStay

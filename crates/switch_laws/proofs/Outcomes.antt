@@ -2,6 +2,7 @@
 use Rattle.std.proofs.Common.{◌≡◌, ℕ, Bool, true, false, cond, ◌==◌, List, [], ◌∷◌, None, refl, sym, true≢false}
 use Rattle.link_timers.specs.declared.role.Role.{Role}
 use Rattle.link_timers.specs.declared.role.Role.TheVariants.{Dte, Dce}
+use Rattle.packet_channel.specs.declared.flow.Flow.{Flow}
 use Rattle.packet_layer.specs.Packets.{Body, Note, Reason}
 use Rattle.packet_layer.specs.Packets.Body.{Call, Accepted, Clear, ClearConfirmation, Data, Interrupt, InterruptConfirmation, ReceiveReady, ReceiveNotReady, Reset, ResetConfirmation}
 use Rattle.packet_layer.specs.Packets.Note.{Incoming, Connected, Closed, WasReset, InterruptConfirmed, Covered}
@@ -52,62 +53,62 @@ heard_of role c ch (Keeps n t) s = covered_of c role s (n == 0) n
 heard_of role c ch (Confirms t) s = (refl, tt)
 heard_of role c ch (Wrong d) s = (refl, tt)
 
-abbrev Received : Role → ℕ → ℕ → Channel → Body → Type 0
-Received role window c ch p = Outcome c role ch (received role window c ch p)
+abbrev Received : Role → Flow → ℕ → Channel → Body → Type 0
+Received role flow c ch p = Outcome c role ch (received role flow c ch p)
 
 heard_state : (role : Role) (c : ℕ) (ch : Channel) (h : Heard) → ch.state ≡ Transfer → (after_heard role c ch h).channel.state ≡ Transfer
 heard_state role c ch (Keeps n t) e = e
 heard_state role c ch (Confirms t) e = e
 heard_state role c ch (Wrong d) e = e
 
-d1 : (role : Role) (window c : ℕ) (p : Body) (ch : Channel) → Received role window c (ch_in Transfer false ch) p
-d1 role window c (Clear cause diagnostic) ch = ends _ _ _ _ refl
-d1 role window c (Reset cause diagnostic) ch = goes_on refl refl (refl, tt)
-d1 role window c ResetConfirmation ch = goes_on refl refl (refl, tt)
-d1 role window c (Data send receive d) ch = goes_on refl (heard_state role c (ch_in Transfer false ch) (hears_in window ch.traffic (Data send receive d)) refl) (heard_goes_on role c (ch_in Transfer false ch) (hears_in window ch.traffic (Data send receive d)) refl).1
-d1 role window c (ReceiveReady receive) ch = goes_on refl (heard_state role c (ch_in Transfer false ch) (hears_in window ch.traffic (ReceiveReady receive)) refl) (heard_goes_on role c (ch_in Transfer false ch) (hears_in window ch.traffic (ReceiveReady receive)) refl).1
-d1 role window c (ReceiveNotReady receive) ch = goes_on refl (heard_state role c (ch_in Transfer false ch) (hears_in window ch.traffic (ReceiveNotReady receive)) refl) (heard_goes_on role c (ch_in Transfer false ch) (hears_in window ch.traffic (ReceiveNotReady receive)) refl).1
-d1 role window c (Interrupt octets) ch = goes_on refl (heard_state role c (ch_in Transfer false ch) (hears_in window ch.traffic (Interrupt octets)) refl) (heard_goes_on role c (ch_in Transfer false ch) (hears_in window ch.traffic (Interrupt octets)) refl).1
-d1 role window c InterruptConfirmation ch = goes_on refl (heard_state role c (ch_in Transfer false ch) (hears_in window ch.traffic InterruptConfirmation) refl) (heard_goes_on role c (ch_in Transfer false ch) (hears_in window ch.traffic InterruptConfirmation) refl).1
-d1 role window c p ch = ends _ _ _ _ refl
+d1 : (role : Role) (flow : Flow) (c : ℕ) (p : Body) (ch : Channel) → Received role flow c (ch_in Transfer false ch) p
+d1 role flow c (Clear cause diagnostic) ch = ends _ _ _ _ refl
+d1 role flow c (Reset cause diagnostic) ch = goes_on refl refl (refl, tt)
+d1 role flow c ResetConfirmation ch = goes_on refl refl (refl, tt)
+d1 role flow c (Data send receive d) ch = goes_on refl (heard_state role c (ch_in Transfer false ch) (hears_in flow ch.traffic (Data send receive d)) refl) (heard_goes_on role c (ch_in Transfer false ch) (hears_in flow ch.traffic (Data send receive d)) refl).1
+d1 role flow c (ReceiveReady receive) ch = goes_on refl (heard_state role c (ch_in Transfer false ch) (hears_in flow ch.traffic (ReceiveReady receive)) refl) (heard_goes_on role c (ch_in Transfer false ch) (hears_in flow ch.traffic (ReceiveReady receive)) refl).1
+d1 role flow c (ReceiveNotReady receive) ch = goes_on refl (heard_state role c (ch_in Transfer false ch) (hears_in flow ch.traffic (ReceiveNotReady receive)) refl) (heard_goes_on role c (ch_in Transfer false ch) (hears_in flow ch.traffic (ReceiveNotReady receive)) refl).1
+d1 role flow c (Interrupt octets) ch = goes_on refl (heard_state role c (ch_in Transfer false ch) (hears_in flow ch.traffic (Interrupt octets)) refl) (heard_goes_on role c (ch_in Transfer false ch) (hears_in flow ch.traffic (Interrupt octets)) refl).1
+d1 role flow c InterruptConfirmation ch = goes_on refl (heard_state role c (ch_in Transfer false ch) (hears_in flow ch.traffic InterruptConfirmation) refl) (heard_goes_on role c (ch_in Transfer false ch) (hears_in flow ch.traffic InterruptConfirmation) refl).1
+d1 role flow c p ch = ends _ _ _ _ refl
 
-own_reset : (role : Role) (window c : ℕ) (p : Body) (ch : Channel) → Received role window c (ch_in Transfer true ch) p
-own_reset role window c (Reset cause diagnostic) ch = goes_on refl refl tt
-own_reset role window c ResetConfirmation ch = goes_on refl refl tt
-own_reset role window c (Data send receive d) ch = goes_on refl refl tt
-own_reset role window c (ReceiveReady receive) ch = goes_on refl refl tt
-own_reset role window c (ReceiveNotReady receive) ch = goes_on refl refl tt
-own_reset role window c (Interrupt octets) ch = goes_on refl refl tt
-own_reset role window c InterruptConfirmation ch = goes_on refl refl tt
-own_reset role window c p ch = ends _ _ _ _ refl
+own_reset : (role : Role) (flow : Flow) (c : ℕ) (p : Body) (ch : Channel) → Received role flow c (ch_in Transfer true ch) p
+own_reset role flow c (Reset cause diagnostic) ch = goes_on refl refl tt
+own_reset role flow c ResetConfirmation ch = goes_on refl refl tt
+own_reset role flow c (Data send receive d) ch = goes_on refl refl tt
+own_reset role flow c (ReceiveReady receive) ch = goes_on refl refl tt
+own_reset role flow c (ReceiveNotReady receive) ch = goes_on refl refl tt
+own_reset role flow c (Interrupt octets) ch = goes_on refl refl tt
+own_reset role flow c InterruptConfirmation ch = goes_on refl refl tt
+own_reset role flow c p ch = ends _ _ _ _ refl
 
-own_waiting : (role : Role) (rs : Bool) (window c : ℕ) (p : Body) (ch : Channel) → Received role window c (ch_in OwnWaiting rs ch) p
-own_waiting role rs window c Accepted ch = connects refl refl
-own_waiting Dte rs window c (Call parts) ch = waits refl refl refl
-own_waiting Dce rs window c (Call parts) ch = ends _ _ _ _ refl
-own_waiting role rs window c p ch = ends _ _ _ _ refl
+own_waiting : (role : Role) (rs : Bool) (flow : Flow) (c : ℕ) (p : Body) (ch : Channel) → Received role flow c (ch_in OwnWaiting rs ch) p
+own_waiting role rs flow c Accepted ch = connects refl refl
+own_waiting Dte rs flow c (Call parts) ch = waits refl refl refl
+own_waiting Dce rs flow c (Call parts) ch = ends _ _ _ _ refl
+own_waiting role rs flow c p ch = ends _ _ _ _ refl
 
-far_waiting : (role : Role) (rs : Bool) (window c : ℕ) (p : Body) (ch : Channel) → Received role window c (ch_in FarWaiting rs ch) p
-far_waiting role rs window c (Clear cause diagnostic) ch = ends _ _ _ _ refl
-far_waiting role rs window c p ch = ends _ _ _ _ refl
+far_waiting : (role : Role) (rs : Bool) (flow : Flow) (c : ℕ) (p : Body) (ch : Channel) → Received role flow c (ch_in FarWaiting rs ch) p
+far_waiting role rs flow c (Clear cause diagnostic) ch = ends _ _ _ _ refl
+far_waiting role rs flow c p ch = ends _ _ _ _ refl
 
-collision : (role : Role) (rs : Bool) (window c : ℕ) (p : Body) (ch : Channel) → Received role window c (ch_in Collision rs ch) p
-collision Dte rs window c Accepted ch = connects refl refl
-collision Dte rs window c (Clear cause diagnostic) ch = ends _ _ _ _ refl
-collision Dce rs window c (Clear cause diagnostic) ch = ends _ _ _ _ refl
-collision role rs window c p ch = ends _ _ _ _ refl
+collision : (role : Role) (rs : Bool) (flow : Flow) (c : ℕ) (p : Body) (ch : Channel) → Received role flow c (ch_in Collision rs ch) p
+collision Dte rs flow c Accepted ch = connects refl refl
+collision Dte rs flow c (Clear cause diagnostic) ch = ends _ _ _ _ refl
+collision Dce rs flow c (Clear cause diagnostic) ch = ends _ _ _ _ refl
+collision role rs flow c p ch = ends _ _ _ _ refl
 
-received_in : (s : CallState) (rs : Bool) (role : Role) (window c : ℕ) (p : Body) (ch : Channel) → had_call s ≡ true → Received role window c (ch_in s rs ch) p
-received_in Ready rs role window c p ch e = absurd (true≢false (sym e))
-received_in OwnWaiting rs role window c p ch e = own_waiting role rs window c p ch
-received_in FarWaiting rs role window c p ch e = far_waiting role rs window c p ch
-received_in Transfer true role window c p ch e = own_reset role window c p ch
-received_in Transfer false role window c p ch e = d1 role window c p ch
-received_in Collision rs role window c p ch e = collision role rs window c p ch
-received_in OwnClear rs role window c p ch e = absurd (true≢false (sym e))
+received_in : (s : CallState) (rs : Bool) (role : Role) (flow : Flow) (c : ℕ) (p : Body) (ch : Channel) → had_call s ≡ true → Received role flow c (ch_in s rs ch) p
+received_in Ready rs role flow c p ch e = absurd (true≢false (sym e))
+received_in OwnWaiting rs role flow c p ch e = own_waiting role rs flow c p ch
+received_in FarWaiting rs role flow c p ch e = far_waiting role rs flow c p ch
+received_in Transfer true role flow c p ch e = own_reset role flow c p ch
+received_in Transfer false role flow c p ch e = d1 role flow c p ch
+received_in Collision rs role flow c p ch e = collision role rs flow c p ch
+received_in OwnClear rs role flow c p ch e = absurd (true≢false (sym e))
 
-pub received_outcome : (role : Role) (window c : ℕ) (p : Body) (ch : Channel) → had_call ch.state ≡ true → Outcome c role ch (received role window c ch p)
-received_outcome role window c p ch e = received_in ch.state ch.resetting role window c p ch e
+pub received_outcome : (role : Role) (flow : Flow) (c : ℕ) (p : Body) (ch : Channel) → had_call ch.state ≡ true → Outcome c role ch (received role flow c ch p)
+received_outcome role flow c p ch e = received_in ch.state ch.resetting role flow c p ch e
 
 unreadable_in : (s : CallState) (rs : Bool) (role : Role) (c : ℕ) (unknown : Bool) (ch : Channel) → had_call s ≡ true → Outcome c role (ch_in s rs ch) (unreadable role c unknown (ch_in s rs ch))
 unreadable_in Ready rs role c unknown ch e = absurd (true≢false (sym e))
@@ -124,66 +125,66 @@ unreadable_outcome role c unknown ch e = unreadable_in ch.state ch.resetting rol
 abbrev Notes : Role → ℕ → Step → Type 0
 Notes role c st = AreOf c role st.channel.state st.notes
 
-ready_of : (role : Role) (rs : Bool) (window c : ℕ) (p : Body) (ch : Channel) → Notes role c (received role window c (ch_in Ready rs ch) p)
-ready_of role rs window c (Call parts) ch = (refl, (refl, refl))
-ready_of role rs window c (Clear cause diagnostic) ch = tt
-ready_of role rs window c p ch = tt
+ready_of : (role : Role) (rs : Bool) (flow : Flow) (c : ℕ) (p : Body) (ch : Channel) → Notes role c (received role flow c (ch_in Ready rs ch) p)
+ready_of role rs flow c (Call parts) ch = (refl, (refl, refl))
+ready_of role rs flow c (Clear cause diagnostic) ch = tt
+ready_of role rs flow c p ch = tt
 
-own_waiting_of : (role : Role) (rs : Bool) (window c : ℕ) (p : Body) (ch : Channel) → Notes role c (received role window c (ch_in OwnWaiting rs ch) p)
-own_waiting_of role rs window c Accepted ch = (refl, tt)
-own_waiting_of Dte rs window c (Call parts) ch = tt
-own_waiting_of Dce rs window c (Call parts) ch = (refl, (refl, (refl, refl)))
-own_waiting_of role rs window c (Clear cause diagnostic) ch = (refl, tt)
-own_waiting_of role rs window c p ch = (refl, tt)
+own_waiting_of : (role : Role) (rs : Bool) (flow : Flow) (c : ℕ) (p : Body) (ch : Channel) → Notes role c (received role flow c (ch_in OwnWaiting rs ch) p)
+own_waiting_of role rs flow c Accepted ch = (refl, tt)
+own_waiting_of Dte rs flow c (Call parts) ch = tt
+own_waiting_of Dce rs flow c (Call parts) ch = (refl, (refl, (refl, refl)))
+own_waiting_of role rs flow c (Clear cause diagnostic) ch = (refl, tt)
+own_waiting_of role rs flow c p ch = (refl, tt)
 
-far_waiting_of : (role : Role) (rs : Bool) (window c : ℕ) (p : Body) (ch : Channel) → Notes role c (received role window c (ch_in FarWaiting rs ch) p)
-far_waiting_of role rs window c (Clear cause diagnostic) ch = (refl, tt)
-far_waiting_of role rs window c p ch = (refl, tt)
+far_waiting_of : (role : Role) (rs : Bool) (flow : Flow) (c : ℕ) (p : Body) (ch : Channel) → Notes role c (received role flow c (ch_in FarWaiting rs ch) p)
+far_waiting_of role rs flow c (Clear cause diagnostic) ch = (refl, tt)
+far_waiting_of role rs flow c p ch = (refl, tt)
 
-collision_of : (role : Role) (rs : Bool) (window c : ℕ) (p : Body) (ch : Channel) → Notes role c (received role window c (ch_in Collision rs ch) p)
-collision_of Dte rs window c Accepted ch = (refl, tt)
-collision_of Dte rs window c (Clear cause diagnostic) ch = (refl, tt)
-collision_of Dce rs window c (Clear cause diagnostic) ch = (refl, tt)
-collision_of role rs window c p ch = (refl, tt)
+collision_of : (role : Role) (rs : Bool) (flow : Flow) (c : ℕ) (p : Body) (ch : Channel) → Notes role c (received role flow c (ch_in Collision rs ch) p)
+collision_of Dte rs flow c Accepted ch = (refl, tt)
+collision_of Dte rs flow c (Clear cause diagnostic) ch = (refl, tt)
+collision_of Dce rs flow c (Clear cause diagnostic) ch = (refl, tt)
+collision_of role rs flow c p ch = (refl, tt)
 
-own_clear_of : (role : Role) (rs : Bool) (window c : ℕ) (p : Body) (ch : Channel) → Notes role c (received role window c (ch_in OwnClear rs ch) p)
-own_clear_of role rs window c (Clear cause diagnostic) ch = tt
-own_clear_of role rs window c ClearConfirmation ch = tt
-own_clear_of role rs window c p ch = tt
+own_clear_of : (role : Role) (rs : Bool) (flow : Flow) (c : ℕ) (p : Body) (ch : Channel) → Notes role c (received role flow c (ch_in OwnClear rs ch) p)
+own_clear_of role rs flow c (Clear cause diagnostic) ch = tt
+own_clear_of role rs flow c ClearConfirmation ch = tt
+own_clear_of role rs flow c p ch = tt
 
-own_reset_of : (role : Role) (window c : ℕ) (p : Body) (ch : Channel) → Notes role c (received role window c (ch_in Transfer true ch) p)
-own_reset_of role window c (Clear cause diagnostic) ch = (refl, tt)
-own_reset_of role window c (Reset cause diagnostic) ch = tt
-own_reset_of role window c ResetConfirmation ch = tt
-own_reset_of role window c (Data send receive d) ch = tt
-own_reset_of role window c (ReceiveReady receive) ch = tt
-own_reset_of role window c (ReceiveNotReady receive) ch = tt
-own_reset_of role window c (Interrupt octets) ch = tt
-own_reset_of role window c InterruptConfirmation ch = tt
-own_reset_of role window c p ch = (refl, tt)
+own_reset_of : (role : Role) (flow : Flow) (c : ℕ) (p : Body) (ch : Channel) → Notes role c (received role flow c (ch_in Transfer true ch) p)
+own_reset_of role flow c (Clear cause diagnostic) ch = (refl, tt)
+own_reset_of role flow c (Reset cause diagnostic) ch = tt
+own_reset_of role flow c ResetConfirmation ch = tt
+own_reset_of role flow c (Data send receive d) ch = tt
+own_reset_of role flow c (ReceiveReady receive) ch = tt
+own_reset_of role flow c (ReceiveNotReady receive) ch = tt
+own_reset_of role flow c (Interrupt octets) ch = tt
+own_reset_of role flow c InterruptConfirmation ch = tt
+own_reset_of role flow c p ch = (refl, tt)
 
-d1_of : (role : Role) (window c : ℕ) (p : Body) (ch : Channel) → Notes role c (received role window c (ch_in Transfer false ch) p)
-d1_of role window c (Clear cause diagnostic) ch = (refl, tt)
-d1_of role window c (Reset cause diagnostic) ch = (refl, tt)
-d1_of role window c ResetConfirmation ch = (refl, tt)
-d1_of role window c (Data send receive d) ch = heard_of role c (ch_in Transfer false ch) (hears_in window ch.traffic (Data send receive d)) _
-d1_of role window c (ReceiveReady receive) ch = heard_of role c (ch_in Transfer false ch) (hears_in window ch.traffic (ReceiveReady receive)) _
-d1_of role window c (ReceiveNotReady receive) ch = heard_of role c (ch_in Transfer false ch) (hears_in window ch.traffic (ReceiveNotReady receive)) _
-d1_of role window c (Interrupt octets) ch = heard_of role c (ch_in Transfer false ch) (hears_in window ch.traffic (Interrupt octets)) _
-d1_of role window c InterruptConfirmation ch = heard_of role c (ch_in Transfer false ch) (hears_in window ch.traffic InterruptConfirmation) _
-d1_of role window c p ch = (refl, tt)
+d1_of : (role : Role) (flow : Flow) (c : ℕ) (p : Body) (ch : Channel) → Notes role c (received role flow c (ch_in Transfer false ch) p)
+d1_of role flow c (Clear cause diagnostic) ch = (refl, tt)
+d1_of role flow c (Reset cause diagnostic) ch = (refl, tt)
+d1_of role flow c ResetConfirmation ch = (refl, tt)
+d1_of role flow c (Data send receive d) ch = heard_of role c (ch_in Transfer false ch) (hears_in flow ch.traffic (Data send receive d)) _
+d1_of role flow c (ReceiveReady receive) ch = heard_of role c (ch_in Transfer false ch) (hears_in flow ch.traffic (ReceiveReady receive)) _
+d1_of role flow c (ReceiveNotReady receive) ch = heard_of role c (ch_in Transfer false ch) (hears_in flow ch.traffic (ReceiveNotReady receive)) _
+d1_of role flow c (Interrupt octets) ch = heard_of role c (ch_in Transfer false ch) (hears_in flow ch.traffic (Interrupt octets)) _
+d1_of role flow c InterruptConfirmation ch = heard_of role c (ch_in Transfer false ch) (hears_in flow ch.traffic InterruptConfirmation) _
+d1_of role flow c p ch = (refl, tt)
 
-of_received : (s : CallState) (rs : Bool) (role : Role) (window c : ℕ) (p : Body) (ch : Channel) → Notes role c (received role window c (ch_in s rs ch) p)
-of_received Ready rs role window c p ch = ready_of role rs window c p ch
-of_received OwnWaiting rs role window c p ch = own_waiting_of role rs window c p ch
-of_received FarWaiting rs role window c p ch = far_waiting_of role rs window c p ch
-of_received Transfer true role window c p ch = own_reset_of role window c p ch
-of_received Transfer false role window c p ch = d1_of role window c p ch
-of_received Collision rs role window c p ch = collision_of role rs window c p ch
-of_received OwnClear rs role window c p ch = own_clear_of role rs window c p ch
+of_received : (s : CallState) (rs : Bool) (role : Role) (flow : Flow) (c : ℕ) (p : Body) (ch : Channel) → Notes role c (received role flow c (ch_in s rs ch) p)
+of_received Ready rs role flow c p ch = ready_of role rs flow c p ch
+of_received OwnWaiting rs role flow c p ch = own_waiting_of role rs flow c p ch
+of_received FarWaiting rs role flow c p ch = far_waiting_of role rs flow c p ch
+of_received Transfer true role flow c p ch = own_reset_of role flow c p ch
+of_received Transfer false role flow c p ch = d1_of role flow c p ch
+of_received Collision rs role flow c p ch = collision_of role rs flow c p ch
+of_received OwnClear rs role flow c p ch = own_clear_of role rs flow c p ch
 
-pub received_notes : (role : Role) (window c : ℕ) (p : Body) (ch : Channel) → AreOf c role (received role window c ch p).channel.state (received role window c ch p).notes
-received_notes role window c p ch = of_received ch.state ch.resetting role window c p ch
+pub received_notes : (role : Role) (flow : Flow) (c : ℕ) (p : Body) (ch : Channel) → AreOf c role (received role flow c ch p).channel.state (received role flow c ch p).notes
+received_notes role flow c p ch = of_received ch.state ch.resetting role flow c p ch
 
 of_unreadable : (s : CallState) (rs : Bool) (role : Role) (c : ℕ) (unknown : Bool) (ch : Channel) → Notes role c (unreadable role c unknown (ch_in s rs ch))
 of_unreadable Ready rs role c unknown ch = tt

@@ -9,6 +9,7 @@ use Rattle.lapb.specs.declared.note.Note as link_note
 use Rattle.lapb.specs.declared.note.Note.TheVariants.{Nothing, Up, Down}
 use Rattle.lapb.specs.Machine.{Octets, on_t1}
 use Rattle.lapb.specs.Octets.{on_octets}
+use Rattle.packet_channel.specs.declared.flow.Flow.{Flow}
 use Rattle.packet_layer.specs.Packets.{CallParts, Body, Note, Received}
 use Rattle.packet_layer.specs.Packets.Note.{Incoming, Connected, Closed, WasReset, InterruptConfirmed, Covered}
 use Rattle.packet_layer.specs.Octets.{heard}
@@ -82,9 +83,9 @@ heard_on : (n : ℕ) (o : Option Received) → AreOn n (heard_acts n o)
 heard_on n None = tt
 heard_on n (Some r) = (refl, tt)
 
-packet_on : (n : ℕ) (o : Option Octets) → AreOn n (packet_acts n o)
-packet_on n None = tt
-packet_on n (Some octets) = heard_on n (heard octets)
+packet_on : (n : ℕ) (flow : Flow) (o : Option Octets) → AreOn n (packet_acts n flow o)
+packet_on n flow None = tt
+packet_on n flow (Some octets) = heard_on n (heard flow octets)
 
 timer_on : (n : ℕ) (o : Option Timer) → AreOn n (timer_acts n o)
 timer_on n None = tt
@@ -99,7 +100,7 @@ on_if n true acts h = h
 on_if n false acts h = tt
 
 happening_on : (n : ℕ) (what : Happening) (e : PacketEnd) → AreOn n (happening_acts n what e)
-happening_on n (Brings octets) e = on_then n _ _ (note_on n (on_octets e.line.link octets).note) (packet_on n (on_octets e.line.link octets).accepted)
+happening_on n (Brings octets) e = on_then n _ _ (note_on n (on_octets e.line.link octets).note) (packet_on n e.layer.flow (on_octets e.line.link octets).accepted)
 happening_on n (RunsOut id) e = on_if n (runs_at e id) (expiry_acts n id e) (expiry_on n id e)
 happening_on n Relinks e = (refl, tt)
 

@@ -194,7 +194,7 @@ serve_there (suc k) l d c = by_found (channel_of l d) (serve_there k l (next_num
   where
     by_found : (o : Option Channel) → There l c (serve k l (next_number l d)) → There l c (serve_found l d o (serve k l (next_number l d)))
     by_found None h = h
-    by_found (Some ch) h = by_cond (λ (n : Next). There l c n) (is_some (next_of l.window ch).body) _ _ (λ e. nth_channel_there l.channels d c _) (λ e. h)
+    by_found (Some ch) h = by_cond (λ (n : Next). There l c n) (is_some (next_of l.flow ch).body) _ _ (λ e. nth_channel_there l.channels d c _) (λ e. h)
 
 restart_given_there : (owed : List Body) (l : Layer) (c : ℕ) → There l c (next_restart owed l)
 restart_given_there [] l c = serve_there (length l.channels) l (next_number l l.served_last) c

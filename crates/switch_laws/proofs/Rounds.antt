@@ -82,7 +82,7 @@ grows_same e = record { k = refl; queue = omega arith }
 
 grows_next : (e f : PacketEnd) (n : Next) → Grows (with_next e n) f → Grows e f
 grows_next e f n g =
-    let more = offer_grows (can_offer e.line.link) e.line.link.queue (written_packet n.packet []) in
+    let more = offer_grows (can_offer e.line.link) e.line.link.queue (written_packet e.layer.flow n.packet []) in
     let queue = g.queue in
     record { k = g.k; queue = omega arith }
 
@@ -99,7 +99,7 @@ grows (suc most) e =
 -- one that may be offered fills a place
 fills : (e : PacketEnd) → can_offer e.line.link ≡ true → is_some (next_packet e.layer).packet ≡ true → length e.line.link.queue + 1 ≤ length (offered 7 e).line.link.queue
 fills e may has =
-    let first = longer e.line.link (written_packet (next_packet e.layer).packet []) (length e.line.link.queue) may (omega arith) in
+    let first = longer e.line.link (written_packet e.layer.flow (next_packet e.layer).packet []) (length e.line.link.queue) may (omega arith) in
     let later = (grows 6 (with_next e (next_packet e.layer))).queue in
     let same = ap (λ (f : PacketEnd). length f.line.link.queue) (one_offered 7 0 e (omega arith) may has) in
     omega arith

@@ -2,6 +2,7 @@
 use Rattle.std.proofs.Common.{◌≡◌, ℕ, zero, suc, ◌≤◌, true, List, [], ◌∷◌, Option, Some, None, is_some, refl, sym, ap, subst, ◌∙◌, arith, true≢false}
 use Rattle.std.proofs.lemmas.Option.{none-some, same_Some}
 use Rattle.link_timers.specs.declared.role.Role.TheVariants.{Dce}
+use Rattle.packet_layer.specs.Flow.{IsFlow, modulo_8}
 use Rattle.packet_layer.specs.Packets.Body.{Data, Interrupt, InterruptConfirmation, ReceiveReady, Reset}
 use Rattle.packet_layer.specs.Channel.{had_call}
 use Rattle.packet_end.specs.Params.{AreParams}
@@ -23,14 +24,14 @@ use Rattle.switch_laws.proofs.Joins.{join_begins, both_right, gives_right, turne
 use Rattle.switch_laws.proofs.Hearing.{hears_right}
 use Rattle.switch_laws.proofs.Standing.{start_good}
 
-seven : 2 ≤ 7
-seven = omega arith
+two : IsFlow (modulo_8 2)
+two = record { window_least = omega arith; window_most = omega arith; size_is = refl }
 
 small : (n : ℕ) → n ≡ 0 → n ≤ 7
 small n e = omega arith
 
 started_right : IsJoin started
-started_right = join_begins Dce Dce 2 2 [] [] seven seven
+started_right = join_begins Dce Dce (modulo_8 2) (modulo_8 2) [] [] two two
 
 carried_right : IsJoin carried
 carried_right = both_right 8 (hears 1 (Data 0 0 letter) started) (hears_right 1 (Data 0 0 letter) started refl started_right)
@@ -52,7 +53,7 @@ reset_right_ = hears_right 1 (Reset 0 0) confirmed refl confirmed_right
 closed_agrees : (x : SwitchChannel) (s : Shown) → Some (shown_of (no_calls x)) ≡ Some s → Agrees s (no_calls x)
 closed_agrees x s e = record {
   shown = sym (same_Some _ s e);
-  leg = start_good (no_calls x) seven (record { not_resetting = refl; traffic = refl; before = refl; epoch = refl });
+  leg = start_good (no_calls x) two (record { not_resetting = refl; traffic = refl; before = refl; epoch = refl });
 }
 
 world_right : (n c : ℕ) (s : Shown) → shown_at (layers_of two_lines) (record { line = n; channel = c }) ≡ Some s → Agrees s (no_calls (record { line = n; channel = c }))
@@ -98,7 +99,7 @@ switch_right = record {
 pub parameters_right : AreParams parameters
 parameters_right = record {
   link = record { k_least = omega arith; k_most = omega arith; n2_least = omega arith; n2_most = omega arith };
-  layer = record { channels_least = omega arith; channels_most = omega arith; window_least = omega arith; window_most = omega arith };
+  layer = record { channels_least = omega arith; channels_most = omega arith; flow_is = two };
 }
 
 pub config_right : (address : List ℕ) → IsLineConfig (config address)

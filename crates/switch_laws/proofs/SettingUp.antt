@@ -156,7 +156,7 @@ joins_call p q parts ls w i none p_there accepts f = record {
     free : (ch : Channel) × ((channel_of f.line.end.layer q.channel ≡ Some ch) × (is_free ch ≡ true))
     free = free_is f.line.end.layer.role f.line.end.layer.channels q.channel (given_ready f.line.end.layer f.line.end.layer.phase q.channel f.given).1
 
-    q_shown : shown_at (layers_of ls) q ≡ Some (record { role = f.line.end.layer.role; window = f.line.end.layer.window; channel = free.0 })
+    q_shown : shown_at (layers_of ls) q ≡ Some (record { role = f.line.end.layer.role; flow = f.line.end.layer.flow; channel = free.0 })
     q_shown = ap (λ (o : Option Layer). shown_on o q.channel) (layer_there ls q f) ∙ ap (λ (o : Option Channel). shown_as f.line.end.layer o) free.1.0
 
     q_there : is_some (shown_at (layers_of ls) q) ≡ true

@@ -199,7 +199,7 @@ beside_told_of n c note (Some i) ls ms got b = beside_told n c note i ls ms got 
 abbrev HaveCalls : ℕ → List SwitchLine → Type 0
 HaveCalls n ls = (p : SwitchChannel) (j : Joined) → IsOther n ls p j → (s : Shown) × ((shown_at (layers_of ls) p ≡ Some s) × (had_call s.channel.state ≡ true))
 
-pub free_shown : (ms : List SwitchLine) (q : SwitchChannel) (f : IsFreePlace ms q) → (ch : Channel) × ((shown_at (layers_of ms) q ≡ Some (record { role = f.line.end.layer.role; window = f.line.end.layer.window; channel = ch })) × (is_ready ch.state ≡ true))
+pub free_shown : (ms : List SwitchLine) (q : SwitchChannel) (f : IsFreePlace ms q) → (ch : Channel) × ((shown_at (layers_of ms) q ≡ Some (record { role = f.line.end.layer.role; flow = f.line.end.layer.flow; channel = ch })) × (is_ready ch.state ≡ true))
 free_shown ms q f =
     let l = f.line.end.layer in
     let free = free_is l.role l.channels q.channel (given_ready l l.phase q.channel f.given).1 in (
@@ -219,7 +219,7 @@ free_apart n ls ms q calls f b p j o = by_same (decided (same_place p q))
     by_same (inl t) =
         let s = calls p j o in
         let r = free_shown ms q f in
-        let same : Some s.0 ≡ Some (record { role = f.line.end.layer.role; window = f.line.end.layer.window; channel = r.0 }) =
+        let same : Some s.0 ≡ Some (record { role = f.line.end.layer.role; flow = f.line.end.layer.flow; channel = r.0 }) =
         sym s.1.0 ∙ (sym (b.shown p j o) ∙ (ap (λ (y : SwitchChannel). shown_at (layers_of ms) y) (place_is p q t) ∙ r.1.0)) in
         absurd (ready_no_call r.0.state r.1.1 (sym (ap (λ (y : Shown). had_call y.channel.state) (same_Some s.0 _ same)) ∙ s.1.1))
 

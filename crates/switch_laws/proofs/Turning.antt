@@ -232,12 +232,12 @@ quiet_restart _ l = refl
 quiet_notes : (phase : Phase) (r : Received) (l : Layer) → l.phase ≡ phase → (phase ≡ PacketReady → ⊥) → (on_received (unread l) r).notes ≡ []
 quiet_notes PacketReady r l e no_ = absurd (no_ refl)
 quiet_notes OwnRestart (Whole p) l e no_ =
-    ap (λ (ph : Phase). (cond (p.channel == 0) (restart_packet ph p.body (unread l)) (on_channel ph (unread l) p.channel (λ ch. received_packet l.role l.window p.channel ch p.body))).notes) e
+    ap (λ (ph : Phase). (cond (p.channel == 0) (restart_packet ph p.body (unread l)) (on_channel ph (unread l) p.channel (λ ch. received_packet l.role l.flow p.channel ch p.body))).notes) e
     ∙ by_cond (λ (y : Layer). y.notes ≡ []) (p.channel == 0) _ _ (λ h. quiet_restart p.body l) (λ h. refl)
 quiet_notes OwnRestart (Unknown d) l e no_ = ap (λ (ph : Phase). (on_channel ph (unread l) d (λ ch. unreadable l.role d true ch)).notes) e
 quiet_notes OwnRestart (Faulty d) l e no_ = ap (λ (ph : Phase). (on_channel ph (unread l) d (λ ch. unreadable l.role d false ch)).notes) e
 quiet_notes NoSession (Whole p) l e no_ =
-    ap (λ (ph : Phase). (cond (p.channel == 0) (restart_packet ph p.body (unread l)) (on_channel ph (unread l) p.channel (λ ch. received_packet l.role l.window p.channel ch p.body))).notes) e
+    ap (λ (ph : Phase). (cond (p.channel == 0) (restart_packet ph p.body (unread l)) (on_channel ph (unread l) p.channel (λ ch. received_packet l.role l.flow p.channel ch p.body))).notes) e
     ∙ by_cond (λ (y : Layer). y.notes ≡ []) (p.channel == 0) _ _ (λ h. refl) (λ h. refl)
 quiet_notes NoSession (Unknown d) l e no_ = ap (λ (ph : Phase). (on_channel ph (unread l) d (λ ch. unreadable l.role d true ch)).notes) e
 quiet_notes NoSession (Faulty d) l e no_ = ap (λ (ph : Phase). (on_channel ph (unread l) d (λ ch. unreadable l.role d false ch)).notes) e
@@ -277,16 +277,16 @@ no_session_not_ready : NoSession ≡ PacketReady → ⊥
 no_session_not_ready e = true≢false (sym (ap (λ (ph : Phase). is_ready_phase ph) e))
 
 brought : (n : ℕ) (e : PacketEnd) (to : End) (note : link_note.Note) (accepted : Option Octets)
-    → LineEffect (note_acts n note ++ packet_acts n accepted) n (unread e.layer) (after_packet accepted (heeded note (record (quieted e) { line = to }))).layer (after_packet accepted (heeded note (record (quieted e) { line = to }))).notes
+    → LineEffect (note_acts n note ++ packet_acts n e.layer.flow accepted) n (unread e.layer) (after_packet accepted (heeded note (record (quieted e) { line = to }))).layer (after_packet accepted (heeded note (record (quieted e) { line = to }))).notes
 brought n e to Nothing None = no_effect n (unread e.layer)
-brought n e to Nothing (Some octets) = packet_first n e.layer (heard octets)
+brought n e to Nothing (Some octets) = packet_first n e.layer (heard e.layer.flow octets)
 brought n e to Up None = one_act (GoesUp n) (unread e.layer) _ tt (effect (GoesUp n) (unread e.layer) tt)
 brought n e to Up (Some octets) =
-    packet_later n (unread e.layer) (unread (link_up (unread e.layer))) (link_up (unread e.layer)).notes (heard octets) own_restart_not_ready refl
+    packet_later n (unread e.layer) (unread (link_up (unread e.layer))) (link_up (unread e.layer)).notes (heard e.layer.flow octets) own_restart_not_ready refl
     (one_act (GoesUp n) (unread e.layer) _ tt (effect (GoesUp n) (unread e.layer) tt))
 brought n e to Down None = one_act (GoesDown n) (unread e.layer) _ tt (effect (GoesDown n) (unread e.layer) tt)
 brought n e to Down (Some octets) =
-    packet_later n (unread e.layer) (unread (link_down (unread e.layer))) (link_down (unread e.layer)).notes (heard octets) no_session_not_ready refl
+    packet_later n (unread e.layer) (unread (link_down (unread e.layer))) (link_down (unread e.layer)).notes (heard e.layer.flow octets) no_session_not_ready refl
     (one_act (GoesDown n) (unread e.layer) _ tt (effect (GoesDown n) (unread e.layer) tt))
 
 pub received_effect : (n : ℕ) (octets : Octets) (e : PacketEnd) → EndEffect n (Brings octets) e

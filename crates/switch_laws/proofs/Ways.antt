@@ -4,6 +4,7 @@ use Rattle.std.proofs.lemmas.Bool.{leb-false}
 use Rattle.std.proofs.lemmas.Option.{none-some, same_Some}
 use Rattle.link_timers.specs.declared.role.Role.{Role}
 use Rattle.epochs.specs.Item.{all_items}
+use Rattle.packet_channel.proofs.Windows.{window_small}
 use Rattle.packet_layer.specs.Packets.{Datum}
 use Rattle.packet_layer.specs.Traffic.{Taken, front, front_of, may_release, releasing, interrupt_pending}
 use Rattle.packet_layer.specs.Traffic.Taken.{TakenInterrupt, TakenPacket}
@@ -141,12 +142,12 @@ packet_holds d ds w h r =
     let resetting = not_refused w.far.channel.resetting _ _ state.1 in
     let full = not_refused (nat_le 8 (length w.far.channel.traffic.waiting)) _ _ resetting.1 in
     let room = leb-false 8 (length w.far.channel.traffic.waiting) full.0 in
-    let near_window = h.near.window in
+    let near_window = window_small _ h.near.flow in
     let came = h.near.counts.came_within in
-    let few : length g.epoch.taken < g.epoch.released + 7 = omega (arith, came, near_window) in
-    let far_window = h.far.window in
+    let few : length g.epoch.taken < g.epoch.released + 32 = omega (arith, came, near_window) in
+    let far_window = window_small _ h.far.flow in
     let went = h.far.counts.went_within in
-    let sent = gone_is w.far.window w.far.channel.traffic w.far.epoch h.far.counts in
+    let sent = gone_is w.far.flow w.far.channel.traffic w.far.epoch h.far.counts in
     let less : length w.far.epoch.sent < w.far.epoch.covered + 255 = omega (arith, sent, went, far_window, room) in
     done_on (TakenPacket d) (at_front None (d ∷ ds) w) (taking_allowed g h.near_call) r (record {
       near = leg_taken g h.near;
@@ -355,6 +356,6 @@ pub relayed_stuck : (w : Way) → IsRight w → IsStuck (relayed most_moves w)
 unfolding most_moves
 relayed_stuck w i = stuck_within most_moves w i (few w.near.channel.traffic.interrupt_arrived (length w.near.channel.traffic.arrived) (arrived_within w.near i.holds.near))
   where
-    few : (a : Option (List ℕ)) (n : ℕ) → n ≤ 7 → n + one a ≤ most_moves
+    few : (a : Option (List ℕ)) (n : ℕ) → n ≤ 32 → n + one a ≤ most_moves
     few (Some octets) n le = omega arith
     few None n le = omega arith

@@ -4,6 +4,8 @@ use Rattle.std.specs.List.{list_any}
 use Rattle.link_timers.specs.declared.role.Role.{Role}
 use Rattle.link_timers.specs.declared.role.Role.TheVariants.{Dce}
 use Rattle.link_timers.specs.declared.timers.TimerId.{TimerId}
+use Rattle.packet_channel.specs.declared.flow.Flow.{Flow}
+use Rattle.packet_layer.specs.Flow.{modulo_8}
 use Rattle.packet_layer.specs.Channel.{closed_channel}
 use Rattle.packet_laws.specs.History.{empty_epoch}
 use Rattle.address_routes.specs.Routes.{RouteMap}
@@ -106,9 +108,9 @@ pub data HoldsOn : List Event → Switch → World → Type 0 where
 
 -- ---- the legs of a switch as it is made
 
-abbrev pub window_of : Option SwitchLineConfig → ℕ
-window_of None = 0
-window_of (Some c) = c.params.window
+abbrev pub flow_of : Option SwitchLineConfig → Flow
+flow_of None = modulo_8 1
+flow_of (Some c) = c.params.flow
 
 abbrev pub role_of : Option SwitchLineConfig → Role
 role_of None = Dce
@@ -117,7 +119,7 @@ role_of (Some c) = c.role
 abbrev pub new_legs : List SwitchLineConfig → World
 new_legs lines = λ x. record {
   role = role_of (slice_get lines x.line);
-  window = window_of (slice_get lines x.line);
+  flow = flow_of (slice_get lines x.line);
   channel = closed_channel;
   before = [];
   epoch = empty_epoch;

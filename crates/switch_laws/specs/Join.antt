@@ -57,7 +57,7 @@ all_told (n ∷ ns) j = all_told ns (told n j)
 
 -- a packet comes on the leg b
 abbrev pub hears : (channel : ℕ) → Body → Join → Join
-hears c p j = all_told (received j.b.role j.b.window c j.b.channel p).notes (record j { b = heard c p j.b })
+hears c p j = all_told (received j.b.role j.b.flow c j.b.channel p).notes (record j { b = heard c p j.b })
 
 abbrev pub mishears : (channel : ℕ) → (unknown : Bool) → Join → Join
 mishears c unknown j = all_told (unreadable j.b.role c unknown j.b.channel).notes

@@ -1,8 +1,10 @@
 -- What holds of the relay of a switch, and of its joins, whatever its partners send.
-use Rattle.std.specs.Prelude.{◌≡◌, ℕ, ◌≤◌, Bool, true, false, List, [], ◌∷◌, slice_get, Some, None, is_some}
+use Rattle.std.specs.Prelude.{◌≡◌, ℕ, Bool, true, false, List, [], ◌∷◌, slice_get, Some, None, is_some}
 use Rattle.link_timers.specs.declared.role.Role.{Role}
 use Rattle.link_timers.specs.declared.timers.TimerId.{TimerId}
 use Rattle.epochs.specs.Item.{all_items}
+use Rattle.packet_channel.specs.declared.flow.Flow.{Flow}
+use Rattle.packet_layer.specs.Flow.{IsFlow}
 use Rattle.packet_layer.specs.Packets.{Body, CallParts}
 use Rattle.packet_layer.specs.Channel.{received, unreadable}
 use Rattle.packet_layer.specs.Channel.CallState.{Transfer}
@@ -41,17 +43,17 @@ pub record RelayLaw : Type 0 where
 -- both directions: the clause holds when a call is connected, and stays over each relay, after which nothing is kept
 -- back, over all that comes on a leg and leaves it in data transfer, and over all that goes to its line
 pub record JoinLaw : Type 0 where
-  pub begins : (a_role b_role : Role) (a_window b_window : ℕ) (a_owed b_owed : List Body) → a_window ≤ 7 → b_window ≤ 7
+  pub begins : (a_role b_role : Role) (a_flow b_flow : Flow) (a_owed b_owed : List Body) → IsFlow a_flow → IsFlow b_flow
       → IsJoin (record {
-        a = connected a_role a_window a_owed;
-        b = connected b_role b_window b_owed;
+        a = connected a_role a_flow a_owed;
+        b = connected b_role b_flow b_owed;
         there = new_direction;
         back = new_direction;
       })
   pub relays : (j : Join) → IsJoin j → IsJoin (relayed_both most_moves j)
   pub keeps_nothing_back : (j : Join) → IsJoin j → IsAtRest (relayed_both most_moves j)
   pub hears : (c : ℕ) (p : Body) (j : Join)
-      → (received j.b.role j.b.window c j.b.channel p).channel.state ≡ Transfer → IsJoin j → IsJoin (hears c p j)
+      → (received j.b.role j.b.flow c j.b.channel p).channel.state ≡ Transfer → IsJoin j → IsJoin (hears c p j)
   pub mishears : (c : ℕ) (unknown : Bool) (j : Join)
       → (unreadable j.b.role c unknown j.b.channel).channel.state ≡ Transfer → IsJoin j
       → IsJoin (mishears c unknown j)

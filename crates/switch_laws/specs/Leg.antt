@@ -1,6 +1,8 @@
 -- A leg of a join: a logical channel of a line together with what was done on it, epoch by epoch.
-use Rattle.std.specs.Prelude.{◌≡◌, ℕ, ◌≤◌, Bool, true, false, List, [], ◌∷◌, Option, Some, None}
+use Rattle.std.specs.Prelude.{◌≡◌, ℕ, Bool, true, false, List, [], ◌∷◌, Option, Some, None}
 use Rattle.link_timers.specs.declared.role.Role.{Role}
+use Rattle.packet_layer.specs.Flow.{IsFlow}
+use Rattle.packet_channel.specs.declared.flow.Flow.{Flow}
 use Rattle.packet_layer.specs.Packets.{Body}
 use Rattle.packet_layer.specs.Packets.Body.{Reset, ResetConfirmation, Clear, ClearConfirmation}
 use Rattle.packet_layer.specs.Traffic.{fresh, Heard, hears}
@@ -14,7 +16,7 @@ use Rattle.packet_laws.specs.Counts.{NamesCounts}
 -- and the present one
 pub record Leg : Type 0 where
   pub role : Role
-  pub window : ℕ
+  pub flow : Flow
   pub channel : Channel
   pub before : List Epoch
   pub epoch : Epoch
@@ -47,8 +49,8 @@ heard_epoch s b h e = e
 
 -- a packet comes from the line, on this channel
 abbrev pub heard : (channel : ℕ) → Body → Leg → Leg
-heard c p g = stepped (received g.role g.window c g.channel p)
-    (heard_epoch g.channel.state g.channel.resetting (hears g.window g.channel.traffic p) g.epoch) g
+heard c p g = stepped (received g.role g.flow c g.channel p)
+    (heard_epoch g.channel.state g.channel.resetting (hears g.flow g.channel.traffic p) g.epoch) g
 
 -- an unreadable packet does
 abbrev pub misheard : (channel : ℕ) → (unknown : Bool) → Leg → Leg
@@ -56,23 +58,23 @@ misheard c unknown g = stepped (unreadable g.role c unknown g.channel) g.epoch g
 
 -- what the channel has next goes to the line
 abbrev pub gave : Leg → Leg
-gave g = record g { channel = (next_of g.window g.channel).channel }
+gave g = record g { channel = (next_of g.flow g.channel).channel }
 
 -- the leg of a call that was just connected
-abbrev pub connected : Role → (window : ℕ) → List Body → Leg
-connected role window owed = record {
+abbrev pub connected : Role → (flow : Flow) → List Body → Leg
+connected role flow owed = record {
   role = role;
-  window = window;
+  flow = flow;
   channel = record { state = Transfer; resetting = false; owed = owed; traffic = fresh };
   before = [];
   epoch = empty_epoch;
 }
 
--- what always holds of a leg that no user stops: its numbers name the counts of its epoch; while its own reset is not
+-- what always holds of a leg that no user stops: its flow control is one of a line; its numbers name the counts of its epoch; while its own reset is not
 -- confirmed nothing was sent or taken; and an interrupt waits only where none is unconfirmed
 pub record IsLeg (g : Leg) : Type 0 where
-  pub window : g.window ≤ 7
-  pub counts : NamesCounts g.window g.channel.traffic g.epoch
+  pub flow : IsFlow g.flow
+  pub counts : NamesCounts g.flow g.channel.traffic g.epoch
   pub traffic_anew : g.channel.resetting ≡ true → g.channel.traffic ≡ fresh
   pub epoch_anew : g.channel.resetting ≡ true → g.epoch ≡ empty_epoch
   pub one_interrupt : g.channel.traffic.interrupt_unconfirmed ≡ true → g.channel.traffic.interrupt_waiting ≡ None

@@ -1,6 +1,7 @@
 -- A run of one join, and a switch of two lines: they meet what the laws ask for, by computation.
 use Rattle.std.specs.Prelude.{◌≡◌, ℕ, true, false, List, [], ◌∷◌, slice_get, Some, None}
 use Rattle.link_timers.specs.declared.role.Role.TheVariants.{Dce}
+use Rattle.packet_layer.specs.Flow.{modulo_8}
 use Rattle.packet_layer.specs.Packets.{Datum}
 use Rattle.packet_layer.specs.Packets.Body.{Data, Interrupt, InterruptConfirmation, ReceiveReady, Reset}
 use Rattle.packet_layer.specs.Channel.{closed_channel}
@@ -24,7 +25,7 @@ use Rattle.switch_laws.specs.Events.Event.{Arrives, Departs, Elapses}
 -- ---- one join, of two channels with a window of 2
 
 abbrev pub started : Join
-started = record { a = connected Dce 2 []; b = connected Dce 2 []; there = new_direction; back = new_direction }
+started = record { a = connected Dce (modulo_8 2) []; b = connected Dce (modulo_8 2) []; there = new_direction; back = new_direction }
 
 -- a packet with D = 1 comes on b
 abbrev pub letter : Datum
@@ -51,7 +52,7 @@ reset = hears 1 (Reset 0 0) confirmed
 -- ---- a switch of two lines with two channels each, without calls
 
 abbrev pub parameters : EndParams
-parameters = record { k = 7; n2 = 3; channels = 2; window = 2; standing = false }
+parameters = record { k = 7; n2 = 3; channels = 2; flow = modulo_8 2; standing = false }
 
 abbrev pub line : (address : List ℕ) → SwitchLine
 line address = record { end = made Dce parameters; address = Some address; joined = None ∷ None ∷ [] }
@@ -60,7 +61,7 @@ abbrev pub two_lines : List SwitchLine
 two_lines = line (1 ∷ []) ∷ line (2 ∷ []) ∷ []
 
 abbrev pub no_calls : World
-no_calls = λ x. record { role = Dce; window = 2; channel = closed_channel; before = []; epoch = empty_epoch }
+no_calls = λ x. record { role = Dce; flow = modulo_8 2; channel = closed_channel; before = []; epoch = empty_epoch }
 
 -- ---- the same two lines as they are made, and a call with a facility that comes on line 0
 

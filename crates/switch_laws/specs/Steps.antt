@@ -8,6 +8,7 @@ use Rattle.lapb.specs.declared.note.Note as link_note
 use Rattle.lapb.specs.declared.note.Note.TheVariants.{Nothing, Up, Down}
 use Rattle.lapb.specs.Machine.{Octets, on_t1, can_offer}
 use Rattle.lapb.specs.Octets.{on_octets}
+use Rattle.packet_channel.specs.declared.flow.Flow.{Flow}
 use Rattle.packet_layer.specs.Packets.{CallParts, Received}
 use Rattle.packet_layer.specs.Octets.{heard}
 use Rattle.packet_layer.specs.Channel.{Request}
@@ -75,9 +76,9 @@ abbrev pub heard_acts : (line : ℕ) → Option Received → List Act
 heard_acts n None = []
 heard_acts n (Some r) = Act.Comes n r ∷ []
 
-abbrev pub packet_acts : (line : ℕ) → Option Octets → List Act
-packet_acts n None = []
-packet_acts n (Some octets) = heard_acts n (heard octets)
+abbrev pub packet_acts : (line : ℕ) → Flow → Option Octets → List Act
+packet_acts n flow None = []
+packet_acts n flow (Some octets) = heard_acts n (heard flow octets)
 
 abbrev pub timer_acts : (line : ℕ) → Option Timer → List Act
 timer_acts n None = []
@@ -89,7 +90,7 @@ expiry_acts n id e = timer_acts n (timer_named e.layer.role id)
 
 abbrev pub happening_acts : (line : ℕ) → Happening → PacketEnd → List Act
 happening_acts n (Brings octets) e =
-    note_acts n (on_octets e.line.link octets).note ++ packet_acts n (on_octets e.line.link octets).accepted
+    note_acts n (on_octets e.line.link octets).note ++ packet_acts n e.layer.flow (on_octets e.line.link octets).accepted
 happening_acts n (RunsOut id) e = if runs_at e id then expiry_acts n id e else []
 happening_acts n Relinks e = Act.GoesDown n ∷ []
 

@@ -3,6 +3,7 @@ use Rattle.std.specs.Prelude.{◌≡◌, ℕ, Bool, true, false, if◌then◌els
 use Rattle.std.specs.Prelude.{Some, None}
 use Rattle.link_timers.specs.declared.role.Role.{Role}
 use Rattle.packet_codec.specs.Diagnostic.{no_information}
+use Rattle.packet_channel.specs.declared.flow.Flow.{Flow}
 use Rattle.packet_layer.specs.Packets.{CallParts, Body, Packet, Received}
 use Rattle.packet_layer.specs.Packets.Body.{Restart, RestartConfirmation}
 use Rattle.packet_layer.specs.Packets.Received.{Whole, Unknown, Faulty}
@@ -26,15 +27,15 @@ World = SwitchChannel → Leg
 -- what is seen of a leg at its line
 pub record Shown : Type 0 where
   pub role : Role
-  pub window : ℕ
+  pub flow : Flow
   pub channel : Channel
 
 abbrev pub shown_of : Leg → Shown
-shown_of g = record { role = g.role; window = g.window; channel = g.channel }
+shown_of g = record { role = g.role; flow = g.flow; channel = g.channel }
 
 abbrev pub shown_as : Layer → Option Channel → Option Shown
 shown_as l None = None
-shown_as l (Some ch) = Some (record { role = l.role; window = l.window; channel = ch })
+shown_as l (Some ch) = Some (record { role = l.role; flow = l.flow; channel = ch })
 
 abbrev pub shown_on : Option Layer → (channel : ℕ) → Option Shown
 shown_on None c = None

@@ -10,7 +10,7 @@ ghost use Rattle.switch_laws.specs.TrunkRun.{TrunkRunLaw};
 
 /// One direction of a join, over the definitions of the layer and of the switch alone: what the switch sends on the far
 /// leg is what it takes on the near leg, item by item, and packet by packet on lines of one size; a packet with D = 1 is
-/// released only when the far leg's P(R) covers it; and after 8 moves nothing waits on the near leg that the far leg
+/// released only when the far leg's P(R) covers it; and after 33 moves nothing waits on the near leg that the far leg
 /// takes (X.25 4.3.3).
 pub fn relay_law()
     ensures { RelayLaw }

@@ -18,10 +18,12 @@ use Rattle.lapb.proofs.AcceptedPacket.{accepted_is}
 use Rattle.packet_codec.specs.declared.fault.PacketFault.{PacketFault}
 use Rattle.packet_codec.specs.declared.fault.PacketFault.TheVariants.{TooShort, BadFormatId, UnknownType, BadLength, BadAddress, DataTooLong}
 use Rattle.packet_codec.specs.declared.packet_type.PacketType.{PacketType}
-use Rattle.packet_codec.specs.Packet.{PacketValue, ContentValue}
+use Rattle.packet_codec.specs.declared.packet.Numbering.{Numbering}
+use Rattle.packet_codec.specs.Packet.{PacketValue, ContentValue, format_id}
 use Rattle.packet_codec.specs.Diagnostic.{no_information}
 use Rattle.packet_codec.specs.Reading.{reading, typed, named_channel, named_type, format_of}
 use Rattle.packet_codec.specs.Reading as codec
+use Rattle.packet_channel.specs.declared.flow.Flow.{Flow}
 use Rattle.packet_layer.specs.Packets.{CallParts, Datum, Packet, Body}
 use Rattle.packet_layer.specs.Packets.Body.{Restart, RestartConfirmation}
 use Rattle.packet_layer.specs.Channel.{Channel, Step, Request, Refusal, closed_channel, refused_if, refusal, requested, unless, carried_out, owing, in_transfer, has_flow, moved, next_of, next_owed, ChannelNext, placing, clear_error, received, unreadable}
@@ -215,11 +217,11 @@ packet_calm l p c apart = by_number (cases_eq p.channel 0)
   where
     by_number : (p.channel ≡ 0) ⊎ (p.channel ≡ 0 → ⊥) → IsCalm l (packet_in l p) c
     by_number (inl zero_) =
-        subst (λ (b : Bool). IsCalm l (if b then restart_packet l.phase p.body l else on_channel l.phase l p.channel (λ ch. received l.role l.window p.channel ch p.body)) c)
+        subst (λ (b : Bool). IsCalm l (if b then restart_packet l.phase p.body l else on_channel l.phase l p.channel (λ ch. received l.role l.flow p.channel ch p.body)) c)
         (sym (eq-eqb p.channel 0 zero_)) (restart_calm l.phase p.body l c)
     by_number (inr other) =
-        subst (λ (b : Bool). IsCalm l (if b then restart_packet l.phase p.body l else on_channel l.phase l p.channel (λ ch. received l.role l.window p.channel ch p.body)) c)
-        (sym (ne_eqb p.channel 0 other)) (on_phase_apart l.phase l p.channel c (λ ch. received l.role l.window p.channel ch p.body) apart)
+        subst (λ (b : Bool). IsCalm l (if b then restart_packet l.phase p.body l else on_channel l.phase l p.channel (λ ch. received l.role l.flow p.channel ch p.body)) c)
+        (sym (ne_eqb p.channel 0 other)) (on_phase_apart l.phase l p.channel c (λ ch. received l.role l.flow p.channel ch p.body) apart)
 
 unreadable_calm : (l : Layer) (unknown : Bool) (named : Option ℕ) (c : ℕ) → (named ≡ Some c → ⊥) → IsCalm l (after_hearing l (unreadable_as unknown named)) c
 unreadable_calm l unknown None c apart = same_layer l c
@@ -237,29 +239,29 @@ read_calm l octets (Err BadLength) c apart own = unreadable_calm l false (named_
 read_calm l octets (Err BadAddress) c apart own = unreadable_calm l false (named_channel octets) c apart
 read_calm l octets (Err DataTooLong) c apart own = unreadable_calm l false (named_channel octets) c apart
 
-content_named : (k : ℕ) (content : Result ContentValue PacketFault) (p : PacketValue) → codec.on_channel k content ≡ Ok p → p.channel ≡ k
-content_named k (Ok content) p e = cc
-content_named k (Err fault) p e = absurd (cc)
+content_named : (n : Numbering) (k : ℕ) (content : Result ContentValue PacketFault) (p : PacketValue) → codec.on_channel n k content ≡ Ok p → p.channel ≡ k
+content_named n k (Ok content) p e = cc
+content_named n k (Err fault) p e = absurd (cc)
 
-typed_named : (kind : Option PacketType) (first second third : ℕ) (rest : List ℕ) (p : PacketValue) → typed kind first second third rest ≡ Ok p
+typed_named : (n : Numbering) (kind : Option PacketType) (first second third : ℕ) (rest : List ℕ) (p : PacketValue) → typed n 128 kind first second third rest ≡ Ok p
     → p.channel ≡ codec.channel_of first second
-typed_named None first second third rest p e = absurd (cc)
-typed_named (Some kind) first second third rest p e =
-    content_named (codec.channel_of first second) (codec.content_of kind (codec.bit_8 first) (codec.bit_7 first) third rest) p e
+typed_named n None first second third rest p e = absurd (cc)
+typed_named n (Some kind) first second third rest p e =
+    content_named n (codec.channel_of first second) (codec.content_of n 128 kind (codec.bit_8 first) (codec.bit_7 first) third rest) p e
 
-formed_named : (formed : Bool) (first second third : ℕ) (rest : List ℕ) (p : PacketValue) →
-    cond formed (typed (named_type first second third) first second third rest) (Err BadFormatId) ≡ Ok p → p.channel ≡ codec.channel_of first second
-formed_named true first second third rest p e = typed_named (named_type first second third) first second third rest p e
-formed_named false first second third rest p e = absurd (cc)
+formed_named : (n : Numbering) (formed : Bool) (first second third : ℕ) (rest : List ℕ) (p : PacketValue) →
+    cond formed (typed n 128 (named_type n first second third rest) first second third rest) (Err BadFormatId) ≡ Ok p → p.channel ≡ codec.channel_of first second
+formed_named n true first second third rest p e = typed_named n (named_type n first second third rest) first second third rest p e
+formed_named n false first second third rest p e = absurd (cc)
 
-read_named : (octets : List ℕ) (p : PacketValue) → reading octets ≡ Ok p → named_channel octets ≡ Some p.channel
-read_named [] p e = absurd (cc)
-read_named (first ∷ []) p e = absurd (cc)
-read_named (first ∷ second ∷ []) p e = absurd (cc)
-read_named (first ∷ second ∷ third ∷ rest) p e = ap Some (sym (formed_named (format_of first == 1) first second third rest p e))
+read_named : (n : Numbering) (octets : List ℕ) (p : PacketValue) → reading n 128 octets ≡ Ok p → named_channel octets ≡ Some p.channel
+read_named n [] p e = absurd (cc)
+read_named n (first ∷ []) p e = absurd (cc)
+read_named n (first ∷ second ∷ []) p e = absurd (cc)
+read_named n (first ∷ second ∷ third ∷ rest) p e = ap Some (sym (formed_named n (format_of first == format_id n) first second third rest p e))
 
 octets_calm : (l : Layer) (octets : List ℕ) (c : ℕ) → (named_channel octets ≡ Some c → ⊥) → IsCalm l (on_octets l octets) c
-octets_calm l octets c apart = unread_calm l _ c (read_calm (unread l) octets (reading octets) c apart (read_named octets))
+octets_calm l octets c apart = unread_calm l _ c (read_calm (unread l) octets (reading l.flow.numbering 128 octets) c apart (read_named l.flow.numbering octets))
 
 brought_calm : (o : Option (List ℕ)) (e : PacketEnd) (c : ℕ) → ((octets : List ℕ) → o ≡ Some octets → named_channel octets ≡ Some c → ⊥)
     → IsCalm e.layer (after_packet o e).layer c
@@ -407,34 +409,34 @@ flow_front : (b : Bool) (t u : Traffic) (o : Option Body) → front u ≡ front 
 flow_front true t u o same = refl
 flow_front false t u o same = same
 
-says_flow_front : (t : Traffic) → front (says_flow t).traffic ≡ front t
-says_flow_front t = flow_front (flow_told t) t (record t { untold = false; told_stopped = t.stopped }) _ refl
+says_flow_front : (flow : Flow) (t : Traffic) → front (says_flow flow t).traffic ≡ front t
+says_flow_front flow t = flow_front (flow_told t) t (record t { untold = false; told_stopped = t.stopped }) _ refl
 
 data_front : (b : Bool) (t : Traffic) (x y : Said) → front x.traffic ≡ front t → front y.traffic ≡ front t → (let said : Said = if b then x else y in front said.traffic ≡ front t)
 data_front true t x y e f = e
 data_front false t x y e f = f
 
-says_data_front : (window : ℕ) (ds : List Datum) (t : Traffic) → front (says_data window ds t).traffic ≡ front t
-says_data_front window [] t = says_flow_front t
-says_data_front window (d ∷ ds) t = data_front (window_open window t) t _ (says_flow t) refl (says_flow_front t)
+says_data_front : (flow : Flow) (ds : List Datum) (t : Traffic) → front (says_data flow ds t).traffic ≡ front t
+says_data_front flow [] t = says_flow_front flow t
+says_data_front flow (d ∷ ds) t = data_front (window_open flow t) t _ (says_flow flow t) refl (says_flow_front flow t)
 
-says_interrupt_front : (window : ℕ) (o : Option (List ℕ)) (t : Traffic) → front (says_interrupt window o t).traffic ≡ front t
-says_interrupt_front window (Some octets) t = refl
-says_interrupt_front window None t = says_data_front window t.waiting t
+says_interrupt_front : (flow : Flow) (o : Option (List ℕ)) (t : Traffic) → front (says_interrupt flow o t).traffic ≡ front t
+says_interrupt_front flow (Some octets) t = refl
+says_interrupt_front flow None t = says_data_front flow t.waiting t
 
-says_front : (window : ℕ) (t : Traffic) → front (says window t).traffic ≡ front t
-says_front window t = data_front t.confirmation_due t _ (says_interrupt window t.interrupt_waiting t) refl (says_interrupt_front window t.interrupt_waiting t)
+says_front : (flow : Flow) (t : Traffic) → front (says flow t).traffic ≡ front t
+says_front flow t = data_front t.confirmation_due t _ (says_interrupt flow t.interrupt_waiting t) refl (says_interrupt_front flow t.interrupt_waiting t)
 
-next_front : (window : ℕ) (owed : List Body) (ch : Channel) → front (next_owed window owed ch).channel.traffic ≡ front ch.traffic
-next_front window (b ∷ bs) ch = refl
-next_front window [] ch = by_flow (has_flow ch)
+next_front : (flow : Flow) (owed : List Body) (ch : Channel) → front (next_owed flow owed ch).channel.traffic ≡ front ch.traffic
+next_front flow (b ∷ bs) ch = refl
+next_front flow [] ch = by_flow (has_flow ch)
   where
     by_flow : (flows : Bool) →
-        let flowing : ChannelNext = record { channel = moved (says window ch.traffic).traffic ch; body = (says window ch.traffic).body } in
+        let flowing : ChannelNext = record { channel = moved (says flow ch.traffic).traffic ch; body = (says flow ch.traffic).body } in
         let silent : ChannelNext = record { channel = ch; body = None } in
         let next : ChannelNext = if flows then flowing else silent in
         front next.channel.traffic ≡ front ch.traffic
-    by_flow true = says_front window ch.traffic
+    by_flow true = says_front flow ch.traffic
     by_flow false = refl
 
 set_front : (chs : List Channel) (i j : ℕ) (ch new : Channel) → slice_get chs i ≡ Some ch → front new.traffic ≡ front ch.traffic
@@ -465,7 +467,7 @@ serve_front (suc count) l k c = go (channel_of l k) refl (serve_front count l (n
         → front_on (serve_found l k found (serve count l (next_number l k))).layer c ≡ front_on l c
     go None is rest = rest
     go (Some ch) is rest =
-        served_front l k c ch (next_of l.window ch).body (next_of l.window ch).channel (serve count l (next_number l k)) is (next_front l.window ch.owed ch) rest
+        served_front l k c ch (next_of l.flow ch).body (next_of l.flow ch).channel (serve count l (next_number l k)) is (next_front l.flow ch.owed ch) rest
 
 restart_front : (owed : List Body) (l : Layer) (c : ℕ) → front_on (next_restart owed l).layer c ≡ front_on l c
 restart_front [] l c = serve_front (length l.channels) l (next_number l l.served_last) c

@@ -2,6 +2,8 @@
 use Rattle.std.proofs.Common.{◌≡◌, ℕ, zero, suc, ◌+◌, ◌*◌, ◌≤◌, ◌<◌, List, [], ◌∷◌, map, take, length, get_or, refl, ap, ◌∙◌, sym, subst, arith}
 use Rattle.flow_window.specs.Pool.{Pool, Buffer, weight, pooled}
 use Rattle.frame_codec.specs.Spelling.{most_information}
+use Rattle.packet_channel.specs.declared.flow.Flow.{Flow}
+use Rattle.packet_channel.proofs.Windows.{window_small}
 use Rattle.packet_end.specs.Pooled.{share_with}
 use Rattle.switch_lines.specs.declared.config.SwitchLineConfig.{SwitchLineConfig}
 use Rattle.switch_lines.specs.Making.{IsConfig, made_line, shares_with}
@@ -40,20 +42,20 @@ pooled_made pool cs ps is size places none = subst (λ (zs : List PooledLine). A
 
 -- ---- how many buffers they need
 
-small : (k channels window : ℕ) → k ≤ 7 → channels ≤ 32 → window ≤ 7 → k + channels * (window + 8) + 1 ≤ 488
-small k channels window a b d =
-    let product = times channels (window + 8) (omega (arith, d)) in
+small : (k channels : ℕ) (flow : Flow) → k ≤ 7 → channels ≤ 32 → flow.window ≤ 32 → k + channels * (flow.window + 8) + 1 ≤ 1288
+small k channels flow a b d =
+    let product = times channels (flow.window + 8) (omega (arith, d)) in
     omega (arith, a, b, product)
   where
-    times : (m n : ℕ) → n ≤ 15 → m * n ≤ m * 15
+    times : (m n : ℕ) → n ≤ 40 → m * n ≤ m * 40
     times zero n few = omega arith
     times (suc m) n few = let rest = times m n few in omega (arith, rest, few)
 
 pub one_share : (cs : List SwitchLineConfig) (i : ℕ) (c : SwitchLineConfig) → IsConfig cs → i < length cs → c ≡ get_or cs i c →
-    share_with c.params ≤ 488
+    share_with c.params ≤ 1288
 one_share cs i c are less is =
     let p = (are.each i c (there cs i c less is)).params in
-    small c.params.k c.params.channels c.params.window p.link.k_most p.layer.channels_most p.layer.window_most
+    small c.params.k c.params.channels c.params.flow p.link.k_most p.layer.channels_most (window_small _ p.layer.flow_is)
 
 pub one_share_more : (cs : List SwitchLineConfig) (i : ℕ) (c : SwitchLineConfig) → i < length cs → c ≡ get_or cs i c →
     shares_with (take (i + 1) cs) ≡ shares_with (take i cs) + share_with c.params

@@ -6,7 +6,7 @@ use Rattle.std.proofs.lemmas.Option.{none-some}
 use Rattle.packet_layer.specs.TakenView.{maybe_front}
 use Rattle.packet_layer.specs.Traffic.{Taken}
 use Rattle.packet_channel.specs.declared.taken.Front.{Front}
-use Rattle.switch_joins.specs.ChannelSet.{has, is_small, IsApart}
+use Rattle.switch_joins.specs.ChannelSet.{has, is_small}
 use Rattle.switch_joins.specs.declared.channel_set.ChannelSet.{ChannelSet}
 use Rattle.switch_lines.specs.declared.config.SwitchLineConfig.{SwitchLineConfig}
 use Rattle.switch_lines.specs.Making.{made_line}
@@ -19,7 +19,7 @@ use Rattle.switch_lines.proofs.Pooled.{Pooled, plain_set, plain_get, within_plai
 use Rattle.switch_lines.proofs.Waiting.{written_calm, written_others, calm_kept, touched_kept, joined_kept, none_joined, nth_set, got_written}
 use Rattle.switch_joins.proofs.Slots.{nth_apart, set_size}
 use Rattle.switch_joins.proofs.Apart.{and_both}
-use Rattle.switch_joins.proofs.ChannelSets.{is_so_small}
+use Rattle.switch_joins.proofs.ChannelSets.{is_so_small, IsApart}
 
 abbrev Lines : Type 0
 Lines = List SwitchLine

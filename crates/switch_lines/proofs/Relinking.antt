@@ -356,7 +356,7 @@ served_asks l c ch (Some b) others same = refl
 found_asks : (l : Layer) (c : ℕ) (o : Option Channel) (others : Next) → others.layer.relink ≡ l.relink →
     (serve_found l c o others).layer.relink ≡ l.relink
 found_asks l c None others same = same
-found_asks l c (Some ch) others same = served_asks l c (next_of l.window ch).channel (next_of l.window ch).body others
+found_asks l c (Some ch) others same = served_asks l c (next_of l.flow ch).channel (next_of l.flow ch).body others
     same
 
 serve_asks : (count : ℕ) (l : Layer) (c : ℕ) → (serve count l c).layer.relink ≡ l.relink

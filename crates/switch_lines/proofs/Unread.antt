@@ -14,7 +14,7 @@ served_read l c ch (Some b) others same = refl
 found_read : (l : Layer) (c : ℕ) (found : Option Channel) (others : Next) → others.layer.notes ≡ l.notes →
     (serve_found l c found others).layer.notes ≡ l.notes
 found_read l c None others same = same
-found_read l c (Some ch) others same = served_read l c (next_of l.window ch).channel (next_of l.window ch).body others same
+found_read l c (Some ch) others same = served_read l c (next_of l.flow ch).channel (next_of l.flow ch).body others same
 
 serve_read : (count : ℕ) (l : Layer) (c : ℕ) → (serve count l c).layer.notes ≡ l.notes
 serve_read zero l c = refl

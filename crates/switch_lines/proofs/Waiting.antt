@@ -12,7 +12,7 @@ use Rattle.packet_layer.specs.Channel.Request.{Taking, Releasing}
 use Rattle.packet_layer.specs.Layer.{channel_of, request_refusal}
 use Rattle.packet_layer.specs.Layer as machine
 use Rattle.packet_end.specs.PacketEnd.{PacketEnd, asked, all_offered}
-use Rattle.switch_joins.specs.ChannelSet.{has, is_small, IsApart}
+use Rattle.switch_joins.specs.ChannelSet.{has, is_small}
 use Rattle.switch_joins.specs.declared.channel_set.ChannelSet.{ChannelSet}
 use Rattle.switch_joins.specs.Direction.{Direction, releasable, released}
 use Rattle.switch_lines.specs.Lines.{SwitchChannel, Joined, SwitchLine, same_place, changed, flat, nth_joined, with_nth_joined, joined_on, joined_at, ask, front_at, front_of_line, refusal_at, refusal_of_line}
@@ -26,7 +26,7 @@ use Rattle.switch_lines.proofs.Calmer.{same_layer, IsCalm, IsRelay, takes, sends
 use Rattle.switch_lines.proofs.Changing.{there}
 use Rattle.switch_lines.proofs.Legs.{to_unless}
 use Rattle.switch_joins.proofs.Apart.{decided, place_is}
-use Rattle.switch_joins.proofs.ChannelSets.{and_not_no}
+use Rattle.switch_joins.proofs.ChannelSets.{and_not_no, IsApart}
 use Rattle.switch_lines.proofs.Relaying.{relayed_stays}
 use Rattle.switch_lines.proofs.Touched.{written_other, others_same}
 use Rattle.switch_lines.proofs.Places.{get_unchanged}

@@ -50,9 +50,9 @@ abbrev pub relayed : (most : ℕ) → SwitchChannel → List SwitchLine → List
 relayed zero p ls = ls
 relayed (suc most) p ls = relayed most p (moved p ls)
 
--- no more waits on a leg: a queue holds at most 8 packets, and an interrupt may wait beside them
+-- no more waits on a leg: a queue holds at most 32 packets, and an interrupt may wait beside them
 unfoldable pub most_moves : ℕ
-most_moves = 9
+most_moves = 33
 
 -- from each of these
 abbrev pub relayed_from : List SwitchChannel → List SwitchLine → List SwitchLine

@@ -11,6 +11,7 @@ use Rattle.lapb.specs.declared.note.Note as link_note
 use Rattle.lapb.specs.declared.note.Note.TheVariants.{Nothing, Up, Down}
 use Rattle.lapb.specs.Machine.{Octets, on_t1, can_offer}
 use Rattle.lapb.specs.Octets.{on_octets}
+use Rattle.packet_channel.specs.declared.flow.Flow.{Flow}
 use Rattle.packet_layer.specs.Packets.{Received}
 use Rattle.packet_layer.specs.Octets.{heard}
 use Rattle.packet_layer.specs.Layer.{Layer, Timer, next_packet, link_down}
@@ -140,9 +141,9 @@ heard_may : (n : ℕ) (o : Option Received) → May (heard_acts n o)
 heard_may n None = tt
 heard_may n (Some r) = (tt, tt)
 
-packets_may : (n : ℕ) (o : Option Octets) → May (packet_acts n o)
-packets_may n None = tt
-packets_may n (Some octets) = heard_may n (heard octets)
+packets_may : (n : ℕ) (flow : Flow) (o : Option Octets) → May (packet_acts n flow o)
+packets_may n flow None = tt
+packets_may n flow (Some octets) = heard_may n (heard flow octets)
 
 timers_may : (n : ℕ) (o : Option Timer) → May (timer_acts n o)
 timers_may n None = tt
@@ -158,8 +159,8 @@ if_may false as_ bs p q = q
 
 happening_may : (n : ℕ) (what : Happening) (e : PacketEnd) → May (happening_acts n what e)
 happening_may n (Brings octets) e =
-    every_then (note_acts n (on_octets e.line.link octets).note) (packet_acts n (on_octets e.line.link octets).accepted) (notes_may n (on_octets e.line.link octets).note)
-    (packets_may n (on_octets e.line.link octets).accepted)
+    every_then (note_acts n (on_octets e.line.link octets).note) (packet_acts n e.layer.flow (on_octets e.line.link octets).accepted) (notes_may n (on_octets e.line.link octets).note)
+    (packets_may n e.layer.flow (on_octets e.line.link octets).accepted)
 happening_may n (RunsOut id) e = if_may (runs_at e id) (expiry_acts n id e) [] (expiry_may n id e) tt
 happening_may n Relinks e = (tt, tt)
 

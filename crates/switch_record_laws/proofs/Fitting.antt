@@ -13,9 +13,11 @@ use Rattle.packet_end.specs.End.{End}
 use Rattle.packet_codec.specs.Diagnostic.{no_information}
 use Rattle.packet_codec.specs.declared.fault.PacketFault.{PacketFault}
 use Rattle.packet_codec.specs.declared.fault.PacketFault.TheVariants as packet_fault
+use Rattle.packet_codec.specs.declared.packet.Numbering.{Numbering}
 use Rattle.packet_codec.specs.Packet.{PacketValue, ContentValue, IsContentOn}
 use Rattle.packet_codec.specs.Reading.{reading, named_channel}
 use Rattle.packet_codec.proofs.Forms.{Found, found}
+use Rattle.packet_channel.specs.declared.flow.Flow.{Flow}
 use Rattle.packet_layer.specs.Packets.{Body, Received, Note, Reason}
 use Rattle.packet_layer.specs.Packets.Body.{Call, Accepted, Clear, ClearConfirmation, Data, Interrupt, InterruptConfirmation, ReceiveReady, ReceiveNotReady, Reset, ResetConfirmation, Restart, RestartConfirmation}
 use Rattle.packet_layer.specs.Packets.Received.{Whole, Unknown, Faulty}
@@ -52,20 +54,20 @@ abbrev pub MayReceive : Option Received → Type 0
 MayReceive None = Unit {0}
 MayReceive (Some r) = ReceivesCall r
 
-content_carries : (channel : ℕ) (c : ContentValue) → IsContentOn channel c → CarriesCall (body_of c)
-content_carries channel (ContentValue.CallRequest c) i = i.1
-content_carries channel ContentValue.CallAccepted i = tt
-content_carries channel (ContentValue.ClearRequest cause diagnostic) i = tt
-content_carries channel ContentValue.ClearConfirmation i = tt
-content_carries channel (ContentValue.Data d) i = tt
-content_carries channel (ContentValue.Interrupt octets) i = tt
-content_carries channel ContentValue.InterruptConfirmation i = tt
-content_carries channel (ContentValue.ReceiveReady receive) i = tt
-content_carries channel (ContentValue.ReceiveNotReady receive) i = tt
-content_carries channel (ContentValue.ResetRequest cause diagnostic) i = tt
-content_carries channel ContentValue.ResetConfirmation i = tt
-content_carries channel (ContentValue.RestartRequest cause diagnostic) i = tt
-content_carries channel ContentValue.RestartConfirmation i = tt
+content_carries : (n : Numbering) (size channel : ℕ) (c : ContentValue) → IsContentOn n size channel c → CarriesCall (body_of c)
+content_carries n size channel (ContentValue.CallRequest c) i = i.1
+content_carries n size channel ContentValue.CallAccepted i = tt
+content_carries n size channel (ContentValue.ClearRequest cause diagnostic) i = tt
+content_carries n size channel ContentValue.ClearConfirmation i = tt
+content_carries n size channel (ContentValue.Data d) i = tt
+content_carries n size channel (ContentValue.Interrupt octets) i = tt
+content_carries n size channel ContentValue.InterruptConfirmation i = tt
+content_carries n size channel (ContentValue.ReceiveReady receive) i = tt
+content_carries n size channel (ContentValue.ReceiveNotReady receive) i = tt
+content_carries n size channel (ContentValue.ResetRequest cause diagnostic) i = tt
+content_carries n size channel ContentValue.ResetConfirmation i = tt
+content_carries n size channel (ContentValue.RestartRequest cause diagnostic) i = tt
+content_carries n size channel ContentValue.RestartConfirmation i = tt
 
 unread_carries : (unknown : Bool) (o : Option ℕ) → MayReceive (unreadable_as unknown o)
 unread_carries true None = tt
@@ -73,22 +75,23 @@ unread_carries false None = tt
 unread_carries true (Some c) = tt
 unread_carries false (Some c) = tt
 
-read_carries : (octets : List ℕ) (r : Result PacketValue PacketFault) → Found octets r → MayReceive (heard_by octets r)
-read_carries octets (Ok p) f = content_carries p.channel p.content f.fits
-read_carries octets (Err packet_fault.TooShort) f = tt
-read_carries octets (Err packet_fault.BadFormatId) f = tt
-read_carries octets (Err packet_fault.UnknownType) f = unread_carries true (named_channel octets)
-read_carries octets (Err packet_fault.BadLength) f = unread_carries false (named_channel octets)
-read_carries octets (Err packet_fault.BadAddress) f = unread_carries false (named_channel octets)
-read_carries octets (Err packet_fault.DataTooLong) f = unread_carries false (named_channel octets)
+read_carries : (n : Numbering) (octets : List ℕ) (r : Result PacketValue PacketFault) → Found n 128 octets r → MayReceive (heard_by octets r)
+read_carries n octets (Ok p) f = content_carries p.numbering 128 p.channel p.content f.fits
+read_carries n octets (Err packet_fault.TooShort) f = tt
+read_carries n octets (Err packet_fault.BadFormatId) f = tt
+read_carries n octets (Err packet_fault.UnknownType) f = unread_carries true (named_channel octets)
+read_carries n octets (Err packet_fault.BadLength) f = unread_carries false (named_channel octets)
+read_carries n octets (Err packet_fault.BadAddress) f = unread_carries false (named_channel octets)
+read_carries n octets (Err packet_fault.DataTooLong) f = unread_carries false (named_channel octets)
 
 below : (octets : List ℕ) (k : ℕ) → AreOctets octets → get_or octets k 0 < 256
 below [] k are = omega arith
 below (x ∷ xs) zero are = are.0
 below (x ∷ xs) (suc k) are = below xs k are.1
 
-pub heard_carries : (octets : List ℕ) → AreOctets octets → MayReceive (heard octets)
-heard_carries octets are = read_carries octets (reading octets) (found octets (λ k. below octets k are))
+pub heard_carries : (flow : Flow) (octets : List ℕ) → AreOctets octets → MayReceive (heard flow octets)
+heard_carries flow octets are =
+    read_carries flow.numbering octets (reading flow.numbering 128 octets) (found flow.numbering 128 octets (λ k. below octets k are))
 
 -- ---- what is noted
 
@@ -124,16 +127,16 @@ heard_carry role c ch (Heard.Keeps n t) = covered_carry c n (n == 0)
 heard_carry role c ch (Heard.Confirms t) = tt
 heard_carry role c ch (Heard.Wrong d) = tt
 
-flow_carries : (role : Role) (window c : ℕ) (ch : Channel) (p : Body) → NotesCarry (in_flow_ready role window c ch p).notes
-flow_carries role window c ch (Clear cause diagnostic) = tt
-flow_carries role window c ch (Reset cause diagnostic) = tt
-flow_carries role window c ch ResetConfirmation = tt
-flow_carries role window c ch (Data send receive d) = heard_carry role c ch (hears_in window ch.traffic (Data send receive d))
-flow_carries role window c ch (ReceiveReady receive) = heard_carry role c ch (hears_in window ch.traffic (ReceiveReady receive))
-flow_carries role window c ch (ReceiveNotReady receive) = heard_carry role c ch (hears_in window ch.traffic (ReceiveNotReady receive))
-flow_carries role window c ch (Interrupt octets) = heard_carry role c ch (hears_in window ch.traffic (Interrupt octets))
-flow_carries role window c ch InterruptConfirmation = heard_carry role c ch (hears_in window ch.traffic InterruptConfirmation)
-flow_carries role window c ch _ = tt
+flow_carries : (role : Role) (flow : Flow) (c : ℕ) (ch : Channel) (p : Body) → NotesCarry (in_flow_ready role flow c ch p).notes
+flow_carries role flow c ch (Clear cause diagnostic) = tt
+flow_carries role flow c ch (Reset cause diagnostic) = tt
+flow_carries role flow c ch ResetConfirmation = tt
+flow_carries role flow c ch (Data send receive d) = heard_carry role c ch (hears_in flow ch.traffic (Data send receive d))
+flow_carries role flow c ch (ReceiveReady receive) = heard_carry role c ch (hears_in flow ch.traffic (ReceiveReady receive))
+flow_carries role flow c ch (ReceiveNotReady receive) = heard_carry role c ch (hears_in flow ch.traffic (ReceiveNotReady receive))
+flow_carries role flow c ch (Interrupt octets) = heard_carry role c ch (hears_in flow ch.traffic (Interrupt octets))
+flow_carries role flow c ch InterruptConfirmation = heard_carry role c ch (hears_in flow ch.traffic InterruptConfirmation)
+flow_carries role flow c ch _ = tt
 
 reset_carries : (role : Role) (c : ℕ) (ch : Channel) (p : Body) → NotesCarry (in_own_reset role c ch p).notes
 reset_carries role c ch (Clear cause diagnostic) = tt
@@ -146,23 +149,23 @@ reset_carries role c ch (Interrupt octets) = tt
 reset_carries role c ch InterruptConfirmation = tt
 reset_carries role c ch _ = tt
 
-received_carries_in : (s : CallState) (role : Role) (window c : ℕ) (ch : Channel) (p : Body) → CarriesCall p → NotesCarry (received_in s role window c ch p).notes
-received_carries_in Ready role window c ch (Call parts) i = (i, tt)
-received_carries_in Ready role window c ch p i = tt
-received_carries_in OwnWaiting role window c ch Accepted i = tt
-received_carries_in OwnWaiting Dte window c ch (Call parts) i = tt
-received_carries_in OwnWaiting Dce window c ch (Call parts) i = (i, tt)
-received_carries_in OwnWaiting role window c ch p i = tt
-received_carries_in FarWaiting role window c ch (Clear cause diagnostic) i = tt
-received_carries_in FarWaiting role window c ch p i = tt
-received_carries_in Transfer role window c ch p i = by_cond (λ (st : Step). NotesCarry st.notes) ch.resetting _ _ (λ e. reset_carries role c ch p) (λ e. flow_carries role window c ch p)
-received_carries_in Collision Dte window c ch Accepted i = tt
-received_carries_in Collision Dte window c ch (Clear cause diagnostic) i = tt
-received_carries_in Collision Dce window c ch (Clear cause diagnostic) i = tt
-received_carries_in Collision role window c ch p i = tt
-received_carries_in OwnClear role window c ch (Clear cause diagnostic) i = tt
-received_carries_in OwnClear role window c ch ClearConfirmation i = tt
-received_carries_in OwnClear role window c ch p i = tt
+received_carries_in : (s : CallState) (role : Role) (flow : Flow) (c : ℕ) (ch : Channel) (p : Body) → CarriesCall p → NotesCarry (received_in s role flow c ch p).notes
+received_carries_in Ready role flow c ch (Call parts) i = (i, tt)
+received_carries_in Ready role flow c ch p i = tt
+received_carries_in OwnWaiting role flow c ch Accepted i = tt
+received_carries_in OwnWaiting Dte flow c ch (Call parts) i = tt
+received_carries_in OwnWaiting Dce flow c ch (Call parts) i = (i, tt)
+received_carries_in OwnWaiting role flow c ch p i = tt
+received_carries_in FarWaiting role flow c ch (Clear cause diagnostic) i = tt
+received_carries_in FarWaiting role flow c ch p i = tt
+received_carries_in Transfer role flow c ch p i = by_cond (λ (st : Step). NotesCarry st.notes) ch.resetting _ _ (λ e. reset_carries role c ch p) (λ e. flow_carries role flow c ch p)
+received_carries_in Collision Dte flow c ch Accepted i = tt
+received_carries_in Collision Dte flow c ch (Clear cause diagnostic) i = tt
+received_carries_in Collision Dce flow c ch (Clear cause diagnostic) i = tt
+received_carries_in Collision role flow c ch p i = tt
+received_carries_in OwnClear role flow c ch (Clear cause diagnostic) i = tt
+received_carries_in OwnClear role flow c ch ClearConfirmation i = tt
+received_carries_in OwnClear role flow c ch p i = tt
 
 unreadable_carries : (s : CallState) (role : Role) (c : ℕ) (unknown : Bool) (ch : Channel) → NotesCarry (unreadable_in s role c unknown ch).notes
 unreadable_carries Ready role c unknown ch = tt
@@ -191,7 +194,7 @@ restart_carries phase _ l = tt
 received_carries : (l : Layer) (r : Received) → ReceivesCall r → NotesCarry (on_received (unread l) r).notes
 received_carries l (Whole p) i =
     by_cond (λ (y : Layer). NotesCarry y.notes) (p.channel == 0) _ _ (λ e. restart_carries l.phase p.body l)
-    (λ e. channel_carries l.phase (unread l) p.channel _ refl (λ ch. received_carries_in ch.state l.role l.window p.channel ch p.body i))
+    (λ e. channel_carries l.phase (unread l) p.channel _ refl (λ ch. received_carries_in ch.state l.role l.flow p.channel ch p.body i))
 received_carries l (Unknown c) i = channel_carries l.phase (unread l) c _ refl (λ ch. unreadable_carries ch.state l.role c true ch)
 received_carries l (Faulty c) i = channel_carries l.phase (unread l) c _ refl (λ ch. unreadable_carries ch.state l.role c false ch)
 
@@ -218,7 +221,7 @@ heeded_carries Down e to = closings_carry 1 LinkLost e.layer.channels
 
 packet_carries : (o : Option Octets) (e : PacketEnd) → IfAny (λ packet. AreOctets packet) o → NotesCarry e.notes → NotesCarry (after_packet o e).notes
 packet_carries None e are h = h
-packet_carries (Some octets) e are h = notes_then e.notes _ h (hearing_carries e.layer (heard octets) (heard_carries octets are))
+packet_carries (Some octets) e are h = notes_then e.notes _ h (hearing_carries e.layer (heard e.layer.flow octets) (heard_carries e.layer.flow octets are))
 
 expiry_carries : (id : TimerId) (e : PacketEnd) → NotesCarry (expired id (quieted e)).notes
 expiry_carries T1 e = heeded_carries (on_t1 e.line.link).note e _

@@ -9,6 +9,7 @@ use Rattle.lapb.specs.declared.note.Note.TheVariants.{Nothing, Up, Down}
 use Rattle.lapb.specs.Machine.{Octets, on_t1, can_offer}
 use Rattle.lapb.specs.Octets.{on_octets}
 use Rattle.packet_end.specs.End.{End}
+use Rattle.packet_channel.specs.declared.flow.Flow.{Flow}
 use Rattle.packet_layer.specs.Packets.{Received, Note}
 use Rattle.packet_layer.specs.Octets.{heard}
 use Rattle.packet_layer.specs.Layer.{Layer, Timer, unread, link_up, link_down, on_received, next_packet}
@@ -50,13 +51,13 @@ heard_layer n l None = refl
 heard_layer n l (Some r) = refl
 
 brought : (n : ℕ) (e : PacketEnd) (to : End) (note : link_note.Note) (accepted : Option Octets)
-    → Explains (note_acts n note ++ packet_acts n accepted) (unread e.layer) (after_packet accepted (heeded note (record (quieted e) { line = to }))).layer (after_packet accepted (heeded note (record (quieted e) { line = to }))).notes
+    → Explains (note_acts n note ++ packet_acts n e.layer.flow accepted) (unread e.layer) (after_packet accepted (heeded note (record (quieted e) { line = to }))).layer (after_packet accepted (heeded note (record (quieted e) { line = to }))).notes
 brought n e to Nothing None = record { layer = refl; writes_ = λ b. refl }
-brought n e to Nothing (Some octets) = heard_first n e.layer (heard octets)
+brought n e to Nothing (Some octets) = heard_first n e.layer (heard e.layer.flow octets)
 brought n e to Up None = record { layer = refl; writes_ = λ b. refl }
-brought n e to Up (Some octets) = record { layer = heard_layer n (link_up (unread e.layer)) (heard octets); writes_ = λ b. heard_later n (link_up (unread e.layer)) (link_up (unread e.layer)).notes (heard octets) b }
+brought n e to Up (Some octets) = record { layer = heard_layer n (link_up (unread e.layer)) (heard e.layer.flow octets); writes_ = λ b. heard_later n (link_up (unread e.layer)) (link_up (unread e.layer)).notes (heard e.layer.flow octets) b }
 brought n e to Down None = record { layer = refl; writes_ = λ b. refl }
-brought n e to Down (Some octets) = record { layer = heard_layer n (link_down (unread e.layer)) (heard octets); writes_ = λ b. heard_later n (link_down (unread e.layer)) (link_down (unread e.layer)).notes (heard octets) b }
+brought n e to Down (Some octets) = record { layer = heard_layer n (link_down (unread e.layer)) (heard e.layer.flow octets); writes_ = λ b. heard_later n (link_down (unread e.layer)) (link_down (unread e.layer)).notes (heard e.layer.flow octets) b }
 
 -- ---- timers
 
@@ -115,9 +116,9 @@ heard_on : (n : ℕ) (o : Option Received) → AllOn n (heard_acts n o)
 heard_on n None = tt
 heard_on n (Some r) = (refl, tt)
 
-packets_on : (n : ℕ) (o : Option Octets) → AllOn n (packet_acts n o)
-packets_on n None = tt
-packets_on n (Some octets) = heard_on n (heard octets)
+packets_on : (n : ℕ) (flow : Flow) (o : Option Octets) → AllOn n (packet_acts n flow o)
+packets_on n flow None = tt
+packets_on n flow (Some octets) = heard_on n (heard flow octets)
 
 timers_on : (n : ℕ) (o : Option Timer) → AllOn n (timer_acts n o)
 timers_on n None = tt
@@ -132,7 +133,7 @@ if_on n true as_ bs p q = p
 if_on n false as_ bs p q = q
 
 pub happening_on : (n : ℕ) (what : Happening) (e : PacketEnd) → AllOn n (happening_acts n what e)
-happening_on n (Brings octets) e = on_append n (note_acts n (on_octets e.line.link octets).note) (packet_acts n (on_octets e.line.link octets).accepted) (notes_on n (on_octets e.line.link octets).note) (packets_on n (on_octets e.line.link octets).accepted)
+happening_on n (Brings octets) e = on_append n (note_acts n (on_octets e.line.link octets).note) (packet_acts n e.layer.flow (on_octets e.line.link octets).accepted) (notes_on n (on_octets e.line.link octets).note) (packets_on n e.layer.flow (on_octets e.line.link octets).accepted)
 happening_on n (RunsOut id) e = if_on n (runs_at e id) _ _ (expiry_on n id e) tt
 happening_on n Relinks e = (refl, tt)
 

@@ -205,13 +205,13 @@ line_steps x l d step h legs b i others writes_ r =
     (record { slots = r.slots; apart = r.apart; has = r.has })
 
 line_hears : (x : Role) (l : Layer) (d : ℕ) (p : Body) (legs : ℕ → Leg) (b : Book) → ((c : ℕ) → LineAgrees l c (legs c)) → AreRecords x l legs b
-    → AreRecords x (on_found (unread l) d (λ ch. received l.role l.window d ch p) (channel_of l d)) (λ c. if c == d then heard c p (legs c) else legs c)
-    (all_told x (on_found (unread l) d (λ ch. received l.role l.window d ch p) (channel_of l d)).notes b)
+    → AreRecords x (on_found (unread l) d (λ ch. received l.role l.flow d ch p) (channel_of l d)) (λ c. if c == d then heard c p (legs c) else legs c)
+    (all_told x (on_found (unread l) d (λ ch. received l.role l.flow d ch p) (channel_of l d)).notes b)
 line_hears x l d p legs b i r =
-    line_steps x l d (λ ch. received l.role l.window d ch p) (λ c g. if c == d then heard c p g else g) legs b i (λ c ne. if_other c d (legs c) _ ne)
+    line_steps x l d (λ ch. received l.role l.flow d ch p) (λ c g. if c == d then heard c p g else g) legs b i (λ c ne. if_other c d (legs c) _ ne)
     (λ ch is a h.
-    subst (λ (g : Leg). Writes x d b (all_told x (received l.role l.window d ch p).notes b) (leg_if (had_call (received l.role l.window d ch p).channel.state) g)) (sym (if_same d (legs d) (heard d p (legs d))))
-    (subst (λ (s : Shown). Writes x d b (all_told x (received s.role s.window d s.channel p).notes b) (leg_if (had_call (received s.role s.window d s.channel p).channel.state) (heard d p (legs d)))) (sym a.shown)
+    subst (λ (g : Leg). Writes x d b (all_told x (received l.role l.flow d ch p).notes b) (leg_if (had_call (received l.role l.flow d ch p).channel.state) g)) (sym (if_same d (legs d) (heard d p (legs d))))
+    (subst (λ (s : Shown). Writes x d b (all_told x (received s.role s.flow d s.channel p).notes b) (leg_if (had_call (received s.role s.flow d s.channel p).channel.state) (heard d p (legs d)))) (sym a.shown)
     (comes_written x d p b (legs d) is a.leg h))) r
 
 line_mishears : (x : Role) (l : Layer) (d : ℕ) (unknown : Bool) (legs : ℕ → Leg) (b : Book) → ((c : ℕ) → LineAgrees l c (legs c)) → AreRecords x l legs b
@@ -257,7 +257,7 @@ by_both x true l m f g b p q = p
 by_both x false l m f g b p q = q
 
 whole : (phase : Phase) (x : Role) (p : Packet) (l : Layer) (legs : ℕ → Leg) (b : Book) → ((c : ℕ) → LineAgrees l c (legs c)) → AreRecords x l legs b
-    → Kept x (cond (p.channel == 0) (restart_packet phase p.body (unread l)) (on_channel phase (unread l) p.channel (λ ch. received l.role l.window p.channel ch p.body))) (λ c. came_in phase (Whole p) c (legs c)) b
+    → Kept x (cond (p.channel == 0) (restart_packet phase p.body (unread l)) (on_channel phase (unread l) p.channel (λ ch. received l.role l.flow p.channel ch p.body))) (λ c. came_in phase (Whole p) c (legs c)) b
 whole PacketReady x p l legs b i r =
     by_both x (p.channel == 0) _ _ (λ c. restarted p.body (legs c)) (λ c. if c == p.channel then heard c p.body (legs c) else legs c) b (restart_in_r1 x p.body l legs b r) (line_hears x l p.channel p.body legs b i r)
 whole OwnRestart x p l legs b i r = by_cond (λ (m : Layer). Kept x m legs b) (p.channel == 0) _ _ (λ h. restart_in_r2 x p.body l legs b r) (λ h. unread_same x l legs b r)

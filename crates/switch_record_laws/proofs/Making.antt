@@ -47,7 +47,7 @@ slots_of Dte channels dte_node dce_node = refl
 slots_of Dce channels dte_node dce_node = refl
 
 pub made_records : MadeLaw
-made_records role own channels window dte_node dce_node legs = record {
+made_records role own channels flow dte_node dce_node legs = record {
   slots = λ c e. let h = has_slot channels c e in (h.0, subst (λ (xs : List Slot). c ≤ length xs) (sym (slots_of role channels dte_node dce_node)) h.1);
   apart = record {
     there = λ y c n e. absurd (none-some n (sym (no_present y channels dte_node dce_node c) ∙ e));

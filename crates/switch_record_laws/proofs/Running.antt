@@ -4,6 +4,7 @@ use Rattle.std.proofs.Common.{refl, subst, arith}
 use Rattle.std.proofs.lemmas.Option.{none-some, same_Some}
 use Rattle.link_timers.specs.declared.role.Role.TheVariants.{Dte, Dce}
 use Rattle.epochs.proofs.Confirms.{confirms_itself}
+use Rattle.packet_layer.specs.Flow.{modulo_8}
 use Rattle.packet_layer.specs.Layer.{Layer}
 use Rattle.call_records.specs.Book.{made_book}
 use Rattle.switch_lines.specs.Lines.{SwitchLine}
@@ -29,23 +30,23 @@ use Rattle.std.specs.FinMap.{empty}
 use Rattle.switch_record_laws.specs.Tied.{IsTied}
 
 new_begins : (n : ℕ) (l : Layer) → slice_get (layers_of new_switch.lines) n ≡ Some l → AreRecords Dce l (λ c. new_legs configs (record { line = n; channel = c })) (books n)
-new_begins zero l e = subst (λ (y : Layer). AreRecords Dce y (λ c. new_legs configs (record { line = 0; channel = c })) (books 0)) (same_Some _ _ e) (made_records Dce Dce 2 2 3 9 (λ c. new_legs configs (record { line = 0; channel = c })))
-new_begins (suc zero) l e = subst (λ (y : Layer). AreRecords Dce y (λ c. new_legs configs (record { line = 1; channel = c })) (books 1)) (same_Some _ _ e) (made_records Dce Dce 2 2 4 9 (λ c. new_legs configs (record { line = 1; channel = c })))
+new_begins zero l e = subst (λ (y : Layer). AreRecords Dce y (λ c. new_legs configs (record { line = 0; channel = c })) (books 0)) (same_Some _ _ e) (made_records Dce Dce 2 (modulo_8 2) 3 9 (λ c. new_legs configs (record { line = 0; channel = c })))
+new_begins (suc zero) l e = subst (λ (y : Layer). AreRecords Dce y (λ c. new_legs configs (record { line = 1; channel = c })) (books 1)) (same_Some _ _ e) (made_records Dce Dce 2 (modulo_8 2) 4 9 (λ c. new_legs configs (record { line = 1; channel = c })))
 new_begins (suc (suc n)) l e = absurd (none-some l e)
 
 run_begins : (n : ℕ) (l : Layer) → slice_get (layers_of two_lines) n ≡ Some l → AreRecords Dce l (λ c. no_calls (record { line = n; channel = c })) (books n)
-run_begins zero l e = subst (λ (y : Layer). AreRecords Dce y (λ c. no_calls (record { line = 0; channel = c })) (books 0)) (same_Some _ _ e) (made_records Dce Dce 2 2 3 9 (λ c. no_calls (record { line = 0; channel = c })))
-run_begins (suc zero) l e = subst (λ (y : Layer). AreRecords Dce y (λ c. no_calls (record { line = 1; channel = c })) (books 1)) (same_Some _ _ e) (made_records Dce Dce 2 2 4 9 (λ c. no_calls (record { line = 1; channel = c })))
+run_begins zero l e = subst (λ (y : Layer). AreRecords Dce y (λ c. no_calls (record { line = 0; channel = c })) (books 0)) (same_Some _ _ e) (made_records Dce Dce 2 (modulo_8 2) 3 9 (λ c. no_calls (record { line = 0; channel = c })))
+run_begins (suc zero) l e = subst (λ (y : Layer). AreRecords Dce y (λ c. no_calls (record { line = 1; channel = c })) (books 1)) (same_Some _ _ e) (made_records Dce Dce 2 (modulo_8 2) 4 9 (λ c. no_calls (record { line = 1; channel = c })))
 run_begins (suc (suc n)) l e = absurd (none-some l e)
 
 are_params : AreParams parameters
 are_params = record {
   link = record { k_least = omega arith; k_most = omega arith; n2_least = omega arith; n2_most = omega arith };
-  layer = record { channels_least = omega arith; channels_most = omega arith; window_least = omega arith; window_most = omega arith };
+  layer = record { channels_least = omega arith; channels_most = omega arith; flow_is = record { window_least = omega arith; window_most = omega arith; size_is = refl } };
 }
 
 are_setting : (dte_node dce_node : ℕ) → IsSetting (record { dte = parameters; dce = parameters; dte_node = dte_node; dce_node = dce_node })
-are_setting dte_node dce_node = record { dte = are_params; dce = are_params; alike = record { channels = refl; window = refl; standing = refl } }
+are_setting dte_node dce_node = record { dte = are_params; dce = are_params; alike = record { channels = refl; flow = refl; standing = refl } }
 
 -- a line as it is made, whose first frame went out
 made_line : (node : ℕ) → Kept (record { dte = parameters; dce = parameters; dte_node = node; dce_node = 9 }) (made_book node 9 2 false) (happens (At Dte (Sends [])) (made_ends parameters parameters))
@@ -68,8 +69,8 @@ run_tied : IsTied new_switch histories
 run_tied = tied_holds.begins empty configs books partners configs_right run_addresses run_kept new_begins
 
 trunk_begins : (n : ℕ) (l : Layer) → slice_get (layers_of trunk_switch.lines) n ≡ Some l → AreRecords Dce l (λ c. new_legs trunk_configs (record { line = n; channel = c })) (books n)
-trunk_begins zero l e = subst (λ (y : Layer). AreRecords Dce y (λ c. new_legs trunk_configs (record { line = 0; channel = c })) (books 0)) (same_Some _ _ e) (made_records Dce Dce 2 2 3 9 (λ c. new_legs trunk_configs (record { line = 0; channel = c })))
-trunk_begins (suc zero) l e = subst (λ (y : Layer). AreRecords Dce y (λ c. new_legs trunk_configs (record { line = 1; channel = c })) (books 1)) (same_Some _ _ e) (made_records Dce Dte 2 2 4 9 (λ c. new_legs trunk_configs (record { line = 1; channel = c })))
+trunk_begins zero l e = subst (λ (y : Layer). AreRecords Dce y (λ c. new_legs trunk_configs (record { line = 0; channel = c })) (books 0)) (same_Some _ _ e) (made_records Dce Dce 2 (modulo_8 2) 3 9 (λ c. new_legs trunk_configs (record { line = 0; channel = c })))
+trunk_begins (suc zero) l e = subst (λ (y : Layer). AreRecords Dce y (λ c. new_legs trunk_configs (record { line = 1; channel = c })) (books 1)) (same_Some _ _ e) (made_records Dce Dte 2 (modulo_8 2) 4 9 (λ c. new_legs trunk_configs (record { line = 1; channel = c })))
 trunk_begins (suc (suc n)) l e = absurd (none-some l e)
 
 trunk_is_kept : (n : ℕ) (l : SwitchLine) → slice_get trunk_switch.lines n ≡ Some l → KeptWith (trunk_partners n) (books n) l.end

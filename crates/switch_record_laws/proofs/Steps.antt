@@ -5,6 +5,7 @@ use Rattle.std.proofs.lemmas.Bool.{eqb-true, le-leb}
 use Rattle.link_timers.specs.declared.role.Role.{Role}
 use Rattle.link_timers.specs.declared.role.Role.TheVariants.{Dte, Dce}
 use Rattle.epochs.specs.Epoch.{SentEpoch, TakenEpoch}
+use Rattle.packet_channel.proofs.Windows.{window_below}
 use Rattle.packet_layer.specs.Packets.{Body, CallParts, Datum}
 use Rattle.packet_layer.specs.Packets.Body.{Call, Accepted, Clear, ClearConfirmation, Data, Interrupt, InterruptConfirmation, ReceiveReady, ReceiveNotReady, Reset, ResetConfirmation}
 use Rattle.packet_layer.specs.Packets.Note.{Covered}
@@ -115,7 +116,7 @@ Before x d g b = Has x d (leg_if (had_call g.channel.state) g) b
 counted_all : (all count n : ℕ) → count + n ≤ all → counted all count n ≡ count + n
 counted_all all count n h = ap (λ (v : Bool). cond v (count + n) count) (le-leb (count + n) all h)
 
-covered_written : (x : Role) (d n : ℕ) (u : Traffic) (v : Bool) (b : Book) (g g' : Leg) → (n == 0) ≡ v → NamesCounts g.window u (record g.epoch { covered = g.epoch.covered + n }) → g'.before ≡ g.before
+covered_written : (x : Role) (d n : ℕ) (u : Traffic) (v : Bool) (b : Book) (g g' : Leg) → (n == 0) ≡ v → NamesCounts g.flow u (record g.epoch { covered = g.epoch.covered + n }) → g'.before ≡ g.before
     → g'.epoch ≡ record g.epoch { covered = g.epoch.covered + n } → HasRecord x d g b → Writes x d b (all_told x (cond v [] (Covered d n ∷ [])) b) (Some g')
 covered_written x d n u true b g g' z k p q h =
     let none : n ≡ 0 = eqb-true n 0 z in
@@ -124,7 +125,7 @@ covered_written x d n u true b g g' z k p q h =
 covered_written x d n u false b g g' z k p q h = changed_written x d (with_covered n) b g g' grows h
   where
     within : g.epoch.covered + n ≤ length g.epoch.sent
-    within = covered_within g.window u (record g.epoch { covered = g.epoch.covered + n }) k
+    within = covered_within g.flow u (record g.epoch { covered = g.epoch.covered + n }) k
 
     grows : (r : RecordValue) → IsRecordOf g r → IsRecordOf g' (with_covered n r)
     grows r i = record {
@@ -137,7 +138,7 @@ covered_written x d n u false b g g' z k p q h = changed_written x d (with_cover
       open_ = i.open_;
     }
 
-heard_written : (x : Role) (c : ℕ) (h : Heard) (p : Body) (b : Book) (g : Leg) → had_call g.channel.state ≡ true → NamesAfter g.window h g.channel.traffic g.epoch p → HasRecord x c g b
+heard_written : (x : Role) (c : ℕ) (h : Heard) (p : Body) (b : Book) (g : Leg) → had_call g.channel.state ≡ true → NamesAfter g.flow h g.channel.traffic g.epoch p → HasRecord x c g b
     → Tells x c (after_heard g.role c g.channel h) (logged_heard h g.epoch) g b
 heard_written x c (Keeps n u) p b g call k r =
     subst (λ (v : Bool). Writes x c b (all_told x (cond (n == 0) [] (Covered c n ∷ [])) b) (leg_if v (stepped (after_heard g.role c g.channel (Keeps n u)) (logged_heard (Keeps n u) g.epoch) g))) (sym call)
@@ -149,21 +150,21 @@ heard_written x c (Wrong d) p b g call k r =
 
 abbrev Comes : Role → ℕ → Body → Book → Leg → Type 0
 Comes x c p b g = IsCallLeg g → Before x c g b
-    → Tells x c (received g.role g.window c g.channel p) (heard_epoch g.channel.state g.channel.resetting (hears_in g.window g.channel.traffic p) g.epoch) g b
+    → Tells x c (received g.role g.flow c g.channel p) (heard_epoch g.channel.state g.channel.resetting (hears_in g.flow g.channel.traffic p) g.epoch) g b
 
-flow : (x : Role) (c : ℕ) (p : Body) (b : Book) (g : Leg) → IsCallLeg (leg_in Transfer false g) → HasRecord x c (leg_in Transfer false g) b
-    → Tells x c (after_heard g.role c (leg_in Transfer false g).channel (hears_in g.window g.channel.traffic p)) (logged_heard (hears_in g.window g.channel.traffic p) g.epoch) (leg_in Transfer false g) b
-flow x c p b g i r = heard_written x c (hears_in g.window g.channel.traffic p) p b (leg_in Transfer false g) refl (counts_hold.heard g.window i.leg.window g.channel.traffic g.epoch p i.leg.counts) r
+in_flow : (x : Role) (c : ℕ) (p : Body) (b : Book) (g : Leg) → IsCallLeg (leg_in Transfer false g) → HasRecord x c (leg_in Transfer false g) b
+    → Tells x c (after_heard g.role c (leg_in Transfer false g).channel (hears_in g.flow g.channel.traffic p)) (logged_heard (hears_in g.flow g.channel.traffic p) g.epoch) (leg_in Transfer false g) b
+in_flow x c p b g i r = heard_written x c (hears_in g.flow g.channel.traffic p) p b (leg_in Transfer false g) refl (counts_hold.heard g.flow (window_below _ i.leg.flow) g.channel.traffic g.epoch p i.leg.counts) r
 
 d1 : (x : Role) (c : ℕ) (p : Body) (b : Book) (g : Leg) → Comes x c p b (leg_in Transfer false g)
 d1 x c (Clear cause diagnostic) b g i r = closed_written x c b
 d1 x c (Reset cause diagnostic) b g i r = renewed_written x c b (leg_in Transfer false g) _ refl refl r
 d1 x c ResetConfirmation b g i r = renewed_written x c b (leg_in Transfer false g) _ refl refl r
-d1 x c (Data send receive d) b g i r = flow x c (Data send receive d) b g i r
-d1 x c (ReceiveReady receive) b g i r = flow x c (ReceiveReady receive) b g i r
-d1 x c (ReceiveNotReady receive) b g i r = flow x c (ReceiveNotReady receive) b g i r
-d1 x c (Interrupt octets) b g i r = flow x c (Interrupt octets) b g i r
-d1 x c InterruptConfirmation b g i r = flow x c InterruptConfirmation b g i r
+d1 x c (Data send receive d) b g i r = in_flow x c (Data send receive d) b g i r
+d1 x c (ReceiveReady receive) b g i r = in_flow x c (ReceiveReady receive) b g i r
+d1 x c (ReceiveNotReady receive) b g i r = in_flow x c (ReceiveNotReady receive) b g i r
+d1 x c (Interrupt octets) b g i r = in_flow x c (Interrupt octets) b g i r
+d1 x c InterruptConfirmation b g i r = in_flow x c InterruptConfirmation b g i r
 d1 x c p b g i r = closed_written x c b
 
 own_reset : (x : Role) (c : ℕ) (p : Body) (b : Book) (g : Leg) → Comes x c p b (leg_in Transfer true g)
@@ -311,7 +312,7 @@ releases_written x c n true b g g' e i p q h = changed_written x c (with_release
   where
     within : g.epoch.released + n ≤ length g.epoch.taken
     within =
-        let k = (counts_hold.asked g.window i.window g.channel.traffic g.epoch (Releasing n) i.counts).released_taken in
+        let k = (counts_hold.asked g.flow (window_below _ i.flow) g.channel.traffic g.epoch (Releasing n) i.counts).released_taken in
         subst (λ (v : Bool). (cond v (record g.epoch { released = g.epoch.released + n }) g.epoch).released ≤ length (cond v (record g.epoch { released = g.epoch.released + n }) g.epoch).taken) e k
 
     grows : (r : RecordValue) → IsRecordOf g r → IsRecordOf g' (with_released n r)

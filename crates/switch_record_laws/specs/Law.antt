@@ -3,6 +3,7 @@ use Rattle.std.specs.Prelude.{◌≡◌, ℕ, false, List, [], Some}
 use Rattle.link_timers.specs.declared.role.Role.{Role}
 use Rattle.link_timers.specs.Role.{other_of}
 use Rattle.link_timers.specs.declared.timers.TimerId.{TimerId}
+use Rattle.packet_channel.specs.declared.flow.Flow.{Flow}
 use Rattle.packet_layer.specs.Layer.{Layer, made}
 use Rattle.packet_laws.specs.Readable.{Every, AreOctets}
 use Rattle.call_records.specs.Records.{RecordValue}
@@ -26,8 +27,8 @@ use Rattle.switch_record_laws.specs.Joined.{JoinsRecords}
 
 -- on a line without a standing call no channel has a record, at either side of the book, whatever the role of the layer
 abbrev pub MadeLaw : Type 0
-MadeLaw = (side own : Role) (channels window dte_node dce_node : ℕ) (legs : ℕ → Leg)
-    → AreRecords side (made own channels window false) legs (made_book dte_node dce_node channels false)
+MadeLaw = (side own : Role) (channels : ℕ) (flow : Flow) (dte_node dce_node : ℕ) (legs : ℕ → Leg)
+    → AreRecords side (made own channels flow false) legs (made_book dte_node dce_node channels false)
 
 -- ---- acts
 

@@ -11,8 +11,8 @@ use crate::lines::Lines;
 use packet_layer::{Request, TakenBuf};
 use switch_joins::{Change, SwitchChannel};
 
-/// The most that waits on a leg: a queue of eight packets, and an interrupt.
-const MOST_WAITING: usize = 9;
+/// The most that waits on a leg: a queue of 32 packets, and an interrupt.
+const MOST_WAITING: usize = 33;
 
 impl Lines {
     // What waits first on a joined channel is taken there and sent on the other leg, unless that one would refuse it.

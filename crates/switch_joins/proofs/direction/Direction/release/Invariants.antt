@@ -8,7 +8,7 @@ invariant-loop-self l = record {
   count : l.count + releasable l.self-inside.held.items ≡ releasable l.fn.self.held;
   rest : unreleasable l.self-inside.held.items ≡ unreleasable l.fn.self.held;
   outstanding : l.self-inside.outstanding ≡ l.fn.self.outstanding;
-  most : l.count + length l.self-inside.held.items ≤ 7;
+  most : l.count + length l.self-inside.held.items ≤ 32;
 }
 
 abbrev pub decreases-loop-self : goal.decreases-loop-self

@@ -1,6 +1,7 @@
 use Rattle.std.proofs.Common.{arith}
 use Rattle.packet_layer.specs.RequestView.{request_of}
 use Rattle.packet_end.specs.PacketEnd as end
+use Rattle.switch_joins.proofs.ChannelSets.{not_of_join}
 use Rattle.switch_lines.specs.Switch.{with_end}
 use Rattle.switch_lines.proofs.Pooled.{one_changed, none_changed, one_touched, pooled_set, serves_one}
 use Rattle.switch_lines.proofs.Touched.{count_kept}
@@ -31,7 +32,8 @@ invariant_of-self c =
       moves = one_stirred c.self.inside.to_relay c.insert_join.new.self c.self.inside.refusing
           (with_end (λ e. end.asked e c.args.place.channel (request_of c.args.request.now))) xs c.deref.result.now
           c.args.place.line c.args.place.channel c.other_of.result c.index_mut.result.now c.ask.new.self (omega arith)
-          c.index_mut.ensures.value c.ask.ensures.line c.deref.ensures.value c.other_of.ensures c.insert_join.ensures
+          c.index_mut.ensures.value c.ask.ensures.line c.deref.ensures.value c.other_of.ensures
+          (not_of_join c.self.inside.to_relay c.insert_join.new.self c.args.place c.other_of.result c.insert_join.ensures)
           (λ l d. refl)
           (λ l d small apart. request_apart l.end.layer c.args.place.channel d (request_of c.args.request.now) apart)
           c.self.invariant.moves;

@@ -8,6 +8,7 @@ use Rattle.packet_layer.specs.Traffic.{Taken as TakenValue}
 use Rattle.packet_layer.specs.Traffic.Taken.{TakenPacket}
 use Rattle.packet_end.specs.PacketEnd.{asked}
 use Rattle.switch_joins.specs.Direction.{carried}
+use Rattle.switch_joins.proofs.ChannelSets.{not_of_join}
 use Rattle.switch_lines.specs.Lines.{SwitchLine, ask, front_of_line}
 use Rattle.switch_lines.specs.OfLine.{MovesFront, kept_at}
 use Rattle.switch_lines.specs.Pooled.{plain}
@@ -33,7 +34,8 @@ invariant_of-self c =
           (with_end (λ e. asked e c.args.place.channel Taking)) xs xs n c.args.place.channel (Some c.args.other)
           c.index_mut.result.now new within c.index_mut.ensures.value c.take_buf.ensures.line refl
           (sym c.requires.joined ∙ ap (λ (ls : List SwitchLine). other_at ls c.args.place) (sym c.self.view_is))
-          c.insert_join.ensures (λ l d. refl)
+          (not_of_join c.self.inside.to_relay c.insert_join.new.self c.args.place (Some c.args.other) c.insert_join.ensures)
+          (λ l d. refl)
           (λ l d small apart. request_apart l.end.layer c.args.place.channel d Taking apart) c.self.invariant.moves;
       pooled = none_in_hand c.self.inside.pool _ (handed_out c.self.inside.pool xs n c.index_mut.result.now new []
           c.self.invariant.pooled within c.index_mut.ensures.value
@@ -56,7 +58,8 @@ invariant_of-self-in-None c =
           (with_end (λ e. asked e c.args.place.channel Taking)) xs xs n c.args.place.channel (Some c.args.other)
           c.index_mut.result.now new within c.index_mut.ensures.value c.take_buf.ensures.line refl
           (sym c.requires.joined ∙ ap (λ (ls : List SwitchLine). other_at ls c.args.place) (sym c.self.view_is))
-          c.insert_join.ensures (λ l d. refl)
+          (not_of_join c.self.inside.to_relay c.insert_join.new.self c.args.place (Some c.args.other) c.insert_join.ensures)
+          (λ l d. refl)
           (λ l d small apart. request_apart l.end.layer c.args.place.channel d Taking apart) c.self.invariant.moves;
       pooled = none_in_hand c.self.inside.pool _ (handed_out c.self.inside.pool xs n c.index_mut.result.now new []
           c.self.invariant.pooled within c.index_mut.ensures.value c.in-None.ensures.held
@@ -100,7 +103,8 @@ invariant_of-self-in-Some-Data c =
           (with_end (λ e. asked e c.args.place.channel Taking)) xs xs n c.args.place.channel (Some c.args.other)
           c.index_mut.result.now new within c.index_mut.ensures.value c.take_buf.ensures.line refl
           (sym c.requires.joined ∙ ap (λ (ls : List SwitchLine). other_at ls c.args.place) (sym c.self.view_is))
-          c.insert_join.ensures (λ l d. refl)
+          (not_of_join c.self.inside.to_relay c.insert_join.new.self c.args.place (Some c.args.other) c.insert_join.ensures)
+          (λ l d. refl)
           (λ l d small apart. request_apart l.end.layer c.args.place.channel d Taking apart) c.self.invariant.moves);
       pooled = handed_in c.self.inside.pool c.send_packet.new.pool ys m c.index_mut-in-Some-Data.result.now
           c.send_packet.new.self c.in-Some-Data.packet.buffer

@@ -1,5 +1,6 @@
 use Rattle.std.proofs.Common.{◌∙◌, ap, arith, List, Option}
 use Rattle.packet_end.specs.PacketEnd as end
+use Rattle.switch_joins.proofs.ChannelSets.{not_of_join}
 use Rattle.switch_lines.specs.Lines.{SwitchLine}
 use Rattle.std.specs.Prelude.{slice_get}
 use Rattle.switch_lines.specs.NewJoins.{joins_heeded}
@@ -41,7 +42,9 @@ invariant_of-self c =
           (with_end (λ e. end.received (quieted e) c.args.octets.now)) xs c.deref.result.now
           c.args.line c.named_in-channel.result c.other_of.result c.index_mut.result.now c.on_frame.new.self
           within
-          c.index_mut.ensures.value c.on_frame.ensures.line c.deref.ensures.value c.other_of.ensures c.insert_join.ensures
+          c.index_mut.ensures.value c.on_frame.ensures.line c.deref.ensures.value c.other_of.ensures
+          (not_of_join c.self.inside.to_relay c.insert_join.new.self (record { line = c.args.line; channel = c.named_in-channel.result })
+          c.other_of.result c.insert_join.ensures)
           (λ l d. refl)
           (λ l d small apart. received_calm l.end c.args.octets.now d (λ i. omega (arith, c.type_inv.octets i))
           (λ named. apart (c.named_in-channel.ensures d named small)))

@@ -1,5 +1,5 @@
 use Rattle.std.proofs.Common.{arith, ap, subst, ◌∙◌, Option, List}
-use Rattle.switch_joins.specs.ChannelSet.{IsApart}
+use Rattle.switch_joins.proofs.ChannelSets.{IsApart, not_of_join}
 use Rattle.switch_lines.specs.Lines.{SwitchChannel, with_nth_joined}
 use Rattle.switch_lines.specs.Pooled.{PooledLine, plain}
 use Rattle.switch_lines.specs.Waiting.{other_at}
@@ -36,8 +36,10 @@ invariant_of-self c =
           (omega (arith, c.self.invariant.most)) c.index_mut.ensures.value
           (ap (λ (p : PooledLine). p.line) c.set_joined.ensures.line) c.set_joined.ensures.few c.joined_to.ensures
           (λ p out.
-          let second = c.insert_join-then-place-len.ensures p out in
-          let first = c.insert_join.ensures p second.0 in (
+          let second = not_of_join c.insert_join.new.self c.insert_join-then-place-len.new.self c.args.place c.joined_to.result
+          c.insert_join-then-place-len.ensures p out in
+          let first = not_of_join c.self.inside.to_relay c.insert_join.new.self c.args.place c.other_of.result
+          c.insert_join.ensures p second.0 in (
             first.0,
             subst (λ (o : Option SwitchChannel). IsApart p c.args.place o)
                 (c.other_of.ensures ∙ ap (λ (ys : List PooledLine). other_at (plain ys) c.args.place) c.deref.ensures.value) first.1,

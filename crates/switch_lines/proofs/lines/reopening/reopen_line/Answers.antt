@@ -1,9 +1,9 @@
 use Rattle.std.proofs.Common.{◌≡◌, ◌<◌, ◌≤◌, ◌⊎◌, inl, inr, ℕ, Bool, false, true, not, ◌&&◌, ◌∙◌, ap, subst, sym, arith, Option}
 use Rattle.std.proofs.lemmas.Bool.{cases_lt}
-use Rattle.switch_joins.specs.ChannelSet.{has, is_small, IsApart}
+use Rattle.switch_joins.specs.ChannelSet.{has, is_small}
 use Rattle.switch_lines.specs.Lines.{SwitchChannel, same_place}
 use Rattle.switch_lines.specs.Pooled.{plain}
-use Rattle.switch_joins.proofs.ChannelSets.{is_so_small, never_in}
+use Rattle.switch_joins.proofs.ChannelSets.{is_so_small, never_in, IsApart, not_of_join}
 use Rattle.switch_lines.proofs.Moving.{place_same}
 use Rattle.switch_lines.proofs.Waiting.{looked_at}
 use Rattle.switch_lines.proofs.lines.reopening.reopen_line.Goals as goal
@@ -36,7 +36,7 @@ loop-channel-preserved c =
     record {
       moves = looked_at c.loop-channel.to_relay c.insert_join.new.self c.loop-channel.refusing c.remove.new.self
           (plain c.args.lines.now) x
-          (λ p out. let a = c.insert_join.ensures p out in
+          (λ p out. let a = not_of_join c.loop-channel.to_relay c.insert_join.new.self x c.other_of.result c.insert_join.ensures p out in
           (a.0, subst (λ (o : Option SwitchChannel). IsApart p x o) c.other_of.ensures a.1)) c.remove.ensures i.moves;
       below = λ p at less. elim (cases_lt p.channel c.in-Some.channel) [
         | inl before ↦ gone p (earlier p at before (cases_lt p.channel c.loop-channel.next))

@@ -1,0 +1,22 @@
+use Rattle.std.proofs.Common.{◌≡◌, List, [], ap, ap₂, ◌∙◌}
+use Rattle.packet_layer.specs.Packets.{Note}
+use Rattle.packet_end.specs.PacketEnd.{PacketEnd, received}
+use Rattle.packet_end.specs.Pooled.{PooledEnd}
+use Rattle.switch_lines.specs.Lines.{SwitchLine}
+use Rattle.switch_lines.specs.Pooled.{PooledLine}
+use Rattle.switch_lines.specs.Switch.{with_end, quieted}
+use Rattle.switch_lines.proofs.line.SwitchLine.on_frame.Goals as goal
+
+-- nothing is left to read
+already_quiet : (e : PacketEnd) → e.layer.notes ≡ [] → e.notes ≡ [] → e ≡ quieted e
+already_quiet e layer own =
+    ap₂ (λ (ns ms : List Note). record e { layer = record e.layer { notes = ns }; notes = ms }) layer own
+
+pub returns-clause-line : goal.returns-clause-line
+returns-clause-line c =
+    let a = c.self.inside in
+    let own = ap (λ (p : PooledLine). p.line.end.notes) c.self.view_is ∙ c.requires.read in
+    let with : PacketEnd → SwitchLine = λ e. record { end = received e c.args.octets.now; address = a.address; joined = a.joined } in
+    ap (λ (x : PooledEnd). record { end = x.end; address = a.address; joined = a.joined }) c.on_frame.ensures.end
+    ∙ (ap with (already_quiet a.end.end c.self.invariant.read own)
+    ∙ ap (λ (p : PooledLine). with_end (λ e. received (quieted e) c.args.octets.now) p.line) c.self.view_is)
