@@ -1,10 +1,11 @@
 -- What a node noted of an expiry is written as its turn says.
-use Rattle.std.proofs.Common.{◌≡◌, ◌∙◌, Bool, true, false, [], refl, sym, ap, subst}
+use Rattle.std.proofs.Common.{◌≡◌, ◌∙◌, Bool, true, false, List, [], length, drop, refl, sym, ap, subst}
 use Rattle.std.specs.Prelude.{cond, if◌then◌else◌}
 use Rattle.link_timers.specs.declared.role.Role.{Role}
 use Rattle.link_timers.specs.declared.timers.TimerId.{TimerId}
 use Rattle.link_timers.specs.declared.timers.TimerId.TheVariants as timer
 use Rattle.packet_end.specs.PacketEnd.{PacketEnd, begun, finished, after_timer, runs_at}
+use Rattle.pad_records.specs.Notes.{ChannelNote}
 use Rattle.pad_records.specs.Pad as pad
 use Rattle.pad_records.specs.Pad.{PadState}
 use Rattle.call_records.specs.Book.{Book}
@@ -17,7 +18,9 @@ use Rattle.line_nodes.specs.LineTurns.{expires}
 -- ---- a node that noted nothing
 
 as_read : (p : PadState) → p.line.notes ≡ [] → records.without_notes p ≡ p
-as_read p none = λ i. record p { line = record p.line { notes = sym none i } }
+as_read p none =
+    let terminals : drop (length p.line.notes) p.noted_at ≡ p.noted_at = ap (λ (notes : List ChannelNote). drop (length notes) p.noted_at) none in
+    λ i. record p { line = record p.line { notes = sym none i }; noted_at = terminals i }
 
 pub pad_unchanged : (role : Role) (p : PadState) (b : Book) → p.line.notes ≡ [] → told role (Pad p) b ≡ unchanged (Pad p) b
 pad_unchanged role p b none =

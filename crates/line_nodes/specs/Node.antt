@@ -5,7 +5,7 @@ use Rattle.packet_layer.specs.Layer.{confirmed}
 use Rattle.packet_end.specs.End.{without_frames}
 use Rattle.packet_end.specs.PacketEnd as end
 use Rattle.packet_end.specs.PacketEnd.{Octets, PacketEnd, at_rest}
-use Rattle.pad_records.specs.Notes.{PadNote}
+use Rattle.pad_records.specs.Notes.{ChannelNote}
 use Rattle.pad_records.specs.Pad as pad
 use Rattle.pad_records.specs.Pad.{PadState}
 use Rattle.pad_records.specs.Writing as records
@@ -38,7 +38,7 @@ abbrev pub drained : NodeState → NodeState
 drained n = with_end (sent_out (end_of n)) n
 
 -- the notes of a PAD that are not read
-abbrev pub pad_notes : NodeState → List PadNote
+abbrev pub pad_notes : NodeState → List ChannelNote
 pad_notes (Pad p) = p.line.notes
 pad_notes (Host e) = []
 

@@ -6,6 +6,7 @@ use Rattle.link_timers.specs.declared.role.Role.{Role}
 use Rattle.link_timers.specs.declared.role.Role.TheVariants.{Dte, Dce}
 use Rattle.lapb.specs.Machine.{Octets}
 use Rattle.epochs.specs.Epoch.{nothing_sent, nothing_taken}
+use Rattle.packet_layer.specs.Flow.{modulo_8}
 use Rattle.packet_layer.specs.Packets.{Datum}
 use Rattle.packet_layer.specs.Channel.Request.{Accept}
 use Rattle.packet_end.specs.PacketEnd as end
@@ -119,7 +120,7 @@ all_keep s (h ∷ hs) n k = all_keep s hs (after_one h n) (one_keeps s h n k)
 -- ---- the run
 
 abbrev params : EndParams
-params = record { k = 7; n2 = 3; channels = 4; window = 2; standing = false }
+params = record { k = 7; n2 = 3; channels = 4; flow = modulo_8 2; standing = false }
 
 abbrev setting : Setting
 setting = record { dte = params; dce = params; dte_node = 3; dce_node = 5 }
@@ -184,11 +185,11 @@ pairs_are = refl
 are_params : AreParams params
 are_params = record {
   link = record { k_least = omega arith; k_most = omega arith; n2_least = omega arith; n2_most = omega arith };
-  layer = record { channels_least = omega arith; channels_most = omega arith; window_least = omega arith; window_most = omega arith };
+  layer = record { channels_least = omega arith; channels_most = omega arith; flow_is = record { window_least = omega arith; window_most = omega arith; size_is = refl } };
 }
 
 is_setting : IsSetting setting
-is_setting = record { dte = are_params; dce = are_params; alike = record { channels = refl; window = refl; standing = refl } }
+is_setting = record { dte = are_params; dce = are_params; alike = record { channels = refl; flow = refl; standing = refl } }
 
 begins : Keeps setting before
 begins =

@@ -12,8 +12,8 @@ ghost use Rattle.pad_records.specs.Room.{HasRoom, HaveRoom, written};
 use call_records::{Book, EditStep, Packet};
 use link_timers::Role;
 use packet_layer::Taken;
+use x25_pad::ChannelNote;
 pub use x25_pad::Pad;
-use x25_pad::PadNote;
 
 /// Reads the notes of an event at a PAD, and writes them in order into the book, at the PAD's end of the line. The book
 /// has room for them.
@@ -31,17 +31,17 @@ pub fn write_notes(pad: &mut Pad, role: Role, book: &mut Book)
 
 /// Writes a note of a PAD into the book, at the PAD's end of the line. The book has room for it.
 #[inline(always)]
-pub fn write_note(book: &mut Book, role: Role, note: &PadNote)
+pub fn write_note(book: &mut Book, role: Role, note: &ChannelNote)
     requires { HasRoom (pad_note_of note.now) book.old.room book.old.pairs }
     ensures { book.new ≡ written role (pad_note_of note.now) book.old }
 {
     match note {
-        PadNote::Told(note) => book.tell(role, note),
-        PadNote::Placed { channel, address } => book.place(role, *channel, address),
-        PadNote::Accepted(channel) => book.answer(role, *channel),
-        PadNote::Cleared(channel) => book.close(role, *channel),
-        PadNote::Reset(channel) => book.renew(role, *channel),
-        PadNote::Edited {
+        ChannelNote::Told(note) => book.tell(role, note),
+        ChannelNote::Placed { channel, address } => book.place(role, *channel, address),
+        ChannelNote::Accepted(channel) => book.answer(role, *channel),
+        ChannelNote::Cleared(channel) => book.close(role, *channel),
+        ChannelNote::Reset(channel) => book.renew(role, *channel),
+        ChannelNote::Edited {
             channel,
             octet,
             params,
@@ -52,10 +52,10 @@ pub fn write_note(book: &mut Book, role: Role, note: &PadNote)
             };
             book.edit(role, *channel, step);
         }
-        PadNote::Paused { channel, params } => {
+        ChannelNote::Paused { channel, params } => {
             book.edit(role, *channel, EditStep::Idle { params: *params });
         }
-        PadNote::Sent { channel, user_data } => {
+        ChannelNote::Sent { channel, user_data } => {
             let packet = Packet {
                 octets: user_data.octets(),
                 more: user_data.more(),
@@ -64,8 +64,8 @@ pub fn write_note(book: &mut Book, role: Role, note: &PadNote)
             };
             book.send(role, *channel, packet);
         }
-        PadNote::Interrupted { channel, octet } => book.interrupt(role, *channel, &[*octet]),
-        PadNote::Took { channel, taken } => write_taken(book, role, *channel, taken),
+        ChannelNote::Interrupted { channel, octet } => book.interrupt(role, *channel, &[*octet]),
+        ChannelNote::Took { channel, taken } => write_taken(book, role, *channel, taken),
     }
 }
 

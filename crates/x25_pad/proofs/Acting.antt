@@ -2,7 +2,7 @@
 use Rattle.std.proofs.Common.{◌≡◌, ℕ, zero, suc, ◌<◌, List, [], ◌∷◌, length, get_or, Option, Some, sym, ap, ◌∙◌, arith}
 use Rattle.std.specs.Prelude.{slice_get, slice_set}
 use Rattle.std.specs.Option.{option_map_or}
-use Rattle.x25_pad.specs.Pad.{PadState, at_port, acted}
+use Rattle.x25_pad.specs.Pad.{PadState, named, at_port, acted}
 use Rattle.x25_pad.specs.Ports.{PortState, AtLine}
 use Rattle.x25_pad.specs.declared.line.PadLine.{PadLine}
 
@@ -26,9 +26,9 @@ has p now number at same here less =
 pub acts_at : (act : AtLine → AtLine) (p now : PadState) (number at : ℕ) (old new : PortState) (line : PadLine) →
     p ≡ now → at ≡ number → number < length now.ports → old ≡ get_or p.ports at old →
     new ≡ (act (record { port = old; line = p.line })).port → line ≡ (act (record { port = old; line = p.line })).line →
-    record { line = line; ports = slice_set p.ports at new } ≡ at_port number act now
+    named (Some number) (record p { line = line; ports = slice_set p.ports at new }) ≡ at_port number act now
 acts_at act p now number at old new line same here less is port_is line_is =
-    (λ i. record { line = line_is i; ports = slice_set p.ports at (port_is i) })
+    (λ i. named (Some (sym here i)) (record p { line = line_is i; ports = slice_set p.ports at (port_is i) }))
     ∙ sym (found (λ a. acted at p (act a)) p p at old (has p now number at same here less) is)
     ∙ ap (λ n. at_port n act p) here ∙ ap (at_port number act) same
 

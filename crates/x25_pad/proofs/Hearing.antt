@@ -6,9 +6,9 @@ use Rattle.std.proofs.lemmas.List.Sums.{fold-append}
 use Rattle.packet_layer.specs.Packets.{Note}
 use Rattle.packet_layer.specs.Packets.Note.{Incoming, Connected, Closed, WasReset, InterruptConfirmed, Covered}
 use Rattle.packet_end.specs.PacketEnd.{without_first_note}
-use Rattle.x25_pad.specs.Line.{learnt_of, all_learnt, last_incoming}
-use Rattle.x25_pad.specs.Notes.{PadNote, Told, all_told}
-use Rattle.x25_pad.specs.Pad.{PadState, one_learnt, all_heard, told}
+use Rattle.x25_pad.specs.Line.{learnt_of, all_learnt, last_incoming, about}
+use Rattle.x25_pad.specs.Notes.{ChannelNote, Told, all_told}
+use Rattle.x25_pad.specs.Pad.{PadState, one_learnt, all_heard, holder, holders, told}
 use Rattle.x25_pad.specs.Ports.{PortState}
 
 -- the first note, and then the others
@@ -25,20 +25,24 @@ told_cons : (p : PadState) (note : Note) (rest : List Note) →
     told (record {
       line = record { end = record p.line.end { notes = rest }; notes = p.line.notes ++ Told note ∷ [] };
       ports = all_heard (learnt_of note) p.ports;
+      noted_at = p.noted_at ++ holder (about note) p.ports ∷ [];
     })
     ≡ told (record p { line = record p.line { end = record p.line.end { notes = note ∷ rest } } })
 told_cons p note rest = λ i. record {
   line = record {
     end = record p.line.end { notes = [] };
-    notes = append_assoc {A = PadNote} p.line.notes (Told note ∷ []) (all_told rest) i;
+    notes = append_assoc {A = ChannelNote} p.line.notes (Told note ∷ []) (all_told rest) i;
   };
   ports = heard_first note rest p.ports i;
+  noted_at = append_assoc {A = Option ℕ} p.noted_at (holder (about note) p.ports ∷ [])
+      (holders (all_heard (learnt_of note) p.ports) rest) i;
 }
 
 pub told_first : (p : PadState) (note : Note) → slice_get p.line.end.notes 0 ≡ Some note →
     told (record {
       line = record { end = without_first_note p.line.end; notes = p.line.notes ++ Told note ∷ [] };
       ports = all_heard (learnt_of note) p.ports;
+      noted_at = p.noted_at ++ holder (about note) p.ports ∷ [];
     })
     ≡ told p
 told_first p note is =
@@ -71,6 +75,7 @@ told_empty : (p : PadState) (notes : List Note) → length notes ≡ 0 →
 told_empty p [] none = λ i. record {
   line = record { end = record p.line.end { notes = [] }; notes = append-nil p.line.notes i };
   ports = none_heard p.ports i;
+  noted_at = append-nil p.noted_at i;
 }
 told_empty p (note ∷ rest) none = absurd (omega (arith, none))
 

@@ -10,7 +10,7 @@ use Rattle.packet_layer.specs.Interrupting.{may_interrupt}
 use Rattle.packet_end.specs.PacketEnd as end
 use Rattle.pad_terminal.specs.declared.answers.CallCondition.{CallCondition}
 use Rattle.x25_pad.specs.Notes as notes
-use Rattle.x25_pad.specs.Notes.{PadNote, all_told, unless_refused}
+use Rattle.x25_pad.specs.Notes.{ChannelNote, all_told, unless_refused}
 use Rattle.x25_pad.specs.declared.call.CallNote.{CallNote}
 use Rattle.x25_pad.specs.declared.call.CallNote.TheVariants as learnt
 use Rattle.x25_pad.specs.declared.line.PadLine.{PadLine}
@@ -18,7 +18,7 @@ use Rattle.x25_pad.specs.declared.line.PadLine.{PadLine}
 -- ---- requests
 
 -- something is asked of a call, which is noted where it is not refused
-abbrev pub asked : (channel : ℕ) → Request → PadNote → PadLine → PadLine
+abbrev pub asked : (channel : ℕ) → Request → ChannelNote → PadLine → PadLine
 asked channel r note l = record {
   end = end.asked l.end channel r;
   notes = l.notes ++ unless_refused (request_refusal l.end.layer channel r) note;
@@ -58,7 +58,7 @@ abbrev pub call_parts : (address user_data : List ℕ) → CallParts
 call_parts address user_data =
     record { called = address; calling = []; facilities = []; user_part = protocol ++ user_data }
 
-abbrev pub placed_note : Option ℕ → (address : List ℕ) → List PadNote
+abbrev pub placed_note : Option ℕ → (address : List ℕ) → List ChannelNote
 placed_note None address = []
 placed_note (Some channel) address = notes.Placed channel address ∷ []
 
@@ -110,6 +110,15 @@ learnt_of (Closed channel cause diagnostic reason) = learnt.Cleared channel caus
 learnt_of (WasReset channel cause diagnostic reason) = learnt.Reset channel cause ∷ []
 learnt_of (InterruptConfirmed channel) = []
 learnt_of (Covered channel count) = []
+
+-- the channel of a note
+abbrev pub about : Note → ℕ
+about (Incoming channel parts) = channel
+about (Connected channel) = channel
+about (Closed channel cause diagnostic reason) = channel
+about (WasReset channel cause diagnostic reason) = channel
+about (InterruptConfirmed channel) = channel
+about (Covered channel count) = channel
 
 abbrev pub all_learnt : List Note → List CallNote
 all_learnt notes = flat_map learnt_of notes

@@ -27,4 +27,5 @@ abbrev pub made : PadConfig → PadState
 made c = record {
   line = record { end = end.made Dte c.line; notes = [] };
   ports = new_port c.params (standing_channel c) ∷ replicate (c.terminals - 1) (new_port c.params None);
+  noted_at = [];
 }

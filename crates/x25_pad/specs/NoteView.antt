@@ -1,15 +1,17 @@
 -- Notes of a PAD, as the code has them.
-use Rattle.std.specs.Prelude.{◌≡◌, ◌∷◌, [], List, map, Option, Some, None}
+use Rattle.std.specs.Prelude.{◌≡◌, ℕ, ◌∷◌, [], List, map, Option, Some, None}
 use Rattle.pad_editing.specs.Edited.Step.{key, idle}
 use Rattle.packet_layer.specs.NoteView.{note_of}
 use Rattle.packet_layer.specs.TakenView.{taken_of}
 use Rattle.x25_pad.specs.Notes as spec
-use Rattle.x25_pad.specs.declared.note.PadNote.{PadNote}
-use Rattle.x25_pad.specs.declared.note.PadNote.TheVariants as note
+use Rattle.x25_pad.specs.declared.note.ChannelNote.{ChannelNote}
+use Rattle.x25_pad.specs.declared.note.ChannelNote.TheVariants as note
 use Rattle.x25_pad.specs.declared.note.TheConstants.{MOST_NOTES}
 use Rattle.x25_pad.specs.declared.note.PadNotes.TheInside.{Inside}
+use Rattle.x25_pad.specs.declared.note.PadNote.{PadNote}
+use Rattle.x25_pad.specs.declared.note.NotedAt.TheInside as places
 
-abbrev pub pad_note_of : PadNote → spec.PadNote
+abbrev pub pad_note_of : ChannelNote → spec.ChannelNote
 pad_note_of (note.Told n) = spec.Told (note_of n)
 pad_note_of (note.Placed channel address) = spec.Placed channel address
 pad_note_of (note.Accepted channel) = spec.Accepted channel
@@ -21,13 +23,23 @@ pad_note_of (note.Sent channel user_data) = spec.Sent channel user_data
 pad_note_of (note.Interrupted channel octet) = spec.Interrupted channel (octet ∷ [])
 pad_note_of (note.Took channel taken) = spec.Took channel (taken_of taken)
 
-abbrev pub maybe_pad_note : Option PadNote → Option spec.PadNote
+abbrev pub maybe_pad_note : Option ChannelNote → Option spec.ChannelNote
 maybe_pad_note None = None
 maybe_pad_note (Some n) = Some (pad_note_of n)
 
-abbrev pub notes_in : Inside → List spec.PadNote
+abbrev pub maybe_terminal_note : Option PadNote → Option spec.PadNote
+maybe_terminal_note None = None
+maybe_terminal_note (Some n) = Some (record { terminal = n.terminal; note = pad_note_of n.note })
+
+abbrev pub notes_in : Inside → List spec.ChannelNote
 notes_in q = map pad_note_of q.notes.items
 
 -- it has its places
 pub record IsNoteQueue (q : Inside) : Type 0 where
   pub capacity : q.notes.capacity ≡ MOST_NOTES
+
+abbrev pub terminals_in : places.Inside → List (Option ℕ)
+terminals_in q = q.terminals.items
+
+pub record IsTerminalQueue (q : places.Inside) : Type 0 where
+  pub capacity : q.terminals.capacity ≡ MOST_NOTES

@@ -8,21 +8,26 @@ use Rattle.packet_layer.specs.Channel.{Refusal}
 -- what its packet layer told; that a call of an address was placed, that one which came in was accepted, that one was
 -- cleared or reset; a step of editing, with the values of the parameters; a packet and an interrupt that were sent;
 -- what was taken to be shown; each with its channel
-pub data PadNote : Type 0 where
-  Told : Note → PadNote
-  Placed : (channel : ℕ) → (address : List ℕ) → PadNote
-  Accepted : (channel : ℕ) → PadNote
-  Cleared : (channel : ℕ) → PadNote
-  WasReset : (channel : ℕ) → PadNote
-  Edited : (channel : ℕ) → Step → PadNote
-  Sent : (channel : ℕ) → Datum → PadNote
-  Interrupted : (channel : ℕ) → List ℕ → PadNote
-  Took : (channel : ℕ) → Taken → PadNote
+pub data ChannelNote : Type 0 where
+  Told : Note → ChannelNote
+  Placed : (channel : ℕ) → (address : List ℕ) → ChannelNote
+  Accepted : (channel : ℕ) → ChannelNote
+  Cleared : (channel : ℕ) → ChannelNote
+  WasReset : (channel : ℕ) → ChannelNote
+  Edited : (channel : ℕ) → Step → ChannelNote
+  Sent : (channel : ℕ) → Datum → ChannelNote
+  Interrupted : (channel : ℕ) → List ℕ → ChannelNote
+  Took : (channel : ℕ) → Taken → ChannelNote
 
-abbrev pub all_told : List Note → List PadNote
+-- a note with the terminal whose call it is of, if one has the call
+pub record PadNote : Type 0 where
+  pub terminal : Option ℕ
+  pub note : ChannelNote
+
+abbrev pub all_told : List Note → List ChannelNote
 all_told notes = map Told notes
 
 -- a note of what was asked, where it was not refused
-abbrev pub unless_refused : Option Refusal → PadNote → List PadNote
+abbrev pub unless_refused : Option Refusal → ChannelNote → List ChannelNote
 unless_refused None note = note ∷ []
 unless_refused (Some refusal) note = []

@@ -1,14 +1,16 @@
 -- A PAD at the DTE's end of a line, with its terminals at their ports: what each event makes of it.
-use Rattle.std.specs.Prelude.{ℕ, Bool, true, false, if◌then◌else◌, List, [], map, fold, slice_get, slice_set}
-use Rattle.std.specs.Prelude.{position, drop, is_some, is_none, Option, Some, None}
+use Rattle.std.specs.Prelude.{◌≡◌, ℕ, ◌-◌, Bool, true, false, if◌then◌else◌, List, [], ◌∷◌, ◌++◌, map, fold, replicate}
+use Rattle.std.specs.Prelude.{length, slice_get, slice_set, position, drop, is_some, is_none, Option, Some, None}
 use Rattle.std.specs.Option.{option_map_or}
 use Rattle.link_timers.specs.declared.timers.TimerId.{TimerId}
 use Rattle.link_timers.specs.declared.timers.TimerId.TheVariants.{Idle}
+use Rattle.packet_layer.specs.Packets.{Note}
 use Rattle.packet_layer.specs.Traffic.{Taken as TakenValue}
 use Rattle.packet_end.specs.PacketEnd.{Octets, PacketEnd}
 use Rattle.packet_end.specs.PacketEnd as end
 use Rattle.x25_pad.specs.Line as line
-use Rattle.x25_pad.specs.Line.{gathered, last_incoming, all_learnt}
+use Rattle.x25_pad.specs.Line.{gathered, last_incoming, learnt_of, all_learnt, about}
+use Rattle.x25_pad.specs.Notes.{ChannelNote, PadNote}
 use Rattle.x25_pad.specs.Ports as port
 use Rattle.x25_pad.specs.Ports.{PortState, AtLine}
 use Rattle.x25_pad.specs.declared.answer.PadAnswer.{PadAnswer}
@@ -16,10 +18,17 @@ use Rattle.x25_pad.specs.declared.answer.PadAnswer.TheVariants as answer
 use Rattle.x25_pad.specs.declared.call.CallNote.{CallNote}
 use Rattle.x25_pad.specs.declared.line.PadLine.{PadLine}
 
--- its end of the line with its notes, and its ports in the order of their terminals
+-- its end of the line with its notes, its ports in the order of their terminals, and for each note, in the same order,
+-- the terminal whose call it is of, if one has the call
 pub record PadState : Type 0 where
   pub line : PadLine
   pub ports : List PortState
+  pub noted_at : List (Option ℕ)
+
+-- the notes that have no terminal yet are of this one, or of none
+abbrev pub named : (terminal : Option ℕ) → PadState → PadState
+named terminal p =
+    record p { noted_at = p.noted_at ++ replicate (length p.line.notes - length p.noted_at) terminal }
 
 -- ---- ports by number
 
@@ -28,9 +37,10 @@ changed_at number change ports =
     option_map_or (λ p. slice_set ports number (change p)) (slice_get ports number) ports
 
 abbrev pub acted : (number : ℕ) → PadState → AtLine → PadState
-acted number p a = record { line = a.line; ports = slice_set p.ports number a.port }
+acted number p a =
+    named (Some number) (record p { line = a.line; ports = slice_set p.ports number a.port })
 
--- something happens at a terminal
+-- something happens at a terminal, of which the notes are then
 abbrev pub at_port : (number : ℕ) → (AtLine → AtLine) → PadState → PadState
 at_port number act p =
     option_map_or (λ found. acted number p (act (record { port = found; line = p.line }))) (slice_get p.ports number) p
@@ -52,13 +62,19 @@ one_learnt ports note = learnt_at (holder (port.channel_of note) ports) note por
 unfoldable pub all_heard : List CallNote → List PortState → List PortState
 all_heard notes ports = fold one_learnt ports notes
 
--- a call that comes in is accepted for the first terminal without a call, or else cleared
+-- each note is of the terminal that has the call on its channel when it is told
+abbrev pub holders : List PortState → List Note → List (Option ℕ)
+holders ports [] = []
+holders ports (note ∷ notes) = holder (about note) ports ∷ holders (all_heard (learnt_of note) ports) notes
+
+-- a call that comes in is accepted for the first terminal without a call. If there is none it is cleared, and is no
+-- terminal's
 abbrev pub answered_at : Option ℕ → (channel : ℕ) → PadState → PadState
-answered_at None channel p = record p { line = line.cleared channel p.line }
-answered_at (Some number) channel p = record {
+answered_at None channel p = named None (record p { line = line.cleared channel p.line })
+answered_at (Some number) channel p = named (Some number) (record p {
   line = line.accepted channel p.line;
   ports = changed_at number (port.connects channel) p.ports;
-}
+})
 
 abbrev pub first_free : List PortState → Option ℕ
 first_free ports = position (λ p. is_none p.call) ports
@@ -69,13 +85,17 @@ answered (Some channel) p = answered_at (first_free p.ports) channel p
 
 -- the terminals learn what became of their calls
 abbrev pub told : PadState → PadState
-told p = record { line = gathered p.line; ports = all_heard (all_learnt p.line.end.notes) p.ports }
+told p = record {
+  line = gathered p.line;
+  ports = all_heard (all_learnt p.line.end.notes) p.ports;
+  noted_at = p.noted_at ++ holders p.ports p.line.end.notes;
+}
 
 -- ---- events
 
 -- what was not taken of the last event is dropped
 abbrev pub begun : PadState → PadState
-begun p = record p { line = record { end = end.begun p.line.end; notes = [] } }
+begun p = record p { line = record { end = end.begun p.line.end; notes = [] }; noted_at = [] }
 
 abbrev pub with_end : PacketEnd → PadState → PadState
 with_end e p = record p { line = record p.line { end = e } }
@@ -184,7 +204,7 @@ after_timer p id = after_expiry p id
 -- ---- time, restart, frames and notes
 
 abbrev pub elapsed : (ticks : ℕ) → PadState → PadState
-elapsed ticks p = record {
+elapsed ticks p = record p {
   line = record p.line { end = end.elapsed p.line.end ticks };
   ports = map (port.elapsed ticks) p.ports;
 }
@@ -202,7 +222,26 @@ abbrev pub restarted : PadState → PadState
 restarted p = record {
   line = record { end = end.restarted p.line.end; notes = [] };
   ports = map port.restarted p.ports;
+  noted_at = [];
 }
 
+-- the terminal of the first note, if it has one
+abbrev pub first_terminal : List (Option ℕ) → Option ℕ
+first_terminal [] = None
+first_terminal (terminal ∷ terminals) = terminal
+
+abbrev pub with_terminal : (terminal : Option ℕ) → Option ChannelNote → Option PadNote
+with_terminal terminal None = None
+with_terminal terminal (Some note) = Some (record { terminal = terminal; note = note })
+
+-- its first note, with the terminal
+abbrev pub first_note : PadState → Option PadNote
+first_note p = with_terminal (first_terminal p.noted_at) (slice_get p.line.notes 0)
+
 abbrev pub without_first_note : PadState → PadState
-without_first_note p = record p { line = record p.line { notes = drop 1 p.line.notes } }
+without_first_note p =
+    record p { line = record p.line { notes = drop 1 p.line.notes }; noted_at = drop 1 p.noted_at }
+
+-- each note has its terminal, or has none
+abbrev pub IsEachNamed : PadState → Type 0
+IsEachNamed p = length p.noted_at ≡ length p.line.notes

@@ -13,6 +13,6 @@ mod port;
 pub use answer::PadAnswer;
 pub use config::PadConfig;
 pub use law::block_law;
-pub use note::PadNote;
+pub use note::{ChannelNote, PadNote};
 pub use pad::Pad;
 pub use port::MOST_TEXT;

@@ -7,7 +7,7 @@ ghost use Rattle.packet_end.specs.PacketEnd as end;
 ghost use Rattle.x25_pad.specs.NoteView.{pad_note_of};
 ghost use Rattle.x25_pad.specs.Line as spec;
 
-use crate::note::{MOST_NOTES, PadNote, PadNotes};
+use crate::note::{ChannelNote, MOST_NOTES, PadNotes};
 use arrayvec::ArrayVec;
 use packet_codec::{Address, CallData};
 use packet_end::PacketEnd;
@@ -29,7 +29,7 @@ pub(crate) struct PadLine {
 
 impl PadLine {
     // Asks something of a call, and notes it where it is not refused.
-    fn ask(&mut self, channel: u8, request: &Request<'_>, note: PadNote)
+    fn ask(&mut self, channel: u8, request: &Request<'_>, note: ChannelNote)
         requires { length self.old.notes < MOST_NOTES }
         ensures line { self.new ≡ spec.asked channel (request_of request.now) (pad_note_of note) self.old }
         ensures room { length self.new.notes ≤ length self.old.notes + 1 }
@@ -55,7 +55,7 @@ impl PadLine {
             delivery: false,
         };
         let user_data = UserData::new(octets, false, qualified, false);
-        self.ask(channel, &request, PadNote::Sent { channel, user_data });
+        self.ask(channel, &request, ChannelNote::Sent { channel, user_data });
     }
 
     /// Accepts a call that came in.
@@ -65,7 +65,7 @@ impl PadLine {
         ensures room { length self.new.notes ≤ length self.old.notes + 1 }
         ensures told { self.new.end.notes ≡ self.old.end.notes }
     {
-        self.ask(channel, &Request::Accept, PadNote::Accepted(channel));
+        self.ask(channel, &Request::Accept, ChannelNote::Accepted(channel));
     }
 
     /// Clears a call, with cause 0 and diagnostic 0.
@@ -79,7 +79,7 @@ impl PadLine {
             cause: 0,
             diagnostic: 0,
         };
-        self.ask(channel, &request, PadNote::Cleared(channel));
+        self.ask(channel, &request, ChannelNote::Cleared(channel));
     }
 
     /// Resets a call, with cause 0 and diagnostic 0.
@@ -93,7 +93,7 @@ impl PadLine {
             cause: 0,
             diagnostic: 0,
         };
-        self.ask(channel, &request, PadNote::Reset(channel));
+        self.ask(channel, &request, ChannelNote::Reset(channel));
     }
 
     /// Sends an interrupt.
@@ -103,7 +103,7 @@ impl PadLine {
         ensures room { length self.new.notes ≤ length self.old.notes + 1 }
         ensures told { self.new.end.notes ≡ self.old.end.notes }
     {
-        let note = PadNote::Interrupted {
+        let note = ChannelNote::Interrupted {
             channel,
             octet: INTERRUPT_OCTET,
         };
@@ -131,7 +131,7 @@ impl PadLine {
             facilities: &[],
             user_data: octets.as_slice(),
         })?;
-        self.notes.add(PadNote::Placed { channel, address });
+        self.notes.add(ChannelNote::Placed { channel, address });
         Ok(channel)
     }
 
@@ -144,7 +144,7 @@ impl PadLine {
         ensures told { self.new.end.notes ≡ self.old.end.notes }
     {
         let taken = self.end.take(channel)?;
-        self.notes.add(PadNote::Took {
+        self.notes.add(ChannelNote::Took {
             channel,
             taken: copy_of(&taken),
         });

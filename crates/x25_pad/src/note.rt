@@ -1,6 +1,8 @@
 //! What a PAD notes of an event, in order.
-ghost use Rattle.std.specs.Prelude.{◌≡◌, ◌<◌, ◌++◌, [], ◌∷◌, IfOk, length, drop, slice_get, option_copied};
+ghost use Rattle.std.specs.Prelude.{◌≡◌, ◌<◌, ◌≤◌, ◌-◌, ◌++◌, [], ◌∷◌, IfOk, length, replicate, drop, slice_get};
+ghost use Rattle.std.specs.Prelude.{option_copied};
 ghost use Rattle.x25_pad.specs.NoteView.{pad_note_of, maybe_pad_note};
+ghost use Rattle.x25_pad.specs.Pad.{first_terminal};
 
 use circular_buffer::HeapCircularBuffer;
 use packet_codec::Address;
@@ -21,7 +23,7 @@ pub(crate) const MOST_NOTES: usize = EARLY_NOTES + 39;
 
 /// What happened at a PAD, with the logical channel.
 #[derive(Drop)]
-pub enum PadNote {
+pub enum ChannelNote {
     /// The packet layer of the PAD told this.
     Told(LayerNote),
     /// A terminal placed a call of this address (X.28 3.2.2).
@@ -64,15 +66,23 @@ pub enum PadNote {
     },
 }
 
+/// A note of a PAD, with the terminal whose call it is of. A call that comes in is no terminal's yet: the note after it
+/// says for which one it was accepted, or that it was cleared.
+#[derive(Drop)]
+pub struct PadNote {
+    pub terminal: Option<u8>,
+    pub note: ChannelNote,
+}
+
 /// The notes of an event that are not yet read, in order.
 #[derive(Drop)]
 pub(crate) struct PadNotes {
-    notes: HeapCircularBuffer<PadNote>,
+    notes: HeapCircularBuffer<ChannelNote>,
 }
 
 impl Model for PadNotes {
     ghost use Rattle.std.specs.Prelude.{List};
-    ghost use Rattle.x25_pad.specs.Notes.{PadNote as note};
+    ghost use Rattle.x25_pad.specs.Notes.{ChannelNote as note};
 
     ghost Value = { List note };
 
@@ -97,8 +107,16 @@ impl PadNotes {
         self.notes.clear();
     }
 
+    /// How many notes there are.
+    pub(crate) fn len(&self) -> usize
+        ensures count { result ≡ length self.now }
+        ensures most { result ≤ MOST_NOTES }
+    {
+        self.notes.len()
+    }
+
     /// Adds a note.
-    pub(crate) fn add(&mut self, note: PadNote)
+    pub(crate) fn add(&mut self, note: ChannelNote)
         requires { length self.old < MOST_NOTES }
         ensures { self.new ≡ self.old ++ pad_note_of note ∷ [] }
     {
@@ -106,7 +124,7 @@ impl PadNotes {
     }
 
     /// The first note, if there is one.
-    pub(crate) fn first(&self) -> Option<&PadNote>
+    pub(crate) fn first(&self) -> Option<&ChannelNote>
         ensures { maybe_pad_note (option_copied result) ≡ slice_get self.now 0 }
     {
         self.notes.front()
@@ -121,10 +139,74 @@ impl PadNotes {
     }
 
     /// Takes the first note, if there is one.
-    pub(crate) fn take(&mut self) -> Option<PadNote>
+    pub(crate) fn take(&mut self) -> Option<ChannelNote>
         ensures value { maybe_pad_note result ≡ slice_get self.old 0 }
         ensures rest { self.new ≡ drop 1 self.old }
     {
         self.notes.pop_front()
+    }
+}
+
+/// The terminals of the notes of an event that are not yet read, in order.
+#[derive(Drop)]
+pub(crate) struct NotedAt {
+    terminals: HeapCircularBuffer<Option<u8>>,
+}
+
+impl Model for NotedAt {
+    ghost use Rattle.std.specs.Prelude.{ℕ, List, Option};
+
+    ghost Value = { List (Option ℕ) };
+
+    ghost use Rattle.x25_pad.specs.NoteView.{terminals_in, IsTerminalQueue};
+
+    ghost view = { terminals_in };
+
+    ghost invariant = { IsTerminalQueue };
+}
+
+impl NotedAt {
+    pub(crate) fn new(alloc: Global) -> Result<Self, AllocError>
+        ensures { IfOk result (λ q. q ≡ []) }
+    {
+        let terminals = HeapCircularBuffer::with_capacity(alloc, MOST_NOTES)?;
+        Ok(NotedAt { terminals })
+    }
+
+    pub(crate) fn clear(&mut self)
+        ensures { self.new ≡ [] }
+    {
+        self.terminals.clear();
+    }
+
+    /// Adds the terminal of one more note.
+    pub(crate) fn add(&mut self, terminal: Option<u8>)
+        requires { length self.old < MOST_NOTES }
+        ensures { self.new ≡ self.old ++ terminal ∷ [] }
+    {
+        let _ = self.terminals.try_push_back(terminal);
+    }
+
+    /// Adds this terminal for each further note, up to so many.
+    #[tactic(auto, using(crate::proofs::Naming::one_more))]
+    pub(crate) fn fill(&mut self, terminal: Option<u8>, notes: usize)
+        requires more { length self.old ≤ notes }
+        requires room { notes ≤ MOST_NOTES }
+        ensures { self.new ≡ self.old ++ replicate (notes - length self.old) terminal }
+    {
+        for _ in self.terminals.len()..notes {
+            self.add(terminal);
+        }
+    }
+
+    /// Takes the first terminal, if there is one.
+    pub(crate) fn take(&mut self) -> Option<u8>
+        ensures value { result ≡ first_terminal self.old }
+        ensures rest { self.new ≡ drop 1 self.old }
+    {
+        match self.terminals.pop_front() {
+            Some(terminal) => terminal,
+            None => None,
+        }
     }
 }

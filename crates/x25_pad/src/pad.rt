@@ -4,7 +4,7 @@ ghost use Rattle.std.specs.Prelude.{option_copied};
 ghost use Rattle.x25_pad.specs.Ports.{new_port};
 ghost use Rattle.x25_pad.specs.Pad as spec;
 ghost use Rattle.x25_pad.specs.Making.{made, IsConfig, MadeNot};
-ghost use Rattle.x25_pad.specs.NoteView.{maybe_pad_note};
+ghost use Rattle.x25_pad.specs.NoteView.{maybe_pad_note, maybe_terminal_note};
 
 mod events;
 mod from_line;
@@ -12,7 +12,7 @@ mod terminals;
 
 use crate::config::PadConfig;
 use crate::line::PadLine;
-use crate::note::{PadNote, PadNotes};
+use crate::note::{ChannelNote, NotedAt, PadNote, PadNotes};
 use crate::port::Port;
 use link_timers::Role;
 use packet_end::{EndFault, PacketEnd};
@@ -35,6 +35,7 @@ const STANDING_CHANNEL: u8 = 1;
 pub struct Pad {
     line: PadLine,
     ports: Vec<Port>,
+    noted_at: NotedAt,
 }
 
 impl Model for Pad {
@@ -71,9 +72,14 @@ impl Pad {
         };
         let ports = new_ports(alloc, config.params, standing, config.terminals)?;
         let notes = PadNotes::new(alloc)?;
+        let noted_at = NotedAt::new(alloc)?;
         let end = PacketEnd::new(alloc, Role::Dte, config.line)?;
         let line = PadLine { end, notes };
-        Ok(Pad { line, ports })
+        Ok(Pad {
+            line,
+            ports,
+            noted_at,
+        })
     }
 
     /// How many terminals there are, at most 16: they have the numbers below it.
@@ -84,16 +90,18 @@ impl Pad {
         self.ports.len() as u8
     }
 
-    /// Takes the next note of the event, if there is one.
+    /// Takes the next note of the event, if there is one, with the terminal whose call it is of, if one has it.
     pub fn notes(&mut self) -> Option<PadNote>
-        ensures note { maybe_pad_note result ≡ slice_get self.old.line.notes 0 }
+        ensures note { maybe_terminal_note result ≡ spec.first_note self.old }
         ensures pad { self.new ≡ spec.without_first_note self.old }
     {
-        self.line.notes.take()
+        let terminal = self.noted_at.take();
+        let note = self.line.notes.take()?;
+        Some(PadNote { terminal, note })
     }
 
     /// The next note of the event, if there is one. It stays where it is.
-    pub fn first_note(&self) -> Option<&PadNote>
+    pub fn first_note(&self) -> Option<&ChannelNote>
         ensures { maybe_pad_note (option_copied result) ≡ slice_get self.now.line.notes 0 }
     {
         self.line.notes.first()
@@ -104,6 +112,7 @@ impl Pad {
         ensures { self.new ≡ spec.without_first_note self.old }
     {
         self.line.notes.drop_first();
+        let _ = self.noted_at.take();
     }
 }
 

@@ -27,7 +27,7 @@ use Rattle.line_record_laws.proofs.Keeping.{front_kept}
 use Rattle.line_record_laws.proofs.Acting.{requests_at, calls_at, edits_at}
 use Rattle.x28_commands.specs.declared.command.Selection.{Selection}
 use Rattle.x25_pad.specs.Notes as notes
-use Rattle.x25_pad.specs.Notes.{PadNote}
+use Rattle.x25_pad.specs.Notes.{ChannelNote}
 use Rattle.x25_pad.specs.Line as line
 use Rattle.x25_pad.specs.Line.{asked, gathered, call_parts}
 use Rattle.x25_pad.specs.declared.line.PadLine.{PadLine}
@@ -36,10 +36,10 @@ use Rattle.x25_pad_laws.proofs.Selecting.{IsSelection, may_be_placed}
 
 -- ---- notes that are written, one after the other
 
-abbrev pub noted : Role → List PadNote → Book → Book
+abbrev pub noted : Role → List ChannelNote → Book → Book
 noted role ns b = all_written role (writes_of ns) b
 
-pub noted_append : (role : Role) (xs ys : List PadNote) (b : Book) → noted role (xs ++ ys) b ≡ noted role ys (noted role xs b)
+pub noted_append : (role : Role) (xs ys : List ChannelNote) (b : Book) → noted role (xs ++ ys) b ≡ noted role ys (noted role xs b)
 noted_append role xs ys b =
     ap (λ (ws : List Write). all_written role ws b) (map-append write_of xs ys) ∙ written_append role (writes_of xs) (writes_of ys) b
 
@@ -111,12 +111,12 @@ module _ (s : Setting) (b : Book) (role : Role) (you : PacketEnd) (going coming 
 
   -- ---- requests
 
-  unless_noted : (o : Option Refusal) (note : PadNote) (ns : List PadNote) (done : Book) → written_by role (write_of note) (noted role ns b) ≡ done →
+  unless_noted : (o : Option Refusal) (note : ChannelNote) (ns : List ChannelNote) (done : Book) → written_by role (write_of note) (noted role ns b) ≡ done →
       noted role (ns ++ notes.unless_refused o note) b ≡ book.unless_refused o done (noted role ns b)
   unless_noted None note ns done e = noted_append role ns (note ∷ []) b ∙ e
   unless_noted (Some r) note ns done e = noted_append role ns [] b
 
-  pub asked_runs : (channel : ℕ) (r : Request) (note : PadNote) (l : PadLine)
+  pub asked_runs : (channel : ℕ) (r : Request) (note : ChannelNote) (l : PadLine)
       → ((x : Book) → written_by role (write_of note) x ≡ carried role channel r (front_on l.end.layer channel) x) → Runs l → Runs (asked channel r note l)
   asked_runs channel r note l writes h = record {
     read = h.read;
@@ -147,7 +147,7 @@ module _ (s : Setting) (b : Book) (role : Role) (you : PacketEnd) (going coming 
 
   -- ---- a call that is placed
 
-  placed_noted : (o : Option ℕ) (address user_data : List ℕ) (ns : List PadNote)
+  placed_noted : (o : Option ℕ) (address user_data : List ℕ) (ns : List ChannelNote)
       → noted role (ns ++ line.placed_note o address) b ≡ book.placed_on role o (call_parts address user_data) (noted role ns b)
   placed_noted None address user_data ns = noted_append role ns [] b
   placed_noted (Some channel) address user_data ns = noted_append role ns (notes.Placed channel address ∷ []) b

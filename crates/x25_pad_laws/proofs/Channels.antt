@@ -2,6 +2,7 @@
 use Rattle.std.proofs.Common.{◌≡◌, ℕ, Bool, true, false, cond, List, [], ◌∷◌, ◌++◌, refl, sym, ap, ◌∙◌, true≢false}
 use Rattle.link_timers.specs.declared.role.Role.{Role}
 use Rattle.link_timers.specs.declared.role.Role.TheVariants.{Dte, Dce}
+use Rattle.packet_channel.specs.declared.flow.Flow.{Flow}
 use Rattle.packet_layer.specs.Packets.{Body, Note}
 use Rattle.packet_layer.specs.Packets.Body.{Call, Accepted, Clear, ClearConfirmation, Data, Interrupt, InterruptConfirmation, ReceiveReady, ReceiveNotReady, Reset, ResetConfirmation, Restart, RestartConfirmation}
 use Rattle.packet_layer.specs.Packets.Note.{Incoming, Closed}
@@ -148,20 +149,20 @@ error_tells role c diagnostic ch = clear_error_tells role c diagnostic true ch (
 
 -- ---- packets, by the call's state
 
-flow_ready_tells : (role : Role) (window c : ℕ) (ch : Channel) (body : Body) → StepTells c ch (in_flow_ready role window c ch body)
-flow_ready_tells role window c ch (Clear cause diagnostic) = far_cleared_tells c cause diagnostic ch
-flow_ready_tells role window c ch (Reset cause diagnostic) = same_state c ch _ refl tt
-flow_ready_tells role window c ch ResetConfirmation = reset_error_tells role c 27 ch
-flow_ready_tells role window c ch (Data send receive d) = heard_tells role c ch (hears window ch.traffic (Data send receive d))
-flow_ready_tells role window c ch (ReceiveReady receive) = heard_tells role c ch (hears window ch.traffic (ReceiveReady receive))
-flow_ready_tells role window c ch (ReceiveNotReady receive) = heard_tells role c ch (hears window ch.traffic (ReceiveNotReady receive))
-flow_ready_tells role window c ch (Interrupt octets) = heard_tells role c ch (hears window ch.traffic (Interrupt octets))
-flow_ready_tells role window c ch InterruptConfirmation = heard_tells role c ch (hears window ch.traffic InterruptConfirmation)
-flow_ready_tells role window c ch (Call parts) = error_tells role c _ ch
-flow_ready_tells role window c ch Accepted = error_tells role c _ ch
-flow_ready_tells role window c ch ClearConfirmation = error_tells role c _ ch
-flow_ready_tells role window c ch (Restart cause diagnostic) = error_tells role c _ ch
-flow_ready_tells role window c ch RestartConfirmation = error_tells role c _ ch
+flow_ready_tells : (role : Role) (flow : Flow) (c : ℕ) (ch : Channel) (body : Body) → StepTells c ch (in_flow_ready role flow c ch body)
+flow_ready_tells role flow c ch (Clear cause diagnostic) = far_cleared_tells c cause diagnostic ch
+flow_ready_tells role flow c ch (Reset cause diagnostic) = same_state c ch _ refl tt
+flow_ready_tells role flow c ch ResetConfirmation = reset_error_tells role c 27 ch
+flow_ready_tells role flow c ch (Data send receive d) = heard_tells role c ch (hears flow ch.traffic (Data send receive d))
+flow_ready_tells role flow c ch (ReceiveReady receive) = heard_tells role c ch (hears flow ch.traffic (ReceiveReady receive))
+flow_ready_tells role flow c ch (ReceiveNotReady receive) = heard_tells role c ch (hears flow ch.traffic (ReceiveNotReady receive))
+flow_ready_tells role flow c ch (Interrupt octets) = heard_tells role c ch (hears flow ch.traffic (Interrupt octets))
+flow_ready_tells role flow c ch InterruptConfirmation = heard_tells role c ch (hears flow ch.traffic InterruptConfirmation)
+flow_ready_tells role flow c ch (Call parts) = error_tells role c _ ch
+flow_ready_tells role flow c ch Accepted = error_tells role c _ ch
+flow_ready_tells role flow c ch ClearConfirmation = error_tells role c _ ch
+flow_ready_tells role flow c ch (Restart cause diagnostic) = error_tells role c _ ch
+flow_ready_tells role flow c ch RestartConfirmation = error_tells role c _ ch
 
 own_reset_tells : (role : Role) (c : ℕ) (ch : Channel) (body : Body) → StepTells c ch (in_own_reset role c ch body)
 own_reset_tells role c ch (Clear cause diagnostic) = far_cleared_tells c cause diagnostic ch
@@ -213,21 +214,21 @@ own_clear_tells c ch (Clear cause diagnostic) f = plain_step c ch _ tt (none_the
 own_clear_tells c ch ClearConfirmation f = plain_step c ch _ tt (none_there (had_call ch.state) f (false ≡ true))
 own_clear_tells c ch body f = quiet_tells c ch
 
-transfer_tells : (role : Role) (window c : ℕ) (ch : Channel) (body : Body) (v : Bool)
-    → StepTells c ch (cond v (in_own_reset role c ch body) (in_flow_ready role window c ch body))
-transfer_tells role window c ch body true = own_reset_tells role c ch body
-transfer_tells role window c ch body false = flow_ready_tells role window c ch body
+transfer_tells : (role : Role) (flow : Flow) (c : ℕ) (ch : Channel) (body : Body) (v : Bool)
+    → StepTells c ch (cond v (in_own_reset role c ch body) (in_flow_ready role flow c ch body))
+transfer_tells role flow c ch body true = own_reset_tells role c ch body
+transfer_tells role flow c ch body false = flow_ready_tells role flow c ch body
 
-received_in_tells : (s : CallState) (role : Role) (window c : ℕ) (ch : Channel) (body : Body) → ch.state ≡ s → StepTells c ch (received_in s role window c ch body)
-received_in_tells Ready role window c ch body e = ready_tells role c ch body (ap (λ (s : CallState). had_call s) e)
-received_in_tells OwnWaiting role window c ch body e = own_waiting_tells role c ch body
-received_in_tells FarWaiting role window c ch body e = far_waiting_tells role c ch body
-received_in_tells Transfer role window c ch body e = transfer_tells role window c ch body ch.resetting
-received_in_tells Collision role window c ch body e = collision_tells role c ch body
-received_in_tells OwnClear role window c ch body e = own_clear_tells c ch body (ap (λ (s : CallState). had_call s) e)
+received_in_tells : (s : CallState) (role : Role) (flow : Flow) (c : ℕ) (ch : Channel) (body : Body) → ch.state ≡ s → StepTells c ch (received_in s role flow c ch body)
+received_in_tells Ready role flow c ch body e = ready_tells role c ch body (ap (λ (s : CallState). had_call s) e)
+received_in_tells OwnWaiting role flow c ch body e = own_waiting_tells role c ch body
+received_in_tells FarWaiting role flow c ch body e = far_waiting_tells role c ch body
+received_in_tells Transfer role flow c ch body e = transfer_tells role flow c ch body ch.resetting
+received_in_tells Collision role flow c ch body e = collision_tells role c ch body
+received_in_tells OwnClear role flow c ch body e = own_clear_tells c ch body (ap (λ (s : CallState). had_call s) e)
 
-pub received_tells : (role : Role) (window c : ℕ) (ch : Channel) (body : Body) → StepTells c ch (received role window c ch body)
-received_tells role window c ch body = received_in_tells ch.state role window c ch body refl
+pub received_tells : (role : Role) (flow : Flow) (c : ℕ) (ch : Channel) (body : Body) → StepTells c ch (received role flow c ch body)
+received_tells role flow c ch body = received_in_tells ch.state role flow c ch body refl
 
 -- ---- a packet that cannot be read
 

@@ -96,14 +96,14 @@ module _ (s : Setting) (b : Book) (l : Line) (role : Role) (kept : List Bool) (c
   line_ends : (p : PadState) → p.line.notes ≡ [] → KeptIn (all_told role p.line.end.notes b) p.line.end → KeepsWith s b role l kept coming (pad.line_event p)
   line_ends p none k =
       let told = gathered_runs s b role you going coming p.line
-      (subst (λ (ns : List notes.PadNote). KeptIn (all_told role p.line.end.notes (noted role ns b)) p.line.end) (sym none) k) in
+      (subst (λ (ns : List notes.ChannelNote). KeptIn (all_told role p.line.end.notes (noted role ns b)) p.line.end) (sym none) k) in
       ends (pad.answered (last_incoming None p.line.end.notes) (pad.told p)) (answered_runs (last_incoming None p.line.end.notes) (pad.told p) told)
 
   -- where nothing happens
   nothing : (p : PadState) → coming_to role l ≡ coming → StandsAt role l p → Kept s b l → KeepsWith s b role l kept coming p
   nothing p is h k = record {
     kept =
-        subst (λ (ns : List notes.PadNote). Kept s (noted role ns b) (with_event role p.line.end kept coming l)) (sym h.noted)
+        subst (λ (ns : List notes.ChannelNote). Kept s (noted role ns b) (with_event role p.line.end kept coming l)) (sym h.noted)
         (subst (λ (e : PacketEnd). Kept s b (with_event role e kept coming l)) (sym h.end)
         (subst (λ (c : List Octets). Kept s b (with_event role (end_at role l) kept c l)) is (same_kept s b role l kept k)));
     here = stands role l kept coming p h.read;

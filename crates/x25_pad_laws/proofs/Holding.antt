@@ -40,7 +40,7 @@ use Rattle.pad_terminal.specs.declared.answers.Request.{Request}
 use Rattle.pad_terminal.specs.declared.answers.Request.TheVariants as request
 use Rattle.pad_records.specs.Writing.{without_notes}
 use Rattle.x25_pad.specs.Notes as notes
-use Rattle.x25_pad.specs.Notes.{PadNote, unless_refused}
+use Rattle.x25_pad.specs.Notes.{ChannelNote, unless_refused}
 use Rattle.x25_pad.specs.Line as line
 use Rattle.x25_pad.specs.Line.{condition, datum}
 use Rattle.x25_pad.specs.Ports as port
@@ -68,9 +68,9 @@ use Rattle.x25_pad_laws.proofs.Spoken.{IsPlain, edited_plain, reset_plain, sent_
 -- ---- the notes of an event: those of which a record alone changes, and then those that say nothing
 
 module _ (role : Role) where
-  record Splits (ns : List PadNote) : Type 0 where
-    plain : List PadNote
-    mute : List PadNote
+  record Splits (ns : List ChannelNote) : Type 0 where
+    plain : List ChannelNote
+    mute : List ChannelNote
     are_plain : Every (λ note. IsPlain role note) plain
     are_mute : Every IsMuteNote mute
     is : ns ≡ plain ++ mute
@@ -80,32 +80,32 @@ module _ (role : Role) where
   every_more P (x ∷ xs) ys h k = (h.0, every_more P xs ys h.1 k)
 
   -- of plain notes alone
-  abbrev ArePlain : List PadNote → Type 0
+  abbrev ArePlain : List ChannelNote → Type 0
   ArePlain ns = Every (λ note. IsPlain role note) ns
 
-  plain_splits : (ns : List PadNote) → ArePlain ns → Splits ns
+  plain_splits : (ns : List ChannelNote) → ArePlain ns → Splits ns
   plain_splits ns h = record { plain = ns; mute = []; are_plain = h; are_mute = tt; is = sym (append-nil ns) }
 
-  mute_splits : (ns ms : List PadNote) → ArePlain ns → Every IsMuteNote ms → Splits (ns ++ ms)
+  mute_splits : (ns ms : List ChannelNote) → ArePlain ns → Every IsMuteNote ms → Splits (ns ++ ms)
   mute_splits ns ms h m = record { plain = ns; mute = ms; are_plain = h; are_mute = m; is = refl }
 
-  splits_more : (ns ms : List PadNote) → Splits ns → Every IsMuteNote ms → Splits (ns ++ ms)
+  splits_more : (ns ms : List ChannelNote) → Splits ns → Every IsMuteNote ms → Splits (ns ++ ms)
   splits_more ns ms s m = record {
     plain = s.plain;
     mute = s.mute ++ ms;
     are_plain = s.are_plain;
     are_mute = every_more IsMuteNote s.mute ms s.are_mute m;
-    is = ap (λ (l : List PadNote). l ++ ms) s.is ∙ append_assoc s.plain s.mute ms;
+    is = ap (λ (l : List ChannelNote). l ++ ms) s.is ∙ append_assoc s.plain s.mute ms;
   }
 
-  one_plain : (ns : List PadNote) (note : PadNote) → IsPlain role note → ArePlain ns → ArePlain (ns ++ note ∷ [])
+  one_plain : (ns : List ChannelNote) (note : ChannelNote) → IsPlain role note → ArePlain ns → ArePlain (ns ++ note ∷ [])
   one_plain ns note p h = every_more (λ note. IsPlain role note) ns (note ∷ []) h (p, tt)
 
-  plain_unless : (ns : List PadNote) (o : Option Refusal) (note : PadNote) → IsPlain role note → ArePlain ns → ArePlain (ns ++ unless_refused o note)
+  plain_unless : (ns : List ChannelNote) (o : Option Refusal) (note : ChannelNote) → IsPlain role note → ArePlain ns → ArePlain (ns ++ unless_refused o note)
   plain_unless ns None note p h = one_plain ns note p h
   plain_unless ns (Some r) note p h = subst ArePlain (sym (append-nil ns)) h
 
-  mute_unless : (ns : List PadNote) (o : Option Refusal) (note : PadNote) → IsMuteNote note → ArePlain ns → Splits (ns ++ unless_refused o note)
+  mute_unless : (ns : List ChannelNote) (o : Option Refusal) (note : ChannelNote) → IsMuteNote note → ArePlain ns → Splits (ns ++ unless_refused o note)
   mute_unless ns None note m h = mute_splits ns (note ∷ []) h (m, tt)
   mute_unless ns (Some r) note m h = mute_splits ns [] h tt
 
@@ -142,7 +142,7 @@ module _ (role : Role) where
   clears_split None a h = plain_splits a.line.notes h
   clears_split (Some call) a h = mute_unless a.line.notes _ (notes.Cleared call) tt h
 
-  placed_split : (ns : List PadNote) (o : Option ℕ) (address : List ℕ) → ArePlain ns → Splits (ns ++ line.placed_note o address)
+  placed_split : (ns : List ChannelNote) (o : Option ℕ) (address : List ℕ) → ArePlain ns → Splits (ns ++ line.placed_note o address)
   placed_split ns None address h = mute_splits ns [] h tt
   placed_split ns (Some channel) address h = mute_splits ns (notes.Placed channel address ∷ []) h (tt, tt)
 
@@ -168,7 +168,7 @@ module _ (role : Role) where
   handles_split (input.Edited block) step a h = plain_splits _ (edits_plain step block a.port.call a h)
   handles_split (input.Taken asked) step a h = does_split asked a h
 
-  nothing_plain : (ns : List PadNote) → ns ≡ [] → ArePlain ns
+  nothing_plain : (ns : List ChannelNote) → ns ≡ [] → ArePlain ns
   nothing_plain ns e = subst ArePlain (sym e) tt
 
   key_splits : (octet : ℕ) (a : AtLine) → a.line.notes ≡ [] → SplitsAt (port.after_key octet a)
@@ -262,7 +262,7 @@ module _ (role : Role) where
   answered_splits None p s = s
   answered_splits (Some channel) p s = by (pad.first_free p.ports)
     where
-      more : (o : Option Refusal) (note : PadNote) → IsMuteNote note → Splits (p.line.notes ++ unless_refused o note)
+      more : (o : Option Refusal) (note : ChannelNote) → IsMuteNote note → Splits (p.line.notes ++ unless_refused o note)
       more None note m = splits_more p.line.notes (note ∷ []) s (m, tt)
       more (Some r) note m = splits_more p.line.notes [] s tt
 
@@ -350,7 +350,7 @@ no_occasion (HasTicks ticks) p test none = refl
 -- ---- an event at the PAD
 
 -- of a kind nothing is in notes that say nothing
-mute_none : (f : PadNote → Octets) → IsKind f → (ns : List PadNote) → Every IsMuteNote ns → all_in f ns ≡ []
+mute_none : (f : ChannelNote → Octets) → IsKind f → (ns : List ChannelNote) → Every IsMuteNote ns → all_in f ns ≡ []
 mute_none f kind [] ms = refl
 mute_none f kind (notes.Told note ∷ ns) ms = ap (λ (l : Octets). l ++ all_in f ns) (kind.told note) ∙ mute_none f kind ns ms.1
 mute_none f kind (notes.Placed channel address ∷ ns) ms = ap (λ (l : Octets). l ++ all_in f ns) (kind.placed channel address) ∙ mute_none f kind ns ms.1
@@ -370,10 +370,10 @@ module _ (event : PadEvent) (role : Role) (p : PadState) (b : Book) (os : ℕ �
   test n = test_of n (side_of role b)
 
   -- the plain notes have all of the kind
-  of_plain : (f : PadNote → Octets) → IsKind f → all_in f s.plain ≡ all_in f (after_event event p).line.notes
+  of_plain : (f : ChannelNote → Octets) → IsKind f → all_in f s.plain ≡ all_in f (after_event event p).line.notes
   of_plain f kind =
       sym (append-nil (all_in f s.plain)) ∙ ap (λ (l : Octets). all_in f s.plain ++ l) (sym (mute_none f kind s.mute s.are_mute))
-      ∙ sym (all_append f s.plain s.mute) ∙ ap (λ (l : List PadNote). all_in f l) (sym s.is)
+      ∙ sym (all_append f s.plain s.mute) ∙ ap (λ (l : List ChannelNote). all_in f l) (sym s.is)
 
   raw : AreRaw (λ n. messages_taken (os n)) (λ n. told_octets (os n)) (λ n. all_interrupts (os n)) role b
   raw n r e own = (let h = said.said n r e own in record { messages = h.messages; told = h.told; interrupts = h.interrupts })
@@ -401,7 +401,7 @@ module _ (event : PadEvent) (role : Role) (p : PadState) (b : Book) (os : ℕ �
   noted_said : HaveSaid (λ n. grown os event p role b n) role (noted role (after_event event p).line.notes b)
   noted_said =
       subst (λ (z : Book). HaveSaid (λ n. grown os event p role b n) role z)
-      (sym (ap (λ (l : List PadNote). noted role l b) s.is ∙ noted_append role s.plain s.mute b))
+      (sym (ap (λ (l : List ChannelNote). noted role l b) s.is ∙ noted_append role s.plain s.mute b))
       (mute_list (λ n. grown os event p role b n) role s.mute s.are_mute (noted role s.plain b) plain_said)
 
 -- no occasion more
@@ -475,7 +475,7 @@ pub relink_kept : RelinkHolds
 relink_kept role p b h = begins_anew HasRelink role p b h (relink_types role p b h.typed) (goes_on h.led (Here HasRelink))
 
 -- an expiry is the same where no frame waits
-timer_drained : (p : PadState) (id : TimerId) → p.line.notes ≡ []
+pub timer_drained : (p : PadState) (id : TimerId) → p.line.notes ≡ []
     → (drained (pad.after_timer (drained p) id) ≡ drained (pad.after_timer p id)) × ((pad.after_timer (drained p) id).line.notes ≡ (pad.after_timer p id).line.notes)
 timer_drained p (Idle number) none = by (pad.runs_idle_timer number p)
   where
@@ -496,7 +496,7 @@ timer_led role p id b none h =
     let same = timer_drained p id none in
     let os : ℕ → List Occasion = λ n. grown h.occasions (HasExpiry id) p role b n in
     subst (λ (q : PadState). IsCourse role (record { pad = q; book = noted role (pad.after_timer p id).line.notes b; occasions = os })) same.0
-    (subst (λ (ns : List PadNote). IsCourse role (record { pad = drained (pad.after_timer (drained p) id); book = noted role ns b; occasions = os })) same.1
+    (subst (λ (ns : List ChannelNote). IsCourse role (record { pad = drained (pad.after_timer (drained p) id); book = noted role ns b; occasions = os })) same.1
     (goes_on h.led (Here (HasExpiry id))))
 
 pub timer_kept : TimerHolds
@@ -570,7 +570,7 @@ event_types (HasExpiry id) role p b none h = timer_types role p id b none h
 event_types HasRelink role p b none h = relink_types role p b h
 event_types HasRestart role p b none h = restart_types role p b h
 event_types (HasTicks ticks) role p b none h =
-    subst (λ (ns : List PadNote). PadTypes role (pad.elapsed ticks p) (noted role ns b)) (sym none) (time_types role p ticks b h)
+    subst (λ (ns : List ChannelNote). PadTypes role (pad.elapsed ticks p) (noted role ns b)) (sym none) (time_types role p ticks b h)
 
 stands_after : (role : Role) (h : Happening) (s : Course) → Stands role s → Stands role (happened role h s)
 stands_after role (Here event) s h = record {

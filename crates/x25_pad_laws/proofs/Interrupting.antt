@@ -34,7 +34,7 @@ use Rattle.pad_terminal.specs.declared.answers.Reply.TheVariants as reply
 use Rattle.pad_terminal.specs.declared.answers.Request.{Request}
 use Rattle.pad_terminal.specs.declared.answers.Request.TheVariants as request
 use Rattle.x25_pad.specs.Notes as notes
-use Rattle.x25_pad.specs.Notes.{PadNote, unless_refused}
+use Rattle.x25_pad.specs.Notes.{ChannelNote, unless_refused}
 use Rattle.x25_pad.specs.Line as line
 use Rattle.x25_pad.specs.Line.{condition}
 use Rattle.x25_pad.specs.Ports as port
@@ -62,7 +62,7 @@ abbrev IsOther : Option Request → Type 0
 IsOther (Some request.Interrupt) = ⊥
 IsOther _ = Unit {0}
 
-other_says : (f : PadNote → Octets) → IsKind f → (o : Option Request) → IsOther o → (a : AtLine) → all_in f (port.does_asked o a).line.notes ≡ all_in f a.line.notes
+other_says : (f : ChannelNote → Octets) → IsKind f → (o : Option Request) → IsOther o → (a : AtLine) → all_in f (port.does_asked o a).line.notes ≡ all_in f a.line.notes
 other_says f kind None other a = refl
 other_says f kind (Some (request.Call s)) other a = placed_says f kind a.line.notes (channel_given a.line.end.layer a.line.end.layer.phase) s.address
 other_says f kind (Some request.Clear) other a = clears_says f kind a.port.call a
@@ -78,7 +78,7 @@ interrupt_goes : (test : ℕ → Bool) (o : Option ℕ) (a : AtLine)
 interrupt_goes test None a = sym (append-nil (all_in (interrupt_in test) a.line.notes))
 interrupt_goes test (Some call) a = by (request_refusal a.line.end.layer call (Interrupting (line.interrupt_octet ∷ []))) (test call) refl
   where
-    note : PadNote
+    note : ChannelNote
     note = notes.Interrupted call (line.interrupt_octet ∷ [])
 
     by : (o : Option Refusal) (v : Bool) → test call ≡ v
@@ -88,7 +88,7 @@ interrupt_goes test (Some call) a = by (request_refusal a.line.end.layer call (I
         with_true : (v : Bool) → (if v then one_interrupt else []) ≡ (if v && true then one_interrupt else [])
         with_true true = refl
         with_true false = refl
-    by (Some r) v e = ap (λ (l : List PadNote). all_in (interrupt_in test) l) (append-nil a.line.notes) ∙ sym (append-nil (all_in (interrupt_in test) a.line.notes)) ∙ ap (λ (l : Octets). all_in (interrupt_in test) a.line.notes ++ l) (with_false v)
+    by (Some r) v e = ap (λ (l : List ChannelNote). all_in (interrupt_in test) l) (append-nil a.line.notes) ∙ sym (append-nil (all_in (interrupt_in test) a.line.notes)) ∙ ap (λ (l : Octets). all_in (interrupt_in test) a.line.notes ++ l) (with_false v)
       where
         with_false : (v : Bool) → [] ≡ (if v && false then one_interrupt else [])
         with_false true = refl
@@ -208,7 +208,7 @@ abbrev IsOtherAnswer : InputAnswer → Type 0
 IsOtherAnswer (input.Taken o) = IsOther o
 IsOtherAnswer _ = Unit {0}
 
-handles_other : (f : PadNote → Octets) → IsKind f → (answer : InputAnswer) → IsOtherAnswer answer → (step : Step) (a : AtLine) → all_in f (port.handles answer step a).line.notes ≡ all_in f a.line.notes
+handles_other : (f : ChannelNote → Octets) → IsKind f → (answer : InputAnswer) → IsOtherAnswer answer → (step : Step) (a : AtLine) → all_in f (port.handles answer step a).line.notes ≡ all_in f a.line.notes
 handles_other f kind input.Dropped other step a = refl
 handles_other f kind (input.Edited block) other step a = edits_say f kind step block a.port.call a
 handles_other f kind (input.Taken asked) other step a = other_says f kind asked other a
@@ -258,7 +258,7 @@ idle_other full t =
     let P : keys.Input → Type 0 = λ i. IsOtherAnswer i.answer in
     either P (runs_idle_timer t) _ _ (either P full _ _ tt tt) tt
 
-pub idle_interrupts : (f : PadNote → Octets) → IsKind f → (a : AtLine) → all_in f (port.after_idle a).line.notes ≡ all_in f a.line.notes
+pub idle_interrupts : (f : ChannelNote → Octets) → IsKind f → (a : AtLine) → all_in f (port.after_idle a).line.notes ≡ all_in f a.line.notes
 idle_interrupts f kind a =
     handles_other f kind (port.idle_input a).answer (idle_other (condition a.port.call a.line).queue_full a.port.terminal) (idle a.port.terminal.settings.params)
     (record a { port = record a.port { terminal = (port.idle_input a).terminal; idle_left = None } })

@@ -15,7 +15,7 @@ use Rattle.line_record_laws.proofs.Basics.{get_set}
 use Rattle.call_records.specs.Book.{Book}
 use Rattle.line_record_laws.proofs.Happening.{all_offered_notes}
 use Rattle.x25_pad.specs.Notes as notes
-use Rattle.x25_pad.specs.Notes.{PadNote}
+use Rattle.x25_pad.specs.Notes.{ChannelNote}
 use Rattle.x25_pad.specs.Line as line
 use Rattle.x25_pad.specs.Line.{all_learnt, last_incoming}
 use Rattle.x25_pad.specs.Ports as port
@@ -193,7 +193,7 @@ module _ (role : Role) (b : Book) where
 
   -- ---- a call that came in is answered
 
-  unless_noted : (X : ℕ → List ℕ → Type 0) (o : Option Refusal) (note : PadNote) (ns : List PadNote) → BookHolds role X (noted role (note ∷ []) (noted role ns b)) → BookHolds role X (noted role ns b)
+  unless_noted : (X : ℕ → List ℕ → Type 0) (o : Option Refusal) (note : ChannelNote) (ns : List ChannelNote) → BookHolds role X (noted role (note ∷ []) (noted role ns b)) → BookHolds role X (noted role ns b)
       → BookHolds role X (noted role (ns ++ notes.unless_refused o note) b)
   unless_noted X None note ns h k = subst (λ (z : Book). BookHolds role X z) (sym (noted_append role ns (note ∷ []) b)) h
   unless_noted X (Some r) note ns h k = subst (λ (z : Book). BookHolds role X z) (sym (noted_append role ns [] b)) k
@@ -332,7 +332,7 @@ module _ (role : Role) (b : Book) where
   line_holds : (had : ℕ → Bool) (p : PadState) → p.line.notes ≡ [] → ((j : ℕ) (q : PortState) → slice_get p.ports j ≡ Some q → IsPort q) → AreAlone p.ports
       → ((i c : ℕ) (q : PortState) → IsOn p.ports i c q → had c ≡ true) → BookHolds role (TextOf p.ports) b → EndTells had p.line.end → IncomingLast p.line.end.notes → TypesAfter role b (pad.line_event p)
   line_holds had p none each alone calls book h last =
-      let heard = told_heard had p each alone calls (subst (λ (ns : List PadNote). BookHolds role (TextOf p.ports) (noted role ns b)) (sym none) book) h last in
+      let heard = told_heard had p each alone calls (subst (λ (ns : List ChannelNote). BookHolds role (TextOf p.ports) (noted role ns b)) (sym none) book) h last in
       ended_holds (pad.answered (last_incoming None p.line.end.notes) (pad.told p)) (answered_holds (last_incoming None p.line.end.notes) (pad.told p) refl h.read heard)
 
 -- ---- events that begin
@@ -353,7 +353,7 @@ terminal_holds role p b number act f h =
 
 -- nothing happens, and nothing is left to be written
 nothing_holds : (role : Role) (p : PadState) (b : Book) → p.line.notes ≡ [] → PadTypes role p b → TypesAfter role b p
-nothing_holds role p b none h = subst (λ (ns : List PadNote). PadTypes role p (noted role ns b)) (sym none) h
+nothing_holds role p b none h = subst (λ (ns : List ChannelNote). PadTypes role p (noted role ns b)) (sym none) h
 
 -- ---- the laws
 

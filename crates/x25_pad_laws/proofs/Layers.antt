@@ -5,6 +5,7 @@ use Rattle.std.proofs.lemmas.Bool.{cases_eq}
 use Rattle.std.proofs.lemmas.Option.{none-some, same_Some}
 use Rattle.link_timers.specs.declared.role.Role.{Role}
 use Rattle.link_timers.specs.declared.role.Role.TheVariants.{Dte, Dce}
+use Rattle.packet_channel.specs.declared.flow.Flow.{Flow}
 use Rattle.packet_layer.specs.Packets.{Body, CallParts, Received, Note, Reason}
 use Rattle.packet_layer.specs.Packets.Body.{Restart, RestartConfirmation}
 use Rattle.packet_layer.specs.Packets.Note.{Closed}
@@ -176,7 +177,7 @@ if_tells false l m n h k = k
 received_layer : (l : Layer) (r : Received) → l.notes ≡ [] → LayerTells l (on_received l r)
 received_layer l (Whole p) none =
     if_tells _ l _ _ (restart_tells l.phase p.body l none)
-    (channel_tells l.phase l p.channel (λ ch. received l.role l.window p.channel ch p.body) none (λ ch. received_tells l.role l.window p.channel ch p.body))
+    (channel_tells l.phase l p.channel (λ ch. received l.role l.flow p.channel ch p.body) none (λ ch. received_tells l.role l.flow p.channel ch p.body))
 received_layer l (Unknown c) none = channel_tells l.phase l c (λ ch. unreadable l.role c true ch) none (λ ch. unreadable_tells l.role c true ch)
 received_layer l (Faulty c) none = channel_tells l.phase l c (λ ch. unreadable l.role c false ch) none (λ ch. unreadable_tells l.role c false ch)
 
@@ -189,7 +190,7 @@ of_unread : (l m : Layer) → LayerTells (unread l) m → LayerTells l m
 of_unread l m h = record { tells = h.tells; last = h.last }
 
 pub octets_tell : (l : Layer) (octets : List ℕ) → LayerTells l (on_octets l octets)
-octets_tell l octets = of_unread l (on_octets l octets) (hearing_tells (unread l) (heard octets) refl)
+octets_tell l octets = of_unread l (on_octets l octets) (hearing_tells (unread l) (heard l.flow octets) refl)
 
 -- ---- timers
 
@@ -363,14 +364,14 @@ pub record SameCalls (l m : Layer) : Type 0 where
 same_calls : (l m : Layer) → m.channels ≡ l.channels → m.notes ≡ l.notes → SameCalls l m
 same_calls l m e n = record { calls = λ c. ap (λ (chs : List Channel). has_call (nth_channel chs c)) e; notes = n }
 
-flow_state : (window : ℕ) (ch : Channel) (v : Bool)
-    → (cond {A = ChannelNext} v (record { channel = moved (says window ch.traffic).traffic ch; body = (says window ch.traffic).body }) (record { channel = ch; body = None })).channel.state ≡ ch.state
-flow_state window ch true = refl
-flow_state window ch false = refl
+flow_state : (flow : Flow) (ch : Channel) (v : Bool)
+    → (cond {A = ChannelNext} v (record { channel = moved (says flow ch.traffic).traffic ch; body = (says flow ch.traffic).body }) (record { channel = ch; body = None })).channel.state ≡ ch.state
+flow_state flow ch true = refl
+flow_state flow ch false = refl
 
-next_state : (window : ℕ) (owed : List Body) (ch : Channel) → (next_owed window owed ch).channel.state ≡ ch.state
-next_state window (b ∷ bs) ch = refl
-next_state window [] ch = flow_state window ch (has_flow ch)
+next_state : (flow : Flow) (owed : List Body) (ch : Channel) → (next_owed flow owed ch).channel.state ≡ ch.state
+next_state flow (b ∷ bs) ch = refl
+next_state flow [] ch = flow_state flow ch (has_flow ch)
 
 put_same : (l : Layer) (c last : ℕ) (ch x : Channel) → channel_of l c ≡ Some ch → x.state ≡ ch.state → SameCalls l (record l { channels = with_nth l.channels c x; served_last = last })
 put_same l c last ch x e s = record { calls = at; notes = refl }
@@ -392,7 +393,7 @@ next_if false l m n h k = k
 serve_found_same : (l : Layer) (c : ℕ) (found : Option Channel) (others : Next) → channel_of l c ≡ found → SameCalls l others.layer → SameCalls l (serve_found l c found others).layer
 serve_found_same l c None others e k = k
 serve_found_same l c (Some ch) others e k =
-    next_if (is_some (next_of l.window ch).body) l _ others (put_same l c c ch (next_of l.window ch).channel e (next_state l.window ch.owed ch)) k
+    next_if (is_some (next_of l.flow ch).body) l _ others (put_same l c c ch (next_of l.flow ch).channel e (next_state l.flow ch.owed ch)) k
 
 serve_same : (k : ℕ) (l : Layer) (c : ℕ) → SameCalls l (serve k l c).layer
 serve_same zero l c = same_calls l l refl refl

@@ -14,6 +14,7 @@ pub mod Ports
 pub mod Keeping
 pub mod Begins
 pub mod Owning
+pub mod Noting
 pub mod Expiring
 mod Rows
 pub mod Events

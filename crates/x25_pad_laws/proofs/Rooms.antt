@@ -32,7 +32,7 @@ use Rattle.pad_terminal.specs.declared.answers.Reply.TheVariants as reply
 use Rattle.pad_terminal.specs.declared.answers.Request.{Request}
 use Rattle.pad_terminal.specs.declared.answers.Request.TheVariants as request
 use Rattle.pad_records.specs.Room.{HaveRoom}
-use Rattle.x25_pad.specs.Notes.{PadNote, all_told, unless_refused}
+use Rattle.x25_pad.specs.Notes.{ChannelNote, all_told, unless_refused}
 use Rattle.x25_pad.specs.Notes as notes
 use Rattle.x25_pad.specs.Line as line
 use Rattle.x25_pad.specs.Line.{last_incoming}
@@ -45,7 +45,7 @@ use Rattle.x25_pad_laws.specs.Rooms.{NeedsTwoAtMost, KeyRoom, BreakRoom, PrintRo
 -- ---- lists of notes
 
 -- notes that the layer tells and that open nothing, before others
-have_none : (ns : List Note) (rest : List PadNote) (room pairs : ℕ) → opening_notes ns ≡ 0 → HaveRoom rest room pairs → HaveRoom (all_told ns ++ rest) room pairs
+have_none : (ns : List Note) (rest : List ChannelNote) (room pairs : ℕ) → opening_notes ns ≡ 0 → HaveRoom rest room pairs → HaveRoom (all_told ns ++ rest) room pairs
 have_none [] rest room pairs none h = h
 have_none (Incoming channel parts ∷ ns) rest room pairs none h = absurd (omega (arith, none))
 have_none (WasReset channel cause diagnostic reason ∷ ns) rest room pairs none h = absurd (omega (arith, none))
@@ -55,7 +55,7 @@ have_none (InterruptConfirmed channel ∷ ns) rest room pairs none h = ((λ t. a
 have_none (Covered channel count ∷ ns) rest room pairs none h = ((λ t. absurd (cc)), have_none ns rest room pairs none h)
 
 -- and ones that open one thing at most
-have_one : (ns : List Note) (rest : List PadNote) (room pairs : ℕ) → opening_notes ns ≤ 1 → 1 ≤ room → ((left : ℕ) → HaveRoom rest left pairs) → HaveRoom (all_told ns ++ rest) room pairs
+have_one : (ns : List Note) (rest : List ChannelNote) (room pairs : ℕ) → opening_notes ns ≤ 1 → 1 ≤ room → ((left : ℕ) → HaveRoom rest left pairs) → HaveRoom (all_told ns ++ rest) room pairs
 have_one [] rest room pairs one some h = h room
 have_one (Incoming channel parts ∷ ns) rest room pairs one some h = ((λ t. some), have_none ns rest 0 pairs (omega (arith, one)) (h 0))
 have_one (WasReset channel cause diagnostic reason ∷ ns) rest room pairs one some h = ((λ t. some), have_none ns rest 0 pairs (omega (arith, one)) (h 0))
@@ -76,8 +76,8 @@ told_none (Covered channel count ∷ ns) room pairs none = ((λ t. absurd (cc)),
 -- ---- what happens at a terminal: at most two notes, and behind them what the end of the event tells
 
 -- behind these notes there is room for any that need none
-abbrev Fits : List PadNote → Type 0
-Fits ns = (rest : List PadNote) (room pairs : ℕ) → 2 ≤ room → ((left others : ℕ) → HaveRoom rest left others) → HaveRoom (ns ++ rest) room pairs
+abbrev Fits : List ChannelNote → Type 0
+Fits ns = (rest : List ChannelNote) (room pairs : ℕ) → 2 ≤ room → ((left others : ℕ) → HaveRoom rest left others) → HaveRoom (ns ++ rest) room pairs
 
 -- so it is at a port, and nothing that the packet layer told is unread
 abbrev FitsAt : AtLine → Type 0
@@ -112,11 +112,11 @@ fits_placed None address rest room pairs two h = h room pairs
 fits_placed (Some channel) address rest room pairs two h = (omega (arith, two), h 0 pairs)
 
 -- and behind one that takes one place
-sent_then : (o : Option Refusal) (channel : ℕ) (d : Datum) (rest : List PadNote) (room pairs : ℕ) → 1 ≤ room → ((left others : ℕ) → HaveRoom rest left others) → HaveRoom (unless_refused o (notes.Sent channel d) ++ rest) room pairs
+sent_then : (o : Option Refusal) (channel : ℕ) (d : Datum) (rest : List ChannelNote) (room pairs : ℕ) → 1 ≤ room → ((left others : ℕ) → HaveRoom rest left others) → HaveRoom (unless_refused o (notes.Sent channel d) ++ rest) room pairs
 sent_then None channel d rest room pairs one h = (one, h (room - 1) pairs)
 sent_then (Some r) channel d rest room pairs one h = h room pairs
 
-cleared_then : (o : Option Refusal) (channel : ℕ) (rest : List PadNote) (room pairs : ℕ) → ((left others : ℕ) → HaveRoom rest left others) → HaveRoom (unless_refused o (notes.Cleared channel) ++ rest) room pairs
+cleared_then : (o : Option Refusal) (channel : ℕ) (rest : List ChannelNote) (room pairs : ℕ) → ((left others : ℕ) → HaveRoom rest left others) → HaveRoom (unless_refused o (notes.Cleared channel) ++ rest) room pairs
 cleared_then None channel rest room pairs h = (tt, h room pairs)
 cleared_then (Some r) channel rest room pairs h = h room pairs
 
@@ -287,7 +287,7 @@ paused_room p number = terminal_room number port.after_idle p
     (λ q e told. handles_fits (record q { terminal = (port.idle_input (bare q e)).terminal; idle_left = None }) e told (port.idle_input (bare q e)).answer (idle q.terminal.settings.params))
 
 nothing_room : (p : PadState) → p.line.notes ≡ [] → NeedsTwoAtMost p
-nothing_room p none room pairs two one = subst (λ (ns : List PadNote). HaveRoom ns room pairs) (sym none) tt
+nothing_room p none room pairs two one = subst (λ (ns : List ChannelNote). HaveRoom ns room pairs) (sym none) tt
 
 pub idle_room : IdleRoom
 idle_room p number none = by (pad.runs_idle_timer number p)
@@ -298,7 +298,7 @@ idle_room p number none = by (pad.runs_idle_timer number p)
 
 -- ---- an event of the line
 
-accepted_then : (o : Option Refusal) (channel : ℕ) (rest : List PadNote) (room pairs : ℕ) → 1 ≤ pairs → ((left others : ℕ) → HaveRoom rest left others) → HaveRoom (unless_refused o (notes.Accepted channel) ++ rest) room pairs
+accepted_then : (o : Option Refusal) (channel : ℕ) (rest : List ChannelNote) (room pairs : ℕ) → 1 ≤ pairs → ((left others : ℕ) → HaveRoom rest left others) → HaveRoom (unless_refused o (notes.Accepted channel) ++ rest) room pairs
 accepted_then None channel rest room pairs one h = (omega (arith, one), h (room - 1) (pairs - 1))
 accepted_then (Some r) channel rest room pairs one h = h room pairs
 
@@ -310,16 +310,16 @@ line_room p none opens = by (last_incoming None p.line.end.notes)
     told = pad.told p
 
     first : all_told p.line.end.notes ≡ told.line.notes
-    first = ap (λ (ns : List PadNote). ns ++ all_told p.line.end.notes) (sym none)
+    first = ap (λ (ns : List ChannelNote). ns ++ all_told p.line.end.notes) (sym none)
 
     late_room : (x : PadState) → x.line.end.notes ≡ [] → (left others : ℕ) → HaveRoom (all_told (finished x.line.end).notes) left others
     late_room x is left others = told_none (finished x.line.end).notes left others (finished_same x.line.end ∙ ap opening_notes is)
 
-    behind : (answer late : List PadNote) (room pairs : ℕ) → 1 ≤ room → ((left : ℕ) → HaveRoom (answer ++ late) left pairs) → HaveRoom ((told.line.notes ++ answer) ++ late) room pairs
+    behind : (answer late : List ChannelNote) (room pairs : ℕ) → 1 ≤ room → ((left : ℕ) → HaveRoom (answer ++ late) left pairs) → HaveRoom ((told.line.notes ++ answer) ++ late) room pairs
     behind answer late room pairs some h =
-        let P : List PadNote → Type 0 = λ ns. HaveRoom ns room pairs in
+        let P : List ChannelNote → Type 0 = λ ns. HaveRoom ns room pairs in
         subst P (sym (append_assoc told.line.notes answer late))
-        (subst (λ (ns : List PadNote). HaveRoom (ns ++ (answer ++ late)) room pairs) first (have_one p.line.end.notes (answer ++ late) room pairs opens some h))
+        (subst (λ (ns : List ChannelNote). HaveRoom (ns ++ (answer ++ late)) room pairs) first (have_one p.line.end.notes (answer ++ late) room pairs opens some h))
 
     answered_room : (free : Option ℕ) (channel : ℕ) → NeedsTwoAtMost (pad.ended (pad.answered_at free channel told))
     answered_room None channel room pairs two one =
@@ -333,7 +333,7 @@ line_room p none opens = by (last_incoming None p.line.end.notes)
 
     by : (incoming : Option ℕ) → NeedsTwoAtMost (pad.ended (pad.answered incoming told))
     by None room pairs two one =
-        subst (λ (ns : List PadNote). HaveRoom (ns ++ all_told (finished told.line.end).notes) room pairs) first
+        subst (λ (ns : List ChannelNote). HaveRoom (ns ++ all_told (finished told.line.end).notes) room pairs) first
         (have_one p.line.end.notes (all_told (finished told.line.end).notes) room pairs opens (omega (arith, two)) (λ left. late_room told refl left pairs))
     by (Some channel) room pairs two one = answered_room (pad.first_free told.ports) channel room pairs two one
 

@@ -3,6 +3,7 @@ use Rattle.std.specs.Prelude.{◌≡◌, ℕ, true, false, List, [], ◌∷◌}
 use Rattle.std.proofs.Common.{refl}
 use Rattle.pad_editing.specs.Edited.{key, after_key, after_idle}
 use Rattle.x3_params.specs.Forwarding.{class_of}
+use Rattle.packet_layer.specs.Flow.{modulo_8}
 use Rattle.packet_end.specs.PacketEnd.{finished, all_offered}
 use Rattle.packet_end.specs.declared.params.EndParams.{EndParams}
 use Rattle.x25_pad.specs.Line.{datum}
@@ -13,7 +14,7 @@ use Rattle.x25_pad.specs.Making.{made}
 use Rattle.x25_pad_laws.specs.Standing.{drained}
 
 abbrev ends : EndParams
-ends = record { k = 7; n2 = 3; channels = 4; window = 2; standing = true }
+ends = record { k = 7; n2 = 3; channels = 4; flow = modulo_8 2; standing = true }
 
 -- CR ends a block, and DEL takes an octet back
 abbrev params : List ℕ

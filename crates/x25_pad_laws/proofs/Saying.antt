@@ -7,7 +7,7 @@ use Rattle.link_timers.specs.declared.timers.TimerId.TheVariants.{Idle}
 use Rattle.packet_end.specs.PacketEnd.{received, after_timer, relinked, runs_at}
 use Rattle.x29_messages.specs.MessageForm.{octets_of}
 use Rattle.x29_messages.specs.declared.message.Message.{Message}
-use Rattle.x25_pad.specs.Notes.{PadNote}
+use Rattle.x25_pad.specs.Notes.{ChannelNote}
 use Rattle.x25_pad.specs.Ports as port
 use Rattle.x25_pad.specs.Pad as pad
 use Rattle.x25_pad.specs.Pad.{PadState}
@@ -19,7 +19,7 @@ use Rattle.x25_pad_laws.proofs.Interrupting.{interrupts_kind, key_interrupts, id
 -- ---- events
 
 -- an event of which nothing at all is said
-module _ (f : PadNote → Octets) (kind : IsKind f) where
+module _ (f : ChannelNote → Octets) (kind : IsKind f) where
   idle_says : (number : ℕ) (p : PadState) → p.line.notes ≡ [] → all_in f (pad.after_idle number p).line.notes ≡ []
   idle_says number p none = by (pad.runs_idle_timer number p)
     where

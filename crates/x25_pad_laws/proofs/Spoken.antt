@@ -21,7 +21,7 @@ use Rattle.call_records.specs.Closing.{closes_if, closes_present, closed_from, a
 use Rattle.call_records.specs.Carried.{carried, unless_refused, placed_on}
 use Rattle.call_records.specs.Writes.{Write, Write as write, all_sent, let_go, written_by, all_written}
 use Rattle.x25_pad.specs.Notes as notes
-use Rattle.x25_pad.specs.Notes.{PadNote}
+use Rattle.x25_pad.specs.Notes.{ChannelNote}
 use Rattle.x25_pad.specs.Line.{datum}
 use Rattle.pad_records.specs.Writing.{write_of, parts_to}
 use Rattle.x25_pad_laws.specs.Occasions.{Occasion}
@@ -112,7 +112,7 @@ epoch_mute = record {
 -- ---- a note of which a record alone changes
 
 -- the present call of its channel has more said, by what it says of this channel
-pub record IsPlain (role : Role) (note : PadNote) : Type 0 where
+pub record IsPlain (role : Role) (note : ChannelNote) : Type 0 where
   pub channel : ℕ
   pub change : RecordValue → RecordValue
   pub written : (b : Book) → written_by role (write_of note) b ≡ changed role channel change b
@@ -129,7 +129,7 @@ none_by : (v : Bool) → [] ≡ (if v then (let none : Octets = [] in none) else
 none_by true = refl
 none_by false = refl
 
-mute_plain : (role : Role) (note : PadNote) (channel : ℕ) (f : RecordValue → RecordValue) → ((b : Book) → written_by role (write_of note) b ≡ changed role channel f b) → IsMute f
+mute_plain : (role : Role) (note : ChannelNote) (channel : ℕ) (f : RecordValue → RecordValue) → ((b : Book) → written_by role (write_of note) b ≡ changed role channel f b) → IsMute f
     → ((test : ℕ → Bool) → message_in test note ≡ []) → ((test : ℕ → Bool) → told_in test note ≡ []) → ((test : ℕ → Bool) → interrupt_in test note ≡ []) → IsPlain role note
 mute_plain role note channel f written mute m t i = record {
   channel = channel;
@@ -285,7 +285,7 @@ AreRaw messages told interrupts role b =
     (n : ℕ) (r : RecordValue) → slice_get b.records n ≡ Some r → r.node ≡ node_at role b → HasRaw (messages n) (told n) (interrupts n) r
 
 module _ (role : Role) where
-  plain_step : (note : PadNote) → IsPlain role note → (m t i : ℕ → Octets) (b : Book) → AreRaw m t i role b
+  plain_step : (note : ChannelNote) → IsPlain role note → (m t i : ℕ → Octets) (b : Book) → AreRaw m t i role b
       → AreRaw (λ n. m n ++ message_in (test_of n (side_of role b)) note) (λ n. t n ++ told_in (test_of n (side_of role b)) note)
       (λ n. i n ++ interrupt_in (test_of n (side_of role b)) note) role (written_by role (write_of note) b)
   plain_step note p m t i b h =
@@ -333,10 +333,10 @@ module _ (role : Role) where
           ]
 
   -- the slots stay
-  plain_side : (note : PadNote) → IsPlain role note → (b : Book) → side_of role (written_by role (write_of note) b) ≡ side_of role b
+  plain_side : (note : ChannelNote) → IsPlain role note → (b : Book) → side_of role (written_by role (write_of note) b) ≡ side_of role b
   plain_side note p b = ap (λ (z : Book). side_of role z) (p.written b) ∙ side_changed role (slot_at role p.channel b).present p.change b
 
-  pub plain_list : (ns : List PadNote) → Every (λ note. IsPlain role note) ns → (m t i : ℕ → Octets) (b : Book) → AreRaw m t i role b
+  pub plain_list : (ns : List ChannelNote) → Every (λ note. IsPlain role note) ns → (m t i : ℕ → Octets) (b : Book) → AreRaw m t i role b
       → AreRaw (λ n. m n ++ all_in (message_in (test_of n (side_of role b))) ns) (λ n. t n ++ all_in (told_in (test_of n (side_of role b))) ns)
       (λ n. i n ++ all_in (interrupt_in (test_of n (side_of role b))) ns) role (noted role ns b)
   plain_list [] ps m t i b h = λ n r e own.
@@ -354,7 +354,7 @@ module _ (role : Role) where
       }
 
   -- no record is added
-  pub plain_none : (ns : List PadNote) → Every (λ note. IsPlain role note) ns → (b : Book) (n : ℕ) → slice_get (noted role ns b).records n ≡ None → slice_get b.records n ≡ None
+  pub plain_none : (ns : List ChannelNote) → Every (λ note. IsPlain role note) ns → (b : Book) (n : ℕ) → slice_get (noted role ns b).records n ≡ None → slice_get b.records n ≡ None
   plain_none [] ps b n e = e
   plain_none (note ∷ ns) ps b n e = by (slice_get b.records n) refl (plain_none ns ps.1 (written_by role (write_of note) b) n e)
     where
@@ -367,7 +367,7 @@ module _ (role : Role) where
 -- ---- what says nothing
 
 -- a note that says nothing, and that may begin or end a call
-abbrev pub IsMuteNote : PadNote → Type 0
+abbrev pub IsMuteNote : ChannelNote → Type 0
 IsMuteNote (notes.Told note) = Unit {0}
 IsMuteNote (notes.Placed channel address) = Unit {0}
 IsMuteNote (notes.Accepted channel) = Unit {0}
@@ -471,7 +471,7 @@ module _ (os : ℕ → List Occasion) (role : Role) where
   pub all_closed_said : (x : Role) (b : Book) → HaveSaid os role b → HaveSaid os role (all_closed x b)
   all_closed_said x b h = closed_from_said (length (side_of x b).slots) 1 x b h
 
-  mute_note : (note : PadNote) → IsMuteNote note → (b : Book) → HaveSaid os role b → HaveSaid os role (written_by role (write_of note) b)
+  mute_note : (note : ChannelNote) → IsMuteNote note → (b : Book) → HaveSaid os role b → HaveSaid os role (written_by role (write_of note) b)
   mute_note (notes.Told note) mute b h = told_said role note b h
   mute_note (notes.Placed channel address) mute b h = placed_said role (Some channel) (parts_to address) b h
   mute_note (notes.Accepted channel) mute b h = pair_said (slot_at role channel b).caller (slot_at role channel b).present b h
@@ -482,7 +482,7 @@ module _ (os : ℕ → List Occasion) (role : Role) where
   mute_note (notes.Interrupted channel octets) mute b h = absurd mute
   mute_note (notes.Took channel taken) mute b h = absurd mute
 
-  pub mute_list : (ns : List PadNote) → Every IsMuteNote ns → (b : Book) → HaveSaid os role b → HaveSaid os role (noted role ns b)
+  pub mute_list : (ns : List ChannelNote) → Every IsMuteNote ns → (b : Book) → HaveSaid os role b → HaveSaid os role (noted role ns b)
   mute_list [] ms b h = h
   mute_list (note ∷ ns) ms b h = mute_list ns ms.1 (written_by role (write_of note) b) (mute_note note ms.0 b h)
 

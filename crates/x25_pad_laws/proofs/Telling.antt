@@ -29,7 +29,7 @@ use Rattle.pad_terminal.specs.declared.answers.Reply.TheVariants as reply
 use Rattle.pad_terminal.specs.declared.answers.Request.{Request}
 use Rattle.pad_terminal.specs.declared.answers.Request.TheVariants as request
 use Rattle.x25_pad.specs.Notes as notes
-use Rattle.x25_pad.specs.Notes.{PadNote, unless_refused}
+use Rattle.x25_pad.specs.Notes.{ChannelNote, unless_refused}
 use Rattle.x25_pad.specs.Line as line
 use Rattle.x25_pad.specs.Line.{condition, datum}
 use Rattle.x25_pad.specs.Ports as port
@@ -48,43 +48,43 @@ Octets = List (List ℕ)
 -- ---- what notes say of the channels that meet a test
 
 -- the messages that were taken there
-abbrev pub message_in : (test : ℕ → Bool) → PadNote → Octets
+abbrev pub message_in : (test : ℕ → Bool) → ChannelNote → Octets
 message_in test (notes.Took channel (TakenPacket d)) = if d.qualified && test channel then d.octets ∷ [] else []
 message_in test note = []
 
 -- the qualified packets that were sent there
-abbrev pub told_in : (test : ℕ → Bool) → PadNote → Octets
+abbrev pub told_in : (test : ℕ → Bool) → ChannelNote → Octets
 told_in test (notes.Sent channel d) = if d.qualified && test channel then d.octets ∷ [] else []
 told_in test note = []
 
 -- the interrupts that were sent there
-abbrev pub interrupt_in : (test : ℕ → Bool) → PadNote → Octets
+abbrev pub interrupt_in : (test : ℕ → Bool) → ChannelNote → Octets
 interrupt_in test (notes.Interrupted channel octets) = if test channel then octets ∷ [] else []
 interrupt_in test note = []
 
 -- of all notes, in order
-abbrev pub all_in : (PadNote → Octets) → List PadNote → Octets
+abbrev pub all_in : (ChannelNote → Octets) → List ChannelNote → Octets
 all_in of_note [] = []
 all_in of_note (note ∷ notes) = of_note note ++ all_in of_note notes
 
 -- ---- notes that say nothing of the kind
 
-module _ (f : PadNote → Octets) where
-  pub all_append : (xs ys : List PadNote) → all_in f (xs ++ ys) ≡ all_in f xs ++ all_in f ys
+module _ (f : ChannelNote → Octets) where
+  pub all_append : (xs ys : List ChannelNote) → all_in f (xs ++ ys) ≡ all_in f xs ++ all_in f ys
   all_append [] ys = refl
   all_append (x ∷ xs) ys = ap (λ (l : Octets). f x ++ l) (all_append xs ys) ∙ sym (append_assoc (f x) (all_in f xs) (all_in f ys))
 
-  pub one_more : (ns : List PadNote) (note : PadNote) → all_in f (ns ++ note ∷ []) ≡ all_in f ns ++ f note
+  pub one_more : (ns : List ChannelNote) (note : ChannelNote) → all_in f (ns ++ note ∷ []) ≡ all_in f ns ++ f note
   one_more ns note = all_append ns (note ∷ []) ∙ ap (λ (l : Octets). all_in f ns ++ l) (append-nil (f note))
 
-  pub silent_more : (ns : List PadNote) (note : PadNote) → f note ≡ [] → all_in f (ns ++ note ∷ []) ≡ all_in f ns
+  pub silent_more : (ns : List ChannelNote) (note : ChannelNote) → f note ≡ [] → all_in f (ns ++ note ∷ []) ≡ all_in f ns
   silent_more ns note e = one_more ns note ∙ ap (λ (l : Octets). all_in f ns ++ l) e ∙ append-nil (all_in f ns)
 
-  silent_unless : (ns : List PadNote) (o : Option Refusal) (note : PadNote) → f note ≡ [] → all_in f (ns ++ unless_refused o note) ≡ all_in f ns
+  silent_unless : (ns : List ChannelNote) (o : Option Refusal) (note : ChannelNote) → f note ≡ [] → all_in f (ns ++ unless_refused o note) ≡ all_in f ns
   silent_unless ns None note e = silent_more ns note e
-  silent_unless ns (Some r) note e = ap (λ (l : List PadNote). all_in f l) (append-nil ns)
+  silent_unless ns (Some r) note e = ap (λ (l : List ChannelNote). all_in f l) (append-nil ns)
 
-  told_silent : ((n : Note) → f (notes.Told n) ≡ []) → (ns : List PadNote) (told : List Note) → all_in f (ns ++ notes.all_told told) ≡ all_in f ns
+  told_silent : ((n : Note) → f (notes.Told n) ≡ []) → (ns : List ChannelNote) (told : List Note) → all_in f (ns ++ notes.all_told told) ≡ all_in f ns
   told_silent e ns told = all_append ns (notes.all_told told) ∙ ap (λ (l : Octets). all_in f ns ++ l) (none told) ∙ append-nil (all_in f ns)
     where
       none : (told : List Note) → all_in f (notes.all_told told) ≡ []
@@ -92,7 +92,7 @@ module _ (f : PadNote → Octets) where
       none (n ∷ ns) = ap (λ (l : Octets). l ++ all_in f (notes.all_told ns)) (e n) ∙ none ns
 
 -- what all that is not of a kind has: none of it
-pub record IsKind (f : PadNote → Octets) : Type 0 where
+pub record IsKind (f : ChannelNote → Octets) : Type 0 where
   pub told : (n : Note) → f (notes.Told n) ≡ []
   pub placed : (c : ℕ) (address : List ℕ) → f (notes.Placed c address) ≡ []
   pub accepted : (c : ℕ) → f (notes.Accepted c) ≡ []
@@ -124,12 +124,12 @@ told_kind test = record {
 }
 
 -- all but an interrupt
-abbrev NoInterrupts : (PadNote → Octets) → Type 0
+abbrev NoInterrupts : (ChannelNote → Octets) → Type 0
 NoInterrupts f = (c : ℕ) (octets : List ℕ) → f (notes.Interrupted c octets) ≡ []
 
 -- ---- what a terminal asks
 
-module _ (f : PadNote → Octets) (kind : IsKind f) where
+module _ (f : ChannelNote → Octets) (kind : IsKind f) where
   -- of an event the notes of its terminal count
   ended_says : (p : PadState) → all_in f (pad.ended p).line.notes ≡ all_in f p.line.notes
   ended_says p = told_silent f kind.told p.line.notes (finished p.line.end).notes
@@ -148,8 +148,8 @@ module _ (f : PadNote → Octets) (kind : IsKind f) where
       ∙ answered_says (line.last_incoming None p.line.end.notes) (pad.told p)
       ∙ told_silent f kind.told p.line.notes p.line.end.notes
 
-  pub placed_says : (ns : List PadNote) (o : Option ℕ) (address : List ℕ) → all_in f (ns ++ line.placed_note o address) ≡ all_in f ns
-  placed_says ns None address = ap (λ (l : List PadNote). all_in f l) (append-nil ns)
+  pub placed_says : (ns : List ChannelNote) (o : Option ℕ) (address : List ℕ) → all_in f (ns ++ line.placed_note o address) ≡ all_in f ns
+  placed_says ns None address = ap (λ (l : List ChannelNote). all_in f l) (append-nil ns)
   placed_says ns (Some channel) address = silent_more f ns (notes.Placed channel address) (kind.placed channel address)
 
   pub clears_says : (o : Option ℕ) (a : AtLine) → all_in f (port.on_call port.clears o a).line.notes ≡ all_in f a.line.notes
@@ -190,20 +190,20 @@ module _ (f : PadNote → Octets) (kind : IsKind f) where
 -- ---- what is said at a terminal, on the channels that meet a test
 
 -- by what is done there, at a terminal and a line of which nothing is noted yet
-abbrev pub IsSaidBy : (f : PadNote → Octets) → (of_occasions : List Occasion → Octets) → (test : ℕ → Bool) → (act : AtLine → AtLine) → (why : AtLine → List Occasion) → AtLine → Type 0
+abbrev pub IsSaidBy : (f : ChannelNote → Octets) → (of_occasions : List Occasion → Octets) → (test : ℕ → Bool) → (act : AtLine → AtLine) → (why : AtLine → List Occasion) → AtLine → Type 0
 IsSaidBy f of_occasions test act why a =
     a.line.notes ≡ [] → all_in f (act a).line.notes ≡ of_occasions (if meets test a.port.call then why a else [])
 
 -- where there is no occasion to say anything
-by_none : (f : PadNote → Octets) (g : List Occasion → Octets) (v : Bool) (ns : List PadNote) (why : List Occasion) → g why ≡ [] → g [] ≡ [] → all_in f ns ≡ [] → all_in f ns ≡ g (if v then why else [])
+by_none : (f : ChannelNote → Octets) (g : List Occasion → Octets) (v : Bool) (ns : List ChannelNote) (why : List Occasion) → g why ≡ [] → g [] ≡ [] → all_in f ns ≡ [] → all_in f ns ≡ g (if v then why else [])
 by_none f g true ns why e none h = h ∙ sym e
 by_none f g false ns why e none h = h ∙ sym none
 
-pub nothing_noted : (f : PadNote → Octets) (ns : List PadNote) → ns ≡ [] → all_in f ns ≡ []
-nothing_noted f ns e = ap (λ (l : List PadNote). all_in f l) e
+pub nothing_noted : (f : ChannelNote → Octets) (ns : List ChannelNote) → ns ≡ [] → all_in f ns ≡ []
+nothing_noted f ns e = ap (λ (l : List ChannelNote). all_in f l) e
 
 -- something happens at a terminal, and that is an event
-module _ (f : PadNote → Octets) (kind : IsKind f) (g : List Occasion → Octets) (none : g [] ≡ []) (test : ℕ → Bool) where
+module _ (f : ChannelNote → Octets) (kind : IsKind f) (g : List Occasion → Octets) (none : g [] ≡ []) (test : ℕ → Bool) where
   pub event_says : (number : ℕ) (act : AtLine → AtLine) (why : AtLine → List Occasion) → ((a : AtLine) → IsSaidBy f g test act why a) → (p : PadState)
       → all_in f (pad.terminal_event number act p).line.notes ≡ g (at_terminal number test why (pad.begun p))
   event_says number act why said p = ended_says f kind (at_port number act (pad.begun p)) ∙ by (slice_get p.ports number)
@@ -227,7 +227,7 @@ pub either : {A : Type 0} (P : A → Type 0) (v : Bool) (x y : A) → P x → P 
 either P true x y f g = f
 either P false x y f g = g
 
-key_silent : (f : PadNote → Octets) → IsKind f → NoInterrupts f → (octet : ℕ) (a : AtLine) → all_in f (port.after_key octet a).line.notes ≡ all_in f a.line.notes
+key_silent : (f : ChannelNote → Octets) → IsKind f → NoInterrupts f → (octet : ℕ) (a : AtLine) → all_in f (port.after_key octet a).line.notes ≡ all_in f a.line.notes
 key_silent f kind silent octet a =
     handles_says f kind silent (port.key_input octet a).answer (key octet a.port.terminal.settings.params)
     (record a { port = record a.port { terminal = (port.key_input octet a).terminal; idle_left = None } })
@@ -237,7 +237,7 @@ line_nothing : (g : List Occasion → Octets) → g [] ≡ [] → g (HadCommand 
 line_nothing g none command None pending t = none
 line_nothing g none command (Some line) pending t = either (λ (os : List Occasion). g os ≡ []) _ (HadCommand ∷ []) [] command none
 
-pub key_says : (f : PadNote → Octets) → IsKind f → NoInterrupts f → (g : List Occasion → Octets) → g [] ≡ [] → g (HadCommand ∷ []) ≡ [] → (test : ℕ → Bool) (octet : ℕ) (a : AtLine)
+pub key_says : (f : ChannelNote → Octets) → IsKind f → NoInterrupts f → (g : List Occasion → Octets) → g [] ≡ [] → g (HadCommand ∷ []) ≡ [] → (test : ℕ → Bool) (octet : ℕ) (a : AtLine)
     → IsSaidBy f g test (port.after_key octet) (by_key octet) a
 key_says f kind silent g none command test octet a nothing =
     by_none f g (meets test a.port.call) (port.after_key octet a).line.notes (by_key octet a)
@@ -250,10 +250,10 @@ abbrev pub told_octets : List Occasion → Octets
 told_octets os = map octets_of (all_told os)
 
 -- it says so where it is of another kind
-abbrev NoneSent : (PadNote → Octets) → Type 0
+abbrev NoneSent : (ChannelNote → Octets) → Type 0
 NoneSent f = (c : ℕ) (octets : List ℕ) → f (notes.Sent c (datum octets true)) ≡ []
 
-pub tells_silent : (f : PadNote → Octets) → NoneSent f → (o : Option Message) (a : AtLine) → all_in f (port.tells o a).line.notes ≡ all_in f a.line.notes
+pub tells_silent : (f : ChannelNote → Octets) → NoneSent f → (o : Option Message) (a : AtLine) → all_in f (port.tells o a).line.notes ≡ all_in f a.line.notes
 tells_silent f none None a = refl
 tells_silent f none (Some m) a = by a.port.call
   where
@@ -271,7 +271,7 @@ sends_told : (test : ℕ → Bool) (m : Message) (o : Option ℕ) (a : AtLine) �
     ≡ all_in (told_in test) a.line.notes ++ (if meets test o then octets_of m ∷ [] else [])
 sends_told test m None a short free = sym (append-nil (all_in (told_in test) a.line.notes))
 sends_told test m (Some call) a short free =
-    let note : PadNote = notes.Sent call (datum (octets_of m) true) in
+    let note : ChannelNote = notes.Sent call (datum (octets_of m) true) in
     ap (λ (o : Option Refusal). all_in (told_in test) (a.line.notes ++ unless_refused o note)) (message_taken a.line.end.layer call (octets_of m) free short)
     ∙ one_more (told_in test) a.line.notes note
 
@@ -424,7 +424,7 @@ module _ (test : ℕ → Bool) (call : ℕ) (p : PortState) (l : PadLine) (nothi
   abbrev took : Taken → AtLine
   took taken = port.takes taken call here
 
-  took_silent : (f : PadNote → Octets) (taken : Taken) → f (notes.Took call taken) ≡ [] → all_in f (took taken).line.notes ≡ []
+  took_silent : (f : ChannelNote → Octets) (taken : Taken) → f (notes.Took call taken) ≡ [] → all_in f (took taken).line.notes ≡ []
   took_silent f taken e = silent_more f l.notes (notes.Took call taken) e ∙ nothing_noted f l.notes nothing
 
   abbrev v : Bool

@@ -23,7 +23,7 @@ use Rattle.pad_terminal.specs.declared.answers.InputAnswer.TheVariants as input
 use Rattle.pad_terminal.specs.declared.answers.Request.{Request}
 use Rattle.pad_terminal.specs.declared.answers.Request.TheVariants as request
 use Rattle.x25_pad.specs.Notes as notes
-use Rattle.x25_pad.specs.Notes.{PadNote}
+use Rattle.x25_pad.specs.Notes.{ChannelNote}
 use Rattle.x25_pad.specs.Line as line
 use Rattle.x25_pad.specs.Line.{asked, call_parts, datum, interrupt_octet}
 use Rattle.x25_pad.specs.Ports as port
@@ -141,7 +141,7 @@ module _ (role : Role) (b : Book) (Others : ℕ → List ℕ → Type 0) where
 
   -- ---- requests
 
-  unless_noted : (X : ℕ → List ℕ → Type 0) (o : Option Refusal) (note : PadNote) (ns : List PadNote) → BookHolds role X (written_by role (write_of note) (noted role ns b)) → BookHolds role X (noted role ns b)
+  unless_noted : (X : ℕ → List ℕ → Type 0) (o : Option Refusal) (note : ChannelNote) (ns : List ChannelNote) → BookHolds role X (written_by role (write_of note) (noted role ns b)) → BookHolds role X (noted role ns b)
       → BookHolds role X (noted role (ns ++ notes.unless_refused o note) b)
   unless_noted X None note ns h k = subst (λ (z : Book). BookHolds role X z) (sym (noted_append role ns (note ∷ []) b)) h
   unless_noted X (Some r) note ns h k = subst (λ (z : Book). BookHolds role X z) (sym (noted_append role ns [] b)) k
@@ -154,7 +154,7 @@ module _ (role : Role) (b : Book) (Others : ℕ → List ℕ → Type 0) where
       ]
 
   -- of a request that does not clear, and whose note is a quiet write
-  pub asked_holds : (channel : ℕ) (r : LayerRequest) (note : PadNote) (a : AtLine) → ((cause diagnostic : ℕ) → r ≡ Clearing cause diagnostic → ⊥)
+  pub asked_holds : (channel : ℕ) (r : LayerRequest) (note : ChannelNote) (a : AtLine) → ((cause diagnostic : ℕ) → r ≡ Clearing cause diagnostic → ⊥)
       → ((X : ℕ → List ℕ → Type 0) (x : Book) → BookHolds role X x → BookHolds role X (written_by role (write_of note) x)) → AtHolds a → AtHolds (record a { line = asked channel r note a.line })
   asked_holds channel r note a f quiet h = record {
     port = h.port;
@@ -292,7 +292,7 @@ module _ (role : Role) (b : Book) (Others : ℕ → List ℕ → Type 0) where
       → noted role (port.block_sent block call (record { port = p; line = step_line step call l })).line.notes b ≡ with_block block role call (edits role call step (noted role l.notes b))
   edited_book None step call p l none = noted_append role l.notes (notes.Edited call step ∷ []) b
   edited_book (Some text) step call p l none =
-      ap (λ (ns : List PadNote). noted role ns b) (sent_block text call (step_line step call l) (none text refl))
+      ap (λ (ns : List ChannelNote). noted role ns b) (sent_block text call (step_line step call l) (none text refl))
       ∙ noted_append role (step_line step call l).notes (notes.Sent call (datum text false) ∷ []) b
       ∙ ap (λ (z : Book). sends role call (datum text false) z) (noted_append role l.notes (notes.Edited call step ∷ []) b)
 

@@ -7,5 +7,6 @@ pub mod RecordClauses
 pub mod Happening
 pub mod Courses
 pub mod Own
+pub mod Noting
 pub mod Expiry
 pub mod Rooms

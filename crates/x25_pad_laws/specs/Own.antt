@@ -1,10 +1,9 @@
 -- What a terminal shows is of its own call, or its own: nothing of another terminal's.
 use Rattle.std.specs.Prelude.{◌≡◌, ℕ, List, ◌++◌, slice_get, Some, false}
 use Rattle.packet_layer.specs.Packets.{Note}
-use Rattle.packet_layer.specs.Packets.Note.{Incoming, Connected, Closed, WasReset, InterruptConfirmed, Covered}
 use Rattle.packet_layer.specs.Traffic.{Taken}
 use Rattle.packet_layer.specs.Layer.{front_on}
-use Rattle.x25_pad.specs.Line.{learnt_of}
+use Rattle.x25_pad.specs.Line.{learnt_of, about}
 use Rattle.x25_pad.specs.Ports.{PortState, AtLine, has_channel, text_taken}
 use Rattle.x25_pad.specs.Pad.{PadState, at_port, print_taken, print_text, all_heard}
 
@@ -23,15 +22,6 @@ OwnTextLaw = (p : PadState) (number : ℕ) (q : PortState) → slice_get p.ports
 abbrev pub OthersStayLaw : Type 0
 OthersStayLaw = (p : PadState) (number other : ℕ) (act : AtLine → AtLine) → (other ≡ number → ⊥)
     → slice_get (at_port number act p).ports other ≡ slice_get p.ports other
-
--- the channel of a note
-abbrev pub about : Note → ℕ
-about (Incoming channel parts) = channel
-about (Connected channel) = channel
-about (Closed channel cause diagnostic reason) = channel
-about (WasReset channel cause diagnostic reason) = channel
-about (InterruptConfirmed channel) = channel
-about (Covered channel count) = channel
 
 -- of what the packet layer tells a terminal learns nothing but what is about the channel of its own call
 abbrev pub LearnsOwnLaw : Type 0

@@ -14,7 +14,7 @@ use Rattle.pad_records.specs.Writing.{writes_of}
 
 -- all its notes were read, and all its frames went onto the line
 abbrev pub drained : PadState → PadState
-drained p = record p { line = record { end = sent p.line.end; notes = [] } }
+drained p = record p { line = record { end = sent p.line.end; notes = [] }; noted_at = [] }
 
 -- it is the node at the end of this role, with nothing left of its last event
 pub record StandsAt (role : Role) (l : Line) (p : PadState) : Type 0 where

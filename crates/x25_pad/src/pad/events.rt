@@ -1,5 +1,5 @@
 //! What the packet layer tells, and the end of an event.
-ghost use Rattle.std.specs.Prelude.{◌≡◌, ◌≤◌, ◌+◌, ◌<◌, [], ◌∷◌, ◌++◌, None, length, drop};
+ghost use Rattle.std.specs.Prelude.{◌≡◌, ◌≤◌, ◌+◌, ◌<◌, [], ◌∷◌, ◌++◌, None, length, drop, IfSome};
 ghost use Rattle.packet_layer.specs.NoteView.{note_of};
 ghost use Rattle.packet_end.specs.PacketEnd as end;
 ghost use Rattle.packet_end.specs.Sending.{EndsWhole, ending_frames};
@@ -8,7 +8,7 @@ ghost use Rattle.x25_pad.specs.Line as line;
 ghost use Rattle.x25_pad.specs.Pad as spec;
 
 use crate::call::CallNote;
-use crate::note::{EARLY_NOTES, MOST_NOTES, PadNote, TOLD_NOTES};
+use crate::note::{ChannelNote, EARLY_NOTES, MOST_NOTES, TOLD_NOTES};
 use crate::pad::Pad;
 use crate::port::Port;
 use packet_layer::LayerNote;
@@ -20,6 +20,16 @@ impl Pad {
     {
         self.line.end.begin();
         self.line.notes.clear();
+        self.noted_at.clear();
+    }
+
+    // The notes that have no terminal yet are of this one, or of none.
+    pub(super) fn name_notes(&mut self, terminal: Option<u8>)
+        requires { length self.old.noted_at ≤ length self.old.line.notes }
+        ensures pad { self.new ≡ spec.named terminal self.old }
+        ensures named { spec.IsEachNamed self.new }
+    {
+        self.noted_at.fill(terminal, self.line.notes.len());
     }
 
     // Ends an event that came from the line: the terminals learn what became of their calls, and a call that came in is
@@ -27,7 +37,9 @@ impl Pad {
     pub(super) fn end_line_event(&mut self)
         requires told { length self.old.line.end.notes ≤ TOLD_NOTES }
         requires empty { self.old.line.notes ≡ [] }
+        requires named { self.old.noted_at ≡ [] }
         ensures pad { self.new ≡ spec.line_event self.old }
+        ensures named { spec.IsEachNamed self.new }
         ensures frames { length self.old.line.end.line.frames ≤ 1 → self.new.line.end.line.frames
             ≡ self.old.line.end.line.frames ++ ending_frames (spec.heeded self.old).line.end }
         ensures nothing_kept_back { end.KeepsNothingBack self.new.line.end }
@@ -43,7 +55,9 @@ impl Pad {
     pub(super) fn finish(&mut self)
         requires told { self.old.line.end.notes ≡ [] }
         requires room { length self.old.line.notes ≤ EARLY_NOTES }
+        requires named { spec.IsEachNamed self.old }
         ensures pad { self.new ≡ spec.ended self.old }
+        ensures named { spec.IsEachNamed self.new }
         ensures frames { EndsWhole self.old.line.end self.new.line.end }
         ensures nothing_kept_back { end.KeepsNothingBack self.new.line.end }
         ensures timers { TimersAgree self.new.line.end.layer self.new.line.end.timers }
@@ -58,8 +72,10 @@ impl Pad {
     #[tactic(auto, using(crate::proofs::Hearing::told_none))]
     fn hear(&mut self) -> Option<u8>
         requires room { length self.old.line.notes + length self.old.line.end.notes ≤ MOST_NOTES }
+        requires named { spec.IsEachNamed self.old }
         ensures pad { self.new ≡ spec.told self.old }
         ensures incoming { result ≡ line.last_incoming None self.old.line.end.notes }
+        ensures named { spec.IsEachNamed self.new }
     {
         if self.line.end.waiting_notes() == 0 {
             return None;
@@ -70,8 +86,10 @@ impl Pad {
     #[inline(never)]
     fn hear_notes(&mut self) -> Option<u8>
         requires room { length self.old.line.notes + length self.old.line.end.notes ≤ MOST_NOTES }
+        requires named { spec.IsEachNamed self.old }
         ensures pad { self.new ≡ spec.told self.old }
         ensures incoming { result ≡ line.last_incoming None self.old.line.end.notes }
+        ensures named { spec.IsEachNamed self.new }
     {
         let mut incoming = None;
         for _ in 0..self.line.end.waiting_notes() {
@@ -80,12 +98,14 @@ impl Pad {
         incoming
     }
 
-    // Takes over the first note of the packet layer, if there is one. The channel is that of the last call that came
-    // in.
+    // Takes over the first note of the packet layer, if there is one: it is of the terminal that has the call. The
+    // channel is that of the last call that came in.
     #[tactic(auto, using(crate::proofs::Hearing::told_first, crate::proofs::Hearing::last_first))]
     fn hear_note(&mut self, incoming: Option<u8>) -> Option<u8>
         requires room { length self.old.line.notes + length self.old.line.end.notes ≤ MOST_NOTES }
+        requires named { spec.IsEachNamed self.old }
         ensures pad { spec.told self.new ≡ spec.told self.old }
+        ensures named { spec.IsEachNamed self.new }
         ensures incoming { line.last_incoming result self.new.line.end.notes
             ≡ line.last_incoming incoming self.old.line.end.notes }
         ensures rest { self.new.line.end.notes ≡ drop 1 self.old.line.end.notes }
@@ -95,21 +115,26 @@ impl Pad {
             return incoming;
         };
         let last = last_call(incoming, &note);
+        let terminal = terminal_with(self.ports.as_slice(), about(&note));
+        self.noted_at.add(terminal);
         tell(&mut self.ports, &note);
-        self.line.notes.add(PadNote::Told(note));
+        self.line.notes.add(ChannelNote::Told(note));
         last
     }
 
     fn first_free(&self) -> Option<usize>
-        ensures { result ≡ spec.first_free self.now.ports }
+        ensures number { result ≡ spec.first_free self.now.ports }
+        ensures most { IfSome result (λ number. number < 16) }
     {
         self.ports.iter().position(|port| port.is_free())
     }
 
     // Accepts a call that came in, if one did, for the first terminal without a call, or else clears it.
     fn answer(&mut self, incoming: Option<u8>)
-        requires { length self.old.line.notes < MOST_NOTES }
+        requires room { length self.old.line.notes < MOST_NOTES }
+        requires named { spec.IsEachNamed self.old }
         ensures pad { self.new ≡ spec.answered incoming self.old }
+        ensures named { spec.IsEachNamed self.new }
         ensures room { length self.new.line.notes ≤ length self.old.line.notes + 1 }
     {
         let Some(channel) = incoming else {
@@ -117,12 +142,14 @@ impl Pad {
         };
         let Some(number) = self.first_free() else {
             self.line.clear(channel);
+            self.name_notes(None);
             return;
         };
         self.line.accept(channel);
         if let Some(port) = self.ports.get_mut(number) {
             port.connect(channel);
         }
+        self.name_notes(Some(number as u8));
     }
 
     // The terminals may go on, and their idle timers run as they want them.
@@ -172,6 +199,31 @@ fn learn(ports: &mut Vec<Port>, note: CallNote)
     };
     if let Some(port) = ports.get_mut(number) {
         port.learn(note);
+    }
+}
+
+// The terminal whose call is on the channel, if there is one.
+fn terminal_with(ports: &[Port], channel: u8) -> Option<u8>
+    requires { length ports.now ≤ 16 }
+    ensures { result ≡ spec.holder channel ports.now }
+{
+    match holder(ports, channel) {
+        Some(number) => Some(number as u8),
+        None => None,
+    }
+}
+
+// The channel that a note is about.
+fn about(note: &LayerNote) -> u8
+    ensures { result ≡ line.about (note_of note.now) }
+{
+    match note {
+        LayerNote::Incoming(channel, _)
+        | LayerNote::Connected(channel)
+        | LayerNote::Closed { channel, .. }
+        | LayerNote::Reset { channel, .. }
+        | LayerNote::InterruptConfirmed(channel)
+        | LayerNote::Covered { channel, .. } => *channel,
     }
 }
 

@@ -1,5 +1,5 @@
 //! What happens at the terminals.
-ghost use Rattle.std.specs.Prelude.{◌≡◌, ◌≤◌, ◌<◌, ◌+◌, ◌++◌, true, length, map, position, IfSome};
+ghost use Rattle.std.specs.Prelude.{◌≡◌, ◌≤◌, ◌<◌, ◌+◌, ◌++◌, [], true, length, map, position, IfSome};
 ghost use Rattle.std.specs.Bool.{OnTrue};
 ghost use Rattle.arrayvec.specs.ArrayVec.{array_vec_len};
 ghost use Rattle.packet_layer.specs.TakenView.{maybe_taken};
@@ -30,6 +30,7 @@ impl Pad {
         ensures nothing_kept_back { end.KeepsNothingBack self.new.line.end }
         ensures frames { self.new.line.end.line.frames
             ≡ frames_at_terminal terminal (port.after_key octet) self.old }
+        ensures named { spec.IsEachNamed self.new }
         ensures timers { TimersAgree self.new.line.end.layer self.new.line.end.timers }
     {
         self.begin();
@@ -48,6 +49,7 @@ impl Pad {
         ensures answer { result ≡ spec.answer_of (spec.break_taken terminal self.old) }
         ensures nothing_kept_back { end.KeepsNothingBack self.new.line.end }
         ensures frames { self.new.line.end.line.frames ≡ frames_at_terminal terminal port.after_break self.old }
+        ensures named { spec.IsEachNamed self.new }
         ensures timers { TimersAgree self.new.line.end.layer self.new.line.end.timers }
     {
         self.begin();
@@ -60,24 +62,32 @@ impl Pad {
     fn press(&mut self, terminal: u8, octet: u8) -> bool
         requires there { terminal < length self.old.ports }
         requires room { length self.old.line.notes + 2 ≤ EARLY_NOTES }
+        requires named { self.old.noted_at ≡ [] }
         ensures pad { self.new ≡ spec.at_port terminal (port.after_key octet) self.old }
         ensures taken { result ≡ spec.key_taken_now terminal octet self.old }
         ensures room { length self.new.line.notes ≤ length self.old.line.notes + 2 }
         ensures told { self.new.line.end.notes ≡ self.old.line.end.notes }
+        ensures named { spec.IsEachNamed self.new }
     {
-        self.ports[usize::from(terminal)].press(octet, &mut self.line)
+        let taken = self.ports[usize::from(terminal)].press(octet, &mut self.line);
+        self.name_notes(Some(terminal));
+        taken
     }
 
     // What a break does at its terminal.
     fn break_in(&mut self, terminal: u8) -> bool
         requires there { terminal < length self.old.ports }
         requires room { length self.old.line.notes + 2 ≤ EARLY_NOTES }
+        requires named { self.old.noted_at ≡ [] }
         ensures pad { self.new ≡ spec.at_port terminal port.after_break self.old }
         ensures taken { result ≡ spec.break_taken_now terminal self.old }
         ensures room { length self.new.line.notes ≤ length self.old.line.notes + 2 }
         ensures told { self.new.line.end.notes ≡ self.old.line.end.notes }
+        ensures named { spec.IsEachNamed self.new }
     {
-        self.ports[usize::from(terminal)].break_in(&mut self.line)
+        let taken = self.ports[usize::from(terminal)].break_in(&mut self.line);
+        self.name_notes(Some(terminal));
+        taken
     }
 
     /// Takes the end of the idle time of a terminal (X.3 3.4). Where its idle timer does not run nothing happens.
@@ -91,6 +101,7 @@ impl Pad {
             end.KeepsNothingBack self.new.line.end }
         ensures frames { spec.runs_idle_timer terminal self.old ≡ true →
             self.new.line.end.line.frames ≡ frames_at_terminal terminal port.after_idle self.old }
+        ensures named { spec.runs_idle_timer terminal self.old ≡ true → spec.IsEachNamed self.new }
     {
         if !self.runs_idle_timer(terminal) {
             return PadAnswer::Taken;
@@ -115,12 +126,16 @@ impl Pad {
     fn pause(&mut self, terminal: u8) -> bool
         requires there { terminal < length self.old.ports }
         requires room { length self.old.line.notes + 2 ≤ EARLY_NOTES }
+        requires named { self.old.noted_at ≡ [] }
         ensures pad { self.new ≡ spec.at_port terminal port.after_idle self.old }
         ensures taken { result ≡ spec.idle_taken_now terminal self.old }
         ensures room { length self.new.line.notes ≤ length self.old.line.notes + 2 }
         ensures told { self.new.line.end.notes ≡ self.old.line.end.notes }
+        ensures named { spec.IsEachNamed self.new }
     {
-        self.ports[usize::from(terminal)].pause(&mut self.line)
+        let taken = self.ports[usize::from(terminal)].pause(&mut self.line);
+        self.name_notes(Some(terminal));
+        taken
     }
 
     /// Shows what a terminal has to show: the text that waits, at most 1,024 octets, and then what waits first on its
@@ -138,6 +153,7 @@ impl Pad {
         ensures text { out.new.items ≡ out.old.items ++ spec.print_text terminal self.old }
         ensures nothing_kept_back { end.KeepsNothingBack self.new.line.end }
         ensures frames { self.new.line.end.line.frames ≡ frames_at_terminal terminal port.after_print self.old }
+        ensures named { spec.IsEachNamed self.new }
         ensures timers { TimersAgree self.new.line.end.layer self.new.line.end.timers }
     {
         self.begin();
@@ -150,14 +166,18 @@ impl Pad {
     fn show<const N: usize>(&mut self, terminal: u8, out: &mut ArrayVec<u8, N>) -> Option<Taken>
         requires there { terminal < length self.old.ports }
         requires room { length self.old.line.notes + 2 ≤ EARLY_NOTES }
+        requires named { self.old.noted_at ≡ [] }
         requires out { array_vec_len out.old + MOST_TEXT ≤ N }
         ensures pad { self.new ≡ spec.at_port terminal port.after_print self.old }
         ensures taken { maybe_taken result ≡ spec.print_taken_now terminal self.old }
         ensures text { out.new.items ≡ out.old.items ++ spec.print_text_now terminal self.old }
         ensures room { length self.new.line.notes ≤ length self.old.line.notes + 2 }
         ensures told { self.new.line.end.notes ≡ self.old.line.end.notes }
+        ensures named { spec.IsEachNamed self.new }
     {
-        self.ports[usize::from(terminal)].print(&mut self.line, out)
+        let taken = self.ports[usize::from(terminal)].print(&mut self.line, out);
+        self.name_notes(Some(terminal));
+        taken
     }
 
     /// Takes an expiry of a timer of the line or of a terminal's idle timer, and answers whether it ran. Where it did
@@ -167,6 +187,7 @@ impl Pad {
         ensures pad { self.new ≡ spec.after_timer self.old id }
         ensures nothing_kept_back { OnTrue result (end.KeepsNothingBack self.new.line.end) }
         ensures frames { OnTrue result (self.new.line.end.line.frames ≡ frames_on_timer self.old id) }
+        ensures named { OnTrue result (spec.IsEachNamed self.new) }
     {
         match id {
             TimerId::Idle(terminal) => {
@@ -187,6 +208,7 @@ impl Pad {
         ensures nothing_kept_back { OnTrue result (end.KeepsNothingBack self.new.line.end) }
         ensures frames { OnTrue result (self.new.line.end.line.frames ≡ expiry_frames id self.old.line.end
             ++ ending_frames (spec.heeded (spec.with_expiry self.old id)).line.end) }
+        ensures named { OnTrue result (spec.IsEachNamed self.new) }
     {
         if !self.line.end.is_running(id) {
             return false;
@@ -248,6 +270,7 @@ impl Pad {
     {
         self.line.end.restart();
         self.line.notes.clear();
+        self.noted_at.clear();
         self.restart_terminals();
     }
 

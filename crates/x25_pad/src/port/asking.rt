@@ -4,7 +4,7 @@ ghost use Rattle.pad_editing.specs.Edited.Step.{key, idle};
 ghost use Rattle.x25_pad.specs.Ports as spec;
 
 use crate::line::PadLine;
-use crate::note::{MOST_NOTES, PadNote};
+use crate::note::{ChannelNote, MOST_NOTES};
 use crate::port::Port;
 use packet_codec::clear_cause::{NETWORK_CONGESTION, OUT_OF_ORDER};
 use packet_layer::CallFault;
@@ -129,7 +129,7 @@ impl Port {
         let Some(channel) = self.call else {
             return;
         };
-        line.notes.add(PadNote::Edited {
+        line.notes.add(ChannelNote::Edited {
             channel,
             octet,
             params,
@@ -161,7 +161,7 @@ impl Port {
         let Some(channel) = self.call else {
             return;
         };
-        line.notes.add(PadNote::Paused { channel, params });
+        line.notes.add(ChannelNote::Paused { channel, params });
     }
 
     // Does what the terminal asks for, if anything.

@@ -7,12 +7,13 @@ use Rattle.x25_pad.proofs.pad.Pad.break_in.Goals as goal
 
 pub returns-clause-pad : goal.returns-clause-pad
 returns-clause-pad c =
-    acts_at port.after_break (pad_of c.self.inside) c.args.self.now c.args.terminal c.from.result c.index_mut.result.now
-    c.break_in.new.self c.break_in.new.line c.self.view_is c.from.ensures c.requires.there c.index_mut.ensures.value
-    c.break_in.ensures.port c.break_in.ensures.line
+    c.name_notes.ensures.pad
+    ∙ acts_at port.after_break (pad_of c.self.inside) c.args.self.now c.args.terminal c.from.result c.index_mut.result.now
+    c.break_in-taken.new.self c.break_in-taken.new.line c.self.view_is c.from.ensures c.requires.there c.index_mut.ensures.value
+    c.break_in-taken.ensures.port c.break_in-taken.ensures.line
 
 pub returns-clause-taken : goal.returns-clause-taken
 returns-clause-taken c =
-    c.break_in.ensures.taken
+    c.break_in-taken.ensures.taken
     ∙ seen_at (λ a. port.is_break_taken (port.break_answer_of a)) false (pad_of c.self.inside) c.args.self.now c.args.terminal c.from.result
     c.index_mut.result.now c.self.view_is c.from.ensures c.requires.there c.index_mut.ensures.value

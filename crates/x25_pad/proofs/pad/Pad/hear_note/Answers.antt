@@ -7,5 +7,5 @@ use Rattle.x25_pad.proofs.pad.Pad.hear_note.Goals as goal
 
 pub returns-clause-pad : goal.returns-clause-pad
 returns-clause-pad c =
-    rw (← c.self.view_is, c.notes.ensures.end, c.add.ensures, c.tell.ensures.ports)
+    rw (← c.self.view_is, c.notes.ensures.end, c.add-2.ensures, c.add.ensures, c.terminal_with-terminal.ensures, c.about.ensures, c.as_slice.ensures.value, c.tell.ensures.ports)
     (told_first (pad_of c.self.inside) (note_of c.in-Some.note) (sym c.in-Some.ensures.note))

@@ -7,12 +7,13 @@ use Rattle.x25_pad.proofs.pad.Pad.pause.Goals as goal
 
 pub returns-clause-pad : goal.returns-clause-pad
 returns-clause-pad c =
-    acts_at port.after_idle (pad_of c.self.inside) c.args.self.now c.args.terminal c.from.result c.index_mut.result.now
-    c.pause.new.self c.pause.new.line c.self.view_is c.from.ensures c.requires.there c.index_mut.ensures.value
-    c.pause.ensures.port c.pause.ensures.line
+    c.name_notes.ensures.pad
+    ∙ acts_at port.after_idle (pad_of c.self.inside) c.args.self.now c.args.terminal c.from.result c.index_mut.result.now
+    c.pause-taken.new.self c.pause-taken.new.line c.self.view_is c.from.ensures c.requires.there c.index_mut.ensures.value
+    c.pause-taken.ensures.port c.pause-taken.ensures.line
 
 pub returns-clause-taken : goal.returns-clause-taken
 returns-clause-taken c =
-    c.pause.ensures.taken
+    c.pause-taken.ensures.taken
     ∙ seen_at (λ a. port.is_taken (port.idle_input a).answer) false (pad_of c.self.inside) c.args.self.now c.args.terminal c.from.result
     c.index_mut.result.now c.self.view_is c.from.ensures c.requires.there c.index_mut.ensures.value

@@ -7,12 +7,13 @@ use Rattle.x25_pad.proofs.pad.Pad.show.Goals as goal
 
 pub returns-clause-pad : goal.returns-clause-pad
 returns-clause-pad g c =
-    acts_at port.after_print (pad_of c.self.inside) c.args.self.now c.args.terminal c.from.result c.index_mut.result.now
-    c.print.new.self c.print.new.line c.self.view_is c.from.ensures c.requires.there c.index_mut.ensures.value
-    c.print.ensures.port c.print.ensures.line
+    c.name_notes.ensures.pad
+    ∙ acts_at port.after_print (pad_of c.self.inside) c.args.self.now c.args.terminal c.from.result c.index_mut.result.now
+    c.print-taken.new.self c.print-taken.new.line c.self.view_is c.from.ensures c.requires.there c.index_mut.ensures.value
+    c.print-taken.ensures.port c.print-taken.ensures.line
 
 pub returns-clause-taken : goal.returns-clause-taken
 returns-clause-taken g c =
-    c.print.ensures.taken
+    c.print-taken.ensures.taken
     ∙ seen_at port.taken_of None (pad_of c.self.inside) c.args.self.now c.args.terminal c.from.result
     c.index_mut.result.now c.self.view_is c.from.ensures c.requires.there c.index_mut.ensures.value
