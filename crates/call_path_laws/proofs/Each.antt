@@ -1,5 +1,5 @@
 -- What holds of each element of a list.
-use Rattle.std.proofs.Common.{◌≡◌, ℕ, zero, suc, ◌+◌, List, [], ◌∷◌, Some, subst, arith}
+use Rattle.std.proofs.Common.{◌≡◌, ℕ, zero, suc, ◌+◌, Bool, true, false, ◌&&◌, List, [], ◌∷◌, Some, refl, sym, subst, arith, true≢false}
 use Rattle.std.specs.Prelude.{slice_get}
 use Rattle.std.proofs.lemmas.Option.{none-some, same_Some}
 
@@ -20,3 +20,20 @@ pub each : {X : Type 0} (P : ℕ → X → Type 0) (xs : List X) → AllFrom P 0
 each P xs h i x at =
     let same : 0 + i ≡ i = omega arith in
     subst (λ (n : ℕ). P n x) same (each_from P 0 xs h i x at)
+
+-- ---- by a test of each
+
+abbrev pub all_from : {X : Type 0} → (ℕ → X → Bool) → ℕ → List X → Bool
+all_from test first [] = true
+all_from test first (x ∷ xs) = test first x && all_from test (suc first) xs
+
+pub both : (a b : Bool) → (a && b) ≡ true → (a ≡ true) × (b ≡ true)
+both true b h = (refl, h)
+both false b h = absurd (true≢false (sym h))
+
+all_of : {X : Type 0} (test : ℕ → X → Bool) (first : ℕ) (xs : List X) → all_from test first xs ≡ true → AllFrom (λ i x. test i x ≡ true) first xs
+all_of test first [] h = tt
+all_of test first (x ∷ xs) h = let parts = both _ _ h in (parts.0, all_of test (suc first) xs parts.1)
+
+pub tested : {X : Type 0} (test : ℕ → X → Bool) (xs : List X) → all_from test 0 xs ≡ true → (i : ℕ) (x : X) → slice_get xs i ≡ Some x → test i x ≡ true
+tested test xs h = each (λ i x. test i x ≡ true) xs (all_of test 0 xs h)

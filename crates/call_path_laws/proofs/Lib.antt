@@ -13,7 +13,8 @@ pub mod Making
 pub mod Beginning
 pub mod Showing
 mod Each
-mod Opened
+mod Going
+mod Worked
 pub mod Running
 pub mod RunningOpen
 mod Recording
@@ -32,5 +33,6 @@ mod Above
 pub mod Path
 pub mod Hopping
 pub mod TrunkRunning
+mod TrunkWorld
 pub mod TrunkHolding
 pub mod Colliding

@@ -5,6 +5,7 @@ use Rattle.std.proofs.lemmas.Option.{none-some, same_Some}
 use Rattle.link_timers.specs.declared.role.Role.{Role}
 use Rattle.link_timers.specs.declared.role.Role.TheVariants.{Dte, Dce}
 use Rattle.link_timers.specs.Role.{other_of}
+use Rattle.packet_layer.specs.Flow.{modulo_8}
 use Rattle.packet_layer.specs.Packets.{Note}
 use Rattle.packet_layer.specs.Packets.Note.{Incoming, Connected, Closed, WasReset, InterruptConfirmed, Covered}
 use Rattle.packet_layer.specs.Layer.{channel_given}
@@ -93,23 +94,23 @@ calls_of b os h c = record {
 }
 
 pub book_calls : BookCallsLaw
-book_calls line dte_node dce_node channels window standing some small ms allowed =
-    let v : World = start dte_node dce_node channels window standing in
+book_calls line dte_node dce_node channels flow standing some small ms allowed =
+    let v : World = start dte_node dce_node channels flow standing in
     let os : List Origin = traced_by_all line ms v (made_origins line standing) in
-    calls_of (after_all ms v).book os (book_holds dte_node dce_node channels window standing some small ms allowed)
+    calls_of (after_all ms v).book os (book_holds dte_node dce_node channels flow standing some small ms allowed)
     (subst (λ (l : List (Option ℕ)). CallsHold (after_all ms v).book l)
     (sym (by_moves line ms v (made_origins line standing) ∙ ap (λ (l : List (Option ℕ)). all_callers ms v l) (at_making line standing)))
-    (calls_hold dte_node dce_node channels window standing some small ms allowed))
+    (calls_hold dte_node dce_node channels flow standing some small ms allowed))
 
 -- ---- the callers are those of the records
 
 pub recorded_calls : RecordedLaw
-recorded_calls dte_node dce_node channels window standing some small ms allowed own own_recorded =
-    let v : World = start dte_node dce_node channels window standing in
-    calls_of (after_all ms v).book own (book_holds dte_node dce_node channels window standing some small ms allowed)
+recorded_calls dte_node dce_node channels flow standing some small ms allowed own own_recorded =
+    let v : World = start dte_node dce_node channels flow standing in
+    calls_of (after_all ms v).book own (book_holds dte_node dce_node channels flow standing some small ms allowed)
     (subst (λ (l : List (Option ℕ)). CallsHold (after_all ms v).book l)
-    (sym (callers_recorded dte_node dce_node channels window standing some small ms allowed) ∙ sym own_recorded)
-    (calls_hold dte_node dce_node channels window standing some small ms allowed))
+    (sym (callers_recorded dte_node dce_node channels flow standing some small ms allowed) ∙ sym own_recorded)
+    (calls_hold dte_node dce_node channels flow standing some small ms allowed))
 
 -- ---- a call that came in and is not accepted yet
 
@@ -117,4 +118,4 @@ origins_are : traced_by_all 0 incoming made [] ≡ placing 0 Dte ∷ coming 0 Dc
 origins_are = refl
 
 incoming_holds : BookCallsHold (after_all incoming made).book (placing 0 Dte ∷ coming 0 Dce (Some 0) ∷ [])
-incoming_holds = book_calls 0 3 4 1 2 false one_one small incoming incoming_allowed
+incoming_holds = book_calls 0 3 4 1 (modulo_8 2) false one_one small incoming incoming_allowed

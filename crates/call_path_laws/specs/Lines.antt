@@ -1,9 +1,11 @@
 -- The whole register and the books of the lines: where each record of a line's book comes from, in its numbers, and in
 -- those of the whole register.
-use Rattle.std.specs.Prelude.{◌≡◌, ℕ, ◌≤◌, Bool, if◌then◌else◌, List, [], ◌∷◌, length, map, slice_get, set}
+use Rattle.std.specs.Prelude.{◌≡◌, ℕ, ◌<◌, ◌≤◌, Bool, if◌then◌else◌, List, [], ◌∷◌, length, map, slice_get, set}
 use Rattle.std.specs.Prelude.{Option, Some}
 use Rattle.link_timers.specs.declared.role.Role.{Role}
 use Rattle.link_timers.specs.declared.role.Role.TheVariants.{Dte, Dce}
+use Rattle.packet_layer.specs.Flow.{modulus}
+use Rattle.packet_channel.specs.declared.flow.Flow.{Flow}
 use Rattle.packet_layer.specs.Layer.{channel_given, request_refusal, front_on}
 use Rattle.packet_laws.specs.Line.{Line, Event, turned}
 use Rattle.packet_laws.specs.Line.Event.{Calls, Requests}
@@ -118,15 +120,15 @@ made_origins line standing =
 
 -- whatever happens on a line whose sessions come in rising order, its calls hold
 abbrev pub BookCallsLaw : Type 0
-BookCallsLaw = (line dte_node dce_node channels window : ℕ) (standing : Bool) → 1 ≤ channels → window ≤ 7
-    → (ms : List Move) → AreAllowed ms (start dte_node dce_node channels window standing)
-    → BookCallsHold (after_all ms (start dte_node dce_node channels window standing)).book
-    (traced_by_all line ms (start dte_node dce_node channels window standing) (made_origins line standing))
+BookCallsLaw = (line dte_node dce_node channels : ℕ) (flow : Flow) (standing : Bool) → 1 ≤ channels → flow.window < modulus flow.numbering
+    → (ms : List Move) → AreAllowed ms (start dte_node dce_node channels flow standing)
+    → BookCallsHold (after_all ms (start dte_node dce_node channels flow standing)).book
+    (traced_by_all line ms (start dte_node dce_node channels flow standing) (made_origins line standing))
 
 -- and so they hold of any origins with the callers that its records have
 abbrev pub RecordedLaw : Type 0
-RecordedLaw = (dte_node dce_node channels window : ℕ) (standing : Bool) → 1 ≤ channels → window ≤ 7
-    → (ms : List Move) → AreAllowed ms (start dte_node dce_node channels window standing)
+RecordedLaw = (dte_node dce_node channels : ℕ) (flow : Flow) (standing : Bool) → 1 ≤ channels → flow.window < modulus flow.numbering
+    → (ms : List Move) → AreAllowed ms (start dte_node dce_node channels flow standing)
     → (own : List Origin)
-    → AreRecorded own (after_all ms (start dte_node dce_node channels window standing)).book.records
-    → BookCallsHold (after_all ms (start dte_node dce_node channels window standing)).book own
+    → AreRecorded own (after_all ms (start dte_node dce_node channels flow standing)).book.records
+    → BookCallsHold (after_all ms (start dte_node dce_node channels flow standing)).book own

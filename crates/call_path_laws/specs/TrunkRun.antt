@@ -1,18 +1,21 @@
 -- A worked run over a trunk: two hosts, each at a switch of its own, and a line between the two switches. The first
 -- host calls the second one, a message goes over with D = 1 and is confirmed, a reply comes back, the second host resets
--- the call while a message is on the trunk, a reply and a message go over again, and the second host calls back.
+-- the call while a message is on the trunk, and a reply and a message go over again. Both hosts reset the call at once,
+-- while a reply is on its way, and a message goes over. The second host calls back. The first host clears its call, and
+-- calls again on the same channels.
 use Rattle.std.specs.Prelude.{◌≡◌, ◌==◌, if◌then◌else◌, ℕ, zero, suc, Bool, true, false, List, [], ◌∷◌}
 use Rattle.std.specs.Prelude.{Option, Some, None}
 use Rattle.link_timers.specs.declared.role.Role.{Role}
 use Rattle.link_timers.specs.declared.role.Role.TheVariants.{Dte, Dce}
+use Rattle.epochs.specs.Epoch.{SentEpoch}
 use Rattle.packet_layer.specs.Packets.{CallParts, Datum}
-use Rattle.packet_layer.specs.Packets.Note.{Incoming, Connected, WasReset, Covered}
+use Rattle.packet_layer.specs.Packets.Note.{Incoming, Connected, Closed, WasReset, Covered}
 use Rattle.packet_layer.specs.Packets.Reason.{FarEnd}
 use Rattle.packet_layer.specs.Traffic.Taken.{TakenPacket}
 use Rattle.packet_layer.specs.Channel.Request.{Accept, Resetting, Sending, Taking, Releasing}
 use Rattle.call_records.specs.Records.{RecordValue, HopValue, new_record}
 use Rattle.call_records.specs.Book.{packet_of}
-use Rattle.call_records.specs.Writes.Write.{Told, Placed, Asked}
+use Rattle.call_records.specs.Writes.Write.{Told, Placed, Asked, Cleared}
 use Rattle.call_records.specs.Register.{LinePlan}
 use Rattle.book_laws.specs.Rest.{NothingMissing}
 use Rattle.register_laws.specs.Promise.{HasRecords}
@@ -24,7 +27,7 @@ use Rattle.call_path_laws.specs.Forwards.{AllForward}
 use Rattle.call_path_laws.specs.Rest.{HaveHandedAll}
 use Rattle.call_path_laws.specs.Tree.{IsTree}
 use Rattle.call_path_laws.specs.Paths.{ArePaths}
-use Rattle.call_path_laws.specs.Run.{message, reply, one_sent, one_taken, first_callee}
+use Rattle.call_path_laws.specs.Run.{message, reply, one_sent, one_taken, ended}
 
 -- ---- the network: host 1 on line 0 of switch 8, the trunk line 1 from switch 8 (DCE) to switch 9 (DTE), and host 2 on
 -- line 2 of switch 9; a line that is not there is like line 2
@@ -136,6 +139,27 @@ reset lost events =
     ∷ SwitchWrites 0 Dce (Asked None 4 (Resetting 0 0) None ∷ [])
     ∷ Writes 0 Dte (Told (WasReset 4 0 0 FarEnd ∷ []) ∷ []) ∷ events
 
+-- both hosts reset the call at once, the second one while a reply of its own is on its way, which is lost. Each switch
+-- hears the reset of its host and resets the trunk's leg, where the two requests cross: each confirms the other one
+abbrev pub both_reset : (lost : Datum) → List Event → List Event
+both_reset lost events =
+    Writes 0 Dte (Asked None 4 (Resetting 0 0) None ∷ [])
+    ∷ Writes 2 Dte (Asked None 1 (Sending lost) None ∷ Asked None 1 (Resetting 0 0) None ∷ [])
+    ∷ SwitchWrites 0 Dce (Told (WasReset 4 0 0 FarEnd ∷ []) ∷ [])
+    ∷ SwitchWrites 1 Dce (Asked None 1 (Resetting 0 0) None ∷ [])
+    ∷ SwitchWrites 2 Dce (Told (WasReset 1 0 0 FarEnd ∷ []) ∷ [])
+    ∷ SwitchWrites 1 Dte (Asked None 1 (Resetting 0 0) None ∷ []) ∷ events
+
+-- the first host clears the call, and each switch clears its leg onward
+abbrev pub cleared : List Event → List Event
+cleared events =
+    Writes 0 Dte (Cleared None 4 ∷ [])
+    ∷ SwitchWrites 0 Dce (Told (Closed 4 0 0 FarEnd ∷ []) ∷ [])
+    ∷ SwitchWrites 1 Dce (Cleared None 1 ∷ [])
+    ∷ SwitchWrites 1 Dte (Told (Closed 1 0 0 FarEnd ∷ []) ∷ [])
+    ∷ SwitchWrites 2 Dce (Cleared None 1 ∷ [])
+    ∷ Writes 2 Dte (Told (Closed 1 0 0 FarEnd ∷ []) ∷ []) ∷ events
+
 -- ---- the call back: on channel 2 of line 2, and on channel 2 of the trunk and channel 1 of line 0
 
 abbrev pub parts_back : CallParts
@@ -164,12 +188,26 @@ connected_back events =
     ∷ SwitchWrites 2 Dce (Asked None 2 Accept None ∷ [])
     ∷ Writes 2 Dte (Told (Connected 2 ∷ []) ∷ []) ∷ events
 
-abbrev pub back : List Event
-back = placed_back (back_over_trunk (accepted_back (connected_back [])))
+-- ---- all of it
+
+abbrev pub calls_there : List Event → List Event
+calls_there events = placed (over_trunk (accepted (connected events)))
+
+abbrev pub calls_back : List Event → List Event
+calls_back events = placed_back (back_over_trunk (accepted_back (connected_back events)))
+
+-- up to the first reset, between the two, and from the second one on
+abbrev pub until_reset : List Event → List Event
+until_reset events = calls_there (confirmed (message 72) (replied (reply 73) events))
+
+abbrev pub between : List Event → List Event
+between events = reset (message 74) (replied (reply 75) (confirmed (message 76) events))
+
+abbrev pub from_both_resets : List Event → List Event
+from_both_resets events = both_reset (reply 77) (confirmed (message 78) events)
 
 abbrev pub events : List Event
-events = placed (over_trunk (accepted (connected (confirmed (message 72) (replied (reply 73) (reset (message 74)
-    (replied (reply 75) (confirmed (message 76) back))))))))
+events = until_reset (between (from_both_resets (calls_back (cleared (calls_there (confirmed (message 79) []))))))
 
 abbrev pub world : World
 world = after_all events (made_world lines)
@@ -179,19 +217,33 @@ world = after_all events (made_world lines)
 abbrev pub hop : (switch line channel : ℕ) → HopValue
 hop switch line channel = record { switch = switch; line = line; channel = channel }
 
+abbrev pub lost_beside : (said lost : Datum) → SentEpoch
+lost_beside said lost = record { packets = packet_of said ∷ packet_of lost ∷ []; interrupts = []; covered = 1 }
+
 abbrev pub first_caller : RecordValue
-first_caller = record (new_record 0 1 (Some (1 ∷ 0 ∷ [])) (Some (2 ∷ 0 ∷ [])) None) {
+first_caller = record (ended 0 1 (Some (1 ∷ 0 ∷ [])) (Some (2 ∷ 0 ∷ [])) None) {
   path = hop 8 1 1 ∷ hop 9 2 1 ∷ [];
-  sent_before =
-      record { packets = packet_of (message 72) ∷ packet_of (message 74) ∷ []; interrupts = []; covered = 1 } ∷ [];
-  sent = one_sent (message 76);
-  taken_before = one_taken (reply 73) ∷ [];
-  taken = one_taken (reply 75);
+  sent_before = lost_beside (message 72) (message 74) ∷ one_sent (message 76) ∷ [];
+  sent = one_sent (message 78);
+  taken_before = one_taken (reply 73) ∷ one_taken (reply 75) ∷ [];
+}
+
+abbrev pub first_callee : RecordValue
+first_callee = record (ended 1 2 (Some (2 ∷ 0 ∷ [])) (Some (1 ∷ 0 ∷ [])) (Some 0)) {
+  sent_before = one_sent (reply 73) ∷ lost_beside (reply 75) (reply 77) ∷ [];
+  taken_before = one_taken (message 72) ∷ one_taken (message 76) ∷ [];
+  taken = one_taken (message 78);
+}
+
+abbrev pub next_caller : RecordValue
+next_caller = record (new_record 4 1 (Some (1 ∷ 0 ∷ [])) (Some (2 ∷ 0 ∷ [])) None) {
+  path = hop 8 1 1 ∷ hop 9 2 1 ∷ [];
+  sent = one_sent (message 79);
 }
 
 -- the run is allowed, its lines and its joins hold, open records are those that are present, and nothing is missing on
--- a line or at a join; the switches are a tree, and the register has the two calls, each over two hops. The message
--- that was lost on the trunk was sent, and not taken
+-- a line or at a join; the switches are a tree, and the register has the three calls, each over two hops. The message
+-- that was lost on the trunk, and the reply that was lost when both hosts reset the call, were sent, and not taken
 pub record TrunkRunLaw : Type 0 where
   pub addressed : AreAddressed plan
   pub tree : IsTree plan (8 ∷ 9 ∷ [])
@@ -204,8 +256,11 @@ pub record TrunkRunLaw : Type 0 where
   pub missing : NothingMissing world.whole.records world.whole.pairs
   pub handed : HaveHandedAll world
   pub paths : ArePaths plan world
-  pub pairs : world.register.pairs ≡ record { caller = 0; callee = 1 } ∷ record { caller = 2; callee = 3 } ∷ []
+  pub pairs : world.register.pairs
+      ≡ record { caller = 0; callee = 1 } ∷ record { caller = 2; callee = 3 } ∷ record { caller = 4; callee = 5 } ∷ []
   pub records : world.register.records
-      ≡ first_caller ∷ first_callee false
+      ≡ first_caller ∷ first_callee
       ∷ record (new_record 2 2 (Some (2 ∷ 0 ∷ [])) (Some (1 ∷ 0 ∷ [])) None) { path = hop 9 1 2 ∷ hop 8 0 1 ∷ [] }
-      ∷ new_record 3 1 (Some (1 ∷ 0 ∷ [])) (Some (2 ∷ 0 ∷ [])) (Some 2) ∷ []
+      ∷ new_record 3 1 (Some (1 ∷ 0 ∷ [])) (Some (2 ∷ 0 ∷ [])) (Some 2)
+      ∷ next_caller
+      ∷ record (new_record 5 2 (Some (2 ∷ 0 ∷ [])) (Some (1 ∷ 0 ∷ [])) (Some 4)) { taken = one_taken (message 79) } ∷ []

@@ -101,10 +101,11 @@ pub fn tree_law()
     ensures events { PathsLaw }
 {}
 
-/// A run of two hosts with two switches between them and a trunk between the switches, by computation: a call there and
-/// one back, over two joins each, meet what the laws ask for, with a message sent with D = 1 and confirmed from end to
-/// end, and with a reset while a message is on the trunk. The switches are a tree. In a second run two calls collide on
-/// the trunk, and that of its DTE goes on.
+/// A run of two hosts with two switches between them and a trunk between the switches, by computation: two calls there
+/// and one back, over two joins each, meet what the laws ask for. A message sent with D = 1 is confirmed from end to
+/// end, one host resets the call while a message is on the trunk, and both reset it at once. The first call is cleared,
+/// and the third one is on its channels. The switches are a tree. In a second run two calls collide on the trunk, and
+/// that of its DTE goes on.
 pub fn trunk_run_law()
     ensures run { TrunkRunLaw }
     ensures collision { CollisionLaw }
