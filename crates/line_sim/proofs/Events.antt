@@ -18,7 +18,7 @@ use Rattle.net_events.specs.declared.event.Event.TheVariants.{AtTerminal, Call, 
 use Rattle.net_events.specs.declared.event.Event.TheVariants.{Relink}
 use Rattle.net_events.specs.declared.event.Event.TheVariants.{Restart}
 use Rattle.net_events.specs.declared.event.StepFault.{StepFault}
-use Rattle.net_nodes.specs.Steps.{AtNode, DeliverStep, ExpireStep, RestartStep, StepOf, hearer}
+use Rattle.net_nodes.specs.Steps.{AtNode, DeliverStep, ExpireStep, RelinkStep, RestartStep, StepOf, hearer}
 use Rattle.net_nodes.specs.Happening.{Happens}
 use Rattle.switch_network_laws.proofs.UsersAny.{event_any, loss_any, time_any}
 use Rattle.switch_network_laws.proofs.SwitchEvents.{switch_event_holds}
@@ -33,7 +33,7 @@ pub elapsed : (L : LineService) (s : Network) (ticks : ℕ) → IsBetweenEvents 
     → IsBetweenEvents L (all_elapsed ticks s)
 elapsed L s ticks b = record { any = time_any L s ticks b.any; registered = b.registered }
 
--- ---- at a node with users, on a line, and at the switch
+-- ---- at a node with users, on a line, and at a switch
 
 at_end : (L : LineService) (event : NodeEvent) (line : ℕ) (role : Role) (s t : Network) → IsBetweenEvents L s
     → HappenedAt L event line role s t → IsBetweenEvents L t
@@ -66,12 +66,17 @@ delivered L line direction s a t b (inl e) = on_line L line direction s t b e.no
 delivered L line direction s a t b (inr (octets, inl e)) =
     at_end L (Hears octets) line (hearer direction) s t b e.happened
 delivered L line direction s a t b (inr (octets, inr e)) =
-    at_switch L (switch_event.Hears e.heard.own octets) e.place s t b e.heard.does.happened
+    at_switch L (switch_event.Hears e.there.own octets) e.place s t b e.there.does.happened
 
 expired : (L : LineService) (place line : ℕ) (timer : TimerId) (s : Network) (a : Answer) (t : Network)
     → IsBetweenEvents L s → ExpireStep L place line timer s a t → IsBetweenEvents L t
 expired L place line timer s a t b (inl e) = at_node L place (Expires timer) s a t b e
 expired L place line timer s a t b (inr e) = at_switch L (switch_event.Expires e.own timer) place s t b e.does.happened
+
+relinked : (L : LineService) (line : ℕ) (s : Network) (a : Answer) (t : Network) → IsBetweenEvents L s
+    → RelinkStep L line s a t → IsBetweenEvents L t
+relinked L line s a t b (inl e) = at_end L Relinks line Dte s t b e.happened
+relinked L line s a t b (inr e) = at_switch L (switch_event.Relinks e.there.own) e.place s t b e.there.does.happened
 
 began_anew : (L : LineService) (place : ℕ) (s : Network) (a : Answer) (t : Network) → IsBetweenEvents L s
     → RestartStep L place s a t → IsBetweenEvents L t
@@ -87,7 +92,7 @@ stepped L (Take node channel) s a t b d = at_node L node (Takes channel) s a t b
 stepped L (Deliver line direction) s a t b d = delivered L line direction s a t b d
 stepped L (Lose line direction) s a t b d = on_line L line direction s t b d.lost
 stepped L (Expire node line timer) s a t b d = expired L node line timer s a t b d
-stepped L (Relink line) s a t b d = at_end L Relinks line Dte s t b d.happened
+stepped L (Relink line) s a t b d = relinked L line s a t b d
 stepped L (Restart node) s a t b d = began_anew L node s a t b d
 
 pub happens : (L : LineService) (e : Event) (s : Network) (r : Result Answer StepFault) (t : Network)

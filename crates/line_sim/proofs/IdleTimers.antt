@@ -1,9 +1,8 @@
 -- An expiry of a timer that does not run leaves the network as it was.
 use Rattle.std.proofs.Common.{◌≡◌, ℕ, zero, suc, Bool, false, if◌then◌else◌, List, [], ◌∷◌, set, Some, Result, Ok, Err}
 use Rattle.std.proofs.Common.{refl, sym, ap, ◌∙◌, subst, inl, inr}
-use Rattle.std.specs.Prelude.{◌⊎◌, slice_get}
+use Rattle.std.specs.Prelude.{slice_get}
 use Rattle.link_timers.specs.declared.role.Role.{Role}
-use Rattle.link_timers.specs.declared.role.Role.TheVariants.{Dte, Dce}
 use Rattle.link_timers.specs.declared.timers.TimerId.{TimerId}
 use Rattle.packet_layer.proofs.Places.{set_same}
 use Rattle.call_records.specs.Book.{Book}
@@ -22,7 +21,7 @@ use Rattle.net_events.specs.declared.event.Event.{Event}
 use Rattle.net_events.specs.declared.event.Event.TheVariants.{Expire}
 use Rattle.net_events.specs.declared.event.StepFault.{StepFault}
 use Rattle.net_nodes.specs.Quiet.{IsQuiet}
-use Rattle.net_nodes.specs.Places.{EndStands, SwitchStands, IsStanding}
+use Rattle.net_nodes.specs.Places.{EndStands, IsStanding}
 use Rattle.net_nodes.specs.Steps.{ExpireStep}
 use Rattle.net_nodes.specs.Happening.{Happens}
 use Rattle.switch_network_laws.specs.Idle.{IsAsBefore}
@@ -95,12 +94,9 @@ at_node L timer line role s t d quiet idle = record {
 -- it is quiet between events
 quiet_there : (s : Network) → IsStanding s → (line : ℕ) (role : Role) (l : NetLine) (n : PlacedNode)
     → slice_get s.lines line ≡ Some l → slice_get s.nodes (place_at role l) ≡ Some (User n) → IsQuiet n.node
-quiet_there s stands line Dte l n at there =
-    let e = stands.dtes line l at in
-    subst (λ (x : PlacedNode). IsQuiet x.node) (same_user e.node n (sym e.node_there ∙ there)) e.quiet
-quiet_there s stands line Dce l n at there = by (stands.dces line l at)
+quiet_there s stands line role l n at there = by (stands.ends line l role at)
   where
-    by : EndStands s line l Dce ⊎ SwitchStands s line l → IsQuiet n.node
+    by : EndStands s line l role → IsQuiet n.node
     by (inl e) = subst (λ (x : PlacedNode). IsQuiet x.node) (same_user e.node n (sym e.node_there ∙ there)) e.quiet
     by (inr x) = absurd (not_both n x.node (sym there ∙ x.node_there))
 

@@ -4,7 +4,7 @@ use Rattle.std.proofs.Common.{ap, ◌∙◌, arith}
 use Rattle.std.specs.Prelude.{if◌then◌else◌}
 use Rattle.std.proofs.lemmas.List.{length-set, length-map, length-append}
 use Rattle.link_timers.specs.declared.role.Role.{Role}
-use Rattle.link_timers.specs.declared.role.Role.TheVariants.{Dte, Dce}
+use Rattle.link_timers.specs.declared.role.Role.TheVariants.{Dte}
 use Rattle.memory_line.specs.declared.line.Direction.{Direction}
 use Rattle.memory_line.specs.Lines.{LineService}
 use Rattle.call_records.specs.Writes.Write.{Placed}
@@ -14,8 +14,8 @@ use Rattle.call_records.specs.Register.{with_standing_call, with_free_line, with
 use Rattle.call_records.specs.Register.{empty_register}
 use Rattle.switch_joins.specs.declared.channels.NewJoin.{NewJoin}
 use Rattle.net_events.specs.NodeEvents.{NodeEvent}
-use Rattle.net_events.specs.AtSwitch.{SwitchEvent, SwitchHappened, joins_of, all_handed, channel_end}
-use Rattle.net_events.specs.Network.{Network, HappenedAt, LostAt}
+use Rattle.net_events.specs.AtSwitch.{SwitchEvent, SwitchHappened, joins_of, all_handed, far_end, own_end}
+use Rattle.net_events.specs.Network.{Network, HappenedAt, LostAt, own_role}
 use Rattle.net_events.specs.Opening.{NetPlan, IsMade, line_plan}
 
 -- the register has each line
@@ -71,16 +71,16 @@ lost_registered L line d s t r w =
     ap (λ (x : Network). length x.register.lines) w.others ∙ r ∙ sym (length-set s.lines line _)
     ∙ sym (ap (λ (x : Network). length x.lines) w.others)
 
-handed : (lines : List ℕ) (joins : List NewJoin) (g : Register)
-    → length (all_handed lines joins g).lines ≡ length g.lines
-handed lines [] g = refl
-handed lines (j ∷ joins) g =
-    handed lines joins
-    (handed_on (channel_end lines Dte j.came_in) (channel_end lines Dce j.placed) g)
-    ∙ lines_handed (channel_end lines Dte j.came_in) (channel_end lines Dce j.placed) g
+handed : (lines : List ℕ) (roles : ℕ → Role) (joins : List NewJoin) (g : Register)
+    → length (all_handed lines roles joins g).lines ≡ length g.lines
+handed lines roles [] g = refl
+handed lines roles (j ∷ joins) g =
+    handed lines roles joins (handed_on (far_end lines roles j.came_in) (own_end lines roles j.placed) g)
+    ∙ lines_handed (far_end lines roles j.came_in) (own_end lines roles j.placed) g
 
 pub switched_registered : (L : LineService) (event : SwitchEvent) (place : ℕ) (s t : Network) → IsRegistered s
     → SwitchHappened L event place s t → IsRegistered t
 switched_registered L event place s t r h =
-    ap (λ (g : Register). length g.lines) h.register ∙ handed h.node.lines (joins_of event h.node.switch) s.register ∙ r
+    ap (λ (g : Register). length g.lines) h.register
+    ∙ handed h.node.lines (own_role h.node.switch) (joins_of event h.node.switch) s.register ∙ r
     ∙ sym h.lines.count

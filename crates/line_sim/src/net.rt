@@ -26,9 +26,9 @@ use net_plans::plan_of;
 use std::alloc::Global;
 use std::marker::Model;
 
-/// A network of PADs and hosts, each at one end of one line, with at most one switch. A line is between a PAD or a
-/// host, as DTE, and a host or the switch, as DCE. The network may fall into parts. On the line of a PAD to a host a
-/// call may stand, where it is the only line.
+/// A network of PADs and hosts, each at one end of one line, and of at most 16 switches. A line is between a PAD or a
+/// host, as DTE, and a host or a switch, as DCE, or it is a trunk between two switches; the trunks make trees of them.
+/// The network may fall into parts. A line from a PAD to a host may have a standing call if it is the only line.
 #[derive(Drop)]
 pub struct Net<L: Line> {
     nodes: Nodes<L>,
@@ -135,7 +135,7 @@ impl<L: Line> Net<L> {
         self.nodes.elapse(ticks);
     }
 
-    /// The expiry of the first timer that runs with no tick left, of the first node that has one; at the switch on the
+    /// The expiry of the first timer that runs with no tick left, of the first node that has one; at a switch on the
     /// first of its lines that has one.
     pub fn next_due(&self) -> Option<Event>
         ensures { result ≡ net_due self.now }

@@ -1,9 +1,10 @@
--- Which networks are served. A PAD or a host is at one end of one line, a switch, of which
--- there is at most one, at one end of up to 64. A PAD is the DTE of its line, a host the DTE or the DCE, a switch the
--- DCE of each. Networks may fall into parts.
+-- Which networks are served. A PAD or a host is at one end of one line, a switch at one end of up to 64. A PAD is the DTE
+-- of its line, a host the DTE or the DCE. At most 16 nodes are switches: each is the DTE of at most one line, a trunk,
+-- which leads to a switch that comes earlier, and the DCE of its other ones. Networks may fall into parts.
 use Rattle.std.specs.Prelude.{true, false, ℕ, ◌==◌, ◌&&◌, ◌||◌, not, Bool, List, length, string_bytes}
-use Rattle.std.specs.Prelude.{nat_le, nat_eq, is_none, is_ok, slice_get, Option, Some, None, if◌then◌else◌}
-use Rattle.std.specs.List.{list_all, list_any, filter}
+use Rattle.std.specs.Prelude.{nat_le, nat_lt, nat_eq, is_none, is_ok, slice_get, Option, Some, None, unwrap_or}
+use Rattle.std.specs.Prelude.{if◌then◌else◌}
+use Rattle.std.specs.List.{list_all, list_any, filter, position}
 use Rattle.std.specs.Cmp.Lexicographic.{pointwise}
 use Rattle.packet_codec.specs.Address.{address_of}
 use Rattle.x3_params.specs.Values.{fault_of}
@@ -37,6 +38,10 @@ has_end name l = has_dte name l || same_text (string_bytes l.dce) name
 -- exactly one passes
 abbrev pub exactly_one : {A : Type 0} → (A → Bool) → List A → Bool
 exactly_one test xs = length (filter test xs) == 1
+
+-- the place of the first that passes, or 0
+abbrev pub place_of : {A : Type 0} → (A → Bool) → List A → ℕ
+place_of test xs = unwrap_or (position test xs) 0
 
 -- ---- nodes
 
@@ -72,9 +77,13 @@ is_node_served c n =
 
 -- ---- lines
 
--- 1 to 32 channels, a window of 1 to 7, k of 1 to 7 and n2 of 1 to 20
+-- packets are numbered modulo 8 with a window of 1 to 7, or modulo 128 with one of 1 to 32
+abbrev pub is_numbered : LineConfig → Bool
+is_numbered l = ((l.modulo == 8) && is_from 1 7 l.window) || ((l.modulo == 128) && is_from 1 32 l.window)
+
+-- 1 to 32 channels, such numbers, k of 1 to 7 and n2 of 1 to 20
 abbrev pub is_within : LineConfig → Bool
-is_within l = is_from 1 32 l.channels && is_from 1 7 l.window && is_from 1 7 l.k && is_from 1 20 l.n2
+is_within l = is_from 1 32 l.channels && is_numbered l && is_from 1 7 l.k && is_from 1 20 l.n2
 
 abbrev pub is_pad : NodeKind → Bool
 is_pad (node_kind.Pad p) = true
@@ -83,14 +92,6 @@ is_pad _ = false
 abbrev pub is_switch : NodeKind → Bool
 is_switch node_kind.Switch = true
 is_switch _ = false
-
--- the node has users: it is a PAD or a host
-abbrev pub has_users : NodeConfig → Bool
-has_users n = not (is_switch n.kind)
-
--- the node of this name may be the DTE of a line: a PAD or a host
-abbrev pub is_dte_named : List ℕ → NodeConfig → Bool
-is_dte_named name n = is_named name n && has_users n
 
 -- the node of this name may be the DCE of a line: a host or a switch
 abbrev pub is_dce_named : List ℕ → NodeConfig → Bool
@@ -106,21 +107,38 @@ is_switch_named name n = is_named name n && is_switch n.kind
 abbrev pub joins_nodes : List NodeConfig → LineConfig → Bool
 joins_nodes nodes l =
     not (same_text (string_bytes l.dte) (string_bytes l.dce))
-    && list_any (is_dte_named (string_bytes l.dte)) nodes
+    && list_any (is_named (string_bytes l.dte)) nodes
     && list_any (is_dce_named (string_bytes l.dce)) nodes
+
+-- its DTE is a switch
+abbrev pub is_from_switch : List NodeConfig → LineConfig → Bool
+is_from_switch nodes l = list_any (is_switch_named (string_bytes l.dte)) nodes
 
 -- its DCE is a switch
 abbrev pub is_at_switch : List NodeConfig → LineConfig → Bool
 is_at_switch nodes l = list_any (is_switch_named (string_bytes l.dce)) nodes
 
+-- its DCE comes earlier than its DTE
+abbrev pub leads_back : List NodeConfig → LineConfig → Bool
+leads_back nodes l =
+    nat_lt (place_of (is_named (string_bytes l.dce)) nodes) (place_of (is_named (string_bytes l.dte)) nodes)
+
+-- a line from a switch is a trunk to a switch that comes earlier; and no other line has the same DTE
+abbrev pub is_in_tree : Config → LineConfig → Bool
+is_in_tree c l =
+    (not (is_from_switch c.nodes.items l) || (is_at_switch c.nodes.items l && leads_back c.nodes.items l))
+    && exactly_one (has_dte (string_bytes l.dte)) c.lines.items
+
 -- 1 to 15 digits
 abbrev pub is_address : List ℕ → Bool
 is_address text = is_ok (address_of text)
 
--- the address of its DTE, which it has exactly where it is at a switch
+-- the address of its DTE, which it has exactly where it is from a PAD or a host to a switch
 abbrev pub has_own_address : List NodeConfig → LineConfig → Bool
 has_own_address nodes l =
-    if is_at_switch nodes l then is_address (string_bytes l.address) else length (string_bytes l.address) == 0
+    if is_at_switch nodes l && not (is_from_switch nodes l)
+    then is_address (string_bytes l.address)
+    else length (string_bytes l.address) == 0
 
 -- a call may stand on it: it is the one line, from a PAD to a host
 abbrev pub may_stand : Config → LineConfig → Bool
@@ -132,6 +150,7 @@ may_stand c l =
 abbrev pub is_line_served : Config → LineConfig → Bool
 is_line_served c l =
     joins_nodes c.nodes.items l
+    && is_in_tree c l
     && is_within l
     && has_own_address c.nodes.items l
     && (not l.standing || may_stand c l)
@@ -158,10 +177,10 @@ is_route_served c r =
 
 -- ---- networks
 
--- nodes, lines and routes are right, and at most one node is a switch
+-- nodes, lines and routes are right, and at most 16 nodes are switches
 abbrev pub is_served : Config → Bool
 is_served c =
     list_all (is_node_served c) c.nodes.items
     && list_all (is_line_served c) c.lines.items
     && list_all (is_route_served c) c.routes.items
-    && nat_le (length (filter (λ n. is_switch n.kind) c.nodes.items)) 1
+    && nat_le (length (filter (λ n. is_switch n.kind) c.nodes.items)) 16

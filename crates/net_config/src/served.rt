@@ -1,12 +1,13 @@
 //! Which networks are served.
 ghost use Rattle.std.specs.Prelude.{◌≡◌, length, slice_get, string_bytes};
-ghost use Rattle.net_config.specs.Served.{is_from, is_named, has_dte, has_end, is_accepted, is_pad_served};
-ghost use Rattle.net_config.specs.Served.{is_kind_served, most_lines, is_route_of, is_node_served, is_within};
-ghost use Rattle.net_config.specs.Served.{is_pad, is_switch, has_users, is_dte_named, is_dce_named, is_pad_named};
-ghost use Rattle.net_config.specs.Served.{is_switch_named, joins_nodes, is_at_switch, is_address, has_own_address};
-ghost use Rattle.net_config.specs.Served.{may_stand, is_line_served, ends_at, same_route, is_route_served};
-ghost use Rattle.net_config.specs.Served.{is_served};
-ghost use Rattle.std.specs.List.{list_all, list_any, filter};
+ghost use Rattle.net_config.specs.Served.{is_from, is_named, has_dte, has_end, place_of, is_accepted};
+ghost use Rattle.net_config.specs.Served.{is_pad_served, is_kind_served, most_lines, is_route_of, is_node_served};
+ghost use Rattle.net_config.specs.Served.{is_numbered, is_within, is_pad, is_switch, is_dce_named};
+ghost use Rattle.net_config.specs.Served.{is_pad_named, is_switch_named};
+ghost use Rattle.net_config.specs.Served.{joins_nodes, is_from_switch, is_at_switch, leads_back, is_in_tree};
+ghost use Rattle.net_config.specs.Served.{is_address, has_own_address, may_stand, is_line_served, ends_at};
+ghost use Rattle.net_config.specs.Served.{same_route, is_route_served, is_served};
+ghost use Rattle.std.specs.List.{list_all, list_any, filter, position};
 
 use crate::config::{
     Config, LineConfig, NodeConfig, NodeKind, RouteConfig, Setting, TerminalsConfig,
@@ -39,6 +40,19 @@ pub fn has_end(name: &str, line: &LineConfig) -> bool
     ensures { result ≡ has_end name.now line.now }
 {
     has_dte(name, line) || line.dce.as_str() == name
+}
+
+fn find_node(nodes: &[NodeConfig], name: &str) -> Option<usize>
+    ensures { result ≡ position (is_named name.now) nodes.now }
+{
+    nodes.iter().position(|node| is_named(name, node))
+}
+
+/// The place of the node of this name, 0 where there is none.
+pub fn place_of(nodes: &[NodeConfig], name: &str) -> usize
+    ensures { result ≡ place_of (is_named name.now) nodes.now }
+{
+    find_node(nodes, name).unwrap_or(0)
 }
 
 /// Whether the parameter may be set to the value, as it may whatever the others are.
@@ -131,11 +145,19 @@ pub fn is_route_of(name: &str, route: &RouteConfig) -> bool
     route.switch.as_str() == name
 }
 
+/// Whether a line may have its numbering and window.
+fn is_numbered(line: &LineConfig) -> bool
+    ensures { result ≡ is_numbered line.now }
+{
+    (line.modulo == 8 && is_from(1, 7, line.window))
+        || (line.modulo == 128 && is_from(1, 32, line.window))
+}
+
 fn is_within(line: &LineConfig) -> bool
     ensures { result ≡ is_within line.now }
 {
     is_from(1, 32, line.channels)
-        && is_from(1, 7, line.window)
+        && is_numbered(line)
         && is_from(1, 7, line.k)
         && is_from(1, 20, line.n2)
 }
@@ -160,20 +182,11 @@ fn is_switch(kind: &NodeKind) -> bool
     }
 }
 
-/// Whether the node is a PAD or a host.
-fn has_users(node: &NodeConfig) -> bool
-    ensures { result ≡ has_users node.now }
+/// Whether a node has the name.
+fn has_node(nodes: &[NodeConfig], name: &str) -> bool
+    ensures { result ≡ list_any (is_named name.now) nodes.now }
 {
-    !is_switch(&node.kind)
-}
-
-/// Whether a PAD or a host, which may be a DTE, has the name.
-fn has_dte_node(nodes: &[NodeConfig], name: &str) -> bool
-    ensures { result ≡ list_any (is_dte_named name.now) nodes.now }
-{
-    nodes
-        .iter()
-        .any(|node| is_named(name, node) && has_users(node))
+    nodes.iter().any(|node| is_named(name, node))
 }
 
 /// Whether a host or a switch, which may be a DCE, has the name.
@@ -204,7 +217,14 @@ fn has_switch(nodes: &[NodeConfig], name: &str) -> bool
 fn joins_nodes(nodes: &[NodeConfig], line: &LineConfig) -> bool
     ensures { result ≡ joins_nodes nodes.now line.now }
 {
-    !has_dte(&line.dce, line) && has_dte_node(nodes, &line.dte) && has_dce_node(nodes, &line.dce)
+    !has_dte(&line.dce, line) && has_node(nodes, &line.dte) && has_dce_node(nodes, &line.dce)
+}
+
+/// Whether the line's DTE is a switch.
+fn is_from_switch(nodes: &[NodeConfig], line: &LineConfig) -> bool
+    ensures { result ≡ is_from_switch nodes.now line.now }
+{
+    has_switch(nodes, &line.dte)
 }
 
 /// Whether the line's DCE is a switch.
@@ -214,6 +234,29 @@ fn is_at_switch(nodes: &[NodeConfig], line: &LineConfig) -> bool
     has_switch(nodes, &line.dce)
 }
 
+/// Whether the line's DCE comes earlier than its DTE.
+fn leads_back(nodes: &[NodeConfig], line: &LineConfig) -> bool
+    ensures { result ≡ leads_back nodes.now line.now }
+{
+    place_of(nodes, &line.dce) < place_of(nodes, &line.dte)
+}
+
+/// How many lines have the node of this name as their DTE.
+fn count_as_dte(lines: &[LineConfig], name: &str) -> usize
+    ensures { result ≡ length (filter (has_dte name.now) lines.now) }
+{
+    lines.iter().filter(|line| has_dte(name, line)).count()
+}
+
+/// Whether the line is a trunk to a switch that comes earlier, if it is from a switch, and no other line has its DTE.
+fn is_in_tree(config: &Config, line: &LineConfig) -> bool
+    ensures { result ≡ is_in_tree config.now line.now }
+{
+    let nodes = &config.nodes;
+    (!is_from_switch(nodes, line) || (is_at_switch(nodes, line) && leads_back(nodes, line)))
+        && count_as_dte(&config.lines, &line.dte) == 1
+}
+
 /// Whether a text is an address: 1 to 15 digits.
 fn is_address(text: &str) -> bool
     ensures { result ≡ is_address text.now }
@@ -221,11 +264,11 @@ fn is_address(text: &str) -> bool
     Address::read(text.as_bytes()).is_ok()
 }
 
-/// Whether the line has an address where it is at a switch, and else none.
+/// Whether the line has an address where it is from a PAD or a host to a switch, and else none.
 fn has_own_address(nodes: &[NodeConfig], line: &LineConfig) -> bool
     ensures { result ≡ has_own_address nodes.now line.now }
 {
-    if is_at_switch(nodes, line) {
+    if is_at_switch(nodes, line) && !is_from_switch(nodes, line) {
         is_address(&line.address)
     } else {
         line.address.is_empty()
@@ -244,6 +287,7 @@ fn is_line_served(config: &Config, line: &LineConfig) -> bool
     ensures { result ≡ is_line_served config.now line.now }
 {
     joins_nodes(&config.nodes, line)
+        && is_in_tree(config, line)
         && is_within(line)
         && has_own_address(&config.nodes, line)
         && (!line.standing || may_stand(config, line))
@@ -292,16 +336,16 @@ fn count_switches(nodes: &[NodeConfig]) -> usize
     nodes.iter().filter(|node| is_switch(&node.kind)).count()
 }
 
-/// Whether the network is served: PADs and hosts, each at one end of one line, and at most one switch, at the other
-/// ends of up to 64, with its routes; all values in their limits. One that is not is refused as BadConfig where it is
-/// planned.
+/// Whether the network is served: PADs and hosts, each at one end of one line, and up to 16 switches, each with its
+/// routes and at an end of up to 64; trunks between the switches make trees of them; all values in their limits. One
+/// that is not is refused as BadConfig where it is planned.
 pub fn is_served(config: &Config) -> bool
     ensures { result ≡ is_served config.now }
 {
     are_nodes_served(config)
         && are_lines_served(config)
         && are_routes_served(config)
-        && count_switches(&config.nodes) <= 1
+        && count_switches(&config.nodes) <= 16
 }
 
 fn are_nodes_served(config: &Config) -> bool

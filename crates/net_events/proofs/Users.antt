@@ -5,7 +5,8 @@ use Rattle.std.proofs.lemmas.Option.{same_Some}
 use Rattle.link_timers.specs.declared.role.Role.TheVariants.{Dte, Dce}
 use Rattle.packet_end.specs.Params.{AreParams}
 use Rattle.net_events.specs.Network.{PlacedNode, PlacedSwitch, NetNode, User, Switching}
-use Rattle.net_events.specs.Opening.{NewNode, Planned, PlannedUser, PlannedSwitch, NewLine, NetPlan, IsNewDte, IsDcePlan, IsPlan, AreUsers}
+use Rattle.net_events.specs.Opening.{NewNode, Planned, PlannedUser, PlannedSwitch, NewLine, NetPlan, IsNewDte, IsEndPlan}
+use Rattle.net_events.specs.Opening.{IsKindOfLine, IsPlan, AreUsers}
 
 pub record UserLine (nodes : List Planned) (line : ℕ) (l : NewLine) : Type 0 where
   pub dte : NewNode
@@ -24,19 +25,25 @@ pub record UserLine (nodes : List Planned) (line : ℕ) (l : NewLine) : Type 0 w
 pub user_line : (plan : NetPlan) (line : ℕ) (l : NewLine) → IsPlan plan → AreUsers plan.nodes → slice_get plan.lines line ≡ Some l → UserLine plan.nodes line l
 user_line plan line l is users at =
     let p = is.lines line l at in
+    let dte = users l.dte p.dte p.dte_there in
     let dce = users l.dce p.dce p.dce_there in
-    let stands : IsDcePlan line l (PlannedUser dce.0) = subst (λ (x : Planned). IsDcePlan line l x) dce.1 p.dce_stands in
+    let at_dte : IsEndPlan line Dte (PlannedUser dte.0) = subst (IsEndPlan line Dte) dte.1 p.dte_stands in
+    let at_dce : IsEndPlan line Dce (PlannedUser dce.0) = subst (IsEndPlan line Dce) dce.1 p.dce_stands in
+    let from_user : IsKindOfLine l (PlannedUser dte.0) p.dce
+    = subst (λ (x : Planned). IsKindOfLine l x p.dce) dte.1 p.kind in
+    let kind : IsKindOfLine l (PlannedUser dte.0) (PlannedUser dce.0)
+    = subst (IsKindOfLine l (PlannedUser dte.0)) dce.1 from_user in
     record {
-      dte = p.dte;
+      dte = dte.0;
       dce = dce.0;
-      dte_there = p.dte_there;
+      dte_there = p.dte_there ∙ ap Some dte.1;
       dce_there = p.dce_there ∙ ap Some dce.1;
-      dte_line = p.dte_line;
-      dce_line = stands.0;
-      dte_role = p.dte_role;
-      dce_role = stands.1;
-      dte_made = p.dte_made;
-      no_address = stands.2;
+      dte_line = at_dte.0;
+      dce_line = at_dce.0;
+      dte_role = at_dte.1;
+      dce_role = at_dce.1;
+      dte_made = kind.0;
+      no_address = kind.1;
       apart = p.apart;
       params = p.params;
     }

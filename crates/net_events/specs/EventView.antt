@@ -47,4 +47,5 @@ user_event_of (user_event_is.AtHost event) = host_event_of event
 abbrev pub switch_event_of : SwitchEvent → at_switch.SwitchEvent
 switch_event_of (switch_event_is.Hears own octets) = at_switch.Hears own octets.now
 switch_event_of (switch_event_is.Expires own timer) = at_switch.Expires own timer
+switch_event_of (switch_event_is.Relinks own) = at_switch.Relinks own
 switch_event_of switch_event_is.Restarts = at_switch.Restarts

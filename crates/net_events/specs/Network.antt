@@ -1,6 +1,6 @@
 -- A network of nodes and lines: the nodes, each with users and at one line, or a switch at its lines; the lines, each
 -- between two nodes; and the register of the records and pairs of all calls.
-use Rattle.std.specs.Prelude.{◌≡◌, ℕ, ◌⊎◌, List, map, set, length, slice_get, Some}
+use Rattle.std.specs.Prelude.{◌≡◌, ℕ, ◌⊎◌, List, map, set, length, slice_get, Some, unwrap_or}
 use Rattle.link_timers.specs.declared.role.Role.{Role}
 use Rattle.link_timers.specs.declared.role.Role.TheVariants.{Dte, Dce}
 use Rattle.call_records.specs.Register.{Register, book_at, with_book}
@@ -8,6 +8,7 @@ use Rattle.line_nodes.specs.Node.{NodeState, drained, frames_of, node_elapsed}
 use Rattle.line_nodes.specs.Turn.{Turn}
 use Rattle.memory_line.specs.declared.line.Direction.{Direction}
 use Rattle.memory_line.specs.Lines.{Flights, without_first, LineService, ArePut}
+use Rattle.switch_lines.specs.Lines.{role_on}
 use Rattle.switch_lines.specs.Switch.{Switch, elapse}
 use Rattle.net_events.specs.OneLine.{direction_of}
 use Rattle.net_events.specs.NodeEvents.{NodeEvent, IsFor, turn_of, LeftBy}
@@ -49,18 +50,23 @@ pub record StandsAtLine (lines : List NetLine) (place : ℕ) (n : PlacedNode) : 
   pub there : slice_get lines n.line ≡ Some line
   pub at_end : (line.dte ≡ place) ⊎ (line.dce ≡ place)
 
--- the node of this place is the DCE of a line
-pub record IsDceOf (lines : List NetLine) (place line : ℕ) : Type 0 where
+-- the role of a switch on an own line, and that of a DCE on a line that is not there
+abbrev pub own_role : Switch → (own : ℕ) → Role
+own_role s own = unwrap_or (role_on (slice_get s.lines own)) Dce
+
+-- the node of this place is at the end of a role of a line
+pub record IsAtEnd (lines : List NetLine) (place : ℕ) (role : Role) (line : ℕ) : Type 0 where
   pub line_is : NetLine
   pub there : slice_get lines line ≡ Some line_is
-  pub at_end : line_is.dce ≡ place
+  pub at_end : place_at role line_is ≡ place
 
--- the switch of this place has one line of the network for each own line, no line for two, and is the DCE of each
+-- the switch of this place has one line of the network for each own line, no line for two, and is at the end of its
+-- role of each
 pub record StandsAtLines (lines : List NetLine) (place : ℕ) (n : PlacedSwitch) : Type 0 where
   pub count : length n.lines ≡ length n.switch.lines
   pub apart : (own other line : ℕ) → slice_get n.lines own ≡ Some line → slice_get n.lines other ≡ Some line
       → own ≡ other
-  pub each : (own line : ℕ) → slice_get n.lines own ≡ Some line → IsDceOf lines place line
+  pub each : (own line : ℕ) → slice_get n.lines own ≡ Some line → IsAtEnd lines place (own_role n.switch own) line
 
 abbrev pub Stands : (lines : List NetLine) → (place : ℕ) → NetNode → Type 0
 Stands lines place (User n) = StandsAtLine lines place n

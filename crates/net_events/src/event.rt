@@ -52,7 +52,7 @@ pub enum Event {
         line: usize,
         timer: TimerId,
     },
-    /// The DTE gives the link of a line up and sets it up again.
+    /// The DTE of a line, a node with users or a switch, gives the link up and sets it up again.
     Relink {
         line: usize,
     },

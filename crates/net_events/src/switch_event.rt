@@ -8,6 +8,8 @@ pub enum SwitchEvent<'a> {
     Hears(usize, &'a [u8]),
     /// A timer of an own line expires.
     Expires(usize, TimerId),
-    /// The switch begins anew.
+    /// The link of an own line on which the switch is the DTE is given up and set up again.
+    Relinks(usize),
+    /// The switch restarts.
     Restarts,
 }

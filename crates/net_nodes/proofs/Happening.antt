@@ -3,7 +3,7 @@ use Rattle.std.proofs.Common.{◌≡◌, ℕ, ◌<◌, Bool, true, false, List, 
 use Rattle.std.specs.Prelude.{slice_get, ◌⊎◌, if◌then◌else◌, is_some, not, [], ◌∷◌, set, drop, zero, suc}
 use Rattle.std.proofs.lemmas.Option.{same_Some}
 use Rattle.link_timers.specs.declared.role.Role.{Role}
-use Rattle.link_timers.specs.declared.role.Role.TheVariants.{Dte, Dce}
+use Rattle.link_timers.specs.declared.role.Role.TheVariants.{Dte}
 use Rattle.memory_line.specs.declared.line.Direction.{Direction}
 use Rattle.net_turns.specs.Quiet.{IsQuiet}
 use Rattle.line_nodes.specs.Node.{NodeState, Pad, Host, is_pad}
@@ -25,7 +25,7 @@ use Rattle.net_events.specs.declared.node_event.HostEvent.{HostEvent}
 use Rattle.net_events.specs.declared.node_event.UserEvent.{UserEvent}
 use Rattle.net_events.specs.declared.node_event.UserEvent.TheVariants as user_event
 use Rattle.net_nodes.specs.declared.nodes.LineSide.{LineSide}
-use Rattle.net_nodes.specs.Places.{EndStands, IsStanding, IsPlaceOf}
+use Rattle.net_nodes.specs.Places.{UserStands, IsStanding, IsPlaceOf}
 use Rattle.placed_nodes.specs.Node.{is_host, terminals_of, terminals_there}
 use Rattle.net_nodes.specs.Faults.{refused, step_fault, takes_memory, IsLeftToNode, MayWant, at_node, at_host, at_terminal, where_there_is, on_channel, is_channel_at, has_channel}
 use Rattle.net_nodes.specs.Turns.{CanAct, AtEnd, ActsSo, Acts, UserActs}
@@ -45,9 +45,8 @@ registered_at line l s st there = let h = within s.lines line l there in let cou
 
 -- the node with users at an end of a line stands there
 pub user_stands : (line : ℕ) (l : NetLine) (role : Role) (n : PlacedNode) (s : Network) → IsStanding s → slice_get s.lines line ≡ Some l
-    → slice_get s.nodes (place_at role l) ≡ Some (User n) → EndStands s line l role
-user_stands line l Dte n s st there node_there = st.dtes line l there
-user_stands line l Dce n s st there node_there = elim (st.dces line l there) [
+    → slice_get s.nodes (place_at role l) ≡ Some (User n) → UserStands s line l role
+user_stands line l role n s st there node_there = elim (st.ends line l role there) [
   | inl e ↦ e
   | inr e ↦ absurd (not_both n e.node (sym node_there ∙ e.node_there))
 ]
@@ -152,29 +151,26 @@ ask_fault_at place end s p channel event on =
 
 -- ---- lines
 
-pub can_relink : (line : ℕ) (s : Network) → IsStanding s → (l : NetLine) → slice_get s.lines line ≡ Some l → CanAct (record { line = line; role = Dte }) s
-can_relink line s st l there =
-    let e = st.dtes line l there in
-    record {
-      line = l;
-      line_there = there;
-      node = e.node;
-      node_there = e.node_there;
-      quiet = e.quiet;
-      registered = registered_at line l s st there;
-    }
+pub can_relink : (line : ℕ) (s : Network) → IsStanding s → (l : NetLine) → slice_get s.lines line ≡ Some l → UserStands s line l Dte
+    → CanAct (record { line = line; role = Dte }) s
+can_relink line s st l there e = record {
+  line = l;
+  line_there = there;
+  node = e.node;
+  node_there = e.node_there;
+  quiet = e.quiet;
+  registered = registered_at line l s st there;
+}
 
-pub relinked : (L : LineService) (line : ℕ) (s t : Network) (r : Result answered.Answer StepFault) → IsStanding s → (l : NetLine) → slice_get s.lines line ≡ Some l
+pub relinked : (L : LineService) (line : ℕ) (s t : Network) (r : Result answered.Answer StepFault) → (l : NetLine) → slice_get s.lines line ≡ Some l → UserStands s line l Dte
     → Acts L (record { line = line; role = Dte }) Relinks s r t → Happens L (Relink line) s r t
-relinked L line s t r st l there acts =
-    let e = st.dtes line l there in
-    by r (acts l e.node there e.node_there)
+relinked L line s t r l there e acts = by r (acts l e.node there e.node_there)
   where
     none : step_fault (Relink line) s ≡ None
     none = ap (λ o. where_there_is (is_some o)) there
 
     by : (r : Result answered.Answer StepFault) → ActsSo L (record { line = line; role = Dte }) Relinks s r t → Happens L (Relink line) s r t
-    by (Ok a) so = (none, so)
+    by (Ok a) so = (none, inl so)
     by (Err fault) so = (refused_so (Relink line) s None fault none refl (inr (tt, so.0)), so.1)
 
 pub delivered : (L : LineService) (line : ℕ) (d : Direction) (end : LineSide) → end.line ≡ line → end.role ≡ hearer d → (octets : List ℕ) (s : Network) (l : NetLine)

@@ -6,7 +6,7 @@ use Rattle.std.proofs.lemmas.Option.{same_Some, none-some, slice_get-map}
 use Rattle.link_timers.specs.declared.role.Role.{Role}
 use Rattle.link_timers.specs.declared.role.Role.TheVariants.{Dte, Dce}
 use Rattle.net_events.specs.Network.{PlacedNode, NetNode, User, Switching, NetLine, Network, StandsAtLine}
-use Rattle.net_nodes.specs.Places.{IsStanding, IsPlaceOf, EndStands, HearsAt, user_in, user_at}
+use Rattle.net_nodes.specs.Places.{IsStanding, IsPlaceOf, UserStands, HearsAt, user_in, user_at}
 use Rattle.placed_nodes.specs.Node.{user_of}
 use Rattle.placed_nodes.proofs.Lists.{within}
 
@@ -54,10 +54,10 @@ pub user_there : (place : ℕ) (s : Network) (n : PlacedNode) → slice_get s.no
 user_there place s n e = ap user_in e
 
 -- the node with users that hears on a line, whatever the line is called
-pub hears_there : (line : ℕ) (hears role : Role) → role ≡ hears → (s : Network) (l : NetLine) → HearsAt line hears s → slice_get s.lines line ≡ Some l → EndStands s line l role
+pub hears_there : (line : ℕ) (hears role : Role) → role ≡ hears → (s : Network) (l : NetLine) → HearsAt line hears s → slice_get s.lines line ≡ Some l → UserStands s line l role
 hears_there line hears role is s l h there =
-    let P : NetLine → Type 0 = λ x. EndStands s line x hears in
-    let Q : Role → Type 0 = λ r. EndStands s line l r in
+    let P : NetLine → Type 0 = λ x. UserStands s line x hears in
+    let Q : Role → Type 0 = λ r. UserStands s line l r in
     subst Q (sym is) (subst P (same_Some h.line_is l (sym h.line_there ∙ there)) h.stands)
 
 -- a node that has a line of its own is one with users

@@ -1,31 +1,36 @@
 -- What an event at a switch is to the network.
-use Rattle.std.proofs.Common.{◌≡◌, ℕ, Bool, true, false, cond, List, length, set, get_or, Some, Ok, refl, sym, ap, ◌∙◌, subst, inl, inr, arith, true≢false}
-use Rattle.std.specs.Prelude.{slice_get, is_some, Option, None, nat_lt, Result, Err, MatchResult}
+use Rattle.std.proofs.Common.{◌≡◌, ℕ, ◌<◌, Bool, true, false, cond, List, length, set, get_or, Some, Ok, refl, sym, ap, ◌∙◌, subst, inl, inr, arith, true≢false}
+use Rattle.std.specs.Prelude.{slice_get, is_some, unwrap_or, Option, None, nat_lt, Result, Err, MatchResult}
 use Rattle.std.specs.Result.{result_and}
 use Rattle.std.specs.List.{position, position_or_len}
 use Rattle.std.proofs.lemmas.Bool.{eqb-true, eq-eqb, ltb-false}
 use Rattle.std.proofs.lemmas.List.Quantifiers.{position-Some}
 use Rattle.std.proofs.lemmas.List.Sums.{fails_before_first}
 use Rattle.std.proofs.lemmas.Option.{same_Some, slice_get-get_or, get_or_from_slice_get}
-use Rattle.link_timers.specs.declared.role.Role.TheVariants.{Dce}
+use Rattle.link_timers.specs.declared.role.Role.{Role}
+use Rattle.link_timers.specs.declared.role.Role.TheVariants.{Dte, Dce}
 use Rattle.link_timers.specs.declared.timers.TimerId.{TimerId}
-use Rattle.memory_line.specs.declared.line.Direction.TheVariants.{FromDte}
-use Rattle.memory_line.specs.Lines.{Flights, LineService, without_first}
-use Rattle.net_events.specs.AtSwitch.{SwitchEvent, Hears, Expires, Restarts, HasOwnLine, switched, joins_of, switch_drained, all_handed, LinesServed}
-use Rattle.net_events.specs.Network.{PlacedSwitch, NetNode, User, Switching, NetLine, Network, StandsAtLines}
+use Rattle.memory_line.specs.declared.line.Direction.{Direction}
+use Rattle.memory_line.specs.declared.line.Direction.TheVariants.{FromDte, FromDce}
+use Rattle.memory_line.specs.Lines.{Flights, LineService, flying, without_first}
+use Rattle.switch_lines.specs.Lines.{SwitchLine, role_on}
+use Rattle.net_events.specs.OneLine.{direction_to}
+use Rattle.net_events.proofs.Users.{not_both}
+use Rattle.net_events.specs.AtSwitch.{SwitchEvent, Hears, Expires, Relinks, Restarts, HasOwnLine, switched, joins_of, switch_drained, all_handed, LinesServed}
+use Rattle.net_events.specs.Network.{PlacedSwitch, NetNode, User, Switching, NetLine, Network, StandsAtLines, place_at, own_role}
 use Rattle.net_events.specs.declared.answer.Answer.{Answer}
 use Rattle.net_events.specs.declared.answer.Put.{Put}
 use Rattle.switch_laws.specs.Turn.{AreOctets}
-use Rattle.net_nodes.specs.Places.{EndStands, IsStanding, own_line_in, own_line_at, is_switch, is_switch_at}
+use Rattle.net_nodes.specs.Places.{UserStands, IsStanding, IsOwnLine, own_line_in, own_line_at, is_switch, is_switch_at}
 use Rattle.net_plans.specs.Plan.{is_line}
 use Rattle.net_nodes.specs.Faults.{step_fault, where_there_is, stands_at}
 use Rattle.net_nodes.specs.Happening.{Happens}
-use Rattle.net_events.specs.declared.event.Event.TheVariants.{Deliver, Expire, Restart}
-use Rattle.net_nodes.specs.Steps.{AtSwitch}
+use Rattle.net_events.specs.declared.event.Event.TheVariants.{Deliver, Expire, Relink, Restart}
+use Rattle.net_nodes.specs.Steps.{AtSwitch, hearer}
 use Rattle.switch_turns.specs.Switching.{HasRoom, CanPut}
 use Rattle.net_nodes.specs.Switching.{CanSwitch, SwitchActed}
 use Rattle.placed_nodes.proofs.Lists.{within}
-use Rattle.switch_turns.proofs.Switching.{heard_lines, expired_lines, restarted_lines}
+use Rattle.switch_turns.proofs.Switching.{heard_lines, expired_lines, relinked_lines, restarted_lines}
 use Rattle.switch_turns.proofs.Turns.{switch_is}
 
 pub same_switch : (a b : PlacedSwitch) → Some (Switching a) ≡ Some (Switching b) → a ≡ b
@@ -43,10 +48,10 @@ then_so (Err e) q w = absurd w
 -- ---- in the network
 
 -- the switch of a place can be served
-pub can_switch : (event : SwitchEvent) (place : ℕ) (s : Network) (n : PlacedSwitch) (lines : List NetLine) (puts : List Put) (places : ℕ) → IsStanding s → slice_get s.nodes place ≡ Some (Switching n)
-    → length lines ≡ length s.lines → HasOwnLine event (length n.lines) → HasRoom (length n.switch.lines) puts places
+pub can_switch : (place : ℕ) (s : Network) (n : PlacedSwitch) (lines : List NetLine) (puts : List Put) (places : ℕ) → IsStanding s → slice_get s.nodes place ≡ Some (Switching n)
+    → length lines ≡ length s.lines → HasRoom (length n.switch.lines) puts places
     → CanPut n.lines n.switch.lines lines puts places
-can_switch event place s n lines puts places st there count has room =
+can_switch place s n lines puts places st there count room =
     let at : StandsAtLines s.lines place n = st.nodes place (Switching n) there in
     record {
       count = at.count;
@@ -57,7 +62,7 @@ can_switch event place s n lines puts places st there count has room =
 
 -- it was: this is the event
 pub at_switch : (L : LineService) (event : SwitchEvent) (place : ℕ) (n : PlacedSwitch) (s mid : Network) (a : Answer) (t : Network) → slice_get s.nodes place ≡ Some (Switching n)
-    → mid.nodes ≡ s.nodes → mid.register ≡ s.register → HasOwnLine event (length n.lines) → SwitchActed L event place n mid a t → LinesServed L event n s.lines t.lines → AtSwitch L place event s a t
+    → mid.nodes ≡ s.nodes → mid.register ≡ s.register → HasOwnLine event n.switch → SwitchActed L event place n mid a t → LinesServed L event n s.lines t.lines → AtSwitch L place event s a t
 at_switch L event place n s mid a t there same_nodes same_register has w lines = record {
   happened = record {
     node = n;
@@ -65,7 +70,7 @@ at_switch L event place n s mid a t there same_nodes same_register has w lines =
     has_line = has;
     nodes = w.nodes_are ∙ ap (λ xs. set xs place (Switching (record n { switch = switch_drained (switched event n.switch) }))) same_nodes;
     lines = lines;
-    register = w.register_is ∙ ap (all_handed n.lines (joins_of event n.switch)) same_register;
+    register = w.register_is ∙ ap (all_handed n.lines (own_role n.switch) (joins_of event n.switch)) same_register;
   };
   puts = w.puts;
   notes = w.notes;
@@ -101,13 +106,50 @@ own_line_found line place own s is = by (slice_get s.nodes place) refl is
         let found = passes_there (is_line line) n.lines own h in
         (n, there, found.1 ∙ ap Some (eqb-true found.0 line found.2))
 
--- where the DCE of a line has it as no own line, it is a node with users
-pub no_own_line : (line place : ℕ) (l : NetLine) (s : Network) → IsStanding s → slice_get s.lines line ≡ Some l → place ≡ l.dce → own_line_at line place s ≡ None → EndStands s line l Dce
-no_own_line line place l s st there is none = elim (st.dces line l there) [
+-- where the node at an end of a line has it as no own line, it is a node with users
+pub no_own_line : (line place : ℕ) (l : NetLine) (role : Role) (s : Network) → IsStanding s → slice_get s.lines line ≡ Some l → place ≡ place_at role l → own_line_at line place s ≡ None
+    → UserStands s line l role
+no_own_line line place l role s st there is none = elim (st.ends line l role there) [
   | inl e ↦ e
   | inr e ↦ absurd (true≢false (sym (eq-eqb line line refl)
       ∙ passes_not (is_line line) e.node.lines e.own line (sym (ap (own_line_in line) (ap (λ i. slice_get s.nodes i) is ∙ e.node_there)) ∙ none) e.own_line))
 ]
+
+-- and where it has, it is a switch, with the role of that end
+pub own_line_there : (line place own : ℕ) (l : NetLine) (role : Role) (s : Network) → IsStanding s → slice_get s.lines line ≡ Some l → place ≡ place_at role l → own_line_at line place s ≡ Some own
+    → IsOwnLine line place own role s
+own_line_there line place own l role s st there is found =
+    let o = own_line_found line place own s found in
+    elim (st.ends line l role there) [
+      | inl e ↦ absurd (not_both e.node o.0 (sym e.node_there ∙ ap (λ i. slice_get s.nodes i) (sym is) ∙ o.1))
+      | inr e ↦
+          let same : o.0 ≡ e.node = same_switch o.0 e.node (sym o.1 ∙ ap (λ i. slice_get s.nodes i) is ∙ e.node_there) in
+          let at : StandsAtLines s.lines place o.0 = st.nodes place (Switching o.0) o.1 in
+          let one : own ≡ e.own = at.apart own e.own line o.2 (ap (λ (n : PlacedSwitch). slice_get n.lines e.own) same ∙ e.own_line) in
+          record {
+            line_is = l;
+            line_there = there;
+            node = o.0;
+            node_there = o.1;
+            own_line = o.2;
+            role_is = (λ i. own_role (same i).switch (one i)) ∙ e.role_is;
+          }
+    ]
+
+-- the switch has a line of its own for each line of the network
+pub own_within : (place own line : ℕ) (n : PlacedSwitch) (s : Network) → IsStanding s → slice_get s.nodes place ≡ Some (Switching n) → slice_get n.lines own ≡ Some line → own < length n.switch.lines
+own_within place own line n s st there own_line =
+    let at : StandsAtLines s.lines place n = st.nodes place (Switching n) there in
+    let h = within n.lines own line own_line in
+    let count = at.count in
+    omega (arith, h, count)
+
+is_dte : (o : Option SwitchLine) → unwrap_or (role_on o) Dce ≡ Dte → role_on o ≡ Some Dte
+is_dte None e = absurd (cc)
+is_dte (Some l) e = ap Some e
+
+pub own_dte : (own line place : ℕ) (s : Network) (o : IsOwnLine line place own Dte s) → HasOwnLine (Relinks own) o.node.switch
+own_dte own line place s o = is_dte (slice_get o.node.switch.lines own) o.role_is
 
 pub switch_found : (place : ℕ) (s : Network) → is_switch_at place s ≡ true → (n : PlacedSwitch) × (slice_get s.nodes place ≡ Some (Switching n))
 switch_found place s is = by (slice_get s.nodes place) refl is
@@ -123,15 +165,31 @@ no_fault : (line place own : ℕ) (timer : TimerId) (n : PlacedSwitch) (s : Netw
 no_fault line place own timer n s there is =
     ap (λ o. where_there_is (stands_at line o)) there ∙ ap (λ o. where_there_is (is_some o)) (sym (ap (own_line_in line) there) ∙ is)
 
-pub expired : (L : LineService) (place line own : ℕ) (timer : TimerId) (n : PlacedSwitch) (s : Network) (a : Answer) (t : Network) → slice_get s.nodes place ≡ Some (Switching n) → slice_get n.lines own ≡ Some line
-    → own_line_at line place s ≡ Some own → SwitchActed L (Expires own timer) place n s a t → Happens L (Expire place line timer) s (Ok a) t
+pub expired : (L : LineService) (place line own : ℕ) (timer : TimerId) (n : PlacedSwitch) (s : Network) (a : Answer) (t : Network) → IsStanding s → slice_get s.nodes place ≡ Some (Switching n)
+    → slice_get n.lines own ≡ Some line → own_line_at line place s ≡ Some own → SwitchActed L (Expires own timer) place n s a t → Happens L (Expire place line timer) s (Ok a) t
 unfolding at_switch
-expired L place line own timer n s a t there own_line is w = (
+expired L place line own timer n s a t st there own_line is w = (
   no_fault line place own timer n s there is,
   inr (record {
     own = own;
-    does = at_switch L (Expires own timer) place n s s a t there refl refl (within n.lines own line own_line) w (expired_lines L own timer n s.lines t.lines w.lines_put);
+    does = at_switch L (Expires own timer) place n s s a t there refl refl (own_within place own line n s st there own_line) w (expired_lines L own timer n s.lines t.lines w.lines_put);
     own_line = own_line;
+  }),
+)
+
+pub relinked : (L : LineService) (place line own : ℕ) (s : Network) (a : Answer) (t : Network) → (o : IsOwnLine line place own Dte s) → SwitchActed L (Relinks own) place o.node s a t
+    → Happens L (Relink line) s (Ok a) t
+unfolding at_switch
+relinked L place line own s a t o w = (
+  ap (λ o. where_there_is (is_some o)) o.line_there,
+  inr (record {
+    place = place;
+    there = record {
+      own = own;
+      does = at_switch L (Relinks own) place o.node s s a t o.node_there refl refl (own_dte own line place s o) w (relinked_lines L own o.node s.lines t.lines w.lines_put);
+      own_line = o.own_line;
+    };
+    role_is = o.role_is;
   }),
 )
 
@@ -147,26 +205,34 @@ pub can_hear : (event : SwitchEvent) (own : ℕ) (octets : List ℕ) (place : �
     → CanSwitch (Hears own octets) place s puts places → CanSwitch event place s puts places
 can_hear event own octets place s puts places same can = subst (λ (e : SwitchEvent). CanSwitch e place s puts places) (sym same) can
 
-pub heard : (L : LineService) (place line own : ℕ) (octets : List ℕ) (n : PlacedSwitch) (l : NetLine) (f : Flights) (s : Network) (a : Answer) (t : Network) → IsStanding s → slice_get s.nodes place ≡ Some (Switching n)
-    → slice_get n.lines own ≡ Some line → slice_get s.lines line ≡ Some l → (L.faithful → (slice_get l.flights.from_dte 0 ≡ Some octets) × (f ≡ without_first FromDte l.flights))
-    → AreOctets octets → (event : SwitchEvent) → event ≡ Hears own octets → SwitchActed L event place n (record s { lines = set s.lines line (record l { flights = f }) }) a t → Happens L (Deliver line FromDte) s (Ok a) t
+to_hearer : (d : Direction) → direction_to (hearer d) ≡ d
+to_hearer FromDte = refl
+to_hearer FromDce = refl
+
+pub heard : (L : LineService) (place line own : ℕ) (d : Direction) (octets : List ℕ) (l : NetLine) (f : Flights) (s : Network) (a : Answer) (t : Network) → IsStanding s → (o : IsOwnLine line place own (hearer d) s)
+    → slice_get s.lines line ≡ Some l → (L.faithful → (slice_get (flying d l.flights) 0 ≡ Some octets) × (f ≡ without_first d l.flights))
+    → AreOctets octets → (event : SwitchEvent) → event ≡ Hears own octets → SwitchActed L event place o.node (record s { lines = set s.lines line (record l { flights = f }) }) a t
+    → Happens L (Deliver line d) s (Ok a) t
 unfolding at_switch
-heard L place line own octets n l f s a t st there own_line line_there taken are event same w =
-    let at : StandsAtLines s.lines place n = st.nodes place (Switching n) there in
+heard L place line own d octets l f s a t st o line_there taken are event same w =
+    let n : PlacedSwitch = o.node in
+    let at : StandsAtLines s.lines place n = st.nodes place (Switching n) o.node_there in
     let mid : Network = record s { lines = set s.lines line (record l { flights = f }) } in
-    let acted : SwitchActed L (Hears own octets) place n mid a t = subst (λ (e : SwitchEvent). SwitchActed L e place n mid a t) same w in (
+    let acted : SwitchActed L (Hears own octets) place n mid a t = subst (λ (e : SwitchEvent). SwitchActed L e place n mid a t) same w in
+    let WasTaken : Direction → Type 0 = λ x. (slice_get (flying x l.flights) 0 ≡ Some octets) × (f ≡ without_first x l.flights) in
+    let here : direction_to (own_role n.switch own) ≡ d = ap direction_to o.role_is ∙ to_hearer d in (
       ap (λ o. where_there_is (is_some o)) line_there,
       inr (
         octets,
         inr (record {
-          to_dce = refl;
           place = place;
-          heard = record {
+          there = record {
             own = own;
-            does = at_switch L (Hears own octets) place n s mid a t there refl refl (within n.lines own line own_line, are) acted
-                (heard_lines L own line octets n l f s.lines mid.lines t.lines at.apart own_line line_there refl taken acted.lines_put);
-            own_line = own_line;
+            does = at_switch L (Hears own octets) place n s mid a t o.node_there refl refl (own_within place own line n s st o.node_there o.own_line, are) acted
+                (heard_lines L own line octets n l f s.lines mid.lines t.lines at.apart o.own_line line_there refl (λ faithful. subst WasTaken (sym here) (taken faithful)) acted.lines_put);
+            own_line = o.own_line;
           };
+          role_is = o.role_is;
         }),
       ),
     )

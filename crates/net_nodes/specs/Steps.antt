@@ -8,7 +8,7 @@ use Rattle.memory_line.specs.declared.line.Direction.TheVariants.{FromDte, FromD
 use Rattle.memory_line.specs.Lines.{flying, LineService}
 use Rattle.net_events.specs.NodeEvents.{NodeEvent, Hears, Expires, Relinks, Restarts, Calls, Takes}
 use Rattle.net_events.specs.NodeEvents as node_event
-use Rattle.net_events.specs.Network.{Network, place_at, LostAt}
+use Rattle.net_events.specs.Network.{Network, place_at, own_role, LostAt}
 use Rattle.net_events.specs.AtSwitch.{SwitchEvent, SwitchHappened, switched}
 use Rattle.net_events.specs.AtSwitch as switch_event
 use Rattle.net_events.specs.declared.answer.Answer.{Answer}
@@ -59,6 +59,13 @@ pub record OnOwnLine (L : LineService) (place line : ℕ) (event : (own : ℕ) �
   pub does : AtSwitch L place (event own) s a t
   pub own_line : slice_get does.happened.node.lines own ≡ Some line
 
+-- it happened at a switch, on the own line that is this one, with this role there
+pub record AtSwitchEnd (L : LineService) (line : ℕ) (role : Role) (event : (own : ℕ) → SwitchEvent) (s : Network)
+    (a : Answer) (t : Network) : Type 0 where
+  pub place : ℕ
+  pub there : OnOwnLine L place line event s a t
+  pub role_is : own_role there.does.happened.node.switch there.own ≡ role
+
 -- ---- frames in flight
 
 -- the first frame in flight is lost, if there is one, and this is answered
@@ -76,27 +83,27 @@ pub record EmptyDelivery (L : LineService) (line : ℕ) (d : Direction) (s : Net
   pub nothing : LoseStep L line d (Delivered false) s a t
   pub none : L.faithful → slice_get (flying d nothing.lost.line_is.flights) 0 ≡ None
 
--- a switch, which is the DCE, hears the frame
-pub record SwitchHears (L : LineService) (line : ℕ) (d : Direction) (octets : List ℕ) (s : Network) (a : Answer)
-    (t : Network) : Type 0 where
-  pub to_dce : d ≡ FromDte
-  pub place : ℕ
-  pub heard : OnOwnLine L place line (λ own. switch_event.Hears own octets) s a t
-
 -- the node at the other end hears the frame
 abbrev pub IsHeard : LineService → (line : ℕ) → Direction → (octets : List ℕ) → Network → Answer → Network → Type 0
 IsHeard L line d octets s a t =
-    AtEnd L (record { line = line; role = hearer d }) (Hears octets) s a t ⊎ SwitchHears L line d octets s a t
+    AtEnd L (record { line = line; role = hearer d }) (Hears octets) s a t
+    ⊎ AtSwitchEnd L line (hearer d) (λ own. switch_event.Hears own octets) s a t
 
 -- the first frame in flight, if there is one, is given to the node at the other end
 abbrev pub DeliverStep : LineService → (line : ℕ) → Direction → Network → Answer → Network → Type 0
 DeliverStep L line d s a t = EmptyDelivery L line d s a t ⊎ ((octets : List ℕ) × IsHeard L line d octets s a t)
 
--- ---- expiry and restart, at any node
+-- ---- expiry, a link that is given up, and restart, at any node
 
 abbrev pub ExpireStep : LineService → (place line : ℕ) → TimerId → Network → Answer → Network → Type 0
 ExpireStep L place line timer s a t =
     AtNode L place (Expires timer) s a t ⊎ OnOwnLine L place line (λ own. switch_event.Expires own timer) s a t
+
+-- the DTE, a node with users or a switch, gives the link up
+abbrev pub RelinkStep : LineService → (line : ℕ) → Network → Answer → Network → Type 0
+RelinkStep L line s a t =
+    AtEnd L (record { line = line; role = Dte }) Relinks s a t
+    ⊎ AtSwitchEnd L line Dte (λ own. switch_event.Relinks own) s a t
 
 abbrev pub RestartStep : LineService → (place : ℕ) → Network → Answer → Network → Type 0
 RestartStep L place s a t = AtNode L place Restarts s a t ⊎ AtSwitch L place switch_event.Restarts s a t
@@ -111,5 +118,5 @@ StepOf L (Take node channel) s a t = AtNode L node (Takes channel) s a t
 StepOf L (Deliver line direction) s a t = DeliverStep L line direction s a t
 StepOf L (Lose line direction) s a t = LoseStep L line direction Done s a t
 StepOf L (Expire node line timer) s a t = ExpireStep L node line timer s a t
-StepOf L (Relink line) s a t = AtEnd L (record { line = line; role = Dte }) Relinks s a t
+StepOf L (Relink line) s a t = RelinkStep L line s a t
 StepOf L (Restart node) s a t = RestartStep L node s a t

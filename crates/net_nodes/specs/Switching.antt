@@ -1,8 +1,8 @@
 -- What an event at a switch does in the network.
-use Rattle.std.specs.Prelude.{◌≡◌, ℕ, List, [], length, set, slice_get, Some}
+use Rattle.std.specs.Prelude.{◌≡◌, ℕ, List, [], set, slice_get, Some}
 use Rattle.memory_line.specs.Lines.{LineService}
 use Rattle.net_events.specs.AtSwitch.{SwitchEvent, HasOwnLine, switched, joins_of, switch_drained, all_handed}
-use Rattle.net_events.specs.Network.{PlacedSwitch, Switching, Network}
+use Rattle.net_events.specs.Network.{PlacedSwitch, Switching, Network, own_role}
 use Rattle.net_events.specs.declared.answer.Answer.{Answer}
 use Rattle.net_events.specs.declared.answer.Put.{Put}
 use Rattle.switch_turns.specs.Switching.{CanPut, LinesPut, is_anew, all_puts}
@@ -13,16 +13,16 @@ pub record CanSwitch (event : SwitchEvent) (place : ℕ) (s : Network) (puts : L
     (places : ℕ) : Type 0 where
   pub switch : PlacedSwitch
   pub there : slice_get s.nodes place ≡ Some (Switching switch)
-  pub has_line : HasOwnLine event (length switch.lines)
+  pub has_line : HasOwnLine event switch.switch
   pub can_put : CanPut switch.lines switch.switch.lines s.lines puts places
 
--- the switch was served; what its event takes from the lines, frames that go when it begins anew apart, was gone before
+-- the switch was served; what its event takes from the lines, frames that go when it restarts apart, was gone before
 pub record SwitchActed (L : LineService) (event : SwitchEvent) (place : ℕ) (n : PlacedSwitch) (s : Network) (a : Answer)
     (t : Network) : Type 0 where
   pub nodes_are : t.nodes
       ≡ set s.nodes place (Switching (record n { switch = switch_drained (switched event n.switch) }))
   pub lines_put : LinesPut L (is_anew event) n.lines (switched event n.switch) s.lines t.lines
-  pub register_is : t.register ≡ all_handed n.lines (joins_of event n.switch) s.register
+  pub register_is : t.register ≡ all_handed n.lines (own_role n.switch) (joins_of event n.switch) s.register
   pub puts : a.frames.items ≡ all_puts n.lines (switched event n.switch).lines
   pub notes : a.notes.items ≡ []
   pub text : a.text.items ≡ []

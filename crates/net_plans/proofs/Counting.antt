@@ -5,8 +5,7 @@ use Rattle.std.specs.Prelude.{slice_get, unwrap_or}
 use Rattle.std.specs.List.{filter, list_all, list_any, position_or_len, prefix_len}
 use Rattle.std.proofs.lemmas.Option.{none-some, same_Some, slice_get_within}
 use Rattle.std.proofs.lemmas.Bool.{cases_Bool, cond_both, and_parts, eqb-true, lt-ltb}
-use Rattle.net_config.specs.Served.{exactly_one}
-use Rattle.net_plans.specs.Plan.{place_of}
+use Rattle.net_config.specs.Served.{exactly_one, place_of}
 
 -- an element that passes, and its place
 pub record Passes {A : Type 0} (test : A → Bool) (xs : List A) : Type 0 where

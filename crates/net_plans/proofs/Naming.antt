@@ -1,14 +1,18 @@
 -- Names of nodes, and the places that they stand for.
-use Rattle.std.proofs.Common.{◌≡◌, ℕ, ◌≤◌, leb, true, false, ◌&&◌, ◌||◌, not, ◌==◌, List, Some, length, sym, subst, arith, true≢false}
+use Rattle.std.proofs.Common.{◌≡◌, ℕ, ◌≤◌, leb, Bool, true, false, ◌&&◌, ◌||◌, not, ◌==◌, List, Some, length, sym}
+use Rattle.std.proofs.Common.{subst, arith, true≢false, refl, ap, inl, inr}
 use Rattle.std.specs.Prelude.{slice_get, string_bytes, nat_le}
 use Rattle.std.specs.List.{list_all, list_any, filter}
 use Rattle.std.specs.Cmp.Lexicographic.{bytes_decides}
-use Rattle.std.proofs.lemmas.Bool.{and_parts, leb-true, not-true, eq-eqb}
+use Rattle.std.proofs.lemmas.Bool.{and_parts, or_cases, leb-true, not-true, eq-eqb, eqb-true}
+use Rattle.packet_codec.specs.declared.packet.Numbering.TheVariants.{Modulo8, Modulo128}
+use Rattle.packet_layer.specs.Flow.{IsFlow}
 use Rattle.packet_end.specs.Params.{AreParams}
-use Rattle.net_config.specs.Served.{is_from, same_text, is_named, has_end, exactly_one, is_kind_served, most_lines}
-use Rattle.net_config.specs.Served.{is_switch, has_users, is_dte_named, is_dce_named, is_within, joins_nodes, has_own_address}
+use Rattle.net_config.specs.Served.{is_from, same_text, is_named, has_dte, has_end, exactly_one, place_of}
+use Rattle.net_config.specs.Served.{is_kind_served, most_lines, is_switch, is_dce_named, is_numbered, is_within}
+use Rattle.net_config.specs.Served.{joins_nodes, is_from_switch, is_at_switch, leads_back, is_in_tree, has_own_address}
 use Rattle.net_config.specs.Served.{may_stand, is_node_served, is_line_served, is_route_served, is_served}
-use Rattle.net_plans.specs.Plan.{place_of, end_params}
+use Rattle.net_plans.specs.Plan.{numbering_of, flow_of, end_params}
 use Rattle.net_config.specs.declared.config.Config.{Config}
 use Rattle.net_config.specs.declared.config.NodeConfig.{NodeConfig}
 use Rattle.net_config.specs.declared.config.NodeKind.{NodeKind}
@@ -30,6 +34,10 @@ pub from_so : (a b n : ℕ) → is_from a b n ≡ true → IsBetween a b n
 from_so a b n h =
     let parts = and_parts (leb a n) (leb n b) h in
     record { least = leb-true a n parts.0; most = leb-true n b parts.1 }
+
+-- the node has users: it is a PAD or a host
+abbrev pub has_users : NodeConfig → Bool
+has_users n = not (is_switch n.kind)
 
 -- ---- what is asked of a node
 
@@ -81,8 +89,10 @@ node_is_served c n h =
 
 pub record LineIsServed (c : Config) (l : LineConfig) : Type 0 where
   pub apart : same_text (string_bytes l.dte) (string_bytes l.dce) ≡ false
-  pub dte : list_any (is_dte_named (string_bytes l.dte)) c.nodes.items ≡ true
+  pub dte : list_any (is_named (string_bytes l.dte)) c.nodes.items ≡ true
   pub dce : list_any (is_dce_named (string_bytes l.dce)) c.nodes.items ≡ true
+  pub up : (not (is_from_switch c.nodes.items l) || (is_at_switch c.nodes.items l && leads_back c.nodes.items l)) ≡ true
+  pub one_dte : exactly_one (has_dte (string_bytes l.dte)) c.lines.items ≡ true
   pub within : is_within l ≡ true
   pub address : has_own_address c.nodes.items l ≡ true
   pub stands : (not l.standing || may_stand c l) ≡ true
@@ -90,34 +100,55 @@ pub record LineIsServed (c : Config) (l : LineConfig) : Type 0 where
 pub line_is_served : (c : Config) (l : LineConfig) → is_line_served c l ≡ true → LineIsServed c l
 line_is_served c l h =
     let apart = not (same_text (string_bytes l.dte) (string_bytes l.dce)) in
-    let dte = list_any (is_dte_named (string_bytes l.dte)) c.nodes.items in
+    let dte = list_any (is_named (string_bytes l.dte)) c.nodes.items in
     let dce = list_any (is_dce_named (string_bytes l.dce)) c.nodes.items in
+    let up = not (is_from_switch c.nodes.items l) || (is_at_switch c.nodes.items l && leads_back c.nodes.items l) in
+    let tree = is_in_tree c l in
     let own = has_own_address c.nodes.items l in
-    let parts = and_parts (joins_nodes c.nodes.items l && is_within l && own) (not l.standing || may_stand c l) h in
-    let address = and_parts (joins_nodes c.nodes.items l && is_within l) own parts.0 in
-    let within = and_parts (joins_nodes c.nodes.items l) (is_within l) address.0 in
-    let joins = and_parts (apart && dte) dce within.0 in
+    let joined = joins_nodes c.nodes.items l in
+    let parts = and_parts (joined && tree && is_within l && own) (not l.standing || may_stand c l) h in
+    let address = and_parts (joined && tree && is_within l) own parts.0 in
+    let within = and_parts (joined && tree) (is_within l) address.0 in
+    let in_tree = and_parts joined tree within.0 in
+    let joins = and_parts (apart && dte) dce in_tree.0 in
     let ends = and_parts apart dte joins.0 in
+    let ups = and_parts up (exactly_one (has_dte (string_bytes l.dte)) c.lines.items) in_tree.1 in
     record {
       apart = not-true (same_text (string_bytes l.dte) (string_bytes l.dce)) ends.0;
       dte = ends.1;
       dce = joins.1;
+      up = ups.0;
+      one_dte = ups.1;
       within = within.1;
       address = address.1;
       stands = parts.1;
     }
 
+-- such a window is right for the numbering of the line
+numbered_flow : (l : LineConfig) → is_numbered l ≡ true → IsFlow (flow_of l)
+numbered_flow l h =
+    elim (or_cases ((l.modulo == 8) && is_from 1 7 l.window) ((l.modulo == 128) && is_from 1 32 l.window) h) [
+      | inl modulo_8 ↦
+          let parts = and_parts (l.modulo == 8) (is_from 1 7 l.window) modulo_8 in
+          let window = from_so 1 7 l.window parts.1 in
+          let same : numbering_of l.modulo ≡ Modulo8 = ap numbering_of (eqb-true l.modulo 8 parts.0) in
+          record { window_least = window.least; window_most = rw same window.most; size_is = refl }
+      | inr modulo_128 ↦
+          let parts = and_parts (l.modulo == 128) (is_from 1 32 l.window) modulo_128 in
+          let window = from_so 1 32 l.window parts.1 in
+          let same : numbering_of l.modulo ≡ Modulo128 = ap numbering_of (eqb-true l.modulo 128 parts.0) in
+          record { window_least = window.least; window_most = rw same window.most; size_is = refl }
+    ]
+
 pub within_params : (l : LineConfig) → is_within l ≡ true → AreParams (end_params l)
 within_params l h =
     let channels = is_from 1 32 l.channels in
-    let window = is_from 1 7 l.window in
     let k = is_from 1 7 l.k in
     let n2 = is_from 1 20 l.n2 in
-    let to_n2 = and_parts (channels && window && k) n2 h in
-    let to_k = and_parts (channels && window) k to_n2.0 in
-    let to_window = and_parts channels window to_k.0 in
-    let channels_is = from_so 1 32 l.channels to_window.0 in
-    let window_is = from_so 1 7 l.window to_window.1 in
+    let to_n2 = and_parts (channels && is_numbered l && k) n2 h in
+    let to_k = and_parts (channels && is_numbered l) k to_n2.0 in
+    let to_numbers = and_parts channels (is_numbered l) to_k.0 in
+    let channels_is = from_so 1 32 l.channels to_numbers.0 in
     let k_is = from_so 1 7 l.k to_k.1 in
     let n2_is = from_so 1 20 l.n2 to_n2.1 in
     record {
@@ -125,8 +156,7 @@ within_params l h =
       layer = record {
         channels_least = channels_is.least;
         channels_most = channels_is.most;
-        window_least = window_is.least;
-        window_most = window_is.most;
+        flow_is = numbered_flow l to_numbers.1;
       };
     }
 
@@ -136,14 +166,14 @@ within_params l h =
 record PartsAreServed (c : Config) : Type 0 where
   pub nodes : list_all (is_node_served c) c.nodes.items ≡ true
   pub lines : list_all (is_line_served c) c.lines.items ≡ true
-  pub switches : nat_le (length (filter (λ n. is_switch n.kind) c.nodes.items)) 1 ≡ true
+  pub switches : nat_le (length (filter (λ n. is_switch n.kind) c.nodes.items)) 16 ≡ true
 
 parts_are_served : (c : Config) → is_served c ≡ true → PartsAreServed c
 parts_are_served c h =
     let nodes = list_all (is_node_served c) c.nodes.items in
     let lines = list_all (is_line_served c) c.lines.items in
     let routes = list_all (is_route_served c) c.routes.items in
-    let all = and_parts (nodes && lines && routes) (nat_le (length (filter (λ n. is_switch n.kind) c.nodes.items)) 1) h in
+    let all = and_parts (nodes && lines && routes) (nat_le (length (filter (λ n. is_switch n.kind) c.nodes.items)) 16) h in
     let ends = and_parts nodes lines (and_parts (nodes && lines) routes all.0).0 in
     record { nodes = ends.0; lines = ends.1; switches = all.1 }
 
@@ -157,8 +187,8 @@ pub served_line : (c : Config) → is_served c ≡ true → (i : ℕ) (l : LineC
 served_line c h i l e =
     line_is_served c l (all_at (is_line_served c) c.lines.items i l (parts_are_served c h).lines e)
 
-pub one_switch : (c : Config) → is_served c ≡ true → length (filter (λ n. is_switch n.kind) c.nodes.items) ≤ 1
-one_switch c h = leb-true (length (filter (λ n. is_switch n.kind) c.nodes.items)) 1 (parts_are_served c h).switches
+pub few_switches : (c : Config) → is_served c ≡ true → length (filter (λ n. is_switch n.kind) c.nodes.items) ≤ 16
+few_switches c h = leb-true (length (filter (λ n. is_switch n.kind) c.nodes.items)) 16 (parts_are_served c h).switches
 
 -- ---- places
 

@@ -4,18 +4,20 @@ use Rattle.std.proofs.lemmas.List.{length-map}
 use Rattle.std.specs.Prelude.{slice_get, option_map, string_bytes, nat_le, nat_lt, is_ok}
 use Rattle.std.specs.List.{list_any, filter}
 use Rattle.std.proofs.lemmas.Option.{none-some, same_Some, slice_get-map}
-use Rattle.std.proofs.lemmas.Bool.{cases_Bool, ltb-false, eqb-true, and_parts, or_cases, or_left, or_right, false_from_ne_true}
+use Rattle.std.proofs.lemmas.Bool.{cases_Bool, ltb-true, ltb-false, eqb-true, and_parts, or_cases, or_left, or_right, false_from_ne_true}
 use Rattle.std.proofs.lemmas.Map.Keys.{any_passes_from_place}
+use Rattle.link_timers.specs.declared.role.Role.{Role}
 use Rattle.link_timers.specs.declared.role.Role.TheVariants.{Dte, Dce}
 use Rattle.packet_codec.specs.Address.{AreDigits, address_of, are_digits, digit_values}
 use Rattle.packet_codec.specs.declared.address.AddressFault.TheVariants.{Empty, TooLong, NotADigit}
 use Rattle.packet_codec.proofs.Addresses.{AreDigits-digit_values}
-use Rattle.net_events.specs.Opening.{NewDte, NewPad, NewHost, NewSwitch, Planned, PlannedUser, PlannedSwitch, NewLine}
-use Rattle.net_events.specs.Opening.{IsNewDte, IsDcePlan, IsLinePlan, IsUserPlan, HasDceAt, IsSwitchPlan, IsNodePlan}
-use Rattle.net_config.specs.Served.{same_text, is_named, has_dte, has_end, is_switch, has_users, is_pad, is_dte_named}
-use Rattle.net_config.specs.Served.{is_dce_named, is_switch_named, is_pad_named, is_at_switch, is_address, may_stand}
-use Rattle.net_config.specs.Served.{is_served, is_from, is_kind_served}
-use Rattle.net_plans.specs.Plan.{place_of, role_of, initial_params, new_user, lines_from, new_switch, planned_as, planned_node}
+use Rattle.net_events.specs.Opening.{NewDte, NewPad, NewHost, Planned, PlannedUser, PlannedSwitch, NewLine}
+use Rattle.net_events.specs.Opening.{IsNewDte, IsEndPlan, IsKindOfLine, IsLinePlan, HasEndAt, IsSwitchPlan, IsNodePlan}
+use Rattle.net_events.specs.Opening.{switch_places}
+use Rattle.net_config.specs.Served.{same_text, is_named, has_dte, has_end, place_of, is_switch, is_pad}
+use Rattle.net_config.specs.Served.{is_dce_named, is_switch_named, is_pad_named, is_from_switch, is_at_switch}
+use Rattle.net_config.specs.Served.{leads_back, is_address, may_stand, is_served, is_from, is_kind_served}
+use Rattle.net_plans.specs.Plan.{role_of, initial_params, new_user, lines_from, new_switch, planned_as, planned_node}
 use Rattle.net_plans.specs.Plan.{digits_in, new_line, plan_of, StandsAlone, PlanLaw}
 use Rattle.net_config.specs.declared.config.Config.{Config}
 use Rattle.net_config.specs.declared.config.NodeConfig.{NodeConfig}
@@ -24,8 +26,8 @@ use Rattle.net_config.specs.declared.config.NodeKind.TheVariants as node_kind
 use Rattle.net_config.specs.declared.config.TerminalsConfig.{TerminalsConfig}
 use Rattle.net_config.specs.declared.config.LineConfig.{LineConfig}
 use Rattle.net_plans.proofs.Counting.{any_there, one_there, place_is, same_place}
-use Rattle.net_plans.proofs.Naming.{same_so, so_same, LineIsServed, within_params, served_node, served_line, one_line}
-use Rattle.net_plans.proofs.Naming.{some_lines, one_switch, from_so, node_place, line_place}
+use Rattle.net_plans.proofs.Naming.{same_so, so_same, has_users, LineIsServed, within_params, served_node, served_line}
+use Rattle.net_plans.proofs.Naming.{one_line, some_lines, few_switches, from_so, node_place, line_place}
 use Rattle.net_plans.proofs.Own.{Ends, line_ends, lines_count, lines_apart, line_found}
 
 -- ---- elements of a list that was mapped
@@ -76,28 +78,21 @@ switch_as c name (node_kind.Pad p) h = absurd (true≢false (sym h))
 switch_as c name node_kind.Host h = absurd (true≢false (sym h))
 switch_as c name node_kind.Switch h = refl
 
-IsUser : Planned → Type 0
-IsUser (PlannedUser n) = Unit {0}
-IsUser (PlannedSwitch n) = ⊥
+-- ---- how many are planned as switches
 
-user_no_switch : (n : NewSwitch) (p : Planned) → IsUser p → p ≡ PlannedSwitch n → ⊥
-unfolding IsUser
-user_no_switch n p user e = subst IsUser e user
+counted : (c : Config) (name : List ℕ) (k : NodeKind) (first : ℕ) (nodes : List Planned) (n : NodeConfig)
+    (kept : List NodeConfig) → length (switch_places (suc first) nodes) ≡ length kept
+    → length (switch_places first (planned_as c name k ∷ nodes)) ≡ length (cond (is_switch k) (n ∷ kept) kept)
+counted c name (node_kind.Pad p) first nodes n kept h = h
+counted c name node_kind.Host first nodes n kept h = h
+counted c name node_kind.Switch first nodes n kept h = ap suc h
 
-users_stay : (c : Config) (name : List ℕ) (k : NodeKind) → not (is_switch k) ≡ true → IsUser (planned_as c name k)
-unfolding IsUser
-users_stay c name (node_kind.Pad p) users = tt
-users_stay c name node_kind.Host users = tt
-users_stay c name node_kind.Switch users = absurd (true≢false (sym users))
-
--- nothing else is planned as one
-as_switch : (c : Config) (name : List ℕ) (k : NodeKind) (n : NewSwitch) → planned_as c name k ≡ PlannedSwitch n
-    → is_switch k ≡ true
-as_switch c name (node_kind.Pad p) n e =
-    absurd (user_no_switch n (planned_as c name (node_kind.Pad p)) (users_stay c name (node_kind.Pad p) refl) e)
-as_switch c name node_kind.Host n e =
-    absurd (user_no_switch n (planned_as c name node_kind.Host) (users_stay c name node_kind.Host refl) e)
-as_switch c name node_kind.Switch n e = refl
+switches_counted : (c : Config) (first : ℕ) (nodes : List NodeConfig)
+    → length (switch_places first (map (planned_node c) nodes)) ≡ length (filter (λ n. is_switch n.kind) nodes)
+switches_counted c first [] = refl
+switches_counted c first (n ∷ nodes) =
+    counted c (string_bytes n.name) n.kind first (map (planned_node c) nodes) n (filter (λ m. is_switch m.kind) nodes)
+    (switches_counted c (suc first) nodes)
 
 -- ---- a line and the nodes at its ends
 
@@ -108,22 +103,14 @@ pub record NodeOf (c : Config) (name : List ℕ) : Type 0 where
   pub there : slice_get c.nodes.items place ≡ Some node
   pub name_is : string_bytes node.name ≡ name
 
-pub record DteOf (c : Config) (l : LineConfig) : Type 0 where
-  pub of : NodeOf c (string_bytes l.dte)
-  pub users : has_users of.node ≡ true
-
-dte_of : (c : Config) (l : LineConfig) → LineIsServed c l → DteOf c l
+dte_of : (c : Config) (l : LineConfig) → LineIsServed c l → NodeOf c (string_bytes l.dte)
 dte_of c l h =
-    let p = any_there (is_dte_named (string_bytes l.dte)) c.nodes.items h.dte in
-    let named = and_parts (is_named (string_bytes l.dte) p.item) (has_users p.item) p.passes in
+    let p = any_there (is_named (string_bytes l.dte)) c.nodes.items h.dte in
     record {
-      of = record {
-        place = p.place;
-        node = p.item;
-        there = p.there;
-        name_is = same_so (string_bytes p.item.name) (string_bytes l.dte) named.0;
-      };
-      users = named.1;
+      place = p.place;
+      node = p.item;
+      there = p.there;
+      name_is = same_so (string_bytes p.item.name) (string_bytes l.dte) p.passes;
     }
 
 dce_of : (c : Config) (l : LineConfig) → LineIsServed c l → NodeOf c (string_bytes l.dce)
@@ -206,13 +193,12 @@ ends_apart c served l h dte dce e =
     = sym dte.name_is ∙ ap (λ n. string_bytes n.name) node ∙ dce.name_is in
     true≢false (sym (so_same (string_bytes l.dte) (string_bytes l.dce) name) ∙ h.apart)
 
--- ---- the address of a line
+-- ---- lines of switches
 
--- a line is at a switch exactly where its DCE is one
-at_switch : (c : Config) (l : LineConfig) (d : NodeOf c (string_bytes l.dce)) → is_switch d.node.kind ≡ true
-    → is_at_switch c.nodes.items l ≡ true
-at_switch c l d h =
-    let name = string_bytes l.dce in
+-- a switch has the name exactly where the node of the name is one
+switch_named : (c : Config) (name : List ℕ) (d : NodeOf c name) → is_switch d.node.kind ≡ true
+    → list_any (is_switch_named name) c.nodes.items ≡ true
+switch_named c name d h =
     any_passes_from_place (is_switch_named name) c.nodes.items d.place d.node d.there
     (and_true (is_named name d.node) (is_switch d.node.kind) (so_same (string_bytes d.node.name) name d.name_is) h)
   where
@@ -220,12 +206,11 @@ at_switch c l d h =
     and_true true b e h = h
     and_true false b e h = absurd (true≢false (sym e))
 
-not_at_switch : (c : Config) → is_served c ≡ true → (l : LineConfig) (d : NodeOf c (string_bytes l.dce))
-    → has_users d.node ≡ true → is_at_switch c.nodes.items l ≡ false
-not_at_switch c served l d users =
-    false_from_ne_true (is_at_switch c.nodes.items l) (λ at.
-    let name = string_bytes l.dce in
-    let p = any_there (is_switch_named name) c.nodes.items at in
+no_switch_named : (c : Config) → is_served c ≡ true → (name : List ℕ) (d : NodeOf c name)
+    → is_switch d.node.kind ≡ false → list_any (is_switch_named name) c.nodes.items ≡ false
+no_switch_named c served name d users =
+    false_from_ne_true (list_any (is_switch_named name) c.nodes.items) (λ any.
+    let p = any_there (is_switch_named name) c.nodes.items any in
     let parts = and_parts (is_named name p.item) (is_switch p.item.kind) p.passes in
     let other : NodeOf c name = record {
       place = p.place;
@@ -233,12 +218,29 @@ not_at_switch c served l d users =
       there = p.there;
       name_is = same_so (string_bytes p.item.name) name parts.0;
     } in
-    true≢false (sym parts.1 ∙ ap (λ (n : NodeConfig). is_switch n.kind) (same_node c served name other d)
-    ∙ not_true_is (is_switch d.node.kind) users))
-  where
-    not_true_is : (b : Bool) → not b ≡ true → b ≡ false
-    not_true_is true e = absurd (true≢false (sym e))
-    not_true_is false e = refl
+    true≢false (sym parts.1 ∙ ap (λ (n : NodeConfig). is_switch n.kind) (same_node c served name other d) ∙ users))
+
+-- a line from a switch is at a switch, which stands earlier
+up_from : (from at back : Bool) → (not from || (at && back)) ≡ true → from ≡ true → (at && back) ≡ true
+up_from true at back h e = h
+up_from false at back h e = absurd (true≢false (sym e))
+
+-- ---- the address of a line
+
+-- it has the first of two where it is from a node with users to a switch, and else the second
+to_switch : (at from own none : Bool) → cond (at && not from) own none ≡ true → at ≡ true → from ≡ false → own ≡ true
+to_switch true true own none h e f = absurd (true≢false f)
+to_switch true false own none h e f = h
+to_switch false from own none h e f = absurd (true≢false (sym e))
+
+from_switch : (at from own none : Bool) → cond (at && not from) own none ≡ true → from ≡ true → none ≡ true
+from_switch true true own none h e = h
+from_switch false true own none h e = h
+from_switch at false own none h e = absurd (true≢false (sym e))
+
+to_user : (at from own none : Bool) → cond (at && not from) own none ≡ true → at ≡ false → none ≡ true
+to_user true from own none h e = absurd (true≢false e)
+to_user false from own none h e = h
 
 -- a text of 1 to 15 digits names these
 pub record Tested (none long digits : Bool) : Type 0 where
@@ -282,54 +284,114 @@ not_standing true at one pad h e =
 
 -- ---- lines
 
-dce_stands : (c : Config) → is_served c ≡ true → (j : ℕ) (l : LineConfig) → slice_get c.lines.items j ≡ Some l
-    → LineIsServed c l → (d : NodeOf c (string_bytes l.dce))
-    → IsDcePlan j (new_line c.nodes.items l) (planned_node c d.node)
-dce_stands c served j l there h d = elim (cases_Bool (is_switch d.node.kind)) [ inl q ↦ at_one q | inr q ↦ at_user q ]
+-- the node of an end of a line stands there
+end_stands : (c : Config) → is_served c ≡ true → (j : ℕ) (l : LineConfig) → slice_get c.lines.items j ≡ Some l
+    → (name : List ℕ) (d : NodeOf c name) → has_end (string_bytes d.node.name) l ≡ true → (role : Role)
+    → (has_users d.node ≡ true → role_of c.lines.items (string_bytes d.node.name) ≡ role)
+    → IsEndPlan j role (planned_node c d.node)
+end_stands c served j l there name d ends role role_is =
+    elim (cases_Bool (is_switch d.node.kind)) [ inl q ↦ at_one q | inr q ↦ at_user q ]
   where
-    at_one : is_switch d.node.kind ≡ true → IsDcePlan j (new_line c.nodes.items l) (planned_node c d.node)
+    at_one : is_switch d.node.kind ≡ true → IsEndPlan j role (planned_node c d.node)
     at_one q =
-        let name = string_bytes d.node.name in
-        let at = at_switch c l d q in
-        let f = line_found 0 name c.lines.items j l there (dce_ends l name d.name_is) in
+        let f = line_found 0 (string_bytes d.node.name) c.lines.items j l there ends in
         let zero_more : 0 + j ≡ j = omega arith in
-        let address = subst (λ b. cond b (is_address (string_bytes l.address)) (length (string_bytes l.address) == 0) ≡ true) at h.address in
-        let standing = not_standing l.standing (is_at_switch c.nodes.items l) (length c.lines.items == 1)
-        (list_any (is_pad_named (string_bytes l.dte)) c.nodes.items) h.stands at in
-        subst (IsDcePlan j (new_line c.nodes.items l)) (sym (switch_as c name d.node.kind q))
-        ((f.own, f.there ∙ ap (λ n. Some n) zero_more), is_digits (string_bytes l.address) address, standing)
+        subst (IsEndPlan j role) (sym (switch_as c (string_bytes d.node.name) d.node.kind q))
+        (f.own, f.there ∙ ap (λ n. Some n) zero_more)
 
-    at_user : is_switch d.node.kind ≡ false → IsDcePlan j (new_line c.nodes.items l) (planned_node c d.node)
+    at_user : is_switch d.node.kind ≡ false → IsEndPlan j role (planned_node c d.node)
     at_user q =
-        let name = string_bytes d.node.name in
         let users : has_users d.node ≡ true = ap not q in
-        let u = user_as c name d.node.kind users (served_node c served d.place d.node d.there).kind in
-        let at = not_at_switch c served l d users in
-        let address = subst (λ b. cond b (is_address (string_bytes l.address)) (length (string_bytes l.address) == 0) ≡ true) at h.address in
-        subst (IsDcePlan j (new_line c.nodes.items l)) (sym u.as_user) (
-          line_place c served d.place d.node d.there users j l there (dce_ends l name d.name_is),
-          dce_role c served j l there h d users,
-          no_digits (string_bytes l.address) address,
-        )
+        let kind = (served_node c served d.place d.node d.there).kind in
+        let u = user_as c (string_bytes d.node.name) d.node.kind users kind in
+        subst (IsEndPlan j role) (sym u.as_user)
+        (line_place c served d.place d.node d.there users j l there ends, role_is users)
+
+-- what kind of line it is
+line_kind : (c : Config) → is_served c ≡ true → (l : LineConfig) → LineIsServed c l
+    → (d : NodeOf c (string_bytes l.dte)) (e : NodeOf c (string_bytes l.dce))
+    → IsKindOfLine (new_line c.nodes.items l) (planned_node c d.node) (planned_node c e.node)
+line_kind c served l h d e = elim (cases_Bool (is_switch d.node.kind)) [
+  | inl q ↦ trunk q
+  | inr q ↦ elim (cases_Bool (is_switch e.node.kind)) [ inl w ↦ user_line q w | inr w ↦ between_users q w ]
+]
+  where
+    standing : is_at_switch c.nodes.items l ≡ true → l.standing ≡ false
+    standing is =
+        not_standing l.standing (is_at_switch c.nodes.items l) (length c.lines.items == 1)
+        (list_any (is_pad_named (string_bytes l.dte)) c.nodes.items) h.stands is
+
+    as_dte : is_switch d.node.kind ≡ false → UserAs c (string_bytes d.node.name) d.node.kind
+    as_dte q =
+        user_as c (string_bytes d.node.name) d.node.kind (ap not q) (served_node c served d.place d.node d.there).kind
+
+    trunk : is_switch d.node.kind ≡ true → IsKindOfLine (new_line c.nodes.items l) (planned_node c d.node) (planned_node c e.node)
+    trunk q =
+        let n = new_line c.nodes.items l in
+        let text = string_bytes l.address in
+        let from = is_from_switch c.nodes.items l in
+        let at = is_at_switch c.nodes.items l in
+        let is_from = switch_named c (string_bytes l.dte) d q in
+        let back = leads_back c.nodes.items l in
+        let up = and_parts at back (up_from from at back h.up is_from) in
+        let dce : is_switch e.node.kind ≡ true = elim (cases_Bool (is_switch e.node.kind)) [
+          | inl w ↦ w
+          | inr w ↦ absurd (true≢false (sym up.0 ∙ no_switch_named c served (string_bytes l.dce) e w))
+        ] in
+        let address = from_switch at from (is_address text) (length text == 0) h.address is_from in
+        let one : IsKindOfLine n (PlannedSwitch (new_switch c (string_bytes d.node.name))) (PlannedSwitch (new_switch c (string_bytes e.node.name)))
+        = (no_digits text address, ltb-true n.dce n.dte up.1, standing up.0) in
+        let other = subst (IsKindOfLine n (PlannedSwitch (new_switch c (string_bytes d.node.name)))) (sym (switch_as c (string_bytes e.node.name) e.node.kind dce)) one in
+        subst (λ (x : Planned). IsKindOfLine n x (planned_node c e.node)) (sym (switch_as c (string_bytes d.node.name) d.node.kind q)) other
+
+    user_line : is_switch d.node.kind ≡ false → is_switch e.node.kind ≡ true
+        → IsKindOfLine (new_line c.nodes.items l) (planned_node c d.node) (planned_node c e.node)
+    user_line q w =
+        let n = new_line c.nodes.items l in
+        let text = string_bytes l.address in
+        let from = is_from_switch c.nodes.items l in
+        let at = is_at_switch c.nodes.items l in
+        let is_at = switch_named c (string_bytes l.dce) e w in
+        let u = as_dte q in
+        let address = to_switch at from (is_address text) (length text == 0) h.address is_at (no_switch_named c served (string_bytes l.dte) d q) in
+        let one : IsKindOfLine n (PlannedUser (new_user c.lines.items (string_bytes d.node.name) u.dte)) (PlannedSwitch (new_switch c (string_bytes e.node.name)))
+        = (u.made, is_digits text address, standing is_at) in
+        let other = subst (IsKindOfLine n (PlannedUser (new_user c.lines.items (string_bytes d.node.name) u.dte))) (sym (switch_as c (string_bytes e.node.name) e.node.kind w)) one in
+        subst (λ (x : Planned). IsKindOfLine n x (planned_node c e.node)) (sym u.as_user) other
+
+    between_users : is_switch d.node.kind ≡ false → is_switch e.node.kind ≡ false
+        → IsKindOfLine (new_line c.nodes.items l) (planned_node c d.node) (planned_node c e.node)
+    between_users q w =
+        let n = new_line c.nodes.items l in
+        let text = string_bytes l.address in
+        let from = is_from_switch c.nodes.items l in
+        let at = is_at_switch c.nodes.items l in
+        let u = as_dte q in
+        let v = user_as c (string_bytes e.node.name) e.node.kind (ap not w) (served_node c served e.place e.node e.there).kind in
+        let address = to_user at from (is_address text) (length text == 0) h.address (no_switch_named c served (string_bytes l.dce) e w) in
+        let one : IsKindOfLine n (PlannedUser (new_user c.lines.items (string_bytes d.node.name) u.dte)) (PlannedUser (new_user c.lines.items (string_bytes e.node.name) v.dte))
+        = (u.made, no_digits text address) in
+        let other = subst (IsKindOfLine n (PlannedUser (new_user c.lines.items (string_bytes d.node.name) u.dte))) (sym v.as_user) one in
+        subst (λ (x : Planned). IsKindOfLine n x (planned_node c e.node)) (sym u.as_user) other
 
 line_planned : (c : Config) → is_served c ≡ true → (j : ℕ) (l : LineConfig) → slice_get c.lines.items j ≡ Some l
     → IsLinePlan (plan_of c).nodes j (new_line c.nodes.items l)
 line_planned c served j l there =
     let h = served_line c served j l there in
-    let d = dte_of c l h in
-    let dte = d.of in
+    let dte = dte_of c l h in
     let dce = dce_of c l h in
-    let name = string_bytes dte.node.name in
-    let u = user_as c name dte.node.kind d.users (served_node c served dte.place dte.node dte.there).kind in
+    let dte_name = string_bytes dte.node.name in
+    let dce_name = string_bytes dce.node.name in
     record {
-      dte = new_user c.lines.items name u.dte;
+      dte = planned_node c dte.node;
       dce = planned_node c dce.node;
-      dte_there = planned_at c served (string_bytes l.dte) dte ∙ ap (λ n. Some n) u.as_user;
+      dte_there = planned_at c served (string_bytes l.dte) dte;
       dce_there = planned_at c served (string_bytes l.dce) dce;
-      dte_line = line_place c served dte.place dte.node dte.there d.users j l there (dte_ends l name dte.name_is);
-      dte_role = dte_role c j l there name dte.name_is;
-      dte_made = u.made;
-      dce_stands = dce_stands c served j l there h dce;
+      dte_stands = end_stands c served j l there (string_bytes l.dte) dte (dte_ends l dte_name dte.name_is) Dte
+          (λ users. dte_role c j l there dte_name dte.name_is);
+      dce_stands = end_stands c served j l there (string_bytes l.dce) dce (dce_ends l dce_name dce.name_is) Dce
+          (dce_role c served j l there h dce);
+      kind = line_kind c served l h dte dce;
       apart = ends_apart c served l h dte dce;
       params = within_params l h.within;
     }
@@ -341,32 +403,29 @@ end_place : (c : Config) → is_served c ≡ true → (i : ℕ) (n : NodeConfig)
 end_place c served i n there name same =
     node_place c served name i n there (sym (same_so name (string_bytes n.name) same))
 
+-- it is at an end of a line that ends there
+end_at : (c : Config) → is_served c ≡ true → (i : ℕ) (n : NodeConfig) → slice_get c.nodes.items i ≡ Some n
+    → (j : ℕ) (l : LineConfig) → slice_get c.lines.items j ≡ Some l → has_end (string_bytes n.name) l ≡ true
+    → HasEndAt (plan_of c).lines i j
+end_at c served i n there j l at ends =
+    let name = string_bytes n.name in
+    record {
+      line_is = new_line c.nodes.items l;
+      there = there_mapped (new_line c.nodes.items) c.lines.items j l at;
+      at_end = elim (or_cases (has_dte name l) (same_text (string_bytes l.dce) name) ends) [
+        | inl q ↦ inl (end_place c served i n there (string_bytes l.dte) q)
+        | inr q ↦ inr (end_place c served i n there (string_bytes l.dce) q)
+      ];
+    }
+
 user_planned : (c : Config) → is_served c ≡ true → (i : ℕ) (n : NodeConfig) → slice_get c.nodes.items i ≡ Some n
-    → has_users n ≡ true → (dte : NewDte) → IsUserPlan (plan_of c).lines i (new_user c.lines.items (string_bytes n.name) dte)
-user_planned c served i n there users dte =
+    → has_users n ≡ true → HasEndAt (plan_of c).lines i (place_of (has_end (string_bytes n.name)) c.lines.items)
+user_planned c served i n there users =
     let name = string_bytes n.name in
     let one = one_line c n (served_node c served i n there) users in
     let p = one_there (has_end name) c.lines.items one in
     let at = place_is (has_end name) c.lines.items p.place p.item one p.there p.passes in
-    record {
-      line = new_line c.nodes.items p.item;
-      there = subst (λ j. slice_get (plan_of c).lines j ≡ Some (new_line c.nodes.items p.item)) (sym at)
-          (there_mapped (new_line c.nodes.items) c.lines.items p.place p.item p.there);
-      at_end = elim (or_cases (has_dte name p.item) (same_text (string_bytes p.item.dce) name) p.passes) [
-        | inl q ↦ inl (end_place c served i n there (string_bytes p.item.dte) q)
-        | inr q ↦ inr (end_place c served i n there (string_bytes p.item.dce) q)
-      ];
-    }
-
--- no line has a switch as its DTE
-switch_no_dte : (c : Config) → is_served c ≡ true → (i : ℕ) (n : NodeConfig) → slice_get c.nodes.items i ≡ Some n
-    → is_switch n.kind ≡ true → (l : LineConfig) → LineIsServed c l → has_dte (string_bytes n.name) l ≡ true → ⊥
-switch_no_dte c served i n there q l h dte =
-    let d = dte_of c l h in
-    let own : NodeOf c (string_bytes l.dte)
-    = record { place = i; node = n; there = there; name_is = sym (same_so (string_bytes l.dte) (string_bytes n.name) dte) } in
-    let same = same_node c served (string_bytes l.dte) own d.of in
-    true≢false (sym d.users ∙ ap (λ (m : NodeConfig). has_users m) (sym same) ∙ ap not q)
+    subst (HasEndAt (plan_of c).lines i) (sym at) (end_at c served i n there p.place p.item p.there p.passes)
 
 -- a node has at most 64 lines
 pub most_lines : (c : Config) → is_served c ≡ true → (i : ℕ) (n : NodeConfig) → slice_get c.nodes.items i ≡ Some n
@@ -392,20 +451,11 @@ switch_planned c served i n there q =
       each = λ own line at. each line (line_ends 0 name c.lines.items own line at);
     }
   where
-    each : (line : ℕ) → Ends 0 (string_bytes n.name) c.lines.items line → HasDceAt (plan_of c).lines i line
+    each : (line : ℕ) → Ends 0 (string_bytes n.name) c.lines.items line → HasEndAt (plan_of c).lines i line
     each line e =
-        let name = string_bytes n.name in
         let number = e.number_is in
         let place : e.place ≡ line = omega (arith, number) in
-        record {
-          line_is = new_line c.nodes.items e.line;
-          there = subst (λ j. slice_get (plan_of c).lines j ≡ Some (new_line c.nodes.items e.line)) place
-              (there_mapped (new_line c.nodes.items) c.lines.items e.place e.line e.there);
-          at_end = elim (or_cases (has_dte name e.line) (same_text (string_bytes e.line.dce) name) e.ends) [
-            | inl w ↦ absurd (switch_no_dte c served i n there q e.line (served_line c served e.place e.line e.there) w)
-            | inr w ↦ end_place c served i n there (string_bytes e.line.dce) w
-          ];
-        }
+        subst (HasEndAt (plan_of c).lines i) place (end_at c served i n there e.place e.line e.there e.ends)
 
 node_planned : (c : Config) → is_served c ≡ true → (i : ℕ) (n : NodeConfig) → slice_get c.nodes.items i ≡ Some n
     → IsNodePlan (plan_of c).lines i (planned_node c n)
@@ -416,8 +466,25 @@ node_planned c served i n there =
           subst (IsNodePlan (plan_of c).lines i) (sym (switch_as c name n.kind q)) (switch_planned c served i n there q)
       | inr q ↦
           let u = user_as c name n.kind (ap not q) (served_node c served i n there).kind in
-          subst (IsNodePlan (plan_of c).lines i) (sym u.as_user) (user_planned c served i n there (ap not q) u.dte)
+          subst (IsNodePlan (plan_of c).lines i) (sym u.as_user) (user_planned c served i n there (ap not q))
     ]
+
+-- two lines from one node are one
+one_from : (c : Config) → is_served c ≡ true → (i j : ℕ) (k l : LineConfig) → slice_get c.lines.items i ≡ Some k
+    → slice_get c.lines.items j ≡ Some l → (new_line c.nodes.items k).dte ≡ (new_line c.nodes.items l).dte → i ≡ j
+one_from c served i j k l at other same =
+    let h = served_line c served i k at in
+    let d = dte_of c k h in
+    let e = dte_of c l (served_line c served j l other) in
+    let place : d.place ≡ e.place
+    = sym (node_place c served (string_bytes k.dte) d.place d.node d.there d.name_is) ∙ same
+    ∙ node_place c served (string_bytes l.dte) e.place e.node e.there e.name_is in
+    let node = same_Some d.node e.node (sym d.there ∙ ap (slice_get c.nodes.items) place ∙ e.there) in
+    let name = sym d.name_is ∙ ap (λ (n : NodeConfig). string_bytes n.name) node ∙ e.name_is in
+    let one = eqb-true (length (filter (has_dte (string_bytes k.dte)) c.lines.items)) 1 h.one_dte in
+    same_place (has_dte (string_bytes k.dte)) c.lines.items i j k l (omega (arith, one))
+    at (so_same (string_bytes k.dte) (string_bytes k.dte) refl)
+    other (so_same (string_bytes l.dte) (string_bytes k.dte) (sym name))
 
 -- a line on which a call stands is the only one
 stands_alone : (c : Config) → is_served c ≡ true → StandsAlone (plan_of c)
@@ -443,12 +510,15 @@ plan_law c served = (
     nodes = λ i n e.
         let m = mapped_there (planned_node c) c.nodes.items i n e in
         subst (IsNodePlan (plan_of c).lines i) m.value (node_planned c served i m.item m.there);
-    one_switch = λ i j m n e f.
-        let x = mapped_there (planned_node c) c.nodes.items i (PlannedSwitch m) e in
-        let y = mapped_there (planned_node c) c.nodes.items j (PlannedSwitch n) f in
-        same_place (λ (k : NodeConfig). is_switch k.kind) c.nodes.items i j x.item y.item (one_switch c served)
-        x.there (as_switch c (string_bytes x.item.name) x.item.kind m x.value)
-        y.there (as_switch c (string_bytes y.item.name) y.item.kind n y.value);
+    few_switches =
+        let few = few_switches c served in
+        let count = switches_counted c 0 c.nodes.items in
+        omega (arith, few, count);
+    one_up = λ line other k l n e f _ same.
+        let x = mapped_there (new_line c.nodes.items) c.lines.items line k e in
+        let y = mapped_there (new_line c.nodes.items) c.lines.items other l f in
+        one_from c served line other x.item y.item x.there y.there
+        (ap (λ (v : NewLine). v.dte) x.value ∙ same ∙ sym (ap (λ (v : NewLine). v.dte) y.value));
   },
   stands_alone c served,
 )

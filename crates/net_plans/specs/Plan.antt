@@ -1,8 +1,8 @@
 -- What a network is made with.
-use Rattle.std.specs.Prelude.{true, ◌≡◌, ◌==◌, ℕ, suc, Bool, List, [], ◌∷◌, map, length, slice_get, Some, unwrap_or}
+use Rattle.std.specs.Prelude.{true, ◌≡◌, ◌==◌, ℕ, suc, Bool, List, [], ◌∷◌, map, length, slice_get, Some}
 use Rattle.std.specs.Prelude.{is_none}
 use Rattle.std.specs.Prelude.{if◌then◌else◌, string_bytes, Result, Ok, Err}
-use Rattle.std.specs.List.{list_any, position, fold}
+use Rattle.std.specs.List.{list_any, fold}
 use Rattle.std.specs.FinMap.{empty, insert}
 use Rattle.x3_params.specs.Table.{profile_values}
 use Rattle.x3_params.specs.Values.{with_value}
@@ -10,11 +10,14 @@ use Rattle.link_timers.specs.declared.role.Role.{Role}
 use Rattle.link_timers.specs.declared.role.Role.TheVariants.{Dte, Dce}
 use Rattle.packet_codec.specs.Address.{address_of}
 use Rattle.packet_codec.specs.declared.address.AddressFault.{AddressFault}
+use Rattle.packet_codec.specs.declared.packet.Numbering.{Numbering}
+use Rattle.packet_codec.specs.declared.packet.Numbering.TheVariants.{Modulo8, Modulo128}
+use Rattle.packet_channel.specs.declared.flow.Flow.{Flow}
 use Rattle.packet_end.specs.declared.params.EndParams.{EndParams}
 use Rattle.address_routes.specs.Routes.{RouteMap, add_fault}
 use Rattle.net_events.specs.Opening.{NewDte, NewPad, NewHost, NewNode, NewSwitch, Planned, PlannedUser, PlannedSwitch}
 use Rattle.net_events.specs.Opening.{NewLine, NetPlan, IsPlan}
-use Rattle.net_config.specs.Served.{is_accepted, is_named, has_dte, has_end, is_route_of, is_served}
+use Rattle.net_config.specs.Served.{is_accepted, is_named, has_dte, has_end, place_of, is_route_of, is_served}
 use Rattle.net_config.specs.declared.config.Config.{Config}
 use Rattle.net_config.specs.declared.config.NodeConfig.{NodeConfig}
 use Rattle.net_config.specs.declared.config.NodeKind.{NodeKind}
@@ -23,10 +26,6 @@ use Rattle.net_config.specs.declared.config.TerminalsConfig.{TerminalsConfig}
 use Rattle.net_config.specs.declared.config.LineConfig.{LineConfig}
 use Rattle.net_config.specs.declared.config.RouteConfig.{RouteConfig}
 use Rattle.net_config.specs.declared.config.Setting.{Setting}
-
--- the place of the first that passes, or 0
-abbrev pub place_of : {A : Type 0} → (A → Bool) → List A → ℕ
-place_of test xs = unwrap_or (position test xs) 0
 
 -- ---- nodes with users
 
@@ -99,8 +98,15 @@ planned_node c n = planned_as c (string_bytes n.name) n.kind
 
 -- ---- lines
 
+abbrev pub numbering_of : (modulo : ℕ) → Numbering
+numbering_of modulo = if modulo == 128 then Modulo128 else Modulo8
+
+-- packets have 128 octets on each line
+abbrev pub flow_of : LineConfig → Flow
+flow_of l = record { window = l.window; numbering = numbering_of l.modulo; size = 128 }
+
 abbrev pub end_params : LineConfig → EndParams
-end_params l = record { k = l.k; n2 = l.n2; channels = l.channels; window = l.window; standing = l.standing }
+end_params l = record { k = l.k; n2 = l.n2; channels = l.channels; flow = flow_of l; standing = l.standing }
 
 -- the digits of an address, none where it is not one
 abbrev pub digits_in : Result (List ℕ) AddressFault → List ℕ

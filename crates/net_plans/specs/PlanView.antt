@@ -1,5 +1,5 @@
--- What the code's plan has for a DTE and for routes in the rules.
-use Rattle.std.specs.Prelude.{List}
+-- What the code's plan has for a DTE and for routes in the rules, and for an address.
+use Rattle.std.specs.Prelude.{ℕ, ◌≤◌, List, length, Option, Some, None}
 use Rattle.std.specs.List.{fold}
 use Rattle.std.specs.FinMap.{empty}
 use Rattle.address_routes.specs.Routes.{RouteMap}
@@ -19,3 +19,8 @@ add_route routes r = added routes r.prefix r.line.0
 
 abbrev pub routes_value : List NewRoute → RouteMap
 routes_value routes = fold add_route empty routes
+
+-- an address, if there is one, has a digit
+abbrev pub HasDigits : Option (List ℕ) → Type 0
+HasDigits None = Unit {0}
+HasDigits (Some digits) = 1 ≤ length digits

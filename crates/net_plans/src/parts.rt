@@ -72,8 +72,11 @@ impl Model for NewSwitch {
 impl Model for NewLine {
     ghost use Rattle.packet_codec.specs.Digits.{digits_or_none};
     ghost use Rattle.net_events.specs.Opening as opening;
+    ghost use Rattle.net_plans.specs.PlanView.{HasDigits};
 
     ghost Value = { opening.NewLine };
 
     ghost view = { λ l. record { dte = l.dte; dce = l.dce; address = digits_or_none l.address; params = l.params } };
+
+    ghost invariant = { λ l. HasDigits l.address };
 }

@@ -1,15 +1,15 @@
 //! What a network is made with.
 ghost use Rattle.std.specs.Prelude.{◌≡◌, ◌≤◌, true, false, List, length, map, IfOk, OnOk, IfErr, ◌↔◌};
 ghost use Rattle.std.specs.Prelude.{string_bytes};
-ghost use Rattle.net_config.specs.Served.{is_named, has_dte, has_end, is_served};
+ghost use Rattle.net_config.specs.Served.{has_dte, has_end, is_served};
 ghost use Rattle.net_config.specs.Served.{is_kind_served, is_pad_served, is_within};
 ghost use Rattle.std.specs.List.{list_any, position};
 ghost use Rattle.packet_codec.specs.Digits.{digits_or_none};
 ghost use Rattle.packet_codec.specs.Address.{address_of};
 ghost use Rattle.net_plans.specs.Plan.{set_one, initial_params, role_of, new_user, lines_from, is_line, own_number};
 ghost use Rattle.net_plans.specs.Plan.{with_prefix, new_routes, new_switch, planned_node};
-ghost use Rattle.net_plans.specs.Plan.{digits_in, new_line, plan_of, StandsAlone};
-ghost use Rattle.net_plans.specs.PlanView.{kind_value, routes_value};
+ghost use Rattle.net_plans.specs.Plan.{digits_in, numbering_of, flow_of, new_line, plan_of, StandsAlone};
+ghost use Rattle.net_plans.specs.PlanView.{kind_value, routes_value, HasDigits};
 ghost use Rattle.net_plans.specs.PlannedView.{planned_value};
 ghost use Rattle.net_events.specs.Opening.{IsPlan};
 ghost use Rattle.net_config.specs.declared.fault.MakeFault.TheVariants as fault_is;
@@ -20,10 +20,11 @@ use address_routes::LineNo;
 use link_timers::Role;
 use net_config::{
     Config, LineConfig, MakeFault, NodeConfig, NodeKind, RouteConfig, Setting, TerminalsConfig,
-    has_dte, has_end, is_named, is_route_of, is_served,
+    has_dte, has_end, is_route_of, is_served, place_of,
 };
-use packet_codec::Address;
+use packet_codec::{Address, MAX_USER_DATA, Numbering};
 use packet_end::EndParams;
+use packet_layer::Flow;
 use std::alloc::Global;
 use std::marker::Model;
 use x3_params::Params;
@@ -99,13 +100,6 @@ fn find_line(lines: &[LineConfig], name: &str) -> Option<usize>
     ensures { result ≡ position (has_end name.now) lines.now }
 {
     lines.iter().position(|line| has_end(name, line))
-}
-
-/// The place of the node of this name.
-fn find_node(nodes: &[NodeConfig], name: &str) -> Option<usize>
-    ensures { result ≡ position (is_named name.now) nodes.now }
-{
-    nodes.iter().position(|node| is_named(name, node))
 }
 
 /// Whether the node of this name is the DTE of a line.
@@ -242,19 +236,40 @@ fn planned_node(alloc: Global, config: &Config, node: &NodeConfig) -> Result<Pla
     Ok(new_user(&config.lines, &node.name, kind))
 }
 
+fn numbering_of(modulo: u16) -> Numbering
+    ensures { result ≡ numbering_of modulo }
+{
+    if modulo == 128 {
+        Numbering::Modulo128
+    } else {
+        Numbering::Modulo8
+    }
+}
+
+fn flow_of(line: &LineConfig) -> Flow
+    requires { is_within line.now ≡ true }
+    ensures { result ≡ flow_of line.now }
+{
+    Flow {
+        window: line.window as u8,
+        numbering: numbering_of(line.modulo),
+        size: MAX_USER_DATA as u16,
+    }
+}
+
 fn new_line(nodes: &[NodeConfig], line: &LineConfig) -> NewLine
     requires { is_within line.now ≡ true }
     ensures { result ≡ new_line nodes.now line.now }
 {
     NewLine {
-        dte: find_node(nodes, &line.dte).unwrap_or(0),
-        dce: find_node(nodes, &line.dce).unwrap_or(0),
+        dte: place_of(nodes, &line.dte),
+        dce: place_of(nodes, &line.dce),
         address: address_in(&line.address),
         params: EndParams {
             k: line.k as u8,
             n2: line.n2 as u8,
             channels: line.channels as u8,
-            window: line.window as u8,
+            flow: flow_of(line),
             standing: line.standing,
         },
     }
@@ -262,7 +277,8 @@ fn new_line(nodes: &[NodeConfig], line: &LineConfig) -> NewLine
 
 /// The address that a text names, if it names one.
 fn address_in(text: &str) -> Option<Address>
-    ensures { digits_or_none result ≡ digits_in (address_of text.now) }
+    ensures value { digits_or_none result ≡ digits_in (address_of text.now) }
+    ensures digits { HasDigits result }
 {
     match Address::read(text.as_bytes()) {
         Ok(address) => Some(address),

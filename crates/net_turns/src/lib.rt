@@ -11,4 +11,4 @@ mod terminals;
 
 pub use room::{make_bare, make_frame_room, make_room};
 pub use send::put_frames;
-pub use serving::{MOST_WRITES, serve_line, serve_user};
+pub use serving::{MOST_WRITES, direction_of, serve_line, serve_user};

@@ -34,7 +34,7 @@ use x25_pad::Pad;
 pub const MOST_WRITES: usize = 8;
 
 /// The direction in which the end of a role sends.
-fn direction_of(role: Role) -> Direction
+pub fn direction_of(role: Role) -> Direction
     ensures { result ≡ direction_of role }
 {
     match role {

@@ -54,7 +54,7 @@ free_line l g h = λ i. if h i then with_standing_call (length g.lines) (with_fr
 pub record NewAt (plan : NetPlan) (nodes : List NetNode) (place : ℕ) (n : Planned) : Type 0 where
   pub node : NetNode
   pub at : slice_get nodes place ≡ Some node
-  pub is_new : IsNewNode plan n node
+  pub is_new : IsNewNode plan place n node
 
 -- the nodes of the first places
 pub record MadeTo (places : ℕ) (plan : NetPlan) (nodes : List NetNode) : Type 0 where
@@ -68,7 +68,7 @@ none_made places plan nodes none empty = record {
 }
 
 pub made_more : (places : ℕ) (plan : NetPlan) (nodes : List NetNode) (n : Planned) (node : NetNode) → MadeTo places plan nodes → slice_get plan.nodes places ≡ Some n
-    → IsNewNode plan n node → MadeTo (suc places) plan (nodes ++ node ∷ [])
+    → IsNewNode plan places n node → MadeTo (suc places) plan (nodes ++ node ∷ [])
 made_more places plan nodes n node old node_there is_new = record {
   count = length_pushed nodes node ∙ ap suc old.count;
   there = λ place m h at. by place m h at (cases_eq place places);
@@ -79,7 +79,7 @@ made_more places plan nodes n node old node_there is_new = record {
     by place m h at (inl e) = record {
       node = node;
       at = ap (λ i. slice_get (nodes ++ node ∷ []) i) (e ∙ sym old.count) ∙ get_last nodes node;
-      is_new = subst (λ (x : Planned). IsNewNode plan x node) (same_Some n m (sym node_there ∙ ap (λ i. slice_get plan.nodes i) (sym e) ∙ at)) is_new;
+      is_new = subst (λ (i : ℕ). IsNewNode plan i m node) (sym e) (subst (λ (x : Planned). IsNewNode plan places x node) (same_Some n m (sym node_there ∙ ap (λ i. slice_get plan.nodes i) (sym e) ∙ at)) is_new);
     }
     by place m h at (inr apart) =
         let k = old.there place m (omega (arith, h, apart)) at in

@@ -1,5 +1,5 @@
 -- The nodes of a plan: as they are made, their first frames waiting, and as they are once lines have begun.
-use Rattle.std.specs.Prelude.{◌≡◌, ℕ, ◌≤◌, Bool, false, List, [], ◌∷◌, length, slice_get, Some}
+use Rattle.std.specs.Prelude.{◌≡◌, ℕ, ◌<◌, Bool, false, List, [], ◌∷◌, length, slice_get, Some}
 use Rattle.std.specs.Prelude.{if◌then◌else◌, nat_lt}
 use Rattle.packet_end.specs.declared.params.EndParams.{EndParams}
 use Rattle.switch_lines.specs.Making.{made, IsConfig}
@@ -11,31 +11,25 @@ use Rattle.net_events.specs.Opening.{new_node, placed_new, own_configs}
 abbrev pub waiting : NewNode → EndParams → PlacedNode
 waiting n params = record { line = n.line; node = new_node n params }
 
--- a switch that was made, whose first frames wait
-abbrev pub waiting_switch : NewSwitch → List NewLine → PlacedSwitch
-waiting_switch n lines = record { lines = n.lines; switch = made n.routes (own_configs n.lines lines) }
+-- the switch of a place that was made, whose first frames wait
+abbrev pub waiting_switch : (place : ℕ) → NewSwitch → List NewLine → PlacedSwitch
+waiting_switch place n lines = record { lines = n.lines; switch = made n.routes (own_configs place n.lines lines) }
 
--- a node of the plan as it is made, its first frames waiting
-abbrev pub IsNewNode : NetPlan → Planned → NetNode → Type 0
-IsNewNode plan (PlannedUser n) node =
+-- the node of a place of the plan as it is made, its first frames waiting
+abbrev pub IsNewNode : NetPlan → (place : ℕ) → Planned → NetNode → Type 0
+IsNewNode plan place (PlannedUser n) node =
     (l : NewLine) → slice_get plan.lines n.line ≡ Some l → node ≡ User (waiting n l.params)
-IsNewNode plan (PlannedSwitch n) node = node ≡ Switching (waiting_switch n plan.lines)
+IsNewNode plan place (PlannedSwitch n) node = node ≡ Switching (waiting_switch place n plan.lines)
 
 -- the node is one of the plan's
 pub record IsOfPlan (plan : NetPlan) (n : Planned) : Type 0 where
   pub place : ℕ
   pub there : slice_get plan.nodes place ≡ Some n
 
--- a line that is there, with an address
-pub record HasAddress (lines : List NewLine) (line : ℕ) : Type 0 where
-  pub line_is : NewLine
-  pub there : slice_get lines line ≡ Some line_is
-  pub some : 1 ≤ length line_is.address
-
--- the own lines of a switch can be made
-pub record CanMakeLines (own : List ℕ) (lines : List NewLine) : Type 0 where
-  pub config : IsConfig (own_configs own lines)
-  pub each : (at line : ℕ) → slice_get own at ≡ Some line → HasAddress lines line
+-- the own lines of the switch of a place can be made
+pub record CanMakeLines (place : ℕ) (own : List ℕ) (lines : List NewLine) : Type 0 where
+  pub config : IsConfig (own_configs place own lines)
+  pub each : (at line : ℕ) → slice_get own at ≡ Some line → line < length lines
 
 -- its frames went where its line is one of the first so many
 abbrev pub begun_to : (lines : ℕ) → NewNode → EndParams → PlacedNode
@@ -47,7 +41,7 @@ pub record AreNew (begun : ℕ) (plan : NetPlan) (nodes : List NetNode) : Type 0
   pub there : (place : ℕ) (n : NewNode) (l : NewLine) → slice_get plan.nodes place ≡ Some (PlannedUser n)
       → slice_get plan.lines n.line ≡ Some l → slice_get nodes place ≡ Some (User (begun_to begun n l.params))
   pub switches : (place : ℕ) (n : NewSwitch) → slice_get plan.nodes place ≡ Some (PlannedSwitch n)
-      → slice_get nodes place ≡ Some (Switching (waiting_switch n plan.lines))
+      → slice_get nodes place ≡ Some (Switching (waiting_switch place n plan.lines))
 
 -- a call stands on the first line
 abbrev pub stands : List NewLine → Bool

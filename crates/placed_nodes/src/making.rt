@@ -1,5 +1,5 @@
 //! How the nodes of a plan and the register of its calls are made.
-ghost use Rattle.std.specs.Prelude.{◌≡◌, ◌≤◌, Some, IfOk, IfErr, OnOk, map};
+ghost use Rattle.std.specs.Prelude.{◌≡◌, ◌≤◌, Some, IfOk, IfErr, OnOk, map, slice_get};
 ghost use Rattle.packet_end.specs.Params.{AreParams};
 ghost use Rattle.packet_host.specs.Making as host_made;
 ghost use Rattle.x25_pad.specs.Making as pad_made;
@@ -8,11 +8,14 @@ ghost use Rattle.call_records.specs.RegisterView.{register_of};
 ghost use Rattle.line_nodes.specs.Node.{Host as host_node, Pad as pad_node};
 ghost use Rattle.line_nodes.specs.NodeView.{node_of};
 ghost use Rattle.net_events.specs.Network as network;
-ghost use Rattle.net_events.specs.Opening.{IsPlan, IsNewDte, PlannedUser, line_plan, new_node, own_configs};
+ghost use Rattle.net_events.specs.Opening as opening;
+ghost use Rattle.net_events.specs.Opening.{IsPlan, IsNewDte, PlannedUser, line_plan, new_node};
+ghost use Rattle.net_events.specs.Opening.{role_on_line, line_config, own_configs};
 ghost use Rattle.link_timers.specs.declared.role.Role.TheVariants as role_is;
 ghost use Rattle.net_config.specs.declared.fault.MakeFault.TheVariants as make_fault_is;
 ghost use Rattle.net_plans.specs.Plan.{StandsAlone};
-ghost use Rattle.placed_nodes.specs.Making.{AreNew, waiting_switch, IsNewNode, IsOfPlan, CanMakeLines, AreFree, stands};
+ghost use Rattle.placed_nodes.specs.Making.{AreNew, waiting, waiting_switch, IsNewNode, IsOfPlan, CanMakeLines};
+ghost use Rattle.placed_nodes.specs.Making.{AreFree, stands};
 ghost use Rattle.placed_nodes.specs.NodeView.{kind_of};
 ghost use Rattle.net_plans.specs.PlanView.{add_route, routes_value};
 
@@ -82,7 +85,8 @@ fn new_node(alloc: Global, node: &NewNode, line: EndParams) -> Result<Node, Make
 fn new_user(alloc: Global, plan: &NetPlan, node: &NewNode) -> Result<Equipment, MakeFault>
     requires plan { IsPlan plan.now }
     requires there { IsOfPlan plan.now (PlannedUser node.now) }
-    ensures ok { IfOk result (λ kind. IsNewNode plan.now (PlannedUser node.now) (kind_of kind)) }
+    ensures ok { IfOk result (λ kind. (line : opening.NewLine) → slice_get plan.now.lines node.now.line ≡ Some line
+        → kind_of kind ≡ network.User (waiting node.now line.params)) }
     ensures err { IfErr result (λ fault. fault ≡ make_fault_is.OutOfMemory) }
 {
     let line = &plan.lines[node.line];
@@ -92,29 +96,43 @@ fn new_user(alloc: Global, plan: &NetPlan, node: &NewNode) -> Result<Equipment, 
     })
 }
 
-/// How the own lines of a switch are made.
+/// The role of the switch of a place on one of its lines.
+fn role_on_line(place: usize, line: &NewLine) -> Role
+    ensures { result ≡ role_on_line place line.now }
+{
+    if line.dce == place {
+        Role::Dce
+    } else {
+        Role::Dte
+    }
+}
+
+/// How an own line of the switch of a place is made.
+fn line_config(place: usize, line: &NewLine) -> SwitchLineConfig
+    ensures { result ≡ line_config place line.now }
+{
+    SwitchLineConfig {
+        params: line.params,
+        role: role_on_line(place, line),
+        address: line.address,
+    }
+}
+
+/// How the own lines of the switch of a place are made.
 fn own_configs(
     alloc: Global,
+    place: usize,
     own: &[usize],
     plan: &NetPlan,
 ) -> Result<Vec<SwitchLineConfig>, MakeFault>
-    requires { CanMakeLines own.now plan.now.lines }
-    ensures ok { IfOk result (λ configs. configs.items ≡ own_configs own.now plan.now.lines) }
+    requires { CanMakeLines place own.now plan.now.lines }
+    ensures ok { IfOk result (λ configs. configs.items ≡ own_configs place own.now plan.now.lines) }
     ensures err { IfErr result (λ fault. fault ≡ make_fault_is.OutOfMemory) }
 {
     let mut configs = Vec::new(alloc);
     for at in 0..own.len() {
         let number = network_line(own, at);
-        let line = &plan.lines[number];
-        let Some(address) = line.address else {
-            unreachable!()
-        };
-        let params = line.params;
-        configs.push(SwitchLineConfig {
-            params,
-            role: Role::Dce,
-            address: Some(address),
-        })?;
+        configs.push(line_config(place, &plan.lines[number]))?;
     }
     Ok(configs)
 }
@@ -144,14 +162,20 @@ fn new_routes(alloc: Global, routes: &[NewRoute]) -> Result<Routes, MakeFault>
     Ok(made)
 }
 
-/// A switch at its lines.
-fn new_switch(alloc: Global, plan: &NetPlan, switch: &NewSwitch) -> Result<Equipment, MakeFault>
-    requires { CanMakeLines switch.now.lines plan.now.lines }
-    ensures ok { IfOk result (λ kind. kind_of kind ≡ network.Switching (waiting_switch switch.now plan.now.lines)) }
+/// The switch of a place, at its lines.
+fn new_switch(
+    alloc: Global,
+    plan: &NetPlan,
+    place: usize,
+    switch: &NewSwitch,
+) -> Result<Equipment, MakeFault>
+    requires { CanMakeLines place switch.now.lines plan.now.lines }
+    ensures ok { IfOk result (λ kind. kind_of kind
+        ≡ network.Switching (waiting_switch place switch.now plan.now.lines)) }
     ensures err { IfErr result (λ fault. fault ≡ make_fault_is.OutOfMemory) }
 {
     let own = switch.lines.clone()?;
-    let configs = own_configs(alloc, &switch.lines, plan)?;
+    let configs = own_configs(alloc, place, &switch.lines, plan)?;
     let routes = new_routes(alloc, &switch.routes)?;
     let config = SwitchConfig {
         lines: &configs,
@@ -164,16 +188,21 @@ fn new_switch(alloc: Global, plan: &NetPlan, switch: &NewSwitch) -> Result<Equip
     }
 }
 
-/// A node of the plan.
-fn new_kind(alloc: Global, plan: &NetPlan, node: &Planned) -> Result<Equipment, MakeFault>
+/// The node of a place of the plan.
+fn new_kind(
+    alloc: Global,
+    plan: &NetPlan,
+    place: usize,
+    node: &Planned,
+) -> Result<Equipment, MakeFault>
     requires plan { IsPlan plan.now }
-    requires there { IsOfPlan plan.now node.now }
-    ensures ok { IfOk result (λ kind. IsNewNode plan.now node.now (kind_of kind)) }
+    requires there { slice_get plan.now.nodes place ≡ Some node.now }
+    ensures ok { IfOk result (λ kind. IsNewNode plan.now place node.now (kind_of kind)) }
     ensures err { IfErr result (λ fault. fault ≡ make_fault_is.OutOfMemory) }
 {
     match &node.kind {
         PlannedKind::User(user) => new_user(alloc, plan, user),
-        PlannedKind::Switch(switch) => new_switch(alloc, plan, switch),
+        PlannedKind::Switch(switch) => new_switch(alloc, plan, place, switch),
     }
 }
 
@@ -184,8 +213,8 @@ pub fn new_nodes(alloc: Global, plan: &NetPlan) -> Result<Vec<NetNode>, MakeFaul
     ensures err { IfErr result (λ fault. fault ≡ make_fault_is.OutOfMemory) }
 {
     let mut nodes = Vec::new(alloc);
-    for node in &plan.nodes {
-        let kind = new_kind(alloc, plan, node)?;
+    for place in 0..plan.nodes.len() {
+        let kind = new_kind(alloc, plan, place, &plan.nodes[place])?;
         nodes.push(NetNode { kind })?;
     }
     Ok(nodes)

@@ -1,7 +1,6 @@
 //! One node of a network.
 ghost use Rattle.std.specs.Prelude.{◌≡◌, ◌≤◌, is_none, length};
 ghost use Rattle.std.specs.Option.{option_map};
-ghost use Rattle.std.specs.List.{position};
 ghost use Rattle.net_events.specs.AtSwitch.{network_line};
 ghost use Rattle.net_events.specs.NextDue.{due_at, due_on_lines, due_from};
 ghost use Rattle.net_events.specs.Network.{elapsed_node};
@@ -123,13 +122,6 @@ impl NetNode {
             Equipment::Switching { .. } => false,
         }
     }
-}
-
-/// The place of the switch among the nodes of a network, if there is one.
-pub fn switch_place(nodes: &[NetNode]) -> Option<usize>
-    ensures { result ≡ position (λ node. is_none (user_of node)) nodes.now }
-{
-    nodes.iter().position(|node| node.is_switch())
 }
 
 /// The first node with a timer without a tick left, that timer, and the line on which it runs.

@@ -1,3 +1,4 @@
+pub mod RolesStay
 pub mod SwitchSending
 pub mod Switching
 mod Waiting

@@ -4,16 +4,17 @@ use Rattle.std.specs.Prelude.{Bool, true, false, if◌then◌else◌, slice_get}
 use Rattle.std.proofs.lemmas.List.{append-nil, length-map}
 use Rattle.lapb.specs.Machine.{Octets}
 use Rattle.packet_end.specs.PacketEnd.{PacketEnd, without_first_frame}
-use Rattle.memory_line.specs.declared.line.Direction.TheVariants.{FromDce}
+use Rattle.memory_line.specs.declared.line.Direction.{Direction}
 use Rattle.memory_line.specs.Lines.{Flights, IsPut, LineService, ArePut}
 use Rattle.switch_lines.specs.Lines.{SwitchLine, changed}
 use Rattle.switch_lines.specs.Switch.{Switch, frames_on, timer_runs, on_expiry, with_end, without_frame, without_joins}
 use Rattle.switch_lines.proofs.Places.{fused}
 use Rattle.switch_laws.specs.Steps.{Happening, does, Step, lines_after, lines_after_all}
-use Rattle.switch_laws.specs.Steps.Happening.{Brings, RunsOut}
+use Rattle.switch_laws.specs.Steps.Happening.{Brings, RunsOut, Relinks}
 use Rattle.switch_laws.specs.Steps.Step.{Asks, Places, Keeps, Happens, Offers, Begins, Settles, Elapses}
 use Rattle.switch_laws.specs.EventSteps.{event_steps}
 use Rattle.switch_laws.proofs.Leading.{event_leads}
+use Rattle.net_events.specs.AtSwitch as at_switch
 use Rattle.net_events.specs.AtSwitch.{SwitchEvent, Hears, Expires, Restarts, switched, waiting_on, line_drained}
 use Rattle.net_events.specs.declared.answer.Put.{Put}
 use Rattle.switch_turns.specs.Switching.{puts_on}
@@ -71,39 +72,39 @@ pub left_ends : (own : ℕ) (s t : Switch) → t ≡ left_on own (waiting_on own
 left_ends own s t is none = is ∙ ap (λ x. left_on own x s) none
 
 -- frames that are being put: these are, those are left
-pub record PuttingOn (L : LineService) (line : ℕ) (start : List Octets) (before : Flights) (first puts : List Put) (left : List Octets) (now : Flights) : Type 0 where
+pub record PuttingOn (L : LineService) (line : ℕ) (d : Direction) (start : List Octets) (before : Flights) (first puts : List Put) (left : List Octets) (now : Flights) : Type 0 where
   pub done : List Octets
   pub split : start ≡ done ++ left
-  pub listed : puts ≡ first ++ puts_on line done
-  pub put : L.faithful → ArePut L FromDce done before now
+  pub listed : puts ≡ first ++ puts_on line d done
+  pub put : L.faithful → ArePut L d done before now
 
-pub putting_begins : (L : LineService) (line : ℕ) (start : List Octets) (before : Flights) (puts : List Put) → PuttingOn L line start before puts puts start before
-putting_begins L line start before puts = record { done = []; split = refl; listed = sym (append-nil puts); put = λ f. refl }
+pub putting_begins : (L : LineService) (line : ℕ) (d : Direction) (start : List Octets) (before : Flights) (puts : List Put) → PuttingOn L line d start before puts puts start before
+putting_begins L line d start before puts = record { done = []; split = refl; listed = sym (append-nil puts); put = λ f. refl }
 
-puts_more : (line : ℕ) (done : List Octets) (x : Octets) → puts_on line (done ++ x ∷ []) ≡ puts_on line done ++ puts_on line (x ∷ [])
-puts_more line [] x = refl
-puts_more line (y ∷ done) x = ap (λ ps. record { line = line; direction = FromDce; octets = y } ∷ ps) (puts_more line done x)
+puts_more : (line : ℕ) (d : Direction) (done : List Octets) (x : Octets) → puts_on line d (done ++ x ∷ []) ≡ puts_on line d done ++ puts_on line d (x ∷ [])
+puts_more line d [] x = refl
+puts_more line d (y ∷ done) x = ap (λ ps. record { line = line; direction = d; octets = y } ∷ ps) (puts_more line d done x)
 
-pub putting_more : (L : LineService) (line : ℕ) (start : List Octets) (before : Flights) (first puts more : List Put) (left : List Octets) (x : Octets) (rest : List Octets) (mid now : Flights)
-    → PuttingOn L line start before first puts left mid → left ≡ x ∷ rest → more ≡ puts ++ record { line = line; direction = FromDce; octets = x } ∷ []
-    → (L.faithful → IsPut L FromDce x mid now) → PuttingOn L line start before first more rest now
-putting_more L line start before first puts more left x rest mid now w e m put = record {
+pub putting_more : (L : LineService) (line : ℕ) (d : Direction) (start : List Octets) (before : Flights) (first puts more : List Put) (left : List Octets) (x : Octets) (rest : List Octets) (mid now : Flights)
+    → PuttingOn L line d start before first puts left mid → left ≡ x ∷ rest → more ≡ puts ++ record { line = line; direction = d; octets = x } ∷ []
+    → (L.faithful → IsPut L d x mid now) → PuttingOn L line d start before first more rest now
+putting_more L line d start before first puts more left x rest mid now w e m put = record {
   done = w.done ++ x ∷ [];
   split = w.split ∙ ap (λ (l : List Octets). w.done ++ l) e ∙ sym (append_assoc {A = Octets} w.done (x ∷ []) rest);
-  listed = m ∙ ap (λ ps. ps ++ puts_on line (x ∷ [])) w.listed ∙ append_assoc first (puts_on line w.done) (puts_on line (x ∷ [])) ∙ ap (λ ps. first ++ ps) (sym (puts_more line w.done x));
-  put = λ f. put-more L FromDce w.done x before mid now (w.put f) (put f);
+  listed = m ∙ ap (λ ps. ps ++ puts_on line d (x ∷ [])) w.listed ∙ append_assoc first (puts_on line d w.done) (puts_on line d (x ∷ [])) ∙ ap (λ ps. first ++ ps) (sym (puts_more line d w.done x));
+  put = λ f. put-more L d w.done x before mid now (w.put f) (put f);
 }
 
 -- all are put
-pub record AllPut (L : LineService) (line : ℕ) (start : List Octets) (before : Flights) (first puts : List Put) (now : Flights) : Type 0 where
-  pub listed : puts ≡ first ++ puts_on line start
-  pub put : L.faithful → ArePut L FromDce start before now
+pub record AllPut (L : LineService) (line : ℕ) (d : Direction) (start : List Octets) (before : Flights) (first puts : List Put) (now : Flights) : Type 0 where
+  pub listed : puts ≡ first ++ puts_on line d start
+  pub put : L.faithful → ArePut L d start before now
 
-pub putting_ends : (L : LineService) (line : ℕ) (start : List Octets) (before : Flights) (first puts : List Put) (left : List Octets) (now : Flights) → PuttingOn L line start before first puts left now
-    → left ≡ [] → AllPut L line start before first puts now
-putting_ends L line start before first puts left now w e =
+pub putting_ends : (L : LineService) (line : ℕ) (d : Direction) (start : List Octets) (before : Flights) (first puts : List Put) (left : List Octets) (now : Flights) → PuttingOn L line d start before first puts left now
+    → left ≡ [] → AllPut L line d start before first puts now
+putting_ends L line d start before first puts left now w e =
     let all : w.done ≡ start = sym (w.split ∙ ap (λ (l : List Octets). w.done ++ l) e ∙ append-nil w.done) in
-    subst (λ (d : List Octets). AllPut L line d before first puts now) all (record { listed = w.listed; put = w.put })
+    subst (λ (all_of : List Octets). AllPut L line d all_of before first puts now) all (record { listed = w.listed; put = w.put })
 
 -- ---- how many lines a switch has
 
@@ -136,4 +137,5 @@ switched_lines (Expires own id) s = by_running (timer_runs (slice_get s.lines ow
     by_running : (ran : Bool) → length (if ran then on_expiry own id s else s).lines ≡ length s.lines
     by_running true = event_lines own (RunsOut id) s
     by_running false = refl
+switched_lines (at_switch.Relinks own) s = event_lines own Relinks s
 switched_lines Restarts s = length-map s.lines without_joins

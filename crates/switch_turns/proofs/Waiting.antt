@@ -5,18 +5,18 @@ use Rattle.std.proofs.lemmas.List.{append-nil}
 use Rattle.std.proofs.lemmas.Bool.{cases_eq, cases_lt, ne_eqb, eq-eqb}
 use Rattle.number_set.specs.declared.NumberSet.{NumberSet}
 use Rattle.number_set.specs.NumberSet.{has, IsFirstOf}
-use Rattle.memory_line.specs.declared.line.Direction.TheVariants.{FromDce}
 use Rattle.memory_line.specs.Lines.{LineService, ArePut}
 use Rattle.switch_lines.specs.Lines.{SwitchLine}
 use Rattle.switch_lines.specs.Switch.{Switch, frames_on}
 use Rattle.switch_lines.specs.Touched.{AreThere, HasAllFrames}
 use Rattle.net_events.specs.AtSwitch.{waiting_on, line_drained}
-use Rattle.net_events.specs.Network.{NetLine}
+use Rattle.net_events.specs.OneLine.{direction_of}
+use Rattle.net_events.specs.Network.{NetLine, own_role}
 use Rattle.net_events.specs.declared.answer.Put.{Put}
 use Rattle.switch_turns.specs.Switching.{puts_on}
 use Rattle.placed_nodes.proofs.Lists.{at_index}
 use Rattle.switch_turns.proofs.Switching.{set_there}
-use Rattle.switch_turns.proofs.Switching.{AreApart, PutTo, put_none, put_one, drained_to, puts_to, puts_more}
+use Rattle.switch_turns.proofs.Switching.{AreApart, PutTo, put_none, put_one, drained_to, puts_to, puts_more, sent_to}
 
 -- ---- a line without frames
 
@@ -32,7 +32,7 @@ drained_none (suc n) (l ∷ ls) none = ap (λ ks. line_drained l ∷ ks) (draine
 puts_none : (n line : ℕ) (own : List ℕ) (ls : List SwitchLine) → slice_get own n ≡ Some line → n < length ls
     → frames_on (slice_get ls n) ≡ [] → puts_to (suc n) own ls ≡ puts_to n own ls
 puts_none n line own ls at h none =
-    puts_more n line own ls at h ∙ ap (λ fs. puts_to n own ls ++ puts_on line fs) none ∙ append-nil (puts_to n own ls)
+    puts_more n line own ls at h ∙ ap (λ fs. puts_to n own ls ++ puts_on line (sent_to (slice_get ls n)) fs) none ∙ append-nil (puts_to n own ls)
 
 -- ---- the lines so far
 
@@ -82,7 +82,7 @@ module _ (L : LineService) (own : List ℕ) (s t : Switch) (waiting : NumberSet)
         puts_are = w.puts_are ∙ sym (puts_none a k.0 own s.lines k.1 within none);
         places = (let few = w.places in omega (arith, few));
         lines_put = put_one L false own s a k.0 before after after m.0 m.0.flights m.0.flights apart w.lines_put k.1 m.1 (λ f. refl)
-            (λ f. subst (λ fs. ArePut L FromDce fs m.0.flights m.0.flights) (sym none) refl) (sym (set_there after k.0 m.0 m.1));
+            (λ f. subst (λ fs. ArePut L (direction_of (own_role s a)) fs m.0.flights m.0.flights) (sym none) refl) (sym (set_there after k.0 m.0 m.1));
       }
     where
       by : (n : ℕ) → n < suc a → (n ≡ a) ⊎ (n ≢ a) → has waiting n ≡ false

@@ -3,26 +3,29 @@ use Rattle.std.specs.Prelude.{◌≡◌, ℕ, ◌*◌, ◌<◌, ◌≤◌, Bool,
 use Rattle.std.specs.Prelude.{slice_get, Some}
 use Rattle.lapb.specs.Machine.{Octets}
 use Rattle.call_records.specs.Register.{Register}
-use Rattle.memory_line.specs.declared.line.Direction.TheVariants.{FromDce}
+use Rattle.link_timers.specs.declared.role.Role.{Role}
+use Rattle.memory_line.specs.declared.line.Direction.{Direction}
 use Rattle.memory_line.specs.Lines.{Flights, no_flights, LineService, ArePut}
 use Rattle.switch_lines.specs.Lines.{SwitchLine}
 use Rattle.switch_lines.specs.Switch.{Switch}
 use Rattle.net_events.specs.AtSwitch.{SwitchEvent, Restarts, HasOwnLine, switched, joins_of, waiting_on, switch_drained}
 use Rattle.net_events.specs.AtSwitch.{all_handed}
-use Rattle.net_events.specs.Network.{PlacedSwitch, NetNode, Switching, NetLine}
+use Rattle.net_events.specs.OneLine.{direction_of}
+use Rattle.net_events.specs.Network.{PlacedSwitch, NetNode, Switching, NetLine, own_role}
 use Rattle.net_events.specs.declared.answer.Put.{Put}
 
 -- ---- its frames are put
 
--- these frames, put on the line of this number by its DCE
-abbrev pub puts_on : (line : ℕ) → (frames : List (List ℕ)) → List Put
-puts_on line frames = map (λ octets. record { line = line; direction = FromDce; octets = octets }) frames
+-- these frames, put on the line of this number in this direction
+abbrev pub puts_on : (line : ℕ) → Direction → (frames : List (List ℕ)) → List Put
+puts_on line d frames = map (λ octets. record { line = line; direction = d; octets = octets }) frames
 
 -- all frames that wait on own lines, line by line; beside the own lines stand those of the network
 abbrev pub all_puts : (lines : List ℕ) → (own : List SwitchLine) → List Put
 all_puts [] own = []
 all_puts (line ∷ lines) [] = []
-all_puts (line ∷ lines) (l ∷ own) = puts_on line l.end.line.frames ++ all_puts lines own
+all_puts (line ∷ lines) (l ∷ own) =
+    puts_on line (direction_of l.end.layer.role) l.end.line.frames ++ all_puts lines own
 
 -- the list is empty, with places for 9 frames a line
 pub record HasRoom (lines : ℕ) (puts : List Put) (places : ℕ) : Type 0 where
@@ -41,21 +44,22 @@ pub record CanPut (own : List ℕ) (of_switch : List SwitchLine) (lines : List N
 abbrev pub cleared : (anew : Bool) → Flights → Flights
 cleared anew flights = if anew then no_flights else flights
 
-pub record LinePut (L : LineService) (anew : Bool) (line : ℕ) (frames : List Octets)
+-- the frames were put on the line by the end of this role
+pub record LinePut (L : LineService) (anew : Bool) (line : ℕ) (role : Role) (frames : List Octets)
     (before after : List NetLine) : Type 0 where
   pub line_is : NetLine
   pub line_there : slice_get before line ≡ Some line_is
   pub between : Flights
   pub left : L.faithful → between ≡ cleared anew line_is.flights
   pub flights : Flights
-  pub put : L.faithful → ArePut L FromDce frames between flights
+  pub put : L.faithful → ArePut L (direction_of role) frames between flights
   pub after_there : slice_get after line ≡ Some (record line_is { flights = flights })
 
 pub record LinesPut (L : LineService) (anew : Bool) (own : List ℕ) (s : Switch)
     (before after : List NetLine) : Type 0 where
   pub count : length after ≡ length before
   pub own_lines : (at line : ℕ) → slice_get own at ≡ Some line
-      → LinePut L anew line (waiting_on at s) before after
+      → LinePut L anew line (own_role s at) (waiting_on at s) before after
   pub others : (line : ℕ) → ((at : ℕ) → slice_get own at ≡ Some line → ⊥)
       → slice_get after line ≡ slice_get before line
 
@@ -70,7 +74,7 @@ pub record CanServeSwitch (event : SwitchEvent) (node : NetNode) (lines : List N
     (places : ℕ) : Type 0 where
   pub switch : PlacedSwitch
   pub is : node ≡ Switching switch
-  pub has_line : HasOwnLine event (length switch.lines)
+  pub has_line : HasOwnLine event switch.switch
   pub can_put : CanPut switch.lines switch.switch.lines lines puts places
 
 -- it was called, its frames were put and listed, and the call that it joined was handed on
@@ -78,5 +82,5 @@ pub record SwitchServed (L : LineService) (event : SwitchEvent) (n : PlacedSwitc
     (node' : NetNode) (lines' : List NetLine) (g' : Register) (puts : List Put) : Type 0 where
   pub node_is : node' ≡ Switching (record n { switch = switch_drained (switched event n.switch) })
   pub lines_put : LinesPut L (is_anew event) n.lines (switched event n.switch) lines lines'
-  pub register_is : g' ≡ all_handed n.lines (joins_of event n.switch) g
+  pub register_is : g' ≡ all_handed n.lines (own_role n.switch) (joins_of event n.switch) g
   pub puts_are : puts ≡ all_puts n.lines (switched event n.switch).lines

@@ -4,6 +4,7 @@
 
 mod net_line;
 mod putting;
+mod roles;
 mod serving;
 
 pub use net_line::NetLine;

@@ -1,20 +1,24 @@
 //! The frames that a switch has to send at the end of an event go onto its lines, one line after the other.
 ghost use Rattle.std.specs.Prelude.{◌≡◌, ◌≤◌, ◌<◌, ◌+◌, ◌++◌, true, false, length, vec_len, vec_capacity};
 ghost use Rattle.memory_line.specs.Lines.{ArePut};
-ghost use Rattle.memory_line.specs.declared.line.Direction.TheVariants.{FromDce};
 ghost use Rattle.switch_lines.specs.Lines.{changed};
 ghost use Rattle.net_events.specs.AtSwitch.{switch_drained, waiting_on, line_drained};
+ghost use Rattle.net_events.specs.Network.{own_role};
+ghost use Rattle.net_events.specs.OneLine.{direction_of};
 ghost use Rattle.switch_turns.specs.Switching.{CanPut, LinesPut, puts_on, all_puts};
 
 use crate::net_line::NetLine;
+use crate::roles::role_of;
 use frame_codec::FrameBuf;
 use line_end::MOST_FRAMES;
-use memory_line::{Direction, Line};
+use memory_line::Line;
 use net_events::Put;
+use net_turns::direction_of;
 use placed_nodes::network_line;
 use x25_switch::Switch;
 
-/// Puts all frames that wait on an own line of a switch on the line of this number, and lists them behind those before.
+/// Puts all frames that wait on an own line of a switch on the line of this number, in the direction of the switch's
+/// role there, and lists them after those before.
 fn put_switch_frames<L: Line>(
     switch: &mut Switch,
     own: usize,
@@ -25,20 +29,23 @@ fn put_switch_frames<L: Line>(
     requires there { own < length switch.old.lines }
     requires room { vec_len puts.old + MOST_FRAMES ≤ vec_capacity puts.old }
     ensures switch { switch.new ≡ record switch.old { lines = changed own line_drained switch.old.lines } }
-    ensures puts { puts.new.items ≡ puts.old.items ++ puts_on number (waiting_on own switch.old) }
+    ensures puts { puts.new.items
+        ≡ puts.old.items ++ puts_on number (direction_of (own_role switch.old own)) (waiting_on own switch.old) }
     ensures most { vec_len puts.new ≤ vec_len puts.old + MOST_FRAMES }
     ensures capacity { vec_capacity puts.new ≡ vec_capacity puts.old }
     ensures line { L.service.faithful
-        → ArePut L.service FromDce (waiting_on own switch.old) (L.flights line.old) (L.flights line.new) }
+        → ArePut L.service (direction_of (own_role switch.old own)) (waiting_on own switch.old) (L.flights line.old)
+        (L.flights line.new) }
 {
+    let direction = direction_of(role_of(switch, own));
     for _ in 0..switch.waiting_frames(own) {
         let mut put = Put {
             line: number,
-            direction: Direction::FromDce,
+            direction,
             octets: FrameBuf::new(),
         };
         switch.out(own, &mut put.octets);
-        line.put(Direction::FromDce, &put.octets);
+        line.put(direction, &put.octets);
         puts.push_reserved(put);
     }
 }

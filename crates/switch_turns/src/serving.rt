@@ -1,16 +1,17 @@
 //! What happens at a switch: it is called, its frames go onto its lines, and the call that it joined is handed on.
-ghost use Rattle.std.specs.Prelude.{◌≡◌, MatchResult, length, vec_capacity};
+ghost use Rattle.std.specs.Prelude.{◌≡◌, MatchResult, vec_capacity};
 ghost use Rattle.std.specs.Option.{option_to_list};
 ghost use Rattle.call_records.specs.RegisterView.{register_of};
 ghost use Rattle.net_events.specs.AtSwitch.{HasOwnLine, switched, joins_of, all_handed};
 ghost use Rattle.net_events.specs.EventView.{switch_event_of};
+ghost use Rattle.net_events.specs.Network.{own_role};
 ghost use Rattle.net_events.specs.Network as network;
 ghost use Rattle.switch_turns.specs.Switching.{is_anew, CanServeSwitch, SwitchServed};
 
 use crate::net_line::NetLine;
 use crate::putting::put_lines;
+use crate::roles::role_of;
 use call_records::{ChannelEnd, Register};
-use link_timers::Role;
 use memory_line::Line;
 use net_events::{Put, StepFault, SwitchEvent};
 use placed_nodes::{Equipment, NetNode, network_line};
@@ -18,7 +19,7 @@ use x25_switch::{NewJoin, Switch};
 
 /// Calls the switch, and answers the call that it joined, if it did.
 fn call_switch(switch: &mut Switch, event: &SwitchEvent<'_>) -> Option<NewJoin>
-    requires { HasOwnLine (switch_event_of event.now) (length switch.old.lines) }
+    requires { HasOwnLine (switch_event_of event.now) switch.old }
     ensures join { option_to_list result ≡ joins_of (switch_event_of event.now) switch.old }
     ensures switch { switch.new ≡ switched (switch_event_of event.now) switch.old }
 {
@@ -28,6 +29,10 @@ fn call_switch(switch: &mut Switch, event: &SwitchEvent<'_>) -> Option<NewJoin>
             let _ = switch.on_timer(*own, *timer);
             None
         }
+        SwitchEvent::Relinks(own) => {
+            switch.relink(*own);
+            None
+        }
         SwitchEvent::Restarts => {
             switch.restart();
             None
@@ -35,21 +40,23 @@ fn call_switch(switch: &mut Switch, event: &SwitchEvent<'_>) -> Option<NewJoin>
     }
 }
 
-/// Hands on in the register the call that a switch joined, if it did.
-fn hand_on(register: &mut Register, lines: &[usize], joined: Option<NewJoin>)
-    ensures { register_of register.new ≡ all_handed lines.now (option_to_list joined) (register_of register.old) }
+/// Hands on in the register the call that a switch joined, if it did: from the far end of the channel on which it came
+/// in to the switch's own end of that on which it goes on.
+fn hand_on(register: &mut Register, lines: &[usize], switch: &Switch, joined: Option<NewJoin>)
+    ensures { register_of register.new
+        ≡ all_handed lines.now (own_role switch.now) (option_to_list joined) (register_of register.old) }
 {
     if let Some(join) = joined {
         let (from, to) = (join.came_in, join.placed);
         register.hand_on(
             ChannelEnd {
                 line: network_line(lines, from.line),
-                role: Role::Dte,
+                role: role_of(switch, from.line).other(),
                 channel: from.channel,
             },
             ChannelEnd {
                 line: network_line(lines, to.line),
-                role: Role::Dce,
+                role: role_of(switch, to.line),
                 channel: to.channel,
             },
         );
@@ -81,7 +88,7 @@ pub fn serve_switch<L: Line>(
         return Err(StepFault::NoSuchNode);
     };
     let joined = call_switch(switch, event);
-    hand_on(register, own, joined);
+    hand_on(register, own, switch, joined);
     put_lines(switch, own, lines, is_anew(event), puts);
     Ok(())
 }

@@ -5,10 +5,8 @@ ghost use Rattle.net_events.specs.Network as network;
 ghost use Rattle.net_events.specs.Opening.{IsPlan, IsMade};
 ghost use Rattle.net_config.specs.declared.fault.MakeFault.TheVariants as make_fault_is;
 ghost use Rattle.net_plans.specs.Plan.{StandsAlone};
-ghost use Rattle.net_nodes.specs.Making.{HaveBegun, HasEnds, PutsFirst, Begins, BeginsAtSwitch};
+ghost use Rattle.net_nodes.specs.Making.{HaveBegun, HasEnds, PutsFirst, Begins, CanBegin, SwitchBegins, IsMadeOf};
 ghost use Rattle.placed_nodes.specs.Making.{AreNew};
-ghost use Rattle.net_nodes.specs.Making.{CanBegin, SwitchBegins};
-ghost use Rattle.net_nodes.specs.Making.{IsMadeOf};
 
 use crate::nodes::Nodes;
 use line_end::MOST_FRAMES;
@@ -17,7 +15,7 @@ use net_config::MakeFault;
 use net_events::Put;
 use net_plans::{NetPlan, NewLine};
 use net_turns::put_frames;
-use placed_nodes::{Equipment, NetNode, new_nodes, new_register, switch_place};
+use placed_nodes::{Equipment, NetNode, new_nodes, new_register};
 use std::alloc::{AllocError, Global};
 use switch_turns::{NetLine, put_lines};
 
@@ -31,10 +29,7 @@ fn put_user_frames<L: Line>(
 )
     requires empty { puts.old.items ≡ [] }
     requires room { MOST_FRAMES ≤ vec_capacity puts.old }
-    ensures user { (n : network.PlacedNode) → node.old ≡ network.User n
-        → PutsFirst L.service direction n (L.flights line.old) node.new (L.flights line.new) }
-    ensures switch { (n : network.PlacedSwitch) → node.old ≡ network.Switching n
-        → (node.new ≡ node.old) × (L.flights line.new ≡ L.flights line.old) }
+    ensures { PutsFirst L.service direction node.old (L.flights line.old) node.new (L.flights line.new) }
 {
     match &mut node.kind {
         Equipment::User { node, .. } => put_frames(node, number, line, direction, puts),
@@ -51,14 +46,9 @@ fn begin<L: Line>(
     line: &mut L,
 ) -> Result<(), AllocError>
     requires { HasEnds plan.now nodes.old.items }
-    ensures users { (dte dce : network.PlacedNode) → slice_get nodes.old.items plan.now.dte ≡ Some (network.User dte)
-        → slice_get nodes.old.items plan.now.dce ≡ Some (network.User dce)
+    ensures { (dte dce : network.NetNode) → slice_get nodes.old.items plan.now.dte ≡ Some dte
+        → slice_get nodes.old.items plan.now.dce ≡ Some dce
         → OnOk result (Begins L.service plan.now dte dce nodes.old.items nodes.new.items (L.flights line.new)) }
-    ensures switch { (dte : network.PlacedNode) (dce : network.PlacedSwitch)
-        → slice_get nodes.old.items plan.now.dte ≡ Some (network.User dte)
-        → slice_get nodes.old.items plan.now.dce ≡ Some (network.Switching dce)
-        → OnOk result (BeginsAtSwitch L.service plan.now dte dce nodes.old.items nodes.new.items
-        (L.flights line.new)) }
 {
     let mut first = Vec::with_capacity(alloc, MOST_FRAMES)?;
     let mut second = Vec::with_capacity(alloc, MOST_FRAMES)?;
@@ -91,7 +81,7 @@ fn begin_lines<L: Line>(
     requires count { vec_len lines ≡ length plan.now.lines }
     requires made { AreNew 0 plan.now nodes.old.items }
     ensures nodes { OnOk result (AreNew (length plan.now.lines) plan.now nodes.new.items) }
-    ensures lines { IfOk result (λ lines. HaveBegun L.service (length plan.now.lines) plan.now lines.items) }
+    ensures lines { IfOk result (λ lines. HaveBegun L.service 0 (length plan.now.lines) plan.now lines.items) }
     ensures err { IfErr result (λ fault. fault ≡ make_fault_is.OutOfMemory) }
 {
     let mut begun = Vec::new(alloc);
@@ -110,14 +100,16 @@ fn begin_lines<L: Line>(
     Ok(begun)
 }
 
-/// Puts what a switch has to send on its lines.
+/// Puts what a node has to send on its lines if it is a switch.
 fn begin_switch<L: Line>(
     alloc: Global,
     node: &mut NetNode,
     lines: &mut Vec<NetLine<L>>,
 ) -> Result<(), MakeFault>
     requires { (n : network.PlacedSwitch) → node.old ≡ network.Switching n → CanBegin n lines.old.items }
-    ensures ok { (n : network.PlacedSwitch) → node.old ≡ network.Switching n
+    ensures user { (n : network.PlacedNode) → node.old ≡ network.User n
+        → (node.new ≡ node.old) × (lines.new.items ≡ lines.old.items) }
+    ensures switch { (n : network.PlacedSwitch) → node.old ≡ network.Switching n
         → OnOk result (SwitchBegins L.service n lines.old.items node.new lines.new.items) }
     ensures err { IfErr result (λ fault. fault ≡ make_fault_is.OutOfMemory) }
 {
@@ -135,7 +127,7 @@ fn begin_switch<L: Line>(
     Ok(())
 }
 
-/// Puts what the switch of a network has to send on its lines, if there is a switch.
+/// Puts what the switches of a network have to send on their lines, one switch after the other.
 fn begin_switches<L: Line>(
     alloc: Global,
     plan: &NetPlan,
@@ -144,14 +136,14 @@ fn begin_switches<L: Line>(
 ) -> Result<(), MakeFault>
     requires plan { IsPlan plan.now }
     requires nodes { AreNew (length plan.now.lines) plan.now nodes.old.items }
-    requires lines { HaveBegun L.service (length plan.now.lines) plan.now lines.old.items }
+    requires lines { HaveBegun L.service 0 (length plan.now.lines) plan.now lines.old.items }
     ensures ok { OnOk result (IsMadeOf L.service plan.now nodes.new.items lines.new.items) }
     ensures err { IfErr result (λ fault. fault ≡ make_fault_is.OutOfMemory) }
 {
-    match switch_place(nodes) {
-        Some(place) => begin_switch(alloc, &mut nodes[place], lines),
-        None => Ok(()),
+    for place in 0..nodes.len() {
+        begin_switch(alloc, &mut nodes[place], lines)?;
     }
+    Ok(())
 }
 
 impl<L: Line> Nodes<L> {

@@ -2,7 +2,6 @@
 ghost use Rattle.std.specs.Prelude.{◌≡◌, false, Ok};
 ghost use Rattle.std.specs.Result.{result_and};
 ghost use Rattle.switch_laws.specs.Turn.{AreOctets};
-ghost use Rattle.memory_line.specs.declared.line.Direction.TheVariants as direction_is;
 ghost use Rattle.net_events.specs.declared.event.Event.TheVariants as event_is;
 ghost use Rattle.net_events.specs.AtSwitch.{Hears};
 ghost use Rattle.net_events.specs.EventView.{switch_event_of};
@@ -10,7 +9,7 @@ ghost use Rattle.net_nodes.specs.Places.{IsStanding, HearsAt, IsOwnLine, is_swit
 ghost use Rattle.net_nodes.specs.Happening.{Happens};
 ghost use Rattle.net_nodes.specs.Steps.{hearer};
 
-use crate::nodes::turn::serve_at;
+use crate::nodes::turn::{place_at, serve_at};
 use crate::nodes::{LineSide, Nodes};
 use frame_codec::FrameBuf;
 use link_timers::{Role, TimerId};
@@ -56,13 +55,10 @@ impl<L: Line> Nodes<L> {
             make_bare(answer, Outcome::Delivered(false));
             return Ok(());
         }
-        let dce = net_line.dce;
-        match direction {
-            Direction::FromDte => match self.own_line(line, dce) {
-                Some(own) => self.deliver_to_switch(line, dce, own, answer),
-                None => self.deliver_to_user(line, direction, answer),
-            },
-            Direction::FromDce => self.deliver_to_user(line, direction, answer),
+        let place = place_at(hearer(direction), net_line);
+        match self.own_line(line, place) {
+            Some(own) => self.deliver_to_switch(line, direction, place, own, answer),
+            None => self.deliver_to_user(line, direction, answer),
         }
     }
 
@@ -94,22 +90,23 @@ impl<L: Line> Nodes<L> {
         serve_at(nodes, net_line, register, end, &event, answer)
     }
 
-    /// The first frame in flight from the DTE arrives at the switch of this place, on an own line of the switch.
+    /// The first frame in flight in a direction arrives at the switch of this place, on an own line of the switch.
     fn deliver_to_switch(
         &mut self,
         line: usize,
+        direction: Direction,
         place: usize,
         own: usize,
         answer: &mut Answer,
     ) -> Result<(), StepFault>
         requires standing { IsStanding self.old }
-        requires switch { IsOwnLine line place own self.old }
-        ensures { Happens L.service (event_is.Deliver line direction_is.FromDte) self.old
+        requires switch { IsOwnLine line place own (hearer direction) self.old }
+        ensures { Happens L.service (event_is.Deliver line direction) self.old
             (result_and result (Ok answer.new)) self.new }
     {
         self.make_switch_room(place, answer)?;
         let mut frame = FrameBuf::new();
-        if !self.lines[line].line.take(Direction::FromDte, &mut frame) {
+        if !self.lines[line].line.take(direction, &mut frame) {
             answer.outcome = Outcome::Delivered(false);
             return Ok(());
         }
@@ -158,7 +155,7 @@ impl<L: Line> Nodes<L> {
         self.act(end, &LineEvent::Expires(timer), answer)
     }
 
-    /// The DTE of a line gives its link up and sets it up again.
+    /// The DTE of a line, a node with users or a switch, gives its link up and sets it up again.
     pub(super) fn relink(&mut self, line: usize, answer: &mut Answer) -> Result<(), StepFault>
         requires { IsStanding self.old }
         ensures { Happens L.service (event_is.Relink line) self.old
@@ -167,11 +164,20 @@ impl<L: Line> Nodes<L> {
         if line >= self.lines.len() {
             return Err(StepFault::NoSuchNode);
         }
-        let end = LineSide {
-            line,
-            role: Role::Dte,
-        };
-        self.act(end, &LineEvent::Relinks, answer)
+        let place = self.lines[line].dte;
+        match self.own_line(line, place) {
+            Some(own) => {
+                self.make_switch_room(place, answer)?;
+                self.switch_acts(place, &SwitchEvent::Relinks(own), answer)
+            }
+            None => {
+                let end = LineSide {
+                    line,
+                    role: Role::Dte,
+                };
+                self.act(end, &LineEvent::Relinks, answer)
+            }
+        }
     }
 
     /// A node restarts, and its lines lose all frames.

@@ -22,6 +22,7 @@ fn outcome_of(event: &SwitchEvent<'_>) -> Outcome
     match event {
         SwitchEvent::Hears(_, _) => Outcome::Delivered(true),
         SwitchEvent::Expires(_, _) => Outcome::Done,
+        SwitchEvent::Relinks(_) => Outcome::Done,
         SwitchEvent::Restarts => Outcome::Done,
     }
 }

@@ -20,18 +20,24 @@ use net_turns::{MOST_WRITES, make_room, serve_line, serve_user};
 use placed_nodes::{Equipment, NetNode};
 use switch_turns::NetLine;
 
+/// The place of the node at the end of a role of a line.
+pub(super) fn place_at<L: Line>(role: Role, net_line: &NetLine<L>) -> usize
+    ensures { result ≡ network.place_at role net_line.now }
+{
+    match role {
+        Role::Dte => net_line.dte,
+        Role::Dce => net_line.dce,
+    }
+}
+
 /// Where the node at an end of a line is attached.
 fn attachment<L: Line>(end: LineSide, net_line: &NetLine<L>) -> Attachment
     ensures { result ≡ record { line = end.line; role = end.role; node = network.place_at end.role net_line.now } }
 {
-    let node = match end.role {
-        Role::Dte => net_line.dte,
-        Role::Dce => net_line.dce,
-    };
     Attachment {
         line: end.line,
         role: end.role,
-        node,
+        node: place_at(end.role, net_line),
     }
 }
 

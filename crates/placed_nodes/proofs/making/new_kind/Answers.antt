@@ -5,5 +5,5 @@ use Rattle.placed_nodes.proofs.making.new_kind.Goals as goal
 
 pub new_switch-requires : goal.new_switch-requires
 new_switch-requires c =
-    can_make c.args.plan.now c.requires.there.place c.in-Switch.switch c.requires.plan
-    (c.requires.there.there ∙ ap Some (sym c.node.view_is ∙ ap planned_value c.in-Switch.is))
+    can_make c.args.plan.now c.args.place c.in-Switch.switch c.requires.plan
+    (c.requires.there ∙ ap Some (sym c.node.view_is ∙ ap planned_value c.in-Switch.is))

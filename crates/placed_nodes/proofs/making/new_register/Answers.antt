@@ -4,7 +4,7 @@ use Rattle.net_events.specs.Opening.{NewLine, NetPlan, line_plan}
 use Rattle.placed_nodes.specs.Making.{AreFree, stands}
 use Rattle.placed_nodes.proofs.Lists.{there}
 use Rattle.placed_nodes.proofs.NewNodes.{are_free, one_stands, some_line}
-use Rattle.placed_nodes.proofs.Plans.{which}
+use Rattle.placed_nodes.proofs.Plans.{free_or_unaddressed}
 use Rattle.placed_nodes.proofs.making.new_register.Goals as goal
 
 pub free_register-requires : goal.free_register-requires
@@ -30,9 +30,9 @@ returns-clause-ok c =
     let h = some_line c.plan.inside.lines.items some in
     let at = ap (λ xs. slice_get xs 0) (sym lines) ∙ there c.plan.inside.lines.items 0 _ c.index-line.result.now h c.index-line.ensures in
     let one = one_stands c.args.plan.now c.requires.alone (ap stands (sym lines) ∙ some) c.index-line.result.now at in
-    let no_address : [] ≡ c.index-line.result.now.address = elim (which c.args.plan.now 0 c.index-line.result.now c.requires.plan at) [
-      | inl p ↦ sym p.no_address
-      | inr p ↦ absurd (true≢false (sym one.1 ∙ p.free))
+    let no_address : [] ≡ c.index-line.result.now.address = elim (free_or_unaddressed c.args.plan.now 0 c.index-line.result.now c.requires.plan at) [
+      | inl none ↦ sym none
+      | inr free ↦ absurd (true≢false (sym one.1 ∙ free))
     ] in
     c.in_ok-standing.ensures
     ∙ ap made_register ((λ i. record { dte_node = (c.line.view_is i).dte; dce_node = (c.line.view_is i).dce; address = no_address i; channels = (c.line.view_is i).params.channels; standing = sym one.1 i } ∷ [])

@@ -4,4 +4,4 @@ use Rattle.net_events.specs.Opening.{own_configs}
 use Rattle.placed_nodes.proofs.making.own_configs.Given as goal
 
 abbrev pub invariant-loop-at : goal.invariant-loop-at
-invariant-loop-at l = l.configs.items ≡ own_configs (take l.at l.own) l.plan.lines
+invariant-loop-at l = l.configs.items ≡ own_configs l.place (take l.at l.own) l.plan.lines

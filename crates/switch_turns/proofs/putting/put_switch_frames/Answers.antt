@@ -1,14 +1,17 @@
-use Rattle.std.proofs.Common.{◌≡◌, ◌<◌, [], length, refl, ap, ◌∙◌, arith}
+use Rattle.std.proofs.Common.{◌≡◌, ◌<◌, [], length, refl, ap, ◌∙◌, subst, arith}
 use Rattle.switch_lines.specs.Switch.{Switch, with_end}
 use Rattle.packet_end.specs.PacketEnd.{without_first_frame}
+use Rattle.memory_line.specs.declared.line.Direction.{Direction}
+use Rattle.net_events.specs.OneLine.{direction_of}
 use Rattle.net_events.specs.AtSwitch.{waiting_on}
+use Rattle.net_events.specs.Network.{own_role}
 use Rattle.net_turns.proofs.Sending.{given, none-left}
-use Rattle.switch_turns.proofs.SwitchSending.{length_changed, left_begins, left_less, left_ends, putting_begins, putting_more, putting_ends}
+use Rattle.switch_turns.proofs.SwitchSending.{length_changed, left_begins, left_less, left_ends, AllPut, putting_begins, putting_more, putting_ends}
 use Rattle.switch_turns.proofs.putting.put_switch_frames.Goals as goal
 
 pub loop-init : goal.loop-init
 loop-init g c = record {
-  putting = putting_begins g.L.Line.service c.args.number (waiting_on c.args.own c.args.switch.now) (g.L.Line.flights c.args.line.now) c.args.puts.now.items;
+  putting = putting_begins g.L.Line.service c.args.number c.direction_of-direction.result (waiting_on c.args.own c.args.switch.now) (g.L.Line.flights c.args.line.now) c.args.puts.now.items;
   switch_is = left_begins c.args.own c.args.switch.now;
   there = c.requires.there;
   left = omega (arith, c.waiting_frames-end.ensures.count);
@@ -24,7 +27,7 @@ loop-preserved g c =
     let first = given c.out.result (waiting_on c.args.own c.loop.switch) c.out.new.frame (waiting_on c.args.own c.out.new.self) c.out.ensures.frame c.out.ensures.nothing some in
     record {
       putting =
-          putting_more g.L.Line.service c.args.number _ _ c.args.puts.now.items c.loop.puts.items _ _ c.out.new.frame (waiting_on c.args.own c.out.new.self) _ _ c.loop.invariant.putting
+          putting_more g.L.Line.service c.args.number c.direction_of-direction.result _ _ c.args.puts.now.items c.loop.puts.items _ _ c.out.new.frame (waiting_on c.args.own c.out.new.self) _ _ c.loop.invariant.putting
           first c.push_reserved.ensures.items
           (λ f. c.put.ensures f);
       switch_is = left_less c.args.own c.args.switch.now c.loop.switch c.out.new.self c.requires.there c.loop.invariant.switch_is c.out.ensures.switch;
@@ -39,7 +42,9 @@ loop-preserved g c =
 pub returns : goal.returns
 returns g c =
     let none : waiting_on c.args.own c.loop.switch ≡ [] = none-left _ (omega (arith, c.loop.invariant.left, c.loop-test.false)) in
-    let all = putting_ends g.L.Line.service c.args.number _ _ c.args.puts.now.items _ _ _ c.loop.invariant.putting none in
+    let Put : Direction → Type 0 = λ d. AllPut g.L.Line.service c.args.number d (waiting_on c.args.own c.args.switch.now) (g.L.Line.flights c.args.line.now) c.args.puts.now.items c.loop.puts.items (g.L.Line.flights c.loop.line) in
+    let direction : c.direction_of-direction.result ≡ direction_of (own_role c.args.switch.now c.args.own) = c.direction_of-direction.ensures ∙ ap direction_of c.role_of.ensures in
+    let all = subst Put direction (putting_ends g.L.Line.service c.args.number c.direction_of-direction.result _ _ c.args.puts.now.items _ _ _ c.loop.invariant.putting none) in
     record {
       switch = left_ends c.args.own c.args.switch.now c.loop.switch c.loop.invariant.switch_is none;
       puts = all.listed;

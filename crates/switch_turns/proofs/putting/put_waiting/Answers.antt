@@ -1,13 +1,13 @@
-use Rattle.std.proofs.Common.{◌≡◌, ◌<◌, suc, false, length, slice_get, Some, refl, sym, ap, ◌∙◌, subst, arith}
+use Rattle.std.proofs.Common.{◌≡◌, ◌<◌, suc, false, length, slice_get, Some, refl, sym, ap, ◌∙◌, arith}
 use Rattle.std.specs.Prelude.{unwrap_or, ◌++◌}
-use Rattle.memory_line.specs.declared.line.Direction.TheVariants.{FromDce}
-use Rattle.memory_line.specs.Lines.{ArePut}
 use Rattle.switch_lines.specs.Lines.{changed}
 use Rattle.switch_lines.specs.Switch.{Switch, frames_on}
 use Rattle.net_events.specs.AtSwitch.{waiting_on, line_drained}
+use Rattle.net_events.specs.Network.{own_role}
+use Rattle.net_events.specs.OneLine.{direction_of}
 use Rattle.switch_turns.specs.Switching.{puts_on}
 use Rattle.placed_nodes.proofs.Lists.{there, at_index}
-use Rattle.switch_turns.proofs.Switching.{drained_more, waits_still, drained_all, length_drained, puts_more, puts_all, put_one, put_all}
+use Rattle.switch_turns.proofs.Switching.{drained_more, waits_still, drained_all, length_drained, role_there, puts_more, puts_all, put_again, put_one, put_all}
 use Rattle.switch_turns.proofs.Waiting.{none_put, pass_to, pass_all, put_at}
 use Rattle.switch_turns.proofs.putting.put_waiting.Goals as goal
 
@@ -61,6 +61,8 @@ loop-at-preserved g c =
     let number : c.network_line-number.result ≡ k.0 = c.network_line-number.ensures ∙ ap (λ o. unwrap_or o 0) k.1 in
     let here : slice_get own n ≡ Some c.network_line-number.result = k.1 ∙ ap Some (sym number) in
     let waits : waiting_on n c.loop-at.switch ≡ waiting_on n s = ap (waiting_on n) w.switch_is ∙ ap frames_on (waits_still n s.lines) in
+    let role : own_role c.loop-at.switch n ≡ own_role s n
+    = ap (λ t. own_role t n) w.switch_is ∙ ap role_there (waits_still n s.lines) in
     let less : c.network_line-number.result < length c.loop-at.lines.items
     = (let less = c.requires.there n k.0 k.1 in let count = w.lines_put.count in omega (arith, less, count, number)) in
     let line_there = there c.loop-at.lines.items c.network_line-number.result _ c.index_mut-net_line.result.now less c.index_mut-net_line.ensures.value ∙ ap Some (sym c.net_line.view_is) in
@@ -71,12 +73,12 @@ loop-at-preserved g c =
             c.args.lines.now.items c.loop-at.lines.items _ n w first c.requires.count
             (c.put_switch_frames.ensures.switch ∙ ap (λ (t : Switch). record t { lines = changed n line_drained t.lines }) w.switch_is
             ∙ (λ i. record s { lines = drained_more n s.lines i }))
-            (c.put_switch_frames.ensures.puts ∙ (λ i. w.puts_are i ++ puts_on c.network_line-number.result (waits i))
+            (c.put_switch_frames.ensures.puts ∙ (λ i. w.puts_are i ++ puts_on c.network_line-number.result (direction_of (role i)) (waits i))
             ∙ sym (puts_more n c.network_line-number.result own s.lines here within))
             c.put_switch_frames.ensures.most
             (put_one L false own s n c.network_line-number.result c.args.lines.now.items c.loop-at.lines.items _ _ _ (g.L.Line.flights c.put_switch_frames.new.line)
             c.requires.apart w.lines_put here line_there (λ f. refl)
-            (λ f. subst (λ fs. ArePut L FromDce fs (g.L.Line.flights c.net_line.inside.line) (g.L.Line.flights c.put_switch_frames.new.line)) waits (c.put_switch_frames.ensures.line f))
+            (λ f. put_again L _ _ _ _ (g.L.Line.flights c.net_line.inside.line) (g.L.Line.flights c.put_switch_frames.new.line) role waits (c.put_switch_frames.ensures.line f))
             refl),
       );
       capacity = c.put_switch_frames.ensures.capacity ∙ c.loop-at.invariant.capacity;

@@ -1,4 +1,4 @@
-use Rattle.std.proofs.Common.{◌≡◌, length, sym, ap, ◌∙◌, subst}
+use Rattle.std.proofs.Common.{◌≡◌, sym, ap, ◌∙◌, subst}
 use Rattle.std.specs.Prelude.{vec_capacity}
 use Rattle.std.specs.Option.{option_to_list}
 use Rattle.net_events.specs.AtSwitch.{HasOwnLine}
@@ -13,9 +13,7 @@ pub call_switch-joined-requires : goal.call_switch-joined-requires
 call_switch-joined-requires g c =
     let p : PlacedSwitch = record { lines = c.in-Switching.own.items; switch = c.in-Switching.switch } in
     let same : p ≡ c.requires.switch = switch_is p c.requires.switch (ap kind_of (sym c.in-Switching.is) ∙ c.node.view_is ∙ c.requires.is) in
-    let has : HasOwnLine (switch_event_of c.args.event.now) (length p.lines) = subst (λ (x : PlacedSwitch). HasOwnLine (switch_event_of c.args.event.now) (length x.lines)) (sym same) c.requires.has_line in
-    let count : length p.lines ≡ length p.switch.lines = subst (λ (x : PlacedSwitch). length x.lines ≡ length x.switch.lines) (sym same) c.requires.can_put.count in
-    subst (HasOwnLine (switch_event_of c.args.event.now)) count has
+    subst (λ (x : PlacedSwitch). HasOwnLine (switch_event_of c.args.event.now) x.switch) (sym same) c.requires.has_line
 
 pub put_lines-requires : goal.put_lines-requires
 put_lines-requires g c =

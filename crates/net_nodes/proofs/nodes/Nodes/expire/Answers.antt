@@ -5,10 +5,8 @@ use Rattle.net_events.specs.NodeEvents.{Expires}
 use Rattle.net_events.specs.declared.event.Event.TheVariants.{Expire}
 use Rattle.net_nodes.specs.Faults.{where_there_is, stands_at}
 use Rattle.net_nodes.specs.Happening.{Happens}
-use Rattle.net_events.specs.AtSwitch as switch_event
-use Rattle.placed_nodes.proofs.Lists.{within}
 use Rattle.net_nodes.proofs.Happening.{acted, can_act}
-use Rattle.net_nodes.proofs.SwitchTurns.{own_line_found, can_switch, expired, answered}
+use Rattle.net_nodes.proofs.SwitchTurns.{own_line_found, own_within, can_switch, expired, answered}
 use Rattle.net_nodes.proofs.nodes.Nodes.expire.Goals as goal
 
 pub act-requires-clause-can : goal.act-requires-clause-can
@@ -26,12 +24,11 @@ pub switch_acts-requires-clause-can : goal.switch_acts-requires-clause-can
 switch_acts-requires-clause-can g c =
     let s = c.args.self.now in
     let o = own_line_found c.args.line c.args.node c.in-Some.own s (sym c.own_line.ensures ∙ c.in-Some.is) in
-    let has = within o.0.lines c.in-Some.own c.args.line o.2 in
     record {
       switch = o.0;
       there = o.1;
-      has_line = has;
-      can_put = can_switch (switch_event.Expires c.in-Some.own c.args.timer) c.args.node s o.0 s.lines c.make_switch_room.new.answer.frames.items _ c.requires o.1 refl has (c.in_ok-make_switch_room.ensures.room o.0 o.1);
+      has_line = own_within c.args.node c.in-Some.own c.args.line o.0 s c.requires o.1 o.2;
+      can_put = can_switch c.args.node s o.0 s.lines c.make_switch_room.new.answer.frames.items _ c.requires o.1 refl (c.in_ok-make_switch_room.ensures.room o.0 o.1);
     }
 
 pub returns-in-Some : goal.returns-in-Some
@@ -40,4 +37,4 @@ returns-in-Some g c =
     let is = sym c.own_line.ensures ∙ c.in-Some.is in
     let o = own_line_found c.args.line c.args.node c.in-Some.own s is in
     answered c.switch_acts.result c.switch_acts.new.answer (λ x. Happens g.L.Line.service (Expire c.args.node c.args.line c.args.timer) s x c.switch_acts.new.self) (c.switch_acts.ensures o.0 o.1)
-    (λ w. expired g.L.Line.service c.args.node c.args.line c.in-Some.own c.args.timer o.0 s c.switch_acts.new.answer c.switch_acts.new.self o.1 o.2 is w)
+    (λ w. expired g.L.Line.service c.args.node c.args.line c.in-Some.own c.args.timer o.0 s c.switch_acts.new.answer c.switch_acts.new.self c.requires o.1 o.2 is w)

@@ -1,5 +1,4 @@
 use Rattle.std.proofs.Common.{sym, refl}
-use Rattle.net_events.specs.AtSwitch.{Restarts}
 use Rattle.net_nodes.proofs.SwitchTurns.{switch_found, can_switch, restarted, answered}
 use Rattle.net_events.specs.declared.event.Event.TheVariants.{Restart}
 use Rattle.net_nodes.specs.Happening.{Happens}
@@ -13,7 +12,7 @@ switch_acts-requires-clause-can g c =
       switch = o.0;
       there = o.1;
       has_line = tt;
-      can_put = can_switch Restarts c.args.node s o.0 s.lines c.make_switch_room.new.answer.frames.items _ c.requires o.1 refl tt (c.in_ok-make_switch_room.ensures.room o.0 o.1);
+      can_put = can_switch c.args.node s o.0 s.lines c.make_switch_room.new.answer.frames.items _ c.requires o.1 refl (c.in_ok-make_switch_room.ensures.room o.0 o.1);
     }
 
 pub returns-then-is_switch : goal.returns-then-is_switch

@@ -1,11 +1,11 @@
-use Rattle.std.proofs.Common.{◌≡◌, ℕ, ◌<◌, suc, ◌++◌, [], ◌∷◌, List, length, vec_len, slice_get, Some, inl, inr, sym, ap, ◌∙◌, subst, arith}
+use Rattle.std.proofs.Common.{◌≡◌, ℕ, ◌<◌, suc, ◌++◌, [], ◌∷◌, List, length, vec_len, slice_get, sym, ap, ◌∙◌, subst, arith}
+use Rattle.link_timers.specs.declared.role.Role.TheVariants.{Dte, Dce}
 use Rattle.net_events.specs.Network.{NetLine}
-use Rattle.net_events.specs.Opening.{NewNode, PlannedUser, PlannedSwitch, NewLine, NetPlan}
+use Rattle.net_events.specs.Opening.{NewLine, NetPlan}
 use Rattle.net_nodes.specs.Making.{HaveBegun}
-use Rattle.placed_nodes.specs.Making.{waiting, waiting_switch, AreNew}
-use Rattle.placed_nodes.proofs.Lists.{there}
-use Rattle.net_nodes.proofs.Making.{none_begun, ends_of, waits_at, one_more, one_more_at_switch, first_of_users, first_at_switch, line_more}
-use Rattle.placed_nodes.proofs.Plans.{which}
+use Rattle.placed_nodes.specs.Making.{AreNew}
+use Rattle.placed_nodes.proofs.Lists.{there, at_index}
+use Rattle.net_nodes.proofs.Making.{none_begun, ends_of, one_more, first_frames, begun_so_far, line_more}
 use Rattle.net_nodes.proofs.nodes.making.begin_lines.Goals as goal
 
 pub loop-line-init : goal.loop-line-init
@@ -42,30 +42,21 @@ loop-line-preserved g c =
     let more : suc k ≡ vec_len c.push.new.self = (let e = c.in_ok-push.ensures.len in omega (arith, e)) in
     let pushed = c.in_ok-push.ensures.items ∙ ap (λ (x : NewLine). c.loop-line.begun.items ++ record { dte = x.dte; dce = x.dce; channels = x.params.channels; flights = flights } ∷ []) c.planned.view_is in
     let P : ℕ → Type 0 = λ n. AreNew n plan c.begin.new.nodes.items in
-    let Q : ℕ → Type 0 = λ n. HaveBegun L n plan c.push.new.self.items in
-    let R : List NetLine → Type 0 = λ xs. HaveBegun L (suc k) plan xs in
-    let at_dte = λ (n : NewNode) (e : slice_get plan.nodes l.dte ≡ Some (PlannedUser n)) (own : n.line ≡ k). waits_at k plan c.loop-line.nodes.items l.dte n l c.loop-line.invariant.nodes e own planned in
+    let Q : ℕ → Type 0 = λ n. HaveBegun L 0 n plan c.push.new.self.items in
+    let R : List NetLine → Type 0 = λ xs. HaveBegun L 0 (suc k) plan xs in
+    let p = c.requires.plan.lines k l planned in
+    let nodes = c.loop-line.nodes.items in
+    let new = c.loop-line.invariant.nodes in
+    let ends = ends_of k plan nodes l c.requires.plan new planned in
+    let d = at_index nodes l.dte ends.dte in
+    let e = at_index nodes l.dce ends.dce in
+    let begins = c.in_ok-begin.ensures d.0 e.0 d.1 e.1 in
     record {
-      nodes = subst P more (elim (which plan k l c.requires.plan planned) [
-        | inl p ↦
-            one_more L k plan c.loop-line.nodes.items c.begin.new.nodes.items l flights c.requires.plan p c.loop-line.invariant.nodes planned
-            (c.in_ok-begin.ensures.users (waiting p.dte l.params) (waiting p.dce l.params) (at_dte p.dte p.dte_there p.dte_line)
-            (waits_at k plan c.loop-line.nodes.items l.dce p.dce l c.loop-line.invariant.nodes p.dce_there p.dce_line planned))
-        | inr p ↦
-            one_more_at_switch L k plan c.loop-line.nodes.items c.begin.new.nodes.items l flights c.requires.plan p c.loop-line.invariant.nodes planned
-            (c.in_ok-begin.ensures.switch (waiting p.dte l.params) (waiting_switch p.dce plan.lines) (at_dte p.dte p.dte_there p.dte_line)
-            (c.loop-line.invariant.nodes.switches l.dce p.dce p.dce_there))
-      ]);
-      lines = subst Q more (subst R (sym pushed) (elim (which plan k l c.requires.plan planned) [
-        | inl p ↦
-            line_more L k plan c.loop-line.begun.items l flights p.dte (PlannedUser p.dce) p.dte_there p.dce_there c.loop-line.invariant.lines planned
-            (λ f. first_of_users L plan.nodes k l p flights ((c.in_ok-begin.ensures.users (waiting p.dte l.params) (waiting p.dce l.params) (at_dte p.dte p.dte_there p.dte_line)
-            (waits_at k plan c.loop-line.nodes.items l.dce p.dce l c.loop-line.invariant.nodes p.dce_there p.dce_line planned)).sent f))
-        | inr p ↦
-            line_more L k plan c.loop-line.begun.items l flights p.dte (PlannedSwitch p.dce) p.dte_there p.dce_there c.loop-line.invariant.lines planned
-            (λ f. first_at_switch L plan k l p flights ((c.in_ok-begin.ensures.switch (waiting p.dte l.params) (waiting_switch p.dce plan.lines) (at_dte p.dte p.dte_there p.dte_line)
-            (c.loop-line.invariant.nodes.switches l.dce p.dce p.dce_there)).sent f))
-      ]));
+      nodes = subst P more (one_more L k plan nodes c.begin.new.nodes.items l d.0 e.0 flights c.requires.plan new planned d.1 e.1 begins);
+      lines = subst Q more (subst R (sym pushed) (line_more L k plan c.loop-line.begun.items l flights p.dte p.dce p.dte_there p.dce_there c.loop-line.invariant.lines planned
+          (λ f. begun_so_far L l p.dte p.dce d.0 e.0 nodes c.begin.new.nodes.items flights f p.kind
+          (first_frames k plan nodes l new planned l.dte Dte p.dte d.0 p.dte_there p.dte_stands d.1)
+          (first_frames k plan nodes l new planned l.dce Dce p.dce e.0 p.dce_there p.dce_stands e.1) begins)));
       left = omega (arith, c.in_ok-push.ensures.len, c.loop-line.invariant.left, c.in-Some.ensures.steps.1);
     }
 
@@ -77,4 +68,4 @@ returns-clause-nodes g c =
 pub returns-clause-lines : goal.returns-clause-lines
 returns-clause-lines g c =
     let all : vec_len c.loop-line.begun ≡ length c.args.plan.now.lines = omega (arith, c.loop-line.invariant.left, c.in-None.ensures.steps.0) in
-    subst (λ k. HaveBegun g.L.Line.service k c.args.plan.now c.loop-line.begun.items) all c.loop-line.invariant.lines
+    subst (λ k. HaveBegun g.L.Line.service 0 k c.args.plan.now c.loop-line.begun.items) all c.loop-line.invariant.lines

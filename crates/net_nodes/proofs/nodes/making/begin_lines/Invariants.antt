@@ -7,6 +7,6 @@ use Rattle.net_nodes.proofs.nodes.making.begin_lines.Given as goal
 abbrev pub invariant-loop-line : goal.invariant-loop-line
 invariant-loop-line g l = record {
   nodes : AreNew (vec_len l.begun) l.plan l.nodes.items;
-  lines : HaveBegun g.L.Line.service (vec_len l.begun) l.plan l.begun.items;
+  lines : HaveBegun g.L.Line.service 0 (vec_len l.begun) l.plan l.begun.items;
   left : vec_len l.begun + l.line-iterator.rest.len ≡ length l.plan.lines;
 }
