@@ -3,6 +3,7 @@ use Rattle.std.proofs.Common.{◌≡◌, ℕ, Some, sym, ap, ◌∙◌, subst}
 use Rattle.std.specs.Prelude.{is_some, true, false}
 use Rattle.link_timers.specs.declared.role.Role.{Role}
 use Rattle.link_timers.specs.declared.role.Role.TheVariants.{Dte, Dce}
+use Rattle.packet_channel.proofs.Windows.{window_below}
 use Rattle.packet_layer.specs.Channel.{Channel, may_accept, in_transfer}
 use Rattle.packet_layer.specs.Layer.{Layer, channel_of}
 use Rattle.line_laws.specs.Line.{Line}
@@ -15,8 +16,8 @@ use Rattle.line_record_laws.specs.Kept.{Setting, Kept, beginning, end_at}
 
 answered : (s : Setting) (b : Book) (l : Line) (k : Kept s b l) → AreAnswered (after_all k.moves (beginning s))
 answered s b l k =
-    are_answered s.dte_node s.dce_node s.dte.channels s.dte.window s.dte.standing k.setting.dte.layer.channels_least
-    k.setting.dte.layer.window_most k.moves k.allowed
+    are_answered s.dte_node s.dce_node s.dte.channels s.dte.flow s.dte.standing k.setting.dte.layer.channels_least
+    (window_below _ k.setting.dte.layer.flow_is) k.moves k.allowed
 
 -- the channels of an end are those to which the events led
 channel_is : (s : Setting) (b : Book) (l : Line) (k : Kept s b l) (role : Role) (channel : ℕ)
@@ -54,5 +55,5 @@ placed_kept s b l role channel ch k at up none =
 pub records_kept : (s : Setting) (b : Book) (l : Line) → Kept s b l → HaveRecords b
 records_kept s b l k =
     subst HaveRecords k.book
-    (have_records s.dte_node s.dce_node s.dte.channels s.dte.window s.dte.standing k.setting.dte.layer.channels_least
-    k.setting.dte.layer.window_most k.moves k.allowed)
+    (have_records s.dte_node s.dce_node s.dte.channels s.dte.flow s.dte.standing k.setting.dte.layer.channels_least
+    (window_below _ k.setting.dte.layer.flow_is) k.moves k.allowed)

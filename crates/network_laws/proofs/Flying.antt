@@ -1,11 +1,17 @@
 -- Frames that are put on a line are behind those in flight, but for those that are lost.
 use Rattle.std.proofs.Common.{◌≡◌, Bool, true, false, List, [], ◌∷◌, ◌++◌, sym, ap, ◌∙◌, inl, inr, append_assoc}
 use Rattle.std.proofs.lemmas.List.{append-nil}
+use Rattle.link_timers.specs.declared.role.Role.{Role}
+use Rattle.link_timers.specs.declared.role.Role.TheVariants.{Dte, Dce}
+use Rattle.link_timers.specs.Role.{other_of}
 use Rattle.lapb.specs.Machine.{Octets}
 use Rattle.lapb.specs.Line.{chosen}
 use Rattle.memory_line.specs.declared.line.Direction.{Direction}
 use Rattle.memory_line.specs.declared.line.Direction.TheVariants.{FromDte, FromDce}
-use Rattle.memory_line.specs.Lines.{Flights, LineService, flying, with_flying, ArePut}
+use Rattle.line_nodes.specs.Node.{NodeState, frames_of}
+use Rattle.memory_line.specs.Lines.{Flights, no_flights, LineService, flying, with_flying, ArePut}
+use Rattle.net_events.specs.OneLine.{direction_of}
+use Rattle.net_events.specs.Opening.{end_of_two, AreSent}
 
 -- these of the frames were not lost
 pub record Landed (d : Direction) (frames : List Octets) (old new : Flights) : Type 0 where
@@ -35,3 +41,38 @@ landed L d (f ∷ frames) old new (mid, put, rest) =
         is = w.is ∙ ap (λ (m : Flights). with_flying d (flying d m ++ chosen w.kept frames) m) is.1;
       }
     ]
+
+-- ---- the first frames of two nodes
+
+-- these of the frames of either node were not lost
+pub record BothLanded (dte dce : List Octets) (flights : Flights) : Type 0 where
+  pub up : List Bool
+  pub down : List Bool
+  pub from_dte : flights.from_dte ≡ chosen up dte
+  pub from_dce : flights.from_dce ≡ chosen down dce
+
+landed_by : (L : LineService) (first : Role) (dte dce : NodeState) (between flights : Flights)
+    → ArePut L (direction_of first) (frames_of (end_of_two first dte dce)) no_flights between
+    → ArePut L (direction_of (other_of first)) (frames_of (end_of_two (other_of first) dte dce)) between flights
+    → BothLanded (frames_of dte) (frames_of dce) flights
+landed_by L Dte dte dce between flights before behind =
+    let up = landed L FromDte (frames_of dte) no_flights between before in
+    let down = landed L FromDce (frames_of dce) between flights behind in
+    record {
+      up = up.kept;
+      down = down.kept;
+      from_dte = ap (λ (x : Flights). x.from_dte) down.is ∙ ap (λ (x : Flights). x.from_dte) up.is;
+      from_dce = ap (λ (x : Flights). x.from_dce) down.is ∙ ap (λ (x : Flights). x.from_dce ++ chosen down.kept (frames_of dce)) up.is;
+    }
+landed_by L Dce dte dce between flights before behind =
+    let down = landed L FromDce (frames_of dce) no_flights between before in
+    let up = landed L FromDte (frames_of dte) between flights behind in
+    record {
+      up = up.kept;
+      down = down.kept;
+      from_dte = ap (λ (x : Flights). x.from_dte) up.is ∙ ap (λ (x : Flights). x.from_dte ++ chosen up.kept (frames_of dte)) down.is;
+      from_dce = ap (λ (x : Flights). x.from_dce) up.is ∙ ap (λ (x : Flights). x.from_dce) down.is;
+    }
+
+pub both_landed : (L : LineService) (dte dce : NodeState) (flights : Flights) → AreSent L dte dce flights → BothLanded (frames_of dte) (frames_of dce) flights
+both_landed L dte dce flights b = landed_by L b.first dte dce b.between flights b.from_first b.from_other

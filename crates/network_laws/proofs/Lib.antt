@@ -13,6 +13,7 @@ pub mod Leaving
 mod Keeping
 pub mod Answering
 pub mod Lines
+mod LineCourses
 pub mod Made
 pub mod Networks
 pub mod Opened

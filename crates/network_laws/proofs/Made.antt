@@ -1,14 +1,13 @@
 -- What holds of a line of a network holds at the making, and has what it promises.
-use Rattle.std.proofs.Common.{◌≡◌, ◌≢◌, ℕ, Bool, true, false, List, ◌++◌, Some, refl, sym, ap, ◌∙◌, subst}
+use Rattle.std.proofs.Common.{◌≡◌, ◌≢◌, ℕ, Bool, true, false, List, Some, refl, sym, ◌∙◌, subst}
 use Rattle.std.specs.Prelude.{slice_get}
 use Rattle.link_timers.specs.declared.role.Role.TheVariants.{Dte, Dce}
-use Rattle.lapb.specs.Line.{chosen}
 use Rattle.packet_end.specs.PacketEnd as end
 use Rattle.packet_end.specs.Params.{AreParams}
 use Rattle.packet_end.specs.declared.params.EndParams.{EndParams}
 use Rattle.x25_pad.specs.declared.config.PadConfig.{PadConfig}
 use Rattle.call_records.specs.Records.{RecordValue}
-use Rattle.call_records.specs.Book.{Book, made_book}
+use Rattle.call_records.specs.Book.{made_book}
 use Rattle.book_laws.specs.Headline.{BookHolds}
 use Rattle.line_record_laws.specs.Kept.{Setting, Kept}
 use Rattle.node_laws.specs.Quiet.{IsQuiet}
@@ -16,13 +15,12 @@ use Rattle.node_laws.specs.Clauses.{first_line}
 use Rattle.x25_pad.specs.Pad.{PadState}
 use Rattle.node_laws.specs.Courses.{IsRecordOf, PadSends}
 use Rattle.line_nodes.specs.Node.{NodeState, Pad, end_of, drained, frames_of}
-use Rattle.memory_line.specs.declared.line.Direction.TheVariants.{FromDte, FromDce}
-use Rattle.memory_line.specs.Lines.{Flights, no_flights, LineService}
+use Rattle.memory_line.specs.Lines.{Flights, LineService}
 use Rattle.net_events.specs.OneLine.{LineState}
 use Rattle.network_laws.specs.IsLine.{NodeHolds, line_of, IsLine}
 use Rattle.net_events.specs.Opening.{NewDte, NewPad, NewHost, IsNewDte, new_dte, new_dce, AreSent}
 use Rattle.network_laws.specs.LineLaw.{made_line}
-use Rattle.network_laws.proofs.Flying.{landed}
+use Rattle.network_laws.proofs.Flying.{BothLanded, both_landed}
 use Rattle.network_laws.proofs.Fitting.{end-drained}
 use Rattle.line_record_laws.proofs.Keeping as keeping_law
 use Rattle.node_laws.proofs.Making as making_law
@@ -76,27 +74,26 @@ abbrev pub setting-of : (dte_place dce_place : ℕ) → EndParams → Setting
 setting-of dte_place dce_place line = record { dte = line; dce = line; dte_node = dte_place; dce_node = dce_place }
 
 -- the first frames of both ends
-first-line : (L : LineService) (dte_place dce_place : ℕ) (d : NewDte) (line : EndParams) (l : Flights)
-    → (b : AreSent L (new_dte d line) (new_dce line) l)
-    → let up = landed L FromDte (frames_of (new_dte d line)) no_flights b.between b.from_dte in
-    let down = landed L FromDce (frames_of (new_dce line)) b.between l b.from_dce in
-    line_of (made_line dte_place dce_place d line l)
-    ≡ first_line (end_of (new_dte d line)) (end_of (new_dce line)) up.kept down.kept
-first-line L dte_place dce_place d line l b =
-    let up = landed L FromDte (frames_of (new_dte d line)) no_flights b.between b.from_dte in
-    let down = landed L FromDce (frames_of (new_dce line)) b.between l b.from_dce in
-    let going : l.from_dte ≡ chosen up.kept (end_of (new_dte d line)).line.frames =
-    ap (λ (x : Flights). x.from_dte) down.is ∙ ap (λ (x : Flights). x.from_dte) up.is in
-    let coming : l.from_dce ≡ chosen down.kept (end_of (new_dce line)).line.frames =
-    ap (λ (x : Flights). x.from_dce) down.is
-    ∙ ap (λ (x : Flights). x.from_dce ++ chosen down.kept (end_of (new_dce line)).line.frames) up.is in
-    λ i. record { dte = end-drained (new_dte d line) i; dce = end-drained (new_dce line) i; up = going i; down = coming i }
+first-line : (dte_place dce_place : ℕ) (d : NewDte) (line : EndParams) (l : Flights)
+    → (b : BothLanded (frames_of (new_dte d line)) (frames_of (new_dce line)) l)
+    → line_of (made_line dte_place dce_place d line l) ≡ first_line (end_of (new_dte d line)) (end_of (new_dce line)) b.up b.down
+first-line dte_place dce_place d line l b =
+    λ i. record { dte = end-drained (new_dte d line) i; dce = end-drained (new_dce line) i; up = b.from_dte i; down = b.from_dce i }
+
+-- the line is kept with its book
+pub kept_made : (L : LineService) (dte_place dce_place : ℕ) (d : NewDte) (line : EndParams) (l : Flights) → AreParams line → AreSent L (new_dte d line) (new_dce line) l
+    → Kept (setting-of dte_place dce_place line) (made_book dte_place dce_place line.channels line.standing) (line_of (made_line dte_place dce_place d line l))
+kept_made L dte_place dce_place d line l params sent =
+    let s : Setting = setting-of dte_place dce_place line in
+    let b = both_landed L (new_dte d line) (new_dce line) l sent in
+    subst (Kept s (made_book dte_place dce_place line.channels line.standing)) (sym (first-line dte_place dce_place d line l b))
+    (making_law.making_keeps s (new_dte d line) (new_dce line) b.up b.down
+    (record { dte = params; dce = params; alike = record { channels = refl; flow = refl; standing = refl } }) (made-end d line, refl)).kept
 
 pub made_lines : (L : LineService) (dte_place dce_place : ℕ) (d : NewDte) (line : EndParams) (l : Flights)
     → dte_place ≢ dce_place → AreParams line → IsNewDte d → (L.faithful → AreSent L (new_dte d line) (new_dce line) l)
     → IsLine L (made_line dte_place dce_place d line l)
 made_lines L dte_place dce_place d line l apart params is sent =
-    let book : Book = made_book dte_place dce_place line.channels line.standing in
     let nodes = book-nodes dte_place dce_place line.channels line.standing in
     record {
       apart = apart;
@@ -105,15 +102,5 @@ made_lines L dte_place dce_place d line l apart params is sent =
       host = refl;
       quiet = record { dte = made-quiet d line; dce = quiet_law.quiet-made-host (record { role = Dce; line = line }) };
       typed = made-typed d line dte_place dce_place apart params is;
-      kept = λ f.
-          let b = sent f in
-          let up = landed L FromDte (frames_of (new_dte d line)) no_flights b.between b.from_dte in
-          let down = landed L FromDce (frames_of (new_dce line)) b.between l b.from_dce in
-          record {
-            setting = setting-of dte_place dce_place line;
-            kept = subst (Kept (setting-of dte_place dce_place line) book) (sym (first-line L dte_place dce_place d line l b))
-                (making_law.making_keeps (setting-of dte_place dce_place line) (new_dte d line) (new_dce line) up.kept down.kept
-                (record { dte = params; dce = params; alike = record { channels = refl; window = refl; standing = refl } })
-                (made-end d line, refl)).kept;
-          };
+      kept = λ f. record { setting = setting-of dte_place dce_place line; kept = kept_made L dte_place dce_place d line l params (sent f) };
     }

@@ -17,7 +17,7 @@ use Rattle.memory_line.specs.Lines.{LineService}
 use Rattle.line_nodes.specs.Node.{node_elapsed}
 use Rattle.net_events.specs.Network.{NetNode, User, Switching, NetLine, Network, elapsed_node, all_elapsed}
 use Rattle.network_laws.specs.IsNetwork.{line_state, LineHolds, IsUserAt, IsNetwork}
-use Rattle.net_events.specs.Opening.{NewNode, PlannedUser, NewLine, NetPlan, IsUserPlan, IsPlan, AreUsers, new_end, placed_new, line_plan, LineIsMade, IsMade}
+use Rattle.net_events.specs.Opening.{NewNode, PlannedUser, NewLine, NetPlan, HasEndAt, IsPlan, AreUsers, new_end, placed_new, line_plan, LineIsMade, IsMade}
 use Rattle.net_events.proofs.Users.{UserLine, user_line}
 use Rattle.network_laws.proofs.Lines.{elapsed_lines}
 use Rattle.network_laws.proofs.Channels.{channels_made}
@@ -94,7 +94,7 @@ line_of_plan L plan s line l p at m made = record {
   dte_line = p.dte_line;
   dce_line = p.dce_line;
   channels = channels_made l.dte l.dce l.params.channels l.params.standing;
-  holds = made_lines L l.dte l.dce p.dte.as_dte l.params made.flights p.apart p.params p.dte_made (λ f. made.sent f p.dte p.dte_there);
+  holds = made_lines L l.dte l.dce p.dte.as_dte l.params made.flights p.apart p.params p.dte_made (λ f. made.sent f (PlannedUser p.dte) (PlannedUser p.dce) p.dte_there p.dce_there);
 }
 
 -- a line, by what it was planned as
@@ -118,11 +118,11 @@ made_stands L plan s is users m place n at =
     let p = get_there plan.nodes place (let h = slice_get_within s.nodes place n at in let c = m.node_count in omega arith) in
     let u = users place p.0 p.1 in
     let there : slice_get plan.nodes place ≡ Some (PlannedUser u.0) = p.1 ∙ ap Some u.1 in
-    let w : IsUserPlan plan.lines place u.0 = is.nodes place (PlannedUser u.0) there in
-    let made : LineIsMade L plan s u.0.line w.line = m.lines u.0.line w.line w.there in
-    let same : n ≡ User (placed_new u.0 w.line.params) = same_Some n (User (placed_new u.0 w.line.params)) (sym at ∙ m.nodes place (PlannedUser u.0) there w.line w.there) in
+    let w : HasEndAt plan.lines place u.0.line = is.nodes place (PlannedUser u.0) there in
+    let made : LineIsMade L plan s u.0.line w.line_is = m.lines u.0.line w.line_is w.there in
+    let same : n ≡ User (placed_new u.0 w.line_is.params) = same_Some n (User (placed_new u.0 w.line_is.params)) (sym at ∙ m.nodes place (PlannedUser u.0) there w.line_is w.there) in
     subst (λ (x : NetNode). IsUserAt s.lines place x) (sym same) (record {
-      line = record { dte = w.line.dte; dce = w.line.dce; channels = w.line.params.channels; flights = made.flights };
+      line = record { dte = w.line_is.dte; dce = w.line_is.dce; channels = w.line_is.params.channels; flights = made.flights };
       there = made.there;
       at_end = w.at_end;
     })

@@ -264,16 +264,17 @@ are_params standing =
     let most_window : 2 ≤ 7 = omega arith in let least_window : 1 ≤ 2 = omega arith in
     record {
       link = record { k_least = least_k; k_most = most_k; n2_least = least_polls; n2_most = most_polls };
-      layer = record { channels_least = least_channels; channels_most = most_channels; window_least = least_window; window_most = most_window };
+      layer = record { channels_least = least_channels; channels_most = most_channels; flow_is = record { window_least = least_window; window_most = most_window; size_is = refl } };
     }
 
 sent : (standing : Bool) → AreSent lossless_service (new_dte new_pad (params standing)) (new_dce (params standing)) (first_frames standing)
 sent standing =
     let up : Flights = all_put FromDte (frames_of (new_dte new_pad (params standing))) no_flights in
     record {
+      first = Dte;
       between = up;
-      from_dte = puts_all FromDte (frames_of (new_dte new_pad (params standing))) no_flights;
-      from_dce = puts_all FromDce (frames_of (new_dce (params standing))) up;
+      from_first = puts_all FromDte (frames_of (new_dte new_pad (params standing))) no_flights;
+      from_other = puts_all FromDce (frames_of (new_dce (params standing))) up;
     }
 
 begins : (standing : Bool) → IsLine lossless_service (first standing)

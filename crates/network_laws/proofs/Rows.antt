@@ -5,6 +5,7 @@ use Rattle.std.specs.Prelude.{slice_get}
 use Rattle.std.proofs.lemmas.Option.{same_Some, none-some}
 use Rattle.link_timers.specs.declared.role.Role.{Role}
 use Rattle.link_timers.specs.declared.role.Role.TheVariants.{Dte, Dce}
+use Rattle.packet_layer.specs.Flow.{modulo_8}
 use Rattle.packet_end.specs.declared.params.EndParams.{EndParams}
 use Rattle.packet_end.specs.Params.{AreParams}
 use Rattle.packet_end.specs.PacketEnd.{finished, all_offered}
@@ -19,7 +20,7 @@ use Rattle.net_events.specs.NodeEvents.NodeEvent.{Restarts, AtTerminal}
 use Rattle.line_nodes.specs.declared.terminal.TerminalEvent.TheVariants.{Key}
 use Rattle.net_events.specs.Network.{User, NetLine, Network, net_turn, with_turn_at, HappenedAt}
 use Rattle.network_laws.specs.IsNetwork.{IsNetwork}
-use Rattle.net_events.specs.Opening.{NewNode, Planned, PlannedUser, PlannedSwitch, NewLine, NetPlan, IsLinePlan, IsNodePlan, IsPlan, AreUsers, placed_new, line_plan, NodeIsMade, LineIsMade, IsMade}
+use Rattle.net_events.specs.Opening.{NewNode, Planned, PlannedUser, PlannedSwitch, NewLine, NetPlan, IsLinePlan, IsNodePlan, IsPlan, AreUsers, placed_new, line_plan, new_at, NodeIsMade, LineIsMade, IsMade}
 use Rattle.net_events.proofs.Users.{same_planned}
 use Rattle.network_laws.proofs.Networks.{happened_network}
 use Rattle.network_laws.proofs.Opened.{made_network}
@@ -27,7 +28,7 @@ use Rattle.network_laws.proofs.Opened.{made_network}
 -- ---- the plan
 
 abbrev params : EndParams
-params = record { k = 7; n2 = 3; channels = 4; window = 2; standing = false }
+params = record { k = 7; n2 = 3; channels = 4; flow = modulo_8 2; standing = false }
 
 are_params : AreParams params
 are_params =
@@ -37,7 +38,7 @@ are_params =
     let most_window : 2 ≤ 7 = omega arith in let least_window : 1 ≤ 2 = omega arith in
     record {
       link = record { k_least = least_k; k_most = most_k; n2_least = least_polls; n2_most = most_polls };
-      layer = record { channels_least = least_channels; channels_most = most_channels; window_least = least_window; window_most = most_window };
+      layer = record { channels_least = least_channels; channels_most = most_channels; flow_is = record { window_least = least_window; window_most = most_window; size_is = refl } };
     }
 
 abbrev node : (line : ℕ) → Role → NewNode
@@ -59,36 +60,34 @@ plan = record {
 
 line_planned : (line : ℕ) (l : NewLine) → slice_get plan.lines line ≡ Some l → IsLinePlan plan.nodes line l
 line_planned zero l at = let P : NewLine → Type 0 = λ x. IsLinePlan plan.nodes 0 x in subst P (same_Some (record { dte = 0; dce = 1; address = []; params = params }) l at) (record {
-  dte = pad_node;
+  dte = PlannedUser pad_node;
   dce = PlannedUser (node 0 Dce);
   dte_there = refl;
   dce_there = refl;
-  dte_line = refl;
-  dte_role = refl;
-  dce_stands = (refl, refl, refl);
-  dte_made = (let least : 1 ≤ 2 = omega arith in let most : 2 ≤ 16 = omega arith in (least, most));
+  dte_stands = (refl, refl);
+  dce_stands = (refl, refl);
+  kind = (let least : 1 ≤ 2 = omega arith in let most : 2 ≤ 16 = omega arith in ((least, most), refl));
   apart = λ e. omega (arith, e);
   params = are_params;
 })
 line_planned (suc zero) l at = let P : NewLine → Type 0 = λ x. IsLinePlan plan.nodes 1 x in subst P (same_Some (record { dte = 2; dce = 3; address = []; params = params }) l at) (record {
-  dte = node 1 Dte;
+  dte = PlannedUser (node 1 Dte);
   dce = PlannedUser (node 1 Dce);
   dte_there = refl;
   dce_there = refl;
-  dte_line = refl;
-  dte_role = refl;
-  dce_stands = (refl, refl, refl);
-  dte_made = tt;
+  dte_stands = (refl, refl);
+  dce_stands = (refl, refl);
+  kind = (tt, refl);
   apart = λ e. omega (arith, e);
   params = are_params;
 })
 line_planned (suc (suc line)) l at = absurd (none-some l at)
 
 node_planned : (place : ℕ) (n : Planned) → slice_get plan.nodes place ≡ Some n → IsNodePlan plan.lines place n
-node_planned zero n at = subst (λ (x : Planned). IsNodePlan plan.lines 0 x) (same_Some (PlannedUser pad_node) n at) (record { line = record { dte = 0; dce = 1; address = []; params = params }; there = refl; at_end = inl refl })
-node_planned (suc zero) n at = subst (λ (x : Planned). IsNodePlan plan.lines 1 x) (same_Some (PlannedUser (node 0 Dce)) n at) (record { line = record { dte = 0; dce = 1; address = []; params = params }; there = refl; at_end = inr refl })
-node_planned (suc (suc zero)) n at = subst (λ (x : Planned). IsNodePlan plan.lines 2 x) (same_Some (PlannedUser (node 1 Dte)) n at) (record { line = record { dte = 2; dce = 3; address = []; params = params }; there = refl; at_end = inl refl })
-node_planned (suc (suc (suc zero))) n at = subst (λ (x : Planned). IsNodePlan plan.lines 3 x) (same_Some (PlannedUser (node 1 Dce)) n at) (record { line = record { dte = 2; dce = 3; address = []; params = params }; there = refl; at_end = inr refl })
+node_planned zero n at = subst (λ (x : Planned). IsNodePlan plan.lines 0 x) (same_Some (PlannedUser pad_node) n at) (record { line_is = record { dte = 0; dce = 1; address = []; params = params }; there = refl; at_end = inl refl })
+node_planned (suc zero) n at = subst (λ (x : Planned). IsNodePlan plan.lines 1 x) (same_Some (PlannedUser (node 0 Dce)) n at) (record { line_is = record { dte = 0; dce = 1; address = []; params = params }; there = refl; at_end = inr refl })
+node_planned (suc (suc zero)) n at = subst (λ (x : Planned). IsNodePlan plan.lines 2 x) (same_Some (PlannedUser (node 1 Dte)) n at) (record { line_is = record { dte = 2; dce = 3; address = []; params = params }; there = refl; at_end = inl refl })
+node_planned (suc (suc (suc zero))) n at = subst (λ (x : Planned). IsNodePlan plan.lines 3 x) (same_Some (PlannedUser (node 1 Dce)) n at) (record { line_is = record { dte = 2; dce = 3; address = []; params = params }; there = refl; at_end = inr refl })
 node_planned (suc (suc (suc (suc place)))) n at = absurd (none-some n at)
 
 users : AreUsers plan.nodes
@@ -102,8 +101,9 @@ planned : IsPlan plan
 planned = record {
   lines = line_planned;
   nodes = node_planned;
-  one_switch = λ i j m n at other. let u = users i (PlannedSwitch m) at in
-      absurd (let bad : PlannedSwitch m ≡ PlannedUser u.0 = u.1 in cc);
+  few_switches = (let few : 0 ≤ 16 = omega arith in few);
+  one_up = λ i j k l n at other switch same. let u = users k.dte (PlannedSwitch n) switch in
+      absurd (let bad : PlannedSwitch n ≡ PlannedUser u.0 = u.1 in cc);
 }
 
 -- ---- the network, on any kind of line: all first frames are in flight
@@ -132,28 +132,36 @@ few = omega arith
 
 sent : AreSent memory_service (new_dte NewHost params) (new_dce params) (flights NewHost)
 sent = record {
+  first = Dte;
   between = record { from_dte = up NewHost; from_dce = [] };
-  from_dte = (record { from_dte = up NewHost; from_dce = [] }, inl (few, refl), refl);
-  from_dce = (flights NewHost, inl (few, refl), refl);
+  from_first = (record { from_dte = up NewHost; from_dce = [] }, inl (few, refl), refl);
+  from_other = (flights NewHost, inl (few, refl), refl);
 }
 
 pad_sent : AreSent memory_service (new_dte new_pad params) (new_dce params) (flights new_pad)
 pad_sent = record {
+  first = Dte;
   between = record { from_dte = up new_pad; from_dce = [] };
-  from_dte = (record { from_dte = up new_pad; from_dce = [] }, inl (few, refl), refl);
-  from_dce = (flights new_pad, inl (few, refl), refl);
+  from_first = (record { from_dte = up new_pad; from_dce = [] }, inl (few, refl), refl);
+  from_other = (flights new_pad, inl (few, refl), refl);
 }
+
+both_sent : (kind : NewDte) (m n dte dce : Planned) → m ≡ dte → n ≡ dce → AreSent memory_service (new_at m Dte params) (new_at n Dce params) (flights kind)
+    → AreSent memory_service (new_at dte Dte params) (new_at dce Dce params) (flights kind)
+both_sent kind m n dte dce is_dte is_dce h =
+    subst (λ (y : Planned). AreSent memory_service (new_at dte Dte params) (new_at y Dce params) (flights kind)) is_dce
+    (subst (λ (x : Planned). AreSent memory_service (new_at x Dte params) (new_at n Dce params) (flights kind)) is_dte h)
 
 line_made : (line : ℕ) (l : NewLine) → slice_get plan.lines line ≡ Some l → LineIsMade memory_service plan network line l
 line_made zero l at = subst (λ (x : NewLine). LineIsMade memory_service plan network 0 x) (same_Some (record { dte = 0; dce = 1; address = []; params = params }) l at) (record {
   flights = flights new_pad;
   there = refl;
-  sent = λ f dte there. subst (λ (x : NewNode). AreSent memory_service (new_dte x.as_dte params) (new_dce params) (flights new_pad)) (same_planned pad_node dte there) (pad_sent);
+  sent = λ f dte dce there other. both_sent new_pad (PlannedUser pad_node) (PlannedUser (node 0 Dce)) dte dce (same_Some (PlannedUser pad_node) dte there) (same_Some (PlannedUser (node 0 Dce)) dce other) pad_sent;
 })
 line_made (suc zero) l at = subst (λ (x : NewLine). LineIsMade memory_service plan network 1 x) (same_Some (record { dte = 2; dce = 3; address = []; params = params }) l at) (record {
   flights = flights NewHost;
   there = refl;
-  sent = λ f dte there. subst (λ (x : NewNode). AreSent memory_service (new_dte x.as_dte params) (new_dce params) (flights NewHost)) (same_planned (node 1 Dte) dte there) (sent);
+  sent = λ f dte dce there other. both_sent NewHost (PlannedUser (node 1 Dte)) (PlannedUser (node 1 Dce)) dte dce (same_Some (PlannedUser (node 1 Dte)) dte there) (same_Some (PlannedUser (node 1 Dce)) dce other) sent;
 })
 line_made (suc (suc line)) l at = absurd (none-some l at)
 

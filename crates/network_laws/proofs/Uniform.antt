@@ -12,7 +12,7 @@ use Rattle.packet_host.specs.Saying.{cut, say_refusal}
 use Rattle.call_records.specs.Book.{Book}
 use Rattle.call_records.specs.Writes.{Write, all_written}
 use Rattle.call_records.specs.Writes.Write.{Told, Placed, Asked, Said, Took, Cleared, AllClosed}
-use Rattle.x25_pad.specs.Notes.{PadNote}
+use Rattle.x25_pad.specs.Notes.{ChannelNote}
 use Rattle.x25_pad.specs.Notes as pad
 use Rattle.pad_records.specs.Writing.{write_of, writes_of}
 use Rattle.register_laws.specs.Giving.{GivesNone, AllGiveNone}
@@ -99,7 +99,7 @@ uniform (AtTerminal terminal event) role (Host e) = nothing role (Host e)
 
 -- ---- no user gives a calling address
 
-note_gives : (note : PadNote) → GivesNone (write_of note)
+note_gives : (note : ChannelNote) → GivesNone (write_of note)
 note_gives (pad.Told note) = tt
 note_gives (pad.Placed channel address) = refl
 note_gives (pad.Accepted channel) = tt
@@ -110,7 +110,7 @@ note_gives (pad.Sent channel d) = tt
 note_gives (pad.Interrupted channel octets) = tt
 note_gives (pad.Took channel x) = tt
 
-notes_give : (notes : List PadNote) → AllGiveNone (writes_of notes)
+notes_give : (notes : List ChannelNote) → AllGiveNone (writes_of notes)
 notes_give [] = tt
 notes_give (note ∷ notes) = (note_gives note, notes_give notes)
 

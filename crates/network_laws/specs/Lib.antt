@@ -8,6 +8,7 @@ pub use Rattle.net_events.specs.Opening
 pub use Rattle.node_laws.specs.Quiet
 pub mod IsLine
 pub mod LineLaw
+pub mod LineCourse
 pub mod PadRun
 pub mod IsNetwork
 pub mod Promise

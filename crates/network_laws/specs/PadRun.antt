@@ -11,6 +11,7 @@ use Rattle.link_timers.specs.declared.timers.TimerId.TheVariants.{T1}
 use Rattle.epochs.specs.Item.{DataPacket}
 use Rattle.epochs.specs.Epoch.{SentEpoch, TakenEpoch, nothing_sent, nothing_taken}
 use Rattle.pad_editing.specs.Edited.{key}
+use Rattle.packet_layer.specs.Flow.{modulo_8}
 use Rattle.packet_layer.specs.Channel.{Request}
 use Rattle.packet_layer.specs.Channel.Request.{Accept, Resetting}
 use Rattle.packet_end.specs.declared.params.EndParams.{EndParams}
@@ -34,7 +35,7 @@ use Rattle.network_laws.specs.LineLaw.{made_line}
 -- ---- the line, of one channel
 
 abbrev pub params : (standing : Bool) → EndParams
-params standing = record { k = 7; n2 = 3; channels = 1; window = 2; standing = standing }
+params standing = record { k = 7; n2 = 3; channels = 1; flow = modulo_8 2; standing = standing }
 
 -- DLE recalls, CR ends a block, DEL takes an octet back; a break is told by an interrupt and an indication of break,
 -- and discards output

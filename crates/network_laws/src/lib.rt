@@ -4,5 +4,5 @@
 mod line;
 mod network;
 
-pub use line::{one_line_law, pad_run_law};
+pub use line::{line_course_law, one_line_law, pad_run_law};
 pub use network::network_law;

@@ -1,5 +1,6 @@
 //! One line of a network.
 ghost use Rattle.network_laws.specs.LineLaw.{MadeLaw, EventLaw, LossLaw, TimeLaw, BookLaw, TypedLaw};
+ghost use Rattle.network_laws.specs.LineCourse.{MadeCourse, EventCourse, LossCourse, TimeCourse, SentCourse};
 ghost use Rattle.network_laws.specs.PadRun.{PadRunLaw};
 
 use memory_line::Line;
@@ -15,6 +16,18 @@ pub fn one_line_law<L: Line>()
     ensures time { TimeLaw L.service }
     ensures book { BookLaw L.service }
     ensures typed { TypedLaw L.service }
+{}
+
+/// The law of the course of events that leads to a PAD on a line, over definitions alone. It begins where the line is
+/// made. An event at the PAD, with the octets of a frame as they arrive, makes it go on by this event, and one at the
+/// other end by what is written there; time goes on, and a loss is no event of it. Each record of the PAD has sent what
+/// was typed, and of itself what its occasions in this course ask for (X.3; X.28 3.3; X.29 4.4).
+pub fn line_course_law<L: Line>()
+    ensures made { MadeCourse }
+    ensures event { EventCourse L.service }
+    ensures loss { LossCourse }
+    ensures time { TimeCourse }
+    ensures sent { SentCourse }
 {}
 
 /// Two runs of a PAD and a host on a line, by computation. The law of the line speaks of both from the making on. One

@@ -21,7 +21,7 @@ use Rattle.net_turns.specs.Sends.{ArePutsOf}
 use Rattle.net_nodes.specs.Turns.{AtEnd}
 use Rattle.net_nodes.specs.Steps.{AtNode}
 use Rattle.network_laws.proofs.Networks.{book_there}
-use Rattle.switch_network_laws.specs.IsSwitched.{IsAny, of_users, with_switch}
+use Rattle.switch_network_laws.specs.IsSwitched.{IsAny, of_users, with_switches}
 use Rattle.line_sim.specs.Between.{IsBetweenEvents}
 use Rattle.run_laws.specs.Determined.{IsSameAnswer}
 use Rattle.run_laws.proofs.Puts.{puts_once, listed_once}
@@ -119,7 +119,7 @@ apart : (s : Network) → IsAny memory_service s → (line : ℕ) (l : NetLine) 
     → l.dte ≢ l.dce
 apart s (of_users n a) line l at =
     let b = book_there memory_service s n line l at in (n.lines line l b.0 at b.1).holds.apart
-apart s (with_switch p a) line l at = (p.lines line l at).apart
+apart s (with_switches p a) line l at = (p.lines line l at).apart
 
 same_role : (role other : Role) (l : NetLine) (place : ℕ) → l.dte ≢ l.dce → place_at role l ≡ place
     → place_at other l ≡ place → role ≡ other

@@ -1,25 +1,61 @@
 -- By a plan a network is made in one way only.
-use Rattle.std.proofs.Common.{◌≡◌, ℕ, ◌≤◌, Some, refl, sym, ◌∙◌, subst, inl, inr}
+use Rattle.std.proofs.Common.{◌≡◌, ℕ, ◌≤◌, List, [], Some, refl, sym, ◌∙◌, subst, inl, inr}
 use Rattle.std.specs.Prelude.{slice_get}
 use Rattle.std.proofs.lemmas.Option.{slice_get_cases, slice_get_past}
+use Rattle.link_timers.specs.declared.role.Role.{Role}
+use Rattle.link_timers.specs.declared.role.Role.TheVariants.{Dte, Dce}
+use Rattle.link_timers.specs.Role.{other_of}
+use Rattle.memory_line.specs.declared.line.Direction.{Direction}
 use Rattle.memory_line.specs.declared.line.Direction.TheVariants.{FromDte, FromDce}
-use Rattle.memory_line.specs.Lines.{Flights, no_flights, memory_service}
+use Rattle.memory_line.specs.Lines.{Flights, no_flights, flying, memory_service, ArePut}
 use Rattle.line_nodes.specs.Node.{NodeState, frames_of}
 use Rattle.net_events.specs.Network.{Network}
+use Rattle.net_events.specs.OneLine.{direction_of}
 use Rattle.net_events.specs.Opening.{Planned, PlannedUser, PlannedSwitch, NewLine, NetPlan, IsPlan}
-use Rattle.net_events.specs.Opening.{NodeIsMade, LineIsMade, AreSent, IsMade, IsNodePlan, new_dte, new_dce}
+use Rattle.net_events.specs.Opening.{NodeIsMade, LineIsMade, AreSent, IsMade, IsNodePlan, new_at, end_of_two}
 use Rattle.run_laws.specs.Determined.{MakingLaw}
-use Rattle.run_laws.proofs.Puts.{puts_once}
+use Rattle.run_laws.proofs.Puts.{puts_alike, dte_stays, dce_stays}
 use Rattle.run_laws.proofs.Switches.{same_lists}
 
 -- ---- lines
 
+-- what flies in a direction was put where nothing flew in it
+record IsFirst (d : Direction) (frames flown : List (List ℕ)) : Type 0 where
+  old : Flights
+  new : Flights
+  none : flying d old ≡ []
+  put : ArePut memory_service d frames old new
+  is : flown ≡ flying d new
+
+first_once : (d : Direction) (frames flown other : List (List ℕ)) → IsFirst d frames flown → IsFirst d frames other → flown ≡ other
+first_once d frames flown other p q = p.is ∙ puts_alike frames d p.old p.new q.old q.new (p.none ∙ sym q.none) p.put q.put ∙ sym q.is
+
+-- whichever end puts first
+record AreFirst (dte dce : NodeState) (f : Flights) : Type 0 where
+  up : IsFirst FromDte (frames_of dte) f.from_dte
+  down : IsFirst FromDce (frames_of dce) f.from_dce
+
+are_first : (first : Role) (dte dce : NodeState) (between f : Flights)
+    → ArePut memory_service (direction_of first) (frames_of (end_of_two first dte dce)) no_flights between
+    → ArePut memory_service (direction_of (other_of first)) (frames_of (end_of_two (other_of first) dte dce)) between f
+    → AreFirst dte dce f
+are_first Dte dte dce between f p q = record {
+  up = record { old = no_flights; new = between; none = refl; put = p; is = dte_stays (frames_of dce) between f q };
+  down = record { old = between; new = f; none = dce_stays (frames_of dte) no_flights between p; put = q; is = refl };
+}
+are_first Dce dte dce between f p q = record {
+  up = record { old = between; new = f; none = dte_stays (frames_of dce) no_flights between p; put = q; is = refl };
+  down = record { old = no_flights; new = between; none = refl; put = p; is = dce_stays (frames_of dte) between f q };
+}
+
 sent_once : (dte dce : NodeState) (f g : Flights) → AreSent memory_service dte dce f → AreSent memory_service dte dce g
     → f ≡ g
 sent_once dte dce f g p q =
-    puts_once (frames_of dce) FromDce p.between q.between f g
-    (puts_once (frames_of dte) FromDte no_flights no_flights p.between q.between refl p.from_dte q.from_dte) p.from_dce
-    q.from_dce
+    let a = are_first p.first dte dce p.between f p.from_first p.from_other in
+    let b = are_first q.first dte dce q.between g q.from_first q.from_other in
+    let up = first_once FromDte (frames_of dte) f.from_dte g.from_dte a.up b.up in
+    let down = first_once FromDce (frames_of dce) f.from_dce g.from_dce a.down b.down in
+    λ i. record { from_dte = up i; from_dce = down i }
 
 line_once : (plan : NetPlan) (s t : Network) (line : ℕ) (l : NewLine) → IsPlan plan → slice_get plan.lines line ≡ Some l
     → LineIsMade memory_service plan s line l → LineIsMade memory_service plan t line l
@@ -27,8 +63,8 @@ line_once : (plan : NetPlan) (s t : Network) (line : ℕ) (l : NewLine) → IsPl
 line_once plan s t line l is at p q =
     let e = is.lines line l at in
     let flights : p.flights ≡ q.flights
-    = sent_once (new_dte e.dte.as_dte l.params) (new_dce l.params) p.flights q.flights (p.sent tt e.dte e.dte_there)
-    (q.sent tt e.dte e.dte_there) in
+    = sent_once (new_at e.dte Dte l.params) (new_at e.dce Dce l.params) p.flights q.flights
+    (p.sent tt e.dte e.dce e.dte_there e.dce_there) (q.sent tt e.dte e.dce e.dte_there e.dce_there) in
     p.there
     ∙ (λ i. Some (record { dte = l.dte; dce = l.dce; channels = l.params.channels; flights = flights i }))
     ∙ sym q.there
@@ -37,7 +73,7 @@ line_once plan s t line l is at p q =
 
 node_once : (plan : NetPlan) (s t : Network) (place : ℕ) (n : Planned) → IsNodePlan plan.lines place n
     → NodeIsMade plan s place n → NodeIsMade plan t place n → slice_get s.nodes place ≡ slice_get t.nodes place
-node_once plan s t place (PlannedUser n) is p q = p is.line is.there ∙ sym (q is.line is.there)
+node_once plan s t place (PlannedUser n) is p q = p is.line_is is.there ∙ sym (q is.line_is is.there)
 node_once plan s t place (PlannedSwitch n) is p q = p ∙ sym q
 
 -- ---- the network

@@ -12,7 +12,7 @@ use Rattle.net_config.specs.declared.config.Config.{Config}
 use Rattle.net_events.specs.declared.answer.Answer.{Answer}
 use Rattle.net_events.specs.declared.answer.Outcome.TheVariants.{Done}
 use Rattle.net_events.specs.Network.{User}
-use Rattle.net_events.specs.Opening.{NewNode, NewHost, Planned, PlannedUser, PlannedSwitch, NewLine, NetPlan, new_dte, new_dce, placed_new}
+use Rattle.net_events.specs.Opening.{NewNode, NewHost, Planned, PlannedUser, PlannedSwitch, NewLine, NetPlan, new_dte, new_dce, new_at, placed_new}
 use Rattle.net_events.specs.Opening.{IsLinePlan, IsNodePlan, IsPlan, AreSent, NodeIsMade, LineIsMade, IsMade}
 use Rattle.net_events.proofs.Users.{same_planned}
 use Rattle.net_nodes.specs.Steps.{LoseStep}
@@ -28,19 +28,18 @@ are_params =
     let most_window : 2 ≤ 7 = omega arith in let least_window : 1 ≤ 2 = omega arith in
     record {
       link = record { k_least = least_k; k_most = most_k; n2_least = least_polls; n2_most = most_polls };
-      layer = record { channels_least = least_channels; channels_most = most_channels; window_least = least_window; window_most = most_window };
+      layer = record { channels_least = least_channels; channels_most = most_channels; flow_is = record { window_least = least_window; window_most = most_window; size_is = refl } };
     }
 
 line_planned : (line : ℕ) (l : NewLine) → slice_get two_hosts.lines line ≡ Some l → IsLinePlan two_hosts.nodes line l
 line_planned zero l at = subst (λ (x : NewLine). IsLinePlan two_hosts.nodes 0 x) (same_Some new_line l at) (record {
-  dte = host Dte;
+  dte = PlannedUser (host Dte);
   dce = PlannedUser (host Dce);
   dte_there = refl;
   dce_there = refl;
-  dte_line = refl;
-  dte_role = refl;
-  dce_stands = (refl, refl, refl);
-  dte_made = tt;
+  dte_stands = (refl, refl);
+  dce_stands = (refl, refl);
+  kind = (tt, refl);
   apart = λ e. omega (arith, e);
   params = are_params;
 })
@@ -49,10 +48,10 @@ line_planned (suc line) l at = absurd (none-some l at)
 node_planned : (place : ℕ) (n : Planned) → slice_get two_hosts.nodes place ≡ Some n → IsNodePlan two_hosts.lines place n
 node_planned zero n at =
     subst (λ (x : Planned). IsNodePlan two_hosts.lines 0 x) (same_Some (PlannedUser (host Dte)) n at)
-    (record { line = new_line; there = refl; at_end = inl refl })
+    (record { line_is = new_line; there = refl; at_end = inl refl })
 node_planned (suc zero) n at =
     subst (λ (x : Planned). IsNodePlan two_hosts.lines 1 x) (same_Some (PlannedUser (host Dce)) n at)
-    (record { line = new_line; there = refl; at_end = inr refl })
+    (record { line_is = new_line; there = refl; at_end = inr refl })
 node_planned (suc (suc place)) n at = absurd (none-some n at)
 
 user_there : (place : ℕ) (n : Planned) → slice_get two_hosts.nodes place ≡ Some n → (user : NewNode) × (n ≡ PlannedUser user)
@@ -64,8 +63,9 @@ planned : IsPlan two_hosts
 planned = record {
   lines = line_planned;
   nodes = node_planned;
-  one_switch = λ i j m n at other. let u = user_there i (PlannedSwitch m) at in
-      absurd (let bad : PlannedSwitch m ≡ PlannedUser u.0 = u.1 in cc);
+  few_switches = (let none : 0 ≤ 16 = omega arith in none);
+  one_up = λ line other k l n at there switch same. let u = user_there k.dte (PlannedSwitch n) switch in
+      absurd (let bad : PlannedSwitch n ≡ PlannedUser u.0 = u.1 in cc);
 }
 
 -- ---- the network
@@ -75,9 +75,10 @@ few = omega arith
 
 sent : AreSent memory_service (new_dte NewHost parameters) (new_dce parameters) (line_with first_frames).flights
 sent = record {
+  first = Dte;
   between = record { from_dte = first_frames; from_dce = [] };
-  from_dte = (record { from_dte = first_frames; from_dce = [] }, inl (few, refl), refl);
-  from_dce = ((line_with first_frames).flights, inl (few, refl), refl);
+  from_first = (record { from_dte = first_frames; from_dce = [] }, inl (few, refl), refl);
+  from_other = ((line_with first_frames).flights, inl (few, refl), refl);
 }
 
 line_made : (line : ℕ) (l : NewLine) → slice_get two_hosts.lines line ≡ Some l
@@ -86,9 +87,11 @@ line_made zero l at =
     subst (λ (x : NewLine). LineIsMade memory_service two_hosts (network first_frames) 0 x) (same_Some new_line l at) (record {
       flights = (line_with first_frames).flights;
       there = refl;
-      sent = λ f dte there.
-          subst (λ (x : NewNode). AreSent memory_service (new_dte x.as_dte parameters) (new_dce parameters) (line_with first_frames).flights)
-          (same_planned (host Dte) dte there) sent;
+      sent = λ f dte dce dte_there dce_there.
+          subst (λ (y : Planned). AreSent memory_service (new_at dte Dte parameters) (new_at y Dce parameters) (line_with first_frames).flights)
+          (same_Some (PlannedUser (host Dce)) dce dce_there)
+          (subst (λ (x : Planned). AreSent memory_service (new_at x Dte parameters) (new_dce parameters) (line_with first_frames).flights)
+          (same_Some (PlannedUser (host Dte)) dte dte_there) sent);
     })
 line_made (suc line) l at = absurd (none-some l at)
 

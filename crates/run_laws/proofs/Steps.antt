@@ -2,6 +2,7 @@
 use Rattle.std.proofs.Common.{◌≡◌, ℕ, List, set, Some, refl, sym, ap, ◌∙◌, subst, inl, inr}
 use Rattle.std.specs.Prelude.{slice_get}
 use Rattle.std.proofs.lemmas.Option.{same_Some, none-some}
+use Rattle.link_timers.specs.declared.role.Role.{Role}
 use Rattle.link_timers.specs.declared.role.Role.TheVariants.{Dte}
 use Rattle.link_timers.specs.declared.timers.TimerId.{TimerId}
 use Rattle.memory_line.specs.declared.line.Direction.{Direction}
@@ -11,22 +12,19 @@ use Rattle.net_events.specs.NodeEvents.{NodeEvent, Hears, Expires, Relinks, Rest
 use Rattle.net_events.specs.NodeEvents as node_event
 use Rattle.net_events.specs.AtSwitch as switch_event
 use Rattle.net_events.specs.OneLine.{direction_to}
-use Rattle.net_events.specs.Network.{User, Switching, NetLine, Network, place_at}
-use Rattle.net_events.specs.Network.{LostAt, StandsAtLines}
+use Rattle.net_events.specs.Network.{User, NetLine, Network, LostAt}
 use Rattle.net_events.specs.EventView.{request_event}
 use Rattle.net_events.specs.declared.answer.Answer.{Answer}
 use Rattle.net_events.specs.declared.answer.Outcome.{Outcome}
 use Rattle.net_events.specs.declared.event.Event.TheVariants.{AtTerminal, Call, Ask, Take, Deliver, Lose, Expire}
 use Rattle.net_events.specs.declared.event.Event.TheVariants.{Relink, Restart}
 use Rattle.net_events.proofs.Users.{not_both}
-use Rattle.net_nodes.specs.Turns.{AtEnd}
-use Rattle.net_nodes.specs.Steps.{AtNode, OnOwnLine, LoseStep, EmptyDelivery, SwitchHears, IsHeard}
-use Rattle.net_nodes.specs.Steps.{DeliverStep, ExpireStep, RestartStep, hearer}
+use Rattle.net_nodes.specs.Steps.{AtNode, LoseStep, EmptyDelivery, IsHeard}
+use Rattle.net_nodes.specs.Steps.{DeliverStep, ExpireStep, RelinkStep, RestartStep, hearer}
 use Rattle.line_sim.specs.Between.{IsBetweenEvents}
-use Rattle.line_sim.proofs.Standing.{standing}
 use Rattle.run_laws.specs.Determined.{IsSameAnswer, StepLaw}
 use Rattle.run_laws.proofs.Ends.{at_end_once, at_node_once}
-use Rattle.run_laws.proofs.Switches.{at_switch_once, on_line_once}
+use Rattle.run_laws.proofs.Switches.{at_switch_once, on_line_once, at_switch_end_once, not_both_there}
 
 -- ---- frames in flight
 
@@ -71,13 +69,14 @@ heard_first line d octets s a t (inl p) =
           ap (λ (e : Direction). slice_get (flying e h.line_is.flights) 0) (sym (to_hearer d)) ∙ (h.left tt).0;
     }
 heard_first line d octets s a t (inr p) =
-    let h = p.heard.does.happened in
-    let x = h.lines.own_lines p.heard.own line p.heard.own_line in
+    let h = p.there.does.happened in
+    let x = h.lines.own_lines p.there.own line p.there.own_line in
     record {
       line_is = x.line_is;
       line_there = x.line_there;
       first =
-          ap (λ (e : Direction). slice_get (flying e x.line_is.flights) 0) p.to_dce ∙ ((x.left tt).0 refl).0;
+          ap (λ (e : Direction). slice_get (flying e x.line_is.flights) 0)
+          (sym (ap (λ (r : Role). direction_to r) p.role_is ∙ to_hearer d)) ∙ ((x.left tt).0 refl).0;
     }
 
 first_once : (line : ℕ) (d : Direction) (octets other : List ℕ) (s : Network) → IsFirst line d octets s
@@ -95,43 +94,6 @@ not_empty line d octets s a t p q =
     none-some octets
     (sym (p.none tt) ∙ ap (λ (x : NetLine). slice_get (flying d x.flights) 0) line_is ∙ q.first)
 
--- ---- a switch is the DCE of its lines
-
-switch_at : (line : ℕ) (d : Direction) (octets : List ℕ) (s : Network) (a : Answer) (t : Network)
-    → IsBetweenEvents memory_service s → (p : SwitchHears memory_service line d octets s a t) → (l : NetLine)
-    → slice_get s.lines line ≡ Some l → l.dce ≡ p.place
-switch_at line d octets s a t holds p l at =
-    let h = p.heard.does.happened in
-    let stands : StandsAtLines s.lines p.place h.node
-    = (standing memory_service s holds).nodes p.place (Switching h.node) h.node_there in
-    let e = stands.each p.heard.own line p.heard.own_line in
-    ap (λ (x : NetLine). x.dce) (same_Some l e.line_is (sym at ∙ e.there)) ∙ e.at_end
-
-not_both_hear : (line : ℕ) (d : Direction) (octets other : List ℕ) (s t u : Network) (a b : Answer)
-    → IsBetweenEvents memory_service s
-    → AtEnd memory_service (record { line = line; role = hearer d }) (Hears octets) s a t
-    → SwitchHears memory_service line d other s b u → ⊥
-not_both_hear line d octets other s t u a b holds p q =
-    let h = p.happened in
-    let k = q.heard.does.happened in
-    let place : h.line_is.dce ≡ q.place = switch_at line d other s b u holds q h.line_is h.line_there in
-    let dce : place_at (hearer d) h.line_is ≡ q.place
-    = ap (λ (e : Direction). place_at (hearer e) h.line_is) q.to_dce ∙ place in
-    not_both h.node k.node
-    (sym h.node_there ∙ ap (λ (i : ℕ). slice_get s.nodes i) dce ∙ k.node_there)
-
-switch_hears_once : (line : ℕ) (d : Direction) (octets : List ℕ) (s t u : Network) (a b : Answer)
-    → IsBetweenEvents memory_service s → SwitchHears memory_service line d octets s a t
-    → SwitchHears memory_service line d octets s b u → IsSameAnswer a b × (t ≡ u)
-switch_hears_once line d octets s t u a b holds p q =
-    let f = heard_first line d octets s a t (inr p) in
-    let place : p.place ≡ q.place
-    = sym (switch_at line d octets s a t holds p f.line_is f.line_there)
-    ∙ switch_at line d octets s b u holds q f.line_is f.line_there in
-    let Heard : ℕ → Type 0 = λ i. OnOwnLine memory_service i line (λ own. switch_event.Hears own octets) s b u in
-    on_line_once p.place line (λ own. switch_event.Hears own octets) s t u a b holds p.heard
-    (subst Heard (sym place) q.heard)
-
 -- ---- deliveries
 
 heard_once : (line : ℕ) (d : Direction) (octets : List ℕ) (s t u : Network) (a b : Answer)
@@ -140,10 +102,11 @@ heard_once : (line : ℕ) (d : Direction) (octets : List ℕ) (s t u : Network) 
 heard_once line d octets s t u a b holds (inl p) (inl q) =
     at_end_once line (hearer d) (Hears octets) s t u a b p q
 heard_once line d octets s t u a b holds (inl p) (inr q) =
-    absurd (not_both_hear line d octets octets s t u a b holds p q)
+    absurd (not_both_there line (hearer d) (Hears octets) (λ own. switch_event.Hears own octets) s t u a b holds p q)
 heard_once line d octets s t u a b holds (inr p) (inl q) =
-    absurd (not_both_hear line d octets octets s u t b a holds q p)
-heard_once line d octets s t u a b holds (inr p) (inr q) = switch_hears_once line d octets s t u a b holds p q
+    absurd (not_both_there line (hearer d) (Hears octets) (λ own. switch_event.Hears own octets) s u t b a holds q p)
+heard_once line d octets s t u a b holds (inr p) (inr q) =
+    at_switch_end_once line (hearer d) (λ own. switch_event.Hears own octets) s t u a b holds p q
 
 delivered_once : (line : ℕ) (d : Direction) (s t u : Network) (a b : Answer) → IsBetweenEvents memory_service s
     → DeliverStep memory_service line d s a t → DeliverStep memory_service line d s b u → IsSameAnswer a b × (t ≡ u)
@@ -191,6 +154,18 @@ restarted_once place s t u a b holds (inr p) (inl q) =
     (sym (user_there place Restarts s b u q) ∙ p.happened.node_there))
 restarted_once place s t u a b holds (inr p) (inr q) = at_switch_once place switch_event.Restarts s t u a b p q
 
+-- ---- a link that is given up
+
+relinked_once : (line : ℕ) (s t u : Network) (a b : Answer) → IsBetweenEvents memory_service s
+    → RelinkStep memory_service line s a t → RelinkStep memory_service line s b u → IsSameAnswer a b × (t ≡ u)
+relinked_once line s t u a b holds (inl p) (inl q) = at_end_once line Dte Relinks s t u a b p q
+relinked_once line s t u a b holds (inl p) (inr q) =
+    absurd (not_both_there line Dte Relinks (λ own. switch_event.Relinks own) s t u a b holds p q)
+relinked_once line s t u a b holds (inr p) (inl q) =
+    absurd (not_both_there line Dte Relinks (λ own. switch_event.Relinks own) s u t b a holds q p)
+relinked_once line s t u a b holds (inr p) (inr q) =
+    at_switch_end_once line Dte (λ own. switch_event.Relinks own) s t u a b holds p q
+
 -- ---- each event
 
 pub step_once : StepLaw
@@ -204,6 +179,5 @@ step_once (Take node channel) s t u a b holds p q = at_node_once node (Takes cha
 step_once (Deliver line direction) s t u a b holds p q = delivered_once line direction s t u a b holds p q
 step_once (Lose line direction) s t u a b holds p q = lose_once line direction _ s t u a b p q
 step_once (Expire node line timer) s t u a b holds p q = expired_once node line timer s t u a b holds p q
-step_once (Relink line) s t u a b holds p q =
-    at_end_once line Dte Relinks s t u a b p q
+step_once (Relink line) s t u a b holds p q = relinked_once line s t u a b holds p q
 step_once (Restart node) s t u a b holds p q = restarted_once node s t u a b holds p q

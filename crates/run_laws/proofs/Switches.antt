@@ -3,16 +3,20 @@ use Rattle.std.proofs.Common.{◌≡◌, ℕ, suc, List, [], ◌∷◌, set, Som
 use Rattle.std.specs.Prelude.{◌⊎◌, slice_get}
 use Rattle.std.proofs.lemmas.Option.{same_Some, none-some}
 use Rattle.book_laws.proofs.Basics.{number_is}
-use Rattle.memory_line.specs.declared.line.Direction.TheVariants.{FromDce}
+use Rattle.link_timers.specs.declared.role.Role.{Role}
 use Rattle.memory_line.specs.Lines.{Flights, memory_service}
-use Rattle.net_events.specs.AtSwitch.{SwitchEvent, Hears, Expires, Restarts, LeftOn, OwnLineServed, LinesServed}
+use Rattle.net_events.specs.AtSwitch.{SwitchEvent, Hears, Expires, Relinks, Restarts, LeftOn, OwnLineServed, LinesServed}
 use Rattle.net_events.specs.AtSwitch.{SwitchHappened, switched, switch_drained, joins_of, waiting_on, all_handed}
-use Rattle.net_events.specs.Network.{PlacedSwitch, Switching, NetLine, Network, StandsAtLines}
+use Rattle.net_events.specs.OneLine.{direction_of}
+use Rattle.net_events.specs.Network.{PlacedSwitch, Switching, NetLine, Network, StandsAtLines, place_at, own_role}
+use Rattle.net_events.specs.NodeEvents.{NodeEvent}
 use Rattle.net_events.specs.declared.answer.Answer.{Answer}
+use Rattle.net_events.proofs.Users.{not_both}
+use Rattle.net_nodes.specs.Turns.{AtEnd}
 use Rattle.switch_turns.specs.Switching.{all_puts}
-use Rattle.net_nodes.specs.Steps.{AtSwitch, OnOwnLine}
+use Rattle.net_nodes.specs.Steps.{AtSwitch, OnOwnLine, AtSwitchEnd}
 use Rattle.switch_network_laws.proofs.Standing.{same_switch}
-use Rattle.switch_network_laws.proofs.SwitchStanding.{own_or_none}
+use Rattle.switch_network_laws.proofs.OwnLines.{own_or_none}
 use Rattle.line_sim.specs.Between.{IsBetweenEvents}
 use Rattle.line_sim.proofs.Standing.{standing}
 use Rattle.run_laws.specs.Determined.{IsSameAnswer}
@@ -30,25 +34,26 @@ same_lists (x ∷ xs) (y ∷ ys) same =
 
 -- ---- the lines of a switch
 
-left_once : (event : SwitchEvent) (own : ℕ) (before between other : Flights) → LeftOn event own before between
-    → LeftOn event own before other → between ≡ other
-left_once (Hears at octets) own before between other p q = elim (number_is own at) [
+left_once : (event : SwitchEvent) (own : ℕ) (role : Role) (before between other : Flights)
+    → LeftOn event own role before between → LeftOn event own role before other → between ≡ other
+left_once (Hears at octets) own role before between other p q = elim (number_is own at) [
   | inl here ↦ (p.0 here).1 ∙ sym (q.0 here).1
   | inr away ↦ p.1 away ∙ sym (q.1 away)
 ]
-left_once (Expires at id) own before between other p q = p ∙ sym q
-left_once Restarts own before between other p q = p ∙ sym q
+left_once (Expires at id) own role before between other p q = p ∙ sym q
+left_once (Relinks at) own role before between other p q = p ∙ sym q
+left_once Restarts own role before between other p q = p ∙ sym q
 
-own_once : (event : SwitchEvent) (own line : ℕ) (frames : List (List ℕ)) (before after other : List NetLine)
-    → OwnLineServed memory_service event own line frames before after
-    → OwnLineServed memory_service event own line frames before other → slice_get after line ≡ slice_get other line
-own_once event own line frames before after other p q =
+own_once : (event : SwitchEvent) (own line : ℕ) (role : Role) (frames : List (List ℕ)) (before after other : List NetLine)
+    → OwnLineServed memory_service event own line role frames before after
+    → OwnLineServed memory_service event own line role frames before other → slice_get after line ≡ slice_get other line
+own_once event own line role frames before after other p q =
     let line_is : p.line_is ≡ q.line_is = same_Some p.line_is q.line_is (sym p.line_there ∙ q.line_there) in
     let between : p.between ≡ q.between
-    = left_once event own p.line_is.flights p.between q.between (p.left tt)
-    (subst (λ (l : NetLine). LeftOn event own l.flights q.between) (sym line_is) (q.left tt)) in
+    = left_once event own role p.line_is.flights p.between q.between (p.left tt)
+    (subst (λ (l : NetLine). LeftOn event own role l.flights q.between) (sym line_is) (q.left tt)) in
     let flights : p.flights ≡ q.flights
-    = puts_once frames FromDce p.between q.between p.flights q.flights between (p.put tt) (q.put tt) in
+    = puts_once frames (direction_of role) p.between q.between p.flights q.flights between (p.put tt) (q.put tt) in
     p.after_there ∙ (λ i. Some (record (line_is i) { flights = flights i })) ∙ sym q.after_there
 
 lines_once : (event : SwitchEvent) (n : PlacedSwitch) (before after other : List NetLine)
@@ -61,7 +66,7 @@ lines_once event n before after other p q =
         → ((own : ℕ) × (slice_get n.lines own ≡ Some line)) ⊎ ((own : ℕ) → slice_get n.lines own ≡ Some line → ⊥)
         → slice_get after line ≡ slice_get other line
     at line (inl own) =
-        own_once event own.0 line (waiting_on own.0 (switched event n.switch)) before after other
+        own_once event own.0 line (own_role n.switch own.0) (waiting_on own.0 (switched event n.switch)) before after other
         (p.own_lines own.0 line own.1) (q.own_lines own.0 line own.1)
     at line (inr none) = p.others line none ∙ sym (q.others line none)
 
@@ -81,7 +86,7 @@ module _ (event : SwitchEvent) (place : ℕ) (s t u : Network) (h : SwitchHappen
 
   register_once : t.register ≡ u.register
   register_once =
-      h.register ∙ ap (λ (n : PlacedSwitch). all_handed n.lines (joins_of event n.switch) s.register) switch_once
+      h.register ∙ ap (λ (n : PlacedSwitch). all_handed n.lines (own_role n.switch) (joins_of event n.switch) s.register) switch_once
       ∙ sym k.register
 
   all_lines_once : t.lines ≡ u.lines
@@ -121,3 +126,40 @@ on_line_once place line event s t u a b holds p q =
     (ap (λ (n : PlacedSwitch). slice_get n.lines q.own) node ∙ q.own_line) in
     at_switch_once place (event p.own) s t u a b p.does
     (subst (λ (i : ℕ). AtSwitch memory_service place (event i) s b u) (sym own) q.does)
+
+-- ---- the switch at an end of a line
+
+pub switch_at : (line : ℕ) (role : Role) (event : ℕ → SwitchEvent) (s : Network) (a : Answer) (t : Network)
+    → IsBetweenEvents memory_service s → (p : AtSwitchEnd memory_service line role event s a t) → (l : NetLine)
+    → slice_get s.lines line ≡ Some l → place_at role l ≡ p.place
+switch_at line role event s a t holds p l at =
+    let h = p.there.does.happened in
+    let stands : StandsAtLines s.lines p.place h.node
+    = (standing memory_service s holds).nodes p.place (Switching h.node) h.node_there in
+    let e = stands.each p.there.own line p.there.own_line in
+    ap (λ (r : Role). place_at r l) (sym p.role_is)
+    ∙ ap (λ (x : NetLine). place_at (own_role h.node.switch p.there.own) x) (same_Some l e.line_is (sym at ∙ e.there))
+    ∙ e.at_end
+
+pub at_switch_end_once : (line : ℕ) (role : Role) (event : ℕ → SwitchEvent) (s t u : Network) (a b : Answer)
+    → IsBetweenEvents memory_service s → AtSwitchEnd memory_service line role event s a t
+    → AtSwitchEnd memory_service line role event s b u → IsSameAnswer a b × (t ≡ u)
+at_switch_end_once line role event s t u a b holds p q =
+    let h = p.there.does.happened in
+    let x = h.lines.own_lines p.there.own line p.there.own_line in
+    let place : p.place ≡ q.place
+    = sym (switch_at line role event s a t holds p x.line_is x.line_there)
+    ∙ switch_at line role event s b u holds q x.line_is x.line_there in
+    on_line_once p.place line event s t u a b holds p.there
+    (subst (λ (i : ℕ). OnOwnLine memory_service i line event s b u) (sym place) q.there)
+
+-- a node with users and a switch do not both stand at an end
+pub not_both_there : (line : ℕ) (role : Role) (happening : NodeEvent) (event : ℕ → SwitchEvent) (s t u : Network) (a b : Answer)
+    → IsBetweenEvents memory_service s → AtEnd memory_service (record { line = line; role = role }) happening s a t
+    → AtSwitchEnd memory_service line role event s b u → ⊥
+not_both_there line role happening event s t u a b holds p q =
+    let h = p.happened in
+    let k = q.there.does.happened in
+    let place : place_at role h.line_is ≡ q.place = switch_at line role event s b u holds q h.line_is h.line_there in
+    not_both h.node k.node
+    (sym h.node_there ∙ ap (λ (i : ℕ). slice_get s.nodes i) place ∙ k.node_there)

@@ -2,6 +2,7 @@
 use Rattle.std.specs.Prelude.{◌≡◌, ℕ, true, false, List, [], ◌∷◌, drop}
 use Rattle.link_timers.specs.declared.role.Role.{Role}
 use Rattle.link_timers.specs.declared.role.Role.TheVariants.{Dte, Dce}
+use Rattle.packet_layer.specs.Flow.{modulo_8}
 use Rattle.packet_end.specs.declared.params.EndParams.{EndParams}
 use Rattle.call_records.specs.Register.{made_register}
 use Rattle.line_nodes.specs.Node.{frames_of}
@@ -17,7 +18,7 @@ use Rattle.net_events.specs.Opening.{line_plan}
 use Rattle.line_sim.specs.Runs.{HasRun}
 
 abbrev pub parameters : EndParams
-parameters = record { k = 7; n2 = 3; channels = 4; window = 2; standing = false }
+parameters = record { k = 7; n2 = 3; channels = 4; flow = modulo_8 2; standing = false }
 
 abbrev pub host : Role → NewNode
 host role = record { line = 0; role = role; as_dte = NewHost }

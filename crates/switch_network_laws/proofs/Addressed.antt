@@ -4,7 +4,7 @@ use Rattle.std.specs.Prelude.{slice_get, is_some, if◌then◌else◌}
 use Rattle.std.proofs.lemmas.List.{length-set, length-map, length-append}
 use Rattle.std.proofs.lemmas.Option.{slice_get_within}
 use Rattle.link_timers.specs.declared.role.Role.{Role}
-use Rattle.link_timers.specs.declared.role.Role.TheVariants.{Dte, Dce}
+use Rattle.link_timers.specs.declared.role.Role.TheVariants.{Dte}
 use Rattle.memory_line.specs.declared.line.Direction.{Direction}
 use Rattle.memory_line.specs.Lines.{LineService}
 use Rattle.call_records.specs.Book.{Book}
@@ -16,8 +16,8 @@ use Rattle.switch_joins.specs.declared.channels.NewJoin.{NewJoin}
 use Rattle.call_path_laws.specs.OwnAddresses.{HaveOwnAddresses}
 use Rattle.call_path_laws.proofs.OwnAddresses.{made_owns, written_owns, handed_owns}
 use Rattle.network_laws.specs.NodeEvents.{NodeEvent}
-use Rattle.network_laws.specs.AtSwitch.{SwitchEvent, SwitchHappened, joins_of, all_handed, channel_end}
-use Rattle.network_laws.specs.Network.{Network, HappenedAt, LostAt}
+use Rattle.network_laws.specs.AtSwitch.{SwitchEvent, SwitchHappened, joins_of, all_handed, far_end, own_end}
+use Rattle.network_laws.specs.Network.{Network, HappenedAt, LostAt, own_role}
 use Rattle.network_laws.specs.Opening.{NetPlan, IsMade, line_plan}
 use Rattle.network_laws.proofs.Uniform.{uniform, none_given}
 use Rattle.switch_network_laws.specs.IsSwitched.{IsAddressed}
@@ -90,24 +90,24 @@ lines_handed from to g = by (is_some (slice_get g.lines to.line))
     by true = length-set g.lines to.line _
     by false = refl
 
-handed : (lines : List ℕ) (joins : List NewJoin) (g : Register)
-    → length (all_handed lines joins g).lines ≡ length g.lines
-handed lines [] g = refl
-handed lines (j ∷ joins) g =
-    handed lines joins
-    (handed_on (channel_end lines Dte j.came_in) (channel_end lines Dce j.placed) g)
-    ∙ lines_handed (channel_end lines Dte j.came_in) (channel_end lines Dce j.placed) g
+handed : (lines : List ℕ) (roles : ℕ → Role) (joins : List NewJoin) (g : Register)
+    → length (all_handed lines roles joins g).lines ≡ length g.lines
+handed lines roles [] g = refl
+handed lines roles (j ∷ joins) g =
+    handed lines roles joins
+    (handed_on (far_end lines roles j.came_in) (own_end lines roles j.placed) g)
+    ∙ lines_handed (far_end lines roles j.came_in) (own_end lines roles j.placed) g
 
-all_handed_own : (lines : List ℕ) (joins : List NewJoin) (g : Register) → HaveOwnAddresses g → HaveOwnAddresses (all_handed lines joins g)
-all_handed_own lines [] g h = h
-all_handed_own lines (j ∷ joins) g h =
-    all_handed_own lines joins (handed_on (channel_end lines Dte j.came_in) (channel_end lines Dce j.placed) g)
-    (handed_owns g (channel_end lines Dte j.came_in) (channel_end lines Dce j.placed) h)
+all_handed_own : (lines : List ℕ) (roles : ℕ → Role) (joins : List NewJoin) (g : Register) → HaveOwnAddresses g → HaveOwnAddresses (all_handed lines roles joins g)
+all_handed_own lines roles [] g h = h
+all_handed_own lines roles (j ∷ joins) g h =
+    all_handed_own lines roles joins (handed_on (far_end lines roles j.came_in) (own_end lines roles j.placed) g)
+    (handed_owns g (far_end lines roles j.came_in) (own_end lines roles j.placed) h)
 
 pub switched_addressed : (L : LineService) (event : SwitchEvent) (place : ℕ) (s t : Network) → IsAddressed s
     → SwitchHappened L event place s t → IsAddressed t
 switched_addressed L event place s t a h = record {
-  registered = ap (λ (g : Register). length g.lines) h.register ∙ handed h.node.lines (joins_of event h.node.switch) s.register ∙ a.registered
+  registered = ap (λ (g : Register). length g.lines) h.register ∙ handed h.node.lines (own_role h.node.switch) (joins_of event h.node.switch) s.register ∙ a.registered
       ∙ sym h.lines.count;
-  own = subst HaveOwnAddresses (sym h.register) (all_handed_own h.node.lines (joins_of event h.node.switch) s.register a.own);
+  own = subst HaveOwnAddresses (sym h.register) (all_handed_own h.node.lines (own_role h.node.switch) (joins_of event h.node.switch) s.register a.own);
 }

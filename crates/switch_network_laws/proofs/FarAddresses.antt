@@ -26,7 +26,7 @@ placed_near plan caller first hops line role user (by_switch from end channel p 
 pub record AreEnds (s : Network) : Type 0 where
   pub at_line : (line : ℕ) (l : NetLine) (role : Role) (n : PlacedNode) → slice_get s.lines line ≡ Some l
       → slice_get s.nodes (place_at role l) ≡ Some (User n) → n.line ≡ line
-  pub dte : (line : ℕ) (l : NetLine) → slice_get s.lines line ≡ Some l → HasUserAt s l Dte
+  pub dte : (line : ℕ) (l : NetLine) → slice_get s.lines line ≡ Some l → HasUserAt s l Dce → HasUserAt s l Dte
   pub nodes : (line : ℕ) (l : NetLine) (role : Role) → slice_get s.lines line ≡ Some l → (side_of role (book_at line s.register)).node ≡ place_at role l
   pub bare : (line : ℕ) (l : NetLine) (role : Role) → slice_get s.lines line ≡ Some l → HasUserAt s l Dce → (side_of role (book_at line s.register)).address ≡ []
 
@@ -51,7 +51,7 @@ module _ (s : Network) (plan : Plan) (plan_is : IsPlanOf s plan) (paths : PathsH
           past (x ∷ xs) (suc n) e = let rest = past xs n e in omega arith
 
   user_at : (line : ℕ) (l : NetLine) (role : Role) → slice_get s.lines line ≡ Some l → HasUserAt s l Dce → HasUserAt s l role
-  user_at line l Dte at user = ends.dte line l at
+  user_at line l Dte at user = ends.dte line l at user
   user_at line l Dce at user = user
 
   pub far_none : (i line : ℕ) (pair : PairValue) (callee : RecordValue) (l : NetLine) (role : Role) → slice_get s.register.pairs i ≡ Some pair → slice_get s.register.records pair.callee ≡ Some callee

@@ -1,8 +1,7 @@
--- Where a timer that is due expires at a node with users or at the switch, fewer are due then.
+-- Where a timer that is due expires at a node with users or at a switch, fewer are due then.
 use Rattle.std.proofs.Common.{◌≡◌, ℕ, ◌<◌, List, Some, sym, subst}
 use Rattle.std.specs.Prelude.{slice_get}
 use Rattle.link_timers.specs.declared.role.Role.{Role}
-use Rattle.link_timers.specs.declared.role.Role.TheVariants.{Dte, Dce}
 use Rattle.link_timers.specs.declared.timers.TimerId.{TimerId}
 use Rattle.call_records.specs.Register.{book_at}
 use Rattle.network_laws.specs.Node.{drained, node_due}
@@ -17,20 +16,16 @@ use Rattle.network_laws.specs.AtSwitch.{switch_drained}
 use Rattle.network_laws.specs.Network.{PlacedNode, NetNode, User, Switching, NetLine, Network, place_at, net_turn, HappenedAt}
 use Rattle.network_laws.specs.DueCount.{all_due}
 use Rattle.network_laws.proofs.Due.{fewer_of, fewer_due}
-use Rattle.switch_network_laws.specs.IsSwitched.{LineStands, IsSwitched, of_users, with_switch}
+use Rattle.switch_network_laws.specs.IsSwitched.{LineStands, IsSwitched, of_users, with_switches}
 use Rattle.switch_network_laws.specs.Laws.{FewerLaw, SwitchFewerLaw}
-use Rattle.switch_network_laws.proofs.UsersLine.{at_end, user_end}
+use Rattle.switch_network_laws.proofs.Standing.{user_end}
 use Rattle.switch_network_laws.proofs.SwitchStanding.{switch_quiet}
 
 -- ---- a node with users is quiet
 
-quiet_end : (nodes : List NetNode) (line : ℕ) (l : NetLine) (role : Role) (h : LineStands nodes line l) → IsQuiet (at_end role h.dte.node h.dce)
-quiet_end nodes line l Dte h = h.dte_quiet
-quiet_end nodes line l Dce h = h.dce_quiet
-
 pub quiet_user : (nodes : List NetNode) (line : ℕ) (l : NetLine) (h : LineStands nodes line l) (role : Role) (n : PlacedNode)
     → slice_get nodes (place_at role l) ≡ Some (User n) → IsQuiet n.node
-quiet_user nodes line l h role n there = subst IsQuiet (user_end nodes line l h role n there).node_is (quiet_end nodes line l role h)
+quiet_user nodes line l h role n there = subst IsQuiet (user_end nodes line l h role n there).node_is (h.quiet role)
 
 -- ---- fewer are due
 
@@ -43,13 +38,13 @@ fewer_at_user L line role id s t p d due =
 
 pub fewer_any : (L : LineService) → FewerLaw L
 fewer_any L line role id s t (of_users n a) d due = fewer_due L line role id s t n d due
-fewer_any L line role id s t (with_switch p a) d due = fewer_at_user L line role id s t p d due
+fewer_any L line role id s t (with_switches p a) d due = fewer_at_user L line role id s t p d due
 
--- ---- at the switch
+-- ---- at a switch
 
 pub fewer_at_switch : (L : LineService) → SwitchFewerLaw L
 fewer_at_switch L own id place s t (of_users n a) d due = absurd (n.nodes place (Switching d.node) d.node_there)
-fewer_at_switch L own id place s t (with_switch p a) d due =
+fewer_at_switch L own id place s t (with_switches p a) d due =
     let is_quiet : IsQuietSwitch d.node.switch =
     switch_quiet s.lines s.nodes place d.node d.node_there (p.nodes place (Switching d.node) d.node_there) p.lines in
     subst (λ (x : List NetNode). all_due x < all_due s.nodes) (sym d.nodes)

@@ -4,7 +4,6 @@ use Rattle.std.specs.Prelude.{slice_get, map, option_map}
 use Rattle.std.proofs.lemmas.Option.{none-some, same_Some, slice_get-map}
 use Rattle.std.proofs.lemmas.List.{length-map}
 use Rattle.link_timers.specs.declared.role.Role.{Role}
-use Rattle.link_timers.specs.declared.role.Role.TheVariants.{Dte, Dce}
 use Rattle.packet_layer.specs.Layer.{unread}
 use Rattle.call_records.specs.Records.{RecordValue, PairValue}
 use Rattle.call_records.specs.Book.{Book, side_of}
@@ -20,6 +19,7 @@ use Rattle.call_path_laws.specs.Ends.{IsOf}
 use Rattle.network_laws.specs.Node.{end_of}
 use Rattle.network_laws.specs.Network.{PlacedNode, User, NetLine, Network, place_at}
 use Rattle.switch_network_laws.specs.Histories.{HasUserAt, LineCall, IsOfCall, HistoriesHold}
+use Rattle.switch_network_laws.proofs.OwnLines.{same_role}
 use Rattle.switch_network_laws.proofs.PromiseLines.{fellow}
 
 -- ---- a list with one for each place
@@ -54,12 +54,6 @@ pub record IsLed (s : Network) (line : ℕ) (l : NetLine) (b : Book) (d : LineDa
   pub nodes : (role : Role) → (side_of role b).node ≡ place_at role l
   pub apart : l.dte ≢ l.dce
   pub at_line : (role : Role) (n : PlacedNode) → slice_get s.nodes (place_at role l) ≡ Some (User n) → n.line ≡ line
-
-same_role : (l : NetLine) → l.dte ≢ l.dce → (a b : Role) → place_at a l ≡ place_at b l → a ≡ b
-same_role l apart Dte Dte e = refl
-same_role l apart Dce Dce e = refl
-same_role l apart Dte Dce e = absurd (apart e)
-same_role l apart Dce Dte e = absurd (apart (sym e))
 
 -- a record of the register is this one of a line's book
 pub record IsOwned (books : List Book) (r : RecordValue) : Type 0 where

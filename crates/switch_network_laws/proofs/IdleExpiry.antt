@@ -1,19 +1,20 @@
--- An expiry at the switch of a timer that does not run leaves the network as it was.
+-- An expiry at a switch of a timer that does not run leaves the network as it was.
 use Rattle.std.proofs.Common.{◌≡◌, ℕ, zero, suc, Bool, false, if◌then◌else◌, List, [], ◌∷◌, map, set, Option, Some, None, refl, sym, ap, subst, ◌∙◌, inl, inr}
 use Rattle.std.specs.Prelude.{slice_get}
 use Rattle.std.proofs.lemmas.Option.{none-some, same_Some}
 use Rattle.link_timers.specs.declared.timers.TimerId.{TimerId}
 use Rattle.lapb.specs.Machine.{Octets}
 use Rattle.memory_line.specs.Lines.{Flights, LineService, ArePut}
-use Rattle.memory_line.specs.declared.line.Direction.TheVariants.{FromDce}
+use Rattle.network_laws.specs.OneLine.{direction_of}
 use Rattle.switch_lines.specs.Lines.{SwitchLine}
 use Rattle.switch_lines.specs.Switch.{Switch, frames_on, timer_runs, on_expiry}
 use Rattle.switch_quiet_laws.specs.Quiet.{IsQuietSwitch, AreQuiet}
 use Rattle.network_laws.specs.AtSwitch.{SwitchHappened, Expires, switched, line_drained, switch_drained, waiting_on}
-use Rattle.network_laws.specs.Network.{Switching, Network}
-use Rattle.switch_network_laws.specs.IsSwitched.{of_users, with_switch}
+use Rattle.network_laws.specs.Network.{Switching, Network, own_role}
+use Rattle.switch_network_laws.specs.IsSwitched.{of_users, with_switches}
 use Rattle.switch_network_laws.specs.Idle.{IsAsBefore, IdleExpiryLaw}
-use Rattle.switch_network_laws.proofs.SwitchStanding.{own_or_none, switch_quiet}
+use Rattle.switch_network_laws.proofs.OwnLines.{own_or_none}
+use Rattle.switch_network_laws.proofs.SwitchStanding.{switch_quiet}
 
 -- ---- lists
 
@@ -70,7 +71,7 @@ as_before L own id place s t d q idle = record { nodes = nodes; register = d.reg
     line_is f line = elim (own_or_none d.node.lines line) [
       | inl at ↦
           let v = d.lines.own_lines at.0 line at.1 in
-          let put : v.flights ≡ v.between = subst (λ (fs : List Octets). ArePut L FromDce fs v.between v.flights) (none at.0) (v.put f) in
+          let put : v.flights ≡ v.between = subst (λ (fs : List Octets). ArePut L (direction_of (own_role d.node.switch at.0)) fs v.between v.flights) (none at.0) (v.put f) in
           v.after_there ∙ (ap (λ (x : Flights). Some (record v.line_is { flights = x })) (put ∙ v.left f) ∙ sym v.line_there)
       | inr other ↦ d.lines.others line other
     ]
@@ -80,5 +81,5 @@ as_before L own id place s t d q idle = record { nodes = nodes; register = d.reg
 
 pub idle_expiry : (L : LineService) → IdleExpiryLaw L
 idle_expiry L own id place s t (of_users n a) d idle = absurd (n.nodes place (Switching d.node) d.node_there)
-idle_expiry L own id place s t (with_switch p a) d idle =
+idle_expiry L own id place s t (with_switches p a) d idle =
     as_before L own id place s t d (switch_quiet s.lines s.nodes place d.node d.node_there (p.nodes place (Switching d.node) d.node_there) p.lines) idle

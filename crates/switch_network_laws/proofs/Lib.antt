@@ -10,10 +10,9 @@ pub mod PromiseUsers
 pub mod PromiseAny
 pub mod FewerAny
 pub mod RestAny
-pub mod OneSwitch
 pub mod Standing
+pub mod OwnLines
 pub mod UsersLine
-pub mod UsersWrites
 pub mod UsersHeld
 pub mod UsersEvents
 pub mod UsersTime
@@ -27,7 +26,9 @@ pub mod SwitchEvents
 pub mod MadePlan
 pub mod MadeStanding
 pub mod MadeStands
-pub mod MadePartners
+pub mod MadeSwitches
 pub mod MadeHeld
+mod RunSteps
 pub mod Running
+pub mod TrunkRunning
 pub mod IdleExpiry

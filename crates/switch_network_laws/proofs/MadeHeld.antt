@@ -1,387 +1,373 @@
--- What holds of a network with a switch holds at the making.
-use Rattle.std.proofs.Common.{◌≡◌, ℕ, ◌+◌, ◌<◌, ◌≤◌, ◌++◌, Bool, true, false, List, [], ◌∷◌, length, map, Option, Some, None, refl, sym, ap, ◌∙◌, subst, arith, inl, inr, true≢false}
-use Rattle.std.specs.Prelude.{◌⊎◌, slice_get, option_and_then}
-use Rattle.std.proofs.lemmas.Option.{same_Some, slice_get_within, slice_get_past}
-use Rattle.std.specs.List.{Contains}
+-- What holds of a network of switches holds at the making.
+use Rattle.std.proofs.Common.{◌≡◌, ℕ, ◌+◌, ◌<◌, ◌≤◌, Bool, true, false, List, [], length, map, Option, Some, None, refl, sym, ap, ◌∙◌, subst, arith, inl, inr, true≢false}
+use Rattle.std.specs.Prelude.{slice_get, option_and_then}
+use Rattle.std.proofs.lemmas.Option.{same_Some, none-some, slice_get_within, slice_get_past}
 use Rattle.std.proofs.lemmas.List.{length-map}
 use Rattle.link_timers.specs.declared.role.Role.{Role}
 use Rattle.link_timers.specs.declared.role.Role.TheVariants.{Dte, Dce}
-use Rattle.lapb.specs.Line.{chosen}
-use Rattle.packet_codec.specs.Address.{MayBeDigits}
-use Rattle.packet_codec.specs.Digits.{digits_or_none}
-use Rattle.packet_layer.specs.Layer.{Layer}
-use Rattle.packet_layer.specs.Layer as layers
+use Rattle.packet_end.specs.PacketEnd.{PacketEnd}
+use Rattle.packet_end.specs.PacketEnd as end
+use Rattle.packet_layer.specs.Flow.{modulo_8}
+use Rattle.packet_end.specs.declared.params.EndParams.{EndParams}
 use Rattle.address_routes.specs.Routes.{line_for}
-use Rattle.call_records.specs.Book.{Book, side_of, new_book, address_of}
-use Rattle.call_records.specs.Register.{LinePlan, planned_book, empty_register, book_at}
+use Rattle.call_records.specs.Book.{Book, side_of, made_book, address_of}
+use Rattle.call_records.specs.Register.{Register, LinePlan, planned_book, empty_register, book_at}
 use Rattle.book_laws.proofs.Basics.{get_there}
-use Rattle.network_laws.specs.Node.{NodeState, end_of, drained}
+use Rattle.line_laws.specs.Line.{Line, made as made_ends}
+use Rattle.line_record_laws.specs.Kept.{Setting, Kept, end_at}
+use Rattle.line_record_laws.specs.Happens.{sent}
+use Rattle.network_laws.specs.Node.{NodeState}
 use Rattle.memory_line.specs.Lines.{Flights, LineService}
-use Rattle.switch_lines.specs.declared.config.SwitchLineConfig.{SwitchLineConfig}
-use Rattle.switch_lines.specs.Lines.{SwitchLine}
-use Rattle.switch_lines.specs.Making.{made_line, made}
-use Rattle.switch_lines.specs.Switch.{Switch}
-use Rattle.switch_laws.specs.Events.{new_legs}
-use Rattle.switch_path_laws.specs.Records.{AreRecords}
-use Rattle.switch_path_laws.specs.Written.{Books}
-use Rattle.switch_path_laws.specs.Kept.{Partner, Partners, KeptWith, sent_on}
-use Rattle.switch_path_laws.specs.Tied.{Histories, IsTied}
-use Rattle.switch_path_laws.proofs.Making.{made_records}
-use Rattle.switch_path_laws.proofs.Tying.{tied_holds}
+use Rattle.switch_path_laws.specs.Sight.{Switched, Switches, OwnLines, Lines, Standing, network_line}
+use Rattle.switch_path_laws.specs.Network.{IsAtSwitch, IsNetwork}
+use Rattle.switch_path_laws.specs.Law.{IsMadeAt, IsMade as ArePathsMade}
+use Rattle.switch_path_laws.proofs.Begins.{network_holds}
 use Rattle.call_path_laws.specs.World.{made_world}
 use Rattle.call_path_laws.specs.Lines.{free_book}
-use Rattle.switch_path_laws.specs.Sight.{network_line}
-use Rattle.switch_path_laws.specs.Network.{IsOther}
-use Rattle.switch_path_laws.proofs.Eventing.{calls_hold}
-use Rattle.switch_network_laws.proofs.OneSwitch.{IsOnePlan, begin_one}
-use Rattle.network_laws.specs.Network.{PlacedNode, PlacedSwitch, NetNode, NetLine, Network, place_at}
-use Rattle.network_laws.proofs.Users.{same_user, same_planned}
-use Rattle.network_laws.specs.Opening.{NewNode, NewSwitch, Planned, PlannedUser, PlannedSwitch, NewLine, NetPlan, IsDcePlan, IsLinePlan, IsSwitchPlan, IsPlan, IsMade, line_config, own_configs, line_plan, placed_switch, new_dte}
-use Rattle.network_laws.specs.IsLine.{IsLine}
+use Rattle.network_laws.specs.Network.{PlacedSwitch, NetNode, Switching, NetLine, Network, place_at}
+use Rattle.network_laws.proofs.Users.{not_both}
+use Rattle.network_laws.specs.Opening.{NewSwitch, Planned, PlannedUser, PlannedSwitch, NewLine, NetPlan, IsEndPlan, IsKindOfLine, IsLinePlan, HasEndAt, IsPlan, AreSent, IsMade, switch_places, role_on_line, line_plan, placed_new, placed_switch, new_at, new_dte, new_dce}
+use Rattle.network_laws.specs.IsLine.{IsLine, line_of}
+use Rattle.network_laws.specs.LineLaw as one_line
 use Rattle.network_laws.proofs.Channels.{channels_made}
-use Rattle.network_laws.proofs.Made.{made_lines}
+use Rattle.network_laws.proofs.Fitting.{end-drained}
+use Rattle.network_laws.proofs.Made.{made-end, setting-of, kept_made, made_lines}
 use Rattle.network_laws.proofs.Opened.{mapped, unmapped, made_network}
 use Rattle.switch_network_laws.specs.Plans.{IsPlanOf, has_users, goes_on_at}
-use Rattle.switch_network_laws.specs.IsSwitched.{ends_state, EndStands, LineStands, IsPartner, IsHeld, IsSwitched, of_users, with_switch}
+use Rattle.switch_network_laws.specs.IsSwitched.{ends_state, line_between, LineStands, IsHeld, IsSwitched, of_users, with_switches}
 use Rattle.switch_network_laws.specs.Laws.{MadeLaw}
 use Rattle.switch_network_laws.proofs.Addressed.{made_addressed}
-use Rattle.switch_network_laws.proofs.Standing.{same_switch, AreApart, same_end, are_apart}
-use Rattle.switch_network_laws.proofs.UsersWrites.{line_named}
-use Rattle.switch_network_laws.proofs.UsersHeld.{address_kept}
-use Rattle.switch_network_laws.proofs.SwitchSending.{Sent, all_sent}
-use Rattle.switch_network_laws.proofs.MadePlan.{find_switch, end_place, is_user, dce_is_user, user_at, address_on, digits_of, plan_of, OwnLine, own_line, Configs, configs, is_config, are_between}
-use Rattle.switch_network_laws.proofs.MadeStanding.{MayStand, all_stand, made_stood}
-use Rattle.switch_network_laws.proofs.MadeStands.{net_line, line_planned, dte_made_there, stands_made, nodes_made, alone_made}
-use Rattle.switch_network_laws.proofs.MadePartners.{PartnerMade, partner_made, all_partners}
+use Rattle.switch_network_laws.proofs.Standing.{AreApart, same_at, are_apart, same_switch}
+use Rattle.switch_network_laws.proofs.MadePlan.{find_switch, end_place, is_user, end_is_user, line_there, switch_there, goes_on, digits_of, plan_of, are_addressed, is_tree, dce_role, dte_role, are_between}
+use Rattle.switch_network_laws.proofs.MadeStanding.{MayStand, Stood, all_stand, made_stood}
+use Rattle.switch_network_laws.proofs.MadeStands.{net_line, line_planned, as_dte, at_dte, at_dce, is_new_dte, stands_made, nodes_made}
+use Rattle.switch_network_laws.proofs.MadeSwitches.{standing_made, WentOut, role_there, plans_of, made_histories, made_at}
+use Rattle.switch_network_laws.proofs.OwnLines.{line_named}
 
--- ---- the plan in the terms of the laws of paths
+-- ---- each line, with its two ends and the frames in flight
 
-abbrev plans_of : NetPlan → List LinePlan
-plans_of plan = map line_plan plan.lines
+abbrev some_params : EndParams
+some_params = record { k = 1; n2 = 1; channels = 1; flow = modulo_8 1; standing = false }
 
--- a network line of a switch is not one of another node
-other_user : (plan : NetPlan) (place : ℕ) (n : NewSwitch) (is : IsPlan plan) (at : slice_get plan.nodes place ≡ Some (PlannedSwitch n)) (line : ℕ) (l : NewLine) → slice_get plan.lines line ≡ Some l
-    → IsOther n.lines line → (is_user (slice_get plan.nodes l.dce) ≡ true) × (l.address ≡ [])
-other_user plan place n is at line l there other = let p : IsLinePlan plan.nodes line l = is.lines line l there in by p.dce p.dce_there p.dce_stands
-  where
-    by : (d : Planned) → slice_get plan.nodes l.dce ≡ Some d → IsDcePlan line l d → (is_user (slice_get plan.nodes l.dce) ≡ true) × (l.address ≡ [])
-    by (PlannedUser d) got stands = (ap is_user got, stands.2)
-    by (PlannedSwitch d) got stands =
-        let one : l.dce ≡ place = is.one_switch l.dce place d n got at in
-        let same : PlannedSwitch d ≡ PlannedSwitch n = same_Some (PlannedSwitch d) (PlannedSwitch n) (sym got ∙ ap (λ k. slice_get plan.nodes k) one ∙ at) in
-        let mine : IsDcePlan line l (PlannedSwitch n) = subst (λ (x : Planned). IsDcePlan line l x) same stands in
-        absurd (other mine.0.0 (slice_get_within n.lines mine.0.0 line mine.0.1) (line_named n.lines mine.0.0 line mine.0.1))
-
--- a line at whose DCE a user is has no address
-no_address : (plan : NetPlan) (is : IsPlan plan) (line : ℕ) (l : NewLine) → slice_get plan.lines line ≡ Some l → is_user (slice_get plan.nodes l.dce) ≡ true → l.address ≡ []
-no_address plan is line l there user = let p : IsLinePlan plan.nodes line l = is.lines line l there in by p.dce p.dce_there p.dce_stands
-  where
-    by : (d : Planned) → slice_get plan.nodes l.dce ≡ Some d → IsDcePlan line l d → l.address ≡ []
-    by (PlannedUser d) got stands = stands.2
-    by (PlannedSwitch d) got stands = absurd (let no : true ≡ false = sym user ∙ ap is_user got in cc)
-
-planned : (plan : NetPlan) (place : ℕ) (n : NewSwitch) → IsPlan plan → slice_get plan.nodes place ≡ Some (PlannedSwitch n)
-    → IsOnePlan (plan_of plan n) place (length (plans_of plan)) n.lines (made n.routes (own_configs n.lines plan.lines))
-planned plan place n is at = record {
-  lines = sym c.count ∙ sym (length-map (own_configs n.lines plan.lines) made_line);
-  apart = λ i j less within same.
-      let x = get_there n.lines i less in
-      let y = get_there n.lines j within in
-      let one : y.0 ≡ x.0 = sym (line_named n.lines j y.0 y.1) ∙ sym same ∙ line_named n.lines i x.0 x.1 in
-      sw.apart i j x.0 x.1 (y.1 ∙ ap Some one);
-  user_end = λ line less. refl;
-  switch_end = λ own less. let o = line_at own less in ap (λ (x : Option NewLine). dce_is_user plan.nodes x) o.there ∙ ap (λ k. is_user (slice_get plan.nodes k)) o.at_dce ∙ ap is_user at;
-  placed = dce_at;
-  address = λ own l got.
-      let x = unmapped made_line (own_configs n.lines plan.lines) own l got in
-      let b = c.back own x.0 x.1 in
-      ap (λ (y : SwitchLine). y.address) x.2 ∙ ap (λ (y : SwitchLineConfig). y.address) b.3
-      ∙ ap (λ (o : Option NewLine). address_of (address_on o)) (sym b.1.there ∙ ap (λ k. slice_get plan.lines k) (sym (line_named n.lines own b.0 b.2)));
-  addressed = λ own less none.
-      let o = line_at own less in
-      let empty : o.l.address ≡ [] = ap address_on (sym o.there) ∙ none in
-      let some = o.digits.0 in
-      let bad : length o.l.address ≡ 0 = ap (λ (xs : List ℕ). length xs) empty in omega arith;
-  alike = alike;
-  route = λ called own less routed.
-      let x = get_there n.lines own less in
-      ap (λ (xs : List ℕ). option_and_then (λ (k : ℕ). slice_get n.lines k) (line_for n.routes xs)) (digits_of called)
-      ∙ (ap (λ (o : Option ℕ). option_and_then (λ (k : ℕ). slice_get n.lines k) o) routed ∙ (x.1 ∙ ap (λ (k : ℕ). Some k) (sym (line_named n.lines own x.0 x.1))));
-  others = others;
-  tree = record {
-    few = omega arith;
-    at_switch = at_switch;
-    rises = λ line t. absurd (true≢false t.dte);
-    one_up = λ line other t u e. absurd (true≢false t.dte);
-  };
-}
-  where
-    c : Configs plan place n
-    c = configs plan place n is at
-
-    sw : IsSwitchPlan plan.lines place n
-    sw = is.nodes place (PlannedSwitch n) at
-
-    line_at : (own : ℕ) → own < length n.lines → OwnLine plan place (network_line n.lines own)
-    line_at own less =
-        let x = get_there n.lines own less in
-        subst (λ (k : ℕ). OwnLine plan place k) (sym (line_named n.lines own x.0 x.1)) (own_line plan place n is at own x.0 x.1)
-
-    dce_at : (own : ℕ) → own < length n.lines → end_place (length plan.nodes) (slice_get plan.lines (network_line n.lines own)) Dce ≡ place
-    dce_at own less = let o = line_at own less in ap (λ (x : Option NewLine). end_place (length plan.nodes) x Dce) o.there ∙ o.at_dce
-
-    alike_by : (line : ℕ) (o : Option NewLine) → slice_get plan.lines line ≡ o → (true ≡ false) ⊎ (dce_is_user plan.nodes o ≡ true) → address_on o ≡ []
-    alike_by line None there e = refl
-    alike_by line (Some l) there (inl e) = absurd (cc)
-    alike_by line (Some l) there (inr e) = no_address plan is line l there e
-
-    alike : (line : ℕ) → (true ≡ false) ⊎ (dce_is_user plan.nodes (slice_get plan.lines line) ≡ true) → address_on (slice_get plan.lines line) ≡ []
-    alike line e = alike_by line (slice_get plan.lines line) refl e
-
-    -- each end without a user is at the one switch
-    switch_is : (line : ℕ) (o : Option NewLine) → slice_get plan.lines line ≡ o → dce_is_user plan.nodes o ≡ false → end_place (length plan.nodes) o Dce ≡ place
-    switch_is line None there e = absurd (true≢false e)
-    switch_is line (Some l) there e =
-        let p : IsLinePlan plan.nodes line l = is.lines line l there in by p.dce p.dce_there
-      where
-        by : (d : Planned) → slice_get plan.nodes l.dce ≡ Some d → l.dce ≡ place
-        by (PlannedSwitch d) got = is.one_switch l.dce place d n got at
-        by (PlannedUser d) got = absurd (true≢false (sym (ap is_user got) ∙ e))
-
-    at_switch : (line : ℕ) (role : Role) → user_at plan line role ≡ false → Contains {X = ℕ} (place ∷ []) (end_place (length plan.nodes) (slice_get plan.lines line) role)
-    at_switch line Dte e = absurd (true≢false e)
-    at_switch line Dce e = (0, omega arith, sym (switch_is line (slice_get plan.lines line) refl e))
-
-    others : (line : ℕ) → line < length (plans_of plan) → IsOther n.lines line → (plan_of plan n).has_user line Dce ≡ true
-    others line less other =
-        let x = get_there plan.lines line (let many = length-map plan.lines line_plan in omega arith) in
-        ap (λ (o : Option NewLine). dce_is_user plan.nodes o) x.1 ∙ (other_user plan place n is at line x.0 x.1 other).0
-
--- ---- the books and what is tied to them
-
-abbrev book_or : Option Book → Book
-book_or None = new_book 0 0 0
-book_or (Some b) = b
-
-abbrev own_books : NetPlan → NewSwitch → Books
-own_books plan n = λ own. book_or (slice_get (map free_book (plans_of plan)) (network_line n.lines own))
-
-free_there : (plan : NetPlan) (line : ℕ) (l : NewLine) → slice_get plan.lines line ≡ Some l → slice_get (map free_book (plans_of plan)) line ≡ Some (free_book (line_plan l))
-free_there plan line l at = mapped free_book (plans_of plan) line (line_plan l) (mapped line_plan plan.lines line l at)
-
-own_book_is : (plan : NetPlan) (n : NewSwitch) (own line : ℕ) (l : NewLine) → slice_get n.lines own ≡ Some line → slice_get plan.lines line ≡ Some l
-    → own_books plan n own ≡ free_book (line_plan l)
-own_book_is plan n own line l at there =
-    ap (λ k. book_or (slice_get (map free_book (plans_of plan)) k)) (line_named n.lines own line at) ∙ ap book_or (free_there plan line l there)
-
-among : (plan : NetPlan) (place : ℕ) (n : NewSwitch) → IsPlan plan → slice_get plan.nodes place ≡ Some (PlannedSwitch n) → (own : ℕ) → own < length n.lines → slice_get (map free_book (plans_of plan)) (network_line n.lines own) ≡ Some (own_books plan n own)
-among plan place n is at own less =
-    let x = get_there n.lines own less in
-    let o = own_line plan place n is at own x.0 x.1 in
-    ap (λ k. slice_get (map free_book (plans_of plan)) k) (line_named n.lines own x.0 x.1) ∙ free_there plan x.0 o.l o.there
-    ∙ ap Some (sym (own_book_is plan n own x.0 o.l x.1 o.there))
-
-abbrev histories_of : NetPlan → NewSwitch → Partners → Histories
-histories_of plan n ps = record { legs = new_legs (own_configs n.lines plan.lines); books = own_books plan n; partners = ps }
-
-tied : (L : LineService) (plan : NetPlan) (s : Network) (is : IsPlan plan) (m : IsMade L plan s) (place : ℕ) (n : NewSwitch) → slice_get plan.nodes place ≡ Some (PlannedSwitch n)
-    → (ps : Partners) → ((own line : ℕ) → slice_get n.lines own ≡ Some line → PartnerMade L plan s m place n own (ps own))
-    → IsTied (made n.routes (own_configs n.lines plan.lines)) (histories_of plan n ps)
-tied L plan s is m place n at ps each =
-    tied_holds.begins n.routes (own_configs n.lines plan.lines) (own_books plan n) ps (is_config plan place n is at)
-    (λ own l got.
-    let x = unmapped made_line (own_configs n.lines plan.lines) own l got in
-    let b = c.back own x.0 x.1 in
-    let address : l.address ≡ address_of b.1.l.address = ap (λ (y : SwitchLine). y.address) x.2 ∙ ap (λ (y : SwitchLineConfig). y.address) b.3 in
-    subst (λ (xs : List ℕ). MayBeDigits xs) (sym (ap digits_or_none address ∙ digits_of b.1.l.address)) (b.1.digits.1, b.1.digits.2))
-    (λ own l got.
-    let x = unmapped made_line (own_configs n.lines plan.lines) own l got in
-    let b = c.back own x.0 x.1 in
-    let q : PartnerMade L plan s m place n own (ps own) = each own b.0 b.2 in
-    let one : b.0 ≡ q.line = same_Some b.0 q.line (sym b.2 ∙ q.at) in
-    let same : b.1.l ≡ q.o.l = same_Some b.1.l q.o.l (sym b.1.there ∙ ap (λ k. slice_get plan.lines k) one ∙ q.o.there) in
-    let line : l ≡ made_line (line_config q.o.l) = x.2 ∙ ap made_line (b.3 ∙ ap line_config same) in
-    subst (λ (y : Book). KeptWith (ps own) y l.end) (sym (own_book_is plan n own q.line q.o.l q.at q.o.there))
-    (subst (λ (y : SwitchLine). KeptWith (ps own) (free_book (line_plan q.o.l)) y.end) (sym line) q.kept))
-    (λ own layer got.
-    let z = unmapped (λ (y : SwitchLine). y.end.layer) (map made_line (own_configs n.lines plan.lines)) own layer got in
-    let x = unmapped made_line (own_configs n.lines plan.lines) own z.0 z.1 in
-    let b = c.back own x.0 x.1 in
-    let o = b.1 in
-    let legs = λ (k : ℕ). new_legs (own_configs n.lines plan.lines) (record { line = own; channel = k }) in
-    let is_layer : layer ≡ (made_line (line_config o.l)).end.layer = z.2 ∙ ap (λ (y : SwitchLine). y.end.layer) (x.2 ∙ ap made_line b.3) in
-    subst (λ (y : Book). AreRecords Dce layer legs y) (sym (own_book_is plan n own b.0 o.l b.2 o.there))
-    (subst (λ (y : Layer). AreRecords Dce y legs (free_book (line_plan o.l))) (sym is_layer)
-    (subst (λ (v : Bool). AreRecords Dce (layers.made Dce o.l.params.channels o.l.params.window v) legs (free_book (line_plan o.l))) (sym o.free)
-    (made_records Dce Dce o.l.params.channels o.l.params.window o.l.dte o.l.dce legs))))
-  where
-    c : Configs plan place n
-    c = configs plan place n is at
-
--- ---- free lines, calls that stand on those between users, and the first frames of the switch
-
-may_stand : (plan : NetPlan) (place : ℕ) (n : NewSwitch) → IsPlan plan → slice_get plan.nodes place ≡ Some (PlannedSwitch n) → MayStand n.lines 0 (plans_of plan) (map free_book (plans_of plan))
-may_stand plan place n is at = record {
-  free = λ j p there. let same : 0 + j ≡ j = omega arith in ap (λ k. slice_get (map free_book (plans_of plan)) k) same ∙ mapped free_book (plans_of plan) j p there;
-  other = λ j p there standing own less named.
-      let same : 0 + j ≡ j = omega arith in
-      let u = unmapped line_plan plan.lines j p there in
-      let x = get_there n.lines own less in
-      let o = own_line plan place n is at own x.0 x.1 in
-      let one : x.0 ≡ j = sym (line_named n.lines own x.0 x.1) ∙ named ∙ same in
-      let l : o.l ≡ u.0 = same_Some o.l u.0 (sym o.there ∙ ap (λ k. slice_get plan.lines k) one ∙ u.1) in
-      let no : false ≡ true = sym o.free ∙ ap (λ (y : NewLine). y.params.standing) l ∙ ap (λ (q : LinePlan). q.standing) (sym u.2) ∙ standing in
-      absurd (cc);
-  channels = λ j p there.
-      let u = unmapped line_plan plan.lines j p there in
-      let least : 1 ≤ u.0.params.channels = (is.lines j u.0 u.1).params.layer.channels_least in
-      subst (λ (q : LinePlan). 1 ≤ q.channels) (sym u.2) least;
+abbrev between : Setting → Option NetLine → Standing
+between setting None = record { setting = setting; line = made_ends some_params some_params }
+between setting (Some l) = record {
+  setting = setting;
+  line = record { dte = sent (end.made Dte setting.dte); dce = sent (end.made Dce setting.dce); up = l.flights.from_dte; down = l.flights.from_dce };
 }
 
--- the other ends, with the frames of both ways in flight
-abbrev AreIn : Network → NewSwitch → ℕ → Partner → Type 0
-AreIn s n own p = (line : ℕ) (l : NetLine) → slice_get n.lines own ≡ Some line → slice_get s.lines line ≡ Some l → (h : LineStands s.nodes line l) → IsPartner p l h.dte.node
+abbrev standing_at : Option NewLine → Option NetLine → Standing
+standing_at None l = between (setting-of 0 0 some_params) l
+standing_at (Some v) l = between (setting-of v.dte v.dce v.params) l
 
-partner_in : (L : LineService) (plan : NetPlan) (s : Network) (is : IsPlan plan) (m : IsMade L plan s) (place : ℕ) (n : NewSwitch) (own : ℕ) (p : Partner) (l : SwitchLine)
-    → (q : PartnerMade L plan s m place n own p) → l ≡ made_line (line_config q.o.l) → AreIn s n own (sent_on l q.sent p)
-partner_in L plan s is m place n own p l q same line x at_own at_line h =
-    let one : line ≡ q.line = same_Some line q.line (sym at_own ∙ q.at) in
-    let v : NewLine = q.o.l in
-    let flights : Flights = (m.lines q.line v q.o.there).flights in
-    let line_is : x ≡ net_line v flights = same_Some x (net_line v flights) (sym at_line ∙ ap (λ k. slice_get s.lines k) one ∙ (m.lines q.line v q.o.there).there) in
-    let dte : h.dte ≡ (stands_made L plan s is m q.line v q.o.there flights).dte =
-    same_user h.dte _ (sym h.dte_there ∙ ap (λ (y : NetLine). slice_get s.nodes y.dte) line_is ∙ (stands_made L plan s is m q.line v q.o.there flights).dte_there) in
-    let planned_same : (is.lines q.line v q.o.there).dte ≡ q.o.is.dte =
-    same_planned (is.lines q.line v q.o.there).dte q.o.is.dte (sym (is.lines q.line v q.o.there).dte_there ∙ q.o.is.dte_there) in
-    let made_dte : NodeState → Type 0 = λ y. IsPartner (sent_on l q.sent p) x y in
-    subst made_dte (sym (ap (λ (y : PlacedNode). y.node) dte))
-    (subst (λ (y : NetLine). IsPartner (sent_on l q.sent p) y (drained (new_dte (is.lines q.line v q.o.there).dte.as_dte v.params))) (sym line_is)
-    (record {
-      dte_is = q.dte_is ∙ ap (λ (d : NewNode). end_of (drained (new_dte d.as_dte v.params))) (sym planned_same);
-      up = q.up;
-      down = ap (λ (y : SwitchLine). p.down ++ chosen q.sent y.end.line.frames) same ∙ q.down;
-    }))
+-- as the lines are made, and when the first frames went
+abbrev first_standing : Option NewLine → Standing
+first_standing None = standing_at None None
+first_standing (Some v) = standing_made v
 
-plan_made : (L : LineService) (plan : NetPlan) (s : Network) (is : IsPlan plan) (m : IsMade L plan s) (place : ℕ) (n : NewSwitch) → slice_get plan.nodes place ≡ Some (PlannedSwitch n)
-    → ((k : ℕ) (l : NetLine) → slice_get s.lines k ≡ Some l → (plan_of plan n).address k ≡ (book_at k s.register).dte.address) → IsPlanOf s (plan_of plan n)
-plan_made L plan s is m place n at address = record {
-  node = λ line l role there. let v = line_planned L plan s m line l there in ap (λ o. end_place (length plan.nodes) o role) v.1 ∙ place_is role v.0 l v.2;
-  nowhere = λ line role more.
-      let beyond : slice_get plan.lines line ≡ None = slice_get_past plan.lines line (let same = m.line_count in omega arith) in
-      let place : (plan_of plan n).node line role ≡ length plan.nodes = ap (λ o. end_place (length plan.nodes) o role) beyond in
-      let same = m.node_count in omega arith;
-  user = λ line l role x there at_x. let v = line_planned L plan s m line l there in user_is role line v.0 v.1 l v.2 x at_x;
-  address = address;
-  route = λ other x called there.
-      let one : other ≡ place = alone_made L plan s is m place n at other x there in
-      let same : x ≡ placed_switch n plan.lines = same_switch x (placed_switch n plan.lines)
-      (sym there ∙ ap (λ k. slice_get s.nodes k) one ∙ m.nodes place (PlannedSwitch n) at) in
-      ap (λ (xs : List ℕ). option_and_then (λ (k : ℕ). slice_get n.lines k) (line_for n.routes xs)) (digits_of called)
-      ∙ ap (λ (y : PlacedSwitch). goes_on_at y called) (sym same);
-}
-  where
-    place_is : (role : Role) (v : NewLine) (l : NetLine) {flights : Flights} → l ≡ net_line v flights → end_place (length plan.nodes) (Some v) role ≡ place_at role l
-    place_is Dte v l e = ap (λ (x : NetLine). x.dte) (sym e)
-    place_is Dce v l e = ap (λ (x : NetLine). x.dce) (sym e)
+abbrev lines_first : NetPlan → Lines
+lines_first plan = λ line. first_standing (slice_get plan.lines line)
 
-    users : (line : ℕ) (v : NewLine) → slice_get plan.lines line ≡ Some v → (d : Planned) → slice_get plan.nodes v.dce ≡ Some d → IsDcePlan line v d → (x : NetNode) → slice_get s.nodes v.dce ≡ Some x
-        → is_user (Some d) ≡ has_users x
-    users line v there (PlannedUser d) got stands x at_x =
-        ap has_users (same_Some _ x (sym (m.nodes v.dce (PlannedUser d) got v (ap (λ k. slice_get plan.lines k) stands.0 ∙ there)) ∙ at_x))
-    users line v there (PlannedSwitch d) got stands x at_x = ap has_users (same_Some _ x (sym (m.nodes v.dce (PlannedSwitch d) got) ∙ at_x))
+abbrev lines_made : NetPlan → Network → Lines
+lines_made plan s = λ line. standing_at (slice_get plan.lines line) (slice_get s.lines line)
 
-    user_is : (role : Role) (line : ℕ) (v : NewLine) → slice_get plan.lines line ≡ Some v → (l : NetLine) {flights : Flights} → l ≡ net_line v flights → (x : NetNode) → slice_get s.nodes (place_at role l) ≡ Some x
-        → (plan_of plan n).has_user line role ≡ has_users x
-    user_is Dte line v there l e x at_x =
-        ap has_users (same_Some _ x (sym (dte_made_there L plan s is m line v there) ∙ ap (λ (y : NetLine). slice_get s.nodes y.dte) (sym e) ∙ at_x))
-    user_is Dce line v there l e x at_x =
-        let p : IsLinePlan plan.nodes line v = is.lines line v there in
-        ap (λ o. dce_is_user plan.nodes o) there ∙ ap is_user p.dce_there
-        ∙ users line v there p.dce p.dce_there p.dce_stands x (ap (λ (y : NetLine). slice_get s.nodes y.dce) (sym e) ∙ at_x)
+-- ---- the first frames of a line
 
--- ---- on faithful lines
+module _ (L : LineService) (plan : NetPlan) (s : Network) (is : IsPlan plan) (m : IsMade L plan s) where
+  abbrev flights_of : (line : ℕ) (v : NewLine) → slice_get plan.lines line ≡ Some v → Flights
+  flights_of line v at = (m.lines line v at).flights
 
-begun : (L : LineService) (plan : NetPlan) (s : Network) (is : IsPlan plan) (m : IsMade L plan s) (place : ℕ) (n : NewSwitch) → slice_get plan.nodes place ≡ Some (PlannedSwitch n) → L.faithful
-    → AreApart s.nodes → IsHeld L s (placed_switch n plan.lines)
-begun L plan s is m place n at f apart =
-    let first = get_there n.lines 0 (let few = (is.nodes place (PlannedSwitch n) at).least in omega arith) in
-    let one = partner_made L plan s is m place n at f 0 first.0 first.1 in
-    let ps = all_partners n.lines (PartnerMade L plan s m place n) one.0 (partner_made L plan s is m place n at f) (λ p. p.role ≡ Dce) one.1.role (λ own p q. q.role) in
-    let h : Histories = histories_of plan n ps.0 in
-    let switch : Switch = made n.routes (own_configs n.lines plan.lines) in
-    let free : List Book = map free_book (plans_of plan) in
-    let i = begin_one (plan_of plan n) place n.lines (plans_of plan) switch h (planned plan place n is at)
-    (are_between plan n 0 plan.lines (λ j l there. let same : 0 + j ≡ j = omega arith in ap (λ k. slice_get plan.lines k) same ∙ there))
-    (among plan place n is at) ps.2 (tied L plan s is m place n at ps.0 ps.1) (calls_hold.begins n.routes (own_configs n.lines plan.lines) h.books (is_config plan place n is at)) in
-    let a = all_stand (plan_of plan n) n.lines switch h [] free (made_world (plans_of plan)) (map (λ line. []) (plans_of plan)) 0 (plans_of plan) (may_stand plan place n is at) i in
-    let c : Configs plan place n = configs plan place n is at in
-    let b : Sent (plan_of plan n) n.lines (AreIn s n) switch a.histories [] a.books a.world a.traces =
-    all_sent (plan_of plan n) n.lines (AreIn s n) switch a.histories [] a.books a.world a.traces
-    (λ own l got.
-    let x = unmapped made_line (own_configs n.lines plan.lines) own l got in
-    let e = c.back own x.0 x.1 in
-    let q : PartnerMade L plan s m place n own (ps.0 own) = ps.1 own e.0 e.2 in
-    let one : e.0 ≡ q.line = same_Some e.0 q.line (sym e.2 ∙ q.at) in
-    let line : l ≡ made_line (line_config q.o.l) =
-    x.2 ∙ ap made_line (e.3 ∙ ap line_config (same_Some e.1.l q.o.l (sym e.1.there ∙ ap (λ k. slice_get plan.lines k) one ∙ q.o.there))) in
-    (q.sent, subst (λ (p : Partner). AreIn s n own (sent_on l q.sent p)) (sym (a.partners own e.0 e.2)) (partner_in L plan s is m place n own (ps.0 own) l q line)))
-    a.network in
-    let register : a.world.register ≡ s.register = a.register ∙ sym (made_stood (plans_of plan) empty_register) ∙ sym m.register in
-    let count : length a.books ≡ length s.lines = a.count ∙ length-map (plans_of plan) free_book ∙ length-map plan.lines line_plan ∙ sym m.line_count in
-    record {
-      books = a.books;
-      count = count;
-      lines = λ line l book at_l at_b g.
-          let v = line_planned L plan s m line l at_l in
-          let flights : Flights = (m.lines line v.0 v.1).flights in
-          let p : IsLinePlan plan.nodes line v.0 = is.lines line v.0 v.1 in
+  -- whatever the nodes are
+  are_sent : L.faithful → (line : ℕ) (v : NewLine) (at : slice_get plan.lines line ≡ Some v)
+      → AreSent L (new_dte (as_dte (is.lines line v at).dte) v.params) (new_dce v.params) (flights_of line v at)
+  are_sent f line v at =
+      let p : IsLinePlan plan.nodes line v = is.lines line v at in
+      subst (λ (x : NodeState). AreSent L (new_dte (as_dte p.dte) v.params) x (flights_of line v at)) (at_dce p.dce v.params)
+      (subst (λ (x : NodeState). AreSent L x (new_at p.dce Dce v.params) (flights_of line v at)) (at_dte p.dte v.params)
+      ((m.lines line v at).sent f p.dte p.dce p.dte_there p.dce_there))
+
+  line_holds : (line : ℕ) (v : NewLine) (at : slice_get plan.lines line ≡ Some v)
+      → IsLine L (one_line.made_line v.dte v.dce (as_dte (is.lines line v at).dte) v.params (flights_of line v at))
+  line_holds line v at =
+      let p : IsLinePlan plan.nodes line v = is.lines line v at in
+      made_lines L v.dte v.dce (as_dte p.dte) v.params (flights_of line v at) p.apart p.params (is_new_dte v p.dte p.dce p.kind) (λ f. are_sent f line v at)
+
+  lines_are_made : (line : ℕ) (v : NewLine) (at : slice_get plan.lines line ≡ Some v) → lines_made plan s line ≡ standing_at (Some v) (Some (net_line v (flights_of line v at)))
+  lines_are_made line v at =
+      ap (λ (o : Option NewLine). standing_at o (slice_get s.lines line)) at ∙ ap (λ (o : Option NetLine). standing_at (Some v) o) (m.lines line v at).there
+
+  ghost_line : (line : ℕ) (v : NewLine) (at : slice_get plan.lines line ≡ Some v)
+      → line_of (one_line.made_line v.dte v.dce (as_dte (is.lines line v at).dte) v.params (flights_of line v at)) ≡ (standing_at (Some v) (Some (net_line v (flights_of line v at)))).line
+  ghost_line line v at =
+      let d = as_dte (is.lines line v at).dte in
+      let flights : Flights = flights_of line v at in
+      ap (λ (e : PacketEnd). record { dte = e; dce = sent (end.made Dce v.params); up = flights.from_dte; down = flights.from_dce })
+      (end-drained (new_dte d v.params) ∙ ap (λ (e : PacketEnd). sent e) (made-end d v.params))
+
+  ends_sent : (v : NewLine) (l : NetLine) (role : Role) → end_at role (standing_at (Some v) (Some l)).line ≡ sent (end.made role v.params)
+  ends_sent v l Dte = refl
+  ends_sent v l Dce = refl
+
+  went : L.faithful → (line : ℕ) (v : NewLine) → slice_get plan.lines line ≡ Some v → WentOut v (lines_made plan s line)
+  went f line v at =
+      let p : IsLinePlan plan.nodes line v = is.lines line v at in
+      let x : Standing = standing_at (Some v) (Some (net_line v (flights_of line v at))) in
+      subst (WentOut v) (sym (lines_are_made line v at)) (record {
+        ends = ends_sent v (net_line v (flights_of line v at));
+        kept = λ free.
+            subst (λ (b : Book). Kept x.setting b x.line) (ap (λ (b : Bool). made_book v.dte v.dce v.params.channels b) free)
+            (subst (λ (y : Line). Kept x.setting (made_book v.dte v.dce v.params.channels v.params.standing) y) (ghost_line line v at)
+            (kept_made L v.dte v.dce (as_dte p.dte) v.params (flights_of line v at) p.params (are_sent f line v at)));
+      })
+
+-- ---- the switches by place
+
+abbrev switched_at : NetPlan → Lines → (place : ℕ) → Option Planned → Option Switched
+switched_at plan lines place None = None
+switched_at plan lines place (Some (PlannedUser n)) = None
+switched_at plan lines place (Some (PlannedSwitch n)) =
+    Some (record { switch = (placed_switch place n plan.lines).switch; histories = made_histories plan place n lines })
+
+abbrev switches_made : NetPlan → Lines → Switches
+switches_made plan lines = λ place. switched_at plan lines place (slice_get plan.nodes place)
+
+abbrev lines_at : Option Planned → List ℕ
+lines_at None = []
+lines_at (Some (PlannedUser n)) = []
+lines_at (Some (PlannedSwitch n)) = n.lines
+
+abbrev own_lines_made : NetPlan → OwnLines
+own_lines_made plan = λ place. lines_at (slice_get plan.nodes place)
+
+-- ---- the laws of paths
+
+module _ (L : LineService) (plan : NetPlan) (s : Network) (is : IsPlan plan) (m : IsMade L plan s) where
+  abbrev lines : Lines
+  lines = lines_made plan s
+
+  abbrev xs : Switches
+  xs = switches_made plan lines
+
+  abbrev ats : OwnLines
+  ats = own_lines_made plan
+
+  abbrev free : List Book
+  free = map free_book (plans_of plan)
+
+  first_lines : (line : ℕ) (v : NewLine) → slice_get plan.lines line ≡ Some v → lines_first plan line ≡ standing_made v
+  first_lines line v at = ap (λ (o : Option NewLine). first_standing o) at
+
+  each_made : L.faithful → (place : ℕ) (x : Switched) (o : Option Planned) → slice_get plan.nodes place ≡ o → switched_at plan lines place o ≡ Some x
+      → IsMadeAt (plan_of plan) place (ats place) x lines free
+  each_made f place x None there e = absurd (none-some x e)
+  each_made f place x (Some (PlannedUser n)) there e = absurd (none-some x e)
+  each_made f place x (Some (PlannedSwitch n)) there e =
+      let made : Switched = record { switch = (placed_switch place n plan.lines).switch; histories = made_histories plan place n lines } in
+      subst (λ (own : List ℕ). IsMadeAt (plan_of plan) place own x lines free) (sym (ap (λ (o : Option Planned). lines_at o) there))
+      (subst (λ (y : Switched). IsMadeAt (plan_of plan) place n.lines y lines free) (same_Some made x e)
+      (made_at plan is place n there lines (went L plan s is m f) (lines_first plan) first_lines))
+
+  at_switch : (line : ℕ) (v : NewLine) → slice_get plan.lines line ≡ Some v → (role : Role) (place : ℕ) (n : NewSwitch) → role_on_line place v ≡ role → slice_get plan.nodes place ≡ Some (PlannedSwitch n)
+      → IsEndPlan line role (PlannedSwitch n) → IsAtSwitch ats xs place line role
+  at_switch line v at role place n on there stands =
+      let own : ℕ = stands.0 in
+      let named = line_named n.lines own line stands.1 in
+      let here : lines_at (slice_get plan.nodes place) ≡ n.lines = ap (λ (o : Option Planned). lines_at o) there in
+      record {
+        it = record { switch = (placed_switch place n plan.lines).switch; histories = made_histories plan place n lines };
+        there = ap (λ (o : Option Planned). switched_at plan lines place o) there;
+        own = own;
+        within = subst (λ (ks : List ℕ). own < length ks) (sym here) (slice_get_within n.lines own line stands.1);
+        line_is = ap (λ (ks : List ℕ). network_line ks own) here ∙ named;
+        role_is = ap (λ (o : Option NewLine). role_there place o) (ap (λ (k : ℕ). slice_get plan.lines k) named ∙ at) ∙ on;
+      }
+
+  ends_by : (line : ℕ) (v : NewLine) → slice_get plan.lines line ≡ Some v → (role : Role) → end_is_user plan.nodes (Some v) role ≡ false → IsAtSwitch ats xs (end_place (length plan.nodes) (Some v) role) line role
+  ends_by line v at Dte off =
+      let p : IsLinePlan plan.nodes line v = is.lines line v at in
+      let n = switch_there plan.nodes v.dte off in
+      at_switch line v at Dte v.dte n.0 (dte_role v.dte v p.apart refl) n.1
+      (subst (λ (d : Planned). IsEndPlan line Dte d) (same_Some p.dte (PlannedSwitch n.0) (sym p.dte_there ∙ n.1)) p.dte_stands)
+  ends_by line v at Dce off =
+      let p : IsLinePlan plan.nodes line v = is.lines line v at in
+      let n = switch_there plan.nodes v.dce off in
+      at_switch line v at Dce v.dce n.0 (dce_role v.dce v refl) n.1
+      (subst (λ (d : Planned). IsEndPlan line Dce d) (same_Some p.dce (PlannedSwitch n.0) (sym p.dce_there ∙ n.1)) p.dce_stands)
+
+  paths_made : L.faithful → ArePathsMade (plan_of plan) ats xs lines (plans_of plan)
+  paths_made f = record {
+    alike = are_addressed plan is;
+    switches = switch_places 0 plan.nodes;
+    tree = is_tree plan is;
+    between = are_between plan 0 plan.lines (λ j l there. let same : 0 + j ≡ j = omega arith in ap (λ k. slice_get plan.lines k) same ∙ there);
+    each = λ place x e. each_made f place x (slice_get plan.nodes place) refl e;
+    ends = λ line role less e.
+        let v = line_there plan line role e in
+        subst (λ (o : Option NewLine). IsAtSwitch ats xs (end_place (length plan.nodes) o role) line role) (sym v.1)
+        (ends_by line v.0 v.1 role (sym (ap (λ (o : Option NewLine). end_is_user plan.nodes o role) v.1) ∙ e));
+  }
+
+  -- ---- free lines, and calls that stand on those between users
+
+  both_users : (line : ℕ) (v : NewLine) (at : slice_get plan.lines line ≡ Some v) → v.params.standing ≡ true → (role : Role) → end_is_user plan.nodes (Some v) role ≡ true
+  both_users line v at standing role = let p : IsLinePlan plan.nodes line v = is.lines line v at in by p.dte p.dce p.dte_there p.dce_there p.kind role
+    where
+      by : (dte dce : Planned) → slice_get plan.nodes v.dte ≡ Some dte → slice_get plan.nodes v.dce ≡ Some dce → IsKindOfLine v dte dce → (end : Role) → end_is_user plan.nodes (Some v) end ≡ true
+      by (PlannedUser dte) (PlannedUser dce) at_dte at_dce kind Dte = ap is_user at_dte
+      by (PlannedUser dte) (PlannedUser dce) at_dte at_dce kind Dce = ap is_user at_dce
+      by (PlannedUser dte) (PlannedSwitch dce) at_dte at_dce kind end = absurd (true≢false (sym standing ∙ kind.2))
+      by (PlannedSwitch dte) (PlannedSwitch dce) at_dte at_dce kind end = absurd (true≢false (sym standing ∙ kind.2))
+      by (PlannedSwitch dte) (PlannedUser dce) at_dte at_dce kind end = absurd kind
+
+  may_stand : MayStand (plan_of plan) 0 (plans_of plan) free
+  may_stand = record {
+    free = λ j p there. let same : 0 + j ≡ j = omega arith in ap (λ k. slice_get free k) same ∙ mapped free_book (plans_of plan) j p there;
+    users = λ j p there standing role.
+        let same : 0 + j ≡ j = omega arith in
+        let u = unmapped line_plan plan.lines j p there in
+        ap (λ k. end_is_user plan.nodes (slice_get plan.lines k) role) same ∙ ap (λ (o : Option NewLine). end_is_user plan.nodes o role) u.1
+        ∙ both_users j u.0 u.1 (ap (λ (q : LinePlan). q.standing) (sym u.2) ∙ standing) role;
+    channels = λ j p there.
+        let u = unmapped line_plan plan.lines j p there in
+        let least : 1 ≤ u.0.params.channels = (is.lines j u.0 u.1).params.layer.channels_least in
+        subst (λ (q : LinePlan). 1 ≤ q.channels) (sym u.2) least;
+  }
+
+  begun : L.faithful → IsNetwork (plan_of plan) ats xs [] lines free (made_world (plans_of plan)) (map (λ line. []) (plans_of plan))
+  begun f = network_holds.begins (plan_of plan) ats xs lines (plans_of plan) (paths_made f)
+
+  stood : L.faithful → Stood (plan_of plan) ats xs [] lines 0 (plans_of plan) free (made_world (plans_of plan)).register
+  stood f = all_stand (plan_of plan) ats xs [] lines free (made_world (plans_of plan)) (map (λ line. []) (plans_of plan)) 0 (plans_of plan) may_stand (begun f)
+
+  -- ---- the plan
+
+  -- a switch is one of the plan
+  record SwitchMade (place : ℕ) (n : PlacedSwitch) : Type 0 where
+    planned : NewSwitch
+    there : slice_get plan.nodes place ≡ Some (PlannedSwitch planned)
+    so : n ≡ placed_switch place planned plan.lines
+
+  switch_made : (place : ℕ) (n : PlacedSwitch) → slice_get s.nodes place ≡ Some (Switching n) → SwitchMade place n
+  switch_made place n at =
+      let p = get_there plan.nodes place (let within = slice_get_within s.nodes place (Switching n) at in let many = m.node_count in omega arith) in by p.0 p.1
+    where
+      by : (p : Planned) → slice_get plan.nodes place ≡ Some p → SwitchMade place n
+      by (PlannedUser u) got =
+          let w : HasEndAt plan.lines place u.line = is.nodes place (PlannedUser u) got in
+          absurd (not_both (placed_new u w.line_is.params) n (sym (m.nodes place (PlannedUser u) got w.line_is w.there) ∙ at))
+      by (PlannedSwitch u) got = record { planned = u; there = got; so = same_switch n (placed_switch place u plan.lines) (sym at ∙ m.nodes place (PlannedSwitch u) got) }
+
+  user_made : (line : ℕ) (v : NewLine) → slice_get plan.lines line ≡ Some v → (role : Role) (place : ℕ) (d : Planned) → slice_get plan.nodes place ≡ Some d → IsEndPlan line role d → (x : NetNode) → slice_get s.nodes place ≡ Some x
+      → is_user (slice_get plan.nodes place) ≡ has_users x
+  user_made line v there role place (PlannedUser d) got stands x at_x =
+      ap is_user got ∙ ap has_users (same_Some _ x (sym (m.nodes place (PlannedUser d) got v (ap (λ k. slice_get plan.lines k) stands.0 ∙ there)) ∙ at_x))
+  user_made line v there role place (PlannedSwitch d) got stands x at_x = ap is_user got ∙ ap has_users (same_Some _ x (sym (m.nodes place (PlannedSwitch d) got) ∙ at_x))
+
+  user_is : (role : Role) (line : ℕ) (v : NewLine) → slice_get plan.lines line ≡ Some v → (flights : Flights) (x : NetNode) → slice_get s.nodes (place_at role (net_line v flights)) ≡ Some x
+      → end_is_user plan.nodes (Some v) role ≡ has_users x
+  user_is Dte line v at flights x at_x = let p : IsLinePlan plan.nodes line v = is.lines line v at in user_made line v at Dte v.dte p.dte p.dte_there p.dte_stands x at_x
+  user_is Dce line v at flights x at_x = let p : IsLinePlan plan.nodes line v = is.lines line v at in user_made line v at Dce v.dce p.dce p.dce_there p.dce_stands x at_x
+
+  place_is : (role : Role) (v : NewLine) (flights : Flights) → end_place (length plan.nodes) (Some v) role ≡ place_at role (net_line v flights)
+  place_is Dte v flights = refl
+  place_is Dce v flights = refl
+
+  plan_made : ((k : ℕ) (l : NetLine) → slice_get s.lines k ≡ Some l → (plan_of plan).address k ≡ (book_at k s.register).dte.address) → IsPlanOf s (plan_of plan)
+  plan_made address = record {
+    node = λ line l role there.
+        let v = line_planned L plan s m line l there in
+        ap (λ (o : Option NewLine). end_place (length plan.nodes) o role) v.1 ∙ place_is role v.0 (m.lines line v.0 v.1).flights
+        ∙ ap (λ (x : NetLine). place_at role x) (sym v.2);
+    nowhere = λ line role more.
+        let beyond : slice_get plan.lines line ≡ None = slice_get_past plan.lines line (let same = m.line_count in omega arith) in
+        let place : (plan_of plan).node line role ≡ length plan.nodes = ap (λ (o : Option NewLine). end_place (length plan.nodes) o role) beyond in
+        let same = m.node_count in omega arith;
+    user = λ line l role x there at_x.
+        let v = line_planned L plan s m line l there in
+        ap (λ (o : Option NewLine). end_is_user plan.nodes o role) v.1
+        ∙ user_is role line v.0 v.1 (m.lines line v.0 v.1).flights x (ap (λ (y : NetLine). slice_get s.nodes (place_at role y)) (sym v.2) ∙ at_x);
+    address = address;
+    route = λ place n called there.
+        let w = switch_made place n there in
+        ap (λ (o : Option Planned). goes_on o (address_of called)) w.there
+        ∙ ap (λ (ks : List ℕ). option_and_then (λ (k : ℕ). slice_get w.planned.lines k) (line_for w.planned.routes ks)) (digits_of called)
+        ∙ ap (λ (y : PlacedSwitch). goes_on_at y called) (sym w.so);
+  }
+
+  -- ---- on faithful lines
+
+  same_at_line : (line : ℕ) (l x : NetLine) → l ≡ x → AreApart s.nodes → (g : LineStands s.nodes line l) (h : LineStands s.nodes line x) → g.at ≡ h.at
+  same_at_line line l x e apart g h = subst (λ (y : NetLine). (k : LineStands s.nodes line y) → g.at ≡ k.at) e (λ k. same_at s.nodes line l apart g k) h
+
+  held : L.faithful → AreApart s.nodes → IsHeld L s
+  held f apart =
+      let a = stood f in
+      let count : length a.books ≡ length s.lines = a.count ∙ length-map (plans_of plan) free_book ∙ length-map plan.lines line_plan ∙ sym m.line_count in
+      let register : a.world.register ≡ s.register = a.register ∙ sym (made_stood (plans_of plan) empty_register) ∙ sym m.register in
+      record {
+        books = a.books;
+        count = count;
+        ends = λ line l book at_l at_b g.
+            let v = line_planned L plan s m line l at_l in
+            let there : LineStands s.nodes line (net_line v.0 (m.lines line v.0 v.1).flights) = stands_made L plan s is m line v.0 v.1 (m.lines line v.0 v.1).flights in
+            let at_is : g.at ≡ there.at = same_at_line line l (net_line v.0 (m.lines line v.0 v.1).flights) v.2 apart g there in
+            let is_book : book ≡ planned_book (line_plan v.0) = book_is a.books a.here line book v.0 v.1 at_b in
+            subst (IsLine L) (sym (λ k. ends_state (v.2 k) (at_is k) (is_book k))) (line_holds L plan s is m line v.0 v.1);
+        channels = λ line l book role at_l at_b.
+            let v = line_planned L plan s m line l at_l in
+            ap (λ (y : Book). length (side_of role y).slots) (book_is a.books a.here line book v.0 v.1 at_b) ∙ channels_made v.0.dte v.0.dce v.0.params.channels v.0.params.standing role
+            ∙ ap (λ (y : NetLine). y.channels) (sym v.2);
+        lines = a.lines;
+        lines_are = λ line l at_l g.
+            let v = line_planned L plan s m line l at_l in
+            let there : LineStands s.nodes line (net_line v.0 (m.lines line v.0 v.1).flights) = stands_made L plan s is m line v.0 v.1 (m.lines line v.0 v.1).flights in
+            let at_is : g.at ≡ there.at = same_at_line line l (net_line v.0 (m.lines line v.0 v.1).flights) v.2 apart g there in
+            ap (λ (x : Standing). x.line) (a.same_lines line ∙ lines_are_made L plan s is m line v.0 v.1) ∙ sym (ghost_line L plan s is m line v.0 v.1)
+            ∙ sym (λ k. line_between (v.2 k) (at_is k));
+        plan = plan_of plan;
+        plan_is = plan_made (λ k l there.
+            sym (a.network.seen.seen.sides k Dte (let within = slice_get_within s.lines k l there in let many = count in let lines = a.network.seen.lines.seen.lines in omega arith)).seen_address
+            ∙ ap (λ (x : Register). (book_at k x).dte.address) register);
+        own_lines = ats;
+        switches = a.switches;
+        switches_are = λ place n there.
+            let w = switch_made place n there in
+            let x : Switched = record { switch = (placed_switch place w.planned plan.lines).switch; histories = made_histories plan place w.planned lines } in
+            let same = a.same_switches place x (ap (λ (o : Option Planned). switched_at plan lines place o) w.there) in
+            record {
+              histories = same.histories;
+              is = same.is ∙ ap (λ (y : PlacedSwitch). Some (record { switch = y.switch; histories = same.histories })) (sym w.so);
+              lines = ap (λ (o : Option Planned). lines_at o) w.there ∙ ap (λ (y : PlacedSwitch). y.lines) (sym w.so);
+            };
+        calls = [];
+        world = a.world;
+        traces = a.traces;
+        network = a.network;
+        register = register;
+      }
+    where
+      book_is : (books : List Book) → ((j : ℕ) (p : LinePlan) → slice_get (plans_of plan) j ≡ Some p → slice_get books (0 + j) ≡ Some (planned_book p))
+          → (line : ℕ) (book : Book) (v : NewLine) → slice_get plan.lines line ≡ Some v → slice_get books line ≡ Some book → book ≡ planned_book (line_plan v)
+      book_is books here line book v at at_b =
           let same : 0 + line ≡ line = omega arith in
-          let book_is : book ≡ planned_book (line_plan v.0) = same_Some book (planned_book (line_plan v.0))
-          (sym at_b ∙ ap (λ k. slice_get a.books k) (sym same) ∙ a.here line (line_plan v.0) (mapped line_plan plan.lines line v.0 v.1)) in
-          let there : LineStands s.nodes line (net_line v.0 flights) = stands_made L plan s is m line v.0 v.1 flights in
-          let dte : g.dte ≡ there.dte = same_user g.dte there.dte (sym g.dte_there ∙ ap (λ (y : NetLine). slice_get s.nodes y.dte) v.2 ∙ there.dte_there) in
-          let dce : g.dce ≡ there.dce = same_end s.nodes line v.0.dce g.dce there.dce apart (subst (λ (y : NetLine). EndStands s.nodes line y.dce g.dce) v.2 g.dce_there) there.dce_there in
-          subst (IsLine L) (sym (λ k. ends_state (v.2 k) (dte k).node (dce k) (book_is k)))
-          (made_lines L v.0.dte v.0.dce p.dte.as_dte v.0.params flights p.apart p.params p.dte_made (λ g. (m.lines line v.0 v.1).sent g p.dte p.dte_there));
-      channels = λ line l book role at_l at_b.
-          let v = line_planned L plan s m line l at_l in
-          let same : 0 + line ≡ line = omega arith in
-          let book_is : book ≡ planned_book (line_plan v.0) = same_Some book (planned_book (line_plan v.0))
-          (sym at_b ∙ ap (λ k. slice_get a.books k) (sym same) ∙ a.here line (line_plan v.0) (mapped line_plan plan.lines line v.0 v.1)) in
-          ap (λ (y : Book). length (side_of role y).slots) book_is ∙ channels_made v.0.dte v.0.dce v.0.params.channels v.0.params.standing role
-          ∙ ap (λ (y : NetLine). y.channels) (sym v.2);
-      plan = plan_of plan n;
-      plan_is = plan_made L plan s is m place n at
-          (address_kept (plan_of plan n) n.lines (placed_switch n plan.lines).switch b.histories [] a.books a.world a.traces s.register s.lines b.network register count);
-      histories = b.histories;
-      calls = [];
-      world = a.world;
-      traces = a.traces;
-      network = b.network;
-      register = register;
-      partners = λ own line l at_own at_l g.
-          let within = slice_get_within n.lines own line at_own in
-          let x = get_there switch.lines own (let many = (planned plan place n is at).lines in omega arith) in
-          b.fits own x.0 x.1 line l at_own at_l g;
-    }
+          same_Some book (planned_book (line_plan v)) (sym at_b ∙ ap (λ k. slice_get books k) (sym same) ∙ here line (line_plan v) (mapped line_plan plan.lines line v at))
 
--- ---- on any lines
+  -- ---- on any lines
 
-pub made_switched : (L : LineService) (plan : NetPlan) (s : Network) → IsPlan plan → IsMade L plan s → (place : ℕ) (n : NewSwitch) → slice_get plan.nodes place ≡ Some (PlannedSwitch n) → IsSwitched L s
-made_switched L plan s is m place n at = record {
-  place = place;
-  switch = placed_switch n plan.lines;
-  there = m.nodes place (PlannedSwitch n) at;
-  alone = alone_made L plan s is m place n at;
-  lines = λ line l there.
-      let v = line_planned L plan s m line l there in
-      subst (λ (x : NetLine). LineStands s.nodes line x) (sym v.2) (stands_made L plan s is m line v.0 v.1 (m.lines line v.0 v.1).flights);
-  nodes = nodes_made L plan s is m;
-  holds = λ f. begun L plan s is m place n at f (are_apart s.lines s.nodes (nodes_made L plan s is m));
-}
+  pub made_switched : (place : ℕ) (n : NewSwitch) → slice_get plan.nodes place ≡ Some (PlannedSwitch n) → IsSwitched L s
+  made_switched place n at = record {
+    place = place;
+    switch = placed_switch place n plan.lines;
+    there = m.nodes place (PlannedSwitch n) at;
+    lines = λ line l there.
+        let v = line_planned L plan s m line l there in
+        subst (λ (x : NetLine). LineStands s.nodes line x) (sym v.2) (stands_made L plan s is m line v.0 v.1 (m.lines line v.0 v.1).flights);
+    nodes = nodes_made L plan s is m;
+    holds = λ f. held f (are_apart s.lines s.nodes (nodes_made L plan s is m));
+  }
 
 pub made_any : (L : LineService) → MadeLaw L
 made_any L plan s is m = elim (find_switch plan.nodes) [
-  | inl found ↦ with_switch (made_switched L plan s is m found.0 found.1 found.2) (made_addressed L plan s m)
+  | inl found ↦ with_switches (made_switched L plan s is m found.0 found.1 found.2) (made_addressed L plan s m)
   | inr users ↦ of_users (made_network L plan s is users m) (made_addressed L plan s m)
 ]

@@ -1,26 +1,27 @@
 -- Calls that stand on lines between users: from free lines on, each is placed, comes in and is accepted.
-use Rattle.std.proofs.Common.{◌≡◌, ◌≢◌, ℕ, zero, suc, ◌+◌, ◌<◌, ◌≤◌, Bool, true, false, List, [], ◌∷◌, ◌++◌, length, map, set, Option, Some, None, refl, sym, ap, ◌∙◌, subst, arith}
-use Rattle.std.specs.Prelude.{slice_get, if◌then◌else◌}
+use Rattle.std.proofs.Common.{◌≡◌, ◌≢◌, ℕ, zero, suc, ◌+◌, ◌<◌, ◌≤◌, Bool, true, false, List, [], ◌∷◌, ◌++◌, length, map, set, Option, Some, None, refl, sym, ap, ◌∙◌, subst, arith, true≢false}
+use Rattle.std.specs.Prelude.{slice_get, if◌then◌else◌, ◌==◌, option_map}
+use Rattle.std.proofs.lemmas.Bool.{eqb-true}
 use Rattle.std.proofs.lemmas.Option.{same_Some, none-some, slice_get_within}
 use Rattle.std.proofs.lemmas.List.{append_assoc, append-nil}
 use Rattle.link_timers.specs.declared.role.Role.{Role}
 use Rattle.link_timers.specs.declared.role.Role.TheVariants.{Dte, Dce}
+use Rattle.link_timers.specs.Role.{other_of}
 use Rattle.packet_layer.specs.Packets.Note.{Incoming}
 use Rattle.packet_layer.specs.Channel.Request.{Accept}
 use Rattle.call_records.specs.Book.{Book}
 use Rattle.call_records.specs.Writes.{Write, all_written}
 use Rattle.call_records.specs.Writes.Write.{Placed, Told, Asked}
 use Rattle.call_records.specs.Register.{Register, LineEnds, LinePlan, found_ends, all_written_at, planned_book, free_ends, no_parts, with_standing_call, with_free_line, with_line, with_lines}
-use Rattle.book_laws.proofs.Basics.{length_set, length_pushed}
-use Rattle.switch_lines.specs.Switch.{Switch}
-use Rattle.switch_path_laws.specs.Kept.{Partners}
+use Rattle.book_laws.proofs.Basics.{get_there, set_here, set_elsewhere, length_set, length_pushed}
 use Rattle.switch_path_laws.specs.Tied.{Histories}
-use Rattle.switch_path_laws.specs.Calls.{JoinedCall}
-use Rattle.call_path_laws.specs.World.{Origin, World, Plan}
+use Rattle.switch_path_laws.specs.Sight.{Switched, Switches, OwnLines, Lines, seen_then, all_seen}
+use Rattle.switch_path_laws.specs.Network.{PlacedCall, IsNetwork}
+use Rattle.switch_path_laws.specs.Law.{with_line as with_standing}
+use Rattle.switch_path_laws.proofs.Begins.{network_holds}
+use Rattle.call_path_laws.specs.World.{Origin, World, Plan, all_traced, after_event}
+use Rattle.call_path_laws.specs.World.Event.{Writes}
 use Rattle.call_path_laws.specs.Lines.{free_book}
-use Rattle.switch_path_laws.specs.Network.{IsOther}
-use Rattle.switch_network_laws.specs.OneSwitch as paths
-use Rattle.switch_network_laws.proofs.UsersWrites.{line_named, after_other}
 
 -- ---- lines that are not there yet
 
@@ -101,37 +102,102 @@ made_stood (p ∷ ps) g =
 
 -- ---- the laws of paths
 
--- the network when the calls of these lines stand: the books of the lines before are the same
-pub record Standing (plan : Plan) (at : List ℕ) (s : Switch) (cs : List JoinedCall) (first : ℕ) (ps : List LinePlan) (old : List Book) (g : Register) (partners_then : Partners) : Type 0 where
+-- a switch is as it was, with some histories
+pub record SameSwitch (x : Switched) (o : Option Switched) : Type 0 where
   pub histories : Histories
+  pub is : o ≡ Some (record { switch = x.switch; histories = histories })
+
+abbrev pub SameSwitches : (old new : Switches) → Type 0
+SameSwitches old new = (place : ℕ) (x : Switched) → old place ≡ Some x → SameSwitch x (new place)
+
+-- the network when the calls of these lines stand: the books of the lines before are the same
+pub record Stood (plan : Plan) (ats : OwnLines) (xs : Switches) (cs : List PlacedCall) (lines_then : Lines) (first : ℕ) (ps : List LinePlan) (old : List Book) (g : Register) : Type 0 where
+  pub switches : Switches
+  pub lines : Lines
   pub books : List Book
   pub world : World
   pub traces : List (List Origin)
-  pub network : paths.IsNetwork plan at s histories cs books world traces
+  pub network : IsNetwork plan ats switches cs lines books world traces
   pub register : world.register ≡ stood first ps g
   pub count : length books ≡ length old
   pub here : (j : ℕ) (p : LinePlan) → slice_get ps j ≡ Some p → slice_get books (first + j) ≡ Some (planned_book p)
   pub before : (k : ℕ) → k < first → slice_get books k ≡ slice_get old k
-  pub partners : (own k : ℕ) → slice_get at own ≡ Some k → histories.partners own ≡ partners_then own
+  pub same_switches : SameSwitches xs switches
+  pub same_lines : (k : ℕ) → lines k ≡ lines_then k
 
--- the lines are free yet, and where a call is to stand the line is none of the switch's
-pub record MayStand (at : List ℕ) (first : ℕ) (ps : List LinePlan) (books : List Book) : Type 0 where
+-- the lines are free yet, and where a call is to stand users are at both ends
+pub record MayStand (plan : Plan) (first : ℕ) (ps : List LinePlan) (books : List Book) : Type 0 where
   pub free : (j : ℕ) (p : LinePlan) → slice_get ps j ≡ Some p → slice_get books (first + j) ≡ Some (free_book p)
-  pub other : (j : ℕ) (p : LinePlan) → slice_get ps j ≡ Some p → p.standing ≡ true → IsOther at (first + j)
+  pub users : (j : ℕ) (p : LinePlan) → slice_get ps j ≡ Some p → p.standing ≡ true → (role : Role) → plan.has_user (first + j) role ≡ true
   pub channels : (j : ℕ) (p : LinePlan) → slice_get ps j ≡ Some p → 1 ≤ p.channels
 
--- one line, with its book and its part of the register
-record OneStands (plan : Plan) (at : List ℕ) (s : Switch) (cs : List JoinedCall) (line : ℕ) (p : LinePlan) (old : List Book) (g : Register) (partners_then : Partners) : Type 0 where
-  histories : Histories
+-- what is written at an end of such a line
+record AfterWrites (plan : Plan) (ats : OwnLines) (xs : Switches) (cs : List PlacedCall) (lines_then : Lines) (line : ℕ) (role : Role) (ws : List Write) (old : List Book) (b : Book) (g : Register) : Type 0 where
+  switches : Switches
+  lines : Lines
   books : List Book
   world : World
   traces : List (List Origin)
-  network : paths.IsNetwork plan at s histories cs books world traces
+  network : IsNetwork plan ats switches cs lines books world traces
+  register : world.register ≡ all_written_at line role ws g
+  count : length books ≡ length old
+  here : slice_get books line ≡ Some (all_written role ws b)
+  rest : (k : ℕ) → k ≢ line → slice_get books k ≡ slice_get old k
+  same_switches : SameSwitches xs switches
+  same_lines : (k : ℕ) → lines k ≡ lines_then k
+
+same_if : (v : Bool) (k line : ℕ) (lines : Lines) → (v ≡ true → k ≡ line) → (if v then lines line else lines k) ≡ lines k
+same_if true k line lines is = ap lines (sym (is refl))
+same_if false k line lines is = refl
+
+after_writes : (plan : Plan) (ats : OwnLines) (xs : Switches) (cs : List PlacedCall) (lines : Lines) (line : ℕ) (role : Role) (ws : List Write) (books : List Book) (b : Book) (w : World) (traces : List (List Origin))
+    → ((end : Role) → plan.has_user line end ≡ true) → slice_get books line ≡ Some b → IsNetwork plan ats xs cs lines books w traces
+    → AfterWrites plan ats xs cs lines line role ws books b w.register
+after_writes plan ats xs cs lines line role ws books b w traces users there i =
+    let new : Book = all_written role ws b in
+    let own = get_there traces line (subst (λ (k : ℕ). line < k) (sym i.seen.lines.count) (slice_get_within books line b there)) in
+    record {
+      switches = all_seen ats (with_standing line (lines line) lines) (set books line new) xs;
+      lines = with_standing line (lines line) lines;
+      books = set books line new;
+      world = after_event (Writes line role ws) w;
+      traces = set traces line (all_traced line role ws b own.0);
+      network = network_holds.users plan ats xs cs lines books w traces line role ws b own.0 (lines line) (users role) there own.1
+          (λ switch. absurd (true≢false (sym (users (other_of role)) ∙ switch))) i;
+      register = refl;
+      count = length_set books line new;
+      here = set_here books line new b there;
+      rest = λ k ne. set_elsewhere books line k new ne;
+      same_switches = λ place x at. record {
+        histories = (seen_then (ats place) (with_standing line (lines line) lines) (set books line new) x).histories;
+        is = ap (λ (o : Option Switched). option_map (λ y. seen_then (ats place) (with_standing line (lines line) lines) (set books line new) y) o) at;
+      };
+      same_lines = λ k. same_if (k == line) k line lines (λ e. eqb-true k line e);
+    }
+
+switches_on : (xs ys zs : Switches) → SameSwitches xs ys → SameSwitches ys zs → SameSwitches xs zs
+switches_on xs ys zs a b = λ place x at.
+    let y = a place x at in
+    let z = b place (record { switch = x.switch; histories = y.histories }) y.is in
+    record { histories = z.histories; is = z.is }
+
+switches_stay : (xs : Switches) → SameSwitches xs xs
+switches_stay xs = λ place x at. record { histories = x.histories; is = at }
+
+-- one line, with its book and its part of the register
+record OneStands (plan : Plan) (ats : OwnLines) (xs : Switches) (cs : List PlacedCall) (lines_then : Lines) (line : ℕ) (p : LinePlan) (old : List Book) (g : Register) : Type 0 where
+  switches : Switches
+  lines : Lines
+  books : List Book
+  world : World
+  traces : List (List Origin)
+  network : IsNetwork plan ats switches cs lines books world traces
   register : world.register ≡ (if p.standing then with_standing_call line g else g)
   count : length books ≡ length old
   here : slice_get books line ≡ Some (planned_book p)
   rest : (k : ℕ) → k ≢ line → slice_get books k ≡ slice_get old k
-  partners : (own k : ℕ) → slice_get at own ≡ Some k → histories.partners own ≡ partners_then own
+  same_switches : SameSwitches xs switches
+  same_lines : (k : ℕ) → lines k ≡ lines_then k
 
 -- a standing call is what these writes make of a free line
 standing_is : (d e channels : ℕ) (address : List ℕ) → 1 ≤ channels
@@ -140,12 +206,13 @@ standing_is : (d e channels : ℕ) (address : List ℕ) → 1 ≤ channels
 standing_is d e zero address least = absurd (omega arith)
 standing_is d e (suc c) address least = refl
 
-one_stands : (plan : Plan) (at : List ℕ) (s : Switch) (h : Histories) (cs : List JoinedCall) (books : List Book) (w : World) (traces : List (List Origin)) (line : ℕ) (standing : Bool) (d e channels : ℕ) (address : List ℕ)
+one_stands : (plan : Plan) (ats : OwnLines) (xs : Switches) (cs : List PlacedCall) (lines : Lines) (books : List Book) (w : World) (traces : List (List Origin)) (line : ℕ) (standing : Bool) (d e channels : ℕ) (address : List ℕ)
     → let p : LinePlan = record { dte_node = d; dce_node = e; address = address; channels = channels; standing = standing } in
-    slice_get books line ≡ Some (free_book p) → (standing ≡ true → IsOther at line) → 1 ≤ channels
-    → paths.IsNetwork plan at s h cs books w traces → OneStands plan at s cs line p books w.register h.partners
-one_stands plan at s h cs books w traces line false d e channels address free other least i = record {
-  histories = h;
+    slice_get books line ≡ Some (free_book p) → (standing ≡ true → (role : Role) → plan.has_user line role ≡ true) → 1 ≤ channels
+    → IsNetwork plan ats xs cs lines books w traces → OneStands plan ats xs cs lines line p books w.register
+one_stands plan ats xs cs lines books w traces line false d e channels address free users least i = record {
+  switches = xs;
+  lines = lines;
   books = books;
   world = w;
   traces = traces;
@@ -154,16 +221,17 @@ one_stands plan at s h cs books w traces line false d e channels address free ot
   count = refl;
   here = free;
   rest = λ k ne. refl;
-  partners = λ own k there. refl;
+  same_switches = switches_stay xs;
+  same_lines = λ k. refl;
 }
-one_stands plan at s h cs books w traces line true d e channels address free other least i =
+one_stands plan ats xs cs lines books w traces line true d e channels address free users least i =
     let p : LinePlan = record { dte_node = d; dce_node = e; address = address; channels = channels; standing = true } in
     let placed : Book = all_written Dte placing (free_book p) in
-    let a = after_other plan at line Dte placing (free_book p) s h cs books w traces (h.partners 0) (other refl) free i in
-    let b = after_other plan at line Dce answering placed s a.histories cs a.books a.world a.traces (h.partners 0) (other refl) a.here a.network in
-    let apart : (own k : ℕ) → slice_get at own ≡ Some k → k ≢ line = λ own k there e. other refl own (slice_get_within at own k there) (line_named at own k there ∙ e) in
+    let a = after_writes plan ats xs cs lines line Dte placing books (free_book p) w traces (users refl) free i in
+    let b = after_writes plan ats a.switches cs a.lines line Dce answering a.books placed a.world a.traces (users refl) a.here a.network in
     record {
-      histories = b.histories;
+      switches = b.switches;
+      lines = b.lines;
       books = b.books;
       world = b.world;
       traces = b.traces;
@@ -172,14 +240,42 @@ one_stands plan at s h cs books w traces line true d e channels address free oth
       count = b.count ∙ a.count;
       here = b.here ∙ ap Some (standing_is d e channels address least);
       rest = λ k ne. b.rest k ne ∙ a.rest k ne;
-      partners = λ own k there. b.partners own k there (apart own k there) ∙ a.partners own k there (apart own k there);
+      same_switches = switches_on xs a.switches b.switches a.same_switches b.same_switches;
+      same_lines = λ k. b.same_lines k ∙ a.same_lines k;
     }
 
-pub all_stand : (plan : Plan) (at : List ℕ) (s : Switch) (h : Histories) (cs : List JoinedCall) (books : List Book) (w : World) (traces : List (List Origin)) (first : ℕ) (ps : List LinePlan)
-    → MayStand at first ps books → paths.IsNetwork plan at s h cs books w traces
-    → Standing plan at s cs first ps books w.register h.partners
-all_stand plan at s h cs books w traces first [] may i = record {
-  histories = h;
+-- the calls of one line and of those behind it
+then_stood : (plan : Plan) (ats : OwnLines) (xs : Switches) (cs : List PlacedCall) (lines : Lines) (books : List Book) (g : Register) (first : ℕ) (p : LinePlan) (ps : List LinePlan) (a : OneStands plan ats xs cs lines first p books g)
+    → Stood plan ats a.switches cs a.lines (suc first) ps a.books a.world.register → Stood plan ats xs cs lines first (p ∷ ps) books g
+then_stood plan ats xs cs lines books g first p ps a b = record {
+  switches = b.switches;
+  lines = b.lines;
+  books = b.books;
+  world = b.world;
+  traces = b.traces;
+  network = b.network;
+  register = b.register ∙ ap (λ (x : Register). stood (suc first) ps x) a.register;
+  count = b.count ∙ a.count;
+  here = λ j q there. here_by b.books b.here (b.before first (let less : first < suc first = omega arith in less) ∙ a.here) j q there;
+  before = λ k less. b.before k (let later : k < suc first = omega arith in later) ∙ a.rest k (λ e. absurd (omega (arith, e, less)));
+  same_switches = switches_on xs a.switches b.switches a.same_switches b.same_switches;
+  same_lines = λ k. b.same_lines k ∙ a.same_lines k;
+}
+  where
+    here_by : (new : List Book) → ((j : ℕ) (q : LinePlan) → slice_get ps j ≡ Some q → slice_get new (suc first + j) ≡ Some (planned_book q))
+        → slice_get new first ≡ Some (planned_book p) → (j : ℕ) (q : LinePlan) → slice_get (p ∷ ps) j ≡ Some q → slice_get new (first + j) ≡ Some (planned_book q)
+    here_by new rest here zero q there =
+        let none_more : first + 0 ≡ first = omega arith in
+        ap (λ k. slice_get new k) none_more ∙ here ∙ ap (λ (x : LinePlan). Some (planned_book x)) (same_Some p q there)
+    here_by new rest here (suc j) q there =
+        let next : first + suc j ≡ suc first + j = omega arith in ap (λ k. slice_get new k) next ∙ rest j q there
+
+pub all_stand : (plan : Plan) (ats : OwnLines) (xs : Switches) (cs : List PlacedCall) (lines : Lines) (books : List Book) (w : World) (traces : List (List Origin)) (first : ℕ) (ps : List LinePlan)
+    → MayStand plan first ps books → IsNetwork plan ats xs cs lines books w traces
+    → Stood plan ats xs cs lines first ps books w.register
+all_stand plan ats xs cs lines books w traces first [] may i = record {
+  switches = xs;
+  lines = lines;
   books = books;
   world = w;
   traces = traces;
@@ -188,41 +284,23 @@ all_stand plan at s h cs books w traces first [] may i = record {
   count = refl;
   here = λ j p there. absurd (none-some p there);
   before = λ k less. refl;
-  partners = λ own k there. refl;
+  same_switches = switches_stay xs;
+  same_lines = λ k. refl;
 }
-all_stand plan at s h cs books w traces first (p ∷ ps) may i =
+all_stand plan ats xs cs lines books w traces first (p ∷ ps) may i =
     let none_more : first + 0 ≡ first = omega arith in
-    let a = one_stands plan at s h cs books w traces first p.standing p.dte_node p.dce_node p.channels p.address
+    let a = one_stands plan ats xs cs lines books w traces first p.standing p.dte_node p.dce_node p.channels p.address
     (ap (λ k. slice_get books k) (sym none_more) ∙ may.free 0 p refl)
-    (λ standing. subst (λ (k : ℕ). IsOther at k) none_more (may.other 0 p refl standing)) (may.channels 0 p refl) i in
-    let b = all_stand plan at s a.histories cs a.books a.world a.traces (suc first) ps (later a.books a.rest) a.network in
-    record {
-      histories = b.histories;
-      books = b.books;
-      world = b.world;
-      traces = b.traces;
-      network = b.network;
-      register = b.register ∙ ap (λ (g : Register). stood (suc first) ps g) a.register;
-      count = b.count ∙ a.count;
-      here = λ j q there. here_by b.books b.here (b.before first (let less : first < suc first = omega arith in less) ∙ a.here) j q there;
-      before = λ k less. b.before k (let later : k < suc first = omega arith in later) ∙ a.rest k (λ e. absurd (omega (arith, e, less)));
-      partners = λ own k there. b.partners own k there ∙ a.partners own k there;
-    }
+    (λ standing role. ap (λ (k : ℕ). plan.has_user k role) (sym none_more) ∙ may.users 0 p refl standing role) (may.channels 0 p refl) i in
+    then_stood plan ats xs cs lines books w.register first p ps a
+    (all_stand plan ats a.switches cs a.lines a.books a.world a.traces (suc first) ps (later a.books a.rest) a.network)
   where
-    later : (new : List Book) → ((k : ℕ) → k ≢ first → slice_get new k ≡ slice_get books k) → MayStand at (suc first) ps new
+    later : (new : List Book) → ((k : ℕ) → k ≢ first → slice_get new k ≡ slice_get books k) → MayStand plan (suc first) ps new
     later new rest = record {
       free = λ j q there.
           let next : suc first + j ≡ first + suc j = omega arith in
           rest (suc first + j) (λ e. absurd (omega (arith, e))) ∙ ap (λ k. slice_get books k) next ∙ may.free (suc j) q there;
-      other = λ j q there standing.
-          let next : first + suc j ≡ suc first + j = omega arith in subst (λ (k : ℕ). IsOther at k) next (may.other (suc j) q there standing);
+      users = λ j q there standing role.
+          let next : suc first + j ≡ first + suc j = omega arith in ap (λ (k : ℕ). plan.has_user k role) next ∙ may.users (suc j) q there standing role;
       channels = λ j q there. may.channels (suc j) q there;
     }
-
-    here_by : (new : List Book) → ((j : ℕ) (q : LinePlan) → slice_get ps j ≡ Some q → slice_get new (suc first + j) ≡ Some (planned_book q))
-        → slice_get new first ≡ Some (planned_book p) → (j : ℕ) (q : LinePlan) → slice_get (p ∷ ps) j ≡ Some q → slice_get new (first + j) ≡ Some (planned_book q)
-    here_by new rest here zero q there =
-        let none_more : first + 0 ≡ first = omega arith in
-        ap (λ k. slice_get new k) none_more ∙ here ∙ ap (λ (x : LinePlan). Some (planned_book x)) (same_Some p q there)
-    here_by new rest here (suc j) q there =
-        let next : first + suc j ≡ suc first + j = omega arith in ap (λ k. slice_get new k) next ∙ rest j q there

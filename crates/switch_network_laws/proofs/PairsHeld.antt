@@ -1,4 +1,4 @@
--- The pairs of a network with a switch are those of its lines' books of which users accepted the calls.
+-- The pairs of a network of switches are those of its lines' books of which users accepted the calls.
 use Rattle.std.proofs.Common.{◌≡◌, ℕ, Bool, true, List, Option, Some, refl, sym, ap, ◌∙◌, subst}
 use Rattle.std.specs.Prelude.{slice_get, if◌then◌else◌}
 use Rattle.std.proofs.lemmas.Option.{same_Some}

@@ -7,7 +7,7 @@ use Rattle.memory_line.specs.Lines.{LineService}
 use Rattle.network_laws.specs.Network.{PlacedNode}
 use Rattle.network_laws.proofs.Users.{same_user}
 use Rattle.network_laws.specs.Promise.{EndHolds}
-use Rattle.switch_network_laws.specs.IsSwitched.{of_users, with_switch}
+use Rattle.switch_network_laws.specs.IsSwitched.{of_users, with_switches}
 use Rattle.switch_network_laws.specs.Promise.{NetworkPromise}
 use Rattle.switch_network_laws.specs.Laws.{PromiseLaw, DeliveredLaw}
 use Rattle.switch_network_laws.proofs.PromiseHeld.{promise_held}
@@ -15,7 +15,7 @@ use Rattle.switch_network_laws.proofs.PromiseUsers.{promise_users}
 
 pub promise_any : (L : LineService) → PromiseLaw L
 promise_any L s (of_users n a) f = promise_users L s n a f
-promise_any L s (with_switch p a) f = promise_held L s p a f
+promise_any L s (with_switches p a) f = promise_held L s p a f
 
 pub delivered_any : (L : LineService) → DeliveredLaw L
 delivered_any L s any f place channel m there says line l role number r line_is place_is present record_is =

@@ -1,4 +1,4 @@
--- What holds of a network with a switch has, on faithful lines, all that the network promises.
+-- What holds of a network of switches has, on faithful lines, all that the network promises.
 use Rattle.std.proofs.Common.{◌≡◌, ◌≢◌, ℕ, true, false, List, length, Some, refl, sym, ap, ◌∙◌, subst, inl, inr, [], arith}
 use Rattle.std.specs.Prelude.{◌⊎◌, slice_get}
 use Rattle.std.proofs.lemmas.Option.{same_Some, slice_get_within}
@@ -25,9 +25,6 @@ use Rattle.call_path_laws.specs.Promise.{PathsHold}
 use Rattle.call_path_laws.proofs.Ending.{ends_seen, users_own, open_seen}
 use Rattle.switch_path_laws.specs.Law as paths
 use Rattle.switch_path_laws.proofs.Begins.{network_holds}
-use Rattle.switch_path_laws.specs.Sight.{only_at}
-use Rattle.switch_path_laws.specs.Network.{placed_at}
-use Rattle.switch_network_laws.proofs.OneSwitch.{of_one}
 use Rattle.network_laws.specs.Node.{NodeState, end_of, is_pad}
 use Rattle.memory_line.specs.Lines.{LineService}
 use Rattle.network_laws.specs.OneLine.{LineState}
@@ -42,25 +39,25 @@ use Rattle.switch_network_laws.specs.Promise.{NetworkPromise}
 use Rattle.switch_network_laws.proofs.FarAddresses.{AreEnds, far_none}
 use Rattle.switch_network_laws.proofs.Histories.{LineData, IsLed, IsOwned, PairsAre, histories_hold}
 use Rattle.switch_network_laws.proofs.PairsHeld.{PairOf, all_owned, held_pairs}
-use Rattle.switch_network_laws.proofs.UsersLine.{at_end, user_end}
+use Rattle.switch_network_laws.proofs.Standing.{user_end}
 use Rattle.switch_network_laws.proofs.FewerAny.{quiet_user}
 use Rattle.switch_network_laws.proofs.PromiseLines.{fellow}
 
 module _ (L : LineService) (s : Network) (p : IsSwitched L s) (f : L.faithful) where
-  pub held : IsHeld L s p.switch
+  pub held : IsHeld L s
   held = p.holds f
 
   -- ---- a line with its book
 
   pub record LineHas (line : ℕ) (l : NetLine) (b : Book) : Type 0 where
     pub stands : LineStands s.nodes line l
-    pub holds : IsLine L (ends_state l stands.dte.node stands.dce b)
-    pub kept : IsKept (ends_state l stands.dte.node stands.dce b)
+    pub holds : IsLine L (ends_state l stands.at b)
+    pub kept : IsKept (ends_state l stands.at b)
 
   pub line_has : (line : ℕ) (l : NetLine) (b : Book) → slice_get s.lines line ≡ Some l → slice_get held.books line ≡ Some b → LineHas line l b
   line_has line l b at there =
       let h : LineStands s.nodes line l = p.lines line l at in
-      let is : IsLine L (ends_state l h.dte.node h.dce b) = held.lines line l b at there h in
+      let is : IsLine L (ends_state l h.at b) = held.ends line l b at there h in
       record { stands = h; holds = is; kept = is.kept f }
 
   pub its_book : (line : ℕ) (l : NetLine) → slice_get s.lines line ≡ Some l → (b : Book) × (slice_get held.books line ≡ Some b)
@@ -75,13 +72,13 @@ module _ (L : LineService) (s : Network) (p : IsSwitched L s) (f : L.faithful) w
   book_kept line b there =
       let l = its_line line b there in
       let h : LineHas line l.0 b = line_has line l.0 b l.1 there in
-      let own : LineState = ends_state l.0 h.stands.dte.node h.stands.dce b in
+      let own : LineState = ends_state l.0 h.stands.at b in
       record { setting = h.kept.setting; line = line_of own; kept = h.kept.kept }
 
   paths_hold : PathsHold held.plan s.register
   paths_hold =
       subst (λ (g : Register). PathsHold held.plan g) held.register
-      (network_holds.promise held.plan (λ k. p.switch.lines) (only_at held.network.place (of_one p.switch.switch held.histories)) (placed_at held.network.place held.calls) held.network.lines held.books held.world held.traces held.network.network
+      (network_holds.promise held.plan held.own_lines held.switches held.calls held.lines held.books held.world held.traces held.network
       (λ line b users there. book_kept line b there))
 
   book_records : (line : ℕ) (b : Book) → slice_get held.books line ≡ Some b → HaveRecords b
@@ -90,7 +87,7 @@ module _ (L : LineService) (s : Network) (p : IsSwitched L s) (f : L.faithful) w
   records_hold : HasRecords s.register
   records_hold =
       subst (λ (g : Register). HasRecords g) held.register
-      (open_seen held.plan held.world held.books held.traces held.network.network.seen.seen held.network.network.seen.lines book_records)
+      (open_seen held.plan held.world held.books held.traces held.network.seen.seen held.network.seen.lines book_records)
 
   -- ---- the ends at which users stand
 
@@ -98,15 +95,15 @@ module _ (L : LineService) (s : Network) (p : IsSwitched L s) (f : L.faithful) w
       → EndIsSeen held.plan line role b s.register
   end_seen line l role b at there user =
       subst (λ (g : Register). EndIsSeen held.plan line role b g) held.register
-      (ends_seen held.plan held.world held.books held.traces line b role held.network.network.seen.seen held.network.network.seen.lines there
+      (ends_seen held.plan held.world held.books held.traces line b role held.network.seen.seen held.network.seen.lines there
       (held.plan_is.user line l role (User user.0) at user.1))
 
-  own_node : (role : Role) (l : NetLine) (dte dce : NodeState) (b : Book) → IsLine L (ends_state l dte dce b) → (side_of role b).node ≡ place_at role l
-  own_node Dte l dte dce b h = h.dte_node
-  own_node Dce l dte dce b h = h.dce_node
+  own_node : (role : Role) (l : NetLine) (at : Role → NodeState) (b : Book) → IsLine L (ends_state l at b) → (side_of role b).node ≡ place_at role l
+  own_node Dte l at b h = h.dte_node
+  own_node Dce l at b h = h.dce_node
 
   end_is : (role : Role) (line : ℕ) (l : NetLine) (b : Book) (h : LineStands s.nodes line l)
-      → end_at role (line_of (ends_state l h.dte.node h.dce b)) ≡ end_of (at_end role h.dte.node h.dce)
+      → end_at role (line_of (ends_state l h.at b)) ≡ end_of (h.at role)
   end_is Dte line l b h = refl
   end_is Dce line l b h = refl
 
@@ -126,7 +123,7 @@ module _ (L : LineService) (s : Network) (p : IsSwitched L s) (f : L.faithful) w
   end_holds line l role at user =
       let b = its_book line l at in
       let h : LineHas line l b.0 = line_has line l b.0 at b.1 in
-      let own : LineState = ends_state l h.stands.dte.node h.stands.dce b.0 in
+      let own : LineState = ends_state l h.stands.at b.0 in
       let w : EndIsSeen held.plan line role b.0 s.register = end_seen line l role b.0 at b.1 user in
       let u = user_end s.nodes line l h.stands role user.0 user.1 in
       let is : end_at role (line_of own) ≡ end_of user.0.node = end_is role line l b.0 h.stands ∙ ap (λ (x : NodeState). end_of x) u.node_is in
@@ -135,7 +132,7 @@ module _ (L : LineService) (s : Network) (p : IsSwitched L s) (f : L.faithful) w
         node_there = user.1;
         node_line = u.line_is;
         quiet = quiet_user s.nodes line l h.stands role user.0 user.1;
-        own = w.node ∙ own_node role l h.stands.dte.node h.stands.dce b.0 h.holds;
+        own = w.node ∙ own_node role l h.stands.at b.0 h.holds;
         slots = w.channels ∙ held.channels line l b.0 role at b.1;
         channels = ap (λ (e : PacketEnd). length e.layer.channels) (sym is) ∙ sym (keeping_law.channels_kept h.kept.setting b.0 (line_of own) role h.kept.kept)
             ∙ held.channels line l b.0 role at b.1;
@@ -160,14 +157,14 @@ module _ (L : LineService) (s : Network) (p : IsSwitched L s) (f : L.faithful) w
       → HasCallee b role channel → HasCallee (book_at line s.register) role channel
   placed_in_register line l role b channel at there user has =
       subst (λ (g : Register). HasCallee (book_at line g) role channel) held.register
-      (network_holds.placed held.plan (λ k. p.switch.lines) (only_at held.network.place (of_one p.switch.switch held.histories)) (placed_at held.network.place held.calls) held.network.lines held.books held.world held.traces held.network.network line b role channel there
+      (network_holds.placed held.plan held.own_lines held.switches held.calls held.lines held.books held.world held.traces held.network line b role channel there
       (held.plan_is.user line l role (User user.0) at user.1) has)
 
   placed_holds : (line : ℕ) (l : NetLine) (role : Role) → slice_get s.lines line ≡ Some l → HasUserAt s l role → PlacedHolds s line l role
   placed_holds line l role at user =
       let b = its_book line l at in
       let h : LineHas line l b.0 = line_has line l b.0 at b.1 in
-      let own : LineState = ends_state l h.stands.dte.node h.stands.dce b.0 in
+      let own : LineState = ends_state l h.stands.at b.0 in
       let w : EndIsSeen held.plan line role b.0 s.register = end_seen line l role b.0 at b.1 user in
       let u = user_end s.nodes line l h.stands role user.0 user.1 in
       let is : end_at role (line_of own) ≡ end_of user.0.node = end_is role line l b.0 h.stands ∙ ap (λ (x : NodeState). end_of x) u.node_is in
@@ -186,7 +183,7 @@ module _ (L : LineService) (s : Network) (p : IsSwitched L s) (f : L.faithful) w
 
   -- a PAD is at the DTE
   pad_at_dte : (place : ℕ) (n : PlacedNode) (l : NetLine) (h : LineStands s.nodes n.line l) → slice_get s.nodes place ≡ Some (User n) → is_pad n.node ≡ true
-      → (l.dte ≡ place) ⊎ (l.dce ≡ place) → (l.dte ≡ place) × (h.dte.node ≡ n.node)
+      → (l.dte ≡ place) ⊎ (l.dce ≡ place) → (l.dte ≡ place) × (h.at Dte ≡ n.node)
   pad_at_dte place n l h at pad (inl e) = (e, (user_end s.nodes n.line l h Dte n (ap (λ (k : ℕ). slice_get s.nodes k) e ∙ at)).node_is)
   pad_at_dte place n l h at pad (inr e) =
       let u = user_end s.nodes n.line l h Dce n (ap (λ (k : ℕ). slice_get s.nodes k) e ∙ at) in
@@ -199,10 +196,10 @@ module _ (L : LineService) (s : Network) (p : IsSwitched L s) (f : L.faithful) w
       let b = its_book n.line st.line st.there in
       let h : LineHas n.line st.line b.0 = line_has n.line st.line b.0 st.there b.1 in
       let is = pad_at_dte place n st.line h.stands at (ap (λ (m : NodeState). is_pad m) pad) st.at_end in
-      sends_line L (ends_state st.line h.stands.dte.node h.stands.dce b.0) h.holds q (is.1 ∙ pad) place s.register.records
+      sends_line L (ends_state st.line h.stands.at b.0) h.holds q (is.1 ∙ pad) place s.register.records
       (λ i r there node.
       (let o : IsOfUser held.plan held.books r =
-      users_own held.plan held.world held.books held.traces i r held.network.network.seen.seen held.network.network.seen.lines
+      users_own held.plan held.world held.books held.traces i r held.network.seen.seen held.network.seen.lines
       (ap (λ (g : Register). slice_get g.records i) held.register ∙ there) in
       let l = its_line o.line o.line_book o.line_there in
       let where_is : r.node ≡ place_at o.role l.0 = o.node ∙ held.plan_is.node o.line l.0 o.role l.1 in
@@ -219,17 +216,16 @@ module _ (L : LineService) (s : Network) (p : IsSwitched L s) (f : L.faithful) w
 
   -- where the plan has a user at an end of a line, one stands there
   user_there : (line : ℕ) (l : NetLine) (role : Role) → slice_get s.lines line ≡ Some l → held.plan.has_user line role ≡ true → HasUserAt s l role
-  user_there line l Dte at user = let h = p.lines line l at in (h.dte, h.dte_there)
-  user_there line l Dce at user = let h = p.lines line l at in by h.dce_there.node h.dce_there.there
+  user_there line l role at user = let e = (p.lines line l at).there role in by e.node e.there
     where
-      by : (x : NetNode) → slice_get s.nodes l.dce ≡ Some x → HasUserAt s l Dce
+      by : (x : NetNode) → slice_get s.nodes (place_at role l) ≡ Some x → HasUserAt s l role
       by (User x) there = (x, there)
-      by (Switching x) there = absurd (let bad : true ≡ false = sym user ∙ held.plan_is.user line l Dce (Switching x) at there in cc)
+      by (Switching x) there = absurd (let bad : true ≡ false = sym user ∙ held.plan_is.user line l role (Switching x) at there in cc)
 
   of_users : (i : ℕ) (r : RecordValue) → slice_get s.register.records i ≡ Some r → (n : PlacedNode) × (slice_get s.nodes r.node ≡ Some (User n))
   of_users i r there =
       let o : IsOfUser held.plan held.books r =
-      users_own held.plan held.world held.books held.traces i r held.network.network.seen.seen held.network.network.seen.lines
+      users_own held.plan held.world held.books held.traces i r held.network.seen.seen held.network.seen.lines
       (ap (λ (g : Register). slice_get g.records i) held.register ∙ there) in
       let l = its_line o.line o.line_book o.line_there in
       let u : HasUserAt s l.0 o.role = user_there o.line l.0 o.role l.1 o.user in
@@ -237,13 +233,13 @@ module _ (L : LineService) (s : Network) (p : IsSwitched L s) (f : L.faithful) w
 
   -- ---- the histories of the lines
 
-  line_apart : (l : NetLine) (dte dce : NodeState) (b : Book) → IsLine L (ends_state l dte dce b) → l.dte ≢ l.dce
-  line_apart l dte dce b h = h.apart
+  line_apart : (l : NetLine) (at : Role → NodeState) (b : Book) → IsLine L (ends_state l at b) → l.dte ≢ l.dce
+  line_apart l at b h = h.apart
 
   line_led : (line : ℕ) (l : NetLine) (b : Book) → slice_get s.lines line ≡ Some l → slice_get held.books line ≡ Some b → (d : LineData) × IsLed s line l b d
   line_led line l b at there =
       let h : LineHas line l b = line_has line l b at there in
-      let own : LineState = ends_state l h.stands.dte.node h.stands.dce b in
+      let own : LineState = ends_state l h.stands.at b in
       let x = history_kept h.kept.setting b (line_of own) h.kept.kept in (
         record { history = x.0; uses = x.1.accepted.0 },
         record {
@@ -254,16 +250,16 @@ module _ (L : LineService) (s : Network) (p : IsSwitched L s) (f : L.faithful) w
           book = x.1.book;
           counts = x.1.counts;
           accepted = x.1.accepted.1;
-          nodes = λ role. own_node role l h.stands.dte.node h.stands.dce b h.holds;
-          apart = line_apart l h.stands.dte.node h.stands.dce b h.holds;
+          nodes = λ role. own_node role l h.stands.at b h.holds;
+          apart = line_apart l h.stands.at b h.holds;
           at_line = λ role p is. (user_end s.nodes line l h.stands role p is).line_is;
         },
       )
 
   all_histories : (hs : List LineHistory) × HistoriesHold s hs
   all_histories =
-      let seen = held.network.network.seen.seen in
-      let alike = held.network.network.seen.lines in
+      let seen = held.network.seen.seen in
+      let alike = held.network.seen.lines in
       histories_hold s held.books held.count line_led of_users
       (subst (λ (g : Register). (i : ℕ) (r : RecordValue) → slice_get g.records i ≡ Some r → IsOwned held.books r) held.register
       (all_owned held.plan held.world held.books held.traces seen alike))
@@ -276,17 +272,17 @@ module _ (L : LineService) (s : Network) (p : IsSwitched L s) (a : IsAddressed s
 
   seen_side : (line : ℕ) (l : NetLine) (role : Role) → slice_get s.lines line ≡ Some l → SideIsSeen (held L s p f).plan (held L s p f).world.origins (held L s p f).world.joins line role (side_of role (book_at line (held L s p f).world.register)) (side_of role (book_at line (held L s p f).world.whole))
   seen_side line l role at =
-      (held L s p f).network.network.seen.seen.sides line role
-      (let within = slice_get_within s.lines line l at in let seen = (held L s p f).network.network.seen.seen.lines in let same = ap (λ (g : Register). length g.lines) (held L s p f).register in let count = a.registered in omega arith)
+      (held L s p f).network.seen.seen.sides line role
+      (let within = slice_get_within s.lines line l at in let seen = (held L s p f).network.seen.seen.lines in let same = ap (λ (g : Register). length g.lines) (held L s p f).register in let count = a.registered in omega arith)
 
   no_address : (line : ℕ) (l : NetLine) (role : Role) → slice_get s.lines line ≡ Some l → HasUserAt s l Dce → address_at (held L s p f).plan line role ≡ []
-  no_address line l Dte at user = (held L s p f).network.network.alike line (inr ((held L s p f).plan_is.user line l Dce (User user.0) at user.1))
+  no_address line l Dte at user = (held L s p f).network.alike line (inr ((held L s p f).plan_is.user line l Dce (User user.0) at user.1))
   no_address line l Dce at user = refl
 
   all_ends : AreEnds s
   all_ends = record {
     at_line = λ line l role n at is. (user_end s.nodes line l (p.lines line l at) role n is).line_is;
-    dte = λ line l at. let h = p.lines line l at in (h.dte, h.dte_there);
+    dte = λ line l at user. (p.lines line l at).users user;
     nodes = λ line l role at. ap (λ (g : Register). (side_of role (book_at line g)).node) (sym (held L s p f).register) ∙ (seen_side line l role at).seen_node ∙ (held L s p f).plan_is.node line l role at;
     bare = λ line l role at user.
         ap (λ (g : Register). (side_of role (book_at line g)).address) (sym (held L s p f).register) ∙ (seen_side line l role at).seen_address ∙ no_address line l role at user;

@@ -282,7 +282,7 @@ module _ (L : LineService) (s : Network) (n : IsNetwork L s) (a : IsAddressed s)
     at_line = λ line l role p at is.
         let b = fellow n.books s.lines line l n.count at in
         (line_led line l b.0 at b.1).1.at_line role p is;
-    dte = λ line l at.
+    dte = λ line l at user.
         let b = fellow n.books s.lines line l n.count at in
         let h : LineHolds L s.nodes line l b.0 = n.lines line l b.0 at b.1 in (h.dte, h.dte_there);
     nodes = λ line l role at.

@@ -1,15 +1,17 @@
--- Which node stands at which end of each line of a network with a switch: one node alone does, and where a node with
+-- Which node stands at which end of each line of a network with switches: one node alone does, and where a node with
 -- users changes at one line, all other lines stand as they stood.
 use Rattle.std.proofs.Common.{◌≡◌, ◌≢◌, ℕ, List, length, set, Some, refl, sym, ap, ◌∙◌, subst, inl, inr}
 use Rattle.std.specs.Prelude.{◌⊎◌, slice_get}
 use Rattle.std.proofs.lemmas.Option.{same_Some}
 use Rattle.std.proofs.lemmas.Bool.{cases_eq}
+use Rattle.link_timers.specs.declared.role.Role.{Role}
+use Rattle.link_timers.specs.declared.role.Role.TheVariants.{Dte, Dce}
 use Rattle.book_laws.proofs.Basics.{get_set, set_here, set_elsewhere, length_set}
 use Rattle.network_laws.specs.Node.{NodeState, Host}
 use Rattle.switch_lines.specs.Lines.{SwitchLine}
-use Rattle.network_laws.specs.Network.{PlacedNode, PlacedSwitch, NetNode, User, Switching, NetLine, StandsAtLine, StandsAtLines, IsDceOf, Stands}
+use Rattle.network_laws.specs.Network.{PlacedNode, PlacedSwitch, NetNode, User, Switching, NetLine, StandsAtLine, StandsAtLines, IsAtEnd, Stands, place_at, own_role}
 use Rattle.network_laws.proofs.Users.{user_is, same_user, not_switch, not_both}
-use Rattle.switch_network_laws.specs.IsSwitched.{IsEndOf, EndStands, LineStands}
+use Rattle.switch_network_laws.specs.IsSwitched.{IsEndOf, EndStands, IsUserThere, LineStands}
 
 -- ---- a node that is a switch
 
@@ -27,9 +29,6 @@ abbrev pub AreApart : List NetNode → Type 0
 AreApart nodes = (place : ℕ) (n : PlacedSwitch) → slice_get nodes place ≡ Some (Switching n) → (own other line : ℕ)
     → slice_get n.lines own ≡ Some line → slice_get n.lines other ≡ Some line → own ≡ other
 
-pub same_dte : (nodes : List NetNode) (line : ℕ) (l : NetLine) (a b : LineStands nodes line l) → a.dte ≡ b.dte
-same_dte nodes line l a b = same_user a.dte b.dte (sym a.dte_there ∙ b.dte_there)
-
 end_is : (n : NetNode) (line : ℕ) (x y : NodeState)
     → ((s : PlacedSwitch) → n ≡ Switching s → (own other : ℕ) → slice_get s.lines own ≡ Some line → slice_get s.lines other ≡ Some line → own ≡ other)
     → IsEndOf n line x → IsEndOf n line y → x ≡ y
@@ -44,6 +43,22 @@ same_end nodes line place x y apart a b =
     let same : b.node ≡ a.node = same_Some b.node a.node (sym b.there ∙ a.there) in
     end_is a.node line x y (λ s is own other p q. apart place s (a.there ∙ ap Some is) own other line p q) a.end
     (subst (λ (n : NetNode). IsEndOf n line y) same b.end)
+
+pub same_at : (nodes : List NetNode) (line : ℕ) (l : NetLine) → AreApart nodes → (a b : LineStands nodes line l) → a.at ≡ b.at
+same_at nodes line l apart a b = λ i role. same_end nodes line (place_at role l) (a.at role) (b.at role) apart (a.there role) (b.there role) i
+
+-- a node with users is at its line
+pub record UserEnd (nodes : List NetNode) (line : ℕ) (l : NetLine) (h : LineStands nodes line l) (role : Role) (p : PlacedNode) : Type 0 where
+  pub line_is : p.line ≡ line
+  pub node_is : h.at role ≡ p.node
+
+pub user_end : (nodes : List NetNode) (line : ℕ) (l : NetLine) (h : LineStands nodes line l) (role : Role) (p : PlacedNode)
+    → slice_get nodes (place_at role l) ≡ Some (User p) → UserEnd nodes line l h role p
+user_end nodes line l h role p at =
+    let e : EndStands nodes line (place_at role l) (h.at role) = h.there role in
+    let is : e.node ≡ User p = same_Some e.node (User p) (sym e.there ∙ at) in
+    let end : IsEndOf (User p) line (h.at role) = subst (λ (n : NetNode). IsEndOf n line (h.at role)) is e.end in
+    record { line_is = end.0; node_is = end.1 }
 
 -- ---- a node with users changes
 
@@ -91,33 +106,40 @@ end_moved nodes new line k place x w apart h = by h.node h.there h.end
     by (User n) there end = record { node = User n; there = w.others place n there (λ e. apart (sym end.0 ∙ e)); end = end }
     by (Switching n) there end = record { node = Switching n; there = w.stay place n there; end = end }
 
+pub users_moved : (nodes new : List NetNode) (line k : ℕ) (m : NetLine) → ChangesAt nodes new line → k ≢ line → LineStands nodes k m → IsUserThere new m.dce → IsUserThere new m.dte
+users_moved nodes new line k m w apart h u =
+    let was = w.stood m.dce u.0 u.1 in
+    let v = h.users (was.0, was.1) in
+    (v.0, w.others m.dte v.0 v.1 (λ e. apart (sym (user_end nodes k m h Dte v.0 v.1).line_is ∙ e)))
+
 abbrev pub stands_moved : (nodes new : List NetNode) (line k : ℕ) (m : NetLine) → ChangesAt nodes new line → k ≢ line → LineStands nodes k m → LineStands new k m
 stands_moved nodes new line k m w apart h = record {
-  dte = h.dte;
-  dte_there = w.others m.dte h.dte h.dte_there (λ e. apart (sym h.dte_line ∙ e));
-  dte_line = h.dte_line;
-  dce = h.dce;
-  dce_there = end_moved nodes new line k m.dce h.dce w apart h.dce_there;
+  at = h.at;
+  there = λ role. end_moved nodes new line k (place_at role m) (h.at role) w apart (h.there role);
+  quiet = h.quiet;
   apart = h.apart;
   host = h.host;
-  dte_quiet = h.dte_quiet;
-  dce_quiet = h.dce_quiet;
+  users = users_moved nodes new line k m w apart h;
 }
 
 -- ---- each node stands at its lines
 
+pub same_place : (role : Role) (l l' : NetLine) → l'.dte ≡ l.dte → l'.dce ≡ l.dce → place_at role l' ≡ place_at role l
+same_place Dte l l' dte dce = dte
+same_place Dce l l' dte dce = dce
+
 -- the frames in flight on one line change
-pub dce_after : (lines : List NetLine) (line : ℕ) (l l' : NetLine) → slice_get lines line ≡ Some l → l'.dce ≡ l.dce → (place k : ℕ)
-    → IsDceOf lines place k → IsDceOf (set lines line l') place k
-dce_after lines line l l' at dce place k h = by (cases_eq k line)
+pub end_after : (lines : List NetLine) (line : ℕ) (l l' : NetLine) → slice_get lines line ≡ Some l → l'.dte ≡ l.dte → l'.dce ≡ l.dce
+    → (place : ℕ) (role : Role) (k : ℕ) → IsAtEnd lines place role k → IsAtEnd (set lines line l') place role k
+end_after lines line l l' at dte dce place role k h = by (cases_eq k line)
   where
-    by : (k ≡ line) ⊎ (k ≢ line) → IsDceOf (set lines line l') place k
+    by : (k ≡ line) ⊎ (k ≢ line) → IsAtEnd (set lines line l') place role k
     by (inl same) =
         let is : h.line_is ≡ l = same_Some h.line_is l (sym h.there ∙ ap (λ i. slice_get lines i) same ∙ at) in
         record {
           line_is = l';
           there = ap (λ i. slice_get (set lines line l') i) same ∙ set_here lines line l' l at;
-          at_end = dce ∙ ap (λ (x : NetLine). x.dce) (sym is) ∙ h.at_end;
+          at_end = same_place role l l' dte dce ∙ ap (λ (x : NetLine). place_at role x) (sym is) ∙ h.at_end;
         }
     by (inr other) = record { line_is = h.line_is; there = set_elsewhere lines line k l' other ∙ h.there; at_end = h.at_end }
 
@@ -152,7 +174,7 @@ nodes_after lines nodes new line l l' at dte dce w old place (Switching m) there
     record {
       count = st.count;
       apart = st.apart;
-      each = λ own k there. dce_after lines line l l' at dce place k (st.each own k there);
+      each = λ own k there. end_after lines line l l' at dte dce place (own_role m.switch own) k (st.each own k there);
     }
 
 pub are_apart : (lines : List NetLine) (nodes : List NetNode) → ((place : ℕ) (n : NetNode) → slice_get nodes place ≡ Some n → Stands lines place n) → AreApart nodes

@@ -1,14 +1,13 @@
--- What holds of a network holds after an event of its switch.
-use Rattle.std.proofs.Common.{◌≡◌, ◌≢◌, ℕ, Some, sym, ap, subst, ◌∙◌, inl, inr}
+-- What holds of a network holds after an event of a switch.
+use Rattle.std.proofs.Common.{◌≡◌, ◌≢◌, ℕ, Some, sym, subst, inl, inr}
 use Rattle.std.specs.Prelude.{◌⊎◌, slice_get}
 use Rattle.book_laws.proofs.Basics.{get_set, set_here}
 use Rattle.memory_line.specs.Lines.{LineService}
 use Rattle.switch_quiet_laws.specs.Quiet.{IsQuietSwitch}
 use Rattle.network_laws.specs.AtSwitch.{SwitchEvent, switched, switch_drained, SwitchHappened}
-use Rattle.network_laws.specs.Network.{PlacedSwitch, NetNode, Switching, Network, StandsAtLines, Stands}
-use Rattle.switch_network_laws.specs.IsSwitched.{IsHeld, IsSwitched, of_users, with_switch}
+use Rattle.network_laws.specs.Network.{NetNode, Switching, Network, StandsAtLines, Stands}
+use Rattle.switch_network_laws.specs.IsSwitched.{IsSwitched, of_users, with_switches}
 use Rattle.switch_network_laws.specs.Laws.{SwitchEventLaw}
-use Rattle.switch_network_laws.proofs.Standing.{same_switch}
 use Rattle.switch_network_laws.proofs.Addressed.{switched_addressed}
 use Rattle.switch_network_laws.proofs.SwitchStanding.{switch_after, quiet_after, switch_quiet, was_line, stands_still, switch_stands, stands_then}
 use Rattle.switch_network_laws.proofs.SwitchHolding.{network_then, held_then}
@@ -19,32 +18,18 @@ switched_network L event place s t i d = record {
   place = place;
   switch = switch_after event d.node;
   there = set_here s.nodes place (Switching (switch_after event d.node)) (Switching d.node) d.node_there;
-  alone = λ other m there. alone_by other m (get_set s.nodes place (Switching (switch_after event d.node)) other (Switching m) there);
   lines = λ line l at.
       let w = was_line L event d.node s.lines t.lines d.lines line l at in
       stands_then event s.nodes place d.node d.node_there quiet line w.l l w.dte w.dce (i.lines line w.l w.there);
   nodes = λ at m there. stands_by at m (get_set s.nodes place (Switching (switch_after event d.node)) at m there);
-  holds = λ f. held_then L event place d.node s t.lines t.register f d.node_there stands i.lines d.has_line d.lines d.register
-      (subst (IsHeld L s) switch_is (i.holds f));
+  holds = λ f. held_then L event place d.node s t.lines t.register f d.node_there i d.has_line d.lines d.register (i.holds f);
 }
   where
-    place_is : place ≡ i.place
-    place_is = i.alone place d.node d.node_there
-
-    switch_is : i.switch ≡ d.node
-    switch_is = same_switch i.switch d.node (sym i.there ∙ (ap (λ (k : ℕ). slice_get s.nodes k) (sym place_is) ∙ d.node_there))
-
     stands : StandsAtLines s.lines place d.node
     stands = i.nodes place (Switching d.node) d.node_there
 
     quiet : IsQuietSwitch (switch_drained (switched event d.node.switch))
     quiet = quiet_after event d.node.switch (switch_quiet s.lines s.nodes place d.node d.node_there stands i.lines)
-
-    alone_by : (other : ℕ) (m : PlacedSwitch)
-        → ((other ≡ place) × (Switching m ≡ Switching (switch_after event d.node))) ⊎ ((other ≢ place) × (slice_get s.nodes other ≡ Some (Switching m)))
-        → other ≡ place
-    alone_by other m (inl e) = e.0
-    alone_by other m (inr e) = i.alone other m e.1 ∙ sym place_is
 
     stands_by : (at : ℕ) (m : NetNode)
         → ((at ≡ place) × (m ≡ Switching (switch_after event d.node))) ⊎ ((at ≢ place) × (slice_get s.nodes at ≡ Some m)) → Stands t.lines at m
@@ -55,6 +40,6 @@ switched_network L event place s t i d = record {
 
 pub switch_event_holds : (L : LineService) → SwitchEventLaw L
 switch_event_holds L event place s t (of_users i a) d = absurd (i.nodes place (Switching d.node) d.node_there)
-switch_event_holds L event place s t (with_switch i a) d =
-    with_switch (subst (IsSwitched L) (λ k. record { nodes = sym d.nodes k; lines = t.lines; register = t.register }) (switched_network L event place s t i d))
+switch_event_holds L event place s t (with_switches i a) d =
+    with_switches (subst (IsSwitched L) (λ k. record { nodes = sym d.nodes k; lines = t.lines; register = t.register }) (switched_network L event place s t i d))
     (switched_addressed L event place s t a d)

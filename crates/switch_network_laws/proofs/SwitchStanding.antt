@@ -1,40 +1,29 @@
 -- After an event of a switch each node stands at its lines as it stood, and nothing waits at any node.
-use Rattle.std.proofs.Common.{◌≡◌, ◌≢◌, ℕ, zero, suc, ◌<◌, List, [], ◌∷◌, length, set, Some, refl, sym, ap, subst, ◌∙◌, inl, inr, arith}
-use Rattle.std.specs.Prelude.{◌⊎◌, Bool, true, false, if◌then◌else◌, slice_get}
-use Rattle.std.proofs.lemmas.Option.{none-some, same_Some, slice_get_within}
+use Rattle.std.proofs.Common.{◌≡◌, ℕ, suc, ◌<◌, List, [], ◌∷◌, length, set, Option, Some, refl, sym, ap, subst, ◌∙◌, inl, inr, arith}
+use Rattle.std.specs.Prelude.{◌⊎◌, Bool, true, false, if◌then◌else◌, slice_get, unwrap_or}
+use Rattle.std.proofs.lemmas.Option.{same_Some, slice_get_within}
 use Rattle.std.proofs.lemmas.List.{length-map}
+use Rattle.link_timers.specs.declared.role.Role.{Role}
+use Rattle.link_timers.specs.declared.role.Role.TheVariants.{Dce}
+use Rattle.packet_end.specs.PacketEnd.{PacketEnd}
 use Rattle.book_laws.proofs.Basics.{get_there, number_is, get_set, set_here, set_elsewhere}
 use Rattle.network_laws.specs.Quiet.{IsQuiet}
-use Rattle.network_laws.specs.Node.{NodeState, Host}
+use Rattle.network_laws.specs.Node.{NodeState, Host, is_pad}
 use Rattle.memory_line.specs.Lines.{LineService}
-use Rattle.switch_lines.specs.Lines.{SwitchLine}
-use Rattle.switch_lines.specs.Switch.{Switch, timer_runs, on_expiry, without_joins}
-use Rattle.switch_laws.specs.Steps.Happening.{Brings, RunsOut}
+use Rattle.switch_lines.specs.Lines.{SwitchLine, role_on}
+use Rattle.switch_lines.specs.Switch.{Switch, timer_runs, on_expiry, relink, without_joins}
+use Rattle.switch_laws.specs.Steps.Happening.{Brings, RunsOut, Relinks as RelinksLine}
+use Rattle.switch_laws.proofs.RolesStay.{all_roles, event_role}
 use Rattle.switch_quiet_laws.specs.Quiet.{IsQuietSwitch}
 use Rattle.switch_quiet_laws.proofs.Lines.{LinesStay}
 use Rattle.switch_quiet_laws.proofs.Events.{event-stays}
-use Rattle.switch_quiet_laws.proofs.Quieting.{frame-quiet, timer-quiet, restart-quiet}
-use Rattle.network_laws.specs.AtSwitch.{SwitchEvent, Hears, Expires, Restarts, switched, line_drained, switch_drained, LinesServed}
-use Rattle.network_laws.specs.Network.{PlacedNode, PlacedSwitch, NetNode, User, Switching, NetLine, StandsAtLines, IsDceOf, Stands}
+use Rattle.switch_quiet_laws.proofs.Quieting.{frame-quiet, timer-quiet, relink-quiet, restart-quiet}
+use Rattle.network_laws.specs.AtSwitch.{SwitchEvent, Hears, Expires, Relinks, Restarts, switched, line_drained, switch_drained, LinesServed}
+use Rattle.network_laws.specs.Network.{PlacedNode, PlacedSwitch, NetNode, User, Switching, NetLine, StandsAtLines, IsAtEnd, Stands, place_at, own_role}
 use Rattle.network_laws.proofs.Users.{not_switch, not_both}
 use Rattle.switch_network_laws.specs.IsSwitched.{IsEndOf, EndStands, LineStands}
-
--- ---- the lines of a switch
-
--- an own line of a switch is this line of the network, or none is
-pub own_or_none : (lines : List ℕ) (line : ℕ) → ((own : ℕ) × (slice_get lines own ≡ Some line)) ⊎ ((own : ℕ) → slice_get lines own ≡ Some line → ⊥)
-own_or_none [] line = inr (λ own e. none-some line e)
-own_or_none (x ∷ xs) line = elim (number_is x line) [
-  | inl e ↦ inl (0, ap (λ (n : ℕ). Some n) e)
-  | inr ne ↦ elim (own_or_none xs line) [
-    | inl own ↦ inl (suc own.0, own.1)
-    | inr none ↦ inr (none_of ne none)
-  ]
-]
-  where
-    none_of : (x ≡ line → ⊥) → ((own : ℕ) → slice_get xs own ≡ Some line → ⊥) → (own : ℕ) → slice_get (x ∷ xs) own ≡ Some line → ⊥
-    none_of ne none zero e = ne (same_Some x line e)
-    none_of ne none (suc own) e = none own e
+use Rattle.switch_network_laws.proofs.Standing.{same_place}
+use Rattle.switch_network_laws.proofs.OwnLines.{own_or_none}
 
 -- ---- the switch after an event, whose frames went
 
@@ -48,6 +37,7 @@ routes_stay (Expires own id) s = by_running (timer_runs (slice_get s.lines own) 
     by_running : (ran : Bool) → (if ran then on_expiry own id s else s).routes ≡ s.routes
     by_running true = refl
     by_running false = refl
+routes_stay (Relinks own) s = refl
 routes_stay Restarts s = refl
 
 as_many : (ls ms : List SwitchLine) → LinesStay ls ms → length ms ≡ length ls
@@ -63,6 +53,7 @@ switched_many (Expires own id) s = by_running (timer_runs (slice_get s.lines own
     by_running : (ran : Bool) → length (if ran then on_expiry own id s else s).lines ≡ length s.lines
     by_running true = as_many s.lines (on_expiry own id s).lines (event-stays s.routes own (RunsOut id) s.lines)
     by_running false = refl
+switched_many (Relinks own) s = as_many s.lines (relink own s).lines (event-stays s.routes own RelinksLine s.lines)
 switched_many Restarts s = length-map s.lines without_joins
 
 pub lines_count : (event : SwitchEvent) (s : Switch) → length (switch_drained (switched event s)).lines ≡ length s.lines
@@ -71,7 +62,22 @@ lines_count event s = length-map (switched event s).lines line_drained ∙ switc
 pub quiet_after : (event : SwitchEvent) (s : Switch) → IsQuietSwitch s → IsQuietSwitch (switch_drained (switched event s))
 quiet_after (Hears own octets) s q = frame-quiet own octets s q
 quiet_after (Expires own id) s q = timer-quiet own id s q
+quiet_after (Relinks own) s q = relink-quiet own s q
 quiet_after Restarts s q = restart-quiet s
+
+-- and no event changes the role of a switch on a line
+role_stays : (event : SwitchEvent) (s : Switch) (own : ℕ) → role_on (slice_get (switched event s).lines own) ≡ role_on (slice_get s.lines own)
+role_stays (Hears at octets) s own = event_role at (Brings octets) own s
+role_stays (Expires at id) s own = by_running (timer_runs (slice_get s.lines at) id)
+  where
+    by_running : (ran : Bool) → role_on (slice_get (if ran then on_expiry at id s else s).lines own) ≡ role_on (slice_get s.lines own)
+    by_running true = event_role at (RunsOut id) own s
+    by_running false = refl
+role_stays (Relinks at) s own = event_role at RelinksLine own s
+role_stays Restarts s own = all_roles without_joins (λ l. refl) own s.lines
+
+pub own_role_stays : (event : SwitchEvent) (s : Switch) (own : ℕ) → own_role (switch_drained (switched event s)) own ≡ own_role s own
+own_role_stays event s own = ap (λ (r : Option Role). unwrap_or r Dce) (all_roles line_drained (λ l. refl) own (switched event s).lines ∙ role_stays event s own)
 
 -- ---- lines
 
@@ -122,11 +128,11 @@ later_line L event n before after d line l at = elim (own_or_none n.lines line) 
 
 -- ---- nodes at their lines
 
-dce_still : (L : LineService) (event : SwitchEvent) (n : PlacedSwitch) (before after : List NetLine) → LinesServed L event n before after
-    → (place line : ℕ) → IsDceOf before place line → IsDceOf after place line
-dce_still L event n before after d place line h =
+end_still : (L : LineService) (event : SwitchEvent) (n : PlacedSwitch) (before after : List NetLine) → LinesServed L event n before after
+    → (place : ℕ) (role : Role) (line : ℕ) → IsAtEnd before place role line → IsAtEnd after place role line
+end_still L event n before after d place role line h =
     let w = later_line L event n before after d line h.line_is h.there in
-    record { line_is = w.l'; there = w.there; at_end = w.dce ∙ h.at_end }
+    record { line_is = w.l'; there = w.there; at_end = same_place role h.line_is w.l' w.dte w.dce ∙ h.at_end }
 
 pub stands_still : (L : LineService) (event : SwitchEvent) (n : PlacedSwitch) (before after : List NetLine) → LinesServed L event n before after
     → (place : ℕ) (m : NetNode) → Stands before place m → Stands after place m
@@ -141,14 +147,16 @@ stands_still L event n before after d place (User m) h =
       ];
     }
 stands_still L event n before after d place (Switching m) h =
-    record { count = h.count; apart = h.apart; each = λ own line there. dce_still L event n before after d place line (h.each own line there) }
+    record { count = h.count; apart = h.apart; each = λ own line there. end_still L event n before after d place (own_role m.switch own) line (h.each own line there) }
 
 pub switch_stands : (L : LineService) (event : SwitchEvent) (n : PlacedSwitch) (before after : List NetLine) → LinesServed L event n before after
     → (place : ℕ) → StandsAtLines before place n → StandsAtLines after place (switch_after event n)
 switch_stands L event n before after d place h = record {
   count = h.count ∙ sym (lines_count event n.switch);
   apart = h.apart;
-  each = λ own line there. dce_still L event n before after d place line (h.each own line there);
+  each = λ own line there.
+      subst (λ (r : Role). IsAtEnd after place r line) (sym (own_role_stays event n.switch own))
+      (end_still L event n before after d place (own_role n.switch own) line (h.each own line there));
 }
 
 -- ---- what the switch has at an own line
@@ -174,92 +182,108 @@ switch_quiet lines nodes place n there st stand own l at =
     let many = st.count in
     let less : own < length n.lines = omega (arith, within, many) in
     let line = get_there n.lines own less in
-    let dce = st.each own line.0 line.1 in
-    let h : LineStands nodes line.0 dce.line_is = stand line.0 dce.line_is dce.there in
-    subst IsQuiet (switch_end nodes place n there st.apart line.0 dce.line_is.dce h.dce dce.at_end h.dce_there own l line.1 at) h.dce_quiet
+    let e = st.each own line.0 line.1 in
+    let role : Role = own_role n.switch own in
+    let h : LineStands nodes line.0 e.line_is = stand line.0 e.line_is e.there in
+    subst IsQuiet (switch_end nodes place n there st.apart line.0 (place_at role e.line_is) (h.at role) e.at_end (h.there role) own l line.1 at) (h.quiet role)
 
 -- ---- over the event
 
--- the node at the DTE's end was there
-pub dte_was : (event : SwitchEvent) (nodes : List NetNode) (place at : ℕ) (n : PlacedSwitch) (m : PlacedNode)
+-- a node with users was there, and stays there
+pub user_was : (event : SwitchEvent) (nodes : List NetNode) (place at : ℕ) (n : PlacedSwitch) (m : PlacedNode)
     → slice_get (set nodes place (Switching (switch_after event n))) at ≡ Some (User m) → slice_get nodes at ≡ Some (User m)
-dte_was event nodes place at n m there = elim (get_set nodes place (Switching (switch_after event n)) at (User m) there) [
+user_was event nodes place at n m there = elim (get_set nodes place (Switching (switch_after event n)) at (User m) there) [
   | inl e ↦ absurd (not_switch m (switch_after event n) e.1)
   | inr e ↦ e.1
 ]
 
--- a line that is none of the switch's stood before as it stands then
-abbrev pub other_stood : (event : SwitchEvent) (nodes : List NetNode) (place : ℕ) (n : PlacedSwitch) (line : ℕ) (l : NetLine)
+pub user_stays : (event : SwitchEvent) (nodes : List NetNode) (place at : ℕ) (n : PlacedSwitch) (m : PlacedNode) → slice_get nodes place ≡ Some (Switching n)
+    → slice_get nodes at ≡ Some (User m) → slice_get (set nodes place (Switching (switch_after event n))) at ≡ Some (User m)
+user_stays event nodes place at n m there at_m =
+    set_elsewhere nodes place at (Switching (switch_after event n)) (λ e. not_both m n (sym at_m ∙ (ap (λ (k : ℕ). slice_get nodes k) e ∙ there))) ∙ at_m
+
+-- at a line that is none of the switch's each end is as it was
+pub other_end_was : (event : SwitchEvent) (nodes : List NetNode) (place : ℕ) (n : PlacedSwitch) (line at : ℕ) (x : NodeState)
     → ((own : ℕ) → slice_get n.lines own ≡ Some line → ⊥)
+    → EndStands (set nodes place (Switching (switch_after event n))) line at x → EndStands nodes line at x
+other_end_was event nodes place n line at x none h = elim (get_set nodes place (Switching (switch_after event n)) at h.node h.there) [
+  | inl e ↦
+      let end : IsEndOf (Switching (switch_after event n)) line x = subst (λ (m : NetNode). IsEndOf m line x) e.1 h.end in
+      absurd (none end.0 end.2)
+  | inr e ↦ record { node = h.node; there = e.1; end = h.end }
+]
+
+abbrev pub other_stood : (event : SwitchEvent) (nodes : List NetNode) (place : ℕ) (n : PlacedSwitch) (line : ℕ) (l : NetLine)
+    → slice_get nodes place ≡ Some (Switching n) → ((own : ℕ) → slice_get n.lines own ≡ Some line → ⊥)
     → LineStands (set nodes place (Switching (switch_after event n))) line l → LineStands nodes line l
-other_stood event nodes place n line l none h = record {
-  dte = h.dte;
-  dte_there = dte_was event nodes place l.dte n h.dte h.dte_there;
-  dte_line = h.dte_line;
-  dce = h.dce;
-  dce_there = elim (get_set nodes place (Switching (switch_after event n)) l.dce h.dce_there.node h.dce_there.there) [
-    | inl e ↦
-        let end : IsEndOf (Switching (switch_after event n)) line h.dce = subst (λ (m : NetNode). IsEndOf m line h.dce) e.1 h.dce_there.end in
-        absurd (none end.0 end.2)
-    | inr e ↦ record { node = h.dce_there.node; there = e.1; end = h.dce_there.end }
-  ];
+other_stood event nodes place n line l there none h = record {
+  at = h.at;
+  there = λ role. other_end_was event nodes place n line (place_at role l) (h.at role) none (h.there role);
+  quiet = h.quiet;
   apart = h.apart;
   host = h.host;
-  dte_quiet = h.dte_quiet;
-  dce_quiet = h.dce_quiet;
+  users = λ u.
+      let v = h.users (u.0, user_stays event nodes place l.dce n u.0 there u.1) in
+      (v.0, user_was event nodes place l.dte n v.0 v.1);
 }
+
+-- what is at an end then: the switch's own end, or what was there
+pub record EndThen (event : SwitchEvent) (nodes : List NetNode) (place : ℕ) (n : PlacedSwitch) (line at : ℕ) (old : NodeState) : Type 0 where
+  pub x : NodeState
+  pub stands : EndStands (set nodes place (Switching (switch_after event n))) line at x
+  pub quiet : IsQuiet x
+  pub kind : (x ≡ old) ⊎ ((e : PacketEnd) × (x ≡ Host e))
+
+pub end_then : (event : SwitchEvent) (nodes : List NetNode) (place : ℕ) (n : PlacedSwitch) → slice_get nodes place ≡ Some (Switching n)
+    → IsQuietSwitch (switch_drained (switched event n.switch)) → (line at : ℕ) (old : NodeState) → EndStands nodes line at old → IsQuiet old
+    → EndThen event nodes place n line at old
+end_then event nodes place n there quiet line at old h old_quiet = elim (number_is at place) [
+  | inl same ↦
+      let node : h.node ≡ Switching n = same_Some h.node (Switching n) (sym h.there ∙ (ap (λ (k : ℕ). slice_get nodes k) same ∙ there)) in
+      let end : IsEndOf (Switching n) line old = subst (λ (m : NetNode). IsEndOf m line old) node h.end in
+      let within = slice_get_within n.switch.lines end.0 end.1 end.3 in
+      let many = lines_count event n.switch in
+      let less : end.0 < length (switch_drained (switched event n.switch)).lines = omega (arith, within, many) in
+      let l = get_there (switch_drained (switched event n.switch)).lines end.0 less in
+      record {
+        x = Host l.0.end;
+        stands = record {
+          node = Switching (switch_after event n);
+          there = ap (λ (k : ℕ). slice_get (set nodes place (Switching (switch_after event n))) k) same ∙ set_here nodes place (Switching (switch_after event n)) (Switching n) there;
+          end = (end.0, l.0, end.2, l.1, refl);
+        };
+        quiet = quiet end.0 l.0 l.1;
+        kind = inr (l.0.end, refl);
+      }
+  | inr ne ↦ record {
+    x = old;
+    stands = record {
+      node = h.node;
+      there = set_elsewhere nodes place at (Switching (switch_after event n)) ne ∙ h.there;
+      end = h.end;
+    };
+    quiet = old_quiet;
+    kind = inl refl;
+  }
+]
 
 -- and each line stands then as it stood
 pub stands_then : (event : SwitchEvent) (nodes : List NetNode) (place : ℕ) (n : PlacedSwitch) → slice_get nodes place ≡ Some (Switching n)
     → IsQuietSwitch (switch_drained (switched event n.switch)) → (line : ℕ) (l l' : NetLine) → l'.dte ≡ l.dte → l'.dce ≡ l.dce
     → LineStands nodes line l → LineStands (set nodes place (Switching (switch_after event n))) line l'
-stands_then event nodes place n there quiet line l l' dte dce h = by (number_is l.dce place)
+stands_then event nodes place n there quiet line l l' dte dce h = record {
+  at = λ role. (ends role).x;
+  there = λ role. subst (λ (k : ℕ). EndStands (set nodes place (Switching (switch_after event n))) line k (ends role).x) (sym (same_place role l l' dte dce)) (ends role).stands;
+  quiet = λ role. (ends role).quiet;
+  apart = λ e. h.apart (sym dte ∙ (e ∙ dce));
+  host = elim (ends Dce).kind [
+    | inl same ↦ ap is_pad same ∙ h.host
+    | inr host ↦ ap is_pad host.1
+  ];
+  users = λ u.
+      let v = h.users (u.0, ap (λ (k : ℕ). slice_get nodes k) (sym dce) ∙ user_was event nodes place l'.dce n u.0 u.1) in
+      (v.0, user_stays event nodes place l'.dte n v.0 there (ap (λ (k : ℕ). slice_get nodes k) dte ∙ v.1));
+}
   where
-    new : List NetNode
-    new = set nodes place (Switching (switch_after event n))
-
-    dte_there : slice_get new l'.dte ≡ Some (User h.dte)
-    dte_there =
-        set_elsewhere nodes place l'.dte (Switching (switch_after event n))
-        (λ e. not_both h.dte n (sym h.dte_there ∙ (ap (λ (k : ℕ). slice_get nodes k) (sym dte ∙ e) ∙ there)))
-        ∙ (ap (λ (k : ℕ). slice_get nodes k) dte ∙ h.dte_there)
-
-    by : (l.dce ≡ place) ⊎ (l.dce ≢ place) → LineStands new line l'
-    by (inl same) =
-        let node : h.dce_there.node ≡ Switching n = same_Some h.dce_there.node (Switching n) (sym h.dce_there.there ∙ (ap (λ (k : ℕ). slice_get nodes k) same ∙ there)) in
-        let end : IsEndOf (Switching n) line h.dce = subst (λ (m : NetNode). IsEndOf m line h.dce) node h.dce_there.end in
-        let within = slice_get_within n.switch.lines end.0 end.1 end.3 in
-        let many = lines_count event n.switch in
-        let less : end.0 < length (switch_drained (switched event n.switch)).lines = omega (arith, within, many) in
-        let x = get_there (switch_drained (switched event n.switch)).lines end.0 less in
-        record {
-          dte = h.dte;
-          dte_there = dte_there;
-          dte_line = h.dte_line;
-          dce = Host x.0.end;
-          dce_there = record {
-            node = Switching (switch_after event n);
-            there = ap (λ (k : ℕ). slice_get new k) (dce ∙ same) ∙ set_here nodes place (Switching (switch_after event n)) (Switching n) there;
-            end = (end.0, x.0, end.2, x.1, refl);
-          };
-          apart = λ e. h.apart (sym dte ∙ (e ∙ dce));
-          host = refl;
-          dte_quiet = h.dte_quiet;
-          dce_quiet = quiet end.0 x.0 x.1;
-        }
-    by (inr ne) = record {
-      dte = h.dte;
-      dte_there = dte_there;
-      dte_line = h.dte_line;
-      dce = h.dce;
-      dce_there = record {
-        node = h.dce_there.node;
-        there = set_elsewhere nodes place l'.dce (Switching (switch_after event n)) (λ e. ne (sym dce ∙ e))
-            ∙ (ap (λ (k : ℕ). slice_get nodes k) dce ∙ h.dce_there.there);
-        end = h.dce_there.end;
-      };
-      apart = λ e. h.apart (sym dte ∙ (e ∙ dce));
-      host = h.host;
-      dte_quiet = h.dte_quiet;
-      dce_quiet = h.dce_quiet;
-    }
+    ends : (role : Role) → EndThen event nodes place n line (place_at role l) (h.at role)
+    ends role = end_then event nodes place n there quiet line (place_at role l) (h.at role) (h.there role) (h.quiet role)

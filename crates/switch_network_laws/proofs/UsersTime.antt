@@ -1,99 +1,42 @@
--- What holds of a network with a switch holds when ticks pass at all nodes.
-use Rattle.std.proofs.Common.{◌≡◌, ◌≢◌, ℕ, zero, suc, ◌<◌, ◌≤◌, List, [], length, map, Some, refl, sym, ap, ap₂, ◌∙◌, subst, arith, inl, inr}
-use Rattle.std.specs.Prelude.{slice_get, option_and_then}
-use Rattle.std.proofs.lemmas.Option.{same_Some, slice_get_within}
+-- What holds of a network of switches holds when ticks pass at all nodes.
+use Rattle.std.proofs.Common.{◌≡◌, ◌≢◌, ℕ, zero, suc, ◌<◌, ◌≤◌, List, length, map, Option, Some, None, refl, sym, ap, ap₂, ◌∙◌, subst, arith, inl, inr}
+use Rattle.std.specs.Prelude.{[], ◌∷◌, slice_get, option_and_then, unwrap_or}
+use Rattle.std.proofs.lemmas.Option.{none-some, same_Some, slice_get_within}
 use Rattle.std.proofs.lemmas.List.{length-map}
-use Rattle.std.proofs.lemmas.Bool.{cases_eq}
+use Rattle.link_timers.specs.declared.role.Role.{Role}
 use Rattle.link_timers.specs.declared.role.Role.TheVariants.{Dte, Dce}
+use Rattle.link_timers.specs.Role.{other_of}
 use Rattle.address_routes.specs.Routes.{RouteMap, line_for}
 use Rattle.packet_end.specs.PacketEnd as end
 use Rattle.packet_end.specs.PacketEnd.{PacketEnd}
-use Rattle.call_records.specs.Book.{Book}
-use Rattle.call_records.specs.Register.{Register}
-use Rattle.book_laws.proofs.Basics.{get_there}
-use Rattle.line_record_laws.specs.Kept.{Kept}
-use Rattle.network_laws.proofs.Making as making_law
+use Rattle.book_laws.proofs.Basics.{get_there, number_is}
+use Rattle.line_laws.specs.Line.{Line}
+use Rattle.line_record_laws.specs.Kept.{end_at}
 use Rattle.network_laws.proofs.QuietTurns as quiet_law
 use Rattle.network_laws.specs.Node.{NodeState, Pad, Host, end_of, is_pad, node_elapsed}
 use Rattle.memory_line.specs.Lines.{LineService}
-use Rattle.switch_lines.specs.Lines.{SwitchLine}
-use Rattle.switch_lines.specs.Switch.{Switch, elapse, with_end}
-use Rattle.switch_path_laws.specs.Kept.{Partner, Partners}
-use Rattle.switch_network_laws.proofs.OneSwitch.{dce_line, as_dce, its_plan, its_tied, elapse_one}
-use Rattle.switch_path_laws.specs.Tied.{Histories}
-use Rattle.switch_path_laws.specs.Calls.{JoinedCall}
-use Rattle.call_path_laws.specs.World.{Origin, World, Plan}
-use Rattle.switch_network_laws.specs.OneSwitch as paths
-use Rattle.network_laws.specs.Network.{PlacedNode, PlacedSwitch, NetNode, User, Switching, NetLine, Network, Stands, elapsed_node, all_elapsed}
-use Rattle.network_laws.proofs.Users.{not_switch}
-use Rattle.network_laws.specs.IsLine.{IsLine}
+use Rattle.switch_lines.specs.Lines.{SwitchLine, role_on}
+use Rattle.switch_lines.specs.Switch.{elapse, with_end}
+use Rattle.switch_path_laws.specs.Kept.{Partner}
+use Rattle.switch_path_laws.specs.Sight.{Switched, Switches, Lines, Standing, network_line, standing_with, all_seen, all_after}
+use Rattle.switch_path_laws.specs.Network.{IsOther}
+use Rattle.switch_path_laws.specs.Network as paths
+use Rattle.switch_path_laws.specs.Law.{NetworkStays, with_line}
+use Rattle.switch_path_laws.proofs.Begins.{network_holds}
+use Rattle.switch_path_laws.proofs.Listing.{if_same, if_else}
+use Rattle.switch_path_laws.proofs.Elsewhere.{own_end, other_end}
+use Rattle.call_path_laws.specs.World.{Plan}
+use Rattle.network_laws.specs.Network.{PlacedSwitch, NetNode, User, Switching, NetLine, Network, Stands, place_at, own_role, StandsAtLines, elapsed_node, all_elapsed}
+use Rattle.network_laws.proofs.Users.{not_switch, not_both}
+use Rattle.network_laws.specs.IsLine.{IsLine, IsKept}
 use Rattle.network_laws.proofs.Lines.{elapsed_lines}
 use Rattle.network_laws.proofs.Opened.{mapped, unmapped}
 use Rattle.switch_network_laws.specs.Plans.{IsPlanOf, has_users}
-use Rattle.switch_network_laws.specs.IsSwitched.{ends_state, IsEndOf, EndStands, LineStands, IsPartner, IsHeld, IsSwitched}
-use Rattle.switch_network_laws.proofs.Standing.{same_switch, AreApart, same_dte, same_end, are_apart}
-use Rattle.switch_network_laws.proofs.UsersWrites.{AfterWrites, line_named, own_book, after_partner}
-use Rattle.switch_network_laws.proofs.UsersEvents.{nothing_written}
-
--- ---- partners change, and nothing is written
-
--- the network with the partners of the first own lines changed to these
-record Repartnered (plan : Plan) (at : List ℕ) (s : Switch) (cs : List JoinedCall) (old : List Book) (g : Register) (ps : Partners) (own_lines : ℕ) : Type 0 where
-  histories : Histories
-  books : List Book
-  world : World
-  traces : List (List Origin)
-  network : paths.IsNetwork plan at s histories cs books world traces
-  register : world.register ≡ g
-  count : length books ≡ length old
-  same : (k : ℕ) → slice_get books k ≡ slice_get old k
-  partners : (own : ℕ) → own < own_lines → own < length at → histories.partners own ≡ ps own
-
--- each with the line that it is kept on
-abbrev AllKept : (at : List ℕ) → Switch → List Book → Partners → Type 0
-AllKept at s books ps = (own line : ℕ) (l : SwitchLine) (b : Book) → slice_get at own ≡ Some line → slice_get s.lines own ≡ Some l
-    → slice_get books line ≡ Some b → ((ps own).role ≡ Dce) × Kept (ps own).setting b (dce_line (ps own) l.end)
-
-one_more : (plan : Plan) (at : List ℕ) (s : Switch) (cs : List JoinedCall) (old : List Book) (g : Register) (ps : Partners) (n : ℕ) → AllKept at s old ps → n < length at
-    → Repartnered plan at s cs old g ps n → Repartnered plan at s cs old g ps (suc n)
-one_more plan at s cs old g ps n kept less r =
-    let x = get_there at n less in
-    let line : ℕ = x.0 in
-    let l = get_there s.lines n (subst (λ (k : ℕ). n < k) (its_plan plan at s r.histories cs r.books r.world r.traces r.network).lines less) in
-    let b : Book = r.histories.books n in
-    let there : slice_get r.books line ≡ Some b = own_book plan at s r.histories cs r.books r.world r.traces n line x.1 r.network in
-    let k = kept n line l.0 b x.1 l.1 (sym (r.same line) ∙ there) in
-    let a : AfterWrites plan at s cs line Dte [] r.books b r.world.register r.histories.partners (ps n) =
-    after_partner plan at n line l.0 (ps n) [] b s r.histories cs r.books r.world r.traces l.1 x.1 there
-    k.0 k.1 r.network in
-    record {
-      histories = a.histories;
-      books = a.books;
-      world = a.world;
-      traces = a.traces;
-      network = a.network;
-      register = a.register ∙ nothing_written line r.world.register ∙ r.register;
-      count = a.count ∙ r.count;
-      same = λ k. elim (cases_eq k line) [
-        | inl e ↦ ap (λ i. slice_get a.books i) e ∙ a.here ∙ sym there ∙ ap (λ i. slice_get r.books i) (sym e) ∙ r.same k
-        | inr ne ↦ a.rest k ne ∙ r.same k
-      ];
-      partners = λ own before within. elim (cases_eq own n) [
-        | inl e ↦ a.partner own (ap (λ i. slice_get at i) e ∙ x.1) ∙ ap (λ (i : ℕ). ps i) (sym e)
-        | inr ne ↦
-            let y = get_there at own within in
-            let apart : y.0 ≢ line = λ e. ne ((its_plan plan at s r.histories cs r.books r.world r.traces r.network).apart own n within less (line_named at own y.0 y.1 ∙ e ∙ sym (line_named at n line x.1))) in
-            a.partners own y.0 y.1 apart ∙ r.partners own (omega arith) within
-      ];
-    }
-
-some_more : (plan : Plan) (at : List ℕ) (s : Switch) (cs : List JoinedCall) (old : List Book) (g : Register) (ps : Partners) (n : ℕ) → AllKept at s old ps → n ≤ length at
-    → Repartnered plan at s cs old g ps 0 → Repartnered plan at s cs old g ps n
-some_more plan at s cs old g ps zero kept most r = r
-some_more plan at s cs old g ps (suc n) kept most r =
-    let less : n < length at = omega arith in
-    let before : n ≤ length at = omega arith in
-    one_more plan at s cs old g ps n kept less (some_more plan at s cs old g ps n kept before r)
+use Rattle.switch_network_laws.specs.IsSwitched.{ends_state, line_between, IsEndOf, EndStands, IsUserThere, LineStands, IsSwitchAt, IsHeld, IsSwitched}
+use Rattle.switch_network_laws.proofs.Standing.{same_switch, AreApart, same_end, same_at, are_apart}
+use Rattle.switch_network_laws.proofs.UsersHeld.{sighted}
+use Rattle.switch_network_laws.proofs.UsersEvents.{book_of}
+use Rattle.switch_network_laws.proofs.OwnLines.{line_named, none_other, own_or_none, same_role, other_role_is, own_of_switch, role_of_own, switch_there, if_here, if_there}
 
 -- ---- the two ends of a line
 
@@ -126,20 +69,30 @@ elapsed_end_stands nodes line place x ticks h = by h.node h.there h.end
       );
     }
 
+-- where the DCE has users the DTE has users
+pub users_elapsed : (nodes : List NetNode) (line : ℕ) (l : NetLine) (ticks : ℕ) → LineStands nodes line l → IsUserThere (map (elapsed_node ticks) nodes) l.dce → IsUserThere (map (elapsed_node ticks) nodes) l.dte
+users_elapsed nodes line l ticks h u = let o = unmapped (elapsed_node ticks) nodes l.dce (User u.0) u.1 in by o.0 o.1 o.2
+  where
+    by : (n : NetNode) → slice_get nodes l.dce ≡ Some n → User u.0 ≡ elapsed_node ticks n → IsUserThere (map (elapsed_node ticks) nodes) l.dte
+    by (User n) there e = let v = h.users (n, there) in (record v.0 { node = node_elapsed ticks v.0.node }, mapped (elapsed_node ticks) nodes l.dte (User v.0) v.1)
+    by (Switching n) there e = absurd (not_switch u.0 (record n { switch = elapse ticks n.switch }) e)
+
 abbrev elapsed_stands : (nodes : List NetNode) (line : ℕ) (l : NetLine) (ticks : ℕ) → LineStands nodes line l → LineStands (map (elapsed_node ticks) nodes) line l
 elapsed_stands nodes line l ticks h = record {
-  dte = record h.dte { node = node_elapsed ticks h.dte.node };
-  dte_there = mapped (elapsed_node ticks) nodes l.dte (User h.dte) h.dte_there;
-  dte_line = h.dte_line;
-  dce = node_elapsed ticks h.dce;
-  dce_there = elapsed_end_stands nodes line l.dce h.dce ticks h.dce_there;
+  at = λ role. node_elapsed ticks (h.at role);
+  there = λ role. elapsed_end_stands nodes line (place_at role l) (h.at role) ticks (h.there role);
+  quiet = λ role. quiet_law.quiet-elapses (h.at role) ticks (h.quiet role);
   apart = h.apart;
-  host = elapsed_kind ticks h.dce ∙ h.host;
-  dte_quiet = quiet_law.quiet-elapses h.dte.node ticks h.dte_quiet;
-  dce_quiet = quiet_law.quiet-elapses h.dce ticks h.dce_quiet;
+  host = elapsed_kind ticks (h.at Dce) ∙ h.host;
+  users = users_elapsed nodes line l ticks h;
 }
 
 -- ---- the nodes
+
+elapsed_role : (ticks : ℕ) (ls : List SwitchLine) (own : ℕ) → role_on (slice_get (map (with_end (λ e. end.elapsed e ticks)) ls) own) ≡ role_on (slice_get ls own)
+elapsed_role ticks [] own = refl
+elapsed_role ticks (l ∷ ls) zero = refl
+elapsed_role ticks (l ∷ ls) (suc own) = elapsed_role ticks ls own
 
 nodes_stand : (lines : List NetLine) (nodes : List NetNode) (ticks place : ℕ) (m : NetNode)
     → ((k : ℕ) (n : NetNode) → slice_get nodes k ≡ Some n → Stands lines k n) → slice_get (map (elapsed_node ticks) nodes) place ≡ Some m → Stands lines place m
@@ -147,12 +100,17 @@ nodes_stand lines nodes ticks place m old at =
     let u = unmapped (elapsed_node ticks) nodes place m at in
     subst (λ (x : NetNode). Stands lines place x) (sym u.2) (by u.0 (old place u.0 u.1))
   where
+    role_stays : (n : PlacedSwitch) (own : ℕ) → own_role (elapse ticks n.switch) own ≡ own_role n.switch own
+    role_stays n own = ap (λ (r : Option Role). unwrap_or r Dce) (elapsed_role ticks n.switch.lines own)
+
     by : (n : NetNode) → Stands lines place n → Stands lines place (elapsed_node ticks n)
     by (User n) st = record { line = st.line; there = st.there; at_end = st.at_end }
     by (Switching n) st = record {
       count = st.count ∙ sym (length-map n.switch.lines (with_end (λ e. end.elapsed e ticks)));
       apart = st.apart;
-      each = st.each;
+      each = λ own line there.
+          let e = st.each own line there in
+          record { line_is = e.line_is; there = e.there; at_end = ap (λ (r : Role). place_at r e.line_is) (role_stays n own) ∙ e.at_end };
     }
 
 -- a switch then was one before, with the same lines and routes
@@ -187,87 +145,322 @@ plan_elapsed s ticks plan is = record {
     users (User n) = refl
     users (Switching n) = refl
 
--- ---- on faithful lines
-
-abbrev elapsed_partner : (ticks : ℕ) → Partner → Partner
-elapsed_partner ticks p = record p { other = end.elapsed p.other ticks }
+-- ---- on faithful lines: ticks pass at the switches, one after the other
 
 abbrev elapsed_switch : (ticks : ℕ) → PlacedSwitch → PlacedSwitch
 elapsed_switch ticks n = record n { switch = elapse ticks n.switch }
 
--- each partner is kept with its line when ticks passed at both
-all_kept : (plan : Plan) (at : List ℕ) (s : Switch) (h : Histories) (cs : List JoinedCall) (books : List Book) (w : World) (traces : List (List Origin)) (ticks : ℕ)
-    → paths.IsNetwork plan at s h cs books w traces → AllKept at (elapse ticks s) books (λ own. elapsed_partner ticks (h.partners own))
-all_kept plan at s h cs books w traces ticks i own line l b is got there =
-    let o = unmapped (with_end (λ e. end.elapsed e ticks)) s.lines own l got in
-    let same : h.books own ≡ b = same_Some (h.books own) b (sym (own_book plan at s h cs books w traces own line is i) ∙ there) in
-    let p : Partner = h.partners own in
-    let role : p.role ≡ Dce = i.roles own in
-    let kept : Kept p.setting b (dce_line p o.0.end) =
-    subst (λ (c : Book). Kept p.setting c (dce_line p o.0.end)) same (as_dce p (h.books own) o.0.end role ((its_tied plan at s h cs books w traces i).kept own o.0 o.1)) in (
-      role,
-      subst (λ (x : SwitchLine). Kept p.setting b (dce_line (elapsed_partner ticks p) x.end)) (sym o.2)
-          (making_law.elapses_keeps p.setting b (dce_line p o.0.end) ticks kept).kept,
-    )
+abbrev IsSwitchOf : List NetNode → (place : ℕ) → Type 0
+IsSwitchOf nodes place = (n : PlacedSwitch) × (slice_get nodes place ≡ Some (Switching n))
 
-changed_partners : (plan : Plan) (at : List ℕ) (s : Switch) (h : Histories) (cs : List JoinedCall) (books : List Book) (w : World) (traces : List (List Origin)) (ticks : ℕ)
-    → paths.IsNetwork plan at s h cs books w traces
-    → Repartnered plan at (elapse ticks s) cs books w.register (λ own. elapsed_partner ticks (h.partners own)) (length at)
-changed_partners plan at s h cs books w traces ticks i =
-    let most : length at ≤ length at = omega arith in
-    some_more plan at (elapse ticks s) cs books w.register (λ own. elapsed_partner ticks (h.partners own)) (length at)
-    (all_kept plan at s h cs books w traces ticks i) most
-    (record {
-      histories = h;
-      books = books;
-      world = w;
-      traces = traces;
-      network = elapse_one plan at ticks s h cs books w traces i;
-      register = refl;
-      count = refl;
-      same = λ k. refl;
-      partners = λ own none within. absurd (omega arith);
-    })
+module _ (L : LineService) (s : Network) (ticks : ℕ) (n : IsSwitched L s) (f : L.faithful) (held : IsHeld L s) where
+  -- a line when ticks passed at the switches of the places before this one
+  record IsPassed (k : ℕ) (l : NetLine) (old new : Line) : Type 0 where
+    up : new.up ≡ old.up
+    down : new.down ≡ old.down
+    gone : (role : Role) → place_at role l < k → IsSwitchOf s.nodes (place_at role l) → end_at role new ≡ end.elapsed (end_at role old) ticks
+    still : (role : Role) → (place_at role l < k → IsSwitchOf s.nodes (place_at role l) → ⊥) → end_at role new ≡ end_at role old
 
-held_elapsed : (L : LineService) (s : Network) (ticks : ℕ) (n : IsSwitched L s) → AreApart (map (elapsed_node ticks) s.nodes) → IsHeld L s n.switch
-    → IsHeld L (all_elapsed ticks s) (elapsed_switch ticks n.switch)
-held_elapsed L s ticks n apart held =
-    let r = changed_partners held.plan n.switch.lines n.switch.switch held.histories held.calls held.books held.world held.traces ticks held.network in
-    let new : List NetNode = map (elapsed_node ticks) s.nodes in
-    record {
-      books = r.books;
-      count = r.count ∙ held.count;
-      lines = λ k m c at_m at_c h.
-          let old = n.lines k m at_m in
-          let then : LineStands new k m = elapsed_stands s.nodes k m ticks old in
-          let dte : h.dte ≡ then.dte = same_dte new k m h then in
-          let dce : h.dce ≡ then.dce = same_end new k m.dce h.dce then.dce apart h.dce_there then.dce_there in
-          subst (IsLine L) (sym (λ i. ends_state m (dte i).node (dce i) c))
-          (elapsed_lines L (ends_state m old.dte.node old.dce c) ticks (held.lines k m c at_m (sym (r.same k) ∙ at_c) old));
-      channels = λ k m c side at_m at_c. held.channels k m c side at_m (sym (r.same k) ∙ at_c);
-      plan = held.plan;
-      plan_is = plan_elapsed s ticks held.plan held.plan_is;
-      histories = r.histories;
-      calls = held.calls;
-      world = r.world;
-      traces = r.traces;
-      network = r.network;
-      register = r.register ∙ held.register;
-      partners = λ own k m at_own at_m h.
-          let old = n.lines k m at_m in
-          let then : LineStands new k m = elapsed_stands s.nodes k m ticks old in
-          let dte : h.dte.node ≡ then.dte.node = ap (λ (x : PlacedNode). x.node) (same_dte new k m h then) in
-          let is : IsPartner (held.histories.partners own) m old.dte.node = held.partners own k m at_own at_m old in
-          let within = slice_get_within n.switch.lines own k at_own in
-          let changed : r.histories.partners own ≡ elapsed_partner ticks (held.histories.partners own) = r.partners own within within in
-          subst (λ (q : Partner). IsPartner q m h.dte.node) (sym changed)
-          (subst (λ (x : NodeState). IsPartner (elapsed_partner ticks (held.histories.partners own)) m x) (sym dte)
-          (record {
-            dte_is = ap (λ (e : PacketEnd). end.elapsed e ticks) is.dte_is ∙ sym (elapsed_end ticks old.dte.node);
-            up = is.up;
-            down = is.down;
-          }));
+  record ArePassed (k : ℕ) : Type 0 where
+    lines : Lines
+    switches : Switches
+    network : paths.IsNetwork held.plan held.own_lines switches held.calls lines held.books held.world held.traces
+    passed : (line : ℕ) (l : NetLine) → slice_get s.lines line ≡ Some l → IsPassed k l (held.lines line).line (lines line).line
+    before : (place : ℕ) (m : PlacedSwitch) → slice_get s.nodes place ≡ Some (Switching m) → place < k → IsSwitchAt (elapsed_switch ticks m) (held.own_lines place) (switches place)
+    behind : (place : ℕ) (m : PlacedSwitch) → slice_get s.nodes place ≡ Some (Switching m) → k ≤ place → IsSwitchAt m (held.own_lines place) (switches place)
+
+  none_passed : ArePassed 0
+  none_passed = record {
+    lines = held.lines;
+    switches = held.switches;
+    network = held.network;
+    passed = λ line l at. record {
+      up = refl;
+      down = refl;
+      gone = λ role less it. absurd (omega (arith, less));
+      still = λ role none. refl;
+    };
+    before = λ place m there less. absurd (omega (arith, less));
+    behind = λ place m there least. held.switches_are place m there;
+  }
+
+  -- no switch is there
+  one_without : (k : ℕ) → (IsSwitchOf s.nodes k → ⊥) → ArePassed k → ArePassed (suc k)
+  one_without k none a = record {
+    lines = a.lines;
+    switches = a.switches;
+    network = a.network;
+    passed = λ line l at.
+        let p = a.passed line l at in
+        record {
+          up = p.up;
+          down = p.down;
+          gone = λ role less it. p.gone role (earlier (place_at role l) less it) it;
+          still = λ role other. p.still role (λ less it. other (omega (arith, less)) it);
+        };
+    before = λ place m there less. a.before place m there (earlier place less (m, there));
+    behind = λ place m there least. a.behind place m there (omega (arith, least));
+  }
+    where
+      earlier : (place : ℕ) → place < suc k → IsSwitchOf s.nodes place → place < k
+      earlier place less it = elim (number_is place k) [
+        | inl e ↦ absurd (none (it.0, ap (λ (i : ℕ). slice_get s.nodes i) (sym e) ∙ it.1))
+        | inr ne ↦ omega (arith, less, ne)
+      ]
+
+  -- ticks pass at a switch
+  at_own : (r : Role) (p : Partner) (e : PacketEnd) → p.role ≡ r → end_at r (standing_with p e).line ≡ e
+  at_own r p e same = subst (λ (x : Role). end_at x (standing_with p e).line ≡ e) same (own_end p.role e p.other p.up p.down)
+
+  at_other : (r : Role) (p : Partner) (e : PacketEnd) → p.role ≡ r → end_at (other_of r) (standing_with p e).line ≡ p.other
+  at_other r p e same = subst (λ (x : Role). end_at (other_of x) (standing_with p e).line ≡ p.other) same (other_end p.role e p.other p.up p.down)
+
+  same_up : (p : Partner) (d e : PacketEnd) → (standing_with p d).line.up ≡ (standing_with p e).line.up
+  same_up p d e = by p.role
+    where
+      by : (r : Role) → (standing_with (record p { role = r }) d).line.up ≡ (standing_with (record p { role = r }) e).line.up
+      by Dte = refl
+      by Dce = refl
+
+  same_down : (p : Partner) (d e : PacketEnd) → (standing_with p d).line.down ≡ (standing_with p e).line.down
+  same_down p d e = by p.role
+    where
+      by : (r : Role) → (standing_with (record p { role = r }) d).line.down ≡ (standing_with (record p { role = r }) e).line.down
+      by Dte = refl
+      by Dce = refl
+
+  module _ (k : ℕ) (m : PlacedSwitch) (there : slice_get s.nodes k ≡ Some (Switching m)) (a : ArePassed k) where
+    its_place : IsSwitchAt m (held.own_lines k) (a.switches k)
+    its_place = a.behind k m there (omega arith)
+
+    abbrev x : Switched
+    x = record { switch = m.switch; histories = its_place.histories }
+
+    abbrev y : Switched
+    y = record { switch = elapse ticks m.switch; histories = its_place.histories }
+
+    after : NetworkStays held.plan held.own_lines a.switches k y held.calls a.lines held.books held.world held.traces
+    after = network_holds.elapses held.plan held.own_lines a.switches held.calls a.lines held.books held.world held.traces k x ticks its_place.is a.network
+
+    -- the line of an own line, before and after
+    record OwnPassed (line : ℕ) (l : NetLine) : Type 0 where
+      role : Role
+      at_end : place_at role l ≡ k
+      up : (after.lines line).line.up ≡ (a.lines line).line.up
+      down : (after.lines line).line.down ≡ (a.lines line).line.down
+      own : end_at role (after.lines line).line ≡ end.elapsed (end_at role (a.lines line).line) ticks
+      other : end_at (other_of role) (after.lines line).line ≡ end_at (other_of role) (a.lines line).line
+
+    own_passed : (line own : ℕ) (l : NetLine) → slice_get s.lines line ≡ Some l → slice_get m.lines own ≡ Some line → OwnPassed line l
+    own_passed line own l at own_is =
+        let st : StandsAtLines s.lines k m = n.nodes k (Switching m) there in
+        let within = slice_get_within m.lines own line own_is in
+        let z = get_there m.switch.lines own (let c = st.count in omega arith) in
+        let less : own < length (held.own_lines k) = subst (λ (ls : List ℕ). own < length ls) (sym its_place.lines) within in
+        let named : network_line (held.own_lines k) own ≡ line = ap (λ (ls : List ℕ). network_line ls own) its_place.lines ∙ line_named m.lines own line own_is in
+        let p : Partner = its_place.histories.partners own in
+        let sight = (a.network.stays k x its_place.is).sight own less in
+        let was : standing_with p z.0.end ≡ a.lines line = sight.line_is z.0 z.1 ∙ ap (λ (i : ℕ). a.lines i) named in
+        let now : after.lines line ≡ standing_with p (end.elapsed z.0.end ticks) =
+        ap (λ (i : ℕ). after.lines i) (sym named) ∙ after.own own (with_end (λ e. end.elapsed e ticks) z.0) less (mapped (with_end (λ e. end.elapsed e ticks)) m.switch.lines own z.0 z.1) in
+        let role_is : p.role ≡ own_role m.switch own =
+        role_of_own s held.plan held.plan_is k m x (held.own_lines k) (a.network.planned k x its_place.is) its_place.lines st (λ line l at. (n.lines line l at).apart) own line l own_is at in
+        let e = st.each own line own_is in
+        let r : Role = own_role m.switch own in
+        record {
+          role = r;
+          at_end = ap (λ (v : NetLine). place_at r v) (same_Some l e.line_is (sym at ∙ e.there)) ∙ e.at_end;
+          up = ap (λ (v : Standing). v.line.up) now ∙ same_up p (end.elapsed z.0.end ticks) z.0.end ∙ ap (λ (v : Standing). v.line.up) was;
+          down = ap (λ (v : Standing). v.line.down) now ∙ same_down p (end.elapsed z.0.end ticks) z.0.end ∙ ap (λ (v : Standing). v.line.down) was;
+          own = ap (λ (v : Standing). end_at r v.line) now ∙ at_own r p (end.elapsed z.0.end ticks) role_is
+              ∙ ap (λ (e : PacketEnd). end.elapsed e ticks) (sym (at_own r p z.0.end role_is) ∙ ap (λ (v : Standing). end_at r v.line) was);
+          other = ap (λ (v : Standing). end_at (other_of r) v.line) now ∙ at_other r p (end.elapsed z.0.end ticks) role_is
+              ∙ sym (at_other r p z.0.end role_is) ∙ ap (λ (v : Standing). end_at (other_of r) v.line) was;
+        }
+
+    passed_own : (line own : ℕ) (l : NetLine) → slice_get s.lines line ≡ Some l → slice_get m.lines own ≡ Some line → IsPassed (suc k) l (held.lines line).line (after.lines line).line
+    passed_own line own l at own_is =
+        let o = own_passed line own l at own_is in
+        let p = a.passed line l at in
+        let apart = (n.lines line l at).apart in
+        record {
+          up = o.up ∙ p.up;
+          down = o.down ∙ p.down;
+          gone = λ role less it. elim (number_is (place_at role l) k) [
+            | inl e ↦
+                let same : o.role ≡ role = same_role l apart o.role role (o.at_end ∙ sym e) in
+                subst (λ (r : Role). end_at r (after.lines line).line ≡ end.elapsed (end_at r (held.lines line).line) ticks) same
+                (o.own ∙ ap (λ (e : PacketEnd). end.elapsed e ticks) (p.still o.role (λ less it. absurd (let at_k = o.at_end in omega (arith, less, at_k)))))
+            | inr ne ↦
+                let other : other_of o.role ≡ role = other_role_is o.role role (λ e. ne (ap (λ (r : Role). place_at r l) (sym e) ∙ o.at_end)) in
+                subst (λ (r : Role). end_at r (after.lines line).line ≡ end_at r (a.lines line).line) other o.other ∙ p.gone role (omega (arith, less, ne)) it
+          ];
+          still = λ role none. elim (number_is (place_at role l) k) [
+            | inl e ↦ absurd (none (omega (arith, e)) (m, ap (λ (i : ℕ). slice_get s.nodes i) e ∙ there))
+            | inr ne ↦
+                let other : other_of o.role ≡ role = other_role_is o.role role (λ e. ne (ap (λ (r : Role). place_at r l) (sym e) ∙ o.at_end)) in
+                subst (λ (r : Role). end_at r (after.lines line).line ≡ end_at r (a.lines line).line) other o.other ∙ p.still role (λ less it. none (omega (arith, less)) it)
+          ];
+        }
+
+    passed_other : (line : ℕ) (l : NetLine) → slice_get s.lines line ≡ Some l → ((own : ℕ) → slice_get m.lines own ≡ Some line → ⊥) → IsPassed (suc k) l (held.lines line).line (after.lines line).line
+    passed_other line l at none =
+        let p = a.passed line l at in
+        let same : after.lines line ≡ a.lines line = after.same_line line (subst (λ (ls : List ℕ). IsOther ls line) (sym its_place.lines) (none_other m.lines line none)) in
+        let not_here : (role : Role) → place_at role l ≢ k = λ role e.
+        let own = own_of_switch s.nodes line (place_at role l) ((n.lines line l at).at role) m ((n.lines line l at).there role) (ap (λ (i : ℕ). slice_get s.nodes i) e ∙ there) in none own.0 own.1 in
+        record {
+          up = ap (λ (v : Standing). v.line.up) same ∙ p.up;
+          down = ap (λ (v : Standing). v.line.down) same ∙ p.down;
+          gone = λ role less it. ap (λ (v : Standing). end_at role v.line) same ∙ p.gone role (let ne = not_here role in omega (arith, less, ne)) it;
+          still = λ role other. ap (λ (v : Standing). end_at role v.line) same ∙ p.still role (λ less it. other (omega (arith, less)) it);
+        }
+
+    one_switch : ArePassed (suc k)
+    one_switch = record {
+      lines = after.lines;
+      switches = all_after k y held.own_lines after.lines held.books a.switches;
+      network = after.network;
+      passed = λ line l at. elim (own_or_none m.lines line) [
+        | inl own ↦ passed_own line own.0 l at own.1
+        | inr none ↦ passed_other line l at none
+      ];
+      before = λ place o o_there less. elim (number_is place k) [
+        | inl e ↦
+            let is : o ≡ m = same_switch o m (sym o_there ∙ ap (λ (i : ℕ). slice_get s.nodes i) e ∙ there) in
+            record {
+              histories = its_place.histories;
+              is = if_here place k y (all_seen held.own_lines after.lines held.books a.switches) e ∙ ap (λ (q : PlacedSwitch). Some (record { switch = elapse ticks q.switch; histories = its_place.histories })) (sym is);
+              lines = ap (λ (i : ℕ). held.own_lines i) e ∙ its_place.lines ∙ ap (λ (q : PlacedSwitch). q.lines) (sym is);
+            }
+        | inr ne ↦ elsewhere_at (elapsed_switch ticks o) place ne (a.before place o o_there (omega (arith, less, ne)))
+      ];
+      behind = λ place o o_there least. elsewhere_at o place (λ e. absurd (omega (arith, e, least))) (a.behind place o o_there (omega (arith, least)));
     }
+      where
+        elsewhere_at : (q : PlacedSwitch) (place : ℕ) → place ≢ k → IsSwitchAt q (held.own_lines place) (a.switches place)
+            → IsSwitchAt q (held.own_lines place) (all_after k y held.own_lines after.lines held.books a.switches place)
+        elsewhere_at q place ne h =
+            let v = sighted q (held.own_lines place) after.lines held.books (a.switches place) h in
+            record { histories = v.histories; is = if_there place k y (all_seen held.own_lines after.lines held.books a.switches) ne ∙ v.is; lines = v.lines }
+
+  all_passed : (k : ℕ) → ArePassed k
+  all_passed zero = none_passed
+  all_passed (suc k) = by (slice_get s.nodes k) refl (all_passed k)
+    where
+      by : (o : Option NetNode) → slice_get s.nodes k ≡ o → ArePassed k → ArePassed (suc k)
+      by (Some (Switching m)) e a = one_switch k m e a
+      by (Some (User u)) e a = one_without k (λ it. not_both u it.0 (sym e ∙ it.1)) a
+      by None e a = one_without k (λ it. none-some (Switching it.0) (sym e ∙ it.1)) a
+
+  -- ---- and at all users, line by line
+
+  abbrev all_switches : ArePassed (length s.nodes)
+  all_switches = all_passed (length s.nodes)
+
+  abbrev elapsed_ends : (line : ℕ) (l : NetLine) → LineStands s.nodes line l → Line
+  elapsed_ends line l h = line_between l (λ role. node_elapsed ticks (h.at role))
+
+  end_elapsed : (role : Role) (l : NetLine) (at : Role → NodeState) → end_at role (line_between l (λ side. node_elapsed ticks (at side))) ≡ end.elapsed (end_at role (line_between l at)) ticks
+  end_elapsed Dte l at = elapsed_end ticks (at Dte)
+  end_elapsed Dce l at = elapsed_end ticks (at Dce)
+
+  record AreLater (m : ℕ) : Type 0 where
+    lines : Lines
+    switches : Switches
+    network : paths.IsNetwork held.plan held.own_lines switches held.calls lines held.books held.world held.traces
+    before : (line : ℕ) (l : NetLine) → slice_get s.lines line ≡ Some l → line < m → (h : LineStands s.nodes line l) → (lines line).line ≡ elapsed_ends line l h
+    behind : (line : ℕ) → m ≤ line → lines line ≡ all_switches.lines line
+    are : (place : ℕ) (o : PlacedSwitch) → slice_get s.nodes place ≡ Some (Switching o) → IsSwitchAt (elapsed_switch ticks o) (held.own_lines place) (switches place)
+
+  none_later : AreLater 0
+  none_later = record {
+    lines = all_switches.lines;
+    switches = all_switches.switches;
+    network = all_switches.network;
+    before = λ line l at less h. absurd (omega (arith, less));
+    behind = λ line least. refl;
+    are = λ place o there. all_switches.before place o there (slice_get_within s.nodes place (Switching o) there);
+  }
+
+  one_later : (m : ℕ) (l : NetLine) → slice_get s.lines m ≡ Some l → AreLater m → AreLater (suc m)
+  one_later m l at a =
+      let h = n.lines m l at in
+      let b = book_of L s held m l at in
+      let later : IsLine L (ends_state l (λ role. node_elapsed ticks (h.at role)) b.0) = elapsed_lines L (ends_state l h.at b.0) ticks (held.ends m l b.0 at b.1 h) in
+      let k : IsKept (ends_state l (λ role. node_elapsed ticks (h.at role)) b.0) = later.kept f in
+      let x : Standing = record { setting = k.setting; line = elapsed_ends m l h } in
+      record {
+        lines = with_line m x a.lines;
+        switches = all_seen held.own_lines (with_line m x a.lines) held.books a.switches;
+        network = network_holds.changes held.plan held.own_lines a.switches held.calls a.lines held.books held.world held.traces m b.0 x b.1
+            (λ role switch.
+            let it = switch_there held.plan s held.plan_is m l role at (h.there role) switch in
+            record {
+              end = end_elapsed role l h.at ∙ ap (λ (v : Line). end.elapsed (end_at role v) ticks) (sym (held.lines_are m l at h))
+                  ∙ sym ((all_switches.passed m l at).gone role (slice_get_within s.nodes (place_at role l) (Switching it.0) it.1) it)
+                  ∙ ap (λ (v : Standing). end_at role v.line) (sym (a.behind m (omega arith)));
+              kept = k.kept;
+            }) a.network;
+        before = λ line o o_at less g. elim (number_is line m) [
+          | inl e ↦
+              let same : o ≡ l = same_Some o l (sym o_at ∙ ap (λ (i : ℕ). slice_get s.lines i) e ∙ at) in
+              ap (λ (v : Standing). v.line) (if_same line m x (a.lines line) e)
+              ∙ sym (λ i. line_between (same i) (λ role. node_elapsed ticks (ends line o g e same i role)))
+          | inr ne ↦ ap (λ (v : Standing). v.line) (if_else line m x (a.lines line) ne) ∙ a.before line o o_at (omega (arith, less, ne)) g
+        ];
+        behind = λ line least. if_else line m x (a.lines line) (λ e. absurd (omega (arith, e, least))) ∙ a.behind line (omega (arith, least));
+        are = λ place o there. sighted (elapsed_switch ticks o) (held.own_lines place) (with_line m x a.lines) held.books (a.switches place) (a.are place o there);
+      }
+    where
+      ends : (line : ℕ) (o : NetLine) (g : LineStands s.nodes line o) → line ≡ m → o ≡ l → g.at ≡ (n.lines m l at).at
+      ends line o g e same = λ i role.
+          same_end s.nodes m (place_at role l) (g.at role) ((n.lines m l at).at role) (are_apart s.lines s.nodes n.nodes)
+          (subst (λ (j : ℕ). EndStands s.nodes j (place_at role l) (g.at role)) e (subst (λ (v : NetLine). EndStands s.nodes line (place_at role v) (g.at role)) same (g.there role)))
+          ((n.lines m l at).there role) i
+
+  all_later : (m : ℕ) → m ≤ length s.lines → AreLater m
+  all_later zero most = none_later
+  all_later (suc m) most =
+      let l = get_there s.lines m (omega (arith, most)) in
+      one_later m l.0 l.1 (all_later m (omega (arith, most)))
+
+  pub held_elapsed : AreApart (map (elapsed_node ticks) s.nodes) → IsHeld L (all_elapsed ticks s)
+  held_elapsed apart =
+      let a = all_later (length s.lines) (omega arith) in
+      let new : List NetNode = map (elapsed_node ticks) s.nodes in
+      record {
+        books = held.books;
+        count = held.count;
+        ends = λ k m c at_m at_c h.
+            let old = n.lines k m at_m in
+            subst (IsLine L) (sym (λ i. ends_state m (same_at new k m apart h (elapsed_stands s.nodes k m ticks old) i) c))
+            (elapsed_lines L (ends_state m old.at c) ticks (held.ends k m c at_m at_c old));
+        channels = held.channels;
+        lines = a.lines;
+        lines_are = λ k m at_m h.
+            let old = n.lines k m at_m in
+            a.before k m at_m (slice_get_within s.lines k m at_m) old
+            ∙ sym (λ i. line_between m (same_at new k m apart h (elapsed_stands s.nodes k m ticks old) i));
+        plan = held.plan;
+        plan_is = plan_elapsed s ticks held.plan held.plan_is;
+        own_lines = held.own_lines;
+        switches = a.switches;
+        switches_are = λ place o there.
+            let was = unmapped (elapsed_node ticks) s.nodes place (Switching o) there in
+            are_then a place o was.0 was.1 was.2;
+        calls = held.calls;
+        world = held.world;
+        traces = held.traces;
+        network = a.network;
+        register = held.register;
+      }
+    where
+      are_then : (a : AreLater (length s.lines)) (place : ℕ) (o : PlacedSwitch) (q : NetNode) → slice_get s.nodes place ≡ Some q → Switching o ≡ elapsed_node ticks q → IsSwitchAt o (held.own_lines place) (a.switches place)
+      are_then a place o (User u) there e = absurd (not_switch (record u { node = node_elapsed ticks u.node }) o (sym e))
+      are_then a place o (Switching m) there e =
+          let same : o ≡ elapsed_switch ticks m = same_switch o (elapsed_switch ticks m) (ap Some e) in
+          subst (λ (q : PlacedSwitch). IsSwitchAt q (held.own_lines place) (a.switches place)) (sym same) (a.are place m there)
 
 -- ---- on any lines
 
@@ -279,8 +472,7 @@ elapsed_switched L s ticks n =
       place = n.place;
       switch = elapsed_switch ticks n.switch;
       there = mapped (elapsed_node ticks) s.nodes n.place (Switching n.switch) n.there;
-      alone = λ other m there. let o = was_switch s.nodes ticks other m there in n.alone other o.0 o.1;
       lines = λ k m at. elapsed_stands s.nodes k m ticks (n.lines k m at);
       nodes = stand;
-      holds = λ f. held_elapsed L s ticks n (are_apart s.lines (map (elapsed_node ticks) s.nodes) stand) (n.holds f);
+      holds = λ f. held_elapsed L s ticks n f (n.holds f) (are_apart s.lines (map (elapsed_node ticks) s.nodes) stand);
     }

@@ -1,4 +1,4 @@
--- An expiry at the switch of a timer that does not run leaves the network as it was.
+-- An expiry at a switch of a timer that does not run leaves the network as it was.
 use Rattle.std.specs.Prelude.{◌≡◌, ℕ, false, slice_get}
 use Rattle.link_timers.specs.declared.timers.TimerId.{TimerId}
 use Rattle.memory_line.specs.Lines.{LineService}

@@ -22,7 +22,7 @@ use Rattle.switch_network_laws.specs.Promise.{NetworkPromise}
 abbrev pub MadeLaw : LineService → Type 0
 MadeLaw L = (plan : NetPlan) (s : Network) → IsPlan plan → IsMade L plan s → IsAny L s
 
--- at a node with users, and at the switch
+-- at a node with users, and at a switch
 abbrev pub EventLaw : LineService → Type 0
 EventLaw L = (event : NodeEvent) (line : ℕ) (role : Role) (s t : Network) → IsAny L s
     → HappenedAt L event line role s t → IsAny L t

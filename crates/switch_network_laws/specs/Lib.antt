@@ -1,11 +1,11 @@
 pub use Rattle.network_laws.specs.IsNetwork
 pub use Rattle.network_laws.specs.DueCount
 pub mod Plans
-pub mod OneSwitch
 pub mod IsSwitched
 pub mod Histories
 pub mod Promise
 pub mod Rest
 pub mod Laws
 pub mod Run
+pub mod TrunkRun
 pub mod Idle

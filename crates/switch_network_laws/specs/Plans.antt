@@ -1,5 +1,5 @@
--- The plan of a network, in the terms of the laws of calls through a switch: which node is at each end of each line,
--- whether it has users, the address of each line, and the lines of the switch's routes.
+-- The plan of a network, in the terms of the laws of calls through switches: which node is at each end of each line,
+-- whether it has users, the address of each line, and the lines of the routes of each switch.
 use Rattle.std.specs.Prelude.{◌≡◌, ◌≤◌, ℕ, Bool, true, false, List, length, slice_get, Option, Some, option_and_then}
 use Rattle.link_timers.specs.declared.role.Role.{Role}
 use Rattle.address_routes.specs.Routes.{line_for}

@@ -1,4 +1,4 @@
--- What a network promises, with a switch or without one.
+-- What a network promises, with any number of switches or without one.
 use Rattle.std.specs.Prelude.{◌≡◌, ℕ, List, slice_get, Some, None}
 use Rattle.link_timers.specs.declared.role.Role.{Role}
 use Rattle.link_timers.specs.declared.role.Role.TheVariants.{Dce}
@@ -14,12 +14,12 @@ use Rattle.switch_network_laws.specs.Plans.{HasNoSwitch, IsPlanOf}
 pub use Rattle.switch_network_laws.specs.Histories.{HasUserAt, HistoriesHold}
 
 pub record NetworkPromise (s : Network) : Type 0 where
-  -- which node is where, the addresses of the lines, and the routes of the switch if there is one
+  -- which node is where, the addresses of the lines, and the routes of each switch
   pub plan : Plan
   pub plan_is : IsPlanOf s plan
-  -- for each pair, over one line or over two with the switch between them, what one end took matches what the other one
-  -- sent, both ways, what is confirmed was taken, and the pair is right; no record is in two pairs, and each that took
-  -- anything is in one
+  -- for each pair, over one line or through any number of switches, what one end took matches what the other one sent,
+  -- both ways, what is confirmed was taken, and the pair is right; no record is in two pairs, and each that took anything
+  -- is in one
   pub calls : PathsHold plan s.register
   -- each record is of a node with users
   pub of_users : (i : ℕ) (r : RecordValue) → slice_get s.register.records i ≡ Some r
@@ -29,7 +29,7 @@ pub record NetworkPromise (s : Network) : Type 0 where
   -- the ends of lines at which nodes with users stand
   pub ends : (line : ℕ) (l : NetLine) (role : Role) → slice_get s.lines line ≡ Some l → HasUserAt s l role
       → EndHolds s line l role
-  -- at these ends, on lines between users and on lines to the switch, each call in data transfer that was placed is the
+  -- at these ends, on lines between users and on lines to a switch, each call in data transfer that was placed is the
   -- last one placed there and is in a pair
   pub placed : (line : ℕ) (l : NetLine) (role : Role) → slice_get s.lines line ≡ Some l → HasUserAt s l role
       → PlacedHolds s line l role

@@ -7,10 +7,11 @@ use Rattle.std.specs.List.{list_all}
 use Rattle.std.specs.Cmp.Lexicographic.{pointwise}
 use Rattle.std.specs.FinMap.{empty, insert}
 use Rattle.link_timers.specs.declared.role.Role.{Role}
-use Rattle.link_timers.specs.declared.role.Role.TheVariants.{Dte}
+use Rattle.link_timers.specs.declared.role.Role.TheVariants.{Dte, Dce}
 use Rattle.link_timers.specs.declared.timers.TimerId.TheVariants.{T1}
 use Rattle.epochs.specs.Item.{DataPacket}
 use Rattle.packet_codec.specs.Address.{are_decimal}
+use Rattle.packet_layer.specs.Flow.{modulo_8}
 use Rattle.packet_end.specs.PacketEnd.{made}
 use Rattle.packet_end.specs.declared.params.EndParams.{EndParams}
 use Rattle.packet_layer.specs.Channel.Request.{Accept}
@@ -23,6 +24,7 @@ use Rattle.memory_line.specs.declared.line.Direction.{Direction}
 use Rattle.memory_line.specs.declared.line.Direction.TheVariants.{FromDte, FromDce}
 use Rattle.memory_line.specs.Lines.{Flights, lossless_service, no_flights, flying, with_flying, without_first}
 use Rattle.address_routes.specs.Routes.{RouteMap}
+use Rattle.switch_lines.specs.Lines.{SwitchLine}
 use Rattle.switch_lines.specs.Making.{made as made_switch}
 use Rattle.switch_lines.specs.Switch.{Switch, switch_rests}
 use Rattle.switch_joins.specs.declared.channels.NewJoin.{NewJoin}
@@ -30,7 +32,7 @@ use Rattle.network_laws.specs.NodeEvents.{NodeEvent, Hears, Expires, Calls, Asks
 use Rattle.network_laws.specs.AtSwitch.{SwitchEvent, SwitchHappened, switched, switch_drained, waiting_on}
 use Rattle.network_laws.specs.AtSwitch.{joins_of, all_handed}
 use Rattle.network_laws.specs.AtSwitch as at_switch
-use Rattle.network_laws.specs.Network.{Network, User, Switching, HappenedAt, LostAt}
+use Rattle.network_laws.specs.Network.{Network, User, Switching, HappenedAt, LostAt, own_role}
 use Rattle.network_laws.specs.Opening.{NetPlan, Planned, NewLine, IsPlan, IsMade, own_configs, line_plan}
 use Rattle.network_laws.specs.Opening.NewDte.{NewHost}
 use Rattle.network_laws.specs.Opening.Planned.{PlannedUser, PlannedSwitch}
@@ -83,7 +85,7 @@ with_switch s joins near far t = record t {
   switch = switch_drained s;
   near = put_all FromDce (waiting_on 0 s) near;
   far = put_all FromDce (waiting_on 1 s) far;
-  register = all_handed (0 ∷ 1 ∷ []) joins t.register;
+  register = all_handed (0 ∷ 1 ∷ []) (own_role t.switch) joins t.register;
 }
 
 abbrev pub at_first : NodeEvent → Flights → TwoHosts → TwoHosts
@@ -135,7 +137,7 @@ abbrev pub after_acts : List Act → TwoHosts → TwoHosts
 after_acts [] t = t
 after_acts (act ∷ acts) t = after_acts acts (after_act act t)
 
--- the event is for a host, and what arrives at the switch is of octets
+-- the event is for a host
 abbrev pub is_for : NodeEvent → NodeState → Bool
 is_for (Calls address user_data) n =
     not (is_pad n) && nat_le 1 (length address) && nat_le (length address) 15 && are_decimal address
@@ -152,11 +154,25 @@ are_octets octets = list_all (λ x. nat_lt x 256) octets
 abbrev pub may_arrive : List (List ℕ) → Bool
 may_arrive frames = list_all are_octets frames
 
+abbrev pub same_role : (r q : Role) → Bool
+same_role Dte Dte = true
+same_role Dte Dce = false
+same_role Dce Dte = false
+same_role Dce Dce = true
+
+-- a switch has these roles on its lines
+abbrev pub has_roles : List Role → List SwitchLine → Bool
+has_roles [] [] = true
+has_roles [] (l ∷ ls) = false
+has_roles (r ∷ rs) [] = false
+has_roles (r ∷ rs) (l ∷ ls) = same_role r l.end.layer.role && has_roles rs ls
+
+-- the event is for the host, and what arrives at the switch is of octets; the switch is the DCE on both lines
 abbrev pub may_act : Act → TwoHosts → Bool
 may_act (First event) t = is_for event t.first
 may_act (Second event) t = is_for event t.second
-may_act FromFirst t = may_arrive t.near.from_dte
-may_act FromSecond t = may_arrive t.far.from_dte
+may_act FromFirst t = may_arrive t.near.from_dte && has_roles (Dce ∷ Dce ∷ []) t.switch.lines
+may_act FromSecond t = may_arrive t.far.from_dte && has_roles (Dce ∷ Dce ∷ []) t.switch.lines
 may_act act t = true
 
 abbrev pub may_all : List Act → TwoHosts → Bool
@@ -166,7 +182,7 @@ may_all (act ∷ acts) t = may_act act t && may_all acts (after_act act t)
 -- ---- the network as it is made
 
 abbrev pub parameters : EndParams
-parameters = record { k = 7; n2 = 3; channels = 1; window = 2; standing = false }
+parameters = record { k = 7; n2 = 3; channels = 1; flow = modulo_8 2; standing = false }
 
 abbrev pub routes : RouteMap
 routes = insert (insert empty (1 ∷ []) 0) (2 ∷ []) 1
@@ -187,7 +203,7 @@ plan = record {
 }
 
 abbrev pub new_switch : Switch
-new_switch = made_switch routes (own_configs (0 ∷ 1 ∷ []) plan.lines)
+new_switch = made_switch routes (own_configs 2 (0 ∷ 1 ∷ []) plan.lines)
 
 abbrev pub first_frames : (own : ℕ) → Flights
 first_frames own = put_all FromDce (waiting_on own new_switch) (put_all FromDte (frames_of host) no_flights)

@@ -1,20 +1,21 @@
-//! What holds of a network with a switch, and of any network that is served.
+//! What holds of a network with switches, and of any network that is served.
 #![tactic(auto)]
 
 ghost use Rattle.switch_network_laws.specs.Laws.{MadeLaw, EventLaw, SwitchEventLaw, LossLaw, TimeLaw, PromiseLaw};
 ghost use Rattle.switch_network_laws.specs.Idle.{IdleExpiryLaw};
 ghost use Rattle.switch_network_laws.specs.Laws.{FewerLaw, SwitchFewerLaw, RestLaw, DeliveredLaw};
 ghost use Rattle.switch_network_laws.specs.Run.{RunLaw};
+ghost use Rattle.switch_network_laws.specs.TrunkRun.{TrunkRunLaw};
 
 use memory_line::Line;
 
-/// The law of a network of nodes with users, with a switch or without one, over definitions alone. It holds from the
-/// making on, whatever happens at which node, at the switch and on which line. Then each pair of the register's records
-/// matches both ways, over one line or over two with the switch between them; no record is in two pairs and each that
-/// took anything is in one; the callee is at the other end of the line that the switch's routes name; and a PAD's
-/// records have sent what its terminals typed. What is due comes to an end, and an expiry at the switch of a timer that
-/// does not run changes nothing. Where all nodes are at rest, and a switch on all its lines, nothing is missing, over
-/// two lines and the switch too.
+/// The law of a network of nodes with users, with a tree of switches or without one, over definitions alone. It holds
+/// from the making on, whatever happens at which node, at which switch and on which line. Then each pair of the
+/// register's records matches both ways, over one line or through any number of switches; no record is in two pairs and
+/// each that took anything is in one; the call went from switch to switch on the lines that the routes of each name, to
+/// the callee; and a PAD's records have sent what its terminals typed. What is due comes to an end, and an expiry at a
+/// switch of a timer that does not run changes nothing. Where all nodes are at rest, and each switch on all its lines,
+/// nothing is missing, through switches too.
 pub fn any_network_law<L: Line>()
     ensures made { MadeLaw L.service }
     ensures event { EventLaw L.service }
@@ -34,4 +35,13 @@ pub fn any_network_law<L: Line>()
 /// which the law speaks, so that what the law of rest asks for is met, and nothing is missing.
 pub fn run_law()
     ensures { RunLaw }
+{}
+
+/// A run over frames and a trunk, by computation: a host at each of two switches. The links are set up, that of the
+/// trunk by the switch that is its DTE. One host calls the other, and a message with D = 1 is confirmed when the other
+/// one took it, and not when a switch did. All comes to rest, and nothing is missing. Then that switch restarts, which
+/// ends the call, and sets the trunk's link up anew. The other host's call goes up the trunk. Each step is an event of
+/// which the law speaks, so what it asks for can be met by a tree of switches.
+pub fn trunk_run_law()
+    ensures { TrunkRunLaw }
 {}

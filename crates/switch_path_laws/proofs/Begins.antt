@@ -14,6 +14,7 @@ use Rattle.switch_path_laws.specs.Network.{AllSeen}
 use Rattle.switch_path_laws.specs.Law.{BeginLaw, SwitchPathLaw}
 use Rattle.switch_path_laws.proofs.Happened.{frame_after, timer_after, relink_after, elapse_after, out_after, restart_after}
 use Rattle.switch_path_laws.proofs.Users.{user_after}
+use Rattle.switch_path_laws.proofs.Changing.{change_after}
 use Rattle.switch_path_laws.proofs.Promised.{addresses_are, promise}
 use Rattle.switch_path_laws.proofs.Along.{placed_so}
 use Rattle.switch_path_laws.proofs.Resting.{network_rests}
@@ -61,6 +62,7 @@ network_holds = record {
   out = out_after;
   restarts = restart_after;
   users = user_after;
+  changes = change_after;
   addresses = addresses_are;
   promise = promise;
   placed = placed_so;

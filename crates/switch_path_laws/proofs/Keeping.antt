@@ -9,6 +9,7 @@ use Rattle.call_path_laws.specs.World.{Origin}
 use Rattle.call_path_laws.specs.Lines.{AreRecorded, BookCallsHold}
 use Rattle.call_path_laws.proofs.Moves.{recorded_calls}
 use Rattle.switch_path_laws.specs.Sight.{network_line}
+use Rattle.packet_channel.proofs.Windows.{window_below}
 use Rattle.switch_path_laws.specs.Network.{IsOther}
 
 -- this own line of a switch is the one of the network
@@ -38,5 +39,5 @@ own_or_other (x ∷ xs) line = elim (number_is x line) [
 pub kept_calls : (s : Setting) (b : Book) (l : Line) → Kept s b l → (own : List Origin) → AreRecorded own b.records → BookCallsHold b own
 kept_calls s b l k own recorded =
     subst (λ (x : Book). BookCallsHold x own) k.book
-    (recorded_calls s.dte_node s.dce_node s.dte.channels s.dte.window s.dte.standing k.setting.dte.layer.channels_least k.setting.dte.layer.window_most k.moves k.allowed own
+    (recorded_calls s.dte_node s.dce_node s.dte.channels s.dte.flow s.dte.standing k.setting.dte.layer.channels_least (window_below _ k.setting.dte.layer.flow_is) k.moves k.allowed own
     (subst (λ (x : Book). AreRecorded own x.records) (sym k.book) recorded))

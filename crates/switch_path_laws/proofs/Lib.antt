@@ -13,6 +13,7 @@ pub mod Elsewhere
 pub mod Moving
 mod Happened
 mod Users
+mod Changing
 mod Joined
 mod Promised
 mod Along

@@ -5,6 +5,7 @@ use Rattle.std.proofs.lemmas.Option.{same_Some, slice_get_within}
 use Rattle.link_timers.specs.declared.role.Role.{Role}
 use Rattle.link_timers.specs.declared.role.Role.TheVariants.{Dte, Dce}
 use Rattle.link_timers.specs.Role.{other_of}
+use Rattle.packet_channel.proofs.Windows.{window_below}
 use Rattle.packet_layer.specs.Channel.{CallState, Channel, had_call, in_transfer, waits_for_call}
 use Rattle.packet_layer.specs.Channel.CallState.{Transfer}
 use Rattle.packet_layer.specs.Layer.{Layer, channel_of}
@@ -97,7 +98,7 @@ paired_at : (r : Role) (s : Setting) (b : Book) (l : Line) (c : ℕ) (ch : Chann
 paired_at r s b l c ch k rests at in_call some =
     let p = k.setting.dte.layer in
     subst (λ (x : Book). IsPaired (slot_at r c x) x.pairs) k.book
-    ((are_answered s.dte_node s.dce_node s.dte.channels s.dte.window s.dte.standing p.channels_least p.window_most k.moves k.allowed).paired r c ch
+    ((are_answered s.dte_node s.dce_node s.dte.channels s.dte.flow s.dte.standing p.channels_least (window_below _ p.flow_is) k.moves k.allowed).paired r c ch
     (channel_is s b l k rests r c ∙ at) in_call (ap (λ (x : Book). is_some (slot_at r c x).caller) k.book ∙ some))
 
 -- ---- in the sight of an end
@@ -156,7 +157,7 @@ module _ (plan : Plan) (ats : OwnLines) (xs : Switches) (cs : List PlacedCall) (
 
   leg_of : (x : SwitchChannel) (l : SwitchLine) → slice_get s.lines x.line ≡ Some l → (ch : Channel) → channel_of l.end.layer x.channel ≡ Some ch → (h.legs x).channel ≡ ch
   leg_of x l e ch there =
-      let seen : Shown = record { role = l.end.layer.role; window = l.end.layer.window; channel = ch } in
+      let seen : Shown = record { role = l.end.layer.role; flow = l.end.layer.flow; channel = ch } in
       let a : Agrees seen (h.legs x) = st.tied.holds.joins.world x seen (shown_there x l e ∙ ap (λ (o : Option Channel). shown_as l.end.layer o) there) in
       ap (λ (y : Shown). y.channel) (sym a.shown)
 

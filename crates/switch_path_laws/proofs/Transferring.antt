@@ -6,6 +6,7 @@ use Rattle.std.proofs.lemmas.Option.{same_Some}
 use Rattle.link_timers.specs.declared.role.Role.{Role}
 use Rattle.link_timers.specs.declared.role.Role.TheVariants.{Dte, Dce}
 use Rattle.link_timers.specs.Role.{other_of}
+use Rattle.packet_channel.proofs.Windows.{window_below}
 use Rattle.packet_layer.specs.Channel.{CallState, Channel, had_call}
 use Rattle.packet_layer.specs.Channel.CallState.{Ready, OwnWaiting, FarWaiting, Transfer, Collision, OwnClear}
 use Rattle.packet_layer.specs.Layer.{Layer, channel_of}
@@ -82,7 +83,7 @@ module _ (s : Setting) (b : Book) (l : Line) (k : Kept s b l) (rests : AreAtRest
   stand_together Dte c n mine yours present at there =
       let p = k.setting.dte.layer in
       let none = nothing_missing k.world world.line l.dte l.dce l.up l.down k.joint rests c
-      (holds_there s.dte_node s.dce_node s.dte.channels s.dte.window s.dte.standing p.channels_least p.window_most k.moves k.allowed Dte c n present)
+      (holds_there s.dte_node s.dce_node s.dte.channels s.dte.flow s.dte.standing p.channels_least (window_below _ p.flow_is) k.moves k.allowed Dte c n present)
       mine yours (sym (channel_is Dte c) ∙ at) (sym (channel_is Dce c) ∙ there) in
       record {
         session = k.world.session;
@@ -95,7 +96,7 @@ module _ (s : Setting) (b : Book) (l : Line) (k : Kept s b l) (rests : AreAtRest
   stand_together Dce c n mine yours present at there =
       let p = k.setting.dte.layer in
       let none = nothing_missing k.world world.line l.dte l.dce l.up l.down k.joint rests c
-      (holds_there s.dte_node s.dce_node s.dte.channels s.dte.window s.dte.standing p.channels_least p.window_most k.moves k.allowed Dce c n present)
+      (holds_there s.dte_node s.dce_node s.dte.channels s.dte.flow s.dte.standing p.channels_least (window_below _ p.flow_is) k.moves k.allowed Dce c n present)
       yours mine (sym (channel_is Dte c) ∙ there) (sym (channel_is Dce c) ∙ at) in
       record {
         session = k.world.session;
@@ -133,5 +134,5 @@ in_transfer_at_rest s b l k rests i pair callee at there open_ =
     let p = k.setting.dte.layer in
     subst (λ (x : Book). BothInTransfer x l pair) k.book
     (both_in_transfer s b l k rests pair
-    (accepted s.dte_node s.dce_node s.dte.channels s.dte.window s.dte.standing p.channels_least p.window_most k.moves k.allowed i pair callee
+    (accepted s.dte_node s.dce_node s.dte.channels s.dte.flow s.dte.standing p.channels_least (window_below _ p.flow_is) k.moves k.allowed i pair callee
     (ap (λ (x : Book). slice_get x.pairs i) k.book ∙ at) (ap (λ (x : Book). slice_get x.records pair.callee) k.book ∙ there) open_))

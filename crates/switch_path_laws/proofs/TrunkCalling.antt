@@ -7,6 +7,7 @@ use Rattle.std.proofs.lemmas.Cmp.{nat_list_cmp_total}
 use Rattle.link_timers.specs.declared.role.Role.TheVariants.{Dte, Dce}
 use Rattle.lapb.specs.Machine.{Octets}
 use Rattle.packet_codec.specs.ClearCause.{invalid_facility}
+use Rattle.packet_channel.proofs.Windows.{window_below}
 use Rattle.packet_layer.specs.Packets.{CallParts, Note}
 use Rattle.packet_layer.specs.Packets.Note.{Incoming, Connected}
 use Rattle.packet_layer.specs.Channel.{Channel, in_transfer}
@@ -358,7 +359,7 @@ placed_kept : (s : Setting) (b : Book) (l : Line) (channel : ℕ) (o : Option Ch
 placed_kept s b l channel None k at up none = absurd (true≢false (sym up))
 placed_kept s b l channel (Some ch) k at up none =
     subst (λ (x : Book). HasCallee x Dte channel) k.book
-    ((are_answered s.dte_node s.dce_node s.dte.channels s.dte.window s.dte.standing k.setting.dte.layer.channels_least k.setting.dte.layer.window_most k.moves k.allowed).placed Dte channel ch
+    ((are_answered s.dte_node s.dce_node s.dte.channels s.dte.flow s.dte.standing k.setting.dte.layer.channels_least (window_below _ k.setting.dte.layer.flow_is) k.moves k.allowed).placed Dte channel ch
     (ap (λ (x : Layer). channel_of x channel) k.joint.mine.layer ∙ at) up
     (ap (λ (x : Book). is_some (slot_at Dte channel x).caller) k.book ∙ none))
 

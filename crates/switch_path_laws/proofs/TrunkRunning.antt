@@ -8,6 +8,7 @@ use Rattle.link_timers.specs.declared.role.Role.TheVariants.{Dte, Dce}
 use Rattle.packet_codec.specs.Address.{MayBeDigits}
 use Rattle.packet_codec.specs.Digits.{digits_or_none}
 use Rattle.packet_end.specs.Params.{AreParams}
+use Rattle.packet_layer.specs.Flow.{modulo_8}
 use Rattle.packet_layer.specs.Layer.{Layer}
 use Rattle.packet_laws.specs.Readable.{AreOctets}
 use Rattle.address_routes.specs.Routes.{RouteMap, line_for}
@@ -147,11 +148,11 @@ top_configs_right = record { least = omega arith; most = omega arith; each = top
 are_params : AreParams parameters
 are_params = record {
   link = record { k_least = omega arith; k_most = omega arith; n2_least = omega arith; n2_most = omega arith };
-  layer = record { channels_least = omega arith; channels_most = omega arith; window_least = omega arith; window_most = omega arith };
+  layer = record { channels_least = omega arith; channels_most = omega arith; flow_is = record { window_least = omega arith; window_most = omega arith; size_is = refl } };
 }
 
 are_setting : (dte_node dce_node : ℕ) → IsSetting (record { dte = parameters; dce = parameters; dte_node = dte_node; dce_node = dce_node })
-are_setting dte_node dce_node = record { dte = are_params; dce = are_params; alike = record { channels = refl; window = refl; standing = refl } }
+are_setting dte_node dce_node = record { dte = are_params; dce = are_params; alike = record { channels = refl; flow = refl; standing = refl } }
 
 top_kept : (n : ℕ) (l : SwitchLine) → slice_get top.switch.lines n ≡ Some l → KeptWith (top_partners n) (top_books n) l.end
 top_kept zero l e =
@@ -166,8 +167,8 @@ top_addresses (suc zero) l e = subst (λ (y : SwitchLine). MayBeDigits (digits_o
 top_addresses (suc (suc n)) l e = absurd (none-some l e)
 
 top_begins : (n : ℕ) (l : Layer) → slice_get (layers_of top.switch.lines) n ≡ Some l → AreRecords Dce l (λ c. new_legs top_configs (record { line = n; channel = c })) (top_books n)
-top_begins zero l e = subst (λ (y : Layer). AreRecords Dce y (λ c. new_legs top_configs (record { line = 0; channel = c })) (top_books 0)) (same_Some _ _ e) (made_records Dce Dce 2 2 5 4 (λ c. new_legs top_configs (record { line = 0; channel = c })))
-top_begins (suc zero) l e = subst (λ (y : Layer). AreRecords Dce y (λ c. new_legs top_configs (record { line = 1; channel = c })) (top_books 1)) (same_Some _ _ e) (made_records Dce Dce 2 2 9 4 (λ c. new_legs top_configs (record { line = 1; channel = c })))
+top_begins zero l e = subst (λ (y : Layer). AreRecords Dce y (λ c. new_legs top_configs (record { line = 0; channel = c })) (top_books 0)) (same_Some _ _ e) (made_records Dce Dce 2 (modulo_8 2) 5 4 (λ c. new_legs top_configs (record { line = 0; channel = c })))
+top_begins (suc zero) l e = subst (λ (y : Layer). AreRecords Dce y (λ c. new_legs top_configs (record { line = 1; channel = c })) (top_books 1)) (same_Some _ _ e) (made_records Dce Dce 2 (modulo_8 2) 9 4 (λ c. new_legs top_configs (record { line = 1; channel = c })))
 top_begins (suc (suc n)) l e = absurd (none-some l e)
 
 top_tied : IsTied top.switch top_histories

@@ -174,6 +174,17 @@ UserLaw = (plan : Plan) (ats : OwnLines) (xs : Switches) (cs : List PlacedCall) 
     (with_line line l lines) (set books line (all_written role ws b)) (after_event (Writes line role ws) w)
     (set traces line (all_traced line role ws b own))
 
+-- ---- what changes on a line
+
+-- frames on the way are lost, or what a user has at an end changes: nothing is written, and where a switch is at an end,
+-- nothing happens there, and the line is kept
+abbrev pub ChangeLaw : Type 0
+ChangeLaw = (plan : Plan) (ats : OwnLines) (xs : Switches) (cs : List PlacedCall) (lines : Lines) (books : List Book)
+    (w : World) (traces : List (List Origin)) (line : ℕ) (b : Book) (l : Standing) → slice_get books line ≡ Some b
+    → ((role : Role) → plan.has_user line role ≡ false → StaysKept role (lines line) l b)
+    → IsNetwork plan ats xs cs lines books w traces
+    → IsNetwork plan ats (all_seen ats (with_line line l lines) books xs) cs (with_line line l lines) books w traces
+
 -- ---- the addresses of joined calls
 
 -- the call goes on with the address that was called, as calling one with that of the line that it came on, or on a line
@@ -252,6 +263,7 @@ pub record SwitchPathLaw : Type 0 where
   pub out : OutLaw
   pub restarts : RestartLaw
   pub users : UserLaw
+  pub changes : ChangeLaw
   pub addresses : AddressLaw
   pub promise : PromiseLaw
   pub placed : PlacedLaw
