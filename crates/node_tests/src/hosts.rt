@@ -1,6 +1,6 @@
 //! Worked examples: two hosts on one line, by the octets of their frames.
 
-use crate::lines::{Frames, LINE, address_of, is_interrupt, keep};
+use crate::lines::{Frames, LINE, MODULO_128, NO_WINDOW, address_of, is_interrupt, keep};
 use arrayvec::ArrayVec;
 use frame_codec::FrameBuf;
 use link_timers::{Role, TimerId};
@@ -74,10 +74,14 @@ enum Act<'a> {
 enum Step<'a> {
     // at the host of this role
     At(Role, Act<'a>),
-    // the first frame that the host of this role has sent arrives
+    // the first frame that the host of this role has sent arrives, or is lost
     Deliver(Role),
+    Lose(Role),
     // all frames arrive, and those that they are answered by
     Flow,
+    // the DTE says each octet from the first on and up to the second; its frame is lost and sent again after T1, and
+    // the DCE takes the octet
+    Pass(u8, u8),
 }
 
 use Act::{
@@ -85,7 +89,7 @@ use Act::{
     SayQualified, Sent, SentNothing, SentPacket, Take, TakeInterrupt, TakeNothing,
 };
 use Role::{Dce, Dte};
-use Step::{At, Deliver, Flow};
+use Step::{At, Deliver, Flow, Lose, Pass};
 
 // The channel of most calls: a DTE takes the highest one of four.
 const CHANNEL: u8 = 4;
@@ -224,6 +228,7 @@ fn fits(dte: &mut Station, dce: &mut Station, step: Step<'_>) -> bool {
     match step {
         At(Dte, act) => perform_at(dte, act),
         At(Dce, act) => perform_at(dce, act),
+        Pass(first, end) => pass(dte, dce, first, end),
         _ => {
             carry(dte, dce, step);
             true
@@ -235,8 +240,37 @@ fn carry(dte: &mut Station, dce: &mut Station, step: Step<'_>) {
     match step {
         Deliver(Dte) => deliver(dte, dce),
         Deliver(Dce) => deliver(dce, dte),
+        Lose(Dte) => lose(dte),
+        Lose(Dce) => lose(dce),
         _ => flow(dte, dce),
     }
+}
+
+// Loses the first frame that a host has sent.
+fn lose(from: &mut Station) {
+    if !from.sent.is_empty() {
+        let _ = from.sent.remove(0);
+    }
+}
+
+// Whether each of these octets comes to the DCE, though its frame is lost once.
+fn pass(dte: &mut Station, dce: &mut Station, first: u8, end: u8) -> bool {
+    let mut all = true;
+    for octet in first..end {
+        all = all && passes(dte, dce, octet);
+    }
+    all
+}
+
+fn passes(dte: &mut Station, dce: &mut Station, octet: u8) -> bool {
+    let said = perform_at(dte, Say(&[octet], false, Ok(())));
+    lose(dte);
+    let expired = perform_at(dte, Expire(TimerId::T1, true));
+    flow(dte, dce);
+    let taken = perform_at(dce, Take(&[octet], false, false, false));
+    flow(dte, dce);
+    let covered = perform_at(dte, Act::Told(&[Told::Covered]));
+    said && expired && taken && covered
 }
 
 fn flow(dte: &mut Station, dce: &mut Station) {
@@ -259,8 +293,8 @@ pub(crate) fn new_host(alloc: Global, role: Role, line: EndParams) -> Result<Hos
     Host::new(alloc, HostConfig { role, line })
 }
 
-fn new_station(alloc: Global, role: Role, channels: u8) -> Result<Station, EndFault> {
-    match new_host(alloc, role, EndParams { channels, ..LINE }) {
+fn new_station(alloc: Global, role: Role, line: EndParams) -> Result<Station, EndFault> {
+    match new_host(alloc, role, line) {
         Ok(host) => Ok(Station {
             host,
             sent: ArrayVec::new(),
@@ -270,10 +304,16 @@ fn new_station(alloc: Global, role: Role, channels: u8) -> Result<Station, EndFa
     }
 }
 
-// A rule, and steps by which it is seen on a line of so many channels, where a call stands or does not.
+// A line of one channel.
+const ONE_CHANNEL: EndParams = EndParams {
+    channels: 1,
+    ..LINE
+};
+
+// A rule, and steps by which it is seen on a line, where a call is connected or is not.
 struct Example<'a> {
     rule: &'a str,
-    channels: u8,
+    line: EndParams,
     connected: bool,
     steps: &'a [Step<'a>],
 }
@@ -287,7 +327,7 @@ fn play(rt: &impl Abort, alloc: Global, examples: &[Example<'_>]) {
 
 // Whether an example holds on a new line.
 fn holds(alloc: Global, example: &Example<'_>) -> bool {
-    match new_station(alloc, Dte, example.channels) {
+    match new_station(alloc, Dte, example.line) {
         Ok(mut dte) => holds_from(alloc, &mut dte, example),
         Err(_) => false,
     }
@@ -295,7 +335,7 @@ fn holds(alloc: Global, example: &Example<'_>) -> bool {
 
 // Whether an example holds between a new DTE and a new DCE.
 fn holds_from(alloc: Global, dte: &mut Station, example: &Example<'_>) -> bool {
-    match new_station(alloc, Dce, example.channels) {
+    match new_station(alloc, Dce, example.line) {
         Ok(mut dce) => holds_between(dte, &mut dce, example),
         Err(_) => false,
     }
@@ -323,7 +363,7 @@ const CONNECTED: &[Step<'static>] = &[
 const CALLS: &[Example] = &[
     Example {
         rule: "a call is set up",
-        channels: 4,
+        line: LINE,
         connected: false,
         steps: &[
             At(Dte, Call(b"2001", Ok(4))),
@@ -346,7 +386,7 @@ const CALLS: &[Example] = &[
     },
     Example {
         rule: "a packet without a type is acknowledged and ignored",
-        channels: 4,
+        line: LINE,
         connected: false,
         steps: &[
             At(Dce, Hear(&[0x01, 0x22, 0x10, 0x01])),
@@ -356,7 +396,7 @@ const CALLS: &[Example] = &[
     },
     Example {
         rule: "resets cross",
-        channels: 4,
+        line: LINE,
         connected: true,
         steps: &[
             At(Dte, Ask(Asked::Reset, 4, Ok(()))),
@@ -375,7 +415,7 @@ const CALLS: &[Example] = &[
     },
     Example {
         rule: "calls collide",
-        channels: 1,
+        line: ONE_CHANNEL,
         connected: false,
         steps: &[
             At(Dte, Call(b"0001", Ok(1))),
@@ -400,7 +440,7 @@ const QUEUES: &[Example] = &[
     // Two packets fill the window, and eight wait.
     Example {
         rule: "the send queue fills",
-        channels: 4,
+        line: LINE,
         connected: true,
         steps: &[
             At(Dte, SayOn(4, Ok(()))),
@@ -420,7 +460,7 @@ const QUEUES: &[Example] = &[
     },
     Example {
         rule: "delivery is confirmed",
-        channels: 4,
+        line: LINE,
         connected: true,
         steps: &[
             At(Dte, Say(b"HI", true, Ok(()))),
@@ -445,7 +485,7 @@ fn hosts_queue_packets(rt: HostRuntime) {
 const DATA: &[Example] = &[
     Example {
         rule: "messages are cut",
-        channels: 4,
+        line: LINE,
         connected: true,
         steps: &[
             At(Dte, Say(&[b'X'; 129], true, Ok(()))),
@@ -467,7 +507,7 @@ const DATA: &[Example] = &[
     },
     Example {
         rule: "interrupts are confirmed when taken",
-        channels: 4,
+        line: LINE,
         connected: true,
         steps: &[
             At(Dte, Interrupt(&[], Err(ChannelFault::TooLong))),
@@ -483,7 +523,7 @@ const DATA: &[Example] = &[
     },
     Example {
         rule: "a host stops its partner",
-        channels: 4,
+        line: LINE,
         connected: true,
         steps: &[
             At(Dce, Ask(Asked::Stop, 4, Ok(()))),
@@ -504,11 +544,64 @@ fn hosts_carry_data(rt: HostRuntime) {
     play(&rt, rt.alloc(), DATA);
 }
 
+// Packets that are numbered modulo 128, on a line that loses frames.
+const LOSSES: &[Example] = &[
+    Example {
+        rule: "the link sends again what is lost",
+        line: MODULO_128,
+        connected: true,
+        steps: &[
+            At(Dte, Say(b"A", false, Ok(()))),
+            At(Dte, SentPacket(&[0x20, 0x04, 0x00, 0x00, b'A'])),
+            Lose(Dte),
+            At(Dte, Say(b"B", true, Ok(()))),
+            At(Dte, SentPacket(&[0x60, 0x04, 0x02, 0x00, b'B'])),
+            Flow,
+            At(Dce, Take(b"A", false, false, false)),
+            At(Dce, SentPacket(&[0x20, 0x04, 0x01, 0x02])),
+            Lose(Dce),
+            At(Dce, Take(b"B", false, false, true)),
+            At(Dce, SentPacket(&[0x20, 0x04, 0x01, 0x04])),
+            At(Dte, Confirmed(false)),
+            Flow,
+            At(Dte, Confirmed(true)),
+            At(Dte, Act::Told(&[Told::Covered, Told::Covered])),
+        ],
+    },
+    Example {
+        rule: "the numbers begin again after 127",
+        line: MODULO_128,
+        connected: true,
+        steps: &[
+            Pass(0, 127),
+            At(Dte, Say(b"A", false, Ok(()))),
+            At(Dte, SentPacket(&[0x20, 0x04, 0xfe, 0x00, b'A'])),
+            Lose(Dte),
+            At(Dte, Say(b"B", false, Ok(()))),
+            At(Dte, SentPacket(&[0x20, 0x04, 0x00, 0x00, b'B'])),
+            Flow,
+            At(Dce, Take(b"A", false, false, false)),
+            At(Dce, SentPacket(&[0x20, 0x04, 0x01, 0x00])),
+            Flow,
+            At(Dce, Take(b"B", false, false, false)),
+            At(Dce, SentPacket(&[0x20, 0x04, 0x01, 0x02])),
+            Flow,
+            At(Dte, Act::Told(&[Told::Covered, Told::Covered])),
+            Pass(130, 140),
+        ],
+    },
+];
+
+#[test]
+fn hosts_number_modulo_128(rt: HostRuntime) {
+    play(&rt, rt.alloc(), LOSSES);
+}
+
 // Calls that are refused and cleared, and sessions that begin anew.
 const ENDS: &[Example] = &[
     Example {
         rule: "calls are refused and cleared",
-        channels: 4,
+        line: LINE,
         connected: false,
         steps: &[
             At(Dte, Call(b"2001", Ok(4))),
@@ -527,7 +620,7 @@ const ENDS: &[Example] = &[
     },
     Example {
         rule: "sessions begin anew",
-        channels: 4,
+        line: LINE,
         connected: true,
         steps: &[
             At(Dte, Expire(TimerId::T20, false)),
@@ -553,7 +646,7 @@ fn hosts_clear_calls(rt: HostRuntime) {
 // Lines that a host is not made for.
 const BAD_LINES: &[EndParams] = &[
     EndParams { k: 8, ..LINE },
-    EndParams { window: 0, ..LINE },
+    NO_WINDOW,
     EndParams {
         channels: 33,
         ..LINE

@@ -2,17 +2,41 @@
 
 use arrayvec::ArrayVec;
 use frame_codec::FrameBuf;
-use packet_codec::{Address, CallBuf, CallData};
+use packet_codec::{Address, CallBuf, CallData, Numbering};
 use packet_end::EndParams;
-use packet_layer::{LayerNote, Taken};
+use packet_layer::{Flow, LayerNote, Taken};
 
 /// A line of four channels, on which no call stands.
 pub(crate) const LINE: EndParams = EndParams {
     k: 7,
     n2: 3,
     channels: 4,
-    window: 2,
+    flow: Flow {
+        window: 2,
+        numbering: Numbering::Modulo8,
+        size: 128,
+    },
     standing: false,
+};
+
+/// A line with numbers modulo 128 and the largest window.
+pub(crate) const MODULO_128: EndParams = EndParams {
+    flow: Flow {
+        window: 32,
+        numbering: Numbering::Modulo128,
+        size: 128,
+    },
+    ..LINE
+};
+
+/// A line of no window.
+pub(crate) const NO_WINDOW: EndParams = EndParams {
+    flow: Flow {
+        window: 0,
+        numbering: Numbering::Modulo8,
+        size: 128,
+    },
+    ..LINE
 };
 
 /// A line of two channels, on the first of which a call stands.

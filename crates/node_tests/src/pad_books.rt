@@ -10,7 +10,7 @@ use packet_layer::UserData;
 use pad_records::{write_note, write_notes};
 use std::alloc::{AllocError, Global};
 use x3_params::{Params, Profile};
-use x25_pad::{Pad, PadNote};
+use x25_pad::{ChannelNote, Pad};
 use x25_pad_laws::pad_room_law;
 
 /// The nodes of the two ends.
@@ -36,7 +36,7 @@ fn accepts_at_once(book: &mut Book) -> bool {
     match book.reserve(1) {
         Ok(()) => {
             book.tell(Role::Dte, &incoming(1, Address::new(&CALLED)));
-            write_note(book, Role::Dte, &PadNote::Accepted(1));
+            write_note(book, Role::Dte, &ChannelNote::Accepted(1));
             true
         }
         Err(_) => false,
@@ -58,18 +58,18 @@ fn note_all(book: &mut Book) -> Result<(), AllocError> {
     write_note(
         book,
         Role::Dte,
-        &PadNote::Edited {
+        &ChannelNote::Edited {
             channel: 1,
             octet: 65,
             params,
         },
     );
-    write_note(book, Role::Dte, &PadNote::Paused { channel: 1, params });
+    write_note(book, Role::Dte, &ChannelNote::Paused { channel: 1, params });
     let user_data = UserData::new(b"A", false, false, false);
     write_note(
         book,
         Role::Dte,
-        &PadNote::Sent {
+        &ChannelNote::Sent {
             channel: 1,
             user_data,
         },
@@ -77,13 +77,13 @@ fn note_all(book: &mut Book) -> Result<(), AllocError> {
     write_note(
         book,
         Role::Dte,
-        &PadNote::Interrupted {
+        &ChannelNote::Interrupted {
             channel: 1,
             octet: 1,
         },
     );
-    write_note(book, Role::Dte, &PadNote::Reset(1));
-    write_note(book, Role::Dte, &PadNote::Cleared(1));
+    write_note(book, Role::Dte, &ChannelNote::Reset(1));
+    write_note(book, Role::Dte, &ChannelNote::Cleared(1));
     Ok(())
 }
 

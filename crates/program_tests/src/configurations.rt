@@ -1,5 +1,5 @@
-//! A network of two lines that is served, and networks like it that are not; networks with a switch that are served,
-//! and such that are not.
+//! A network of two lines that is served, and networks like it that are not; networks with a switch, and of two switches
+//! and a trunk, that are served, and such that are not.
 use net_config::{
     Config, LineConfig, MakeFault, NodeConfig, NodeKind, RouteConfig, TerminalsConfig, is_served,
 };
@@ -183,6 +183,57 @@ const WITH_SWITCH: &[Case] = &[
     ),
 ];
 
+/// Two switches, and a host at each.
+const TREE: &[Node] = &[
+    ("h1", Kind::Host),
+    ("sw1", Kind::Switch),
+    ("sw2", Kind::Switch),
+    ("h2", Kind::Host),
+];
+
+const OF_H1: Line = ("h1", "sw1", "1001", 4);
+
+const OF_H2: Line = ("h2", "sw2", "2001", 4);
+
+const TRUNK: Line = ("sw2", "sw1", "", 4);
+
+const THROUGH: &[Route] = &[("sw1", "2", 1), ("sw2", "1", 1)];
+
+/// Networks with a trunk, or with a line that is none.
+const WITH_TRUNK: &[Case] = &[
+    (TREE, &[OF_H1, TRUNK, OF_H2], THROUGH, Judged::Planned(4, 3)),
+    (
+        TREE,
+        &[OF_H1, ("sw1", "sw2", "", 4), OF_H2],
+        THROUGH,
+        Judged::Served(false),
+    ),
+    (
+        TREE,
+        &[OF_H1, ("sw2", "sw1", "3001", 4), OF_H2],
+        THROUGH,
+        Judged::Served(false),
+    ),
+    (
+        TREE,
+        &[OF_H1, TRUNK, OF_H2, TRUNK],
+        THROUGH,
+        Judged::Served(false),
+    ),
+    (
+        TREE,
+        &[OF_H1, TRUNK, ("sw2", "h2", "", 4)],
+        THROUGH,
+        Judged::Served(false),
+    ),
+    (
+        TREE,
+        &[OF_H1, TRUNK, ("sw2", "h2", "2001", 4)],
+        THROUGH,
+        Judged::Served(false),
+    ),
+];
+
 fn two_lines() -> &'static [Case<'static>] {
     TWO_LINES
 }
@@ -191,10 +242,15 @@ fn with_switch() -> &'static [Case<'static>] {
     WITH_SWITCH
 }
 
+fn with_trunk() -> &'static [Case<'static>] {
+    WITH_TRUNK
+}
+
 #[test]
 fn networks_are_judged(rt: HostRuntime) {
     judge(&rt, rt.alloc(), two_lines());
     judge(&rt, rt.alloc(), with_switch());
+    judge(&rt, rt.alloc(), with_trunk());
 }
 
 fn judge(rt: &impl Abort, alloc: Global, cases: &[Case<'_>]) {
@@ -275,6 +331,7 @@ fn adds_line(alloc: Global, config: &mut Config, line: &Line<'_>) -> bool {
         dce: String::new(alloc),
         address: String::new(alloc),
         channels,
+        modulo: 8,
         window: 2,
         k: 7,
         n2: 3,

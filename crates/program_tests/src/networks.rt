@@ -122,7 +122,8 @@ fn is_first_pad(node: &NodeConfig) -> bool {
 /// Whether the line is one of a standing call, with the values that it has where none are given.
 fn is_first_line(line: &LineConfig) -> bool {
     (line.dte.as_str(), line.dce.as_str(), line.address.as_str()) == ("pad", "host", "")
-        && (line.channels, line.window, line.k, line.n2, line.standing) == (1, 2, 7, 3, true)
+        && (line.channels, line.modulo, line.window) == (1, 8, 2)
+        && (line.k, line.n2, line.standing) == (7, 3, true)
 }
 
 /// Whether a network has a PAD as the first of two nodes, one line and no routes.

@@ -3,10 +3,10 @@ use crate::came::{Came, spend};
 use address_routes::{LineNo, RouteFault, Routes};
 use flow_window::pool::Pool;
 use link_timers::Role;
-use packet_codec::Address;
+use packet_codec::{Address, Numbering};
 use packet_end::{EndFault, EndParams};
 use packet_host::{Host, HostConfig};
-use packet_layer::{Layer, LayerParams, MakeFault};
+use packet_layer::{Flow, Layer, LayerParams, MakeFault};
 use std::alloc::Global;
 use x3_params::{Params, Profile};
 use x25_pad::{Pad, PadConfig};
@@ -17,7 +17,11 @@ const LINE: EndParams = EndParams {
     k: 7,
     n2: 3,
     channels: 4,
-    window: 2,
+    flow: Flow {
+        window: 2,
+        numbering: Numbering::Modulo8,
+        size: 128,
+    },
     standing: false,
 };
 
@@ -37,7 +41,7 @@ pub(crate) fn pool_new(alloc: Global, blocks: u32) -> Result<Came, Came> {
 pub(crate) fn layer_new(alloc: Global, blocks: u32) -> Result<Came, Came> {
     let params = LayerParams {
         channels: 4,
-        window: 2,
+        flow: LINE.flow,
         standing: false,
     };
     spend(alloc, blocks)?;

@@ -1,4 +1,4 @@
-//! Delivery that is confirmed from end to end, through a switch.
+//! Delivery that is confirmed from end to end, through a switch and over a trunk.
 use crate::played::programs::prints_on;
 use crate::played::switched::SWITCHED;
 use net_files::read_net;
@@ -38,6 +38,49 @@ line = 0
 switch = "s"
 prefix = "2"
 line = 1
+"#;
+
+/// Two hosts, each at a switch, and a trunk between the switches.
+const OVER_A_TRUNK: &str = r#"
+[[node]]
+name = "h1"
+kind = "host"
+
+[[node]]
+name = "h2"
+kind = "host"
+
+[[node]]
+name = "sw1"
+kind = "switch"
+
+[[node]]
+name = "sw2"
+kind = "switch"
+
+[[line]]
+dte = "h1"
+dce = "sw1"
+address = "1001"
+
+[[line]]
+dte = "sw2"
+dce = "sw1"
+
+[[line]]
+dte = "h2"
+dce = "sw2"
+address = "2001"
+
+[[route]]
+switch = "sw1"
+prefix = "2"
+line = 1
+
+[[route]]
+switch = "sw2"
+prefix = "2"
+line = 2
 "#;
 
 /// A script, what is printed for it, and whether the call is then confirmed at the first node, on channel 4, and at the
@@ -82,6 +125,18 @@ const TAKEN: [Step; 8] = [
         "take h1 4\n",
         "h1/4 data d \"YES\"\nend busy\n",
         [true, false],
+    ),
+    ("flow\n", "end rest\n", [true, true]),
+];
+
+/// So it is where a trunk lies between the hosts.
+const TAKEN_BEYOND: [Step; 4] = [
+    HOSTS_CALL,
+    ("say h1 4 d HI\nflow\n", "end busy\n", [false, true]),
+    (
+        "take h2 1\n",
+        "h2/1 data d \"HI\"\nend busy\n",
+        [false, true],
     ),
     ("flow\n", "end rest\n", [true, true]),
 ];
@@ -173,4 +228,5 @@ fn delivery_is_confirmed_through_a_switch(rt: HostRuntime) {
     assert!(rt; fits(rt.alloc(), SWITCHED, &TAKEN));
     assert!(rt; fits(rt.alloc(), PAD_AND_HOST, &PRINTED));
     assert!(rt; fits(rt.alloc(), SWITCHED, &RESET));
+    assert!(rt; fits(rt.alloc(), OVER_A_TRUNK, &TAKEN_BEYOND));
 }

@@ -42,8 +42,8 @@ const PLAYED: [Run; 12] = [
     (b"break pad\n", b"", b"fault 2 line 1\n"),
 ];
 
-/// A PAD and a host on a line whose link has a window of eight.
-const WINDOW_OF_EIGHT: &str = r#"
+/// A PAD and a host on a line, of which more may be said.
+const DIRECT: &str = r#"
 [[node]]
 name = "pad"
 kind = "pad"
@@ -55,8 +55,19 @@ kind = "host"
 [[line]]
 dte = "pad"
 dce = "host"
-k = 8
 "#;
+
+/// What is said of a line, and whether a network with it is made.
+const LIMITS: [(&str, bool); 8] = [
+    ("k = 8", false),
+    ("window = 7", true),
+    ("window = 8", false),
+    ("modulo = 8\nwindow = 8", false),
+    ("modulo = 128\nwindow = 32", true),
+    ("modulo = 128\nwindow = 33", false),
+    ("modulo = 128\nwindow = 0", false),
+    ("modulo = 16", false),
+];
 
 /// Whether this is printed for a script on a network of this configuration.
 pub(crate) fn prints_on<L: Line>(
@@ -151,20 +162,22 @@ fn a_line_over_sockets_plays_what_one_in_memory_does(rt: HostRuntime) {
     assert!(rt; prints_over(rt.alloc(), line, FIRST, SCRIPT, PRINTED));
 }
 
-/// Why a network of a text is not made, where it is spelled as one.
-fn make_fault_of(alloc: Global, text: &str) -> Option<MakeFault> {
-    match read_net(alloc, text) {
-        Ok(config) => match Net::on_memory_lines(alloc, &config) {
-            Ok(_) => None,
-            Err(fault) => Some(fault),
-        },
+/// Whether a network of a text is made, where it is spelled as one and is not refused for another reason.
+fn is_made(alloc: Global, text: &str) -> Option<bool> {
+    let config = read_net(alloc, text).ok()?;
+    match Net::on_memory_lines(alloc, &config) {
+        Ok(_) => Some(true),
+        Err(MakeFault::BadConfig) => Some(false),
         Err(_) => None,
     }
 }
 
 #[test]
-fn a_link_window_of_eight_is_refused(rt: HostRuntime) {
-    assert!(rt; make_fault_of(rt.alloc(), WINDOW_OF_EIGHT) == Some(MakeFault::BadConfig));
+fn lines_have_limits(rt: HostRuntime) {
+    for (said, made) in &LIMITS {
+        let text = format!(in rt.alloc(); "{DIRECT}{said}\n").expect(&rt, "a text");
+        assert!(rt; is_made(rt.alloc(), text.as_str()) == Some(*made), "{said}");
+    }
 }
 
 #[test]
