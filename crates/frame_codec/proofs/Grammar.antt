@@ -136,23 +136,23 @@ report_reads report field below form =
     })))
 
 -- a form of the information field is read as what the frame says there
-form_reads : (content : Content) (field : List ℕ) → HasNumbers content → FieldForm content field → field_read
+form_reads : (info : ℕ) (content : Content) (field : List ℕ) → HasNumbers content → FieldForm info content field → field_read info
     content field ≡ Ok content
-form_reads (I ns nr information) field numbers form =
-    rw (le-leb (length field) 145 form.1) (ap (λ octets. Ok (I ns nr octets)) form.0)
-form_reads (Rr nr) field numbers form = ap (bare (Rr nr)) form
-form_reads (Rnr nr) field numbers form = ap (bare (Rnr nr)) form
-form_reads (Rej nr) field numbers form = ap (bare (Rej nr)) form
-form_reads Sabm field numbers form = ap (bare Sabm) form
-form_reads Disc field numbers form = ap (bare Disc) form
-form_reads Dm field numbers form = ap (bare Dm) form
-form_reads Ua field numbers form = ap (bare Ua) form
-form_reads (Frmr report) field numbers form = report_reads report field numbers.1 form
+form_reads info (I ns nr information) field numbers form =
+    rw (le-leb (length field) info form.1) (ap (λ octets. Ok (I ns nr octets)) form.0)
+form_reads info (Rr nr) field numbers form = ap (bare (Rr nr)) form
+form_reads info (Rnr nr) field numbers form = ap (bare (Rnr nr)) form
+form_reads info (Rej nr) field numbers form = ap (bare (Rej nr)) form
+form_reads info Sabm field numbers form = ap (bare Sabm) form
+form_reads info Disc field numbers form = ap (bare Disc) form
+form_reads info Dm field numbers form = ap (bare Dm) form
+form_reads info Ua field numbers form = ap (bare Ua) form
+form_reads info (Frmr report) field numbers form = report_reads report field numbers.1 form
 
 -- a form of a frame is read as that frame
-pub reading_form : (at : Role) (bytes : List ℕ) (f : FrameValue) → FrameForm at bytes f → reading at bytes ≡ Ok f
-reading_form at bytes f form =
-    reading_at_head at bytes f form.field form.head ∙ ap (with_head f.response f.pf) (form_reads f.content
+pub reading_form : (at : Role) (info : ℕ) (bytes : List ℕ) (f : FrameValue) → FrameForm at info bytes f → reading at info bytes ≡ Ok f
+reading_form at info bytes f form =
+    reading_at_head at info bytes f form.field form.head ∙ ap (with_head f.response f.pf) (form_reads info f.content
     form.field form.head.numbers form.form)
 
 -- an information field that the frame may not have
@@ -167,31 +167,31 @@ report_refused (a ∷ b ∷ []) other = refl
 report_refused (a ∷ b ∷ c ∷ []) other = absurd (other refl)
 report_refused (a ∷ b ∷ c ∷ d ∷ field) other = refl
 
-refused : (content : Content) (field : List ℕ) → IsNotAllowed content field → field_read content field ≡ Err
+refused : (info : ℕ) (content : Content) (field : List ℕ) → IsNotAllowed content field → field_read info content field ≡ Err
     InfoNotAllowed
-refused (I ns nr information) field fault = absurd fault
-refused (Rr nr) field fault = bare_refused (Rr nr) field fault
-refused (Rnr nr) field fault = bare_refused (Rnr nr) field fault
-refused (Rej nr) field fault = bare_refused (Rej nr) field fault
-refused Sabm field fault = bare_refused Sabm field fault
-refused Disc field fault = bare_refused Disc field fault
-refused Dm field fault = bare_refused Dm field fault
-refused Ua field fault = bare_refused Ua field fault
-refused (Frmr report) field fault = report_refused field fault
+refused info (I ns nr information) field fault = absurd fault
+refused info (Rr nr) field fault = bare_refused (Rr nr) field fault
+refused info (Rnr nr) field fault = bare_refused (Rnr nr) field fault
+refused info (Rej nr) field fault = bare_refused (Rej nr) field fault
+refused info Sabm field fault = bare_refused Sabm field fault
+refused info Disc field fault = bare_refused Disc field fault
+refused info Dm field fault = bare_refused Dm field fault
+refused info Ua field fault = bare_refused Ua field fault
+refused info (Frmr report) field fault = report_refused field fault
 
 -- an I frame with too much information
-overlong : (content : Content) (field : List ℕ) → IsTooLong content field → field_read content field ≡ Err InfoTooLong
-overlong (I ns nr information) field fault = rw (lt-leb (length field) 145 fault) refl
-overlong (Rr nr) field fault = absurd fault
-overlong (Rnr nr) field fault = absurd fault
-overlong (Rej nr) field fault = absurd fault
-overlong Sabm field fault = absurd fault
-overlong Disc field fault = absurd fault
-overlong Dm field fault = absurd fault
-overlong Ua field fault = absurd fault
-overlong (Frmr report) field fault = absurd fault
+overlong : (info : ℕ) (content : Content) (field : List ℕ) → IsTooLong info content field → field_read info content field ≡ Err InfoTooLong
+overlong info (I ns nr information) field fault = rw (lt-leb (length field) info fault) refl
+overlong info (Rr nr) field fault = absurd fault
+overlong info (Rnr nr) field fault = absurd fault
+overlong info (Rej nr) field fault = absurd fault
+overlong info Sabm field fault = absurd fault
+overlong info Disc field fault = absurd fault
+overlong info Dm field fault = absurd fault
+overlong info Ua field fault = absurd fault
+overlong info (Frmr report) field fault = absurd fault
 
--- the control octet of a frame is known
+-- the control octet of a frame is known info
 bare_known : (response pf : Bool) (content : Content) (field : List ℕ) → with_head response pf (bare content
     field) ≡ Err UnknownControl → ⊥
 bare_known response pf content [] e = absurd (cc)
@@ -210,18 +210,18 @@ information_known : (response pf short : Bool) (content : Content) → with_head
 information_known response pf true content e = absurd (cc)
 information_known response pf false content e = absurd (cc)
 
-known : (response pf : Bool) (content : Content) (field : List ℕ) → with_head response pf (field_read content
+known : (info : ℕ) (response pf : Bool) (content : Content) (field : List ℕ) → with_head response pf (field_read info content
     field) ≡ Err UnknownControl → ⊥
-known response pf (I ns nr information) field e = information_known response pf (nat_le
-    (length field) 145) (I ns nr field) e
-known response pf (Rr nr) field e = bare_known response pf (Rr nr) field e
-known response pf (Rnr nr) field e = bare_known response pf (Rnr nr) field e
-known response pf (Rej nr) field e = bare_known response pf (Rej nr) field e
-known response pf Sabm field e = bare_known response pf Sabm field e
-known response pf Disc field e = bare_known response pf Disc field e
-known response pf Dm field e = bare_known response pf Dm field e
-known response pf Ua field e = bare_known response pf Ua field e
-known response pf (Frmr report) field e = report_known response pf field e
+known info response pf (I ns nr information) field e = information_known response pf (nat_le
+    (length field) info) (I ns nr field) e
+known info response pf (Rr nr) field e = bare_known response pf (Rr nr) field e
+known info response pf (Rnr nr) field e = bare_known response pf (Rnr nr) field e
+known info response pf (Rej nr) field e = bare_known response pf (Rej nr) field e
+known info response pf Sabm field e = bare_known response pf Sabm field e
+known info response pf Disc field e = bare_known response pf Disc field e
+known info response pf Dm field e = bare_known response pf Dm field e
+known info response pf Ua field e = bare_known response pf Ua field e
+known info response pf (Frmr report) field e = report_known response pf field e
 
 -- the two address octets
 address_known : (from : Role) (response : Bool) (octet : ℕ) → octet ≡ address_of from response → octet ≢ 0x01 →
@@ -232,22 +232,22 @@ address_known Dce true octet e one three = one e
 address_known Dce false octet e one three = three e
 
 -- a text with an information field that is not allowed is read so
-refused_is : (at : Role) (bytes : List ℕ) → HasFault InfoNotAllowed at bytes → reading at bytes ≡ Err InfoNotAllowed
-refused_is at bytes (f, field, head, fault) =
-    reading_at_head at bytes f field head ∙ ap (with_head f.response f.pf) (refused f.content field fault)
+refused_is : (at : Role) (info : ℕ) (bytes : List ℕ) → HasFault InfoNotAllowed at info bytes → reading at info bytes ≡ Err InfoNotAllowed
+refused_is at info bytes (f, field, head, fault) =
+    reading_at_head at info bytes f field head ∙ ap (with_head f.response f.pf) (refused info f.content field fault)
 
-overlong_is : (at : Role) (bytes : List ℕ) → HasFault InfoTooLong at bytes → reading at bytes ≡ Err InfoTooLong
-overlong_is at bytes (f, field, head, fault) =
-    reading_at_head at bytes f field head ∙ ap (with_head f.response f.pf) (overlong f.content field fault)
+overlong_is : (at : Role) (info : ℕ) (bytes : List ℕ) → HasFault InfoTooLong at info bytes → reading at info bytes ≡ Err InfoTooLong
+overlong_is at info bytes (f, field, head, fault) =
+    reading_at_head at info bytes f field head ∙ ap (with_head f.response f.pf) (overlong info f.content field fault)
 
-refused_read : (at : Role) (bytes : List ℕ) → HasFault InfoNotAllowed at bytes → reading at bytes ≡ Err InfoTooLong
+refused_read : (at : Role) (info : ℕ) (bytes : List ℕ) → HasFault InfoNotAllowed at info bytes → reading at info bytes ≡ Err InfoTooLong
     → ⊥
-refused_read at bytes fault e = let f = refused_is at bytes fault in absurd (cc)
+refused_read at info bytes fault e = let f = refused_is at info bytes fault in absurd (cc)
 
 -- what a text is read as: a frame of which it is a form, or the first fault that it has
-abbrev pub IsDecided : Role → List ℕ → Result FrameValue FrameFault → Type 0
-IsDecided at bytes (Ok f) = FrameForm at bytes f
-IsDecided at bytes (Err fault) = IsFirstFault fault at bytes
+abbrev pub IsDecided : Role → (info : ℕ) → List ℕ → Result FrameValue FrameFault → Type 0
+IsDecided at info bytes (Ok f) = FrameForm at info bytes f
+IsDecided at info bytes (Err fault) = IsFirstFault fault at info bytes
 
 -- no fault stands before the first, and so on
 before_2 : (P : FrameFault → Type 0) → (P TooShort → ⊥) → (other : FrameFault) → place_of other < 2 → P other → ⊥
@@ -273,14 +273,14 @@ before_1 P InfoNotAllowed less fault = omega arith
 before_1 P InfoTooLong less fault = omega arith
 
 -- a text with one of the two addresses
-framed_decided : (at : Role) (response : Bool) (address control : ℕ) (field : List ℕ) → address ≡ address_of
+framed_decided : (at : Role) (info : ℕ) (response : Bool) (address control : ℕ) (field : List ℕ) → address ≡ address_of
     (other_of at) response → control < 256 → AreOctets field →
-    reading at (address ∷ control ∷ field) ≡ with_head response (has_bit control 16) (content_read response control
+    reading at info (address ∷ control ∷ field) ≡ with_head response (has_bit control 16) (content_read info response control
     field) →
-    IsDecided at (address ∷ control ∷ field) (with_head response (has_bit control 16) (content_read response
+    IsDecided at info (address ∷ control ∷ field) (with_head response (has_bit control 16) (content_read info response
     control field))
-framed_decided at response address control field sent octet octets is_read =
-    go (content_read response control field) refl (content_outcome response control field octet octets)
+framed_decided at info response address control field sent octet octets is_read =
+    go (content_read info response control field) refl (content_outcome info response control field octet octets)
   where
     head : (content : Content) → IsNamed response control content → IsHead at (address ∷ control ∷ field) (record {
       content = content;
@@ -296,18 +296,18 @@ framed_decided at response address control field sent octet octets is_read =
     short : length (address ∷ control ∷ field) < 2 → ⊥
     short less = omega arith
 
-    wrong : HasFault WrongAddress at (address ∷ control ∷ field) → ⊥
+    wrong : HasFault WrongAddress at info (address ∷ control ∷ field) → ⊥
     wrong fault = address_known (other_of at) response address sent fault.0 fault.1
 
-    go : (r : Result Content FrameFault) → content_read response control field ≡ r → Outcome response control field
-        r → IsDecided at (address ∷ control ∷ field) (with_head response (has_bit control 16) r)
+    go : (r : Result Content FrameFault) → content_read info response control field ≡ r → Outcome info response control field
+        r → IsDecided at info (address ∷ control ∷ field) (with_head response (has_bit control 16) r)
     go (Ok content) e outcome = record { field = field; head = head content outcome.0; form = outcome.1 }
     go (Err TooShort) e outcome = absurd outcome
     go (Err WrongAddress) e outcome = absurd outcome
     go (Err UnknownControl) e outcome = record {
-      has = λ f rest h. known f.response f.pf f.content rest (sym (reading_at_head at (address ∷ control ∷ field)
+      has = λ f rest h. known info f.response f.pf f.content rest (sym (reading_at_head at info (address ∷ control ∷ field)
           f rest h) ∙ is_read ∙ ap (with_head response (has_bit control 16)) e);
-      none_before = before_5 (λ other. HasFault other at (address ∷ control ∷ field)) 3 (omega arith) short wrong
+      none_before = before_5 (λ other. HasFault other at info (address ∷ control ∷ field)) 3 (omega arith) short wrong
           (λ less. absurd (omega arith)) (λ less. absurd (omega arith));
     }
     go (Err InfoNotAllowed) e outcome = record {
@@ -318,7 +318,7 @@ framed_decided at response address control field sent octet octets is_read =
             outcome.1,
         outcome.2,
       );
-      none_before = before_5 (λ other. HasFault other at (address ∷ control ∷ field)) 4 (omega arith) short wrong
+      none_before = before_5 (λ other. HasFault other at info (address ∷ control ∷ field)) 4 (omega arith) short wrong
           (λ less fault. fault (record { content = outcome.0; response = response; pf = has_bit control 16 })
           field (head outcome.0 outcome.1)) (λ less. absurd (omega arith));
     }
@@ -330,10 +330,10 @@ framed_decided at response address control field sent octet octets is_read =
             outcome.1,
         outcome.2,
       );
-      none_before = before_5 (λ other. HasFault other at (address ∷ control ∷ field)) 5 (omega arith) short wrong
+      none_before = before_5 (λ other. HasFault other at info (address ∷ control ∷ field)) 5 (omega arith) short wrong
           (λ less fault. fault (record { content = outcome.0; response = response; pf = has_bit control 16 })
           field (head outcome.0 outcome.1))
-          (λ less fault. refused_read at (address ∷ control ∷ field) fault (is_read ∙ ap (with_head response
+          (λ less fault. refused_read at info (address ∷ control ∷ field) fault (is_read ∙ ap (with_head response
           (has_bit control 16)) e));
     }
 
@@ -343,49 +343,49 @@ other_address : (at : Role) (address : ℕ) → nat_eq address (address_of (othe
 other_address Dte address command response = (eqb-false address 0x01 response, eqb-false address 0x03 command)
 other_address Dce address command response = (eqb-false address 0x01 command, eqb-false address 0x03 response)
 
-read_by : (at : Role) (address control : ℕ) (field : List ℕ) (response : Bool) → address ≡ address_of (other_of at)
-    response → reading at (address ∷ control ∷ field) ≡ with_head response (has_bit control 16) (content_read
+read_by : (at : Role) (info : ℕ) (address control : ℕ) (field : List ℕ) (response : Bool) → address ≡ address_of (other_of at)
+    response → reading at info (address ∷ control ∷ field) ≡ with_head response (has_bit control 16) (content_read info
     response control field)
-read_by at address control field response e = ap (λ a. reading at (a ∷ control ∷ field)) e ∙ reading-address_of at
+read_by at info address control field response e = ap (λ a. reading at info (a ∷ control ∷ field)) e ∙ reading-address_of at info
     response control field
 
 -- every text is decided
-pub reading_decided : (at : Role) (bytes : List ℕ) → AreOctets bytes → IsDecided at bytes (reading at bytes)
-reading_decided at [] octets = record { has = omega arith; none_before = before_1 (λ other. HasFault other at []) }
-reading_decided at (address ∷ []) octets = record {
+pub reading_decided : (at : Role) (info : ℕ) (bytes : List ℕ) → AreOctets bytes → IsDecided at info bytes (reading at info bytes)
+reading_decided at info [] octets = record { has = omega arith; none_before = before_1 (λ other. HasFault other at info []) }
+reading_decided at info (address ∷ []) octets = record {
   has = omega arith;
   none_before = before_1 (λ other. HasFault
-      other at (address ∷ []));
+      other at info (address ∷ []));
 }
-reading_decided at (address ∷ control ∷ field) octets =
+reading_decided at info (address ∷ control ∷ field) octets =
     let control_is : control < 256 = octets 1 in
     let rest : AreOctets field = octets_after address control field octets in
-    cond_by (λ b. IsDecided at (address ∷ control ∷ field) (if b then with_head false (has_bit control 16)
-    (content_read false control field) else if nat_eq address (address_of (other_of at) true) then with_head
-    true (has_bit control 16) (content_read true control field) else Err WrongAddress)) (nat_eq address
+    cond_by (λ b. IsDecided at info (address ∷ control ∷ field) (if b then with_head false (has_bit control 16)
+    (content_read info false control field) else if nat_eq address (address_of (other_of at) true) then with_head
+    true (has_bit control 16) (content_read info true control field) else Err WrongAddress)) (nat_eq address
     (address_of (other_of at) false))
-    (λ is. let e = eqb-true address (address_of (other_of at) false) is in framed_decided at false address control
-    field e control_is rest (read_by at address control field false e))
-    (λ isnt. cond_by (λ b. IsDecided at (address ∷ control ∷ field) (if b then with_head true (has_bit control 16)
-    (content_read true control field) else Err WrongAddress)) (nat_eq address (address_of (other_of at) true))
-    (λ is. let e = eqb-true address (address_of (other_of at) true) is in framed_decided at true address control
-    field e control_is rest (read_by at address control field true e))
+    (λ is. let e = eqb-true address (address_of (other_of at) false) is in framed_decided at info false address control
+    field e control_is rest (read_by at info address control field false e))
+    (λ isnt. cond_by (λ b. IsDecided at info (address ∷ control ∷ field) (if b then with_head true (has_bit control 16)
+    (content_read info true control field) else Err WrongAddress)) (nat_eq address (address_of (other_of at) true))
+    (λ is. let e = eqb-true address (address_of (other_of at) true) is in framed_decided at info true address control
+    field e control_is rest (read_by at info address control field true e))
     (λ neither. record {
       has = other_address at address isnt neither;
       none_before = before_2 (λ other. HasFault
-          other at (address ∷ control ∷ field)) (λ less. omega arith);
+          other at info (address ∷ control ∷ field)) (λ less. omega arith);
     }))
 
 -- a text with a fault is a form of no frame
-pub fault_no_form : (fault : FrameFault) (at : Role) (bytes : List ℕ) (f : FrameValue) → HasFault fault at bytes →
-    FrameForm at bytes f → ⊥
-fault_no_form TooShort at bytes f fault form = let e = ap length form.head.octets in omega arith
-fault_no_form WrongAddress at bytes f fault form = address_known (other_of at) f.response (slice_index bytes 0) (ap
+pub fault_no_form : (fault : FrameFault) (at : Role) (info : ℕ) (bytes : List ℕ) (f : FrameValue) → HasFault fault at info bytes →
+    FrameForm at info bytes f → ⊥
+fault_no_form TooShort at info bytes f fault form = let e = ap length form.head.octets in omega arith
+fault_no_form WrongAddress at info bytes f fault form = address_known (other_of at) f.response (slice_index bytes 0) (ap
     (λ octets. slice_index octets 0) form.head.octets) fault.0 fault.1
-fault_no_form UnknownControl at bytes f fault form = fault f form.field form.head
-fault_no_form InfoNotAllowed at bytes f fault form = let a = refused_is at bytes fault in let b = reading_form at
+fault_no_form UnknownControl at info bytes f fault form = fault f form.field form.head
+fault_no_form InfoNotAllowed at info bytes f fault form = let a = refused_is at info bytes fault in let b = reading_form at info
     bytes f form in absurd (cc)
-fault_no_form InfoTooLong at bytes f fault form = let a = overlong_is at bytes fault in let b = reading_form at
+fault_no_form InfoTooLong at info bytes f fault form = let a = overlong_is at info bytes fault in let b = reading_form at info
     bytes f form in absurd (cc)
 
 -- no two faults stand at one place
@@ -416,36 +416,36 @@ same_place InfoTooLong UnknownControl e = absurd (omega arith)
 same_place InfoTooLong InfoNotAllowed e = absurd (omega arith)
 same_place InfoTooLong InfoTooLong e = refl
 
-first_is_one : (a b : FrameFault) (at : Role) (bytes : List ℕ) → IsFirstFault a at bytes → IsFirstFault b at bytes
+first_is_one : (a b : FrameFault) (at : Role) (info : ℕ) (bytes : List ℕ) → IsFirstFault a at info bytes → IsFirstFault b at info bytes
     → a ≡ b
-first_is_one a b at bytes p q = same_place a b (not_apart (place_of a) (place_of b) (λ less. q.none_before a less
+first_is_one a b at info bytes p q = same_place a b (not_apart (place_of a) (place_of b) (λ less. q.none_before a less
     p.has) (λ less. p.none_before b less q.has))
 
 -- the first fault of a text is what it is read as
-pub reading_fault : (fault : FrameFault) (at : Role) (bytes : List ℕ) → AreOctets bytes → IsFirstFault fault at
-    bytes → reading at bytes ≡ Err fault
-reading_fault fault at bytes octets first = go (reading at bytes) (reading_decided at bytes octets)
+pub reading_fault : (fault : FrameFault) (at : Role) (info : ℕ) (bytes : List ℕ) → AreOctets bytes → IsFirstFault fault at info
+    bytes → reading at info bytes ≡ Err fault
+reading_fault fault at info bytes octets first = go (reading at info bytes) (reading_decided at info bytes octets)
   where
-    go : (r : Result FrameValue FrameFault) → IsDecided at bytes r → r ≡ Err fault
-    go (Ok f) form = absurd (fault_no_form fault at bytes f first.has form)
-    go (Err other) second = ap (λ e. Err e) (first_is_one other fault at bytes second first)
+    go : (r : Result FrameValue FrameFault) → IsDecided at info bytes r → r ≡ Err fault
+    go (Ok f) form = absurd (fault_no_form fault at info bytes f first.has form)
+    go (Err other) second = ap (λ e. Err e) (first_is_one other fault at info bytes second first)
 
 -- a text is a form of at most one frame
-pub form_unique : (at : Role) (bytes : List ℕ) (f g : FrameValue) → FrameForm at bytes f → FrameForm at bytes g → f
+pub form_unique : (at : Role) (info : ℕ) (bytes : List ℕ) (f g : FrameValue) → FrameForm at info bytes f → FrameForm at info bytes g → f
     ≡ g
-form_unique at bytes f g p q = let a = reading_form at bytes f p in let b = reading_form at bytes g q in cc
+form_unique at info bytes f g p q = let a = reading_form at info bytes f p in let b = reading_form at info bytes g q in cc
 
 -- what is written is a form of what was meant, at the other end
-field_of_form : (content : Content) → FitsField content → FieldForm content (field_of content)
-field_of_form (I ns nr information) fits = (refl, fits)
-field_of_form (Rr nr) fits = refl
-field_of_form (Rnr nr) fits = refl
-field_of_form (Rej nr) fits = refl
-field_of_form Sabm fits = refl
-field_of_form Disc fits = refl
-field_of_form Dm fits = refl
-field_of_form Ua fits = refl
-field_of_form (Frmr report) fits = record {
+field_of_form : (info : ℕ) (content : Content) → FitsField info content → FieldForm info content (field_of content)
+field_of_form info (I ns nr information) fits = (refl, fits)
+field_of_form info (Rr nr) fits = refl
+field_of_form info (Rnr nr) fits = refl
+field_of_form info (Rej nr) fits = refl
+field_of_form info Sabm fits = refl
+field_of_form info Disc fits = refl
+field_of_form info Dm fits = refl
+field_of_form info Ua fits = refl
+field_of_form info (Frmr report) fits = record {
   spare = 0;
   spares = 0;
   spare_bit = omega arith;
@@ -459,8 +459,8 @@ other_other : (role : Role) → other_of (other_of role) ≡ role
 other_other Dte = refl
 other_other Dce = refl
 
-pub spelling_form : (from : Role) (f : FrameValue) → HasSpelling f → FrameForm (other_of from) (spelling from f) f
-spelling_form from f spelt = record {
+pub spelling_form : (from : Role) (info : ℕ) (f : FrameValue) → HasSpelling info f → FrameForm (other_of from) info (spelling from f) f
+spelling_form from info f spelt = record {
   field = field_of f.content;
   head = record {
     octets = ap (λ role. address_of role f.response ∷ control_of f.content f.pf ∷ field_of f.content) (sym
@@ -468,34 +468,34 @@ spelling_form from f spelt = record {
     goes_as = spelt.goes_as;
     numbers = spelt.numbers;
   };
-  form = field_of_form f.content spelt.fits;
+  form = field_of_form info f.content spelt.fits;
 }
 
 -- and is read back
-pub reading-spelling : (from : Role) (f : FrameValue) → HasSpelling f → reading (other_of from) (spelling from f) ≡
-    Ok f
-reading-spelling from f spelt = reading_form (other_of from) (spelling from f) f (spelling_form from f spelt)
+pub reading-spelling : (from : Role) (info : ℕ) (f : FrameValue) → HasSpelling info f
+    → reading (other_of from) info (spelling from f) ≡ Ok f
+reading-spelling from info f spelt =
+    reading_form (other_of from) info (spelling from f) f (spelling_form from info f spelt)
 
-pub spelled_form : (from : Role) (f : FrameValue) (bytes : List ℕ) → HasSpelling f → bytes ≡ spelling from f →
-    FrameForm (other_of from) bytes f
-spelled_form from f bytes spelt e = subst (λ octets. FrameForm (other_of from) octets f) (sym e) (spelling_form
-    from f spelt)
+pub spelled_form : (from : Role) (info : ℕ) (f : FrameValue) (bytes : List ℕ) → HasSpelling info f → bytes ≡ spelling from f →
+    FrameForm (other_of from) info bytes f
+spelled_form from info f bytes spelt e = subst (λ octets. FrameForm (other_of from) info octets f) (sym e) (spelling_form from info f spelt)
 
 -- what octets are a form of has a spelling
-fits_form : (content : Content) (field : List ℕ) → FieldForm content field → FitsField content
-fits_form (I ns nr information) field form = subst (λ octets. length octets ≤ 145) form.0 form.1
-fits_form (Rr nr) field form = tt
-fits_form (Rnr nr) field form = tt
-fits_form (Rej nr) field form = tt
-fits_form Sabm field form = tt
-fits_form Disc field form = tt
-fits_form Dm field form = tt
-fits_form Ua field form = tt
-fits_form (Frmr report) field form = tt
+fits_form : (info : ℕ) (content : Content) (field : List ℕ) → FieldForm info content field → FitsField info content
+fits_form info (I ns nr information) field form = subst (λ octets. length octets ≤ info) form.0 form.1
+fits_form info (Rr nr) field form = tt
+fits_form info (Rnr nr) field form = tt
+fits_form info (Rej nr) field form = tt
+fits_form info Sabm field form = tt
+fits_form info Disc field form = tt
+fits_form info Dm field form = tt
+fits_form info Ua field form = tt
+fits_form info (Frmr report) field form = tt
 
-pub form_spelt : (at : Role) (bytes : List ℕ) (f : FrameValue) → FrameForm at bytes f → HasSpelling f
-form_spelt at bytes f form = record {
+pub form_spelt : (at : Role) (info : ℕ) (bytes : List ℕ) (f : FrameValue) → FrameForm at info bytes f → HasSpelling info f
+form_spelt at info bytes f form = record {
   goes_as = form.head.goes_as;
   numbers = form.head.numbers;
-  fits = fits_form f.content form.field form.form;
+  fits = fits_form info f.content form.field form.form;
 }

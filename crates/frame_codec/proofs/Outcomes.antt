@@ -58,15 +58,15 @@ pub record IsNamed (response : Bool) (control : ℕ) (content : Content) : Type 
   pub numbers : HasNumbers content
 
 -- what the table says of what was read; of a control octet that is not known, no more than that
-abbrev pub Outcome : (response : Bool) (control : ℕ) (field : List ℕ) → Result Content FrameFault → Type 0
-Outcome response control field (Ok content) = IsNamed response control content × FieldForm content field
-Outcome response control field (Err TooShort) = ⊥
-Outcome response control field (Err WrongAddress) = ⊥
-Outcome response control field (Err UnknownControl) = Unit {0}
-Outcome response control field (Err InfoNotAllowed) = (content : Content) × IsNamed response control content ×
+abbrev pub Outcome : (info : ℕ) (response : Bool) (control : ℕ) (field : List ℕ) → Result Content FrameFault → Type 0
+Outcome info response control field (Ok content) = IsNamed response control content × FieldForm info content field
+Outcome info response control field (Err TooShort) = ⊥
+Outcome info response control field (Err WrongAddress) = ⊥
+Outcome info response control field (Err UnknownControl) = Unit {0}
+Outcome info response control field (Err InfoNotAllowed) = (content : Content) × IsNamed response control content ×
     IsNotAllowed content field
-Outcome response control field (Err InfoTooLong) = (content : Content) × IsNamed response control content ×
-    IsTooLong content field
+Outcome info response control field (Err InfoTooLong) = (content : Content) × IsNamed response control content ×
+    IsTooLong info content field
 
 cond_by : (P : Bool → Type 0) (b : Bool) → (b ≡ true → P true) → (b ≡ false → P false) → P b
 cond_by P true holds fails = holds refl
@@ -82,25 +82,25 @@ pub bit_of-has_bit : (octet power : ℕ) → bit_of (has_bit octet power) ≡ oc
 bit_of-has_bit octet power = bit_of_test (octet / power % 2) (omega arith)
 
 -- a frame without an information field
-bare_outcome : (response : Bool) (control : ℕ) (content : Content) (field : List ℕ) → IsNamed response control
-    content → (field ≡ [] → FieldForm content field) → (field ≢ [] → IsNotAllowed content field) → Outcome response
+bare_outcome : (info : ℕ) (response : Bool) (control : ℕ) (content : Content) (field : List ℕ) → IsNamed response control
+    content → (field ≡ [] → FieldForm info content field) → (field ≢ [] → IsNotAllowed content field) → Outcome info response
     control field (bare content field)
-bare_outcome response control content [] named form fault = (named, form refl)
-bare_outcome response control content (octet ∷ octets) named form fault = (content, named, fault (λ e. absurd (cc)))
+bare_outcome info response control content [] named form fault = (named, form refl)
+bare_outcome info response control content (octet ∷ octets) named form fault = (content, named, fault (λ e. absurd (cc)))
 
 -- an I frame
-information_outcome : (control : ℕ) (field : List ℕ) → control < 256 → control % 2 ≡ 0 → Outcome false control
-    field (information_read control field)
-information_outcome control field octet even =
+information_outcome : (info : ℕ) (control : ℕ) (field : List ℕ) → control < 256 → control % 2 ≡ 0 → Outcome info false control
+    field (information_read info control field)
+information_outcome info control field octet even =
     let named : IsNamed false control (I (control / 2 % 8) (control / 32) field) = record {
       control_is = omega (arith, bit_of-has_bit control 16);
       goes_as = refl;
       numbers = (omega arith, omega arith);
     } in
-    cond_by (λ b. Outcome false control field (if b then Ok (I (control / 2 % 8) (control / 32) field)
-    else Err InfoTooLong)) (nat_le (length field) 145)
-    (λ is. (named, (refl, leb-true (length field) 145 is)))
-    (λ isnt. (I (control / 2 % 8) (control / 32) field, named, leb-false (length field) 145 isnt))
+    cond_by (λ b. Outcome info false control field (if b then Ok (I (control / 2 % 8) (control / 32) field)
+    else Err InfoTooLong)) (nat_le (length field) info)
+    (λ is. (named, (refl, leb-true (length field) info is)))
+    (λ isnt. (I (control / 2 % 8) (control / 32) field, named, leb-false (length field) info isnt))
 
 -- the octets of a report
 report_form : (control states reasons : ℕ) → states < 256 → reasons < 256 →
@@ -151,9 +151,9 @@ no_report = record {
       false;
 }
 
-reject_outcome : (control : ℕ) (field : List ℕ) → AreOctets field → control ≡ bit_of (has_bit control 16) * 16 +
-    0x87 → Outcome true control field (report_read field)
-reject_outcome control [] octets is = (
+reject_outcome : (info : ℕ) (control : ℕ) (field : List ℕ) → AreOctets field → control ≡ bit_of (has_bit control 16) * 16 +
+    0x87 → Outcome info true control field (report_read field)
+reject_outcome info control [] octets is = (
   Frmr no_report,
   record {
     control_is = is;
@@ -163,7 +163,7 @@ reject_outcome control [] octets is = (
   },
   λ e. omega arith,
 )
-reject_outcome control (a ∷ []) octets is = (
+reject_outcome info control (a ∷ []) octets is = (
   Frmr no_report,
   record {
     control_is = is;
@@ -172,7 +172,7 @@ reject_outcome control (a ∷ []) octets is = (
   },
   λ e. omega arith,
 )
-reject_outcome control (a ∷ b ∷ []) octets is = (
+reject_outcome info control (a ∷ b ∷ []) octets is = (
   Frmr no_report,
   record {
     control_is = is;
@@ -181,7 +181,7 @@ reject_outcome control (a ∷ b ∷ []) octets is = (
   },
   λ e. omega arith,
 )
-reject_outcome control (a ∷ b ∷ c ∷ []) octets is =
+reject_outcome info control (a ∷ b ∷ c ∷ []) octets is =
     let first : a < 256 = octets 0 in
     let second : b < 256 = octets 1 in
     let third : c < 256 = octets 2 in (
@@ -189,7 +189,7 @@ reject_outcome control (a ∷ b ∷ c ∷ []) octets is =
       report_form a b c
           second third,
     )
-reject_outcome control (a ∷ b ∷ c ∷ d ∷ field) octets is = (
+reject_outcome info control (a ∷ b ∷ c ∷ d ∷ field) octets is = (
   Frmr no_report,
   record {
     control_is = is;
@@ -216,47 +216,46 @@ named_at response control n content e is goes numbers =
           numbers;
     }
 
-command_outcome : (control : ℕ) (field : List ℕ) → control < 256 → Outcome false control field (command_read
-    control field)
-command_outcome control field octet =
-    cond_by (λ b. Outcome false control field (if b then information_read control field else if nat_eq control 0x2F
+command_outcome : (info : ℕ) (control : ℕ) (field : List ℕ) → control < 256 → Outcome info false control field (command_read info control field)
+command_outcome info control field octet =
+    cond_by (λ b. Outcome info false control field (if b then information_read info control field else if nat_eq control 0x2F
     || nat_eq control 0x3F then bare Sabm field else if nat_eq control 0x43 || nat_eq control 0x53 then bare
     Disc field else Err UnknownControl)) (nat_eq (control % 2) 0)
-    (λ is. information_outcome control field octet (eqb-true (control % 2) 0 is))
-    (λ _. either_by (λ b. Outcome false control field (if b then bare Sabm field else if nat_eq control 0x43 ||
+    (λ is. information_outcome info control field octet (eqb-true (control % 2) 0 is))
+    (λ _. either_by (λ b. Outcome info false control field (if b then bare Sabm field else if nat_eq control 0x43 ||
     nat_eq control 0x53 then bare Disc field else Err UnknownControl)) control 0x2F 0x3F
-    (λ e. bare_outcome false control Sabm field (named_at false control 0x2F Sabm e refl refl tt) (λ p. p) (λ
+    (λ e. bare_outcome info false control Sabm field (named_at false control 0x2F Sabm e refl refl tt) (λ p. p) (λ
     p. p))
-    (λ e. bare_outcome false control Sabm field (named_at false control 0x3F Sabm e refl refl tt) (λ p. p) (λ
+    (λ e. bare_outcome info false control Sabm field (named_at false control 0x3F Sabm e refl refl tt) (λ p. p) (λ
     p. p))
-    (either_by (λ b. Outcome false control field (if b then bare Disc field else Err UnknownControl)) control
+    (either_by (λ b. Outcome info false control field (if b then bare Disc field else Err UnknownControl)) control
     0x43 0x53
-    (λ e. bare_outcome false control Disc field (named_at false control 0x43 Disc e refl refl tt) (λ p.
+    (λ e. bare_outcome info false control Disc field (named_at false control 0x43 Disc e refl refl tt) (λ p.
     p) (λ p. p))
-    (λ e. bare_outcome false control Disc field (named_at false control 0x53 Disc e refl refl tt) (λ p.
+    (λ e. bare_outcome info false control Disc field (named_at false control 0x53 Disc e refl refl tt) (λ p.
     p) (λ p. p))
     tt))
 
-response_outcome : (control : ℕ) (field : List ℕ) → AreOctets field → Outcome true control field (response_read
+response_outcome : (info : ℕ) (control : ℕ) (field : List ℕ) → AreOctets field → Outcome info true control field (response_read
     control field)
-response_outcome control field octets =
-    either_by (λ b. Outcome true control field (if b then bare Dm field else if nat_eq control 0x63
+response_outcome info control field octets =
+    either_by (λ b. Outcome info true control field (if b then bare Dm field else if nat_eq control 0x63
     || nat_eq control 0x73 then bare Ua field else if nat_eq control 0x87 || nat_eq control 0x97
     then report_read field else Err UnknownControl)) control 0x0F 0x1F
-    (λ e. bare_outcome true control Dm field (named_at true control 0x0F Dm e refl refl
+    (λ e. bare_outcome info true control Dm field (named_at true control 0x0F Dm e refl refl
     tt) (λ p. p) (λ p. p))
-    (λ e. bare_outcome true control Dm field (named_at true control 0x1F Dm e refl refl
+    (λ e. bare_outcome info true control Dm field (named_at true control 0x1F Dm e refl refl
     tt) (λ p. p) (λ p. p))
-    (either_by (λ b. Outcome true control field (if b then bare Ua field else if nat_eq control 0x87
+    (either_by (λ b. Outcome info true control field (if b then bare Ua field else if nat_eq control 0x87
     || nat_eq control 0x97 then report_read field else Err UnknownControl)) control 0x63 0x73
-    (λ e. bare_outcome true control Ua field (named_at true control 0x63 Ua e refl refl
+    (λ e. bare_outcome info true control Ua field (named_at true control 0x63 Ua e refl refl
     tt) (λ p. p) (λ p. p))
-    (λ e. bare_outcome true control Ua field (named_at true control 0x73 Ua e refl refl
+    (λ e. bare_outcome info true control Ua field (named_at true control 0x73 Ua e refl refl
     tt) (λ p. p) (λ p. p))
-    (either_by (λ b. Outcome true control field (if b then report_read field else Err UnknownControl)) control 0x87
+    (either_by (λ b. Outcome info true control field (if b then report_read field else Err UnknownControl)) control 0x87
     0x97
-    (λ e. reject_outcome control field octets (subst (λ n. n ≡ bit_of (has_bit n 16) * 16 + 0x87) (sym e) refl))
-    (λ e. reject_outcome control field octets (subst (λ n. n ≡ bit_of (has_bit n 16) * 16 + 0x87) (sym e) refl))
+    (λ e. reject_outcome info control field octets (subst (λ n. n ≡ bit_of (has_bit n 16) * 16 + 0x87) (sym e) refl))
+    (λ e. reject_outcome info control field octets (subst (λ n. n ≡ bit_of (has_bit n 16) * 16 + 0x87) (sym e) refl))
     tt))
 
 -- a supervisory frame
@@ -266,28 +265,25 @@ supervisory_named : (response : Bool) (control low : ℕ) (content : Content) �
 supervisory_named response control low content spelt is goes numbers =
     record { control_is = omega (arith, bit_of-has_bit control 16, spelt); goes_as = goes; numbers = numbers }
 
-pub content_outcome : (response : Bool) (control : ℕ) (field : List ℕ) → control < 256 → AreOctets field → Outcome
-    response control field (content_read response control field)
-content_outcome response control field octet octets =
-    cond_by (λ b. Outcome response control field (if b then bare (Rr (control / 32)) field else if nat_eq
+pub content_outcome : (info : ℕ) (response : Bool) (control : ℕ) (field : List ℕ) → control < 256 → AreOctets field → Outcome info response control field (content_read info response control field)
+content_outcome info response control field octet octets =
+    cond_by (λ b. Outcome info response control field (if b then bare (Rr (control / 32)) field else if nat_eq
     (control % 16) 0x05 then bare (Rnr (control / 32)) field else if nat_eq (control % 16) 0x09
-    then bare (Rej (control / 32)) field else if response then response_read control field else command_read
-    control field)) (nat_eq (control % 16) 0x01)
-    (λ is. bare_outcome response control (Rr (control / 32)) field (supervisory_named response control
+    then bare (Rej (control / 32)) field else if response then response_read control field else command_read info control field)) (nat_eq (control % 16) 0x01)
+    (λ is. bare_outcome info response control (Rr (control / 32)) field (supervisory_named response control
     0x01 (Rr (control / 32)) refl (eqb-true (control % 16) 0x01 is) tt (omega arith)) (λ p. p) (λ p. p))
-    (λ _. cond_by (λ b. Outcome response control field (if b then bare (Rnr (control / 32)) field else
+    (λ _. cond_by (λ b. Outcome info response control field (if b then bare (Rnr (control / 32)) field else
     if nat_eq (control % 16) 0x09 then bare (Rej (control / 32)) field else if response then response_read
-    control field else command_read control field)) (nat_eq (control % 16) 0x05)
-    (λ is. bare_outcome response control (Rnr (control / 32)) field (supervisory_named response control
+    control field else command_read info control field)) (nat_eq (control % 16) 0x05)
+    (λ is. bare_outcome info response control (Rnr (control / 32)) field (supervisory_named response control
     0x05 (Rnr (control / 32)) refl (eqb-true (control % 16) 0x05 is) tt (omega arith)) (λ p. p) (λ
     p. p))
-    (λ _. cond_by (λ b. Outcome response control field (if b then bare (Rej (control / 32)) field else if
-    response then response_read control field else command_read control field)) (nat_eq (control % 16) 0x09)
-    (λ is. bare_outcome response control (Rej (control / 32)) field (supervisory_named response control 0x09
+    (λ _. cond_by (λ b. Outcome info response control field (if b then bare (Rej (control / 32)) field else if
+    response then response_read control field else command_read info control field)) (nat_eq (control % 16) 0x09)
+    (λ is. bare_outcome info response control (Rej (control / 32)) field (supervisory_named response control 0x09
     (Rej (control / 32)) refl (eqb-true (control % 16) 0x09 is) tt (omega arith)) (λ p. p) (λ p. p))
-    (λ _. elim response as (λ b. Outcome b control field (if b then response_read control field else command_read
-    control field)) [
-      | true ↦ response_outcome control field octets
-      | false ↦ command_outcome control field
+    (λ _. elim response as (λ b. Outcome info b control field (if b then response_read control field else command_read info control field)) [
+      | true ↦ response_outcome info control field octets
+      | false ↦ command_outcome info control field
           octet
     ])))

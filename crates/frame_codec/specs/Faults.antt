@@ -23,7 +23,6 @@ use Rattle.frame_codec.specs.Frame.{
   FrameValue,
 }
 use Rattle.frame_codec.specs.FrameForm.{IsHead}
-use Rattle.frame_codec.specs.Spelling.{most_information}
 
 -- the frame may not have this information field, whatever the length of what an I frame carries
 abbrev pub IsNotAllowed : Content → List ℕ → Type 0
@@ -37,26 +36,26 @@ IsNotAllowed Dm field = field ≢ []
 IsNotAllowed Ua field = field ≢ []
 IsNotAllowed (Frmr report) field = length field ≢ 3
 
--- an I frame with too many octets of information
-abbrev pub IsTooLong : Content → List ℕ → Type 0
-IsTooLong (I ns nr information) field = most_information < length field
-IsTooLong (Rr nr) field = ⊥
-IsTooLong (Rnr nr) field = ⊥
-IsTooLong (Rej nr) field = ⊥
-IsTooLong Sabm field = ⊥
-IsTooLong Disc field = ⊥
-IsTooLong Dm field = ⊥
-IsTooLong Ua field = ⊥
-IsTooLong (Frmr report) field = ⊥
+-- an I frame with more than so many octets of information
+abbrev pub IsTooLong : (info : ℕ) → Content → List ℕ → Type 0
+IsTooLong info (I ns nr information) field = info < length field
+IsTooLong info (Rr nr) field = ⊥
+IsTooLong info (Rnr nr) field = ⊥
+IsTooLong info (Rej nr) field = ⊥
+IsTooLong info Sabm field = ⊥
+IsTooLong info Disc field = ⊥
+IsTooLong info Dm field = ⊥
+IsTooLong info Ua field = ⊥
+IsTooLong info (Frmr report) field = ⊥
 
--- the octets, received at an end of this role, have the fault
-abbrev pub HasFault : FrameFault → Role → List ℕ → Type 0
-HasFault TooShort at bytes = length bytes < 2
-HasFault WrongAddress at bytes = (slice_index bytes 0 ≢ 0x01) × (slice_index bytes 0 ≢ 0x03)
-HasFault UnknownControl at bytes = (f : FrameValue) (field : List ℕ) → IsHead at bytes f field → ⊥
-HasFault InfoNotAllowed at bytes = (f : FrameValue) × (field : List ℕ) × IsHead at bytes f field × IsNotAllowed
+-- the octets, received at an end of this role of a line whose I frames carry at most so many octets, have the fault
+abbrev pub HasFault : FrameFault → Role → (info : ℕ) → List ℕ → Type 0
+HasFault TooShort at info bytes = length bytes < 2
+HasFault WrongAddress at info bytes = (slice_index bytes 0 ≢ 0x01) × (slice_index bytes 0 ≢ 0x03)
+HasFault UnknownControl at info bytes = (f : FrameValue) (field : List ℕ) → IsHead at bytes f field → ⊥
+HasFault InfoNotAllowed at info bytes = (f : FrameValue) × (field : List ℕ) × IsHead at bytes f field × IsNotAllowed
     f.content field
-HasFault InfoTooLong at bytes = (f : FrameValue) × (field : List ℕ) × IsHead at bytes f field × IsTooLong f.content
+HasFault InfoTooLong at info bytes = (f : FrameValue) × (field : List ℕ) × IsHead at bytes f field × IsTooLong info f.content
     field
 
 -- the place of a fault in the order in which they are tested
@@ -68,6 +67,6 @@ place_of InfoNotAllowed = 4
 place_of InfoTooLong = 5
 
 -- the fault is the first that the octets have
-pub record IsFirstFault (fault : FrameFault) (at : Role) (bytes : List ℕ) : Type 0 where
-  pub has : HasFault fault at bytes
-  pub none_before : (other : FrameFault) → place_of other < place_of fault → HasFault other at bytes → ⊥
+pub record IsFirstFault (fault : FrameFault) (at : Role) (info : ℕ) (bytes : List ℕ) : Type 0 where
+  pub has : HasFault fault at info bytes
+  pub none_before : (other : FrameFault) → place_of other < place_of fault → HasFault other at info bytes → ⊥

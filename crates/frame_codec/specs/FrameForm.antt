@@ -17,7 +17,6 @@ use Rattle.frame_codec.specs.Frame.{
   FrameValue,
 }
 use Rattle.frame_codec.specs.Spelling.{address_of, control_of, states_of, reasons_of, GoesAs, HasNumbers}
-use Rattle.frame_codec.specs.Spelling.{most_information}
 
 -- three octets are a form of the report: bit 1 of the second and bits 5 to 8 of the third are not looked at
 pub record ReportForm (report : Report) (field : List ℕ) : Type 0 where
@@ -27,17 +26,17 @@ pub record ReportForm (report : Report) (field : List ℕ) : Type 0 where
   pub spare_bits : spares < 16
   pub octets : field ≡ report.control ∷ (states_of report + spare) ∷ (spares * 16 + reasons_of report) ∷ []
 
--- the information field is a form of what the frame says there
-abbrev pub FieldForm : Content → List ℕ → Type 0
-FieldForm (I ns nr information) field = (field ≡ information) × (length field ≤ most_information)
-FieldForm (Rr nr) field = field ≡ []
-FieldForm (Rnr nr) field = field ≡ []
-FieldForm (Rej nr) field = field ≡ []
-FieldForm Sabm field = field ≡ []
-FieldForm Disc field = field ≡ []
-FieldForm Dm field = field ≡ []
-FieldForm Ua field = field ≡ []
-FieldForm (Frmr report) field = ReportForm report field
+-- the information field is a form of what the frame says there, and that of an I frame has at most so many octets
+abbrev pub FieldForm : (info : ℕ) → Content → List ℕ → Type 0
+FieldForm info (I ns nr information) field = (field ≡ information) × (length field ≤ info)
+FieldForm info (Rr nr) field = field ≡ []
+FieldForm info (Rnr nr) field = field ≡ []
+FieldForm info (Rej nr) field = field ≡ []
+FieldForm info Sabm field = field ≡ []
+FieldForm info Disc field = field ≡ []
+FieldForm info Dm field = field ≡ []
+FieldForm info Ua field = field ≡ []
+FieldForm info (Frmr report) field = ReportForm report field
 
 -- the text begins with the address and the control octet of a frame that the other end may send, and this field
 -- follows
@@ -46,8 +45,9 @@ pub record IsHead (at : Role) (bytes : List ℕ) (f : FrameValue) (field : List 
   pub goes_as : GoesAs f.content f.response
   pub numbers : HasNumbers f.content
 
--- the octets, received at an end of this role, are a form of the frame
-pub record FrameForm (at : Role) (bytes : List ℕ) (f : FrameValue) : Type 0 where
+-- the octets, received at an end of this role of a line whose I frames carry at most so many octets, are a form of
+-- the frame
+pub record FrameForm (at : Role) (info : ℕ) (bytes : List ℕ) (f : FrameValue) : Type 0 where
   pub field : List ℕ
   pub head : IsHead at bytes f field
-  pub form : FieldForm f.content field
+  pub form : FieldForm info f.content field

@@ -93,28 +93,28 @@ HasNumbers Dm = Unit {0}
 HasNumbers Ua = Unit {0}
 HasNumbers (Frmr report) = (report.control < 256) × (report.vs < 8) × (report.vr < 8)
 
--- the most octets of information that an I frame carries: a packet
+-- the most octets of information that an I frame carries on any line: a packet
 abbrev pub most_information : ℕ
-most_information = 145
+most_information = 1028
 
 -- the most octets of a frame: address, control and information
 abbrev pub most_octets : ℕ
-most_octets = 147
+most_octets = 1030
 
 -- an I frame carries at most so many octets
-abbrev pub FitsField : Content → Type 0
-FitsField (I ns nr information) = length information ≤ most_information
-FitsField (Rr nr) = Unit {0}
-FitsField (Rnr nr) = Unit {0}
-FitsField (Rej nr) = Unit {0}
-FitsField Sabm = Unit {0}
-FitsField Disc = Unit {0}
-FitsField Dm = Unit {0}
-FitsField Ua = Unit {0}
-FitsField (Frmr report) = Unit {0}
+abbrev pub FitsField : (info : ℕ) → Content → Type 0
+FitsField info (I ns nr information) = length information ≤ info
+FitsField info (Rr nr) = Unit {0}
+FitsField info (Rnr nr) = Unit {0}
+FitsField info (Rej nr) = Unit {0}
+FitsField info Sabm = Unit {0}
+FitsField info Disc = Unit {0}
+FitsField info Dm = Unit {0}
+FitsField info Ua = Unit {0}
+FitsField info (Frmr report) = Unit {0}
 
--- what has a spelling
-pub record HasSpelling (f : FrameValue) : Type 0 where
+-- what has a spelling on a line whose I frames carry at most so many octets
+pub record HasSpelling (info : ℕ) (f : FrameValue) : Type 0 where
   pub goes_as : GoesAs f.content f.response
   pub numbers : HasNumbers f.content
-  pub fits : FitsField f.content
+  pub fits : FitsField info f.content

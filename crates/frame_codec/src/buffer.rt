@@ -4,11 +4,11 @@ ghost use Rattle.frame_codec.specs.Spelling.{most_octets};
 
 use std::marker::Model;
 
-/// The most octets of information that an I frame carries: a packet.
-pub const MAX_INFORMATION: usize = 145;
+/// The most octets of information that an I frame carries on any line: a packet.
+pub const MAX_INFORMATION: usize = 1028;
 
 /// The most octets of a frame: address, control and information.
-pub const MAX_FRAME: usize = 147;
+pub const MAX_FRAME: usize = 1030;
 
 /// Room for the octets of one frame.
 #[derive(Drop)]

@@ -16,7 +16,7 @@ pub enum FrameFault {
     /// There is an information field where the frame has none, or a Frame Reject without exactly three octets.
     #[error("information not allowed")]
     InfoNotAllowed,
-    /// The information field of an I frame is longer than [`MAX_INFORMATION`](crate::MAX_INFORMATION) octets.
+    /// The information field of an I frame is longer than the line admits.
     #[error("information too long")]
     InfoTooLong,
 }

@@ -1,5 +1,5 @@
 //! Octets are read as a frame.
-ghost use Rattle.std.specs.Prelude.{◌≡◌, ◌==◌, ◌%◌, IfOk, IfErr};
+ghost use Rattle.std.specs.Prelude.{◌≡◌, ◌==◌, ◌%◌, ℕ, IfOk, IfErr};
 ghost use Rattle.frame_codec.specs.declared.fault.FrameFault.{FrameFault};
 ghost use Rattle.frame_codec.specs.Frame.{FrameValue};
 ghost use Rattle.frame_codec.specs.FrameForm.{FrameForm};
@@ -17,7 +17,6 @@ ghost use Rattle.frame_codec.specs.Reading.{
   reading,
 };
 
-use crate::buffer::MAX_INFORMATION;
 use crate::fault::FrameFault;
 use crate::fields::{address_octet, is_set, receive_number, send_number};
 use crate::frame::{Frame, FrameKind, Rejection};
@@ -25,35 +24,38 @@ use link_timers::Role;
 
 /// Reads a frame that an end of this role receives (ISO 7776 3 and 4). The information field stays where it is.
 ///
+/// `info` is the most octets of information that an I frame of the line carries. A tool that reads frames of any line
+/// gives [`MAX_INFORMATION`](crate::MAX_INFORMATION).
+///
 /// Of several faults the first in the order of [`FrameFault`] is answered. The bits of a report that have no meaning
 /// are not looked at.
 #[inline(always)]
-pub fn read_frame(bytes: &[u8], at: Role) -> Result<Frame<'_>, FrameFault>
+pub fn read_frame(bytes: &[u8], at: Role, info: u16) -> Result<Frame<'_>, FrameFault>
     // What is read is what the octets are a form of.
-    ensures form { IfOk result (λ frame. FrameForm at bytes.now (value_of frame)) }
-    ensures every_form { (f : FrameValue) → FrameForm at bytes.now f → frame_read result ≡ Ok f }
+    ensures form { IfOk result (λ frame. FrameForm at info bytes.now (value_of frame)) }
+    ensures every_form { (f : FrameValue) → FrameForm at info bytes.now f → frame_read result ≡ Ok f }
 
     // Each fault comes exactly where it is the first that the octets have.
-    ensures fault { IfErr result (λ fault. IsFirstFault fault at bytes.now) }
-    ensures every_fault { (fault : FrameFault) → IsFirstFault fault at bytes.now → result ≡ Err fault }
+    ensures fault { IfErr result (λ fault. IsFirstFault fault at info bytes.now) }
+    ensures every_fault { (fault : FrameFault) → IsFirstFault fault at info bytes.now → result ≡ Err fault }
 
     // The same as a function of the octets.
-    ensures reading { frame_read result ≡ reading at bytes.now }
+    ensures reading { frame_read result ≡ reading at info bytes.now }
 {
-    frame_in(bytes, at)
+    frame_in(bytes, at, info)
 }
 
 #[inline(always)]
-fn frame_in(bytes: &[u8], at: Role) -> Result<Frame<'_>, FrameFault>
-    ensures { frame_read result ≡ reading at bytes.now }
+fn frame_in(bytes: &[u8], at: Role, info: u16) -> Result<Frame<'_>, FrameFault>
+    ensures { frame_read result ≡ reading at info bytes.now }
 {
     let [address, control, field @ ..] = bytes else {
         return Err(FrameFault::TooShort);
     };
     if *address == address_octet(at.other(), false) {
-        framed(false, *control, field)
+        framed(false, *control, field, info)
     } else if *address == address_octet(at.other(), true) {
-        framed(true, *control, field)
+        framed(true, *control, field, info)
     } else {
         Err(FrameFault::WrongAddress)
     }
@@ -61,10 +63,10 @@ fn frame_in(bytes: &[u8], at: Role) -> Result<Frame<'_>, FrameFault>
 
 // What follows the address octet.
 #[inline(always)]
-fn framed(response: bool, control: u8, field: &[u8]) -> Result<Frame<'_>, FrameFault>
-    ensures { frame_read result ≡ with_head response (has_bit control 16) (content_read response control field.now) }
+fn framed(response: bool, control: u8, field: &[u8], info: u16) -> Result<Frame<'_>, FrameFault>
+    ensures { frame_read result ≡ with_head response (has_bit control 16) (content_read info response control field.now) }
 {
-    let kind = kind_in(control, response, field)?;
+    let kind = kind_in(control, response, field, info)?;
     Ok(Frame {
         kind,
         response,
@@ -73,12 +75,17 @@ fn framed(response: bool, control: u8, field: &[u8]) -> Result<Frame<'_>, FrameF
 }
 
 #[inline(always)]
-fn kind_in(control: u8, response: bool, field: &[u8]) -> Result<FrameKind<'_>, FrameFault>
-    ensures { kind_read result ≡ content_read response control field.now }
+fn kind_in(
+    control: u8,
+    response: bool,
+    field: &[u8],
+    info: u16,
+) -> Result<FrameKind<'_>, FrameFault>
+    ensures { kind_read result ≡ content_read info response control field.now }
 {
     let nr = receive_number(control);
     match control % 16 {
-        low if low % 2 == 0 && !response => information_in(control, field),
+        low if low % 2 == 0 && !response => information_in(control, field, info),
         0x01 => bare_frame(FrameKind::Rr { nr }, field),
         0x05 => bare_frame(FrameKind::Rnr { nr }, field),
         0x09 => bare_frame(FrameKind::Rej { nr }, field),
@@ -90,7 +97,7 @@ fn kind_in(control: u8, response: bool, field: &[u8]) -> Result<FrameKind<'_>, F
 // What is a command alone and no I frame.
 fn command_in(control: u8, field: &[u8]) -> Result<FrameKind<'_>, FrameFault>
     requires { control % 2 ≡ 1 }
-    ensures { kind_read result ≡ command_read control field.now }
+    ensures { (info : ℕ) → kind_read result ≡ command_read info control field.now }
 {
     match control {
         0x2F | 0x3F => bare_frame(FrameKind::Sabm, field),
@@ -112,10 +119,10 @@ fn response_in(control: u8, field: &[u8]) -> Result<FrameKind<'_>, FrameFault>
 }
 
 #[inline(always)]
-fn information_in(control: u8, field: &[u8]) -> Result<FrameKind<'_>, FrameFault>
-    ensures { kind_read result ≡ information_read control field.now }
+fn information_in(control: u8, field: &[u8], info: u16) -> Result<FrameKind<'_>, FrameFault>
+    ensures { kind_read result ≡ information_read info control field.now }
 {
-    if field.len() > MAX_INFORMATION {
+    if field.len() > usize::from(info) {
         return Err(FrameFault::InfoTooLong);
     }
     Ok(FrameKind::I {

@@ -1,5 +1,5 @@
 //! A frame is written as octets.
-ghost use Rattle.std.specs.Prelude.{◌≡◌, ◌<◌};
+ghost use Rattle.std.specs.Prelude.{◌≡◌, ◌<◌, ℕ};
 ghost use Rattle.link_timers.specs.Role.{other_of};
 ghost use Rattle.frame_codec.specs.FrameForm.{FrameForm};
 ghost use Rattle.frame_codec.specs.Views.{report_of, content_of, value_of};
@@ -8,6 +8,7 @@ ghost use Rattle.frame_codec.specs.Spelling.{
   states_of,
   reasons_of,
   spelling,
+  most_information,
   HasNumbers,
   HasSpelling,
 };
@@ -24,11 +25,12 @@ use link_timers::Role;
 /// that its kind has: I frames, SABM and DISC are commands, DM, UA and FRMR are responses.
 #[inline(always)]
 pub fn write_frame(frame: &Frame<'_>, from: Role, out: &mut FrameBuf)
-    requires { HasSpelling (value_of frame.now) }
+    requires { HasSpelling most_information (value_of frame.now) }
     ensures octets { out.new ≡ spelling from (value_of frame.now) }
 
-    // The other end reads it back.
-    ensures reads_back { FrameForm (other_of from) out.new (value_of frame.now) }
+    // The other end reads it back, on each line whose I frames carry as many octets.
+    ensures reads_back { (info : ℕ) → HasSpelling info (value_of frame.now)
+        → FrameForm (other_of from) info out.new (value_of frame.now) }
 {
     out.clear();
     out.push(address_octet(from, frame.response));

@@ -174,11 +174,11 @@ fault_accepts l InfoNotAllowed bytes = defect_accepts l.phase l InformationNotAl
 fault_accepts l InfoTooLong bytes = defect_accepts l.phase l InformationTooLong _ _
 
 -- the packet of an I frame stands behind its control octet
-packet_is : (at : Role) (bytes : Octets) (f : FrameValue) → FrameForm at bytes f → (packet : Octets) → packet_in
+packet_is : (at : Role) (info : ℕ) (bytes : Octets) (f : FrameValue) → FrameForm at info bytes f → (packet : Octets) → packet_in
     f.content ≡ Some packet → packet ≡ drop 2 bytes
-packet_is at bytes f form packet e = go f.content form.form e ∙ sym (ap (drop 2) form.head.octets)
+packet_is at info bytes f form packet e = go f.content form.form e ∙ sym (ap (drop 2) form.head.octets)
   where
-    go : (content : Content) → FieldForm content form.field → packet_in content ≡ Some packet → packet ≡ form.field
+    go : (content : Content) → FieldForm info content form.field → packet_in content ≡ Some packet → packet ≡ form.field
     go (I ns nr other) field e = let same : other ≡ packet = cc in sym same ∙ sym field.0
     go (Rr nr) field e = absurd (cc)
     go (Rnr nr) field e = absurd (cc)
@@ -191,11 +191,11 @@ packet_is at bytes f form packet e = go f.content form.form e ∙ sym (ap (drop 
 
 pub accepted_is : (l : Link) (bytes : Octets) → AreOctets bytes → (packet : Octets) → (on_octets l bytes).accepted
     ≡ Some packet → packet ≡ drop 2 bytes
-accepted_is l bytes octets packet e = go (reading l.role bytes) (reading_decided l.role bytes octets) e
+accepted_is l bytes octets packet e = go (reading l.role l.info bytes) (reading_decided l.role l.info bytes octets) e
   where
-    go : (read : Result FrameValue FrameFault) → IsDecided l.role bytes read → (on_reading l bytes read).accepted ≡
+    go : (read : Result FrameValue FrameFault) → IsDecided l.role l.info bytes read → (on_reading l bytes read).accepted ≡
         Some packet → packet ≡ drop 2 bytes
-    go (Ok frame) form accepted = packet_is l.role bytes frame form packet (content_accepts frame.content l.role l
+    go (Ok frame) form accepted = packet_is l.role l.info bytes frame form packet (content_accepts frame.content l.role l
         frame.response frame.pf packet accepted)
     go (Err fault) first accepted = let none : ◌≡◌ {A = Option Octets} None (Some packet) = fault_accepts l fault
         bytes packet accepted in absurd (cc)

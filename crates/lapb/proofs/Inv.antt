@@ -7,9 +7,9 @@ use Rattle.link_timers.specs.declared.role.Role.{Role}
 use Rattle.link_timers.specs.declared.role.Role.TheVariants.{Dte, Dce}
 use Rattle.frame_codec.specs.Frame.{FrameValue}
 use Rattle.lapb.specs.declared.phase.Phase.{Phase}
-use Rattle.lapb.specs.Machine.{Octets}
+use Rattle.lapb.specs.Machine.{Octets, remade}
 use Rattle.lapb.specs.Named.{with_packet}
-use Rattle.lapb.specs.World.{Sent, World, logged, stamped, kept_of, remade, IsPrefix}
+use Rattle.lapb.specs.World.{Sent, World, logged, stamped, kept_of, IsPrefix}
 use Rattle.lapb.proofs.Cases.{cond_by, phase_by}
 use Rattle.lapb.proofs.Halves.{Half, half-lost, half-lost_back, half-emptied, half-x_out, half-y_out}
 use Rattle.lapb.proofs.Flights.{NoSabmOf, NoSabm, NoAnswer, NoNumbered, NoneOf, Stamped, Ups, ups-lower, Downs}

@@ -1,15 +1,16 @@
 -- What the calls of the nodes, losses and restarts make of a line: each is an event of two links, and the line stands
 -- on.
 use Rattle.std.specs.Prelude.{◌≡◌, ℕ, ◌≤◌, Bool, true, false, List, [], ◌∷◌, ◌++◌, length, drop, map}
-use Rattle.std.proofs.Common.{refl, sym, ap, ◌∙◌}
+use Rattle.std.proofs.Common.{refl, sym, ap, ◌∙◌, subst}
 use Rattle.link_timers.specs.declared.role.Role.{Role}
 use Rattle.link_timers.specs.declared.role.Role.TheVariants.{Dte, Dce}
 use Rattle.frame_codec.specs.Frame.{FrameValue}
 use Rattle.frame_codec.specs.Spelling.{spelling}
-use Rattle.lapb.specs.Machine.{Octets, Link, Step, on_frame, on_t1, relink, settle, offer, new}
+use Rattle.lapb.specs.Machine.{Octets, Link, Step, on_frame, on_t1, relink, settle, offer, new, remade}
 use Rattle.lapb.specs.World.{Sent, World, Event, Offer, Deliver, Lose, Expire, Relink, Settle, Restart, stamped}
-use Rattle.lapb.specs.World.{kept_of, dte_does, dce_does, dce_enters, to_dte, to_dce, without_first, remade, Params}
+use Rattle.lapb.specs.World.{kept_of, dte_does, dce_does, dce_enters, to_dte, to_dce, without_first}
 use Rattle.lapb.specs.World.{opening, happens, act_after}
+use Rattle.lapb.specs.declared.link.LinkParams.{LinkParams}
 use Rattle.lapb.specs.Octets.{on_octets}
 use Rattle.lapb.specs.Fits.{AllSpelt, IsShort, octets_of}
 use Rattle.lapb.specs.Line.{chosen, StandsIn}
@@ -58,11 +59,12 @@ head_spelt : (from : Role) (s : Sent) (rest : List Sent) (bytes : Octets) (octet
 head_spelt from s rest bytes octets e = (cc, cc)
 
 -- a line as it is made
-pub stands_opening : (standing : Bool) (dte dce : Params) → dte.k ≤ 7 → dce.k ≤ 7 →
-    StandsIn (opening standing dte dce) (new Dte dte.k dte.n2 standing) (new Dce dce.k dce.n2 standing) [] []
-stands_opening standing dte dce few few' = record {
+pub stands_opening : (standing : Bool) (dte dce : LinkParams) → dte.k ≤ 7 → dce.k ≤ 7 → dte.info ≡ dce.info →
+    StandsIn (opening standing dte dce) (new Dte (record dte { standing = standing }))
+    (new Dce (record dce { standing = standing })) [] []
+stands_opening standing dte dce few few' same = record {
   reached = reached_opening standing dte dce few few';
-  fit = fit_opening standing dte dce;
+  fit = fit_opening standing dte dce same;
   dte_is = refl;
   dce_is = refl;
   up_is = refl;
@@ -72,35 +74,41 @@ stands_opening standing dte dce few few' = record {
 -- ---- calls that take no frame
 
 module _ (w : World) (dte dce : Link) (up down : List Octets) where
-  pub stands_offer_dte : (packet : Octets) → length packet ≤ 145 → StandsIn w dte dce up down →
+  pub stands_offer_dte : (packet : Octets) → length packet ≤ dte.info → StandsIn w dte dce up down →
       StandsIn (happens w (Offer Dte packet)) (offer dte packet) dce up down
   stands_offer_dte packet short s = record {
     reached = reached_happens w (Offer Dte packet) s.reached;
-    fit = fit_happens w (Offer Dte packet) short s.fit;
+    fit = fit_happens w (Offer Dte packet) s.fit (fits short);
     dte_is = ap (λ l. offer l packet) s.dte_is;
     dce_is = s.dce_is;
     up_is = s.up_is;
     down_is = s.down_is;
   }
+    where
+      fits : length packet ≤ dte.info → length packet ≤ s.fit.info
+      fits short = subst (λ n. length packet ≤ n) (sym (ap (λ l. l.info) s.dte_is) ∙ s.fit.dte.info_is) short
 
-  pub stands_offer_dce : (packet : Octets) → length packet ≤ 145 → StandsIn w dte dce up down →
+  pub stands_offer_dce : (packet : Octets) → length packet ≤ dce.info → StandsIn w dte dce up down →
       StandsIn (happens w (Offer Dce packet)) dte (offer dce packet) up down
   stands_offer_dce packet short s = record {
     reached = reached_happens w (Offer Dce packet) s.reached;
-    fit = fit_happens w (Offer Dce packet) short s.fit;
+    fit = fit_happens w (Offer Dce packet) s.fit (fits short);
     dte_is = s.dte_is;
     dce_is = ap (λ l. offer l packet) s.dce_is;
     up_is = s.up_is;
     down_is = s.down_is;
   }
+    where
+      fits : length packet ≤ dce.info → length packet ≤ s.fit.info
+      fits short = subst (λ n. length packet ≤ n) (sym (ap (λ l. l.info) s.dce_is) ∙ s.fit.dce.info_is) short
 
   dte_stands : (kept : List Bool) (call : Link → Step) (event : Event) → happens w event ≡ dte_does w kept
-      (call w.dte) → IsShort event →
+      (call w.dte) → ((info : ℕ) → IsShort info event) →
       StandsIn w dte dce up down →
       StandsIn (happens w event) (call dte).link dce (up ++ chosen kept (map (spelling Dte) (call dte).frames)) down
   dte_stands kept call event is short s = record {
     reached = reached_happens w event s.reached;
-    fit = fit_happens w event short s.fit;
+    fit = fit_happens w event s.fit (short s.fit.info);
     dte_is = ap (λ v. v.dte) is ∙ ap (λ l. (call l).link) s.dte_is;
     dce_is = ap (λ v. v.dce) is ∙ s.dce_is;
     up_is = ap (λ v. octets_of Dte v.up) is ∙ put Dte w.up up (act_after w (call w.dte)) kept
@@ -110,12 +118,12 @@ module _ (w : World) (dte dce : Link) (up down : List Octets) where
   }
 
   dce_stands : (kept : List Bool) (call : Link → Step) (event : Event) → happens w event ≡ dce_does w kept
-      (call w.dce) → IsShort event →
+      (call w.dce) → ((info : ℕ) → IsShort info event) →
       StandsIn w dte dce up down →
       StandsIn (happens w event) dte (call dce).link up (down ++ chosen kept (map (spelling Dce) (call dce).frames))
   dce_stands kept call event is short s = record {
     reached = reached_happens w event s.reached;
-    fit = fit_happens w event short s.fit;
+    fit = fit_happens w event s.fit (short s.fit.info);
     dte_is = ap (λ v. v.dte) is ∙ s.dte_is;
     dce_is = ap (λ v. v.dce) is ∙ ap (λ l. (call l).link) s.dce_is;
     up_is = ap (λ v. octets_of Dte v.up) is ∙ s.up_is;
@@ -126,39 +134,39 @@ module _ (w : World) (dte dce : Link) (up down : List Octets) where
   pub stands_t1_dte : (kept : List Bool) → StandsIn w dte dce up down →
       StandsIn (happens w (Expire Dte kept)) (on_t1 dte).link dce
       (up ++ chosen kept (map (spelling Dte) (on_t1 dte).frames)) down
-  stands_t1_dte kept s = dte_stands kept on_t1 (Expire Dte kept) refl tt s
+  stands_t1_dte kept s = dte_stands kept on_t1 (Expire Dte kept) refl (λ _. tt) s
 
   pub stands_t1_dce : (kept : List Bool) → StandsIn w dte dce up down →
       StandsIn (happens w (Expire Dce kept)) dte (on_t1 dce).link up
       (down ++ chosen kept (map (spelling Dce) (on_t1 dce).frames))
-  stands_t1_dce kept s = dce_stands kept on_t1 (Expire Dce kept) refl tt s
+  stands_t1_dce kept s = dce_stands kept on_t1 (Expire Dce kept) refl (λ _. tt) s
 
   pub stands_relink_dte : (kept : List Bool) → StandsIn w dte dce up down →
       StandsIn (happens w (Relink Dte kept)) (relink dte).link dce
       (up ++ chosen kept (map (spelling Dte) (relink dte).frames)) down
-  stands_relink_dte kept s = dte_stands kept relink (Relink Dte kept) refl tt s
+  stands_relink_dte kept s = dte_stands kept relink (Relink Dte kept) refl (λ _. tt) s
 
   pub stands_relink_dce : (kept : List Bool) → StandsIn w dte dce up down →
       StandsIn (happens w (Relink Dce kept)) dte (relink dce).link up
       (down ++ chosen kept (map (spelling Dce) (relink dce).frames))
-  stands_relink_dce kept s = dce_stands kept relink (Relink Dce kept) refl tt s
+  stands_relink_dce kept s = dce_stands kept relink (Relink Dce kept) refl (λ _. tt) s
 
   pub stands_settle_dte : (kept : List Bool) → StandsIn w dte dce up down →
       StandsIn (happens w (Settle Dte kept)) (settle dte).link dce
       (up ++ chosen kept (map (spelling Dte) (settle dte).frames)) down
-  stands_settle_dte kept s = dte_stands kept settle (Settle Dte kept) refl tt s
+  stands_settle_dte kept s = dte_stands kept settle (Settle Dte kept) refl (λ _. tt) s
 
   pub stands_settle_dce : (kept : List Bool) → StandsIn w dte dce up down →
       StandsIn (happens w (Settle Dce kept)) dte (settle dce).link up
       (down ++ chosen kept (map (spelling Dce) (settle dce).frames))
-  stands_settle_dce kept s = dce_stands kept settle (Settle Dce kept) refl tt s
+  stands_settle_dce kept s = dce_stands kept settle (Settle Dce kept) refl (λ _. tt) s
 
   -- ---- restarts
 
   pub stands_restart_dte : StandsIn w dte dce up down → StandsIn (happens w (Restart Dte)) (remade dte) dce [] []
   stands_restart_dte s = record {
     reached = reached_happens w (Restart Dte) s.reached;
-    fit = fit_happens w (Restart Dte) tt s.fit;
+    fit = fit_happens w (Restart Dte) s.fit tt;
     dte_is = ap remade s.dte_is;
     dce_is = s.dce_is;
     up_is = refl;
@@ -168,7 +176,7 @@ module _ (w : World) (dte dce : Link) (up down : List Octets) where
   pub stands_restart_dce : StandsIn w dte dce up down → StandsIn (happens w (Restart Dce)) dte (remade dce) [] []
   stands_restart_dce s = record {
     reached = reached_happens w (Restart Dce) s.reached;
-    fit = fit_happens w (Restart Dce) tt s.fit;
+    fit = fit_happens w (Restart Dce) s.fit tt;
     dte_is = s.dte_is;
     dce_is = ap remade s.dce_is;
     up_is = refl;
@@ -181,7 +189,7 @@ module _ (w : World) (dte dce : Link) (up down : List Octets) where
       (happens w (Lose Dce)) dte dce up down
   stands_lose_up bytes s = record {
     reached = reached_happens w (Lose Dce) s.reached;
-    fit = fit_happens w (Lose Dce) tt s.fit;
+    fit = fit_happens w (Lose Dce) s.fit tt;
     dte_is = s.dte_is;
     dce_is = s.dce_is;
     up_is = rest w.up s.up_is;
@@ -196,7 +204,7 @@ module _ (w : World) (dte dce : Link) (up down : List Octets) where
       (happens w (Lose Dte)) dte dce up down
   stands_lose_down bytes s = record {
     reached = reached_happens w (Lose Dte) s.reached;
-    fit = fit_happens w (Lose Dte) tt s.fit;
+    fit = fit_happens w (Lose Dte) s.fit tt;
     dte_is = s.dte_is;
     dce_is = s.dce_is;
     up_is = s.up_is;
@@ -216,7 +224,7 @@ module _ (w : World) (dte dce : Link) (up down : List Octets) where
       let taken = go w.down s.fit.down s.down_is in
       record {
         reached = reached_happens w (Deliver Dte kept) s.reached;
-        fit = fit_happens w (Deliver Dte kept) tt s.fit;
+        fit = fit_happens w (Deliver Dte kept) s.fit tt;
         dte_is = taken.0;
         dce_is = taken.1;
         up_is = taken.2;
@@ -226,7 +234,7 @@ module _ (w : World) (dte dce : Link) (up down : List Octets) where
       role : w.dte.role ≡ Dte
       role = (reached_inv w s.reached).dte_role
 
-      go : (flow : List Sent) → AllSpelt flow → octets_of Dce flow ≡ bytes ∷ down →
+      go : (flow : List Sent) → AllSpelt s.fit.info flow → octets_of Dce flow ≡ bytes ∷ down →
           ((to_dte w kept flow).dte ≡ (on_octets dte bytes).link) × ((to_dte w kept flow).dce ≡ dce) ×
           (octets_of Dte (to_dte w kept flow).up ≡ up ++ chosen kept
           (map (spelling Dte) (on_octets dte bytes).frames)) ×
@@ -235,7 +243,7 @@ module _ (w : World) (dte dce : Link) (up down : List Octets) where
       go (x ∷ flow) all e =
           let head = head_spelt Dce x flow bytes down e in
           let step : on_frame w.dte x.frame ≡ on_octets dte bytes =
-          sym (octets_taken w.dte Dce x.frame role all.0) ∙ ap (on_octets w.dte) head.0 ∙ ap
+          sym (octets_taken s.fit.info w.dte Dce x.frame role s.fit.dte all.0) ∙ ap (on_octets w.dte) head.0 ∙ ap
           (λ l. on_octets l bytes) s.dte_is in (
             ap (λ t. t.link) step,
             s.dce_is,
@@ -252,7 +260,7 @@ module _ (w : World) (dte dce : Link) (up down : List Octets) where
       let taken = go w.up s.fit.up s.up_is in
       record {
         reached = reached_happens w (Deliver Dce kept) s.reached;
-        fit = fit_happens w (Deliver Dce kept) tt s.fit;
+        fit = fit_happens w (Deliver Dce kept) s.fit tt;
         dte_is = taken.0;
         dce_is = taken.1;
         up_is = taken.2;
@@ -262,7 +270,7 @@ module _ (w : World) (dte dce : Link) (up down : List Octets) where
       role : w.dce.role ≡ Dce
       role = (reached_inv w s.reached).dce_role
 
-      go : (flow : List Sent) → AllSpelt flow → octets_of Dte flow ≡ bytes ∷ up →
+      go : (flow : List Sent) → AllSpelt s.fit.info flow → octets_of Dte flow ≡ bytes ∷ up →
           ((to_dce w kept flow).dte ≡ dte) × ((to_dce w kept flow).dce ≡ (on_octets dce bytes).link) ×
           (octets_of Dte (to_dce w kept flow).up ≡ up) ×
           (octets_of Dce (to_dce w kept flow).down ≡ down ++ chosen kept
@@ -271,7 +279,7 @@ module _ (w : World) (dte dce : Link) (up down : List Octets) where
       go (x ∷ flow) all e =
           let head = head_spelt Dte x flow bytes up e in
           let step : on_frame w.dce x.frame ≡ on_octets dce bytes =
-          sym (octets_taken w.dce Dte x.frame role all.0) ∙ ap (on_octets w.dce) head.0 ∙ ap
+          sym (octets_taken s.fit.info w.dce Dte x.frame role s.fit.dce all.0) ∙ ap (on_octets w.dce) head.0 ∙ ap
           (λ l. on_octets l bytes) s.dce_is in (
             s.dte_is,
             ap (λ t. t.link) step,

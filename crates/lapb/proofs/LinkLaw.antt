@@ -10,7 +10,8 @@ use Rattle.lapb.specs.declared.phase.Phase.{Phase}
 use Rattle.lapb.specs.declared.note.Note.{Note}
 use Rattle.lapb.specs.Machine.{Octets, Link, send_all, sendable, settle, settle_in, on_frame, still, first_phase}
 use Rattle.lapb.specs.Machine.{is_same, come_up}
-use Rattle.lapb.specs.World.{Sent, World, Params, Event, Offer, Deliver, Lose, Expire, Relink, Settle, Restart}
+use Rattle.lapb.specs.declared.link.LinkParams.{LinkParams}
+use Rattle.lapb.specs.World.{Sent, World, Event, Offer, Deliver, Lose, Expire, Relink, Settle, Restart}
 use Rattle.lapb.specs.World.{dte_does, to_dte, to_dce, act_after, is_setting_up, is_sabm, is_ua, happens, run}
 use Rattle.lapb.specs.World.{opening, Always, InOrder, IsQuiet, AllQuiet, AreUp, answer_to, ComesUp, BeginsFresh}
 use Rattle.lapb.proofs.Cases.{cond_by, prefix-refl}
@@ -33,7 +34,7 @@ first-heard : (standing : Bool) → first_phase standing ≡ Phase.Up → standi
 first-heard true e f = cc
 first-heard false e f = cc
 
-pub opening-meets : (standing : Bool) (dte dce : Params) → dte.k ≤ 7 → dce.k ≤ 7 → Inv (opening standing dte dce)
+pub opening-meets : (standing : Bool) (dte dce : LinkParams) → dte.k ≤ 7 → dce.k ≤ 7 → Inv (opening standing dte dce)
 opening-meets standing dte dce few few' = record {
   dte_role = refl;
   dce_role = refl;

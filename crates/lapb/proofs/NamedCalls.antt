@@ -33,8 +33,8 @@ keeps_on_fault l InfoNotAllowed bytes = named_on_defect l InformationNotAllowed 
 keeps_on_fault l InfoTooLong bytes = named_on_defect l InformationTooLong _ _
 
 pub named_on_octets : (l : Link) (bytes : Octets) → AreOctets bytes → NamesAfterOctets l bytes
-named_on_octets l bytes octets = go (reading l.role bytes) (reading_decided l.role bytes octets)
+named_on_octets l bytes octets = go (reading l.role l.info bytes) (reading_decided l.role l.info bytes octets)
   where
-    go : (read : Result FrameValue FrameFault) → IsDecided l.role bytes read → NamesAfterReading l bytes read
+    go : (read : Result FrameValue FrameFault) → IsDecided l.role l.info bytes read → NamesAfterReading l bytes read
     go (Ok frame) form = named_on_frame l frame (in_range frame.content form.head.numbers)
     go (Err fault) first = keeps_on_fault l fault bytes

@@ -10,9 +10,9 @@ use Rattle.lapb.specs.declared.phase.Phase.{Phase}
 use Rattle.lapb.specs.declared.note.Note.{Note}
 use Rattle.lapb.specs.Machine.{Octets, Link, Step, Defect, still, left, set_up, disconnect, relink}
 use Rattle.lapb.specs.Machine.{reject_as, defect_report}
-use Rattle.lapb.specs.Machine.{accept, discard, in_up}
+use Rattle.lapb.specs.Machine.{in_up}
 use Rattle.lapb.specs.Machine.{on_content, on_frame, on_defect, on_t1}
-use Rattle.lapb.specs.Machine.{poll, send_all, settle, is_same}
+use Rattle.lapb.specs.Machine.{send_all, settle, is_same}
 use Rattle.lapb.proofs.Rules.{UpRules, OutRules, up_by, left_none, not_setting, by_up, by_content, by_relink, by_t1}
 use Rattle.lapb.proofs.Rules.{by_settle, by_defect}
 

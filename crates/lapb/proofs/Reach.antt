@@ -4,7 +4,8 @@ use Rattle.std.proofs.Common.{refl, sym, ap, ◌∙◌, subst, arith, length-dro
 use Rattle.frame_codec.specs.Frame.{FrameValue}
 use Rattle.lapb.specs.declared.phase.Phase.{Phase}
 use Rattle.lapb.specs.Machine.{Octets, Link}
-use Rattle.lapb.specs.World.{Sent, World, Params, Event, happens, run, opening, stamped, kept_of, InOrder, ComesUp}
+use Rattle.lapb.specs.declared.link.LinkParams.{LinkParams}
+use Rattle.lapb.specs.World.{Sent, World, Event, happens, run, opening, stamped, kept_of, InOrder, ComesUp}
 use Rattle.lapb.specs.World.{BeginsFresh}
 use Rattle.lapb.specs.Reach.{Reached, frames_of}
 use Rattle.lapb.specs.Named.{Counts, Agrees}
@@ -40,7 +41,7 @@ run-snoc : (events : List Event) (event : Event) (w : World) → run (events ++ 
 run-snoc [] event w = refl
 run-snoc (e ∷ events) event w = run-snoc events event (happens w e)
 
-pub reached_opening : (standing : Bool) (dte dce : Params) → dte.k ≤ 7 → dce.k ≤ 7 → Reached (opening standing dte
+pub reached_opening : (standing : Bool) (dte dce : LinkParams) → dte.k ≤ 7 → dce.k ≤ 7 → Reached (opening standing dte
     dce)
 reached_opening standing dte dce few few' =
     record {

@@ -14,11 +14,12 @@ use Rattle.frame_codec.specs.Spelling.{spelling}
 use Rattle.lapb.specs.declared.phase.Phase.{Phase}
 use Rattle.lapb.specs.declared.note.Note.{Note}
 use Rattle.lapb.specs.Machine.{Octets, Link, Step, left, answers, response, still, set_up, disconnect, relink}
-use Rattle.lapb.specs.Machine.{reject_as, accept, discard}
-use Rattle.lapb.specs.Machine.{on_frame, on_t1, poll, numbered, send_all, settle}
+use Rattle.lapb.specs.Machine.{reject_as}
+use Rattle.lapb.specs.Machine.{on_frame, on_t1, numbered, send_all, settle}
 use Rattle.lapb.specs.Machine.{is_up}
 use Rattle.lapb.specs.Octets.{on_octets, on_reading, on_fault}
-use Rattle.lapb.specs.World.{Sent, World, Params, Event, Offer, Deliver, Lose, Expire, Relink, Settle, Restart}
+use Rattle.lapb.specs.declared.link.LinkParams.{LinkParams}
+use Rattle.lapb.specs.World.{Sent, World, Event, Offer, Deliver, Lose, Expire, Relink, Settle, Restart}
 use Rattle.lapb.specs.World.{stamped, kept_of, is_sabm, is_setting_up, is_up_note, act_after, dte_does, to_dte}
 use Rattle.lapb.specs.World.{to_dce, without_first, happens, run, opening, Always}
 use Rattle.lapb.specs.Reach.{Reached}
@@ -108,7 +109,7 @@ tells-reading l bytes (Ok frame) = tells_on_frame l frame
 tells-reading l bytes (Err fault) = tells-fault l fault bytes
 
 pub tells_on_octets : (l : Link) (bytes : Octets) → Tells l (on_octets l bytes)
-tells_on_octets l bytes = tells-reading l bytes (reading l.role bytes)
+tells_on_octets l bytes = tells-reading l bytes (reading l.role l.info bytes)
 
 pub tells_on_t1 : (l : Link) → Tells l (on_t1 l)
 tells_on_t1 l = says-tells l (on_t1 l) (says_on_t1 l)
@@ -377,7 +378,7 @@ rises-run [] w i r = r
 rises-run (event ∷ events) w i r = rises-run events (happens w event) (happens-keeps w event i)
     (rises-happens w event i r)
 
-rises-opening : (standing : Bool) (dte dce : Params) → Rises (opening standing dte dce)
+rises-opening : (standing : Bool) (dte dce : LinkParams) → Rises (opening standing dte dce)
 rises-opening true dte dce = record { own_before = omega arith; later = λ e. absurd (cc); begun = tt }
 rises-opening false dte dce = record { own_before = omega arith; later = λ e. absurd (cc); begun = tt }
 
@@ -467,12 +468,12 @@ pub later_at_dte : (w : World) (dte dce : Link) (up down : List Octets) (bytes :
     (on_octets dte bytes).note ≡ Note.Up → w.own < w.act
 later_at_dte w dte dce up down bytes s up_note = go w.down refl s.fit.down s.down_is
   where
-    go : (flow : List Sent) → w.down ≡ flow → AllSpelt flow → octets_of Dce flow ≡ bytes ∷ down → w.own < w.act
+    go : (flow : List Sent) → w.down ≡ flow → AllSpelt s.fit.info flow → octets_of Dce flow ≡ bytes ∷ down → w.own < w.act
     go [] is all e = absurd (cc)
     go (x ∷ flow) is all e =
         let head : spelling Dce x.frame ≡ bytes = cc in
         let step : on_frame w.dte x.frame ≡ on_octets dte bytes =
-        sym (octets_taken w.dte Dce x.frame (reached_inv w s.reached).dte_role all.0) ∙ ap (on_octets w.dte) head ∙ ap
+        sym (octets_taken s.fit.info w.dte Dce x.frame (reached_inv w s.reached).dte_role s.fit.dte all.0) ∙ ap (on_octets w.dte) head ∙ ap
         (λ l. on_octets l bytes) s.dte_is in
         (reached_rise w s.reached).at_dte x flow is (ap (λ (t : Step). t.note) step ∙ up_note)
 
@@ -482,14 +483,14 @@ pub of_act_at_dce : (w : World) (dte dce : Link) (up down : List Octets) (bytes 
     1 ≤ (happens w (Deliver Dce kept)).session
 of_act_at_dce w dte dce up down bytes kept s up_note = go w.up refl s.fit.up s.up_is
   where
-    go : (flow : List Sent) → w.up ≡ flow → AllSpelt flow → octets_of Dte flow ≡ bytes ∷ up →
+    go : (flow : List Sent) → w.up ≡ flow → AllSpelt s.fit.info flow → octets_of Dte flow ≡ bytes ∷ up →
         1 ≤ (to_dce w kept flow).session
     go [] is all e = absurd (cc)
     go (x ∷ flow) is all e =
         let rise = reached_rise w s.reached in
         let head : spelling Dte x.frame ≡ bytes = cc in
         let step : on_frame w.dce x.frame ≡ on_octets dce bytes =
-        sym (octets_taken w.dce Dte x.frame (reached_inv w s.reached).dce_role all.0) ∙ ap (on_octets w.dce) head ∙ ap
+        sym (octets_taken s.fit.info w.dce Dte x.frame (reached_inv w s.reached).dce_role s.fit.dce all.0) ∙ ap (on_octets w.dce) head ∙ ap
         (λ l. on_octets l bytes) s.dce_is in
         let set : is_sabm x.frame.content ≡ true =
         sym (rise.at_dce x flow is) ∙ ap (λ (t : Step). is_up_note t.note) step ∙ ap is_up_note up_note in

@@ -11,7 +11,7 @@ use Rattle.lapb.specs.declared.note.Timing.{Timing}
 use Rattle.lapb.specs.Machine.{Octets, Link, Step, UndefinedControl, InformationNotAllowed, InformationTooLong}
 use Rattle.lapb.specs.Machine.{no_report, command, response, on_frame, on_defect, on_t1, timing, can_offer, is_full}
 use Rattle.lapb.specs.Machine.{at_rest}
-use Rattle.lapb.specs.World.{Sent, World, Event, Offer, Deliver, Lose, Expire, Relink, Settle, run, opening, is_sabm}
+use Rattle.lapb.specs.World.{Sent, World, Event, Offer, Deliver, Lose, Expire, Relink, Settle, run, opening, widest, is_sabm}
 use Rattle.lapb.specs.World.{AllQuiet, happens, answer_to, MayCarry}
 
 abbrev controls : List Sent → List ℕ
@@ -39,7 +39,7 @@ offers role [] = Settle role [] ∷ []
 offers role (packet ∷ packets) = Offer role packet ∷ offers role packets
 
 abbrev first : World
-first = opening false (record { k = 7; n2 = 3 }) (record { k = 7; n2 = 3 })
+first = opening false widest widest
 
 abbrev letters : List Octets
 letters = (65 ∷ []) ∷ (66 ∷ []) ∷ (67 ∷ []) ∷ (68 ∷ []) ∷ (69 ∷ []) ∷ (70 ∷ []) ∷ (71 ∷ []) ∷ []
@@ -225,7 +225,7 @@ wrong_number_is = refl
 abbrev standing : World
 standing = run (offers Dte ((65 ∷ []) ∷ []) ++ Lose Dce ∷ [] ++ at_end Dte (Expire Dte []) ++ comes Dce ++ comes Dte
     ++ comes Dce ++ comes Dte)
-    (opening true (record { k = 7; n2 = 3 }) (record { k = 7; n2 = 3 }))
+    (opening true widest widest)
 
 standing_is : (standing.dce_accepted 0 ≡ (65 ∷ []) ∷ []) × (at_rest standing.dte ≡ true) × (at_rest standing.dce ≡
     true)

@@ -7,7 +7,7 @@ use Rattle.frame_codec.specs.Frame.{FrameValue, Content, I, Rr, Rnr, Rej, Sabm, 
 use Rattle.frame_codec.specs.Spelling.{spelling}
 use Rattle.lapb.specs.declared.phase.Phase.{Phase}
 use Rattle.lapb.specs.declared.note.Note.{Note}
-use Rattle.lapb.specs.Machine.{Octets, Link, Step, response}
+use Rattle.lapb.specs.Machine.{Octets, Link, Step}
 use Rattle.lapb.specs.Machine.{on_content, on_frame}
 use Rattle.lapb.specs.World.{Sent, World, Deliver, logged, emptied, is_sabm, is_up_note, to_dte, to_dce, happens}
 use Rattle.lapb.specs.Octets.{on_octets}
@@ -77,14 +77,14 @@ pub taken_at_dte : (w : World) (dte dce : Link) (up down : List Octets) (bytes :
     StandsIn w dte dce up (bytes ∷ down) → TakenAtDte w (happens w (Deliver Dte kept)) (on_octets dte bytes)
 taken_at_dte w dte dce up down bytes kept s = go w.down refl s.fit.down s.down_is
   where
-    go : (flow : List Sent) → w.down ≡ flow → AllSpelt flow → octets_of Dce flow ≡ bytes ∷ down →
+    go : (flow : List Sent) → w.down ≡ flow → AllSpelt s.fit.info flow → octets_of Dce flow ≡ bytes ∷ down →
         TakenAtDte w (to_dte w kept flow) (on_octets dte bytes)
     go [] is all e = absurd (cc)
     go (x ∷ flow) is all e =
         let role : w.dte.role ≡ Dte = (reached_inv w s.reached).dte_role in
         let head : spelling Dce x.frame ≡ bytes = cc in
         let step : on_frame w.dte x.frame ≡ on_octets dte bytes =
-        sym (octets_taken w.dte Dce x.frame role all.0) ∙ ap (on_octets w.dte) head ∙ ap
+        sym (octets_taken s.fit.info w.dte Dce x.frame role s.fit.dte all.0) ∙ ap (on_octets w.dte) head ∙ ap
         (λ l. on_octets l bytes) s.dte_is in
         record {
           own = ap (λ (t : Step). if is_up_note t.note then w.act else w.own) step;
@@ -100,14 +100,14 @@ pub taken_at_dce : (w : World) (dte dce : Link) (up down : List Octets) (bytes :
     StandsIn w dte dce (bytes ∷ up) down → (t : ℕ) × TakenAtDce w (happens w (Deliver Dce kept)) (on_octets dce bytes) t
 taken_at_dce w dte dce up down bytes kept s = go w.up refl s.fit.up s.up_is
   where
-    go : (flow : List Sent) → w.up ≡ flow → AllSpelt flow → octets_of Dte flow ≡ bytes ∷ up →
+    go : (flow : List Sent) → w.up ≡ flow → AllSpelt s.fit.info flow → octets_of Dte flow ≡ bytes ∷ up →
         (t : ℕ) × TakenAtDce w (to_dce w kept flow) (on_octets dce bytes) t
     go [] is all e = absurd (cc)
     go (x ∷ flow) is all e =
         let i : Inv w = reached_inv w s.reached in
         let head : spelling Dte x.frame ≡ bytes = cc in
         let step : on_frame w.dce x.frame ≡ on_octets dce bytes =
-        sym (octets_taken w.dce Dte x.frame i.dce_role all.0) ∙ ap (on_octets w.dce) head ∙ ap
+        sym (octets_taken s.fit.info w.dce Dte x.frame i.dce_role s.fit.dce all.0) ∙ ap (on_octets w.dce) head ∙ ap
         (λ l. on_octets l bytes) s.dce_is in
         let set : is_sabm x.frame.content ≡ is_up_note (on_octets dce bytes).note =
         sym (dce_begins w.dce x.frame i.dce_role i.dce_set) ∙ ap (λ (t : Step). is_up_note t.note) step in (

@@ -12,6 +12,7 @@ link_of a = record {
   phase = a.phase;
   k = a.window.size;
   n2 = a.n2;
+  info = a.info;
   oldest = a.window.oldest;
   next = a.window.next;
   top = a.window.top;

@@ -43,6 +43,7 @@ use Rattle.frame_codec.specs.Spelling.{control_of}
 use Rattle.lapb.specs.declared.phase.Phase.{Phase}
 use Rattle.lapb.specs.declared.note.Note.{Note}
 use Rattle.lapb.specs.declared.note.Timing.{Timing}
+use Rattle.lapb.specs.declared.link.LinkParams.{LinkParams}
 
 -- what a packet consists of
 abbrev pub Octets : Type 0
@@ -54,6 +55,7 @@ pub record Link : Type 0 where
   pub phase : Phase
   pub k : ℕ  -- how many packets may be unacknowledged, 1 to 7
   pub n2 : ℕ  -- how many polls may stay unanswered
+  pub info : ℕ  -- the most octets of information of an I frame
   pub oldest : ℕ  -- V(A) modulo 8, the number of the oldest unacknowledged packet
   pub next : ℕ  -- V(S) - V(A)
   pub top : ℕ  -- V(M) - V(A)
@@ -486,18 +488,19 @@ no_report = record {
 }
 
 -- a link as it is made, on a standing line or not
-abbrev pub new : Role → ℕ → ℕ → Bool → Link
-new role k n2 standing = record {
+abbrev pub new : Role → LinkParams → Link
+new role p = record {
   role = role;
-  phase = first_phase standing;
-  k = k;
-  n2 = n2;
+  phase = first_phase p.standing;
+  k = p.k;
+  n2 = p.n2;
+  info = p.info;
   oldest = 0;
   next = 0;
   top = 0;
   expected = 0;
   queue = [];
-  heard = standing;
+  heard = p.standing;
   owed = false;
   rejecting = false;
   busy = false;
@@ -507,3 +510,11 @@ new role k n2 standing = record {
   repeats = false;
   report = no_report;
 }
+
+-- the parameters of a link that is made anew at a restart of its node: its line does not stand then
+abbrev pub params_anew : Link → LinkParams
+params_anew l = record { k = l.k; n2 = l.n2; info = l.info; standing = false }
+
+-- a link after a restart of its node
+abbrev pub remade : Link → Link
+remade l = new l.role (params_anew l)

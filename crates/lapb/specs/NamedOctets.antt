@@ -13,4 +13,4 @@ NamesAfterReading l bytes (Err fault) = Keeps l (on_fault l fault bytes)
 
 -- the session is what the frame makes of it, or stays what it was where the octets are no frame
 abbrev pub NamesAfterOctets : Link → Octets → Type 0
-NamesAfterOctets l bytes = NamesAfterReading l bytes (reading l.role bytes)
+NamesAfterOctets l bytes = NamesAfterReading l bytes (reading l.role l.info bytes)

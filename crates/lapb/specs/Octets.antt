@@ -43,4 +43,4 @@ on_reading l bytes (Err fault) = on_fault l fault bytes
 
 -- what a link makes of the octets of a frame
 abbrev pub on_octets : Link → Octets → Step
-on_octets l bytes = on_reading l bytes (reading l.role bytes)
+on_octets l bytes = on_reading l bytes (reading l.role l.info bytes)

@@ -1,13 +1,14 @@
 -- The states that two links and their line come to.
 use Rattle.std.specs.Prelude.{◌≡◌, ◌≤◌, Bool, List, [], ◌∷◌}
 use Rattle.frame_codec.specs.Frame.{FrameValue}
-use Rattle.lapb.specs.World.{Sent, World, Params, Event, run, opening}
+use Rattle.lapb.specs.World.{Sent, World, Event, run, opening}
+use Rattle.lapb.specs.declared.link.LinkParams.{LinkParams}
 
 -- some events lead from the making of the line to this state
 pub record Reached (w : World) : Type 0 where
   pub standing : Bool
-  pub dte : Params
-  pub dce : Params
+  pub dte : LinkParams
+  pub dce : LinkParams
   pub dte_window : dte.k ≤ 7
   pub dce_window : dce.k ≤ 7
   pub events : List Event

@@ -25,7 +25,8 @@ use Rattle.frame_codec.specs.Frame.{FrameValue, Content}
 use Rattle.frame_codec.specs.Frame.Content.{Sabm, Ua, Frmr}
 use Rattle.lapb.specs.declared.phase.Phase.{Phase}
 use Rattle.lapb.specs.declared.note.Note.{Note}
-use Rattle.lapb.specs.Machine.{Octets, Link, Step, response, on_frame, on_t1, relink, settle, offer, can_offer, new}
+use Rattle.lapb.specs.Machine.{Octets, Link, Step, response, on_frame, on_t1, relink, settle, offer, can_offer, new, remade}
+use Rattle.lapb.specs.declared.link.LinkParams.{LinkParams}
 
 -- a frame on the line, with the act in which its sender stood
 pub record Sent : Type 0 where
@@ -148,10 +149,7 @@ without_first (s ∷ rest) = rest
 abbrev pub offered : Link → Octets → Option Octets
 offered l packet = if can_offer l then Some packet else None
 
--- a node that restarts makes its link anew and loses what is on its lines
-abbrev pub remade : Link → Link
-remade l = new l.role l.k l.n2 false
-
+-- what an event makes of two links and their line: a restart makes the link anew, and what is on the line is lost
 abbrev pub happens : World → Event → World
 happens w (Offer Dte packet) =
     record w { dte = offer w.dte packet; dte_offered = logged w.dte_offered w.own (offered w.dte packet) }
@@ -174,16 +172,11 @@ abbrev pub run : List Event → World → World
 run [] w = w
 run (event ∷ events) w = run events (happens w event)
 
--- what a link is made with
-pub record Params : Type 0 where
-  pub k : ℕ
-  pub n2 : ℕ
-
--- a line as it is made
-abbrev pub opening : Bool → Params → Params → World
+-- a line as it is made, which stands at both ends or at none
+abbrev pub opening : (standing : Bool) → LinkParams → LinkParams → World
 opening standing dte dce = record {
-  dte = new Dte dte.k dte.n2 standing;
-  dce = new Dce dce.k dce.n2 standing;
+  dte = new Dte (record dte { standing = standing });
+  dce = new Dce (record dce { standing = standing });
   up = [];
   down = [];
   act = 0;
@@ -197,7 +190,7 @@ opening standing dte dce = record {
 
 -- it holds of whatever events make of two links, new or standing, each of which has a window of at most 7
 abbrev pub Always : (World → Type 0) → Type 0
-Always P = (standing : Bool) (dte dce : Params) → dte.k ≤ 7 → dce.k ≤ 7 → (events : List Event) →
+Always P = (standing : Bool) (dte dce : LinkParams) → dte.k ≤ 7 → dce.k ≤ 7 → (events : List Event) →
     P (run events (opening standing dte dce))
 
 -- ---- what holds of two links
@@ -267,7 +260,11 @@ pub record Carries (to_dce to_dte : Octets) (w : World) : Type 0 where
   pub at_dce : w.dce_accepted w.act ≡ to_dce ∷ []
   pub at_dte : w.dte_accepted w.act ≡ to_dte ∷ []
 
+-- windows of 7, and packets of 128 octets
+abbrev pub widest : LinkParams
+widest = record { k = 7; n2 = 3; info = 145; standing = false }
+
 -- some events set up a line with windows of 7 and take any packet each way
 abbrev pub MayCarry : Type 0
 MayCarry = (to_dce to_dte : Octets) → (events : List Event) ×
-    Carries to_dce to_dte (run events (opening false (record { k = 7; n2 = 3 }) (record { k = 7; n2 = 3 })))
+    Carries to_dce to_dte (run events (opening false widest widest))

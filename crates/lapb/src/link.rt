@@ -13,7 +13,7 @@ mod setting;
 use crate::phase::Phase;
 use crate::queue::Queue;
 use flow_window::{Mod8, RecvWindow, SendWindow};
-use frame_codec::Rejection;
+use frame_codec::{MAX_INFORMATION, Rejection};
 use link_timers::Role;
 use std::marker::Model;
 use thiserror::Error;
@@ -37,18 +37,26 @@ pub struct LinkParams {
     pub k: u8,
     /// How many polls are sent without an answer before the link is set up again, from 1 to 20 (X.25 2.4.8.4).
     pub n2: u8,
+    /// The most octets of information of an I frame, up to 1,028 ([`MAX_INFORMATION`]). Longer I frames are received as
+    /// faulty (X.25 2.4.7.3).
+    pub info: u16,
     /// Whether the line stands from the beginning on: the link is up.
     pub standing: bool,
 }
 
 impl LinkParams {
-    /// `BadParams` comes where `k` is not from 1 to 7 or `n2` not from 1 to 20.
+    /// `BadParams` comes where `k` is not from 1 to 7, `n2` not from 1 to 20, or `info` more than [`MAX_INFORMATION`].
     pub fn check(&self) -> Result<(), BadParams>
         ensures { MatchResult result
-            (λ _. AreParams self.now.k self.now.n2)
-            (λ _. AreParams self.now.k self.now.n2 → ⊥) }
+            (λ _. AreParams self.now)
+            (λ _. AreParams self.now → ⊥) }
     {
-        if self.k < 1 || self.k > 7 || self.n2 < 1 || self.n2 > 20 {
+        if self.k < 1
+            || self.k > 7
+            || self.n2 < 1
+            || self.n2 > 20
+            || usize::from(self.info) > MAX_INFORMATION
+        {
             return Err(BadParams);
         }
         Ok(())
@@ -80,6 +88,7 @@ pub struct Link {
     receive: RecvWindow<Mod8>,
     queue: Queue,
     n2: u8,
+    info: u16,
     polls: u8,
     heard: bool,
     owed: bool,
@@ -106,15 +115,19 @@ impl Model for Link {
 impl Link {
     /// A link that was never set up, or on a standing line one that is up.
     ///
-    /// `BadParams` comes where `k` is not from 1 to 7 or `n2` not from 1 to 20.
+    /// `BadParams` comes where `k` is not from 1 to 7, `n2` not from 1 to 20, or `info` more than [`MAX_INFORMATION`].
     pub fn new(role: Role, params: LinkParams) -> Result<Link, BadParams>
         ensures { MatchResult result
-            (λ link. AreParams params.k params.n2
-            × (link ≡ record { link = machine.new role params.k params.n2 params.standing; held = [] }))
-            (λ _. AreParams params.k params.n2 → ⊥) }
+            (λ link. AreParams params × (link ≡ record { link = machine.new role params; held = [] }))
+            (λ _. AreParams params → ⊥) }
     {
         params.check()?;
-        let LinkParams { k, n2, standing } = params;
+        let LinkParams {
+            k,
+            n2,
+            info,
+            standing,
+        } = params;
         Ok(Link {
             role,
             phase: if standing { Phase::Up } else { Phase::Down },
@@ -122,6 +135,7 @@ impl Link {
             receive: RecvWindow::new(),
             queue: Queue::new(),
             n2,
+            info,
             polls: 0,
             heard: standing,
             owed: false,

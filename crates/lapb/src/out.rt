@@ -1,6 +1,6 @@
 //! What the calls of a link give: frames, a note, and what becomes of T1.
 ghost use Rattle.std.specs.Prelude.{◌≡◌, ◌∷◌, [], length, take, drop, true, false, ◌≤◌};
-ghost use Rattle.frame_codec.specs.Spelling.{spelling, HasSpelling};
+ghost use Rattle.frame_codec.specs.Spelling.{spelling, most_information, HasSpelling};
 ghost use Rattle.frame_codec.specs.Views.{value_of};
 ghost use Rattle.lapb.specs.Out.{most_frames, no_out, with_frames, timing_by};
 ghost use Rattle.lapb.specs.Machine.{timing_after};
@@ -166,7 +166,7 @@ impl LinkOut {
     /// Appends a frame. One for which there is no room is dropped, as a lost frame.
     #[inline(always)]
     pub(crate) fn put(&mut self, role: Role, frame: &Frame<'_>)
-        requires { HasSpelling (value_of frame.now) }
+        requires { HasSpelling most_information (value_of frame.now) }
         ensures { self.new ≡ record self.old {
           frames = with_frames self.old.frames (spelling role (value_of frame.now) ∷ []);
         } }

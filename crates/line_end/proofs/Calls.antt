@@ -38,6 +38,7 @@ use Rattle.line_end.specs.declared.end.LineEnd.TheInside.{Inside}
 use Rattle.link_timers.specs.declared.role.Role.{Role}
 use Rattle.link_timers.specs.declared.role.Role.TheVariants.{Dte, Dce}
 use Rattle.flow_window.specs.Pool.{Buffer}
+use Rattle.lapb.specs.declared.link.LinkParams.{LinkParams}
 use Rattle.line_end.specs.End.{End, timed, runs_then, did, made, SendsUpTo}
 use Rattle.line_end.specs.EndView.{IsEnd}
 use Rattle.line_end.proofs.Frames.{with_frames-fit}
@@ -133,9 +134,13 @@ none_of None e = refl
 none_of (Some packet) e = absurd (cc)
 
 -- an end as it is made holds no packet
-pub made_queue : (role : Role) (k n2 : ℕ) → length (made role k n2 false).link.queue ≡ 0
-made_queue Dte k n2 = refl
-made_queue Dce k n2 = refl
+pub made_queue : (role : Role) (p : LinkParams) → length (made role p).link.queue ≡ 0
+made_queue role p = by_standing role p.standing
+  where
+    by_standing : (role : Role) (standing : Bool) → length (made role (record p { standing = standing })).link.queue ≡ 0
+    by_standing role true = refl
+    by_standing Dte false = refl
+    by_standing Dce false = refl
 
 pub none_held : (bs : List Buffer) → length bs ≡ 0 → bs ≡ []
 none_held [] e = refl

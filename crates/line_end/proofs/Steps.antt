@@ -98,6 +98,7 @@ pub record Keeps (l link : Link) : Type 0 where
   pub role : link.role ≡ l.role
   pub k : link.k ≡ l.k
   pub n2 : link.n2 ≡ l.n2
+  pub info : link.info ≡ l.info
   pub queue : length link.queue ≤ length l.queue
 
 -- and one frame is sent at most
@@ -106,7 +107,7 @@ pub record Sends (l : Link) (step : Step) : Type 0 where
   pub few : length step.frames ≤ 1
 
 same : (l : Link) → Keeps l l
-same l = record { role = refl; k = refl; n2 = refl; queue = omega arith }
+same l = record { role = refl; k = refl; n2 = refl; info = refl; queue = omega arith }
 
 sends_still : (l : Link) → Sends l (still l)
 sends_still l = record { keeps = same l; few = omega arith }
@@ -115,7 +116,7 @@ sends_one : (l : Link) (frame : FrameValue) → Sends l (sends l frame)
 sends_one l frame = record { keeps = same l; few = omega arith }
 
 sends_set_up : (l : Link) → Sends l (set_up l)
-sends_set_up l = record { keeps = record { role = refl; k = refl; n2 = refl; queue = omega arith }; few = omega arith }
+sends_set_up l = record { keeps = record { role = refl; k = refl; n2 = refl; info = refl; queue = omega arith }; few = omega arith }
 
 sends_asked : (l : Link) (frame : FrameValue) (due : Bool) → Sends l (if due then sends l frame else still l)
 sends_asked l frame true = sends_one l frame
@@ -128,7 +129,7 @@ sends_unless l frame false = sends_one l frame
 sends_reject : (role : Role) (l : Link) (report : Report) (p : Bool) → Sends l (reject_as role l report p)
 sends_reject Dte l report p = sends_set_up l
 sends_reject Dce l report p =
-    record { keeps = record { role = refl; k = refl; n2 = refl; queue = omega arith }; few = omega arith }
+    record { keeps = record { role = refl; k = refl; n2 = refl; info = refl; queue = omega arith }; few = omega arith }
 
 few_answers : (due : Bool) (nr : ℕ) → length (answers due nr) ≤ 1
 few_answers true nr = omega arith
@@ -146,6 +147,7 @@ sends_behind l nr step s = record {
     role = s.keeps.role;
     k = s.keeps.k;
     n2 = s.keeps.n2;
+    info = s.keeps.info;
     queue = omega (arith, s.keeps.queue, shorter l (ahead l.oldest nr));
   };
   few = s.few;
@@ -153,19 +155,19 @@ sends_behind l nr step s = record {
 
 sends_supervisory : (l : Link) (busy back r p : Bool) → Sends l (on_supervisory l busy back r p)
 sends_supervisory l busy back r p = record {
-  keeps = record { role = refl; k = refl; n2 = refl; queue = omega arith };
+  keeps = record { role = refl; k = refl; n2 = refl; info = refl; queue = omega arith };
   few = few_answers (p && not r) l.expected;
 }
 
 sends_accept : (l : Link) (p : Bool) (packet : Octets) → Sends l (accept l p packet)
 sends_accept l p packet = record {
-  keeps = record { role = refl; k = refl; n2 = refl; queue = omega arith };
+  keeps = record { role = refl; k = refl; n2 = refl; info = refl; queue = omega arith };
   few = few_answers p ((l.expected + 1) % 8);
 }
 
 sends_discard : (l : Link) (p : Bool) → Sends l (discard l p)
 sends_discard l p = record {
-  keeps = record { role = refl; k = refl; n2 = refl; queue = omega arith };
+  keeps = record { role = refl; k = refl; n2 = refl; info = refl; queue = omega arith };
   few = cond_by (λ b. length (if b then answers p l.expected else response (Rej l.expected) p ∷ []) ≤ 1) l.rejecting
       (λ _. few_answers p l.expected) (λ _. omega arith);
 }
@@ -196,7 +198,7 @@ sends_in_up role l (Rnr nr) r p =
 sends_in_up role l (Rej nr) r p =
     sends_checked l (Rej nr) r p nr _ (sends_supervisory (acknowledged l nr) false true r p)
 sends_in_up role l Disc r p =
-    record { keeps = record { role = refl; k = refl; n2 = refl; queue = omega arith }; few = omega arith }
+    record { keeps = record { role = refl; k = refl; n2 = refl; info = refl; queue = omega arith }; few = omega arith }
 sends_in_up role l Ua r p = sends_still l
 sends_in_up Dte l Sabm r p = sends_set_up l
 sends_in_up Dte l Dm r p = sends_set_up l
@@ -204,14 +206,14 @@ sends_in_up Dte l (Frmr report) r p = sends_set_up l
 sends_in_up Dce l Sabm r p = sends_still l
 sends_in_up Dce l Dm r p = sends_still l
 sends_in_up Dce l (Frmr report) r p =
-    record { keeps = record { role = refl; k = refl; n2 = refl; queue = omega arith }; few = omega arith }
+    record { keeps = record { role = refl; k = refl; n2 = refl; info = refl; queue = omega arith }; few = omega arith }
 
 -- ---- the other phases
 
 sends_in_setting_up : (l : Link) (content : Content) (r p : Bool) → Sends l (in_setting_up l content r p)
 sends_in_setting_up l Ua r p =
     cond_by (λ b. Sends l (if b then come_up l else still l)) (is_same p l.bit)
-    (λ _. record { keeps = record { role = refl; k = refl; n2 = refl; queue = omega arith }; few = omega arith })
+    (λ _. record { keeps = record { role = refl; k = refl; n2 = refl; info = refl; queue = omega arith }; few = omega arith })
     (λ _. sends_still l)
 sends_in_setting_up l Disc r p = sends_one l _
 sends_in_setting_up l (I ns nr packet) r p = sends_still l
@@ -244,7 +246,7 @@ sends_in_down Dce l (Frmr report) r p = sends_asked l _ (p && not r)
 
 sends_in_rejecting : (l : Link) (content : Content) (r p : Bool) → Sends l (in_rejecting l content r p)
 sends_in_rejecting l Disc r p =
-    record { keeps = record { role = refl; k = refl; n2 = refl; queue = omega arith }; few = omega arith }
+    record { keeps = record { role = refl; k = refl; n2 = refl; info = refl; queue = omega arith }; few = omega arith }
 sends_in_rejecting l (I ns nr packet) r p = sends_unless l _ r
 sends_in_rejecting l (Rr nr) r p = sends_unless l _ r
 sends_in_rejecting l (Rnr nr) r p = sends_unless l _ r
@@ -263,7 +265,7 @@ sends_in_phase Phase.Rejecting role l content r p = sends_in_rejecting l content
 
 sends_on_content : (content : Content) (role : Role) (l : Link) (r p : Bool) → Sends l (on_content content role l r p)
 sends_on_content Sabm Dce l r p =
-    record { keeps = record { role = refl; k = refl; n2 = refl; queue = omega arith }; few = omega arith }
+    record { keeps = record { role = refl; k = refl; n2 = refl; info = refl; queue = omega arith }; few = omega arith }
 sends_on_content Sabm Dte l r p = sends_in_phase l.phase Dte l Sabm r p
 sends_on_content (I ns nr packet) role l r p =
     sends_in_phase l.phase role l (I ns nr packet) r p
@@ -295,7 +297,7 @@ sends_on_reading l octets (Ok frame) = sends_on_content frame.content l.role l f
 sends_on_reading l octets (Err fault) = sends_on_fault l fault octets
 
 pub sends_on_octets : (l : Link) (octets : Octets) → Sends l (on_octets l octets)
-sends_on_octets l octets = sends_on_reading l octets (reading l.role octets)
+sends_on_octets l octets = sends_on_reading l octets (reading l.role l.info octets)
 
 -- ---- relinks and expiries
 
@@ -305,7 +307,7 @@ sends_relink_as Dte Phase.Down l = sends_set_up l
 sends_relink_as Dte Phase.Up l = sends_set_up l
 sends_relink_as Dte Phase.Rejecting l = sends_set_up l
 sends_relink_as Dce phase l =
-    record { keeps = record { role = refl; k = refl; n2 = refl; queue = omega arith }; few = omega arith }
+    record { keeps = record { role = refl; k = refl; n2 = refl; info = refl; queue = omega arith }; few = omega arith }
 
 pub sends_relink : (l : Link) → Sends l (relink l)
 sends_relink l = sends_relink_as l.role l.phase l
@@ -315,7 +317,7 @@ sends_expire Phase.Down l = record { keeps = same l; few = omega arith }
 sends_expire Phase.SettingUp l = record { keeps = same l; few = omega arith }
 sends_expire Phase.Up l =
     cond_by (λ b. Sends l (if b then relink l else poll l)) (nat_le l.n2 l.polls) (λ _. sends_relink l)
-    (λ _. record { keeps = record { role = refl; k = refl; n2 = refl; queue = omega arith }; few = omega arith })
+    (λ _. record { keeps = record { role = refl; k = refl; n2 = refl; info = refl; queue = omega arith }; few = omega arith })
 sends_expire Phase.Rejecting l = record { keeps = same l; few = omega arith }
 
 pub sends_on_t1 : (l : Link) → Sends l (on_t1 l)
@@ -341,12 +343,12 @@ settles_owed false frame n one = omega arith
 
 settles_all : (l : Link) (packets : List Octets) → length packets ≤ length l.queue → Settles l (send_all l packets)
 settles_all l [] within = record {
-  keeps = record { role = refl; k = refl; n2 = refl; queue = omega arith };
+  keeps = record { role = refl; k = refl; n2 = refl; info = refl; queue = omega arith };
   packets = refl;
   few = λ n most one. settles_owed l.owed _ n one;
 }
 settles_all l (packet ∷ packets) within = record {
-  keeps = record { role = refl; k = refl; n2 = refl; queue = omega arith };
+  keeps = record { role = refl; k = refl; n2 = refl; info = refl; queue = omega arith };
   packets = refl;
   few = λ n most one. omega (arith, length-numbered (l.oldest + l.next) l.expected (packet ∷ packets));
 }

@@ -24,6 +24,7 @@ use Rattle.link_timers.specs.declared.timers.TimerId.{TimerId}
 use Rattle.link_timers.specs.declared.timers.TimerId.TheVariants.{T1}
 use Rattle.link_timers.specs.Timers.{Places, left_of, none_running, started, stopped, after_ticks}
 use Rattle.frame_codec.specs.Spelling.{spelling}
+use Rattle.lapb.specs.declared.link.LinkParams.{LinkParams}
 use Rattle.lapb.specs.declared.note.Note.{Note}
 use Rattle.lapb.specs.declared.note.Timing.{Timing}
 use Rattle.lapb.specs.Machine as machine
@@ -78,21 +79,25 @@ abbrev pub relinked : End → End
 relinked e = did e (machine.relink e.link)
 
 -- an end with a link that nothing happened to yet
-abbrev pub untouched : Role → (k n2 : ℕ) → (standing : Bool) → End
-untouched role k n2 standing = record {
-  link = machine.new role k n2 standing;
+abbrev pub untouched : Role → LinkParams → End
+untouched role p = record {
+  link = machine.new role p;
   timers = none_running;
   frames = [];
 }
 
--- an end as it is made: the link of a line that does not stand is started
-abbrev pub made : Role → (k n2 : ℕ) → (standing : Bool) → End
-made role k n2 true = untouched role k n2 true
-made role k n2 false = relinked (untouched role k n2 false)
+-- the link of a line that does not stand is started
+abbrev pub started_unless : (standing : Bool) → End → End
+started_unless true e = e
+started_unless false e = relinked e
+
+-- an end as it is made
+abbrev pub made : Role → LinkParams → End
+made role p = started_unless p.standing (untouched role p)
 
 -- a restarted end is as one made for a line that does not stand
 abbrev pub restarted : End → End
-restarted e = made e.link.role e.link.k e.link.n2 false
+restarted e = made e.link.role (machine.params_anew e.link)
 
 -- the octets of a frame arrive
 abbrev pub received : End → Octets → End

@@ -91,12 +91,11 @@ impl LineEnd {
     /// The end of this role of a line. Where the line stands the link is up; else it is started: a DTE sends SABM, a
     /// DCE asks for it by DM (X.25 2.4.4.1).
     ///
-    /// `BadParams` comes where `k` is not from 1 to 7 or `n2` not from 1 to 20.
+    /// `BadParams` comes where `k` is not from 1 to 7, `n2` not from 1 to 20, or `info` more than 1,028.
     pub fn new(role: Role, params: LinkParams, pool: &mut Pool) -> Result<LineEnd, BadParams>
         ensures end { MatchResult result
-            (λ end. AreParams params.k params.n2
-            × (end ≡ record { end = made role params.k params.n2 params.standing; held = [] }))
-            (λ _. AreParams params.k params.n2 → ⊥) }
+            (λ end. AreParams params × (end ≡ record { end = made role params; held = [] }))
+            (λ _. AreParams params → ⊥) }
         ensures pool { Balances pool.old [] pool.new [] }
     {
         let mut end = LineEnd {
@@ -128,6 +127,7 @@ impl LineEnd {
         ensures tight { length self.new.held ≡ length self.new.end.link.queue }
         ensures most { length self.new.held ≤ self.new.end.link.k }
         ensures k { self.new.end.link.k ≡ self.old.end.link.k }
+        ensures info { self.new.end.link.info ≡ self.old.end.link.info }
     {
         self.link.on_frame(octets, &mut self.out, pool);
         set_timer(&mut self.t1, self.out.take_timer());
@@ -155,6 +155,7 @@ impl LineEnd {
         ensures tight { length self.new.held ≡ length self.new.end.link.queue }
         ensures most { length self.new.held ≤ self.new.end.link.k }
         ensures k { self.new.end.link.k ≡ self.old.end.link.k }
+        ensures info { self.new.end.link.info ≡ self.old.end.link.info }
     {
         if !self.t1.is_running() {
             return None;
@@ -178,6 +179,7 @@ impl LineEnd {
         ensures tight { length self.new.held ≡ length self.new.end.link.queue }
         ensures most { length self.new.held ≤ self.new.end.link.k }
         ensures k { self.new.end.link.k ≡ self.old.end.link.k }
+        ensures info { self.new.end.link.info ≡ self.old.end.link.info }
     {
         self.link.relink(&mut self.out, pool);
         set_timer(&mut self.t1, self.out.take_timer());
@@ -193,6 +195,7 @@ impl LineEnd {
         ensures tight { length self.new.held ≡ length self.new.end.link.queue }
         ensures most { length self.new.held ≤ self.new.end.link.k }
         ensures k { self.new.end.link.k ≡ self.old.end.link.k }
+        ensures info { self.new.end.link.info ≡ self.old.end.link.info }
     {
         self.link.restart(pool);
         self.t1.stop();
@@ -200,14 +203,14 @@ impl LineEnd {
         self.relink(pool);
     }
 
-    /// Offers a packet that fits into an I frame to the link. It goes out in an I frame by a later `settle`.
+    /// Offers a packet of at most `info` octets to the link. It goes out in an I frame by a later `settle`.
     ///
     /// `Down` comes where the link is not up, `Full` where k packets are unacknowledged. A packet that is refused
     /// changes nothing.
     pub fn offer(&mut self, packet: &[u8], pool: &mut Pool) -> Result<(), OfferFault>
-        requires packet { length packet.now ≤ most_information }
+        requires packet { length packet.now ≤ self.old.end.link.info }
         requires holds { Holds pool.old self.old.held }
-        requires size { pool.old.size ≡ most_information }
+        requires size { self.old.end.link.info ≤ pool.old.size }
         requires room { in_use pool.old < length pool.old.places }
         ensures answer { MatchOption (refusal self.old.end.link) (IsOk result) (λ fault. result ≡ Err fault) }
         ensures taken { is_ok result ≡ machine.can_offer self.old.end.link }
@@ -216,6 +219,7 @@ impl LineEnd {
         ensures tight { length self.new.held ≡ length self.new.end.link.queue }
         ensures most { length self.new.held ≤ self.new.end.link.k }
         ensures k { self.new.end.link.k ≡ self.old.end.link.k }
+        ensures info { self.new.end.link.info ≡ self.old.end.link.info }
     {
         self.link.offer(packet, pool)
     }
@@ -224,7 +228,7 @@ impl LineEnd {
     /// is owed.
     pub fn settle(&mut self, pool: &mut Pool)
         requires holds { Holds pool.old self.old.held }
-        requires size { pool.old.size ≡ most_information }
+        requires size { pool.old.size ≤ most_information }
         ensures end { self.new.end ≡ settled self.old.end }
 
         // No packet that may go now stays unsent.
@@ -236,6 +240,7 @@ impl LineEnd {
         ensures pool { pool.new ≡ pool.old }
         ensures most { length self.new.held ≤ self.new.end.link.k }
         ensures k { self.new.end.link.k ≡ self.old.end.link.k }
+        ensures info { self.new.end.link.info ≡ self.old.end.link.info }
     {
         self.link.settle(&mut self.out, pool);
         set_timer(&mut self.t1, self.out.take_timer());

@@ -3,3 +3,4 @@ pub mod Fitting
 pub mod Windows
 pub mod Owing
 pub mod Sending
+pub mod Pieces

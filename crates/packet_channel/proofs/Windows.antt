@@ -1,9 +1,10 @@
--- What a line may have as its window.
+-- What a line may have as its window and its packet size.
 use Rattle.std.proofs.Common.{ℕ, ◌<◌, ◌≤◌, arith}
 use Rattle.packet_codec.specs.declared.packet.Numbering.{Numbering}
 use Rattle.packet_codec.specs.declared.packet.Numbering.TheVariants.{Modulo8, Modulo128}
 use Rattle.packet_channel.specs.Flow.{IsFlow, modulus, most_window}
 use Rattle.packet_channel.specs.declared.flow.Flow.{Flow}
+use Rattle.packet_channel.proofs.Pieces as pieces
 
 largest : (n : Numbering) (window : ℕ) → window ≤ most_window n → window ≤ 32
 largest Modulo8 window most = omega (arith, most)
@@ -25,3 +26,9 @@ under Modulo128 window small = omega (arith, small)
 
 pub below_small : (flow : Flow) → flow.window < modulus flow.numbering → flow.window ≤ 127
 below_small flow small = under flow.numbering flow.window small
+
+pub size_least : (flow : Flow) → IsFlow flow → 128 ≤ flow.size
+size_least flow is = pieces.size_least flow.size is.size_is
+
+pub size_most : (flow : Flow) → IsFlow flow → flow.size ≤ 1024
+size_most flow is = pieces.size_most flow.size is.size_is

@@ -247,24 +247,24 @@ abbrev pub refused_if : Bool → Refusal → Option Refusal → Option Refusal
 refused_if true r other = Some r
 refused_if false r other = other
 
-abbrev pub refusal : Role → Channel → Request → Option Refusal
-refusal role ch Accept = refused_if (not (may_accept role ch.state)) Refusal.NoCall None
-refusal role ch (Clearing cause diagnostic) = refused_if (not (may_clear ch.state)) Refusal.NoCall None
-refusal role ch (Resetting cause diagnostic) =
+abbrev pub refusal : Role → Flow → Channel → Request → Option Refusal
+refusal role flow ch Accept = refused_if (not (may_accept role ch.state)) Refusal.NoCall None
+refusal role flow ch (Clearing cause diagnostic) = refused_if (not (may_clear ch.state)) Refusal.NoCall None
+refusal role flow ch (Resetting cause diagnostic) =
     refused_if (not (in_transfer ch.state)) Refusal.NoCall (refused_if ch.resetting Refusal.IsResetting None)
-refusal role ch (Sending d) =
+refusal role flow ch (Sending d) =
     refused_if (not (in_transfer ch.state)) Refusal.NoCall
     (refused_if ch.resetting Refusal.IsResetting
     (refused_if (nat_le 8 (length ch.traffic.waiting)) Refusal.QueueFull
-    (refused_if (nat_lt 128 (length d.octets)) Refusal.TooLong None)))
-refusal role ch (Interrupting octets) =
+    (refused_if (nat_lt flow.size (length d.octets)) Refusal.TooLong None)))
+refusal role flow ch (Interrupting octets) =
     refused_if (not (in_transfer ch.state)) Refusal.NoCall
     (refused_if ch.resetting Refusal.IsResetting
     (refused_if ((length octets == 0) || nat_lt 32 (length octets)) Refusal.TooLong
     (refused_if (interrupt_pending ch.traffic) Refusal.InterruptPending None)))
-refusal role ch (Stopping b) = refused_if (not (in_transfer ch.state)) Refusal.NoCall None
+refusal role flow ch (Stopping b) = refused_if (not (in_transfer ch.state)) Refusal.NoCall None
 -- (nothing can be taken, released or confirmed outside a call)
-refusal role ch _ = refused_if (not (in_transfer ch.state)) Refusal.NoCall None
+refusal role flow ch _ = refused_if (not (in_transfer ch.state)) Refusal.NoCall None
 
 -- what a request in a call that is not refused makes of its traffic
 abbrev pub traffic_after : Request → Traffic → Traffic
@@ -294,8 +294,8 @@ abbrev pub unless : Option Refusal → Step → Channel → Step
 unless None done ch = done
 unless (Some r) done ch = quiet ch
 
-abbrev pub requested : Role → Channel → Request → Step
-requested role ch r = unless (refusal role ch r) (carried_out ch r) ch
+abbrev pub requested : Role → Flow → Channel → Request → Step
+requested role flow ch r = unless (refusal role flow ch r) (carried_out ch r) ch
 
 -- data may be queued: a call in p4 without a reset of the own end unconfirmed
 abbrev pub has_flow : Channel → Bool

@@ -1,5 +1,5 @@
 -- What lies in the buffers of a pool: packets, queues of packets, and the buffers that a channel holds by them.
-use Rattle.std.specs.Prelude.{◌≡◌, ℕ, ◌+◌, ◌≤◌, Bool, List, map, length}
+use Rattle.std.specs.Prelude.{◌≡◌, ℕ, ◌+◌, ◌≤◌, nat_le, Bool, true, ◌&&◌, List, [], ◌∷◌, map, length}
 use Rattle.flow_window.specs.Pool.{Buffer, weight}
 use Rattle.packet_channel.specs.Packets.{Datum}
 use Rattle.packet_channel.specs.Traffic as machine
@@ -38,11 +38,18 @@ pub record Channel : Type 0 where
   pub channel : channel.Channel
   pub held : List Buffer
 
--- no more packets wait to be taken than the window has room for, and no more buffers are held than that and the send
--- queue have room for
+-- each packet has at most so many octets
+abbrev pub are_short : (size : ℕ) → List Datum → Bool
+are_short size [] = true
+are_short size (d ∷ ds) = nat_le (length d.octets) size && are_short size ds
+
+-- no more packets wait to be taken than the window has room for, no more buffers are held than that and the send queue
+-- have room for, and no packet is larger than the line's size
 pub record Fits (flow : Flow) (c : Channel) : Type 0 where
   pub arrived : length c.channel.traffic.arrived ≤ flow.window
   pub held : length c.held ≤ flow.window + 8
+  pub arrived_short : are_short flow.size c.channel.traffic.arrived ≡ true
+  pub waiting_short : are_short flow.size c.channel.traffic.waiting ≡ true
 
 -- ---- buffers that change hands
 

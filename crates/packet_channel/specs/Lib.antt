@@ -14,3 +14,4 @@ pub mod Done
 pub mod ChannelView
 pub mod RequestView
 pub mod Answers
+pub mod Cutting

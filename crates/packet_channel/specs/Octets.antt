@@ -74,7 +74,8 @@ written flow channel (Some b) old =
 abbrev pub ReadsAs : Flow → ℕ → Option Body → List ℕ → Type 0
 ReadsAs flow channel None octets = Unit {0}
 ReadsAs flow channel (Some b) octets =
-    reading flow.numbering 128 octets ≡ Ok (record { numbering = flow.numbering; channel = channel; content = content_of b })
+    reading flow.numbering flow.size octets
+    ≡ Ok (record { numbering = flow.numbering; channel = channel; content = content_of b })
 
 -- ---- octets from the link. Too few octets and another format are ignored; an unknown type and the other faults
 -- count as a packet that the state of the channel does not allow
@@ -94,4 +95,4 @@ heard_by octets (Err BadAddress) = unreadable_as false (named_channel octets)
 heard_by octets (Err DataTooLong) = unreadable_as false (named_channel octets)
 
 abbrev pub heard : Flow → List ℕ → Option Received
-heard flow octets = heard_by octets (reading flow.numbering 128 octets)
+heard flow octets = heard_by octets (reading flow.numbering flow.size octets)

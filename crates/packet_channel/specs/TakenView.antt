@@ -1,5 +1,5 @@
 -- What is taken, as the code has it.
-use Rattle.std.specs.Prelude.{List, [], ◌∷◌, Option, Some, None, length}
+use Rattle.std.specs.Prelude.{ℕ, ◌≤◌, List, [], ◌∷◌, Option, Some, None, length}
 use Rattle.flow_window.specs.Pool.{Buffer}
 use Rattle.packet_channel.specs.Held.{datum_in}
 use Rattle.packet_channel.specs.Traffic as spec
@@ -44,3 +44,24 @@ shown_front (spec.Taken.TakenPacket d) = front.«Data» (length d.octets) d.more
 abbrev pub maybe_front : Option spec.Taken → Option Front
 maybe_front (Some x) = Some (shown_front x)
 maybe_front None = None
+
+-- its octets
+abbrev pub taken_octets : Option spec.Taken → List ℕ
+taken_octets None = []
+taken_octets (Some (spec.Taken.TakenInterrupt octets)) = octets
+taken_octets (Some (spec.Taken.TakenPacket d)) = d.octets
+
+-- what is taken, of what was told of it and its octets
+abbrev pub taken_with : Front → List ℕ → spec.Taken
+taken_with front.Interrupt octets = spec.Taken.TakenInterrupt octets
+taken_with (front.«Data» count more qualified delivery) octets = spec.Taken.TakenPacket (record {
+  octets = octets;
+  more = more;
+  qualified = qualified;
+  delivery = delivery;
+})
+
+-- an interrupt has at most 32 octets, a packet at most 1,024
+abbrev pub HasFewOctets : Front → List ℕ → Type 0
+HasFewOctets front.Interrupt octets = length octets ≤ 32
+HasFewOctets (front.«Data» count more qualified delivery) octets = length octets ≤ 1024

@@ -150,8 +150,8 @@ impl Channel {
     /// Takes the interrupt that waits, or else the first packet in its buffer.
     pub fn take_buf(&mut self) -> Option<TakenBuf>
         ensures taken { maybe_taken_in result ≡ traffic.front self.old.channel.traffic }
-        ensures channel { (role : Role)
-            → self.new.channel ≡ machine.owing (machine.requested role self.old.channel machine.Request.Taking) }
+        ensures channel { (role : Role) (flow : FlowValue)
+            → self.new.channel ≡ machine.owing (machine.requested role flow self.old.channel machine.Request.Taking) }
         ensures held { Loses self.old.held (maybe_buffers_in result) self.new.held }
         ensures fits { (flow : FlowValue) → Fits flow self.old → Fits flow self.new }
     {
@@ -192,7 +192,8 @@ impl Channel {
         ensures fits { (other : FlowValue) → Fits other self.old → Fits other self.new }
         ensures said { result ≡ is_some (machine.next_of flow self.old.channel).body }
         ensures octets { buf.new.items ≡ written flow channel (machine.next_of flow self.old.channel).body buf.old.items }
-        ensures reads_back { ReadsAs flow channel (machine.next_of flow self.old.channel).body buf.new.items }
+        ensures reads_back { Fits flow self.old
+            → ReadsAs flow channel (machine.next_of flow self.old.channel).body buf.new.items }
         ensures same { OnFalse result (self.new ≡ self.old) }
     {
         if let Some(control) = self.owed.first() {

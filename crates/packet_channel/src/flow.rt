@@ -1,9 +1,12 @@
 //! The flow control parameters of a line (X.25 4.4.1).
 ghost use Rattle.std.specs.Bool.{OnTrue, OnFalse};
 ghost use Rattle.std.specs.Prelude.{◌≡◌};
-ghost use Rattle.packet_channel.specs.Flow.{most_window, IsFlow};
+ghost use Rattle.packet_channel.specs.Flow.{most_window, is_size, IsFlow};
 
-use packet_codec::{MAX_USER_DATA, Numbering};
+use packet_codec::Numbering;
+
+/// The packet size of a line for which no other is chosen (X.25 4.3.2).
+pub const DEFAULT_SIZE: u16 = 128;
 
 /// The window, the numbering and the packet size that both ends of a line use in each direction.
 #[derive(Clone, Copy, PartialEq, Eq)]
@@ -13,7 +16,7 @@ pub struct Flow {
     pub window: u8,
     /// How packets are numbered.
     pub numbering: Numbering,
-    /// How many octets of user data a packet may have: 128 (X.25 4.3.2).
+    /// How many octets of user data a packet may have: 128, 256, 512 or 1,024 (X.25 4.3.2).
     pub size: u16,
 }
 
@@ -28,13 +31,18 @@ impl Flow {
         }
     }
 
+    // Whether it is one of the packet sizes.
+    fn is_size(&self) -> bool
+        ensures { result ≡ is_size self.now.size }
+    {
+        matches!(self.size, 128 | 256 | 512 | 1024)
+    }
+
     /// Whether a line may have these parameters.
     pub fn is_allowed(&self) -> bool
         ensures allowed { OnTrue result (IsFlow self.now) }
         ensures others { OnFalse result (IsFlow self.now → ⊥) }
     {
-        1 <= self.window
-            && self.window <= self.most_window()
-            && usize::from(self.size) == MAX_USER_DATA
+        1 <= self.window && self.window <= self.most_window() && self.is_size()
     }
 }

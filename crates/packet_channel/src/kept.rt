@@ -2,12 +2,15 @@
 ghost use Rattle.std.specs.Prelude.{◌≡◌, ◌≤◌, [], ◌∷◌, length};
 ghost use Rattle.flow_window.specs.Pool.{IsIn, Balances};
 ghost use Rattle.packet_channel.specs.Held.{datum_in};
+ghost use Rattle.packet_channel.specs.TakenView.{shown_front};
+ghost use Rattle.packet_channel.specs.Traffic.Taken.{TakenPacket};
 
+use crate::taken::Front;
 use crate::user_data::UserData;
 use flow_window::pool::{BufNo, Pool};
 use std::marker::Model;
 
-/// The user data of a Data packet, at most 128 octets in a buffer, with the bits M, Q and D (X.25 4.3).
+/// The user data of a Data packet, at most 1,024 octets in a buffer, with the bits M, Q and D (X.25 4.3).
 #[derive(Drop)]
 pub struct KeptPacket {
     buffer: BufNo,
@@ -29,13 +32,13 @@ impl Model for KeptPacket {
       delivery = p.delivery;
     } };
 
-    ghost invariant = { λ p. length p.buffer.octets ≤ 128 };
+    ghost invariant = { λ p. length p.buffer.octets ≤ 1024 };
 }
 
 impl KeptPacket {
     /// The packet that lies in the buffer.
     pub(crate) fn new(buffer: BufNo, more: bool, qualified: bool, delivery: bool) -> Self
-        requires { length buffer.octets ≤ 128 }
+        requires { length buffer.octets ≤ 1024 }
         ensures { result ≡ record { buffer = buffer; more = more; qualified = qualified; delivery = delivery } }
     {
         KeptPacket {
@@ -50,7 +53,7 @@ impl KeptPacket {
     pub(crate) fn octets<'a>(&self, pool: &'a Pool) -> &'a [u8]
         requires { IsIn self.now.buffer pool.now }
         ensures value { result.now ≡ self.now.buffer.octets }
-        ensures fits { length result.now ≤ 128 }
+        ensures fits { length result.now ≤ 1024 }
     {
         pool.octets(&self.buffer)
     }
@@ -76,10 +79,23 @@ impl KeptPacket {
         self.delivery
     }
 
+    /// What is told of the packet before it is taken.
+    pub(crate) fn front(&self, pool: &Pool) -> Front
+        requires { IsIn self.now.buffer pool.now }
+        ensures { result ≡ shown_front (TakenPacket (datum_in self.now)) }
+    {
+        Front::Data {
+            length: self.octets(pool).len() as u16,
+            more: self.more,
+            qualified: self.qualified,
+            delivery: self.delivery,
+        }
+    }
+
     /// The number of the buffer.
     pub fn into_buffer(self) -> BufNo
         ensures value { result ≡ self.buffer }
-        ensures fits { length self.buffer.octets ≤ 128 }
+        ensures fits { length self.buffer.octets ≤ 1024 }
     {
         self.buffer
     }

@@ -4,6 +4,7 @@
 
 mod channel;
 mod control;
+mod cutting;
 mod fault;
 mod flow;
 mod heard;
@@ -18,8 +19,9 @@ mod traffic;
 mod user_data;
 
 pub use channel::{BareRequest, Channel, Request};
+pub use cutting::full_packets;
 pub use fault::{ChannelFault, RefusedBuf};
-pub use flow::Flow;
+pub use flow::{DEFAULT_SIZE, Flow};
 pub use kept::KeptPacket;
 pub use note::{LayerNote, Reason};
 pub use notes::{NoteQueue, Notes};

@@ -1,7 +1,7 @@
 //! Data transfer on a channel from one reset to the next (X.25 4.3, 4.4).
-ghost use Rattle.std.specs.Prelude.{◌≡◌, ◌<◌, ◌≤◌, ◌+◌, ℕ, [], IfOk, length, ◌==◌, if◌then◌else◌};
+ghost use Rattle.std.specs.Prelude.{◌≡◌, ◌<◌, ◌≤◌, ◌+◌, ℕ, true, [], IfOk, length, ◌==◌, if◌then◌else◌};
 ghost use Rattle.flow_window.specs.Pool.{Buffer, weight, Holds, Balances};
-ghost use Rattle.packet_channel.specs.Held.{datum_in, Loses};
+ghost use Rattle.packet_channel.specs.Held.{datum_in, are_short, Loses};
 ghost use Rattle.packet_channel.specs.Traffic as machine;
 
 mod hearing;
@@ -163,20 +163,19 @@ impl Traffic {
             return Some(Front::Interrupt);
         }
         let data = self.arrived.front()?;
-        Some(Front::Data {
-            length: data.octets(pool).len() as u8,
-            more: data.more(),
-            qualified: data.qualified(),
-            delivery: data.delivery(),
-        })
+        Some(data.front(pool))
     }
 
     /// Takes the interrupt that waits, or else the first packet in its buffer.
+    #[tactic(auto, using(crate::proofs::Fitting::short_rest))]
     pub(crate) fn take_buf(&mut self) -> Option<TakenBuf>
         ensures taken { maybe_taken_in result ≡ machine.front self.old.traffic }
         ensures traffic { self.new.traffic ≡ machine.taking self.old.traffic }
         ensures held { Loses self.old.held (maybe_buffers_in result) self.new.held }
         ensures most { length self.new.held ≤ 8 + length self.new.traffic.arrived }
+        ensures short { (size : ℕ) → are_short size self.old.traffic.arrived ≡ true
+            → are_short size self.new.traffic.arrived ≡ true }
+        ensures waiting { self.new.traffic.waiting ≡ self.old.traffic.waiting }
     {
         if let Some(interrupt) = self.interrupt_arrived.take() {
             self.interrupt_taken = true;

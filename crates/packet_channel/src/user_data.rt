@@ -5,7 +5,7 @@ use arrayvec::ArrayVec;
 use packet_codec::{MAX_INTERRUPT, MAX_USER_DATA};
 use std::marker::Model;
 
-/// The user data of a Data packet, kept in place: at most 128 octets, with the bits M, Q and D (X.25 4.3).
+/// The user data of a Data packet, kept in place: at most 1,024 octets, with the bits M, Q and D (X.25 4.3).
 #[derive(Drop)]
 pub struct UserData {
     octets: ArrayVec<u8, MAX_USER_DATA>,
@@ -27,13 +27,13 @@ impl Model for UserData {
       delivery = d.delivery;
     } };
 
-    ghost invariant = { λ d. length d.octets.items ≤ 128 };
+    ghost invariant = { λ d. length d.octets.items ≤ 1024 };
 }
 
 impl UserData {
-    /// Keeps at most 128 octets with their bits.
+    /// Keeps at most 1,024 octets with their bits.
     pub fn new(octets: &[u8], more: bool, qualified: bool, delivery: bool) -> Self
-        requires { length octets.now ≤ 128 }
+        requires { length octets.now ≤ 1024 }
         ensures { result ≡ record { octets = octets.now; more = more; qualified = qualified; delivery = delivery } }
     {
         let mut kept = ArrayVec::new();
@@ -49,7 +49,7 @@ impl UserData {
     /// The octets.
     pub fn octets(&self) -> &[u8]
         ensures value { result.now ≡ self.now.octets }
-        ensures fits { length result.now ≤ 128 }
+        ensures fits { length result.now ≤ 1024 }
     {
         self.octets.as_slice()
     }

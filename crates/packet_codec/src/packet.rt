@@ -5,10 +5,10 @@ use crate::packet_type::PacketType;
 use arrayvec::ArrayVec;
 
 /// The most octets of a packet that is written.
-pub const MAX_PACKET: usize = 145;
+pub const MAX_PACKET: usize = 1028;
 
 /// The most octets of user data in a Data packet that is written.
-pub const MAX_USER_DATA: usize = 128;
+pub const MAX_USER_DATA: usize = 1024;
 
 /// The most octets of an Interrupt.
 pub const MAX_INTERRUPT: usize = 32;

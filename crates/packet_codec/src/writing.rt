@@ -17,7 +17,7 @@ use arrayvec::ArrayVec;
 ///
 /// The packet has a spelling: it is on channel 0 if it is a Restart or its confirmation and on a channel from 1 to
 /// 4,095 otherwise, its numbers are below the modulus of its numbering, and it has no more octets than its type may
-/// have, with at most 128 of user data in a Data packet.
+/// have, with at most 1,024 of user data in a Data packet.
 pub fn write_packet(packet: &Packet, buf: &mut PacketBuf)
     requires { IsPacket MAX_USER_DATA (view packet.now) }
     ensures octets { buf.new.items ≡ spelling (view packet.now) }

@@ -6,3 +6,5 @@ pub mod Waits
 pub mod Owned
 pub mod Ended
 pub mod Sending
+pub mod Sizes
+pub mod Short

@@ -1,26 +1,29 @@
 -- What a link and a layer hold of their pool, after a step of one of them.
-use Rattle.std.proofs.Common.{◌≡◌, ℕ, zero, suc, ◌+◌, ◌*◌, ◌<◌, ◌≤◌, Bool, true, false, List, ◌++◌, length, refl, ap, ◌∙◌, sym, subst, arith}
+use Rattle.std.proofs.Common.{◌≡◌, ℕ, zero, suc, ◌+◌, ◌*◌, ◌<◌, ◌≤◌, Bool, true, false, List, ◌++◌, length, refl, ap, sym, subst, arith}
 use Rattle.std.specs.Prelude.{replicate}
 use Rattle.link_timers.specs.declared.role.Role.{Role}
 use Rattle.link_timers.specs.declared.role.Role.TheVariants.{Dte, Dce}
 use Rattle.flow_window.specs.Pool.{Pool, Buffer, weight, in_use, Holds, Balances}
 use Rattle.flow_window.proofs.Weights.{weight_append, weight_ones, holds_after}
 use Rattle.packet_channel.specs.declared.flow.Flow.{Flow}
+use Rattle.lapb.specs.declared.link.LinkParams.{LinkParams}
 use Rattle.line_end.specs.End as line
 use Rattle.line_end.specs.Held.{LineEnd}
 use Rattle.packet_layer.specs.Channel.{closed_channel}
 use Rattle.packet_layer.specs.Layer as machine
 use Rattle.packet_layer.specs.Layer.{standing_channels}
 use Rattle.packet_layer.specs.Held.{Loses, Takes, Layer, most_held, HasRoom}
+use Rattle.packet_end.specs.Params.{info_of}
 use Rattle.packet_end.specs.Pooled.{PooledEnd, Serves, share_of}
 use Rattle.packet_end.specs.PooledView.{pooled_of}
 use Rattle.packet_end.specs.declared.pooled.PooledEnd.TheInside.{Inside}
 
 -- a pool serves an end still after a step of it
-pub serves_after : (before after : Pool) (held holds : List Buffer) (share shares : ℕ) → Serves before held share →
-    Balances before held after holds → shares ≡ share → Serves after holds shares
-serves_after before after held holds share shares is change same = record {
-  size = change.size ∙ is.size;
+pub serves_after : (before after : Pool) (held holds : List Buffer) (share shares info infos : ℕ) → Serves before held share info →
+    Balances before held after holds → shares ≡ share → infos ≡ info → Serves after holds shares infos
+serves_after before after held holds share shares info infos is change same short = record {
+  size_least = omega (arith, change.size, is.size_least, short);
+  size_most = omega (arith, change.size, is.size_most);
   holds = holds_after before after held holds is.holds change;
   room =
       let weights = change.weights (λ _. 1) in
@@ -33,7 +36,7 @@ serves_after before after held holds share shares is change same = record {
 
 -- a pool serves a link and a layer
 abbrev pub ServesBoth : Pool → LineEnd → Layer → Type 0
-ServesBoth pool line layer = Serves pool (line.held ++ layer.held) (share_of line.end layer.layer)
+ServesBoth pool line layer = Serves pool (line.held ++ layer.held) (share_of line.end layer.layer) line.end.link.info
 
 count : (bs cs : List Buffer) → length (bs ++ cs) ≡ length bs + length cs
 count bs cs =
@@ -43,9 +46,9 @@ count bs cs =
     let second = weight_ones cs in
     omega (arith, parts, all, first, second)
 
-pub served : (a : Inside) (x : PooledEnd) (pool : Pool) → pooled_of a ≡ x → Serves pool x.held x.share →
+pub served : (a : Inside) (x : PooledEnd) (pool : Pool) → pooled_of a ≡ x → Serves pool x.held x.share x.info →
     ServesBoth pool a.line a.layer
-served a x pool view is = subst (λ (x : PooledEnd). Serves pool x.held x.share) (sym view) is
+served a x pool view is = subst (λ (x : PooledEnd). Serves pool x.held x.share x.info) (sym view) is
 
 pub line_holds : (pool : Pool) (line : LineEnd) (layer : Layer) → ServesBoth pool line layer → Holds pool line.held
 line_holds pool line layer is w =
@@ -63,8 +66,10 @@ layer_part pool line layer holds w =
 pub layer_holds : (pool : Pool) (line : LineEnd) (layer : Layer) → ServesBoth pool line layer → Holds pool layer.held
 layer_holds pool line layer is = layer_part pool line layer is.holds
 
-pub layer_size : (pool : Pool) (line : LineEnd) (layer : Layer) → ServesBoth pool line layer → 128 ≤ pool.size
-layer_size pool line layer is = omega (arith, is.size)
+-- each packet of the line fits into a buffer
+pub layer_size : (pool : Pool) (line : LineEnd) (layer : Layer) → ServesBoth pool line layer →
+    line.end.link.info ≡ info_of layer.layer.flow → layer.layer.flow.size ≤ pool.size
+layer_size pool line layer is info = omega (arith, is.size_least, info)
 
 -- beside what the link holds there is room for all that the layer may hold, and one packet more
 pub layer_room : (pool : Pool) (line : LineEnd) (layer : Layer) → ServesBoth pool line layer →
@@ -144,11 +149,21 @@ layer_takes a x b back new view change w =
 
 -- ---- as both are made
 
-pub made_k : (role : Role) (k n2 : ℕ) (standing : Bool) → (line.made role k n2 standing).link.k ≡ k
-made_k Dte k n2 true = refl
-made_k Dce k n2 true = refl
-made_k Dte k n2 false = refl
-made_k Dce k n2 false = refl
+pub made_k : (role : Role) (p : LinkParams) → (line.made role p).link.k ≡ p.k
+made_k role p = by_standing role p.standing
+  where
+    by_standing : (role : Role) (standing : Bool) → (line.made role (record p { standing = standing })).link.k ≡ p.k
+    by_standing role true = refl
+    by_standing Dte false = refl
+    by_standing Dce false = refl
+
+pub made_info : (role : Role) (p : LinkParams) → (line.made role p).link.info ≡ p.info
+made_info role p = by_standing role p.standing
+  where
+    by_standing : (role : Role) (standing : Bool) → (line.made role (record p { standing = standing })).link.info ≡ p.info
+    by_standing role true = refl
+    by_standing Dte false = refl
+    by_standing Dce false = refl
 
 made_length : (standing : Bool) (n : ℕ) → length (standing_channels standing (replicate n closed_channel)) ≡ n
 made_length true zero = refl

@@ -162,7 +162,7 @@ found_alike l c n f (Some ch) is same =
 -- ---- what a user asks
 
 pub request_apart : (l : Layer) (c n : ℕ) (r : Request) → n ≢ c → Alike l (machine.request l c r) n
-request_apart l c n r apart = found_apart l c n (λ ch. requested l.role ch r) (channel_of l c) apart
+request_apart l c n r apart = found_apart l c n (λ ch. requested l.role l.flow ch r) (channel_of l c) apart
 
 carried_seen : (ch : Channel) (r : Request) → is_of_call r ≡ false →
     seen (Some (owing (carried_out ch r))) ≡ seen (Some ch)
@@ -183,8 +183,8 @@ unless_seen (Some r) done ch same = refl
 
 pub request_alike : (l : Layer) (c n : ℕ) (r : Request) → is_of_call r ≡ false → Alike l (machine.request l c r) n
 request_alike l c n r out =
-    found_alike l c n (λ ch. requested l.role ch r) (channel_of l c) refl
-    (λ ch. unless_seen (refusal l.role ch r) (carried_out ch r) ch (carried_seen ch r out))
+    found_alike l c n (λ ch. requested l.role l.flow ch r) (channel_of l c) refl
+    (λ ch. unless_seen (refusal l.role l.flow ch r) (carried_out ch r) ch (carried_seen ch r out))
 
 -- a request that may begin or end an own call, reset or clear is of another channel
 pub request_apart_or_alike : (l : Layer) (c n : ℕ) (r : Request) → (is_of_call r ≡ true → n ≢ c) → Alike l (machine.request l c r) n
@@ -263,35 +263,35 @@ content_named : (numbering : Numbering) (c : ℕ) (content : Result ContentValue
 content_named numbering c (Ok content) p e = cc
 content_named numbering c (Err fault) p e = absurd (cc)
 
-typed_named : (numbering : Numbering) (kind : Option PacketType) (first second third : ℕ) (rest : List ℕ) (p : PacketValue) →
-    typed numbering 128 kind first second third rest ≡ Ok p → p.channel ≡ codec.channel_of first second
-typed_named numbering None first second third rest p e = absurd (cc)
-typed_named numbering (Some kind) first second third rest p e =
+typed_named : (numbering : Numbering) (size : ℕ) (kind : Option PacketType) (first second third : ℕ) (rest : List ℕ) (p : PacketValue) →
+    typed numbering size kind first second third rest ≡ Ok p → p.channel ≡ codec.channel_of first second
+typed_named numbering size None first second third rest p e = absurd (cc)
+typed_named numbering size (Some kind) first second third rest p e =
     content_named numbering (codec.channel_of first second)
-    (codec.content_of numbering 128 kind (codec.bit_8 first) (codec.bit_7 first) third rest) p e
+    (codec.content_of numbering size kind (codec.bit_8 first) (codec.bit_7 first) third rest) p e
 
-formed_named : (numbering : Numbering) (formed : Bool) (first second third : ℕ) (rest : List ℕ) (p : PacketValue) →
-    cond formed (typed numbering 128 (named_type numbering first second third rest) first second third rest) (Err BadFormatId)
+formed_named : (numbering : Numbering) (size : ℕ) (formed : Bool) (first second third : ℕ) (rest : List ℕ) (p : PacketValue) →
+    cond formed (typed numbering size (named_type numbering first second third rest) first second third rest) (Err BadFormatId)
     ≡ Ok p →
     p.channel ≡ codec.channel_of first second
-formed_named numbering true first second third rest p e =
-    typed_named numbering (named_type numbering first second third rest) first second third rest p e
-formed_named numbering false first second third rest p e = absurd (cc)
+formed_named numbering size true first second third rest p e =
+    typed_named numbering size (named_type numbering first second third rest) first second third rest p e
+formed_named numbering size false first second third rest p e = absurd (cc)
 
-read_named : (numbering : Numbering) (octets : List ℕ) (p : PacketValue) (n : ℕ) → reading numbering 128 octets ≡ Ok p →
+read_named : (numbering : Numbering) (size : ℕ) (octets : List ℕ) (p : PacketValue) (n : ℕ) → reading numbering size octets ≡ Ok p →
     NamesAnother (named_channel octets) n → NamesAnother (Some p.channel) n
-read_named numbering [] p n e another = absurd another
-read_named numbering (first ∷ []) p n e another = absurd another
-read_named numbering (first ∷ second ∷ []) p n e another = absurd (cc)
-read_named numbering (first ∷ second ∷ third ∷ rest) p n e another =
-    rw (formed_named numbering (format_of first == format_id numbering) first second third rest p e) another
+read_named numbering size [] p n e another = absurd another
+read_named numbering size (first ∷ []) p n e another = absurd another
+read_named numbering size (first ∷ second ∷ []) p n e another = absurd (cc)
+read_named numbering size (first ∷ second ∷ third ∷ rest) p n e another =
+    rw (formed_named numbering size (format_of first == format_id numbering) first second third rest p e) another
 
 pub octets_apart : (l : Layer) (octets : List ℕ) (n : ℕ) → NamesAnother (named_channel octets) n →
     Alike l (on_octets l octets) n
 octets_apart l octets n another =
     let heard_apart =
-    read_apart (unread l) octets (reading l.flow.numbering 128 octets) n another
-    (λ p e. read_named l.flow.numbering octets p n e another) in
+    read_apart (unread l) octets (reading l.flow.numbering l.flow.size octets) n another
+    (λ p e. read_named l.flow.numbering l.flow.size octets p n e another) in
     record { role = heard_apart.role; phase = heard_apart.phase; channel = heard_apart.channel }
 
 -- ---- a packet that goes

@@ -21,6 +21,7 @@ use Rattle.packet_layer.specs.Layer.{Layer, Next, unread, next_packet}
 use Rattle.packet_layer.specs.Layer as machine
 use Rattle.packet_layer.specs.Events.{on_octets, on_named, timer_named, written_packet}
 use Rattle.packet_end.specs.Timing.{brought, TimersAgree}
+use Rattle.packet_end.specs.Params.{link_params}
 use Rattle.packet_end.specs.declared.params.EndParams.{EndParams}
 
 -- the link with T1 and the frames that go out; the layer; its timers; the notes of the event, in order
@@ -185,7 +186,7 @@ without_first_note e = record e { notes = drop 1 e.notes }
 
 abbrev pub made : Role → EndParams → PacketEnd
 made role p = record {
-  line = line.made role p.k p.n2 p.standing;
+  line = line.made role (link_params p);
   layer = machine.made role p.channels p.flow p.standing;
   timers = none_running;
   notes = [];

@@ -1,13 +1,16 @@
 //! One end of a line with its packet layer, and with a pool of its own.
 ghost use Rattle.std.specs.Prelude.{◌≡◌, ◌≤◌, ◌+◌, [], ◌∷◌, length, Some, None, MatchResult, slice_get};
+ghost use Rattle.std.specs.Prelude.{IfSome, vec_capacity};
 ghost use Rattle.std.specs.Bool.{OnTrue, OnFalse};
 ghost use Rattle.packet_codec.specs.Packet.{IsCallValue};
 ghost use Rattle.packet_codec.specs.View.{call_view};
 ghost use Rattle.packet_layer.specs.Channel.{Request as ask};
 ghost use Rattle.packet_layer.specs.Layer as machine;
 ghost use Rattle.packet_layer.specs.Octets.{parts_of};
+ghost use Rattle.packet_layer.specs.Packets.{Datum};
 ghost use Rattle.packet_layer.specs.RequestView.{request_of, refusal_of, call_refusal_of};
-ghost use Rattle.packet_layer.specs.TakenView.{maybe_taken, maybe_front};
+ghost use Rattle.packet_layer.specs.TakenView.{maybe_taken, maybe_front, taken_octets, HasFewOctets};
+ghost use Rattle.packet_layer.specs.Traffic.Taken.{TakenPacket};
 ghost use Rattle.packet_end.specs.Params.{AreParams, MadeNot};
 ghost use Rattle.packet_end.specs.Timing.{TimersAgree};
 ghost use Rattle.packet_end.specs.PacketEnd.{made, begun, received, after_timer, relinked, restarted};
@@ -19,9 +22,9 @@ use crate::fault::EndFault;
 use crate::params::EndParams;
 use crate::pooled::PooledEnd;
 use flow_window::pool::Pool;
-use frame_codec::{FrameBuf, MAX_INFORMATION};
+use frame_codec::FrameBuf;
 use link_timers::{Role, TimerId};
-use packet_codec::CallData;
+use packet_codec::{CallData, MAX_USER_DATA};
 use packet_layer::{CallFault, ChannelFault, Front, LayerNote, Request, Taken};
 use std::alloc::Global;
 use std::marker::Model;
@@ -74,7 +77,7 @@ impl PacketEnd {
             (λ fault. MadeNot params fault) }
     {
         params.check()?;
-        let mut pool = Pool::new(alloc, params.buffers(), MAX_INFORMATION)?;
+        let mut pool = Pool::new(alloc, params.buffers(), usize::from(params.info()))?;
         let end = PooledEnd::new(alloc, role, params, &mut pool)?;
         Ok(PacketEnd { end, pool })
     }
@@ -189,10 +192,27 @@ impl PacketEnd {
     /// Takes what comes next on the channel, if anything: an interrupt before all packets.
     pub fn take(&mut self, channel: u8) -> Option<Taken>
         ensures taken { maybe_taken result ≡ machine.front_on self.old.layer channel }
+        // A packet is no larger than the line's size.
+        ensures short { (d : Datum) → machine.front_on self.old.layer channel ≡ Some (TakenPacket d)
+            → length d.octets ≤ self.old.layer.flow.size }
         ensures end { self.new ≡ asked self.old channel ask.Taking }
     {
         let taken = self.end.take_buf(channel)?;
         Some(taken.take_out(&mut self.pool))
+    }
+
+    /// Takes what comes next on the channel as `take` does, but copies its octets into a text, which is empty and has room
+    /// for them.
+    pub fn take_into(&mut self, channel: u8, text: &mut Vec<u8>) -> Option<Front>
+        requires empty { text.old.items ≡ [] }
+        requires places { MAX_USER_DATA ≤ vec_capacity text.old }
+        ensures front { result ≡ maybe_front (machine.front_on self.old.layer channel) }
+        ensures text { text.new.items ≡ taken_octets (machine.front_on self.old.layer channel) }
+        ensures few { IfSome result (λ front. HasFewOctets front text.new.items) }
+        ensures end { self.new ≡ asked self.old channel ask.Taking }
+    {
+        let taken = self.end.take_buf(channel)?;
+        Some(taken.take_into(&mut self.pool, text))
     }
 
     /// What `take` would give on the channel, if anything: an interrupt, or a Data packet of so many octets with M, Q

@@ -1,12 +1,19 @@
 //! The parameters of an end of a line.
-ghost use Rattle.std.specs.Prelude.{◌≡◌, MatchResult};
-ghost use Rattle.packet_end.specs.Params.{AreParams};
+ghost use Rattle.std.specs.Prelude.{◌≡◌, ◌≤◌, MatchResult};
+ghost use Rattle.packet_end.specs.Params.{AreParams, info_of, link_params};
 ghost use Rattle.packet_end.specs.Pooled.{share_with};
 ghost use Rattle.packet_end.specs.declared.fault.EndFault.TheVariants as fault_is;
 
 use crate::fault::EndFault;
 use lapb::LinkParams;
 use packet_layer::{Flow, LayerParams, SEND_QUEUE};
+
+/// The octets of the longest Call Request: a header, addresses of 15 digits, 109 octets of facilities and 16 of user
+/// data.
+const CALL_REQUEST: u16 = 145;
+
+/// The octets in front of the user data of a Data packet modulo 128, which are 3 modulo 8.
+const MOST_HEADER: u16 = 4;
 
 /// How one end of a line is to be made.
 #[derive(Clone, Copy, PartialEq, Eq)]
@@ -30,19 +37,46 @@ impl EndParams {
             (λ _. AreParams self.now)
             (λ fault. (fault ≡ fault_is.BadConfig) × (AreParams self.now → ⊥)) }
     {
-        let link = LinkParams {
+        self.layer().check()?;
+        self.link().check()?;
+        Ok(())
+    }
+
+    /// The most octets of information of an I frame on the line, which are those of a packet: 145 of a Call Request, or
+    /// the packet size and 4 of a Data packet.
+    pub fn info(&self) -> u16
+        requires { self.now.flow.size ≤ 1024 }
+        ensures { result ≡ info_of self.now.flow }
+    {
+        (self.flow.size + MOST_HEADER).max(CALL_REQUEST)
+    }
+
+    /// How the link is to be made.
+    pub(crate) fn link(&self) -> LinkParams
+        requires { self.now.flow.size ≤ 1024 }
+        ensures { result ≡ link_params self.now }
+    {
+        LinkParams {
             k: self.k,
             n2: self.n2,
+            info: self.info(),
             standing: self.standing,
-        };
-        link.check()?;
-        let layer = LayerParams {
+        }
+    }
+
+    /// How the packet layer is to be made.
+    pub(crate) fn layer(&self) -> LayerParams
+        ensures { result ≡ record {
+          channels = self.now.channels;
+          flow = self.now.flow;
+          standing = self.now.standing;
+        } }
+    {
+        LayerParams {
             channels: self.channels,
             flow: self.flow,
             standing: self.standing,
-        };
-        layer.check()?;
-        Ok(())
+        }
     }
 
     /// How many buffers the end needs of a pool: for the packets that the link may have unacknowledged, for both queues

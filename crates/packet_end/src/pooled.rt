@@ -1,9 +1,10 @@
 //! One end of a line with its packet layer, in a pool that it is lent.
-ghost use Rattle.std.specs.Prelude.{◌≡◌, ◌≤◌, ◌<◌, ◌+◌, ◌++◌, [], ◌∷◌, length, drop, MatchOption, MatchResult, Some, None, slice_get};
+ghost use Rattle.std.specs.Prelude.{true, ◌≡◌, ◌≤◌, ◌<◌, ◌+◌, ◌++◌, [], ◌∷◌, length, drop, MatchOption, MatchResult, Some, None, slice_get};
 ghost use Rattle.std.specs.Bool.{OnTrue, OnFalse};
 ghost use Rattle.flow_window.specs.Pool.{Balances};
+ghost use Rattle.packet_channel.specs.Flow.{is_size};
 ghost use Rattle.packet_layer.specs.Layer.{unread};
-ghost use Rattle.packet_end.specs.Params.{AreParams};
+ghost use Rattle.packet_end.specs.Params.{AreParams, info_of};
 ghost use Rattle.packet_end.specs.Pooled.{Serves, share_with};
 ghost use Rattle.packet_end.specs.PacketEnd.{made, begun, heeded, received, runs_at, after_timer, relinked};
 ghost use Rattle.packet_end.specs.PacketEnd.{restarted, elapsed, due, at_rest, without_first_frame};
@@ -19,11 +20,11 @@ use crate::params::EndParams;
 use crate::touched::Touched;
 use flow_window::pool::Pool;
 use frame_codec::FrameBuf;
-use lapb::{LinkParams, Note};
+use lapb::Note;
 use line_end::{LineEnd, MOST_FRAMES};
 use link_timers::{Role, TimerId, Timers};
 use packet_codec::PacketBuf;
-use packet_layer::{Layer, LayerNote, LayerParams};
+use packet_layer::{Layer, LayerNote};
 use std::alloc::Global;
 use std::marker::Model;
 use std::ops::Deref;
@@ -78,25 +79,18 @@ impl PooledEnd {
     ) -> Result<PooledEnd, EndFault>
         requires { AreParams params }
         ensures end { MatchResult result
-            (λ end. end ≡ record { end = made role params; held = []; share = share_with params })
+            (λ end. end ≡ record {
+              end = made role params;
+              held = [];
+              share = share_with params;
+              info = info_of params.flow;
+            })
             (λ fault. fault ≡ fault_is.OutOfMemory) }
         ensures pool { Balances pool.old [] pool.new [] }
     {
-        let EndParams {
-            k,
-            n2,
-            channels,
-            flow,
-            standing,
-        } = params;
-        let layer = LayerParams {
-            channels,
-            flow,
-            standing,
-        };
-        let layer = Layer::new(alloc, role, layer)?;
+        let layer = Layer::new(alloc, role, params.layer())?;
         let notes = EventNotes::new(alloc)?;
-        let line = LineEnd::new(role, LinkParams { k, n2, standing }, pool)?;
+        let line = LineEnd::new(role, params.link(), pool)?;
         Ok(PooledEnd {
             line,
             layer,
@@ -105,6 +99,15 @@ impl PooledEnd {
             touched: Touched::Everything,
             packet: PacketBuf::new(),
         })
+    }
+
+    /// The most octets of a Data packet on the line.
+    pub fn size(&self) -> u16
+        ensures size { result ≡ self.now.end.layer.flow.size }
+        ensures allowed { is_size result ≡ true }
+        ensures fits { result ≤ self.now.info }
+    {
+        self.layer.flow().size
     }
 
     /// Begins an event of the node: drops the frames, as lost, and the notes that were not taken.
@@ -118,7 +121,7 @@ impl PooledEnd {
     /// Takes the octets of a received frame, and hands what it tells to the packet layer (X.25 2.4, 3 to 5).
     pub fn on_frame(&mut self, octets: &[u8], pool: &mut Pool)
         requires notes { self.old.end.notes ≡ [] }
-        requires pool { Serves pool.old self.old.held self.old.share }
+        requires pool { Serves pool.old self.old.held self.old.share self.old.info }
         ensures end { self.new ≡ record self.old { end = received self.old.end octets.now; held = self.new.held } }
         ensures notes { length self.new.end.notes ≤ 64 }
         ensures pool { Balances pool.old self.old.held pool.new self.new.held }
@@ -147,7 +150,7 @@ impl PooledEnd {
     /// Takes an expiry of a timer. Where the timer does not run nothing happens.
     pub fn on_timer(&mut self, id: TimerId, pool: &mut Pool)
         requires notes { self.old.end.notes ≡ [] }
-        requires pool { Serves pool.old self.old.held self.old.share }
+        requires pool { Serves pool.old self.old.held self.old.share self.old.info }
         ensures end { self.new ≡ record self.old { end = after_timer self.old.end id; held = self.new.held } }
         ensures notes { length self.new.end.notes ≤ 64 }
         ensures pool { Balances pool.old self.old.held pool.new self.new.held }
@@ -168,7 +171,7 @@ impl PooledEnd {
     /// Gives the link up and sets it up again: all calls close.
     pub fn relink(&mut self, pool: &mut Pool)
         requires notes { length self.old.end.notes ≤ 64 }
-        requires pool { Serves pool.old self.old.held self.old.share }
+        requires pool { Serves pool.old self.old.held self.old.share self.old.info }
         ensures end { self.new ≡ record self.old { end = relinked self.old.end; held = self.new.held } }
         ensures notes { length self.new.end.notes ≤ length self.old.end.notes + 32 }
         ensures pool { Balances pool.old self.old.held pool.new self.new.held }
@@ -182,7 +185,7 @@ impl PooledEnd {
     /// Restarts the end of the line with its node, as on a line that does not stand. All that went before is forgotten,
     /// frames and notes too.
     pub fn restart(&mut self, pool: &mut Pool)
-        requires { Serves pool.old self.old.held self.old.share }
+        requires { Serves pool.old self.old.held self.old.share self.old.info }
         ensures end { self.new ≡ record self.old { end = restarted self.old.end; held = self.new.held } }
         ensures pool { Balances pool.old self.old.held pool.new self.new.held }
         ensures within { length self.new.held < self.new.share }
@@ -266,7 +269,7 @@ impl PooledEnd {
     // What a note of the link is for the packet layer.
     fn heed(&mut self, note: Note, pool: &mut Pool)
         requires notes { length self.old.end.notes ≤ 64 }
-        requires pool { Serves pool.old self.old.held self.old.share }
+        requires pool { Serves pool.old self.old.held self.old.share self.old.info }
         ensures end { self.new ≡ record self.old { end = heeded note self.old.end; held = self.new.held } }
         ensures notes { length self.new.end.notes ≤ length self.old.end.notes + 32 }
         ensures pool { Balances pool.old self.old.held pool.new self.new.held }

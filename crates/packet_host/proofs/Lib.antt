@@ -1,4 +1,3 @@
 pub mod Refused
-pub mod Saying
 pub mod Taken
 pub mod Frames

@@ -2,13 +2,16 @@
 use Rattle.std.proofs.Common.{◌≡◌, ℕ, zero, suc, Bool, true, cond, List, [], ◌∷◌, refl, sym, ap, ◌∙◌}
 use Rattle.std.specs.Prelude.{Option, Some, None, is_some, not}
 use Rattle.std.proofs.lemmas.List.{append-nil}
+use Rattle.std.proofs.lemmas.Option.{none-some}
 use Rattle.link_timers.specs.declared.role.Role.{Role}
 use Rattle.link_timers.specs.declared.role.Role.TheVariants.{Dte, Dce}
+use Rattle.packet_channel.specs.declared.flow.Flow.{Flow}
 use Rattle.packet_layer.specs.Packets.{CallParts, Datum}
 use Rattle.packet_layer.specs.Traffic.{Taken, Traffic, front_of, taking_of}
 use Rattle.packet_layer.specs.Channel.{CallState, Channel, Request, Refusal, Step, unless, quiet, refusal, requested, carried_out, may_accept, may_clear, refused_if}
 use Rattle.packet_layer.specs.Layer.{Layer, Phase, nth_channel, with_nth, channel_of, on_found, after_step, request_refusal, refusal_at, call_refusal, free_channel, placed_on, can_accept, can_accept_at, front_on, front_at}
 use Rattle.packet_layer.specs.Layer as machine
+use Rattle.packet_layer.specs.TakenView.{maybe_front, shown_front}
 use Rattle.packet_layer.proofs.Places.{set_same}
 use Rattle.packet_end.specs.PacketEnd.{PacketEnd, asked, called}
 use Rattle.packet_host.specs.Host.{ended, unless_refused, after_request, after_call, after_refuse, after_take, taken_as}
@@ -22,7 +25,7 @@ quiet_same l c ch at =
     λ i. record l { channels = with_same l.channels c ch at i; notes = append-nil l.notes i }
 
 found_refused : (l : Layer) (c : ℕ) (r : Request) (x : Refusal) (found : Option Channel) → channel_of l c ≡ found →
-    refusal_at l.role r found ≡ Some x → on_found l c (λ ch. requested l.role ch r) found ≡ l
+    refusal_at l.role l.flow r found ≡ Some x → on_found l c (λ ch. requested l.role l.flow ch r) found ≡ l
 found_refused l c r x None at is = refl
 found_refused l c r x (Some ch) at is =
     ap (λ (o : Option Refusal). after_step l c (unless o (carried_out ch r) ch)) is ∙ quiet_same l c ch at
@@ -86,13 +89,13 @@ state_clears Dce CallState.Transfer h = absurd (cc)
 state_clears Dte CallState.OwnClear h = absurd (cc)
 state_clears Dce CallState.OwnClear h = absurd (cc)
 
-found_clears : (role : Role) (found : Option Channel) → can_accept_at role found ≡ true → refusal_at role (Request.Clearing 0 0) found ≡ None
-found_clears role None h = absurd (cc)
-found_clears role (Some ch) h =
+found_clears : (role : Role) (flow : Flow) (found : Option Channel) → can_accept_at role found ≡ true → refusal_at role flow (Request.Clearing 0 0) found ≡ None
+found_clears role flow None h = absurd (cc)
+found_clears role flow (Some ch) h =
     ap (λ (b : Bool). refused_if (not b) Refusal.NoCall None) (state_clears role ch.state h)
 
 pub accepted_clears : (l : Layer) (c : ℕ) → can_accept l c ≡ true → request_refusal l c (Request.Clearing 0 0) ≡ None
-accepted_clears l c h = found_clears l.role (channel_of l c) h
+accepted_clears l c h = found_clears l.role l.flow (channel_of l c) h
 
 pub refuse_went : (e new : PacketEnd) (c : ℕ) → can_accept e.layer c ≡ true → new ≡ after_request e c (Request.Clearing 0 0) →
     new ≡ after_refuse e c
@@ -112,14 +115,19 @@ unless_same None ch = refl
 unless_same (Some r) ch = refl
 
 found_empty : (l : Layer) (c : ℕ) (found : Option Channel) → channel_of l c ≡ found → front_at found ≡ None →
-    on_found l c (λ ch. requested l.role ch Request.Taking) found ≡ l
+    on_found l c (λ ch. requested l.role l.flow ch Request.Taking) found ≡ l
 found_empty l c None at h = refl
 found_empty l c (Some ch) at h =
-    ap (λ (t : Traffic). after_step l c (unless (refusal l.role ch Request.Taking) (quiet (record ch { traffic = t })) ch))
+    ap (λ (t : Traffic). after_step l c (unless (refusal l.role l.flow ch Request.Taking) (quiet (record ch { traffic = t })) ch))
     (taking_none ch.traffic.interrupt_arrived ch.traffic.arrived ch.traffic h)
-    ∙ ap (λ (st : Step). after_step l c st) (unless_same (refusal l.role ch Request.Taking) ch) ∙ quiet_same l c ch at
+    ∙ ap (λ (st : Step). after_step l c st) (unless_same (refusal l.role l.flow ch Request.Taking) ch) ∙ quiet_same l c ch at
 
 pub took_nothing : (e new : PacketEnd) (c : ℕ) → front_on e.layer c ≡ None → new ≡ asked e c Request.Taking → new ≡ after_take e c
 took_nothing e new c is done =
     done ∙ (λ i. record e { layer = found_empty e.layer c (channel_of e.layer c) refl is i })
     ∙ ap (λ (x : Option Taken). taken_as x c e) (sym is)
+
+-- nothing is told of what is not there
+pub nothing_told : (x : Option Taken) → maybe_front x ≡ None → x ≡ None
+nothing_told None is = refl
+nothing_told (Some x) is = absurd (none-some (shown_front x) (sym is))

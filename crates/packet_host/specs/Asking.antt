@@ -1,11 +1,12 @@
 -- What the user of a host asks of a call: when it is refused, and what it makes of the host.
 use Rattle.std.specs.Prelude.{ℕ, true, false, Option}
+use Rattle.packet_channel.specs.Cutting.{cut}
 use Rattle.packet_layer.specs.Channel.{Refusal}
 use Rattle.packet_layer.specs.Channel.{Request as ask}
 use Rattle.packet_layer.specs.Layer.{request_refusal}
 use Rattle.packet_end.specs.PacketEnd.{PacketEnd, asked}
 use Rattle.packet_host.specs.Host.{refuse_refusal, unless_refused, ended}
-use Rattle.packet_host.specs.Saying.{cut, queued, say_refusal}
+use Rattle.packet_host.specs.Saying.{message, queued, say_refusal}
 use Rattle.packet_host.specs.declared.request.HostRequest.{HostRequest}
 use Rattle.packet_host.specs.declared.request.HostRequest.TheVariants.{Answer, Refuse, Say, Interrupt, Reset, Clear}
 use Rattle.packet_host.specs.declared.request.HostRequest.TheVariants.{Stop, Go}
@@ -25,7 +26,8 @@ ask_refusal e channel Go = request_refusal e.layer channel (ask.Stopping false)
 abbrev pub asked_for : PacketEnd → (channel : ℕ) → HostRequest → PacketEnd
 asked_for e channel Answer = asked e channel ask.Accept
 asked_for e channel Refuse = asked e channel (ask.Clearing 0 0)
-asked_for e channel (Say octets qualified delivery) = queued channel (cut octets.items qualified delivery) e
+asked_for e channel (Say octets qualified delivery) =
+    queued channel (cut e.layer.flow.size (message octets.items qualified delivery)) e
 asked_for e channel (Interrupt octets) = asked e channel (ask.Interrupting octets.items)
 asked_for e channel Reset = asked e channel (ask.Resetting 0 0)
 asked_for e channel Clear = asked e channel (ask.Clearing 0 0)

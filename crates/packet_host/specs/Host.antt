@@ -2,6 +2,7 @@
 -- event.
 use Rattle.std.specs.Prelude.{ℕ, Bool, cond, not, List, [], Option, Some, None}
 use Rattle.link_timers.specs.declared.timers.TimerId.{TimerId}
+use Rattle.packet_channel.specs.Cutting.{cut}
 use Rattle.packet_layer.specs.Packets.{CallParts}
 use Rattle.packet_layer.specs.Traffic.{Taken}
 use Rattle.packet_layer.specs.Channel.{Refusal, Request, refused_if}
@@ -9,7 +10,7 @@ use Rattle.packet_layer.specs.Layer.{can_accept, request_refusal, call_refusal, 
 use Rattle.packet_end.specs.PacketEnd.{Octets, PacketEnd, begun, finished, asked, called, received, runs_at, after_timer}
 use Rattle.packet_end.specs.PacketEnd as end
 use Rattle.packet_end.specs.Sending.{ending_frames}
-use Rattle.packet_host.specs.Saying.{cut, queued, say_refusal}
+use Rattle.packet_host.specs.Saying.{message, queued, say_refusal}
 
 -- an event that has changed the end: it drops what was not taken of the last one, and ends
 abbrev pub ended : PacketEnd → PacketEnd
@@ -46,7 +47,7 @@ after_refuse e channel = unless_refused (refuse_refusal e channel) (ended (asked
 abbrev pub after_say : PacketEnd → (channel : ℕ) → List ℕ → (qualified delivery : Bool) → PacketEnd
 after_say e channel octets qualified delivery =
     unless_refused (say_refusal e.layer channel octets qualified)
-    (ended (queued channel (cut octets qualified delivery) e)) e
+    (ended (queued channel (cut e.layer.flow.size (message octets qualified delivery)) e)) e
 
 -- what is taken is released, and an interrupt is confirmed
 abbrev pub let_go : Taken → (channel : ℕ) → PacketEnd → PacketEnd

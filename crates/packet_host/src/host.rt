@@ -1,11 +1,11 @@
 //! The host and its calls.
 ghost use Rattle.std.specs.Prelude.{◌≡◌, ◌≤◌, [], true, false, Some, None, length, MatchResult, OnOk, OnErr};
-ghost use Rattle.std.specs.Prelude.{OnSome, MatchOption, slice_get, IfSome};
+ghost use Rattle.std.specs.Prelude.{OnSome, MatchOption, slice_get, IfSome, vec_capacity};
 ghost use Rattle.packet_layer.specs.Channel.{Request as ask};
 ghost use Rattle.packet_layer.specs.Layer as machine;
 ghost use Rattle.packet_layer.specs.NoteView.{maybe_note, note_of};
 ghost use Rattle.packet_layer.specs.RequestView.{request_of, refusal_of, call_refusal_of};
-ghost use Rattle.packet_layer.specs.TakenView.{taken_of, maybe_taken};
+ghost use Rattle.packet_layer.specs.TakenView.{taken_of, maybe_taken, maybe_front, taken_octets, taken_with, HasFewOctets};
 ghost use Rattle.packet_end.specs.Params.{AreParams, MadeNot};
 ghost use Rattle.packet_end.specs.PacketEnd as end;
 ghost use Rattle.packet_end.specs.Timing.{TimersAgree};
@@ -18,10 +18,9 @@ mod line;
 mod saying;
 
 use crate::config::HostConfig;
-use packet_codec::{Address, CallData};
+use packet_codec::{Address, CallData, MAX_USER_DATA};
 use packet_end::{EndFault, PacketEnd};
-use packet_layer::{CallFault, ChannelFault, LayerNote, Request, Taken};
-pub use saying::full_packets;
+use packet_layer::{CallFault, ChannelFault, Front, LayerNote, Request, Taken};
 use std::alloc::Global;
 use std::marker::Model;
 
@@ -212,6 +211,29 @@ impl Host {
         let _ = self.end.ask(channel, &request);
         self.end_event();
         Some(taken)
+    }
+
+    /// Takes what comes next on the channel as `take` does, but copies its octets into a text, which is empty and has room
+    /// for them.
+    pub fn take_into(&mut self, channel: u8, text: &mut Vec<u8>) -> Option<Front>
+        requires empty { text.old.items ≡ [] }
+        requires places { MAX_USER_DATA ≤ vec_capacity text.old }
+        ensures front { result ≡ maybe_front (machine.front_on self.old.layer channel) }
+        ensures text { text.new.items ≡ taken_octets (machine.front_on self.old.layer channel) }
+        ensures few { IfSome result (λ front. HasFewOctets front text.new.items) }
+        ensures host { self.new ≡ after_take self.old channel }
+        ensures nothing_kept_back { OnSome result (end.KeepsNothingBack self.new) }
+        ensures frames { IfSome result (λ front. self.new.line.frames ≡ ended_frames
+            (let_go (taken_with front text.new.items) channel (end.asked self.old channel ask.Taking))) }
+    {
+        let front = self.end.take_into(channel, text)?;
+        let request = match front {
+            Front::Interrupt => Request::ConfirmInterrupt,
+            Front::Data { .. } => Request::Release(1),
+        };
+        let _ = self.end.ask(channel, &request);
+        self.end_event();
+        Some(front)
     }
 
     /// Whether the channel has a call in which no packet of the present epoch that asks for delivery confirmation (D =

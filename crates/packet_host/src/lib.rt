@@ -7,5 +7,5 @@ mod host;
 mod request;
 
 pub use config::HostConfig;
-pub use host::{Host, full_packets};
+pub use host::Host;
 pub use request::HostRequest;

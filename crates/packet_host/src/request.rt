@@ -8,8 +8,8 @@ pub enum HostRequest {
     Answer,
     /// The call that came in is cleared before it is accepted (X.25 4.1.7).
     Refuse,
-    /// Octets go as one message, cut into packets of 128 octets, with Q on all of them and D on the last (X.25 4.3.3 to
-    /// 4.3.6).
+    /// Octets go as one message, cut into packets of the line's size, with Q on all of them and D on the last (X.25
+    /// 4.3.3 to 4.3.6).
     Say {
         octets: Vec<u8>,
         qualified: bool,

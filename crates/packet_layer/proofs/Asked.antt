@@ -31,7 +31,7 @@ abbrev changed : Inside → ℕ → Holder → Layer
 changed a place new = record (layer_of a) { channels = plain (set a.channels.items place new) }
 
 pub done : (a : Inside) (x : Held) (c place : ℕ) (old new : Holder) (r : Request) (relink : Bool) →
-    IsAt a x c place old → CarriedOut a.role old.channel r relink new.channel →
+    IsAt a x c place old → CarriedOut a.role a.flow old.channel r relink new.channel →
     record (changed a place new) { relink = set_if relink a.relink } ≡ machine.request x.layer c r
 done a x c place old new r relink at is =
     ap (λ chs. record (layer_of a) { channels = chs; relink = set_if relink a.relink })
@@ -41,7 +41,7 @@ done a x c place old new r relink at is =
     ∙ ap (λ (x : Held). machine.request x.layer c r) at.view
 
 pub allowed : (a : Inside) (x : Held) (c place : ℕ) (old new : Holder) (r : Request) (relink : Bool) →
-    IsAt a x c place old → CarriedOut a.role old.channel r relink new.channel →
+    IsAt a x c place old → CarriedOut a.role a.flow old.channel r relink new.channel →
     machine.request_refusal x.layer c r ≡ None
 allowed a x c place old new r relink at is =
     ap (λ (x : Held). machine.request_refusal x.layer c r) (sym at.view)
@@ -49,7 +49,7 @@ allowed a x c place old new r relink at is =
     ∙ is.allowed
 
 pub refused : (a : Inside) (x : Held) (c place : ℕ) (old new : Holder) (r : Request) (fault : ChannelFault) →
-    IsAt a x c place old → Refused a.role old.channel r fault new.channel →
+    IsAt a x c place old → Refused a.role a.flow old.channel r fault new.channel →
     changed a place new ≡ machine.request x.layer c r
 refused a x c place old new r fault at is =
     ap (λ chs. record (layer_of a) { channels = chs }) (plain_set a.channels.items place new)
@@ -59,7 +59,7 @@ refused a x c place old new r fault at is =
 
 pub told : (a : Inside) (x : Held) (c place : ℕ) (old new : Holder) (r : Request) (fault : ChannelFault)
     (result : Result Unit ChannelFault) → IsErrAnd result (λ e. e ≡ fault) → IsAt a x c place old →
-    Refused a.role old.channel r fault new.channel →
+    Refused a.role a.flow old.channel r fault new.channel →
     MatchResult result (λ _. machine.request_refusal x.layer c r ≡ None)
     (λ fault. machine.request_refusal x.layer c r ≡ Some (refusal_of fault))
 told a x c place old new r fault (Ok _) same at is = absurd same

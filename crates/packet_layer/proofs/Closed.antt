@@ -33,7 +33,7 @@ none_held (x ∷ xs) = none_held xs
 
 pub all_fit : (flow : Flow) (chs : List Holder) → AllFit flow (map (λ ch. closed) chs)
 all_fit flow [] = tt
-all_fit flow (x ∷ xs) = (record { arrived = omega arith; held = omega arith }, all_fit flow xs)
+all_fit flow (x ∷ xs) = (record { arrived = omega arith; held = omega arith; arrived_short = refl; waiting_short = refl }, all_fit flow xs)
 
 pub plain_closed : (chs : List Holder) → plain (map (λ ch. closed) chs) ≡ map (λ ch. closed_channel) (plain chs)
 plain_closed [] = refl
@@ -109,11 +109,11 @@ made_holds false n = none_replicated n
 
 replicated_fit : (flow : Flow) (n : ℕ) → AllFit flow (replicate n closed)
 replicated_fit flow zero = tt
-replicated_fit flow (suc n) = (record { arrived = omega arith; held = omega arith }, replicated_fit flow n)
+replicated_fit flow (suc n) = (record { arrived = omega arith; held = omega arith; arrived_short = refl; waiting_short = refl }, replicated_fit flow n)
 
 pub made_fit : (flow : Flow) (standing : Bool) (n : ℕ) → AllFit flow (made standing n)
 made_fit flow true zero = tt
-made_fit flow true (suc n) = (record { arrived = omega arith; held = omega arith }, replicated_fit flow n)
+made_fit flow true (suc n) = (record { arrived = omega arith; held = omega arith; arrived_short = refl; waiting_short = refl }, replicated_fit flow n)
 made_fit flow false n = replicated_fit flow n
 
 plain_replicated : (n : ℕ) → plain (replicate n closed) ≡ replicate n closed_channel

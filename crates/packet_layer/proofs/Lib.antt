@@ -7,3 +7,4 @@ pub mod Silence
 pub mod Round
 pub mod Asked
 pub mod Served
+pub mod Flows

@@ -91,12 +91,7 @@ buffers_same (x ∷ xs) (suc i) old new e same = ap (λ bs. x.held ++ bs) (buffe
 pub fits_at : (flow : Flow) (cs : List Holder) (i : ℕ) (c : Holder) → AllFit flow cs → slice_get cs i ≡ Some c →
     Fits flow c
 fits_at flow [] i c all e = absurd (none-some c e)
-fits_at flow (x ∷ xs) zero c all e =
-    let same = same_Some x c e in
-    record {
-      arrived = omega (arith, all.0.arrived, ap (λ (c : Holder). length c.channel.traffic.arrived) same);
-      held = omega (arith, all.0.held, ap (λ (c : Holder). length c.held) same);
-    }
+fits_at flow (x ∷ xs) zero c all e = subst (λ (y : Holder). Fits flow y) (same_Some x c e) all.0
 fits_at flow (x ∷ xs) (suc i) c all e = fits_at flow xs i c all.1 e
 
 pub fits_set : (flow : Flow) (cs : List Holder) (i : ℕ) (new : Holder) → AllFit flow cs → Fits flow new →
@@ -158,7 +153,13 @@ rw_fits flow other old new e fits = subst (λ (f : Flow). Fits f old → Fits f 
 -- a call that is placed takes no buffer
 pub fits_kept : (flow : Flow) (old new : Holder) (parts : CallParts) →
     new ≡ record old { channel = owing (placing parts old.channel) } → Fits flow old → Fits flow new
-fits_kept flow old new parts e fits = rw e (record { arrived = fits.arrived; held = fits.held })
+fits_kept flow old new parts e fits =
+    rw e (record {
+      arrived = fits.arrived;
+      held = fits.held;
+      arrived_short = fits.arrived_short;
+      waiting_short = fits.waiting_short;
+    })
 
 pub own_few : (a : Inside) (x : Held) → IsLayer a → holding a ≡ x → length x.held ≤ most_held x.layer
 own_few a x is view =

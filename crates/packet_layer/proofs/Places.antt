@@ -65,19 +65,19 @@ kept l place new relink = record l { channels = set l.channels place new; relink
 step_done : (l : Layer) (place : ℕ) (ch : Channel) (st : Step) (new : Channel) (relink : Bool) → st.notes ≡ [] → st.channel.owed ≡ ch.owed → new ≡ owing st → relink ≡ passes_limit ch.owed st.owes → record l { channels = set l.channels place (owing st); relink = set_if (passes_limit st.channel.owed st.owes) l.relink; notes = l.notes ++ st.notes } ≡ kept l place new relink
 step_done l place ch st new relink n o e p = rw (e, p, n, o, append-nil l.notes) refl
 
-pub request_done : (l : Layer) (c place : ℕ) (ch new : Channel) (r : Request) (relink : Bool) → place + 1 ≡ c → slice_get l.channels place ≡ Some ch → CarriedOut l.role ch r relink new → kept l place new relink ≡ machine.request l c r
+pub request_done : (l : Layer) (c place : ℕ) (ch new : Channel) (r : Request) (relink : Bool) → place + 1 ≡ c → slice_get l.channels place ≡ Some ch → CarriedOut l.role l.flow ch r relink new → kept l place new relink ≡ machine.request l c r
 request_done l c place ch new r relink e h done =
-    sym (step_at l c place ch (λ x. requested l.role x r) e h
+    sym (step_at l c place ch (λ x. requested l.role l.flow x r) e h
     ∙ ap (λ (o : Option Refusal). let st = unless o (carried_out ch r) ch in record l { channels = set l.channels place (owing st); relink = set_if (passes_limit st.channel.owed st.owes) l.relink; notes = l.notes ++ st.notes }) done.allowed
     ∙ step_done l place ch (carried_out ch r) new relink (no_notes ch r) (same_owed ch r) done.channel done.passes)
 
-pub request_refused : (l : Layer) (c place : ℕ) (ch new : Channel) (r : Request) (fault : ChannelFault) → place + 1 ≡ c → slice_get l.channels place ≡ Some ch → Refused l.role ch r fault new → record l { channels = set l.channels place new } ≡ machine.request l c r
+pub request_refused : (l : Layer) (c place : ℕ) (ch new : Channel) (r : Request) (fault : ChannelFault) → place + 1 ≡ c → slice_get l.channels place ≡ Some ch → Refused l.role l.flow ch r fault new → record l { channels = set l.channels place new } ≡ machine.request l c r
 request_refused l c place ch new r fault e h refused =
-    sym (step_at l c place ch (λ x. requested l.role x r) e h
+    sym (step_at l c place ch (λ x. requested l.role l.flow x r) e h
     ∙ ap (λ (o : Option Refusal). let st = unless o (carried_out ch r) ch in record l { channels = set l.channels place (owing st); relink = set_if (passes_limit st.channel.owed st.owes) l.relink; notes = l.notes ++ st.notes }) refused.first
     ∙ rw (append-nil l.notes, refused.same) refl)
 
-pub refused_at : (l : Layer) (c place : ℕ) (ch : Channel) (r : Request) → place + 1 ≡ c → slice_get l.channels place ≡ Some ch → machine.request_refusal l c r ≡ refusal l.role ch r
+pub refused_at : (l : Layer) (c place : ℕ) (ch : Channel) (r : Request) → place + 1 ≡ c → slice_get l.channels place ≡ Some ch → machine.request_refusal l c r ≡ refusal l.role l.flow ch r
 refused_at l c place ch r e h = rw (channel_at l.channels c place e, h) refl
 
 pub request_nowhere : (l : Layer) (c : ℕ) (r : Request) → channel_of l c ≡ None → machine.request l c r ≡ l
@@ -124,16 +124,16 @@ pub unchanged : (l : Layer) (place : ℕ) (ch new : Channel) → slice_get l.cha
 unchanged l place ch new h e = rw (e, set_same l.channels place ch h) refl
 
 -- what is taken owes nothing
-step_of_taking : (role : Role) (ch : Channel) → ((requested role ch Taking).notes ≡ []) × (((requested role ch Taking).owes ≡ None) × ((requested role ch Taking).channel.owed ≡ ch.owed))
-step_of_taking role ch = taken_by (refusal role ch Taking) where
+step_of_taking : (role : Role) (flow : Flow) (ch : Channel) → ((requested role flow ch Taking).notes ≡ []) × (((requested role flow ch Taking).owes ≡ None) × ((requested role flow ch Taking).channel.owed ≡ ch.owed))
+step_of_taking role flow ch = taken_by (refusal role flow ch Taking) where
   taken_by : (o : Option Refusal) → let st = unless o (carried_out ch Taking) ch in (st.notes ≡ []) × ((st.owes ≡ None) × (st.channel.owed ≡ ch.owed))
   taken_by None = (refl, (refl, refl))
   taken_by (Some r) = (refl, (refl, refl))
 
-pub taking_done : (l : Layer) (c place : ℕ) (ch new : Channel) → place + 1 ≡ c → slice_get l.channels place ≡ Some ch → new ≡ owing (requested l.role ch Taking) → record l { channels = set l.channels place new } ≡ machine.request l c Taking
+pub taking_done : (l : Layer) (c place : ℕ) (ch new : Channel) → place + 1 ≡ c → slice_get l.channels place ≡ Some ch → new ≡ owing (requested l.role l.flow ch Taking) → record l { channels = set l.channels place new } ≡ machine.request l c Taking
 taking_done l c place ch new e h is_new =
-    let facts = step_of_taking l.role ch in
-    sym (step_at l c place ch (λ x. requested l.role x Taking) e h
+    let facts = step_of_taking l.role l.flow ch in
+    sym (step_at l c place ch (λ x. requested l.role l.flow x Taking) e h
     ∙ rw (is_new, facts.0, facts.1.0, append-nil l.notes) refl)
 
 -- an element that the code borrows
@@ -198,20 +198,20 @@ front_there l c place ch e h = rw (channel_at l.channels c place e, h) refl
 -- ---- a packet is sent in its buffer
 
 pub sent : (l : Layer) (c place : ℕ) (ch new : Channel) (p : Kept) (result : Result Unit RefusedBuf) → place + 1 ≡ c →
-    slice_get l.channels place ≡ Some ch → BufAnswers l.role ch p result new →
+    slice_get l.channels place ≡ Some ch → BufAnswers l.role l.flow ch p result new →
     record l { channels = set l.channels place new } ≡ machine.request l c (sending p)
 sent l c place ch new p (Ok _) e found done = request_done l c place ch new (sending p) false e found done
 sent l c place ch new p (Err given) e found done =
     request_refused l c place ch new (sending p) given.fault e found done.refused
 
 pub sent_answer : (l : Layer) (c place : ℕ) (ch new : Channel) (p : Kept) (result : Result Unit RefusedBuf) →
-    place + 1 ≡ c → slice_get l.channels place ≡ Some ch → BufAnswers l.role ch p result new →
+    place + 1 ≡ c → slice_get l.channels place ≡ Some ch → BufAnswers l.role l.flow ch p result new →
     MatchResult result (λ _. machine.request_refusal l c (sending p) ≡ None)
     (λ given. machine.request_refusal l c (sending p) ≡ Some (refusal_of given.fault))
 sent_answer l c place ch new p (Ok _) e found done = refused_at l c place ch (sending p) e found ∙ done.allowed
 sent_answer l c place ch new p (Err given) e found done = refused_at l c place ch (sending p) e found ∙ done.refused.first
 
-pub sent_back : (role : Role) (ch new : Channel) (p : Kept) (result : Result Unit RefusedBuf) →
-    BufAnswers role ch p result new → MatchResult result (λ _. Unit {0}) (λ given. given.buffer ≡ p.buffer)
-sent_back role ch new p (Ok _) done = tt
-sent_back role ch new p (Err given) done = done.back
+pub sent_back : (role : Role) (flow : Flow) (ch new : Channel) (p : Kept) (result : Result Unit RefusedBuf) →
+    BufAnswers role flow ch p result new → MatchResult result (λ _. Unit {0}) (λ given. given.buffer ≡ p.buffer)
+sent_back role flow ch new p (Ok _) done = tt
+sent_back role flow ch new p (Err given) done = done.back

@@ -30,7 +30,8 @@ written_packet flow (Some p) old =
 abbrev pub ReadsBack : Flow → Option Packet → List ℕ → Type 0
 ReadsBack flow None octets = Unit {0}
 ReadsBack flow (Some p) octets =
-    reading flow.numbering 128 octets ≡ Ok (record { numbering = flow.numbering; channel = p.channel; content = content_of p.body })
+    reading flow.numbering flow.size octets
+    ≡ Ok (record { numbering = flow.numbering; channel = p.channel; content = content_of p.body })
 
 -- the far end hears that packet in the octets
 abbrev pub IsHeard : Flow → Option Packet → List ℕ → Type 0

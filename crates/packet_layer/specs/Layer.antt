@@ -288,14 +288,14 @@ call_refusal l phase = Some Refusal.NotReady
 
 -- a request on a channel; a refused one changes nothing
 abbrev pub request : Layer → ℕ → Request → Layer
-request l c r = on_found l c (λ ch. requested l.role ch r) (channel_of l c)
+request l c r = on_found l c (λ ch. requested l.role l.flow ch r) (channel_of l c)
 
-abbrev pub refusal_at : Role → Request → Option Channel → Option Refusal
-refusal_at role r None = Some Refusal.NoCall
-refusal_at role r (Some ch) = refusal role ch r
+abbrev pub refusal_at : Role → Flow → Request → Option Channel → Option Refusal
+refusal_at role flow r None = Some Refusal.NoCall
+refusal_at role flow r (Some ch) = refusal role flow ch r
 
 abbrev pub request_refusal : Layer → ℕ → Request → Option Refusal
-request_refusal l c r = refusal_at l.role r (channel_of l c)
+request_refusal l c r = refusal_at l.role l.flow r (channel_of l c)
 
 -- ---- questions
 

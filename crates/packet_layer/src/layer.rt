@@ -165,12 +165,13 @@ impl Layer {
     }
 
     // The end at which the channel with this place is seen.
-    #[tactic(auto, using(packet_channel::proofs::Windows::window_small))]
+    #[tactic(auto, using(packet_channel::proofs::Windows::window_small, packet_channel::proofs::Windows::size_most))]
     fn end(&self, place: usize) -> End
         requires { place < length self.now.layer.channels }
         ensures role { result.role ≡ self.now.layer.role }
         ensures flow { result.flow ≡ self.now.layer.flow }
         ensures most { result.flow.window ≤ 32 }
+        ensures size { result.flow.size ≤ 1024 }
         ensures channel { result.channel ≡ place + 1 }
     {
         End {

@@ -10,7 +10,7 @@ mod restart;
 pub use fault::{CallFault, MakeFault};
 pub use layer::Layer;
 pub use packet_channel::{
-    ChannelFault, Flow, Front, InterruptData, KeptPacket, LayerNote, MOST_CHANNELS, NoteQueue,
-    Reason, RefusedBuf, Request, SEND_QUEUE, Taken, TakenBuf, UserData,
+    ChannelFault, DEFAULT_SIZE, Flow, Front, InterruptData, KeptPacket, LayerNote, MOST_CHANNELS,
+    NoteQueue, Reason, RefusedBuf, Request, SEND_QUEUE, Taken, TakenBuf, UserData, full_packets,
 };
 pub use params::LayerParams;

@@ -4,6 +4,7 @@ use Rattle.std.proofs.Common.{if◌then◌else◌, nat_lt, nat_le, refl, subst, 
 use Rattle.std.specs.Prelude.{is_some}
 use borrow.Author.Tests.{eqb-false}
 use Rattle.link_timers.specs.declared.role.Role.{Role}
+use Rattle.packet_channel.specs.declared.flow.Flow.{Flow}
 use Rattle.pad_editing.specs.Edited.{after_key}
 use Rattle.packet_layer.specs.Channel.{Channel, Request, Refusal, refused_if, in_transfer}
 use Rattle.packet_layer.specs.Layer.{room_at, channel_of, refusal_at, request_refusal}
@@ -20,25 +21,25 @@ use Rattle.x25_pad.specs.Ports.{AtLine}
 
 -- ---- the send queue
 
-open_queue : (transfer resetting : Bool) (waiting octets : ℕ) →
-    (cond (transfer && not resetting) (8 - waiting) 0 == 0) ≡ false → octets ≤ 128 →
+open_queue : (transfer resetting : Bool) (waiting octets size : ℕ) →
+    (cond (transfer && not resetting) (8 - waiting) 0 == 0) ≡ false → octets ≤ size →
     refused_if (not transfer) Refusal.NoCall
     (refused_if resetting Refusal.IsResetting
-    (refused_if (nat_le 8 waiting) Refusal.QueueFull (refused_if (nat_lt 128 octets) Refusal.TooLong None)))
+    (refused_if (nat_le 8 waiting) Refusal.QueueFull (refused_if (nat_lt size octets) Refusal.TooLong None)))
     ≡ None
-open_queue false resetting waiting octets h le = cc
-open_queue true true waiting octets h le = cc
-open_queue true false waiting octets h le =
+open_queue false resetting waiting octets size h le = cc
+open_queue true true waiting octets size h le = cc
+open_queue true false waiting octets size h le =
     let some : 8 - waiting ≢ 0 = eqb-false _ _ h in
     let free : nat_le 8 waiting ≡ false = grind arith in
-    let short : nat_lt 128 octets ≡ false = grind arith in
+    let short : nat_lt size octets ≡ false = grind arith in
     rw (free, short) refl
 
-taken_at : (role : Role) (found : Option Channel) (block : List ℕ) → (room_at found == 0) ≡ false →
-    length block ≤ 128 → refusal_at role (Request.Sending (datum block false)) found ≡ None
-taken_at role None block h le = cc
-taken_at role (Some ch) block h le =
-    open_queue (in_transfer ch.state) ch.resetting (length ch.traffic.waiting) (length block) h le
+taken_at : (role : Role) (flow : Flow) (found : Option Channel) (block : List ℕ) → (room_at found == 0) ≡ false →
+    length block ≤ flow.size → refusal_at role flow (Request.Sending (datum block false)) found ≡ None
+taken_at role flow None block h le = cc
+taken_at role flow (Some ch) block h le =
+    open_queue (in_transfer ch.state) ch.resetting (length ch.traffic.waiting) (length block) flow.size h le
 
 -- ---- a block is ended only where the queue is not full
 
@@ -83,13 +84,14 @@ idle_with_room true t block h =
 
 -- ---- both
 
-block_taken : (a : AtLine) (block : List ℕ) (call : ℕ) → a.port.call ≡ Some call → length block ≤ 128 →
+block_taken : (a : AtLine) (block : List ℕ) (call : ℕ) → a.port.call ≡ Some call →
+    length block ≤ a.line.end.layer.flow.size →
     (condition a.port.call a.line).queue_full ≡ false →
     request_refusal a.line.end.layer call (Request.Sending (datum block false)) ≡ None
 block_taken a block call is le full =
     let P : Option ℕ → Type 0 = λ found. (condition found a.line).queue_full ≡ false in
     let there : (condition (Some call) a.line).queue_full ≡ false = subst P is full in
-    taken_at a.line.end.layer.role (channel_of a.line.end.layer call) block there le
+    taken_at a.line.end.layer.role a.line.end.layer.flow (channel_of a.line.end.layer call) block there le
 
 pub key_blocks : KeyBlocksAreTaken
 key_blocks o a block call answer is le =

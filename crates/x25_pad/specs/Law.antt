@@ -7,10 +7,11 @@ use Rattle.pad_terminal.specs.declared.answers.InputAnswer.TheVariants.{Edited}
 use Rattle.x25_pad.specs.Line.{datum}
 use Rattle.x25_pad.specs.Ports.{AtLine, key_input, idle_input}
 
--- where a block is ended, the send queue of the call takes it
+-- where a block is ended that fits into a packet of the line, the send queue of the call takes it
 abbrev pub BlockIsTaken : InputAnswer → AtLine → Type 0
 BlockIsTaken answer a =
-    (block : List ℕ) → (call : ℕ) → answer ≡ Edited (Some block) → a.port.call ≡ Some call → length block ≤ 128 →
+    (block : List ℕ) → (call : ℕ) → answer ≡ Edited (Some block) → a.port.call ≡ Some call →
+    length block ≤ a.line.end.layer.flow.size →
     request_refusal a.line.end.layer call (Request.Sending (datum block false)) ≡ None
 
 abbrev pub KeyBlocksAreTaken : Type 0

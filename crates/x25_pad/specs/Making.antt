@@ -1,5 +1,5 @@
 -- How a PAD is made.
-use Rattle.std.specs.Prelude.{ℕ, ◌-◌, ◌≤◌, if◌then◌else◌, [], ◌∷◌, replicate, Option, Some, None}
+use Rattle.std.specs.Prelude.{◌≡◌, ℕ, ◌-◌, ◌≤◌, if◌then◌else◌, [], ◌∷◌, replicate, Option, Some, None}
 use Rattle.link_timers.specs.declared.role.Role.TheVariants.{Dte}
 use Rattle.packet_end.specs.PacketEnd as end
 use Rattle.packet_end.specs.Params.{AreParams}
@@ -9,11 +9,12 @@ use Rattle.x25_pad.specs.Pad.{PadState}
 use Rattle.x25_pad.specs.Ports.{new_port}
 use Rattle.x25_pad.specs.declared.config.PadConfig.{PadConfig}
 
--- from 1 to 16 terminals, and parameters of a line
+-- from 1 to 16 terminals, and parameters of a line whose packets have at most 128 octets
 pub record IsConfig (c : PadConfig) : Type 0 where
   pub line : AreParams c.line
   pub least : 1 ≤ c.terminals
   pub most : c.terminals ≤ 16
+  pub size : c.line.flow.size ≡ 128
 
 abbrev pub MadeNot : PadConfig → EndFault → Type 0
 MadeNot c BadConfig = IsConfig c → ⊥

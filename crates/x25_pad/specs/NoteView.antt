@@ -2,8 +2,8 @@
 use Rattle.std.specs.Prelude.{◌≡◌, ℕ, ◌∷◌, [], List, map, Option, Some, None}
 use Rattle.pad_editing.specs.Edited.Step.{key, idle}
 use Rattle.packet_layer.specs.NoteView.{note_of}
-use Rattle.packet_layer.specs.TakenView.{taken_of}
 use Rattle.x25_pad.specs.Notes as spec
+use Rattle.x25_pad.specs.TakenView.{taken_of}
 use Rattle.x25_pad.specs.declared.note.ChannelNote.{ChannelNote}
 use Rattle.x25_pad.specs.declared.note.ChannelNote.TheVariants as note
 use Rattle.x25_pad.specs.declared.note.TheConstants.{MOST_NOTES}

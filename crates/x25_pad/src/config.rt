@@ -6,7 +6,7 @@ use x3_params::Params;
 /// How a PAD is to be made.
 #[derive(Clone, Copy)]
 pub struct PadConfig {
-    /// The parameters of the line.
+    /// The parameters of the line, whose packets have at most 128 octets of user data.
     pub line: EndParams,
     /// The initial values of the parameters of each terminal.
     pub params: Params,

@@ -4,11 +4,13 @@
 mod answer;
 mod call;
 mod config;
+mod end;
 mod law;
 mod line;
 mod note;
 mod pad;
 mod port;
+mod taken;
 
 pub use answer::PadAnswer;
 pub use config::PadConfig;
@@ -16,3 +18,4 @@ pub use law::block_law;
 pub use note::{ChannelNote, PadNote};
 pub use pad::Pad;
 pub use port::MOST_TEXT;
+pub use taken::{PadData, PadTaken};

@@ -2,16 +2,16 @@
 ghost use Rattle.std.specs.Prelude.{◌≡◌, ◌≤◌, ◌<◌, ◌+◌, Some, length, MatchResult};
 ghost use Rattle.packet_layer.specs.Layer as machine;
 ghost use Rattle.packet_layer.specs.RequestView.{request_of, call_refusal_of};
-ghost use Rattle.packet_layer.specs.TakenView.{taken_of, maybe_taken};
-ghost use Rattle.packet_end.specs.PacketEnd as end;
 ghost use Rattle.x25_pad.specs.NoteView.{pad_note_of};
 ghost use Rattle.x25_pad.specs.Line as spec;
+ghost use Rattle.x25_pad.specs.TakenView.{maybe_taken};
 
+use crate::end::PadEnd;
 use crate::note::{ChannelNote, MOST_NOTES, PadNotes};
+use crate::taken::{PadData, PadTaken};
 use arrayvec::ArrayVec;
 use packet_codec::{Address, CallData};
-use packet_end::PacketEnd;
-use packet_layer::{CallFault, ChannelFault, InterruptData, Request, Taken, UserData};
+use packet_layer::{CallFault, ChannelFault, Request};
 use pad_terminal::CallCondition;
 
 /// The user data of an interrupt.
@@ -23,7 +23,7 @@ const PROTOCOL: [u8; 4] = [1, 0, 0, 0];
 /// The PAD's end of its line, and what the PAD notes.
 #[derive(Drop)]
 pub(crate) struct PadLine {
-    pub(crate) end: PacketEnd,
+    pub(crate) end: PadEnd,
     pub(crate) notes: PadNotes,
 }
 
@@ -54,7 +54,7 @@ impl PadLine {
             qualified,
             delivery: false,
         };
-        let user_data = UserData::new(octets, false, qualified, false);
+        let user_data = PadData::new(octets, false, qualified, false);
         self.ask(channel, &request, ChannelNote::Sent { channel, user_data });
     }
 
@@ -136,7 +136,7 @@ impl PadLine {
     }
 
     /// Takes what waits first on a call, if anything does.
-    pub(crate) fn take(&mut self, channel: u8) -> Option<Taken>
+    pub(crate) fn take(&mut self, channel: u8) -> Option<PadTaken>
         requires { length self.old.notes < MOST_NOTES }
         ensures taken { maybe_taken result ≡ machine.front_on self.old.end.layer channel }
         ensures line { self.new ≡ spec.taken channel (machine.front_on self.old.end.layer channel) self.old }
@@ -146,7 +146,7 @@ impl PadLine {
         let taken = self.end.take(channel)?;
         self.notes.add(ChannelNote::Took {
             channel,
-            taken: copy_of(&taken),
+            taken: taken.copied(),
         });
         Some(taken)
     }
@@ -184,19 +184,5 @@ impl PadLine {
         ensures { result ≡ spec.is_resetting (machine.flow_refusal self.now.end.layer channel) }
     {
         matches!(self.end.may_send(channel), Err(ChannelFault::Resetting))
-    }
-}
-
-fn copy_of(taken: &Taken) -> Taken
-    ensures { taken_of result ≡ taken_of taken.now }
-{
-    match taken {
-        Taken::Interrupt(data) => Taken::Interrupt(InterruptData::new(data.octets())),
-        Taken::Data(data) => Taken::Data(UserData::new(
-            data.octets(),
-            data.more(),
-            data.qualified(),
-            data.delivery(),
-        )),
     }
 }

@@ -4,9 +4,10 @@ ghost use Rattle.std.specs.Prelude.{option_copied};
 ghost use Rattle.x25_pad.specs.NoteView.{pad_note_of, maybe_pad_note};
 ghost use Rattle.x25_pad.specs.Pad.{first_terminal};
 
+use crate::taken::{PadData, PadTaken};
 use circular_buffer::HeapCircularBuffer;
 use packet_codec::Address;
-use packet_layer::{LayerNote, Taken, UserData};
+use packet_layer::LayerNote;
 use std::alloc::{AllocError, Global};
 use std::marker::Model;
 use x3_params::Params;
@@ -51,7 +52,7 @@ pub enum ChannelNote {
     /// A Data packet went into the send queue.
     Sent {
         channel: u8,
-        user_data: UserData,
+        user_data: PadData,
     },
     /// An interrupt of this octet was sent.
     Interrupted {
@@ -62,7 +63,7 @@ pub enum ChannelNote {
     /// confirmed.
     Took {
         channel: u8,
-        taken: Taken,
+        taken: PadTaken,
     },
 }
 

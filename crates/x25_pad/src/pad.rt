@@ -11,11 +11,12 @@ mod from_line;
 mod terminals;
 
 use crate::config::PadConfig;
+use crate::end::PadEnd;
 use crate::line::PadLine;
 use crate::note::{ChannelNote, NotedAt, PadNote, PadNotes};
 use crate::port::Port;
-use link_timers::Role;
-use packet_end::{EndFault, PacketEnd};
+use packet_channel::DEFAULT_SIZE;
+use packet_end::EndFault;
 use std::alloc::{AllocError, Global};
 use std::marker::Model;
 use x3_params::Params;
@@ -54,14 +55,17 @@ impl Pad {
     /// The PAD at its line, which is new: the link is started, or stands where the line does, and with it the call of
     /// terminal 0 on channel 1. It takes all the memory that it ever uses.
     ///
-    /// `BadConfig` comes where a parameter of the line or the number of terminals is out of its range, and then
-    /// `OutOfMemory` for want of memory.
+    /// `BadConfig` comes where a parameter of the line or the number of terminals is out of its range, or the packet
+    /// size of the line is not 128, and then `OutOfMemory` for want of memory.
     pub fn new(alloc: Global, config: PadConfig) -> Result<Pad, EndFault>
         ensures { MatchResult result
             (λ pad. IsConfig config × (pad ≡ made config))
             (λ fault. MadeNot config fault) }
     {
         if config.terminals == 0 || config.terminals > MOST_TERMINALS {
+            return Err(EndFault::BadConfig);
+        }
+        if config.line.flow.size != DEFAULT_SIZE {
             return Err(EndFault::BadConfig);
         }
         config.line.check()?;
@@ -73,7 +77,7 @@ impl Pad {
         let ports = new_ports(alloc, config.params, standing, config.terminals)?;
         let notes = PadNotes::new(alloc)?;
         let noted_at = NotedAt::new(alloc)?;
-        let end = PacketEnd::new(alloc, Role::Dte, config.line)?;
+        let end = PadEnd::new(alloc, config.line)?;
         let line = PadLine { end, notes };
         Ok(Pad {
             line,

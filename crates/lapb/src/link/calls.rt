@@ -1,7 +1,6 @@
 //! The calls of a link that take frames, packets and expiries.
 ghost use Rattle.std.specs.Prelude.{◌≡◌, ◌≢◌, false, ◌≤◌, ◌<◌, length, drop, Some, IsOk, MatchOption, Err};
 ghost use Rattle.flow_window.specs.Pool.{Holds, Balances, in_use};
-ghost use Rattle.frame_codec.specs.Spelling.{most_information};
 ghost use Rattle.lapb.specs.Machine as machine;
 ghost use Rattle.lapb.specs.Machine.{timing_after};
 ghost use Rattle.lapb.specs.Octets.{on_octets};
@@ -56,7 +55,7 @@ impl Link {
     /// Begins anew after a restart of the node, as a link that was never set up. What went before is forgotten.
     pub fn restart(&mut self, pool: &mut Pool)
         requires { Holds pool.old self.old.held }
-        ensures link { self.new.link ≡ machine.new self.old.link.role self.old.link.k self.old.link.n2 false }
+        ensures link { self.new.link ≡ machine.remade self.old.link }
         ensures pool { Balances pool.old self.old.held pool.new self.new.held }
         ensures tight { length self.new.held ≡ length self.new.link.queue }
     {
@@ -189,14 +188,14 @@ impl Link {
         true
     }
 
-    /// Takes a packet that fits into an I frame, to be sent by `settle` when it may go.
+    /// Takes a packet of at most `info` octets, to be sent by `settle` when it may go.
     ///
     /// `Down` comes where the link is not up, `Full` where as many packets are unacknowledged as may be. A packet that
     /// is refused changes nothing.
     pub fn offer(&mut self, packet: &[u8], pool: &mut Pool) -> Result<(), OfferFault>
-        requires packet { length packet.now ≤ most_information }
+        requires packet { length packet.now ≤ self.old.link.info }
         requires holds { Holds pool.old self.old.held }
-        requires size { pool.old.size ≡ most_information }
+        requires size { self.old.link.info ≤ pool.old.size }
         requires room { in_use pool.old < length pool.old.places }
         ensures answer { MatchOption (refusal self.old.link) (IsOk result) (λ fault. result ≡ Err fault) }
         ensures link { self.new.link ≡ machine.offer self.old.link packet.now }

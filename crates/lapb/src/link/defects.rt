@@ -53,7 +53,7 @@ impl Link {
         ensures link { self.new ≡ record self.old { link = (on_octets self.old.link bytes.now).link } }
         ensures out { out.new ≡ gathered out.old self.old.link (on_octets self.old.link bytes.now) }
     {
-        match read_frame(bytes, self.role) {
+        match read_frame(bytes, self.role, self.info) {
             Ok(frame) => self.end_frame(&frame, out),
             Err(fault) => self.end_fault(fault, bytes, out),
         }

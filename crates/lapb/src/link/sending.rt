@@ -21,7 +21,7 @@ impl Link {
     /// Ends a node's event: all I frames that may go are sent in order. Where there are none, an RR is, if it is owed.
     pub fn settle(&mut self, out: &mut LinkOut, pool: &mut Pool)
         requires holds { Holds pool.old self.old.held }
-        requires size { pool.old.size ≡ most_information }
+        requires size { pool.old.size ≤ most_information }
         ensures link { self.new ≡ record self.old { link = (machine.settle self.old.link).link } }
         ensures out { out.new ≡ gathered out.old self.old.link (machine.settle self.old.link) }
 
@@ -54,7 +54,7 @@ impl Link {
     fn settle_up(&mut self, out: &mut LinkOut, pool: &Pool)
         requires up { self.old.link.phase ≡ Phase.Up }
         requires holds { Holds pool.now self.old.held }
-        requires size { pool.now.size ≡ most_information }
+        requires size { pool.now.size ≤ most_information }
         ensures link { self.new ≡ record self.old {
           link = (machine.send_all self.old.link (machine.sendable
               self.old.link)).link;
@@ -80,7 +80,7 @@ impl Link {
         requires polling { self.old.link.polling ≡ false }
         requires busy { self.old.link.busy ≡ false }
         requires holds { Holds pool.now self.old.held }
-        requires size { pool.now.size ≡ most_information }
+        requires size { pool.now.size ≤ most_information }
         requires unsent { self.old.link.next < length self.old.link.queue }
         ensures link { self.new ≡ record self.old {
           link = (machine.send_all self.old.link (drop self.old.link.next
@@ -123,7 +123,7 @@ impl Link {
     // The packets from V(S) on, in I frames.
     fn send_packets(&mut self, out: &mut LinkOut, pool: &Pool)
         requires holds { Holds pool.now self.old.held }
-        requires size { pool.now.size ≡ most_information }
+        requires size { pool.now.size ≤ most_information }
         requires unsent { self.old.link.next < length self.old.link.queue }
         ensures link { self.new ≡ record self.old {
           link = (machine.send_all self.old.link (drop self.old.link.next
@@ -153,7 +153,7 @@ fn send_from(
     requires next { window.old.next < length queue.now.packets }
     requires size { length queue.now.packets ≤ window.old.size }
     requires holds { Holds pool.now queue.now.held }
-    requires octets { pool.now.size ≡ most_information }
+    requires octets { pool.now.size ≤ most_information }
     ensures window { window.new ≡ record window.old {
       next = length queue.now.packets;
       top = max window.old.top (length

@@ -1,7 +1,7 @@
 //! Setting the link up and giving it up (X.25 2.4.4, 2.4.7). A rule answers whether T1 starts anew.
 ghost use Rattle.std.specs.Prelude.{◌≡◌, [], ◌∷◌};
 ghost use Rattle.frame_codec.specs.Views.{report_of, value_of};
-ghost use Rattle.frame_codec.specs.Spelling.{spelling, HasSpelling};
+ghost use Rattle.frame_codec.specs.Spelling.{spelling, most_information, HasSpelling};
 ghost use Rattle.lapb.specs.Machine as machine;
 ghost use Rattle.lapb.specs.Out.{with_step, with_frames};
 
@@ -35,7 +35,7 @@ impl Link {
     // One frame is sent. Few of the calls send one, so its writing stays out of their way.
     #[inline(never)]
     pub(crate) fn put(&self, frame: &Frame<'_>, out: &mut LinkOut)
-        requires { HasSpelling (value_of frame.now) }
+        requires { HasSpelling most_information (value_of frame.now) }
         ensures { out.new ≡ record out.old {
           frames = with_frames out.old.frames (spelling self.now.link.role (value_of frame.now) ∷ []);
         } }
@@ -54,7 +54,7 @@ impl Link {
 
     // One frame is sent, and nothing else happens.
     pub(crate) fn sends(&self, frame: &Frame<'_>, out: &mut LinkOut) -> bool
-        requires { HasSpelling (value_of frame.now) }
+        requires { HasSpelling most_information (value_of frame.now) }
         ensures out { out.new ≡ with_step out.old self.now.link.role
             (machine.sends self.now.link (value_of frame.now)) }
         ensures anew { result ≡ (machine.sends self.now.link (value_of frame.now)).anew }

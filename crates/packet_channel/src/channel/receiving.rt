@@ -31,10 +31,11 @@ impl Channel {
         notes: &mut Notes,
     ) -> bool
         requires window { end.flow.window ≤ 32 }
-        requires fits { IsContentOn end.flow.numbering 128 packet.now.channel (content_view packet.now.content) }
+        requires most { end.flow.size ≤ 1024 }
+        requires fits { IsContentOn end.flow.numbering end.flow.size packet.now.channel (content_view packet.now.content) }
         requires holds { Holds pool.old self.old.held }
         requires read { notes.old ≡ [] }
-        requires size { 128 ≤ pool.old.size }
+        requires size { end.flow.size ≤ pool.old.size }
         requires room { in_use pool.old < length pool.old.places }
         ensures done { IsDone (machine.received end.role end.flow end.channel self.old.channel
             (body_of (content_view packet.now.content))) self.new.channel result notes.new }
@@ -63,7 +64,7 @@ impl Channel {
         notes: &mut Notes,
     ) -> bool
         requires state { self.old.channel.state ≡ machine.CallState.Ready }
-        requires fits { IsContentOn end.flow.numbering 128 packet.now.channel (content_view packet.now.content) }
+        requires fits { IsContentOn end.flow.numbering end.flow.size packet.now.channel (content_view packet.now.content) }
         requires holds { Holds pool.old self.old.held }
         requires read { notes.old ≡ [] }
         ensures done { IsDone (machine.in_ready end.role end.channel self.old.channel
@@ -91,7 +92,7 @@ impl Channel {
         notes: &mut Notes,
     ) -> bool
         requires state { self.old.channel.state ≡ machine.CallState.OwnWaiting }
-        requires fits { IsContentOn end.flow.numbering 128 packet.now.channel (content_view packet.now.content) }
+        requires fits { IsContentOn end.flow.numbering end.flow.size packet.now.channel (content_view packet.now.content) }
         requires holds { Holds pool.old self.old.held }
         requires read { notes.old ≡ [] }
         ensures done { IsDone (machine.in_own_waiting end.role end.channel self.old.channel
@@ -187,6 +188,7 @@ impl Channel {
             self.new.channel false [] }
         ensures held { self.new.held ≡ self.old.held }
         ensures arrived { self.new.channel.traffic.arrived ≡ self.old.channel.traffic.arrived }
+        ensures waiting { self.new.channel.traffic.waiting ≡ self.old.channel.traffic.waiting }
     {
         match packet.content {
             Content::ClearRequest { .. } | Content::ClearConfirmation => {
@@ -236,11 +238,12 @@ impl Channel {
         notes: &mut Notes,
     ) -> bool
         requires window { end.flow.window ≤ 32 }
-        requires fits { IsContentOn end.flow.numbering 128 packet.now.channel (content_view packet.now.content) }
+        requires most { end.flow.size ≤ 1024 }
+        requires fits { IsContentOn end.flow.numbering end.flow.size packet.now.channel (content_view packet.now.content) }
         requires state { self.old.channel.state ≡ machine.CallState.Transfer }
         requires holds { Holds pool.old self.old.held }
         requires read { notes.old ≡ [] }
-        requires size { 128 ≤ pool.old.size }
+        requires size { end.flow.size ≤ pool.old.size }
         requires room { in_use pool.old < length pool.old.places }
         ensures done { IsDone (machine.in_flow_ready end.role end.flow end.channel self.old.channel
             (body_of (content_view packet.now.content))) self.new.channel result notes.new }

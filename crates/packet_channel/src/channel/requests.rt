@@ -12,13 +12,14 @@ ghost use Rattle.packet_channel.specs.RequestView.{request_of, bare_request_of, 
 use crate::channel::Channel;
 use crate::control::Control;
 use crate::fault::{ChannelFault, RefusedBuf};
+use crate::flow::Flow;
 use crate::kept::KeptPacket;
 use crate::state::CallState;
 use crate::traffic::SEND_QUEUE;
 use crate::user_data::InterruptData;
 use flow_window::pool::{BufNo, Pool};
 use link_timers::Role;
-use packet_codec::{MAX_INTERRUPT, MAX_USER_DATA};
+use packet_codec::MAX_INTERRUPT;
 
 /// What a user asks of the call on a logical channel, with the refusals in the order in which they are tested. What is
 /// refused changes nothing.
@@ -40,7 +41,7 @@ pub enum Request<'a> {
     },
     /// A Data packet with its bits M, Q and D goes into the send queue (X.25 4.3). `NoCall` comes where no call is in
     /// data transfer, then `Resetting` while the own reset is not confirmed, `QueueFull` where 8 packets wait,
-    /// `TooLong` for more than 128 octets.
+    /// `TooLong` for more octets than a packet of the line may have.
     Send {
         octets: &'a [u8],
         more: bool,
@@ -77,15 +78,17 @@ impl Channel {
     pub fn request(
         &mut self,
         role: Role,
+        flow: Flow,
         request: &Request<'_>,
         pool: &mut Pool,
     ) -> Result<bool, ChannelFault>
+        requires most { flow.size ≤ 1024 }
         requires holds { Holds pool.old self.old.held }
-        requires size { 128 ≤ pool.old.size }
+        requires size { flow.size ≤ pool.old.size }
         requires room { in_use pool.old < length pool.old.places }
-        ensures answer { Answers role self.old.channel (request_of request.now) result self.new.channel }
+        ensures answer { Answers role flow self.old.channel (request_of request.now) result self.new.channel }
         ensures pool { Balances pool.old self.old.held pool.new self.new.held }
-        ensures fits { (flow : FlowValue) → Fits flow self.old → Fits flow self.new }
+        ensures fits { Fits flow self.old → Fits flow self.new }
     {
         match request {
             Request::Accept => self.accept(role),
@@ -96,7 +99,7 @@ impl Channel {
                 more,
                 qualified,
                 delivery,
-            } => self.send(octets, *more, *qualified, *delivery, pool),
+            } => self.send(flow, octets, *more, *qualified, *delivery, pool),
             Request::Interrupt(octets) => self.interrupt(octets),
             Request::Stop(stopped) => self.stop(*stopped),
             Request::Release(count) => self.release(*count),
@@ -111,9 +114,11 @@ impl Channel {
         role: Role,
         request: &BareRequest<'_>,
     ) -> Result<bool, ChannelFault>
-        ensures answer { Answers role self.old.channel (bare_request_of request.now) result self.new.channel }
+        ensures answer { (flow : FlowValue)
+            → Answers role flow self.old.channel (bare_request_of request.now) result self.new.channel }
         ensures held { self.new.held ≡ self.old.held }
         ensures arrived { self.new.channel.traffic.arrived ≡ self.old.channel.traffic.arrived }
+        ensures waiting { self.new.channel.traffic.waiting ≡ self.old.channel.traffic.waiting }
     {
         match request {
             BareRequest::Accept => self.accept(role),
@@ -125,9 +130,11 @@ impl Channel {
     }
 
     fn accept(&mut self, role: Role) -> Result<bool, ChannelFault>
-        ensures answer { Answers role self.old.channel machine.Request.Accept result self.new.channel }
+        ensures answer { (flow : FlowValue)
+            → Answers role flow self.old.channel machine.Request.Accept result self.new.channel }
         ensures held { self.new.held ≡ self.old.held }
         ensures arrived { self.new.channel.traffic.arrived ≡ self.old.channel.traffic.arrived }
+        ensures waiting { self.new.channel.traffic.waiting ≡ self.old.channel.traffic.waiting }
     {
         if !self.state.may_accept(role) {
             return Err(ChannelFault::NoCall);
@@ -138,8 +145,8 @@ impl Channel {
 
     fn clear(&mut self, cause: u8, diagnostic: u8, pool: &mut Pool) -> Result<bool, ChannelFault>
         requires { Holds pool.old self.old.held }
-        ensures answer { (role : RoleValue)
-            → Answers role self.old.channel (machine.Request.Clearing cause diagnostic) result self.new.channel }
+        ensures answer { (role : RoleValue) (flow : FlowValue)
+            → Answers role flow self.old.channel (machine.Request.Clearing cause diagnostic) result self.new.channel }
         ensures pool { Balances pool.old self.old.held pool.new self.new.held }
         ensures fits { (flow : FlowValue) → Fits flow self.old → Fits flow self.new }
     {
@@ -152,8 +159,8 @@ impl Channel {
 
     fn reset(&mut self, cause: u8, diagnostic: u8, pool: &mut Pool) -> Result<bool, ChannelFault>
         requires { Holds pool.old self.old.held }
-        ensures answer { (role : RoleValue)
-            → Answers role self.old.channel (machine.Request.Resetting cause diagnostic) result self.new.channel }
+        ensures answer { (role : RoleValue) (flow : FlowValue)
+            → Answers role flow self.old.channel (machine.Request.Resetting cause diagnostic) result self.new.channel }
         ensures pool { Balances pool.old self.old.held pool.new self.new.held }
         ensures fits { (flow : FlowValue) → Fits flow self.old → Fits flow self.new }
     {
@@ -170,23 +177,25 @@ impl Channel {
 
     fn send(
         &mut self,
+        flow: Flow,
         octets: &[u8],
         more: bool,
         qualified: bool,
         delivery: bool,
         pool: &mut Pool,
     ) -> Result<bool, ChannelFault>
-        requires size { 128 ≤ pool.old.size }
+        requires most { flow.size ≤ 1024 }
+        requires size { flow.size ≤ pool.old.size }
         requires room { in_use pool.old < length pool.old.places }
         ensures answer { (role : RoleValue)
-            → Answers role self.old.channel
+            → Answers role flow self.old.channel
             (machine.Request.Sending
             (record { octets = octets.now; more = more; qualified = qualified; delivery = delivery }))
             result self.new.channel }
         ensures pool { Balances pool.old self.old.held pool.new self.new.held }
-        ensures fits { (flow : FlowValue) → Fits flow self.old → Fits flow self.new }
+        ensures fits { Fits flow self.old → Fits flow self.new }
     {
-        self.check_send(octets)?;
+        self.check_send(flow, octets)?;
         let Some(buffer) = pool.put(octets) else {
             unreachable!();
         };
@@ -199,21 +208,23 @@ impl Channel {
     /// are the same, and with them the buffer comes back.
     pub fn send_buf(
         &mut self,
+        flow: Flow,
         buffer: BufNo,
         more: bool,
         qualified: bool,
         delivery: bool,
         pool: &Pool,
     ) -> Result<(), RefusedBuf>
-        requires { IsIn buffer pool.now }
+        requires most { flow.size ≤ 1024 }
+        requires lies { IsIn buffer pool.now }
         ensures answer { (role : RoleValue)
-            → BufAnswers role self.old.channel
+            → BufAnswers role flow self.old.channel
             (record { buffer = buffer; more = more; qualified = qualified; delivery = delivery }) result
             self.new.channel }
         ensures held { Takes self.old.held buffer (handed_back result) self.new.held }
-        ensures fits { (flow : FlowValue) → Fits flow self.old → Fits flow self.new }
+        ensures fits { Fits flow self.old → Fits flow self.new }
     {
-        if let Err(fault) = self.check_send(pool.octets(&buffer)) {
+        if let Err(fault) = self.check_send(flow, pool.octets(&buffer)) {
             return Err(RefusedBuf { fault, buffer });
         }
         let packet = KeptPacket::new(buffer, more, qualified, delivery);
@@ -222,13 +233,13 @@ impl Channel {
     }
 
     // Whether a Data packet of these octets may go into the send queue.
-    fn check_send(&self, octets: &[u8]) -> Result<(), ChannelFault>
+    fn check_send(&self, flow: Flow, octets: &[u8]) -> Result<(), ChannelFault>
         ensures answer { (role : RoleValue) (d : Datum) → d.octets ≡ octets.now → MatchResult result
-            (λ _. machine.refusal role self.now.channel (machine.Request.Sending d) ≡ None)
-            (λ fault. machine.refusal role self.now.channel (machine.Request.Sending d) ≡ Some (refusal_of fault)) }
+            (λ _. machine.refusal role flow self.now.channel (machine.Request.Sending d) ≡ None)
+            (λ fault. machine.refusal role flow self.now.channel (machine.Request.Sending d) ≡ Some (refusal_of fault)) }
         ensures fits { IfOk result (λ _. (machine.in_transfer self.now.channel.state ≡ true)
             × (length self.now.channel.traffic.waiting < 8)
-            × (length octets.now ≤ 128)) }
+            × (length octets.now ≤ flow.size)) }
     {
         if !self.state.in_transfer() {
             return Err(ChannelFault::NoCall);
@@ -239,17 +250,18 @@ impl Channel {
         if usize::from(self.traffic.waiting()) >= SEND_QUEUE {
             return Err(ChannelFault::QueueFull);
         }
-        if octets.len() > MAX_USER_DATA {
+        if octets.len() > usize::from(flow.size) {
             return Err(ChannelFault::TooLong);
         }
         Ok(())
     }
 
     fn interrupt(&mut self, octets: &[u8]) -> Result<bool, ChannelFault>
-        ensures answer { (role : RoleValue)
-            → Answers role self.old.channel (machine.Request.Interrupting octets.now) result self.new.channel }
+        ensures answer { (role : RoleValue) (flow : FlowValue)
+            → Answers role flow self.old.channel (machine.Request.Interrupting octets.now) result self.new.channel }
         ensures held { self.new.held ≡ self.old.held }
         ensures arrived { self.new.channel.traffic.arrived ≡ self.old.channel.traffic.arrived }
+        ensures waiting { self.new.channel.traffic.waiting ≡ self.old.channel.traffic.waiting }
     {
         if !self.state.in_transfer() {
             return Err(ChannelFault::NoCall);
@@ -268,10 +280,11 @@ impl Channel {
     }
 
     fn stop(&mut self, stopped: bool) -> Result<bool, ChannelFault>
-        ensures answer { (role : RoleValue)
-            → Answers role self.old.channel (machine.Request.Stopping stopped) result self.new.channel }
+        ensures answer { (role : RoleValue) (flow : FlowValue)
+            → Answers role flow self.old.channel (machine.Request.Stopping stopped) result self.new.channel }
         ensures held { self.new.held ≡ self.old.held }
         ensures arrived { self.new.channel.traffic.arrived ≡ self.old.channel.traffic.arrived }
+        ensures waiting { self.new.channel.traffic.waiting ≡ self.old.channel.traffic.waiting }
     {
         if !self.state.in_transfer() {
             return Err(ChannelFault::NoCall);
@@ -281,10 +294,11 @@ impl Channel {
     }
 
     fn release(&mut self, count: u8) -> Result<bool, ChannelFault>
-        ensures answer { (role : RoleValue)
-            → Answers role self.old.channel (machine.Request.Releasing count) result self.new.channel }
+        ensures answer { (role : RoleValue) (flow : FlowValue)
+            → Answers role flow self.old.channel (machine.Request.Releasing count) result self.new.channel }
         ensures held { self.new.held ≡ self.old.held }
         ensures arrived { self.new.channel.traffic.arrived ≡ self.old.channel.traffic.arrived }
+        ensures waiting { self.new.channel.traffic.waiting ≡ self.old.channel.traffic.waiting }
     {
         if !self.state.in_transfer() {
             return Err(ChannelFault::NoCall);
@@ -294,10 +308,11 @@ impl Channel {
     }
 
     fn confirm_interrupt(&mut self) -> Result<bool, ChannelFault>
-        ensures answer { (role : RoleValue)
-            → Answers role self.old.channel machine.Request.Confirming result self.new.channel }
+        ensures answer { (role : RoleValue) (flow : FlowValue)
+            → Answers role flow self.old.channel machine.Request.Confirming result self.new.channel }
         ensures held { self.new.held ≡ self.old.held }
         ensures arrived { self.new.channel.traffic.arrived ≡ self.old.channel.traffic.arrived }
+        ensures waiting { self.new.channel.traffic.waiting ≡ self.old.channel.traffic.waiting }
     {
         if !self.state.in_transfer() {
             return Err(ChannelFault::NoCall);

@@ -1,8 +1,9 @@
 //! What comes from the link in data transfer (X.25 4.3, 4.4).
-ghost use Rattle.std.specs.Prelude.{◌≡◌, ◌<◌, ◌≤◌, ◌+◌, length};
+ghost use Rattle.std.specs.Prelude.{◌≡◌, ◌<◌, ◌≤◌, ◌+◌, true, length};
 ghost use Rattle.flow_window.specs.Pool.{Balances, in_use};
 ghost use Rattle.packet_codec.specs.Packet.{IsDataValue, modulus};
 ghost use Rattle.packet_codec.specs.View.{data_view};
+ghost use Rattle.packet_channel.specs.Held.{are_short};
 ghost use Rattle.packet_channel.specs.Packets.{Body as body};
 ghost use Rattle.packet_channel.specs.Traffic as machine;
 ghost use Rattle.packet_channel.specs.Octets.{datum_of};
@@ -19,7 +20,7 @@ use packet_codec::{DataPacket, Numbering, diagnostic};
 
 impl Traffic {
     /// Takes a Data packet, with a window of at most 32. It is kept in a buffer.
-    #[tactic(auto, using(flow_window::proofs::Weights::weight_append))]
+    #[tactic(auto, using(flow_window::proofs::Weights::weight_append, crate::proofs::Fitting::short_append))]
     pub(crate) fn hear_data(
         &mut self,
         flow: Flow,
@@ -27,14 +28,18 @@ impl Traffic {
         pool: &mut Pool,
     ) -> Heard
         requires window { flow.window ≤ 32 }
-        requires fits { IsDataValue flow.numbering 128 (data_view packet.now) }
-        requires size { 128 ≤ pool.old.size }
+        requires most { flow.size ≤ 1024 }
+        requires fits { IsDataValue flow.numbering flow.size (data_view packet.now) }
+        requires size { flow.size ≤ pool.old.size }
         requires room { in_use pool.old < length pool.old.places }
         ensures heard { heard_of result self.new.traffic ≡ machine.hears flow self.old.traffic
             (body.Data packet.now.send packet.now.receive (datum_of (data_view packet.now))) }
         ensures pool { Balances pool.old self.old.held pool.new self.new.held }
         ensures most { length self.new.held ≤ 8 + length self.new.traffic.arrived }
         ensures arrived { length self.old.traffic.arrived ≤ flow.window → length self.new.traffic.arrived ≤ flow.window }
+        ensures short { are_short flow.size self.old.traffic.arrived ≡ true
+            → are_short flow.size self.new.traffic.arrived ≡ true }
+        ensures waiting { self.new.traffic.waiting ≡ self.old.traffic.waiting }
     {
         let expected = shown(flow.numbering, self.expected.number());
         if packet.send != expected || self.unreleased() >= flow.window {
@@ -58,6 +63,7 @@ impl Traffic {
             ≡ machine.keeps (λ u. machine.partner_says busy u) (machine.covers flow receive self.old.traffic) }
         ensures held { self.new.held ≡ self.old.held }
         ensures arrived { self.new.traffic.arrived ≡ self.old.traffic.arrived }
+        ensures waiting { self.new.traffic.waiting ≡ self.old.traffic.waiting }
     {
         let Some(newly) = self.cover(flow.numbering, receive) else {
             return Heard::Wrong(diagnostic::INVALID_RECEIVE_NUMBER);
@@ -74,6 +80,7 @@ impl Traffic {
             ≡ machine.hears_interrupt octets.now self.old.traffic }
         ensures held { self.new.held ≡ self.old.held }
         ensures arrived { self.new.traffic.arrived ≡ self.old.traffic.arrived }
+        ensures waiting { self.new.traffic.waiting ≡ self.old.traffic.waiting }
     {
         if self.interrupt_arrived.is_some() || self.interrupt_taken || self.confirmation_due {
             return Heard::Wrong(diagnostic::NO_INFORMATION);
@@ -88,6 +95,7 @@ impl Traffic {
             ≡ machine.hears_confirmation self.old.traffic }
         ensures held { self.new.held ≡ self.old.held }
         ensures arrived { self.new.traffic.arrived ≡ self.old.traffic.arrived }
+        ensures waiting { self.new.traffic.waiting ≡ self.old.traffic.waiting }
     {
         if !self.interrupt_unconfirmed {
             return Heard::Wrong(diagnostic::NO_INFORMATION);

@@ -1,8 +1,9 @@
 //! What goes to the link in data transfer: the interrupt confirmation, the interrupt, data within the window, RR or
 //! RNR where the partner does not know the present P(R) or whether this end is stopped (X.25 4.3, 4.4).
 ghost use Rattle.std.specs.Bool.{OnFalse};
-ghost use Rattle.std.specs.Prelude.{◌≡◌, ◌<◌, ◌≤◌, ◌+◌, length, is_some};
+ghost use Rattle.std.specs.Prelude.{◌≡◌, ℕ, ◌<◌, ◌≤◌, ◌+◌, true, length, is_some};
 ghost use Rattle.flow_window.specs.Pool.{Holds, Balances};
+ghost use Rattle.packet_channel.specs.Held.{are_short};
 ghost use Rattle.packet_channel.specs.Traffic as machine;
 ghost use Rattle.packet_channel.specs.Octets.{written, ReadsAs};
 
@@ -27,10 +28,13 @@ impl Traffic {
         ensures traffic { self.new.traffic ≡ (machine.says flow self.old.traffic).traffic }
         ensures said { result ≡ is_some (machine.says flow self.old.traffic).body }
         ensures octets { buf.new.items ≡ written flow channel (machine.says flow self.old.traffic).body buf.old.items }
-        ensures reads_back { ReadsAs flow channel (machine.says flow self.old.traffic).body buf.new.items }
+        ensures reads_back { are_short flow.size self.old.traffic.waiting ≡ true
+            → ReadsAs flow channel (machine.says flow self.old.traffic).body buf.new.items }
         ensures pool { Balances pool.old self.old.held pool.new self.new.held }
         ensures most { length self.new.held ≤ 8 + length self.new.traffic.arrived }
         ensures arrived { self.new.traffic.arrived ≡ self.old.traffic.arrived }
+        ensures short { (size : ℕ) → are_short size self.old.traffic.waiting ≡ true
+            → are_short size self.new.traffic.waiting ≡ true }
         ensures same { OnFalse result (self.new ≡ self.old) }
     {
         if !self.confirmation_due {
@@ -63,11 +67,13 @@ impl Traffic {
         ensures octets { buf.new.items
             ≡ written flow channel (machine.says_interrupt flow self.old.traffic.interrupt_waiting self.old.traffic).body
             buf.old.items }
-        ensures reads_back { ReadsAs flow channel
-            (machine.says_interrupt flow self.old.traffic.interrupt_waiting self.old.traffic).body buf.new.items }
+        ensures reads_back { are_short flow.size self.old.traffic.waiting ≡ true
+            → ReadsAs flow channel (machine.says_interrupt flow self.old.traffic.interrupt_waiting self.old.traffic).body buf.new.items }
         ensures pool { Balances pool.old self.old.held pool.new self.new.held }
         ensures most { length self.new.held ≤ 8 + length self.new.traffic.arrived }
         ensures arrived { self.new.traffic.arrived ≡ self.old.traffic.arrived }
+        ensures short { (size : ℕ) → are_short size self.old.traffic.waiting ≡ true
+            → are_short size self.new.traffic.waiting ≡ true }
         ensures same { OnFalse result (self.new ≡ self.old) }
     {
         let Some(interrupt) = &self.interrupt_waiting else {
@@ -84,6 +90,7 @@ impl Traffic {
         true
     }
 
+    #[tactic(auto, using(crate::proofs::Fitting::short_rest, crate::proofs::Fitting::short_first))]
     fn next_data(&mut self, flow: Flow, channel: u8, buf: &mut PacketBuf, pool: &mut Pool) -> bool
         requires window { flow.window ≤ 32 }
         requires channel { 0 < channel }
@@ -93,11 +100,13 @@ impl Traffic {
         ensures said { result ≡ is_some (machine.says_data flow self.old.traffic.waiting self.old.traffic).body }
         ensures octets { buf.new.items
             ≡ written flow channel (machine.says_data flow self.old.traffic.waiting self.old.traffic).body buf.old.items }
-        ensures reads_back { ReadsAs flow channel
-            (machine.says_data flow self.old.traffic.waiting self.old.traffic).body buf.new.items }
+        ensures reads_back { are_short flow.size self.old.traffic.waiting ≡ true
+            → ReadsAs flow channel (machine.says_data flow self.old.traffic.waiting self.old.traffic).body buf.new.items }
         ensures pool { Balances pool.old self.old.held pool.new self.new.held }
         ensures most { length self.new.held ≤ 8 + length self.new.traffic.arrived }
         ensures arrived { self.new.traffic.arrived ≡ self.old.traffic.arrived }
+        ensures short { (size : ℕ) → are_short size self.old.traffic.waiting ≡ true
+            → are_short size self.new.traffic.waiting ≡ true }
         ensures same { OnFalse result (self.new ≡ self.old) }
     {
         if self.send.unacknowledged() >= flow.window || self.partner_busy {

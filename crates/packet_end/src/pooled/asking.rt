@@ -1,5 +1,5 @@
 //! What a user asks of the calls of a line (X.25 4.1 to 4.4). None of these ends the event.
-ghost use Rattle.std.specs.Prelude.{◌≡◌, ◌<◌, length, Some, None, MatchResult};
+ghost use Rattle.std.specs.Prelude.{◌≡◌, ◌<◌, ◌≤◌, length, Some, None, MatchResult};
 ghost use Rattle.flow_window.specs.Pool.{IsIn, Holds, Balances};
 ghost use Rattle.packet_codec.specs.Packet.{IsCallValue};
 ghost use Rattle.packet_codec.specs.View.{call_view};
@@ -8,8 +8,10 @@ ghost use Rattle.packet_layer.specs.Held.{Loses, Takes};
 ghost use Rattle.packet_layer.specs.Channel.{Request as ask};
 ghost use Rattle.packet_layer.specs.Layer as machine;
 ghost use Rattle.packet_layer.specs.Octets.{parts_of};
+ghost use Rattle.packet_layer.specs.Packets.{Datum};
 ghost use Rattle.packet_layer.specs.RequestView.{request_of, refusal_of, call_refusal_of};
 ghost use Rattle.packet_layer.specs.TakenView.{maybe_taken_in, maybe_buffers_in, maybe_front};
+ghost use Rattle.packet_layer.specs.Traffic.Taken.{TakenPacket};
 ghost use Rattle.packet_end.specs.PacketEnd.{asked, called};
 ghost use Rattle.packet_end.specs.Pooled.{Serves};
 
@@ -45,7 +47,7 @@ impl PooledEnd {
         request: &Request<'_>,
         pool: &mut Pool,
     ) -> Result<(), ChannelFault>
-        requires { Serves pool.old self.old.held self.old.share }
+        requires { Serves pool.old self.old.held self.old.share self.old.info }
         ensures answer { MatchResult result
             (λ _. machine.request_refusal self.old.end.layer channel (request_of request.now) ≡ None)
             (λ fault. machine.request_refusal self.old.end.layer channel (request_of request.now)
@@ -65,6 +67,9 @@ impl PooledEnd {
     /// whose number is handed out with M, Q and D.
     pub fn take_buf(&mut self, channel: u8) -> Option<TakenBuf>
         ensures taken { maybe_taken_in result ≡ machine.front_on self.old.end.layer channel }
+        // A packet is no larger than the line's size.
+        ensures short { (d : Datum) → machine.front_on self.old.end.layer channel ≡ Some (TakenPacket d)
+            → length d.octets ≤ self.old.end.layer.flow.size }
         ensures end { self.new ≡ record self.old { end = asked self.old.end channel ask.Taking; held = self.new.held } }
         ensures held { Loses self.old.held (maybe_buffers_in result) self.new.held }
         ensures within { length self.new.held < self.new.share }

@@ -23,7 +23,7 @@ impl PooledEnd {
     /// Offers packets to the link, as long as it takes one and the packet layer has one that may go, and answers
     /// whether it took any.
     pub fn offer_packets(&mut self, pool: &mut Pool) -> bool
-        requires { Serves pool.old self.old.held self.old.share }
+        requires { Serves pool.old self.old.held self.old.share self.old.info }
         ensures offered { result
             ≡ (can_offer self.old.end.line.link && is_some (next_packet self.old.end.layer).packet) }
         ensures end { self.new ≡ record self.old { end = all_offered self.old.end; held = self.new.held } }
@@ -43,7 +43,7 @@ impl PooledEnd {
     // Offers the layer's next packet to the link, if the link takes one and the layer has one, and answers whether it
     // did.
     fn offer_next(&mut self, pool: &mut Pool) -> bool
-        requires { Serves pool.old self.old.held self.old.share }
+        requires { Serves pool.old self.old.held self.old.share self.old.info }
         ensures said { result
             ≡ (can_offer self.old.end.line.link && is_some (next_packet self.old.end.layer).packet) }
         ensures end { self.new ≡ record self.old { end = offered 1 self.old.end; held = self.new.held } }
@@ -58,13 +58,14 @@ impl PooledEnd {
         if !self.layer.next_packet(&mut self.packet, pool) {
             return false;
         }
-        let _ = self.line.offer(self.packet.as_slice(), pool);
+        let packet = self.packet.as_slice();
+        let _ = self.line.offer(packet, pool);
         true
     }
 
     /// Ends an event: the timers run as the packet layer wants them, and the link sends what may go.
     pub fn settle(&mut self, pool: &mut Pool)
-        requires { Serves pool.old self.old.held self.old.share }
+        requires { Serves pool.old self.old.held self.old.share self.old.info }
         ensures end { self.new ≡ record self.old { end = settled self.old.end } }
 
         // No packet that the link holds and may send stays unsent.
@@ -82,7 +83,7 @@ impl PooledEnd {
     /// of the event is lost.
     pub fn finish(&mut self, pool: &mut Pool)
         requires notes { length self.old.end.notes ≤ 64 }
-        requires pool { Serves pool.old self.old.held self.old.share }
+        requires pool { Serves pool.old self.old.held self.old.share self.old.info }
         ensures end { self.new ≡ record self.old { end = finished self.old.end; held = self.new.held } }
         ensures notes { length self.new.end.notes ≤ length self.old.end.notes + 32 }
         ensures nothing_kept_back { KeepsNothingBack self.new.end }
@@ -102,7 +103,7 @@ impl PooledEnd {
     // Relinks the link if the packet layer asks for it.
     fn relink_if_due(&mut self, pool: &mut Pool)
         requires notes { length self.old.end.notes ≤ 64 }
-        requires pool { Serves pool.old self.old.held self.old.share }
+        requires pool { Serves pool.old self.old.held self.old.share self.old.info }
         ensures end { self.new ≡ record self.old { end = relinked_if_due self.old.end; held = self.new.held } }
         ensures notes { length self.new.end.notes ≤ length self.old.end.notes + 32 }
         ensures pool { Balances pool.old self.old.held pool.new self.new.held }

@@ -1,20 +1,28 @@
 //! What a host says on a call (X.25 4.3).
-ghost use Rattle.std.specs.Prelude.{◌≡◌, Some, None, MatchResult, OnOk};
+ghost use Rattle.std.specs.Prelude.{◌≡◌, true, Some, None, MatchResult, OnOk};
+ghost use Rattle.packet_channel.specs.Cutting.{cut};
+ghost use Rattle.packet_channel.specs.Flow.{is_size};
 ghost use Rattle.packet_layer.specs.RequestView.{refusal_of};
 ghost use Rattle.packet_end.specs.PacketEnd as end;
 ghost use Rattle.packet_host.specs.Host.{after_say, ended_frames};
-ghost use Rattle.packet_host.specs.Saying.{say_refusal, full_packets, places_needed, most_octets, cut, queued};
-ghost use Rattle.packet_host.specs.Saying.{AllTaken};
+ghost use Rattle.packet_host.specs.Saying.{say_refusal, places_needed, most_octets, message, queued, AllTaken};
 
 use crate::host::Host;
-use packet_codec::MAX_USER_DATA;
+use packet_channel::full_packets;
 use packet_end::PacketEnd;
 use packet_layer::{ChannelFault, Request, SEND_QUEUE};
 
+/// The most octets of a message that is not qualified.
+const MOST_OCTETS: usize = 1_024;
+
+/// The most octets of a qualified message.
+const MOST_QUALIFIED: usize = 128;
+
 impl Host {
     #[tactic(auto, using(crate::proofs::Taken::all_said))]
-    /// Says octets on the channel: full packets of 128 octets with M = 1, then the rest with M = 0 and, if asked for,
-    /// D; no octets are one empty packet. Q is on all of them (X.25 4.3.3 to 4.3.6). At most 1,024 octets, with Q 128.
+    /// Says octets on the channel: full packets of the line's size with M = 1, then the rest with M = 0 and, if asked
+    /// for, D; no octets are one empty packet. Q is on all of them (X.25 4.3.3 to 4.3.6). At most 1,024 octets, with Q
+    /// 128.
     ///
     /// `NoCall` comes where no call is in data transfer, then `Resetting` while the own reset is not confirmed,
     /// `QueueFull` where the send queue has fewer places than the packets need (never more than 8, and with Q one);
@@ -31,14 +39,15 @@ impl Host {
             (λ fault. say_refusal self.old.layer channel octets.now qualified ≡ Some (refusal_of fault)) }
 
         // No packet of an accepted message is refused by the send queue.
-        ensures taken { OnOk result (AllTaken channel (cut octets.now qualified delivery) self.old) }
+        ensures taken { OnOk result (AllTaken channel (cut self.old.layer.flow.size (message octets.now qualified delivery)) self.old) }
         ensures host { self.new ≡ after_say self.old channel octets.now qualified delivery }
         ensures nothing_kept_back { OnOk result (end.KeepsNothingBack self.new) }
         ensures frames { OnOk result (self.new.line.frames
-            ≡ ended_frames (queued channel (cut octets.now qualified delivery) self.old)) }
+            ≡ ended_frames (queued channel (cut self.old.layer.flow.size (message octets.now qualified delivery)) self.old)) }
     {
         self.end.may_send(channel)?;
-        if usize::from(self.end.room(channel)) < needed(octets, qualified) {
+        let size = self.packet_size();
+        if usize::from(self.end.room(channel)) < needed(octets, size, qualified) {
             return Err(ChannelFault::QueueFull);
         }
         if most(qualified) < octets.len() {
@@ -48,23 +57,25 @@ impl Host {
         self.end_event();
         Ok(())
     }
-}
 
-/// How many full packets of a message go before the last one.
-pub fn full_packets(octets: &[u8]) -> usize
-    ensures { result ≡ full_packets octets.now }
-{
-    octets.len().saturating_sub(1) / MAX_USER_DATA
+    /// How many octets of user data a packet of its line may have: 128, 256, 512 or 1,024 (X.25 4.3.2).
+    pub fn packet_size(&self) -> u16
+        ensures size { result ≡ self.now.layer.flow.size }
+        ensures allowed { is_size result ≡ true }
+    {
+        self.end.flow().size
+    }
 }
 
 // How many places of the send queue a message needs.
-fn needed(octets: &[u8], qualified: bool) -> usize
-    ensures { result ≡ places_needed qualified octets.now }
+fn needed(octets: &[u8], size: u16, qualified: bool) -> usize
+    requires { is_size size ≡ true }
+    ensures { result ≡ places_needed size qualified octets.now }
 {
     if qualified {
         1
     } else {
-        SEND_QUEUE.min(full_packets(octets) + 1)
+        SEND_QUEUE.min(full_packets(octets, size) + 1)
     }
 }
 
@@ -73,19 +84,20 @@ fn most(qualified: bool) -> usize
     ensures { result ≡ most_octets qualified }
 {
     if qualified {
-        MAX_USER_DATA
+        MOST_QUALIFIED
     } else {
-        SEND_QUEUE * MAX_USER_DATA
+        MOST_OCTETS
     }
 }
 
 // Puts the packets of a message into the send queue.
 fn queue(end: &mut PacketEnd, channel: u8, octets: &[u8], qualified: bool, delivery: bool)
-    ensures { end.new ≡ queued channel (cut octets.now qualified delivery) end.old }
+    ensures { end.new ≡ queued channel (cut end.old.layer.flow.size (message octets.now qualified delivery)) end.old }
 {
+    let size = end.flow().size;
     let mut rest = octets;
-    for _ in 0..full_packets(octets) {
-        let (octets, others) = rest.split_at(MAX_USER_DATA);
+    for _ in 0..full_packets(octets, size) {
+        let (octets, others) = rest.split_at(usize::from(size));
         let full = Request::Send {
             octets,
             more: true,

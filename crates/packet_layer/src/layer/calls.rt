@@ -9,6 +9,8 @@ ghost use Rattle.packet_codec.specs.View.{call_view};
 ghost use Rattle.packet_channel.specs.Channel.{Request as asked};
 ghost use Rattle.packet_layer.specs.Layer as machine;
 ghost use Rattle.packet_channel.specs.Octets.{parts_of};
+ghost use Rattle.packet_channel.specs.Packets.{Datum};
+ghost use Rattle.packet_channel.specs.Traffic.Taken.{TakenPacket};
 ghost use Rattle.packet_layer.specs.RequestView.{request_of, bare_request_of, refusal_of, call_refusal_of};
 ghost use Rattle.packet_channel.specs.TakenView.{maybe_taken, maybe_taken_in, maybe_buffers_in};
 ghost use Rattle.packet_layer.specs.Free.{IsFreeAt};
@@ -100,7 +102,7 @@ impl Layer {
         pool: &mut Pool,
     ) -> Result<(), ChannelFault>
         requires holds { Holds pool.old self.old.held }
-        requires size { 128 ≤ pool.old.size }
+        requires size { self.old.layer.flow.size ≤ pool.old.size }
         requires room { HasRoom pool.old self.old.held (most_held self.old.layer + 1) }
         ensures answer { MatchResult result
             (λ _. machine.request_refusal self.old.layer channel (request_of request.now) ≡ None)
@@ -115,9 +117,10 @@ impl Layer {
             return Err(ChannelFault::NoCall);
         };
         let role = self.role;
+        let flow = self.flow;
         self.to_serve.insert(place);
         let channel = &mut self.channels[place];
-        let relink = channel.request(role, request, pool)?;
+        let relink = channel.request(role, flow, request, pool)?;
         self.relink_if(relink);
         Ok(())
     }
@@ -168,7 +171,7 @@ impl Layer {
         pool: &mut Pool,
     ) -> Result<(), ChannelFault>
         requires holds { Holds pool.old self.old.held }
-        requires size { 128 ≤ pool.old.size }
+        requires size { self.old.layer.flow.size ≤ pool.old.size }
         requires room { HasRoom pool.old self.old.held (most_held self.old.layer + 1) }
         ensures answer { MatchResult result
             (λ _. machine.request_refusal self.old.layer channel (asked.Clearing cause diagnostic) ≡ None)
@@ -193,7 +196,7 @@ impl Layer {
         pool: &mut Pool,
     ) -> Result<(), ChannelFault>
         requires holds { Holds pool.old self.old.held }
-        requires size { 128 ≤ pool.old.size }
+        requires size { self.old.layer.flow.size ≤ pool.old.size }
         requires room { HasRoom pool.old self.old.held (most_held self.old.layer + 1) }
         ensures answer { MatchResult result
             (λ _. machine.request_refusal self.old.layer channel (asked.Resetting cause diagnostic) ≡ None)
@@ -209,8 +212,8 @@ impl Layer {
     /// Puts a Data packet with its bits M, Q and D into the send queue of the channel (X.25 4.3).
     ///
     /// `NoCall` comes where no call is in data transfer, then `Resetting` while the own reset is not confirmed,
-    /// `QueueFull` where 8 packets wait, `TooLong` for more than 128 octets. A packet that is refused changes
-    /// nothing.
+    /// `QueueFull` where 8 packets wait, `TooLong` for more octets than a packet of the line may have. A packet that
+    /// is refused changes nothing.
     pub fn send(
         &mut self,
         channel: u8,
@@ -221,7 +224,7 @@ impl Layer {
         pool: &mut Pool,
     ) -> Result<(), ChannelFault>
         requires holds { Holds pool.old self.old.held }
-        requires size { 128 ≤ pool.old.size }
+        requires size { self.old.layer.flow.size ≤ pool.old.size }
         requires room { HasRoom pool.old self.old.held (most_held self.old.layer + 1) }
         ensures answer { let asks = asked.Sending
             (record { octets = octets.now; more = more; qualified = qualified; delivery = delivery }) in
@@ -277,9 +280,10 @@ impl Layer {
             let fault = ChannelFault::NoCall;
             return Err(RefusedBuf { fault, buffer });
         };
+        let flow = self.flow;
         self.to_serve.insert(place);
         let channel = &mut self.channels[place];
-        channel.send_buf(buffer, more, qualified, delivery, pool)
+        channel.send_buf(flow, buffer, more, qualified, delivery, pool)
     }
 
     /// Sends an interrupt of 1 to 32 octets on the channel (X.25 4.3.7).
@@ -344,6 +348,9 @@ impl Layer {
     #[tactic(auto, using(crate::proofs::Placed::own_few))]
     pub fn take_buf(&mut self, channel: u8) -> Option<TakenBuf>
         ensures taken { maybe_taken_in result ≡ machine.front_on self.old.layer channel }
+        // A packet is no larger than the line's size.
+        ensures short { (d : Datum) → machine.front_on self.old.layer channel ≡ Some (TakenPacket d)
+            → length d.octets ≤ self.old.layer.flow.size }
         ensures layer { self.new.layer ≡ machine.request self.old.layer channel asked.Taking }
         ensures held { Loses self.old.held (maybe_buffers_in result) self.new.held }
         ensures most { most_held self.new.layer ≡ most_held self.old.layer }

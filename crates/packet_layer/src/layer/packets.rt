@@ -15,8 +15,7 @@ use crate::restart::{Phase, RestartPacket};
 use flow_window::pool::Pool;
 use packet_channel::{Reason, error_cause};
 use packet_codec::{
-    Content, MAX_USER_DATA, Packet, PacketFault, diagnostic, logical_channel, read_packet,
-    restart_cause,
+    Content, Packet, PacketFault, diagnostic, logical_channel, read_packet, restart_cause,
 };
 
 impl Layer {
@@ -27,7 +26,7 @@ impl Layer {
     #[tactic(auto, using(crate::proofs::Placed::own_few, crate::proofs::Placed::few))]
     pub fn on_packet(&mut self, octets: &[u8], pool: &mut Pool)
         requires holds { Holds pool.old self.old.held }
-        requires size { 128 ≤ pool.old.size }
+        requires size { self.old.layer.flow.size ≤ pool.old.size }
         requires room { HasRoom pool.old self.old.held (most_held self.old.layer + 1) }
         ensures layer { self.new.layer ≡ on_octets self.old.layer octets.now }
         ensures pool { Balances pool.old self.old.held pool.new self.new.held }
@@ -35,7 +34,7 @@ impl Layer {
         ensures few { length self.new.held ≤ most_held self.new.layer }
     {
         self.notes.clear();
-        match read_packet(octets, self.flow.numbering, MAX_USER_DATA as u16) {
+        match read_packet(octets, self.flow.numbering, self.flow.size) {
             Ok(packet) => self.take_packet(&packet, pool),
             Err(PacketFault::TooShort | PacketFault::BadFormatId) => {}
             Err(PacketFault::UnknownType) => self.take_unreadable(octets, true, pool),
@@ -47,9 +46,9 @@ impl Layer {
 
     fn take_packet(&mut self, packet: &Packet<'_>, pool: &mut Pool)
         requires read { self.old.layer.notes ≡ [] }
-        requires fits { IsContentOn self.old.layer.flow.numbering 128 packet.now.channel (content_view packet.now.content) }
+        requires fits { IsContentOn self.old.layer.flow.numbering self.old.layer.flow.size packet.now.channel (content_view packet.now.content) }
         requires holds { Holds pool.old self.old.held }
-        requires size { 128 ≤ pool.old.size }
+        requires size { self.old.layer.flow.size ≤ pool.old.size }
         requires room { HasRoom pool.old self.old.held (most_held self.old.layer + 1) }
         ensures layer { self.new.layer ≡ machine.packet_in self.old.layer
             (record { channel = packet.now.channel; body = body_of (content_view packet.now.content) }) }
@@ -96,9 +95,9 @@ impl Layer {
     #[tactic(auto, using(crate::proofs::Placed::own_few, crate::proofs::Placed::few))]
     fn take_on_channel(&mut self, packet: &Packet<'_>, pool: &mut Pool)
         requires read { self.old.layer.notes ≡ [] }
-        requires fits { IsContentOn self.old.layer.flow.numbering 128 packet.now.channel (content_view packet.now.content) }
+        requires fits { IsContentOn self.old.layer.flow.numbering self.old.layer.flow.size packet.now.channel (content_view packet.now.content) }
         requires holds { Holds pool.old self.old.held }
-        requires size { 128 ≤ pool.old.size }
+        requires size { self.old.layer.flow.size ≤ pool.old.size }
         requires room { HasRoom pool.old self.old.held (most_held self.old.layer + 1) }
         ensures layer { self.new.layer ≡ machine.on_channel self.old.layer.phase self.old.layer packet.now.channel
             (λ ch. received self.old.layer.role self.old.layer.flow packet.now.channel ch

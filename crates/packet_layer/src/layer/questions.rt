@@ -6,12 +6,13 @@ ghost use Rattle.std.specs.List.{list_all};
 ghost use Rattle.packet_layer.specs.Layer as machine;
 ghost use Rattle.packet_layer.specs.Interrupting.{may_interrupt};
 ghost use Rattle.packet_layer.specs.RequestView.{refusal_of};
+ghost use Rattle.packet_channel.specs.Flow.{IsFlow};
 ghost use Rattle.packet_channel.specs.TakenView.{maybe_front};
 
 use crate::layer::Layer;
 use flow_window::pool::Pool;
 use link_timers::Role;
-use packet_channel::{Channel, ChannelFault, Front};
+use packet_channel::{Channel, ChannelFault, Flow, Front};
 
 impl Layer {
     /// Whether certainly no packet goes to the link next, so that none need be asked for.
@@ -97,6 +98,14 @@ impl Layer {
         ensures { result ≡ self.now.layer.role }
     {
         self.role
+    }
+
+    /// The flow control parameters of its line, which it keeps.
+    pub fn flow(&self) -> Flow
+        ensures flow { result ≡ self.now.layer.flow }
+        ensures allowed { IsFlow result }
+    {
+        self.flow
     }
 
     /// Whether the link has to be set up anew: from when a rule asks for it until `link_down` or `link_up`.

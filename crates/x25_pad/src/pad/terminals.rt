@@ -2,21 +2,21 @@
 ghost use Rattle.std.specs.Prelude.{◌≡◌, ◌≤◌, ◌<◌, ◌+◌, ◌++◌, [], true, length, map, position, IfSome};
 ghost use Rattle.std.specs.Bool.{OnTrue};
 ghost use Rattle.arrayvec.specs.ArrayVec.{array_vec_len};
-ghost use Rattle.packet_layer.specs.TakenView.{maybe_taken};
 ghost use Rattle.packet_end.specs.PacketEnd as end;
 ghost use Rattle.packet_end.specs.Sending.{expiry_frames, ending_frames};
 ghost use Rattle.packet_end.specs.Timing.{TimersAgree};
 ghost use Rattle.x25_pad.specs.Ports as port;
 ghost use Rattle.x25_pad.specs.Pad as spec;
 ghost use Rattle.x25_pad.specs.Sending.{frames_at_terminal, frames_on_timer};
+ghost use Rattle.x25_pad.specs.TakenView.{maybe_taken};
 
 use crate::answer::PadAnswer;
 use crate::note::EARLY_NOTES;
 use crate::pad::Pad;
 use crate::port::MOST_TEXT;
+use crate::taken::PadTaken;
 use arrayvec::ArrayVec;
 use link_timers::TimerId;
-use packet_layer::Taken;
 
 impl Pad {
     /// Takes a key of a terminal.
@@ -145,7 +145,7 @@ impl Pad {
         &mut self,
         terminal: u8,
         out: &mut ArrayVec<u8, N>,
-    ) -> Option<Taken>
+    ) -> Option<PadTaken>
         requires there { terminal < length self.old.ports }
         requires room { array_vec_len out.old + MOST_TEXT ≤ N }
         ensures pad { self.new ≡ spec.terminal_event terminal port.after_print self.old }
@@ -163,7 +163,7 @@ impl Pad {
     }
 
     // What printing does at its terminal.
-    fn show<const N: usize>(&mut self, terminal: u8, out: &mut ArrayVec<u8, N>) -> Option<Taken>
+    fn show<const N: usize>(&mut self, terminal: u8, out: &mut ArrayVec<u8, N>) -> Option<PadTaken>
         requires there { terminal < length self.old.ports }
         requires room { length self.old.line.notes + 2 ≤ EARLY_NOTES }
         requires named { self.old.noted_at ≡ [] }

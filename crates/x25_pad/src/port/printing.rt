@@ -1,20 +1,20 @@
 //! What a terminal shows.
 ghost use Rattle.std.specs.Prelude.{◌≡◌, ◌≤◌, ◌<◌, ◌+◌, ◌++◌, length};
 ghost use Rattle.arrayvec.specs.ArrayVec.{array_vec_len};
-ghost use Rattle.packet_layer.specs.TakenView.{taken_of as value_of, maybe_taken};
 ghost use Rattle.x25_pad.specs.Ports as spec;
+ghost use Rattle.x25_pad.specs.TakenView.{taken_of as value_of, maybe_taken};
 
 use crate::line::PadLine;
 use crate::note::MOST_NOTES;
 use crate::port::Port;
+use crate::taken::{MOST_OCTETS, PadData, PadTaken};
 use arrayvec::ArrayVec;
-use packet_codec::MAX_USER_DATA;
-use packet_layer::{Front, Request, Taken, UserData};
+use packet_layer::{Front, Request};
 use pad_editing::OCTET_LIMIT;
 use pad_terminal::{Reply, TEXT_LIMIT};
 
 /// The most octets that a terminal shows for one packet.
-const PACKET_TEXT: usize = OCTET_LIMIT * MAX_USER_DATA;
+const PACKET_TEXT: usize = OCTET_LIMIT * MOST_OCTETS;
 
 /// The most octets that a terminal has to show: the text that waits, and one packet.
 pub const MOST_TEXT: usize = TEXT_LIMIT + PACKET_TEXT;
@@ -25,7 +25,7 @@ impl Port {
         &mut self,
         line: &mut PadLine,
         out: &mut ArrayVec<u8, N>,
-    ) -> Option<Taken>
+    ) -> Option<PadTaken>
         requires notes { length line.old.notes + 2 ≤ MOST_NOTES }
         requires room { array_vec_len out.old + MOST_TEXT ≤ N }
         ensures port { self.new ≡ (spec.after_print (record { port = self.old; line = line.old })).port }
@@ -44,7 +44,7 @@ impl Port {
     }
 
     // Takes what waits first on the call, if it is to be shown now: a message waits while the send queue is full.
-    fn take_next(&self, line: &mut PadLine) -> Option<Taken>
+    fn take_next(&self, line: &mut PadLine) -> Option<PadTaken>
         requires { length line.old.notes < MOST_NOTES }
         ensures taken { maybe_taken result ≡ spec.taken_of (record { port = self.now; line = line.old }) }
         ensures line { line.new ≡ (spec.with_taken (spec.taken_of (record { port = self.now; line = line.old }))
@@ -71,7 +71,12 @@ impl Port {
     }
 
     // Shows what was taken, and lets P(R) pass it; an interrupt is confirmed.
-    fn show<const N: usize>(&mut self, taken: &Taken, line: &mut PadLine, out: &mut ArrayVec<u8, N>)
+    fn show<const N: usize>(
+        &mut self,
+        taken: &PadTaken,
+        line: &mut PadLine,
+        out: &mut ArrayVec<u8, N>,
+    )
         requires notes { length line.old.notes + 1 ≤ MOST_NOTES }
         requires room { array_vec_len out.old + PACKET_TEXT ≤ N }
         ensures port { self.new ≡ (spec.on_call (spec.after_taking (value_of taken.now)) self.old.call
@@ -87,10 +92,10 @@ impl Port {
             return;
         };
         match taken {
-            Taken::Interrupt(_) => {
+            PadTaken::Interrupt(_) => {
                 let _ = line.end.ask(channel, &Request::ConfirmInterrupt);
             }
-            Taken::Data(user_data) => {
+            PadTaken::Data(user_data) => {
                 let _ = line.end.ask(channel, &Request::Release(1));
                 self.show_data(user_data, line, out);
             }
@@ -100,7 +105,7 @@ impl Port {
     // A qualified packet is a message, another is shown.
     fn show_data<const N: usize>(
         &mut self,
-        user_data: &UserData,
+        user_data: &PadData,
         line: &mut PadLine,
         out: &mut ArrayVec<u8, N>,
     )

@@ -4,7 +4,9 @@ use Rattle.frame_codec.proofs.Grammar.{spelled_form}
 use Rattle.frame_codec.proofs.writing.write_frame.Goals as goal
 
 pub returns-in-I-clause-reads_back : goal.returns-in-I-clause-reads_back
-returns-in-I-clause-reads_back c = spelled_form c.args.from (value_of c.args.frame.now) _ c.requires (search rules)
+returns-in-I-clause-reads_back c info spelt =
+    spelled_form c.args.from info (value_of c.args.frame.now) _ spelt (search rules)
 
 pub returns-in-Frmr-clause-reads_back : goal.returns-in-Frmr-clause-reads_back
-returns-in-Frmr-clause-reads_back c = spelled_form c.args.from (value_of c.args.frame.now) _ c.requires (search rules)
+returns-in-Frmr-clause-reads_back c info spelt =
+    spelled_form c.args.from info (value_of c.args.frame.now) _ spelt (search rules)

@@ -67,3 +67,9 @@ returns-clause-k c =
     let keeps : Keeps c.self.inside.link.link c.on_frame.new.self.link =
     rw c.on_frame.ensures.link (sends_on_octets c.self.inside.link.link c.args.octets.now).keeps in
     keeps.k ∙ ap (λ (e : LineEnd). e.end.link.k) c.self.view_is
+
+pub returns-clause-info : goal.returns-clause-info
+returns-clause-info c =
+    let keeps : Keeps c.self.inside.link.link c.on_frame.new.self.link =
+    rw c.on_frame.ensures.link (sends_on_octets c.self.inside.link.link c.args.octets.now).keeps in
+    keeps.info ∙ ap (λ (e : LineEnd). e.end.link.info) c.self.view_is

@@ -5,8 +5,8 @@ use Rattle.packet_channel.specs.Held.{Traffic}
 use Rattle.packet_channel.proofs.Queues.{holds_second}
 use Rattle.packet_channel.proofs.traffic.Traffic.front.Goals as goal
 
-pub octets-requires : goal.octets-requires
-octets-requires c =
+pub front-requires-2 : goal.front-requires-2
+front-requires-2 c =
     let all = subst (λ (t : Traffic). Holds c.args.pool.now t.held) (sym c.self.view_is) c.requires in
     held_in c.args.pool.now c.self.inside.arrived.held 0 c.in_ok-data.data.now.buffer
     (holds_second c.args.pool.now c.self.inside.waiting.held c.self.inside.arrived.held all)

@@ -9,7 +9,14 @@ invariant_of-result c =
     let end = c.in_ok-end.ensures.end in
     let change = c.in_ok-end.ensures.pool in
     record {
-      size = change.size ∙ ap (λ (x : Pool). x.size) c.in_ok-pool.ensures.map;
+      size_least =
+          let made = ap (λ (x : PooledEnd). x.info) end in
+          let size = change.size ∙ ap (λ (x : Pool). x.size) c.in_ok-pool.ensures.map in
+          omega (arith, made, size, c.info.ensures, c.from.ensures);
+      size_most =
+          let size = change.size ∙ ap (λ (x : Pool). x.size) c.in_ok-pool.ensures.map in
+          let most = c.in_ok-check.ensures.link.info_most in
+          omega (arith, size, most, c.info.ensures, c.from.ensures);
       places = change.places ∙ ap (λ (x : Pool). length x.places) c.in_ok-pool.ensures.map ∙ replicated c.buffers.result _
           ∙ c.buffers.ensures ∙ sym (ap (λ (x : PooledEnd). x.share) end);
       exact = λ w.

@@ -9,4 +9,4 @@ restart-requires c = serves c.self.inside c.self.invariant
 pub invariant_of-self : goal.invariant_of-self
 invariant_of-self c =
     after c.self.inside c.restart.new.self c.restart.new.pool c.self.invariant c.restart.ensures.pool
-    (ap (λ (e : PooledEnd). e.share) c.restart.ensures.end)
+    (ap (λ (e : PooledEnd). e.share) c.restart.ensures.end) (ap (λ (e : PooledEnd). e.info) c.restart.ensures.end)

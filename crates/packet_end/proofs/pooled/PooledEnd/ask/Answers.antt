@@ -1,6 +1,8 @@
-use Rattle.std.proofs.Common.{inl}
+use Rattle.std.proofs.Common.{inl, ap, sym, ◌∙◌}
 use Rattle.packet_layer.specs.RequestView.{request_of}
-use Rattle.packet_end.proofs.Pools.{served, layer_holds, layer_balanced}
+use Rattle.packet_layer.proofs.Flows.{flow_request}
+use Rattle.packet_end.specs.Params.{info_of}
+use Rattle.packet_end.proofs.Pools.{served, layer_holds, layer_size, layer_balanced}
 use Rattle.packet_end.proofs.Waits.{others_agree, request_apart_or_alike}
 use Rattle.packet_end.proofs.pooled.PooledEnd.ask.Goals as goal
 
@@ -9,12 +11,19 @@ ask-requires-clause-holds c =
     layer_holds c.args.pool.now c.self.inside.line c.self.inside.layer
     (served c.self.inside c.args.self.now c.args.pool.now c.self.view_is c.requires)
 
+pub ask-requires-clause-size : goal.ask-requires-clause-size
+ask-requires-clause-size c =
+    layer_size c.args.pool.now c.self.inside.line c.self.inside.layer
+    (served c.self.inside c.args.self.now c.args.pool.now c.self.view_is c.requires) c.self.invariant.info
+
 pub invariant_of-self : goal.invariant_of-self
 invariant_of-self c =
     let e = c.self.inside in
     record {
       line = c.self.invariant.line;
       layer = c.ask.ensures.few;
+      info = rw c.ask.ensures.layer
+          (c.self.invariant.info ∙ ap info_of (sym (flow_request e.layer.layer c.args.channel (request_of c.args.request.now))));
       agree = rw c.ask.ensures.layer
           (others_agree e.layer.layer _ e.timers e.touched c.insert_asked.new.self c.self.invariant.agree
           (λ n out.

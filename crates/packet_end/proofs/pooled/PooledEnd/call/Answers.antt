@@ -2,6 +2,8 @@ use Rattle.std.proofs.Common.{sym, ap, ◌∙◌, inl, length, arith}
 use Rattle.packet_codec.specs.View.{call_view}
 use Rattle.packet_layer.specs.Octets.{parts_of}
 use Rattle.packet_layer.specs.Held.{Layer}
+use Rattle.packet_layer.proofs.Flows.{flow_call}
+use Rattle.packet_end.specs.Params.{info_of}
 use Rattle.packet_end.proofs.Waits.{others_agree, call_placed, call_refused}
 use Rattle.packet_end.proofs.pooled.PooledEnd.call.Goals as goal
 
@@ -13,6 +15,8 @@ invariant_of-self c =
       layer =
           let held = ap (λ (l : Layer). length l.held) c.call.ensures.layer in
           omega (arith, held, c.call.ensures.most, c.self.invariant.layer);
+      info = rw (ap (λ (l : Layer). l.layer) c.call.ensures.layer)
+          (c.self.invariant.info ∙ ap info_of (sym (flow_call e.layer.layer (parts_of (call_view c.args.call.now)))));
       agree = rw (ap (λ (l : Layer). l.layer) c.call.ensures.layer)
           (others_agree e.layer.layer _ e.timers e.touched c.touch.new.self c.self.invariant.agree
           (λ n out. (
@@ -30,6 +34,8 @@ invariant_of-self-2 c =
       layer =
           let held = ap (λ (l : Layer). length l.held) c.call.ensures.layer in
           omega (arith, held, c.call.ensures.most, c.self.invariant.layer);
+      info = rw (ap (λ (l : Layer). l.layer) c.call.ensures.layer)
+          (c.self.invariant.info ∙ ap info_of (sym (flow_call e.layer.layer (parts_of (call_view c.args.call.now)))));
       agree = rw (ap (λ (l : Layer). l.layer) c.call.ensures.layer)
           (others_agree e.layer.layer _ e.timers e.touched c.insert.new.self c.self.invariant.agree
           (λ n out.

@@ -18,6 +18,7 @@ returns-in-Nothing-clause-end c =
       end = sym (finished_once (end_of a) (ended a.touched (end_of a) c.in-Nothing.is c.self.invariant.finished)) i;
       held = a.line.held ++ a.layer.held;
       share = share_of a.line.end a.layer.layer;
+      info = a.line.end.link.info;
     })
 
 pub returns-in-Nothing-clause-frames : goal.returns-in-Nothing-clause-frames
@@ -30,18 +31,21 @@ pub offer_packets-requires : goal.offer_packets-requires
 offer_packets-requires c =
     let x = c.args.self.now in
     let y = c.relink_if_due.new.self in
-    serves_after c.args.pool.now c.relink_if_due.new.pool x.held y.held x.share y.share c.requires.pool
+    serves_after c.args.pool.now c.relink_if_due.new.pool x.held y.held x.share y.share x.info y.info c.requires.pool
     c.relink_if_due.ensures.pool (ap (λ (x : PooledEnd). x.share) c.relink_if_due.ensures.end)
+    (ap (λ (x : PooledEnd). x.info) c.relink_if_due.ensures.end)
 
 pub settle-requires : goal.settle-requires
 settle-requires c =
     let x = c.args.self.now in
     let y = c.relink_if_due.new.self in
     let z = c.offer_packets.new.self in
-    serves_after c.relink_if_due.new.pool c.offer_packets.new.pool y.held z.held y.share z.share
-    (serves_after c.args.pool.now c.relink_if_due.new.pool x.held y.held x.share y.share c.requires.pool
-    c.relink_if_due.ensures.pool (ap (λ (x : PooledEnd). x.share) c.relink_if_due.ensures.end))
+    serves_after c.relink_if_due.new.pool c.offer_packets.new.pool y.held z.held y.share z.share y.info z.info
+    (serves_after c.args.pool.now c.relink_if_due.new.pool x.held y.held x.share y.share x.info y.info c.requires.pool
+    c.relink_if_due.ensures.pool (ap (λ (x : PooledEnd). x.share) c.relink_if_due.ensures.end)
+    (ap (λ (x : PooledEnd). x.info) c.relink_if_due.ensures.end))
     c.offer_packets.ensures.pool (ap (λ (x : PooledEnd). x.share) c.offer_packets.ensures.end)
+    (ap (λ (x : PooledEnd). x.info) c.offer_packets.ensures.end)
 
 pub invariant_of-self : goal.invariant_of-self
 invariant_of-self c =
@@ -65,6 +69,7 @@ invariant_of-self c =
     record {
       line = c.self-2.invariant.line;
       layer = c.self-2.invariant.layer;
+      info = c.self-2.invariant.info;
       agree = λ id is_id out. ends.timers id is_id;
       finished = inr ends;
     }
@@ -78,7 +83,8 @@ returns-clause-end c =
     ap (λ (x : PooledEnd). settled x.end) offered
     ∙ ap (λ (x : PooledEnd). settled (all_offered x.end)) c.relink_if_due.ensures.end in
     let share = ap (λ (x : PooledEnd). x.share) offered ∙ ap (λ (x : PooledEnd). x.share) c.relink_if_due.ensures.end in
-    settles ∙ (λ i. record { end = end i; held = c.offer_packets.new.self.held; share = share i })
+    let info = ap (λ (x : PooledEnd). x.info) offered ∙ ap (λ (x : PooledEnd). x.info) c.relink_if_due.ensures.end in
+    settles ∙ (λ i. record { end = end i; held = c.offer_packets.new.self.held; share = share i; info = info i })
     ∙ ap (λ (x : PooledEnd). record c.args.self.now { end = finished c.args.self.now.end; held = x.held }) (sym settles)
 
 pub returns-clause-nothing_kept_back : goal.returns-clause-nothing_kept_back

@@ -1,11 +1,15 @@
-use Rattle.std.proofs.Common.{◌≡◌, ◌++◌, ◌∙◌, false, ap, inl, sym}
+use Rattle.std.proofs.Common.{◌≡◌, ◌++◌, ◌∙◌, false, ap, inl, sym, subst, arith, ℕ, List}
 use Rattle.std.specs.Prelude.{◌+◌, is_some}
 use Rattle.flow_window.proofs.Weights.{balances_then}
 use Rattle.packet_layer.specs.Layer.{next_packet}
+use Rattle.packet_layer.proofs.Flows.{flow_next}
+use Rattle.packet_end.specs.Params.{info_of}
 use Rattle.packet_end.specs.Pooled.{PooledEnd, share_of}
 use Rattle.packet_end.specs.PacketEnd.{PacketEnd}
 use Rattle.packet_end.proofs.Offering.{no_packet, next_none}
 use Rattle.packet_end.proofs.Pools.{served, serves_after, line_holds, line_room, layer_holds, layer_balanced, link_steps}
+use Rattle.packet_layer.specs.Events.{IsHeard}
+use Rattle.packet_end.proofs.Short.{next_short}
 use Rattle.packet_end.proofs.Waits.{others_agree, next_alike}
 use Rattle.packet_end.proofs.pooled.PooledEnd.offer_next.Goals as goal
 
@@ -23,8 +27,25 @@ offer-requires-clause-holds c =
     let same = ap (λ n. a.line.end.link.k + n + 1) c.next_packet.ensures.most ∙ ap (λ (x : PooledEnd). x.share) c.self.view_is in
     line_holds c.next_packet.new.pool a.line new
     (serves_after c.args.pool.now c.next_packet.new.pool x.held (a.line.held ++ new.held) x.share
-    (share_of a.line.end new.layer) c.requires
-    (layer_balanced a x c.args.pool.now c.next_packet.new.pool new c.self.view_is c.next_packet.ensures.pool) same)
+    (share_of a.line.end new.layer) x.info a.line.end.link.info c.requires
+    (layer_balanced a x c.args.pool.now c.next_packet.new.pool new c.self.view_is c.next_packet.ensures.pool) same
+    (ap (λ (x : PooledEnd). x.info) c.self.view_is))
+
+pub offer-requires-clause-packet : goal.offer-requires-clause-packet
+offer-requires-clause-packet c =
+    let l = c.self.inside.layer.layer in
+    let says = sym c.next_packet.ensures.said ∙ c.if-not-next_packet.false in
+    let value = c.as_slice-packet.ensures.value in
+    let short =
+    next_short l.flow (next_packet l).packet _ c.as_slice-packet.result.now says (λ k. omega (arith, c.type_inv.packet k))
+    (value ∙ c.next_packet.ensures.octets)
+    (subst (λ (b : List ℕ). IsHeard l.flow (next_packet l).packet b) (sym value) c.next_packet.ensures.heard) in
+    omega (arith, short, c.self.invariant.info)
+
+pub offer-requires-clause-size : goal.offer-requires-clause-size
+offer-requires-clause-size c =
+    let served = served c.self.inside c.args.self.now c.args.pool.now c.self.view_is c.requires in
+    omega (arith, served.size_least, c.next_packet.ensures.pool.size)
 
 pub offer-requires-clause-room : goal.offer-requires-clause-room
 offer-requires-clause-room c =
@@ -34,8 +55,9 @@ offer-requires-clause-room c =
     let same = ap (λ n. a.line.end.link.k + n + 1) c.next_packet.ensures.most ∙ ap (λ (x : PooledEnd). x.share) c.self.view_is in
     line_room c.next_packet.new.pool a.line new
     (serves_after c.args.pool.now c.next_packet.new.pool x.held (a.line.held ++ new.held) x.share
-    (share_of a.line.end new.layer) c.requires
-    (layer_balanced a x c.args.pool.now c.next_packet.new.pool new c.self.view_is c.next_packet.ensures.pool) same)
+    (share_of a.line.end new.layer) x.info a.line.end.link.info c.requires
+    (layer_balanced a x c.args.pool.now c.next_packet.new.pool new c.self.view_is c.next_packet.ensures.pool) same
+    (ap (λ (x : PooledEnd). x.info) c.self.view_is))
     c.self.invariant.line c.next_packet.ensures.few
 
 pub returns-clause-pool : goal.returns-clause-pool
@@ -59,6 +81,7 @@ invariant_of-self c =
     record {
       line = c.self.invariant.line;
       layer = c.next_packet.ensures.few;
+      info = rw c.next_packet.ensures.layer (c.self.invariant.info ∙ ap info_of (sym (flow_next e.layer.layer)));
       agree = rw c.next_packet.ensures.layer
           (others_agree e.layer.layer _ e.timers e.touched c.touch.new.self c.self.invariant.agree
           (λ n out. (sym (c.touch.ensures.others n) ∙ out, next_alike e.layer.layer n)));
@@ -71,6 +94,8 @@ invariant_of-self-2 c =
     record {
       line = c.offer.ensures.most;
       layer = c.next_packet.ensures.few;
+      info = rw c.next_packet.ensures.layer
+          (c.offer.ensures.info ∙ c.self.invariant.info ∙ ap info_of (sym (flow_next e.layer.layer)));
       agree = rw c.next_packet.ensures.layer
           (others_agree e.layer.layer _ e.timers e.touched c.touch.new.self c.self.invariant.agree
           (λ n out. (sym (c.touch.ensures.others n) ∙ out, next_alike e.layer.layer n)));
@@ -89,6 +114,7 @@ returns-then-not-next_packet-clause-end c =
       end = record { line = a.line.end; layer = layer i; timers = a.timers; notes = a.notes };
       held = a.line.held ++ c.next_packet.new.self.held;
       share = most i;
+      info = a.line.end.link.info;
     })
     ∙ ap (λ (x : PooledEnd). record x { held = a.line.held ++ c.next_packet.new.self.held }) c.self.view_is
     ∙ ap (λ (e : PacketEnd). record c.args.self.now { end = e; held = a.line.held ++ c.next_packet.new.self.held })

@@ -16,6 +16,7 @@ loop-count-init c = record {
   most = λ count. absurd (omega (arith, count));
   pool = balances_same c.args.pool.now c.args.self.now.held;
   share = refl;
+  info = refl;
   within = λ count. absurd (omega (arith, count));
 }
 
@@ -34,13 +35,15 @@ loop-count-preserved c =
       pool = balances_then c.args.pool.now c.loop-count.pool c.offer_next.new.pool c.args.self.now.held
           c.loop-count.self.held c.offer_next.new.self.held c.loop-count.invariant.pool c.offer_next.ensures.pool;
       share = ap (λ (x : PooledEnd). x.share) c.offer_next.ensures.end ∙ c.loop-count.invariant.share;
+      info = ap (λ (x : PooledEnd). x.info) c.offer_next.ensures.end ∙ c.loop-count.invariant.info;
       within = λ _. c.offer_next.ensures.within;
     }
 
 pub offer_next-requires : goal.offer_next-requires
 offer_next-requires c =
     serves_after c.args.pool.now c.loop-count.pool c.args.self.now.held c.loop-count.self.held c.args.self.now.share
-    c.loop-count.self.share c.requires c.loop-count.invariant.pool c.loop-count.invariant.share
+    c.loop-count.self.share c.args.self.now.info c.loop-count.self.info c.requires c.loop-count.invariant.pool
+    c.loop-count.invariant.share c.loop-count.invariant.info
 
 pub returns-then-not-offer_next-clause-offered : goal.returns-then-not-offer_next-clause-offered
 returns-then-not-offer_next-clause-offered c =
@@ -53,7 +56,7 @@ returns-then-not-offer_next-clause-end c =
     let none = sym c.offer_next.ensures.said ∙ c.if-not-offer_next.true in
     let end = none_offered 1 e none ∙ sym (left_none c.loop-count.count e none) ∙ c.loop-count.invariant.left in
     c.offer_next.ensures.end
-    ∙ (λ i. record { end = end i; held = c.offer_next.new.self.held; share = c.loop-count.invariant.share i })
+    ∙ (λ i. record { end = end i; held = c.offer_next.new.self.held; share = c.loop-count.invariant.share i; info = c.loop-count.invariant.info i })
 
 pub returns-then-not-offer_next-clause-all_offered : goal.returns-then-not-offer_next-clause-all_offered
 returns-then-not-offer_next-clause-all_offered c =
@@ -67,7 +70,7 @@ returns-clause-offered c = sym (c.loop-count.invariant.some (omega (arith, c.loo
 pub returns-clause-end : goal.returns-clause-end
 returns-clause-end c =
     let end = sym (left_over c.loop-count.count c.loop-count.self.end c.loop-count-test.false) ∙ c.loop-count.invariant.left in
-    λ i. record { end = end i; held = c.loop-count.self.held; share = c.loop-count.invariant.share i }
+    λ i. record { end = end i; held = c.loop-count.self.held; share = c.loop-count.invariant.share i; info = c.loop-count.invariant.info i }
 
 pub returns-clause-all_offered : goal.returns-clause-all_offered
 returns-clause-all_offered c =

@@ -15,5 +15,6 @@ invariant-loop-count l = record {
   most : 1 ≤ l.count → l.self.end.line.link.k ≤ 7;
   pool : Balances l.fn.pool l.fn.self.held l.pool l.self.held;
   share : l.self.share ≡ l.fn.self.share;
+  info : l.self.info ≡ l.fn.self.info;
   within : 1 ≤ l.count → length l.self.held < l.self.share;
 }

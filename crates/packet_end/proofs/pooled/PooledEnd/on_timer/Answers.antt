@@ -17,8 +17,9 @@ heed-requires-clause-pool c =
     let x = c.args.self.now in
     let new = c.on_timer.new.self in
     serves_after c.args.pool.now c.on_timer.new.pool x.held (new.held ++ a.layer.held) x.share (share_of new.end a.layer.layer)
-    c.requires.pool (line_balanced a x c.args.pool.now c.on_timer.new.pool new c.self.view_is c.on_timer.ensures.pool)
+    x.info new.end.link.info c.requires.pool (line_balanced a x c.args.pool.now c.on_timer.new.pool new c.self.view_is c.on_timer.ensures.pool)
     (ap (λ k. k + most_held a.layer.layer + 1) c.on_timer.ensures.k ∙ ap (λ (x : PooledEnd). x.share) c.self.view_is)
+    (c.on_timer.ensures.info ∙ ap (λ (x : PooledEnd). x.info) c.self.view_is)
 
 pub on_timer-requires-then-fire : goal.on_timer-requires-then-fire
 on_timer-requires-then-fire c =

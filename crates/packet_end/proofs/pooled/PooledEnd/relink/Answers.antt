@@ -17,8 +17,9 @@ heed-requires-clause-pool c =
     let x = c.args.self.now in
     let new = c.relink.new.self in
     serves_after c.args.pool.now c.relink.new.pool x.held (new.held ++ a.layer.held) x.share (share_of new.end a.layer.layer)
-    c.requires.pool (line_balanced a x c.args.pool.now c.relink.new.pool new c.self.view_is c.relink.ensures.pool)
+    x.info new.end.link.info c.requires.pool (line_balanced a x c.args.pool.now c.relink.new.pool new c.self.view_is c.relink.ensures.pool)
     (ap (λ k. k + most_held a.layer.layer + 1) c.relink.ensures.k ∙ ap (λ (x : PooledEnd). x.share) c.self.view_is)
+    (c.relink.ensures.info ∙ ap (λ (x : PooledEnd). x.info) c.self.view_is)
 
 pub returns-clause-pool : goal.returns-clause-pool
 returns-clause-pool c =

@@ -17,8 +17,9 @@ heed-requires-clause-pool c =
     let x = c.args.self.now in
     let new = c.restart.new.self in
     serves_after c.args.pool.now c.restart.new.pool x.held (new.held ++ a.layer.held) x.share (share_of new.end a.layer.layer)
-    c.requires (line_balanced a x c.args.pool.now c.restart.new.pool new c.self.view_is c.restart.ensures.pool)
+    x.info new.end.link.info c.requires (line_balanced a x c.args.pool.now c.restart.new.pool new c.self.view_is c.restart.ensures.pool)
     (ap (λ k. k + most_held a.layer.layer + 1) c.restart.ensures.k ∙ ap (λ (x : PooledEnd). x.share) c.self.view_is)
+    (c.restart.ensures.info ∙ ap (λ (x : PooledEnd). x.info) c.self.view_is)
 
 pub returns-clause-pool : goal.returns-clause-pool
 returns-clause-pool c =

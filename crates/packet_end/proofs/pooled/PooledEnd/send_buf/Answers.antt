@@ -1,6 +1,8 @@
-use Rattle.std.proofs.Common.{refl, sym, ◌∙◌, inl}
+use Rattle.std.proofs.Common.{refl, sym, ap, ◌∙◌, inl}
 use Rattle.packet_layer.specs.Answers.{handed_back}
 use Rattle.packet_layer.specs.Channel.Request.{Sending}
+use Rattle.packet_layer.proofs.Flows.{flow_request}
+use Rattle.packet_end.specs.Params.{info_of}
 use Rattle.packet_end.proofs.Pools.{layer_takes}
 use Rattle.packet_end.proofs.Waits.{others_agree, request_alike}
 use Rattle.packet_end.proofs.pooled.PooledEnd.send_buf.Goals as goal
@@ -11,6 +13,13 @@ invariant_of-self c =
     record {
       line = c.self.invariant.line;
       layer = c.send_buf.ensures.few;
+      info = rw c.send_buf.ensures.layer
+          (c.self.invariant.info ∙ ap info_of (sym (flow_request e.layer.layer c.args.channel (Sending (record {
+            octets = c.args.buffer.octets;
+            more = c.args.more;
+            qualified = c.args.qualified;
+            delivery = c.args.delivery;
+          })))));
       agree = rw c.send_buf.ensures.layer
           (others_agree e.layer.layer _ e.timers e.touched c.touch.new.self c.self.invariant.agree
           (λ n out. (

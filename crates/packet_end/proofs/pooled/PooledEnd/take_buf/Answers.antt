@@ -1,6 +1,8 @@
-use Rattle.std.proofs.Common.{refl, sym, ◌∙◌, inl}
+use Rattle.std.proofs.Common.{refl, sym, ap, ◌∙◌, inl}
 use Rattle.packet_layer.specs.Channel.Request.{Taking}
 use Rattle.packet_layer.specs.TakenView.{maybe_buffers_in}
+use Rattle.packet_layer.proofs.Flows.{flow_request}
+use Rattle.packet_end.specs.Params.{info_of}
 use Rattle.packet_end.proofs.Pools.{layer_loses}
 use Rattle.packet_end.proofs.Waits.{others_agree, request_alike}
 use Rattle.packet_end.proofs.pooled.PooledEnd.take_buf.Goals as goal
@@ -11,6 +13,7 @@ invariant_of-self c =
     record {
       line = c.self.invariant.line;
       layer = c.take_buf.ensures.few;
+      info = rw c.take_buf.ensures.layer (c.self.invariant.info ∙ ap info_of (sym (flow_request e.layer.layer c.args.channel Taking)));
       agree = rw c.take_buf.ensures.layer
           (others_agree e.layer.layer _ e.timers e.touched c.touch.new.self c.self.invariant.agree
           (λ n out. (sym (c.touch.ensures.others n) ∙ out, request_alike e.layer.layer c.args.channel n Taking refl)));

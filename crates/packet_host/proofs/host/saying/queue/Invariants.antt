@@ -1,11 +1,11 @@
-use Rattle.std.proofs.Common.{◌≡◌, ◌≤◌, ◌-◌, ◌*◌, length}
-use Rattle.packet_host.specs.Saying.{full_packets, cut_after, cut, queued}
+use Rattle.std.proofs.Common.{◌≡◌, ◌-◌}
+use Rattle.packet_channel.specs.Cutting.{full_packets, cut}
+use Rattle.packet_host.specs.Saying.{message, queued}
 use Rattle.packet_host.proofs.host.saying.queue.Given as goal
 
 abbrev pub invariant-loop : goal.invariant-loop
 invariant-loop l = record {
-  end : l.end ≡ full_packets l.fn.octets;
-  long : (l.end - l.counter) * 128 ≤ length l.rest;
-  queued : queued l.channel (cut_after (l.end - l.counter) l.rest l.qualified l.delivery) l.end-2
-      ≡ queued l.channel (cut l.fn.octets l.qualified l.delivery) l.fn.end;
+  left : l.end - l.counter ≡ full_packets l.size l.rest;
+  queued : queued l.channel (cut l.size (message l.rest l.qualified l.delivery)) l.end-2
+      ≡ queued l.channel (cut l.size (message l.fn.octets l.qualified l.delivery)) l.fn.end;
 }

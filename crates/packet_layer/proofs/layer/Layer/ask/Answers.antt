@@ -21,14 +21,14 @@ at_err c =
 pub invariant_of-self : goal.invariant_of-self
 invariant_of-self c =
     layer_touched c.self.inside c.insert.new.self c.in-Some.place c.index_mut-channel.result.now c.request.new.self
-    c.self.inside.relink c.self.invariant c.insert.ensures (at_err c).there (c.request.ensures.fits c.self.inside.flow)
+    c.self.inside.relink c.self.invariant c.insert.ensures (at_err c).there c.request.ensures.fits
 
 pub invariant_of-self-2 : goal.invariant_of-self-2
 invariant_of-self-2 c =
     let at = is_at c.self.inside c.args.self.now c.args.channel c.in-Some.place c.index_mut-channel.result.now
     c.self.view_is (c.in-Some.ensures.0 ∙ c.from.ensures) c.in-Some.ensures.1 c.index_mut-channel.ensures.value in
     layer_touched c.self.inside c.insert.new.self c.in-Some.place c.index_mut-channel.result.now c.request.new.self
-    c.self.inside.relink c.self.invariant c.insert.ensures at.there (c.request.ensures.fits c.self.inside.flow)
+    c.self.inside.relink c.self.invariant c.insert.ensures at.there c.request.ensures.fits
 
 pub returns-clause-answer : goal.returns-clause-answer
 returns-clause-answer c =
@@ -80,10 +80,10 @@ returns-clause-pool c =
 pub returns-in_err-relink-clause-few : goal.returns-in_err-relink-clause-few
 returns-in_err-relink-clause-few c =
     few_after c.self.inside.flow c.self.inside.channels.items c.in-Some.place c.index_mut-channel.result.now c.request.new.self
-    c.self.invariant.fits (at_err c).there (c.request.ensures.fits c.self.inside.flow)
+    c.self.invariant.fits (at_err c).there c.request.ensures.fits
 
 pub returns-clause-few : goal.returns-clause-few
 returns-clause-few c =
     subst (λ (x : Held). length x.held ≤ most_held x.layer) (sym c.relink_if.ensures)
     (few_after c.self.inside.flow c.self.inside.channels.items c.in-Some.place c.index_mut-channel.result.now c.request.new.self
-    c.self.invariant.fits (at_ok c).there (c.request.ensures.fits c.self.inside.flow))
+    c.self.invariant.fits (at_ok c).there c.request.ensures.fits)

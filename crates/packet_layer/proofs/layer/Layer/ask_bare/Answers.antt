@@ -1,6 +1,5 @@
-use Rattle.std.proofs.Common.{◌∙◌, List, ap, arith, length}
-use Rattle.flow_window.specs.Pool.{Buffer}
-use Rattle.packet_channel.specs.Packets.{Datum}
+use Rattle.std.proofs.Common.{◌∙◌, ap}
+use Rattle.packet_channel.proofs.Fitting.{fits_same}
 use Rattle.packet_layer.specs.Held.{Layer as Held}
 use Rattle.packet_layer.specs.RequestView.{bare_request_of}
 use Rattle.packet_layer.proofs.Asked.{IsAt, is_at, done, allowed, refused, told, same_held}
@@ -21,38 +20,42 @@ at_err c =
 pub invariant_of-self : goal.invariant_of-self
 invariant_of-self c =
     layer_touched c.self.inside c.insert.new.self c.in-Some.place c.index_mut-channel.result.now c.bare_request.new.self
-    c.self.inside.relink c.self.invariant c.insert.ensures (at_err c).there (λ fits. record { arrived = omega (arith, fits.arrived, ap (λ (xs : List Datum). length xs) c.bare_request.ensures.arrived); held = omega (arith, fits.held, ap (λ (bs : List Buffer). length bs) c.bare_request.ensures.held) })
+    c.self.inside.relink c.self.invariant c.insert.ensures (at_err c).there
+    (fits_same c.self.inside.flow c.index_mut-channel.result.now c.bare_request.new.self c.bare_request.ensures.held
+    c.bare_request.ensures.arrived c.bare_request.ensures.waiting)
 
 pub invariant_of-self-2 : goal.invariant_of-self-2
 invariant_of-self-2 c =
     let at = is_at c.self.inside c.args.self.now c.args.channel c.in-Some.place c.index_mut-channel.result.now
     c.self.view_is (c.in-Some.ensures.0 ∙ c.from.ensures) c.in-Some.ensures.1 c.index_mut-channel.ensures.value in
     layer_touched c.self.inside c.insert.new.self c.in-Some.place c.index_mut-channel.result.now c.bare_request.new.self
-    c.self.inside.relink c.self.invariant c.insert.ensures at.there (λ fits. record { arrived = omega (arith, fits.arrived, ap (λ (xs : List Datum). length xs) c.bare_request.ensures.arrived); held = omega (arith, fits.held, ap (λ (bs : List Buffer). length bs) c.bare_request.ensures.held) })
+    c.self.inside.relink c.self.invariant c.insert.ensures at.there
+    (fits_same c.self.inside.flow c.index_mut-channel.result.now c.bare_request.new.self c.bare_request.ensures.held
+    c.bare_request.ensures.arrived c.bare_request.ensures.waiting)
 
 pub returns-clause-answer : goal.returns-clause-answer
 returns-clause-answer c =
     allowed c.self.inside c.args.self.now c.args.channel c.in-Some.place c.index_mut-channel.result.now
     c.bare_request.new.self (bare_request_of c.args.request.now) c.in_ok-relink.relink (at_ok c)
-    c.in_ok-relink.ensures.answer
+    (c.in_ok-relink.ensures.answer c.self.inside.flow)
 
 pub returns-clause-layer : goal.returns-clause-layer
 returns-clause-layer c =
     ap (λ (x : Held). x.layer) c.relink_if.ensures
     ∙ done c.self.inside c.args.self.now c.args.channel c.in-Some.place c.index_mut-channel.result.now
     c.bare_request.new.self (bare_request_of c.args.request.now) c.in_ok-relink.relink (at_ok c)
-    c.in_ok-relink.ensures.answer
+    (c.in_ok-relink.ensures.answer c.self.inside.flow)
 
 pub returns-in_err-relink-clause-answer : goal.returns-in_err-relink-clause-answer
 returns-in_err-relink-clause-answer c =
     told c.self.inside c.args.self.now c.args.channel c.in-Some.place c.index_mut-channel.result.now
     c.bare_request.new.self (bare_request_of c.args.request.now) c.in_err-relink.field-0.0 c.from_residual.result
-    c.from_residual.ensures.1 (at_err c) c.in_err-relink.ensures.answer
+    c.from_residual.ensures.1 (at_err c) (c.in_err-relink.ensures.answer c.self.inside.flow)
 
 pub returns-in_err-relink-clause-layer : goal.returns-in_err-relink-clause-layer
 returns-in_err-relink-clause-layer c =
     refused c.self.inside c.args.self.now c.args.channel c.in-Some.place c.index_mut-channel.result.now
-    c.bare_request.new.self (bare_request_of c.args.request.now) c.in_err-relink.field-0.0 (at_err c) c.in_err-relink.ensures.answer
+    c.bare_request.new.self (bare_request_of c.args.request.now) c.in_err-relink.field-0.0 (at_err c) (c.in_err-relink.ensures.answer c.self.inside.flow)
 
 pub returns-clause-held : goal.returns-clause-held
 returns-clause-held c =

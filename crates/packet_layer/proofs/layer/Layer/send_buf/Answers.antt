@@ -35,7 +35,7 @@ returns-clause-answer c =
 pub returns-clause-back : goal.returns-clause-back
 returns-clause-back c =
     let p : Kept = record { buffer = c.args.buffer; more = c.args.more; qualified = c.args.qualified; delivery = c.args.delivery } in
-    sent_back c.self.inside.role c.index_mut-channel.result.now.channel c.send_buf.new.self.channel p c.send_buf.result
+    sent_back c.self.inside.role c.self.inside.flow c.index_mut-channel.result.now.channel c.send_buf.new.self.channel p c.send_buf.result
     (c.send_buf.ensures.answer c.self.inside.role)
 
 pub returns-clause-held : goal.returns-clause-held
@@ -51,11 +51,11 @@ returns-clause-few c =
     let a = c.self.inside in
     let held = c.index_mut-channel.result.now in
     let there = placed a c.args.self.now c.in-Some.place held c.self.view_is c.in-Some.ensures.1 c.index_mut-channel.ensures.value in
-    few_after a.flow a.channels.items c.in-Some.place held c.send_buf.new.self c.self.invariant.fits there (c.send_buf.ensures.fits a.flow)
+    few_after a.flow a.channels.items c.in-Some.place held c.send_buf.new.self c.self.invariant.fits there c.send_buf.ensures.fits
 
 pub invariant_of-self : goal.invariant_of-self
 invariant_of-self c =
     let a = c.self.inside in
     let held = c.index_mut-channel.result.now in
     let there = placed a c.args.self.now c.in-Some.place held c.self.view_is c.in-Some.ensures.1 c.index_mut-channel.ensures.value in
-    layer_touched a c.insert.new.self c.in-Some.place held c.send_buf.new.self c.self.inside.relink c.self.invariant c.insert.ensures there (c.send_buf.ensures.fits a.flow)
+    layer_touched a c.insert.new.self c.in-Some.place held c.send_buf.new.self c.self.inside.relink c.self.invariant c.insert.ensures there c.send_buf.ensures.fits

@@ -3,7 +3,7 @@ use Rattle.std.specs.Prelude.{slice_get}
 use Rattle.packet_layer.specs.Held.{plain}
 use Rattle.packet_layer.specs.Layer.{serve}
 use Rattle.packet_layer.specs.LayerView.{layer_of}
-use Rattle.packet_layer.proofs.Placed.{placed, own_held, own_balance, few_after}
+use Rattle.packet_layer.proofs.Placed.{placed, own_held, own_balance, few_after, fits_at}
 use Rattle.packet_layer.proofs.Served.{IsServed, spoke, quiet}
 use Rattle.packet_layer.proofs.Silence.{layer_spoke, layer_quieted}
 use Rattle.packet_layer.proofs.layer.Layer.serve_channel.Goals as goal
@@ -29,7 +29,10 @@ served_then : (c : goal.After-self-then-next_packet-1) →
 served_then c =
     spoke c.self.inside c.args.self.now c.args.place c.index_mut-channel.result.now c.next_packet.new.self
     c.args.buf.now.items c.next_packet.new.buf.items c.self.view_is (there_then c) (sym c.if-next_packet.ensures.said)
-    c.if-next_packet.ensures.channel c.if-next_packet.ensures.octets c.if-next_packet.ensures.reads_back
+    c.if-next_packet.ensures.channel c.if-next_packet.ensures.octets
+    (c.if-next_packet.ensures.reads_back
+    (fits_at c.self.inside.flow c.self.inside.channels.items c.args.place c.index_mut-channel.result.now c.self.invariant.fits
+    (there_then c)))
 
 served_else : (c : goal.After-remove) →
     IsServed c.args.self.now.layer.flow (serve 1 c.args.self.now.layer (c.args.place + 1))
