@@ -1,4 +1,10 @@
 pub mod Apart
 pub mod ChannelSets
+pub mod Cut
 pub mod Directions
+pub mod Held
+pub mod Pieces
+pub mod Planning
+pub mod Rows
 pub mod Slots
+pub mod Turning

@@ -1,6 +1,6 @@
 -- What may change on a channel without anything new to relay: nothing waits there that did not wait first before, and
 -- what it refused it still refuses.
-use Rattle.std.proofs.Common.{◌≡◌, ◌≢◌, ℕ, zero, suc, ◌≤◌, ◌⊎◌, inl, inr, Bool, true, false, not, ◌||◌, ◌==◌, if◌then◌else◌, cond, nat_le, nat_lt, List, [], ◌∷◌, map, length, set, drop, Option, Some, None, is_some, refl, sym, ap, subst, ◌∙◌, true≢false, arith}
+use Rattle.std.proofs.Common.{◌≡◌, ◌≢◌, ℕ, zero, suc, ◌≤◌, ◌⊎◌, inl, inr, Bool, true, false, not, ◌||◌, ◌&&◌, ◌==◌, if◌then◌else◌, cond, nat_le, nat_lt, List, [], ◌∷◌, map, length, set, drop, Option, Some, None, is_some, is_none, refl, sym, ap, subst, ◌∙◌, true≢false, arith}
 use Rattle.std.specs.Prelude.{Result, Ok, Err, slice_get}
 use Rattle.std.proofs.lemmas.Bool.{eq-eqb, ne_eqb, le-leb, leb-true, cases_eq}
 use Rattle.std.proofs.lemmas.List.{length-append}
@@ -28,63 +28,78 @@ use Rattle.packet_layer.specs.Packets.{CallParts, Datum, Packet, Body}
 use Rattle.packet_layer.specs.Packets.Body.{Restart, RestartConfirmation}
 use Rattle.packet_layer.specs.Channel.{Channel, Step, Request, Refusal, closed_channel, refused_if, refusal, requested, unless, carried_out, owing, in_transfer, has_flow, moved, next_of, next_owed, ChannelNext, placing, clear_error, received, unreadable}
 use Rattle.packet_layer.specs.Channel.Request.{Taking, Releasing}
-use Rattle.packet_layer.specs.Layer.{Layer, Phase, Next, nth_channel, channel_of, with_nth, unread, on_found, on_channel, packet_in, restart_packet, served, serve, serve_found, next_number, next_restart, next_in, next_packet, placed_on, call, front_at, front_on, request_refusal}
+use Rattle.packet_layer.specs.Layer.{Layer, Phase, Next, nth_channel, channel_of, with_nth, unread, on_found, on_channel, packet_in, restart_packet, served, serve, serve_found, next_number, next_restart, next_in, next_packet, placed_on, call, front_at, front_on}
 use Rattle.packet_layer.specs.Layer as machine
 use Rattle.packet_layer.specs.Layer.Phase.{NoSession, OwnRestart, PacketReady}
 use Rattle.packet_layer.specs.Events.{after_hearing, on_octets, timer_named, on_named}
 use Rattle.packet_layer.specs.Octets.{heard_by, body_of, unreadable_as}
 use Rattle.packet_layer.specs.Traffic.{Traffic, Taken, front, taking, taking_of, says, says_data, says_flow, says_interrupt, Said, flow_told, window_open, may_release, releasing, interrupt_pending, queue, queue_interrupt}
-use Rattle.packet_layer.specs.Traffic.Taken.{TakenInterrupt, TakenPacket}
 use Rattle.packet_end.specs.PacketEnd.{PacketEnd, gathered, heeded, after_packet, runs_at, expired, after_timer, relinked, offered, all_offered, with_next}
 use Rattle.packet_end.specs.PacketEnd as end
-use Rattle.switch_lines.specs.Relay.{request_for}
+use Rattle.switch_lines.specs.Lines.{takes_all, takes_on_channel}
 use Rattle.switch_lines.specs.Switch.{quieted}
+use Rattle.switch_lines.proofs.Onward.{IsOnward, AreOnward, sends, interrupts}
 
 -- ---- one channel
 
-pub record IsCalmer (role : Role) (old new : Option Channel) : Type 0 where
+pub record IsCalmer (role : Role) (flow : Flow) (old new : Option Channel) : Type 0 where
   pub front : (t : Taken) → front_at new ≡ Some t → front_at old ≡ Some t
-  pub refused : (t : Taken) → is_some (machine.refusal_at role (request_for t) old) ≡ true → is_some (machine.refusal_at role (request_for t) new) ≡ true
+  pub takes : (qs : List Request) → AreOnward qs → takes_on_channel role flow new qs ≡ true → takes_on_channel role flow old qs ≡ true
 
-same_calm : (role : Role) (o : Option Channel) → IsCalmer role o o
-same_calm role o = record { front = λ t e. e; refused = λ t e. e }
+same_calm : (role : Role) (flow : Flow) (o : Option Channel) → IsCalmer role flow o o
+same_calm role flow o = record { front = λ t e. e; takes = λ qs are e. e }
 
-as_calm : (role : Role) (o p : Option Channel) → p ≡ o → IsCalmer role o p
-as_calm role o p e = subst (λ (x : Option Channel). IsCalmer role o x) (sym e) (same_calm role o)
+as_calm : (role : Role) (flow : Flow) (o p : Option Channel) → p ≡ o → IsCalmer role flow o p
+as_calm role flow o p e = subst (λ (x : Option Channel). IsCalmer role flow o x) (sym e) (same_calm role flow o)
 
-calm_then : (role : Role) (a b d : Option Channel) → IsCalmer role a b → IsCalmer role b d → IsCalmer role a d
-calm_then role a b d f g = record { front = λ t e. f.front t (g.front t e); refused = λ t e. g.refused t (f.refused t e) }
+calm_then : (role : Role) (flow : Flow) (a b d : Option Channel) → IsCalmer role flow a b → IsCalmer role flow b d → IsCalmer role flow a d
+calm_then role flow a b d f g = record { front = λ t e. f.front t (g.front t e); takes = λ qs are e. f.takes qs are (g.takes qs are e) }
 
-outside_refused : (role : Role) (t : Taken) (ch : Channel) → in_transfer ch.state ≡ false → is_some (refusal role ch (request_for t)) ≡ true
-outside_refused role (TakenInterrupt octets) ch e = ap (λ (b : Bool). is_some (refused_if (not b) Refusal.NoCall (refused_if ch.resetting Refusal.IsResetting (refused_if ((length octets == 0) || nat_lt 32 (length octets)) Refusal.TooLong (refused_if (interrupt_pending ch.traffic) Refusal.InterruptPending None))))) e
-outside_refused role (TakenPacket d) ch e = ap (λ (b : Bool). is_some (refused_if (not b) Refusal.NoCall (refused_if ch.resetting Refusal.IsResetting (refused_if (nat_le 8 (length ch.traffic.waiting)) Refusal.QueueFull (refused_if (nat_lt 128 (length d.octets)) Refusal.TooLong None))))) e
+-- nothing is always taken
+takes_nothing : (role : Role) (flow : Flow) (o : Option Channel) → takes_on_channel role flow o [] ≡ true
+takes_nothing role flow None = refl
+takes_nothing role flow (Some ch) = refl
+
+outside_refuses : (role : Role) (flow : Flow) (q : Request) (ch : Channel) → IsOnward q → in_transfer ch.state ≡ false → is_none (refusal role flow ch q) ≡ false
+outside_refuses role flow _ ch (interrupts octets) e = ap (λ (b : Bool). is_none (refused_if (not b) Refusal.NoCall (refused_if ch.resetting Refusal.IsResetting (refused_if ((length octets == 0) || nat_lt 32 (length octets)) Refusal.TooLong (refused_if (interrupt_pending ch.traffic) Refusal.InterruptPending None))))) e
+outside_refuses role flow _ ch (sends d) e = ap (λ (b : Bool). is_none (refused_if (not b) Refusal.NoCall (refused_if ch.resetting Refusal.IsResetting (refused_if (nat_le 8 (length ch.traffic.waiting)) Refusal.QueueFull (refused_if (nat_lt flow.size (length d.octets)) Refusal.TooLong None))))) e
+
+outside_takes : (role : Role) (flow : Flow) (old : Option Channel) (ch : Channel) (qs : List Request) → AreOnward qs → in_transfer ch.state ≡ false
+    → takes_all role flow ch qs ≡ true → takes_on_channel role flow old qs ≡ true
+outside_takes role flow old ch [] are e t = takes_nothing role flow old
+outside_takes role flow old ch (q ∷ qs) are e t =
+    absurd (true≢false (sym t ∙ ap (λ (b : Bool). b && takes_all role flow (owing (requested role flow ch q)) qs) (outside_refuses role flow q ch are.0 e)))
 
 -- a channel outside data transfer, on which nothing waits that did not wait before
-outside_calm : (role : Role) (old : Option Channel) (ch : Channel) → in_transfer ch.state ≡ false
-    → ((t : Taken) → front ch.traffic ≡ Some t → front_at old ≡ Some t) → IsCalmer role old (Some ch)
-outside_calm role old ch e f = record { front = f; refused = λ t g. outside_refused role t ch e }
+outside_calm : (role : Role) (flow : Flow) (old : Option Channel) (ch : Channel) → in_transfer ch.state ≡ false
+    → ((t : Taken) → front ch.traffic ≡ Some t → front_at old ≡ Some t) → IsCalmer role flow old (Some ch)
+outside_calm role flow old ch e f = record { front = f; takes = λ qs are t. outside_takes role flow old ch qs are e t }
 
 -- a channel without a call
-closed_calm : (role : Role) (old new : Option Channel) → ((ch : Channel) → new ≡ Some ch → ch ≡ closed_channel) → IsCalmer role old new
-closed_calm role old None are = record { front = λ t e. absurd (none-some t e); refused = λ t e. refl }
-closed_calm role old (Some ch) are =
-    subst (λ (x : Channel). IsCalmer role old (Some x)) (sym (are ch refl)) (outside_calm role old closed_channel refl (λ t e. absurd (none-some t e)))
+none_calm : (role : Role) (flow : Flow) (old : Option Channel) (qs : List Request) → takes_on_channel role flow None qs ≡ true → takes_on_channel role flow old qs ≡ true
+none_calm role flow old [] e = takes_nothing role flow old
+none_calm role flow old (q ∷ qs) e = absurd (true≢false (sym e))
+
+closed_calm : (role : Role) (flow : Flow) (old new : Option Channel) → ((ch : Channel) → new ≡ Some ch → ch ≡ closed_channel) → IsCalmer role flow old new
+closed_calm role flow old None closed = record { front = λ t e. absurd (none-some t e); takes = λ qs are e. none_calm role flow old qs e }
+closed_calm role flow old (Some ch) closed =
+    subst (λ (x : Channel). IsCalmer role flow old (Some x)) (sym (closed ch refl)) (outside_calm role flow old closed_channel refl (λ t e. absurd (none-some t e)))
 
 -- ---- channels by number
 
-set_calm : (role : Role) (chs : List Channel) (i j : ℕ) (ch new : Channel) → slice_get chs i ≡ Some ch → IsCalmer role (Some ch) (Some new)
-    → IsCalmer role (slice_get chs j) (slice_get (set chs i new) j)
-set_calm role [] i j ch new found calm = same_calm role None
-set_calm role (x ∷ xs) zero zero ch new found calm = subst (λ (o : Option Channel). IsCalmer role o (Some new)) (sym found) calm
-set_calm role (x ∷ xs) zero (suc j) ch new found calm = same_calm role (slice_get xs j)
-set_calm role (x ∷ xs) (suc i) zero ch new found calm = same_calm role (Some x)
-set_calm role (x ∷ xs) (suc i) (suc j) ch new found calm = set_calm role xs i j ch new found calm
+set_calm : (role : Role) (flow : Flow) (chs : List Channel) (i j : ℕ) (ch new : Channel) → slice_get chs i ≡ Some ch → IsCalmer role flow (Some ch) (Some new)
+    → IsCalmer role flow (slice_get chs j) (slice_get (set chs i new) j)
+set_calm role flow [] i j ch new found calm = same_calm role flow None
+set_calm role flow (x ∷ xs) zero zero ch new found calm = subst (λ (o : Option Channel). IsCalmer role flow o (Some new)) (sym found) calm
+set_calm role flow (x ∷ xs) zero (suc j) ch new found calm = same_calm role flow (slice_get xs j)
+set_calm role flow (x ∷ xs) (suc i) zero ch new found calm = same_calm role flow (Some x)
+set_calm role flow (x ∷ xs) (suc i) (suc j) ch new found calm = set_calm role flow xs i j ch new found calm
 
-nth_calm : (role : Role) (chs : List Channel) (i j : ℕ) (ch new : Channel) → nth_channel chs i ≡ Some ch → IsCalmer role (Some ch) (Some new)
-    → IsCalmer role (nth_channel chs j) (nth_channel (with_nth chs i new) j)
-nth_calm role chs zero j ch new found calm = same_calm role (nth_channel chs j)
-nth_calm role chs (suc i) zero ch new found calm = same_calm role None
-nth_calm role chs (suc i) (suc j) ch new found calm = set_calm role chs i j ch new found calm
+nth_calm : (role : Role) (flow : Flow) (chs : List Channel) (i j : ℕ) (ch new : Channel) → nth_channel chs i ≡ Some ch → IsCalmer role flow (Some ch) (Some new)
+    → IsCalmer role flow (nth_channel chs j) (nth_channel (with_nth chs i new) j)
+nth_calm role flow chs zero j ch new found calm = same_calm role flow (nth_channel chs j)
+nth_calm role flow chs (suc i) zero ch new found calm = same_calm role flow None
+nth_calm role flow chs (suc i) (suc j) ch new found calm = set_calm role flow chs i j ch new found calm
 
 set_apart : (chs : List Channel) (i j : ℕ) (new : Channel) → j ≢ i → slice_get (set chs i new) j ≡ slice_get chs j
 set_apart [] i j new apart = refl
@@ -111,48 +126,52 @@ closed_nth chs (suc i) ch e = closed_slice chs i ch e
 
 pub record IsCalm (old new : Layer) (c : ℕ) : Type 0 where
   pub role : new.role ≡ old.role
-  pub channel : IsCalmer old.role (channel_of old c) (channel_of new c)
+  pub flow : new.flow ≡ old.flow
+  pub channel : IsCalmer old.role old.flow (channel_of old c) (channel_of new c)
 
 pub same_layer : (l : Layer) (c : ℕ) → IsCalm l l c
-same_layer l c = record { role = refl; channel = same_calm l.role (channel_of l c) }
+same_layer l c = record { role = refl; flow = refl; channel = same_calm l.role l.flow (channel_of l c) }
 
-layer_then : (a b d : Layer) (c : ℕ) → IsCalm a b c → IsCalm b d c → IsCalm a d c
+pub layer_then : (a b d : Layer) (c : ℕ) → IsCalm a b c → IsCalm b d c → IsCalm a d c
 layer_then a b d c f g = record {
   role = g.role ∙ f.role;
-  channel = calm_then a.role (channel_of a c) (channel_of b c) (channel_of d c) f.channel
-      (subst (λ (r : Role). IsCalmer r (channel_of b c) (channel_of d c)) f.role g.channel);
+  flow = g.flow ∙ f.flow;
+  channel = calm_then a.role a.flow (channel_of a c) (channel_of b c) (channel_of d c) f.channel
+      (subst (λ (w : Flow). IsCalmer a.role w (channel_of b c) (channel_of d c)) f.flow
+      (subst (λ (r : Role). IsCalmer r b.flow (channel_of b c) (channel_of d c)) f.role g.channel));
 }
 
-all_closed_calm : (l m : Layer) (chs : List Channel) (c : ℕ) → m.role ≡ l.role → m.channels ≡ map (λ (x : Channel). closed_channel) chs → IsCalm l m c
-all_closed_calm l m chs c role closed = record {
+all_closed_calm : (l m : Layer) (chs : List Channel) (c : ℕ) → m.role ≡ l.role → m.flow ≡ l.flow → m.channels ≡ map (λ (x : Channel). closed_channel) chs → IsCalm l m c
+all_closed_calm l m chs c role flow closed = record {
   role = role;
-  channel = closed_calm l.role (channel_of l c) (channel_of m c) (λ ch e. closed_nth chs c ch (sym (ap (λ (xs : List Channel). nth_channel xs c) closed) ∙ e));
+  flow = flow;
+  channel = closed_calm l.role l.flow (channel_of l c) (channel_of m c) (λ ch e. closed_nth chs c ch (sym (ap (λ (xs : List Channel). nth_channel xs c) closed) ∙ e));
 }
 
 found_apart : (l : Layer) (k c : ℕ) (f : Channel → Step) (found : Option Channel) → c ≢ k → IsCalm l (on_found l k f found) c
 found_apart l k c f None apart = same_layer l c
-found_apart l k c f (Some ch) apart = record { role = refl; channel = as_calm l.role _ _ (nth_apart l.channels k c (owing (f ch)) apart) }
+found_apart l k c f (Some ch) apart = record { role = refl; flow = refl; channel = as_calm l.role l.flow _ _ (nth_apart l.channels k c (owing (f ch)) apart) }
 
 found_calm : (l : Layer) (k c : ℕ) (f : Channel → Step) (found : Option Channel) → channel_of l k ≡ found
-    → ((ch : Channel) → IsCalmer l.role (Some ch) (Some (owing (f ch)))) → IsCalm l (on_found l k f found) c
+    → ((ch : Channel) → IsCalmer l.role l.flow (Some ch) (Some (owing (f ch)))) → IsCalm l (on_found l k f found) c
 found_calm l k c f None is calm = same_layer l c
-found_calm l k c f (Some ch) is calm = record { role = refl; channel = nth_calm l.role l.channels k c ch (owing (f ch)) is (calm ch) }
+found_calm l k c f (Some ch) is calm = record { role = refl; flow = refl; channel = nth_calm l.role l.flow l.channels k c ch (owing (f ch)) is (calm ch) }
 
 -- ---- the link, timers, calls
 
 heeded_calm : (note : link_note.Note) (e : PacketEnd) (c : ℕ) → IsCalm e.layer (heeded note e).layer c
 heeded_calm Nothing e c = same_layer e.layer c
-heeded_calm Up e c = all_closed_calm e.layer _ e.layer.channels c refl refl
-heeded_calm Down e c = all_closed_calm e.layer _ e.layer.channels c refl refl
+heeded_calm Up e c = all_closed_calm e.layer _ e.layer.channels c refl refl refl
+heeded_calm Down e c = all_closed_calm e.layer _ e.layer.channels c refl refl refl
 
 error_calm : (l : Layer) (k c : ℕ) → IsCalm l (on_found l k (λ ch. clear_error l.role k no_information true ch) (channel_of l k)) c
-error_calm l k c = found_calm l k c (λ ch. clear_error l.role k no_information true ch) (channel_of l k) refl (λ ch. outside_calm l.role (Some ch) _ refl (λ t e. absurd (none-some t e)))
+error_calm l k c = found_calm l k c (λ ch. clear_error l.role k no_information true ch) (channel_of l k) refl (λ ch. outside_calm l.role l.flow (Some ch) _ refl (λ t e. absurd (none-some t e)))
 
 timer_calm : (t : machine.Timer) (l : Layer) (c : ℕ) → IsCalm l (machine.expired (unread l) t) c
-timer_calm machine.Timer.RestartTimer l c = record { role = refl; channel = same_calm l.role (channel_of l c) }
-timer_calm (machine.Timer.CallTimer k) l c = let i = error_calm (unread l) k c in record { role = i.role; channel = i.channel }
-timer_calm (machine.Timer.ResetTimer k) l c = let i = error_calm (unread l) k c in record { role = i.role; channel = i.channel }
-timer_calm (machine.Timer.ClearTimer k) l c = all_closed_calm l _ l.channels c refl refl
+timer_calm machine.Timer.RestartTimer l c = record { role = refl; flow = refl; channel = same_calm l.role l.flow (channel_of l c) }
+timer_calm (machine.Timer.CallTimer k) l c = let i = error_calm (unread l) k c in record { role = i.role; flow = i.flow; channel = i.channel }
+timer_calm (machine.Timer.ResetTimer k) l c = let i = error_calm (unread l) k c in record { role = i.role; flow = i.flow; channel = i.channel }
+timer_calm (machine.Timer.ClearTimer k) l c = all_closed_calm l _ l.channels c refl refl refl
 
 if_calm : (b : Bool) (old new : Layer) (c : ℕ) → IsCalm old new c → IsCalm old (if b then new else old) c
 if_calm true old new c i = i
@@ -163,37 +182,37 @@ named_calm None l c = same_layer l c
 named_calm (Some t) l c = if_calm (machine.runs l t) l (machine.expired (unread l) t) c (timer_calm t l c)
 
 gathered_calm : (l : Layer) (e : PacketEnd) (c : ℕ) → IsCalm l e.layer c → IsCalm l (gathered e).layer c
-gathered_calm l e c i = record { role = i.role; channel = i.channel }
+gathered_calm l e c i = record { role = i.role; flow = i.flow; channel = i.channel }
 
 expired_calm : (id : TimerId) (e : PacketEnd) (c : ℕ) → IsCalm e.layer (expired id e).layer c
 expired_calm T1 e c = heeded_calm (link.on_t1 e.line.link).note _ c
-expired_calm T10 e c = let i = named_calm (timer_named e.layer.role T10) e.layer c in record { role = i.role; channel = i.channel }
-expired_calm T20 e c = let i = named_calm (timer_named e.layer.role T20) e.layer c in record { role = i.role; channel = i.channel }
-expired_calm (T11 k) e c = let i = named_calm (timer_named e.layer.role (T11 k)) e.layer c in record { role = i.role; channel = i.channel }
-expired_calm (T12 k) e c = let i = named_calm (timer_named e.layer.role (T12 k)) e.layer c in record { role = i.role; channel = i.channel }
-expired_calm (T13 k) e c = let i = named_calm (timer_named e.layer.role (T13 k)) e.layer c in record { role = i.role; channel = i.channel }
-expired_calm (T21 k) e c = let i = named_calm (timer_named e.layer.role (T21 k)) e.layer c in record { role = i.role; channel = i.channel }
-expired_calm (T22 k) e c = let i = named_calm (timer_named e.layer.role (T22 k)) e.layer c in record { role = i.role; channel = i.channel }
-expired_calm (T23 k) e c = let i = named_calm (timer_named e.layer.role (T23 k)) e.layer c in record { role = i.role; channel = i.channel }
-expired_calm (Idle k) e c = let i = named_calm (timer_named e.layer.role (Idle k)) e.layer c in record { role = i.role; channel = i.channel }
+expired_calm T10 e c = let i = named_calm (timer_named e.layer.role T10) e.layer c in record { role = i.role; flow = i.flow; channel = i.channel }
+expired_calm T20 e c = let i = named_calm (timer_named e.layer.role T20) e.layer c in record { role = i.role; flow = i.flow; channel = i.channel }
+expired_calm (T11 k) e c = let i = named_calm (timer_named e.layer.role (T11 k)) e.layer c in record { role = i.role; flow = i.flow; channel = i.channel }
+expired_calm (T12 k) e c = let i = named_calm (timer_named e.layer.role (T12 k)) e.layer c in record { role = i.role; flow = i.flow; channel = i.channel }
+expired_calm (T13 k) e c = let i = named_calm (timer_named e.layer.role (T13 k)) e.layer c in record { role = i.role; flow = i.flow; channel = i.channel }
+expired_calm (T21 k) e c = let i = named_calm (timer_named e.layer.role (T21 k)) e.layer c in record { role = i.role; flow = i.flow; channel = i.channel }
+expired_calm (T22 k) e c = let i = named_calm (timer_named e.layer.role (T22 k)) e.layer c in record { role = i.role; flow = i.flow; channel = i.channel }
+expired_calm (T23 k) e c = let i = named_calm (timer_named e.layer.role (T23 k)) e.layer c in record { role = i.role; flow = i.flow; channel = i.channel }
+expired_calm (Idle k) e c = let i = named_calm (timer_named e.layer.role (Idle k)) e.layer c in record { role = i.role; flow = i.flow; channel = i.channel }
 
 cond_calm : (b : Bool) (l : Layer) (d e : PacketEnd) (c : ℕ) → IsCalm l d.layer c → IsCalm l e.layer c → IsCalm l (cond b d e).layer c
 cond_calm true l d e c i j = i
 cond_calm false l d e c i j = j
 
 unread_calm : (l m : Layer) (c : ℕ) → IsCalm (unread l) m c → IsCalm l m c
-unread_calm l m c i = record { role = i.role; channel = i.channel }
+unread_calm l m c i = record { role = i.role; flow = i.flow; channel = i.channel }
 
 pub after_timer_calm : (e : PacketEnd) (id : TimerId) (c : ℕ) → IsCalm e.layer (after_timer (quieted e) id).layer c
 after_timer_calm e id c =
     unread_calm e.layer _ c (cond_calm (runs_at (quieted e) id) (quieted e).layer (expired id (quieted e)) (quieted e) c (expired_calm id (quieted e) c) (same_layer (quieted e).layer c))
 
 pub relinked_calm : (e : PacketEnd) (c : ℕ) → IsCalm e.layer (relinked (quieted e)).layer c
-relinked_calm e c = all_closed_calm e.layer _ e.layer.channels c refl refl
+relinked_calm e c = all_closed_calm e.layer _ e.layer.channels c refl refl refl
 
 placed_calm : (l : Layer) (parts : CallParts) (given : Option ℕ) (c : ℕ) → IsCalm l (placed_on l parts given) c
 placed_calm l parts None c = same_layer l c
-placed_calm l parts (Some k) c = found_calm l k c (λ ch. placing parts ch) (channel_of l k) refl (λ ch. outside_calm l.role (Some ch) _ refl (λ t e. e))
+placed_calm l parts (Some k) c = found_calm l k c (λ ch. placing parts ch) (channel_of l k) refl (λ ch. outside_calm l.role l.flow (Some ch) _ refl (λ t e. e))
 
 pub called_calm : (l : Layer) (parts : CallParts) (c : ℕ) → IsCalm l (call l parts) c
 called_calm l parts c = placed_calm l parts (machine.channel_given l l.phase) c
@@ -206,10 +225,10 @@ on_phase_apart NoSession l k c f apart = same_layer l c
 on_phase_apart OwnRestart l k c f apart = same_layer l c
 
 restart_calm : (phase : Phase) (body : Body) (l : Layer) (c : ℕ) → IsCalm l (restart_packet phase body l) c
-restart_calm PacketReady (Restart cause diagnostic) l c = all_closed_calm l _ l.channels c refl refl
-restart_calm PacketReady RestartConfirmation l c = all_closed_calm l _ l.channels c refl refl
-restart_calm OwnRestart (Restart cause diagnostic) l c = record { role = refl; channel = same_calm l.role (channel_of l c) }
-restart_calm OwnRestart RestartConfirmation l c = record { role = refl; channel = same_calm l.role (channel_of l c) }
+restart_calm PacketReady (Restart cause diagnostic) l c = all_closed_calm l _ l.channels c refl refl refl
+restart_calm PacketReady RestartConfirmation l c = all_closed_calm l _ l.channels c refl refl refl
+restart_calm OwnRestart (Restart cause diagnostic) l c = record { role = refl; flow = refl; channel = same_calm l.role l.flow (channel_of l c) }
+restart_calm OwnRestart RestartConfirmation l c = record { role = refl; flow = refl; channel = same_calm l.role l.flow (channel_of l c) }
 restart_calm phase _ l c = same_layer l c
 
 packet_calm : (l : Layer) (p : Packet) (c : ℕ) → c ≢ p.channel → IsCalm l (packet_in l p) c
@@ -243,31 +262,31 @@ content_named : (n : Numbering) (k : ℕ) (content : Result ContentValue PacketF
 content_named n k (Ok content) p e = cc
 content_named n k (Err fault) p e = absurd (cc)
 
-typed_named : (n : Numbering) (kind : Option PacketType) (first second third : ℕ) (rest : List ℕ) (p : PacketValue) → typed n 128 kind first second third rest ≡ Ok p
+typed_named : (n : Numbering) (size : ℕ) (kind : Option PacketType) (first second third : ℕ) (rest : List ℕ) (p : PacketValue) → typed n size kind first second third rest ≡ Ok p
     → p.channel ≡ codec.channel_of first second
-typed_named n None first second third rest p e = absurd (cc)
-typed_named n (Some kind) first second third rest p e =
-    content_named n (codec.channel_of first second) (codec.content_of n 128 kind (codec.bit_8 first) (codec.bit_7 first) third rest) p e
+typed_named n size None first second third rest p e = absurd (cc)
+typed_named n size (Some kind) first second third rest p e =
+    content_named n (codec.channel_of first second) (codec.content_of n size kind (codec.bit_8 first) (codec.bit_7 first) third rest) p e
 
-formed_named : (n : Numbering) (formed : Bool) (first second third : ℕ) (rest : List ℕ) (p : PacketValue) →
-    cond formed (typed n 128 (named_type n first second third rest) first second third rest) (Err BadFormatId) ≡ Ok p → p.channel ≡ codec.channel_of first second
-formed_named n true first second third rest p e = typed_named n (named_type n first second third rest) first second third rest p e
-formed_named n false first second third rest p e = absurd (cc)
+formed_named : (n : Numbering) (size : ℕ) (formed : Bool) (first second third : ℕ) (rest : List ℕ) (p : PacketValue) →
+    cond formed (typed n size (named_type n first second third rest) first second third rest) (Err BadFormatId) ≡ Ok p → p.channel ≡ codec.channel_of first second
+formed_named n size true first second third rest p e = typed_named n size (named_type n first second third rest) first second third rest p e
+formed_named n size false first second third rest p e = absurd (cc)
 
-read_named : (n : Numbering) (octets : List ℕ) (p : PacketValue) → reading n 128 octets ≡ Ok p → named_channel octets ≡ Some p.channel
-read_named n [] p e = absurd (cc)
-read_named n (first ∷ []) p e = absurd (cc)
-read_named n (first ∷ second ∷ []) p e = absurd (cc)
-read_named n (first ∷ second ∷ third ∷ rest) p e = ap Some (sym (formed_named n (format_of first == format_id n) first second third rest p e))
+read_named : (n : Numbering) (size : ℕ) (octets : List ℕ) (p : PacketValue) → reading n size octets ≡ Ok p → named_channel octets ≡ Some p.channel
+read_named n size [] p e = absurd (cc)
+read_named n size (first ∷ []) p e = absurd (cc)
+read_named n size (first ∷ second ∷ []) p e = absurd (cc)
+read_named n size (first ∷ second ∷ third ∷ rest) p e = ap Some (sym (formed_named n size (format_of first == format_id n) first second third rest p e))
 
 octets_calm : (l : Layer) (octets : List ℕ) (c : ℕ) → (named_channel octets ≡ Some c → ⊥) → IsCalm l (on_octets l octets) c
-octets_calm l octets c apart = unread_calm l _ c (read_calm (unread l) octets (reading l.flow.numbering 128 octets) c apart (read_named l.flow.numbering octets))
+octets_calm l octets c apart = unread_calm l _ c (read_calm (unread l) octets (reading l.flow.numbering l.flow.size octets) c apart (read_named l.flow.numbering l.flow.size octets))
 
 brought_calm : (o : Option (List ℕ)) (e : PacketEnd) (c : ℕ) → ((octets : List ℕ) → o ≡ Some octets → named_channel octets ≡ Some c → ⊥)
     → IsCalm e.layer (after_packet o e).layer c
 brought_calm None e c apart = same_layer e.layer c
 brought_calm (Some octets) e c apart =
-    let i = octets_calm e.layer octets c (apart octets refl) in record { role = i.role; channel = i.channel }
+    let i = octets_calm e.layer octets c (apart octets refl) in record { role = i.role; flow = i.flow; channel = i.channel }
 
 heard_calm : (note : link_note.Note) (o : Option (List ℕ)) (e : PacketEnd) (c : ℕ) → ((octets : List ℕ) → o ≡ Some octets → named_channel octets ≡ Some c → ⊥)
     → IsCalm e.layer (after_packet o (heeded note e)).layer c
@@ -291,9 +310,9 @@ record LeavesFull (t u : Traffic) : Type 0 where
   waiting : length t.waiting ≤ length u.waiting
   pending : interrupt_pending t ≡ true → interrupt_pending u ≡ true
 
-full_refused : (q : Taken) (role : Role) (ch : Channel) (u : Traffic) → LeavesFull ch.traffic u → is_some (refusal role ch (request_for q)) ≡ true
-    → is_some (refusal role (record ch { traffic = u }) (request_for q)) ≡ true
-full_refused (TakenInterrupt octets) role ch u h e = by_pending (in_transfer ch.state) ch.resetting ((length octets == 0) || nat_lt 32 (length octets)) (interrupt_pending ch.traffic) (interrupt_pending u) h.pending e
+full_refused : (role : Role) (flow : Flow) (q : Request) (ch : Channel) (u : Traffic) → IsOnward q → LeavesFull ch.traffic u → is_some (refusal role flow ch q) ≡ true
+    → is_some (refusal role flow (moved u ch) q) ≡ true
+full_refused role flow _ ch u (interrupts octets) h e = by_pending (in_transfer ch.state) ch.resetting ((length octets == 0) || nat_lt 32 (length octets)) (interrupt_pending ch.traffic) (interrupt_pending u) h.pending e
   where
     by_pending : (a b d x y : Bool) → (x ≡ true → y ≡ true)
         → is_some (refused_if (not a) Refusal.NoCall (refused_if b Refusal.IsResetting (refused_if d Refusal.TooLong (refused_if x Refusal.InterruptPending None)))) ≡ true
@@ -303,8 +322,8 @@ full_refused (TakenInterrupt octets) role ch u h e = by_pending (in_transfer ch.
     by_pending true false true x y more e = refl
     by_pending true false false true y more e = ap (λ (z : Bool). is_some (refused_if z Refusal.InterruptPending None)) (more refl)
     by_pending true false false false y more e = absurd (true≢false (sym e))
-full_refused (TakenPacket d) role ch u h e =
-    by_full (in_transfer ch.state) ch.resetting (nat_le 8 (length ch.traffic.waiting)) (nat_le 8 (length u.waiting)) (nat_lt 128 (length d.octets)) (more_full (length ch.traffic.waiting) (length u.waiting) h.waiting) e
+full_refused role flow _ ch u (sends d) h e =
+    by_full (in_transfer ch.state) ch.resetting (nat_le 8 (length ch.traffic.waiting)) (nat_le 8 (length u.waiting)) (nat_lt flow.size (length d.octets)) (more_full (length ch.traffic.waiting) (length u.waiting) h.waiting) e
   where
     by_full : (a b x y z : Bool) → (x ≡ true → y ≡ true)
         → is_some (refused_if (not a) Refusal.NoCall (refused_if b Refusal.IsResetting (refused_if x Refusal.QueueFull (refused_if z Refusal.TooLong None)))) ≡ true
@@ -315,10 +334,36 @@ full_refused (TakenPacket d) role ch u h e =
     by_full true false false true z more e = refl
     by_full true false false false z more e = e
 
+-- of what is taken first and then it is so, if it is so of each
+first_taken : (role : Role) (flow : Flow) (o p : Option Refusal) (q : Request) (qs : List Request) (ch new : Channel) → (is_some o ≡ true → is_some p ≡ true)
+    → (takes_all role flow (owing (carried_out new q)) qs ≡ true → takes_all role flow (owing (carried_out ch q)) qs ≡ true)
+    → (is_none p && takes_all role flow (owing (unless p (carried_out new q) new)) qs) ≡ true
+    → (is_none o && takes_all role flow (owing (unless o (carried_out ch q) ch)) qs) ≡ true
+first_taken role flow None None q qs ch new refused rest e = rest e
+first_taken role flow (Some x) None q qs ch new refused rest e = absurd (true≢false (sym (refused refl)))
+first_taken role flow o (Some y) q qs ch new refused rest e = absurd (true≢false (sym e))
+
+full_takes : (role : Role) (flow : Flow) (ch : Channel) (u : Traffic) (qs : List Request) → AreOnward qs → LeavesFull ch.traffic u
+    → takes_all role flow (moved u ch) qs ≡ true → takes_all role flow ch qs ≡ true
+full_takes role flow ch u [] are h e = refl
+full_takes role flow ch u (q ∷ qs) are h e =
+    first_taken role flow (refusal role flow ch q) (refusal role flow (moved u ch) q) q qs ch (moved u ch) (full_refused role flow q ch u are.0 h)
+    (rest q are.0 (λ t v f. full_takes role flow (moved t ch) v qs are.1 f)) e
+  where
+    rest : (r : Request) → IsOnward r
+        → ((t v : Traffic) → LeavesFull t v → takes_all role flow (moved v ch) qs ≡ true → takes_all role flow (moved t ch) qs ≡ true)
+        → takes_all role flow (owing (carried_out (moved u ch) r)) qs ≡ true → takes_all role flow (owing (carried_out ch r)) qs ≡ true
+    rest _ (sends d) later f =
+        let more = length-append ch.traffic.waiting (d ∷ []) in
+        let most = length-append u.waiting (d ∷ []) in
+        later (queue d ch.traffic) (queue d u) (record { waiting = omega (arith, more, most, h.waiting); pending = h.pending }) f
+    rest _ (interrupts octets) later f =
+        later (queue_interrupt octets ch.traffic) (queue_interrupt octets u) (record { waiting = h.waiting; pending = λ p. refl }) f
+
 -- what a relay asks: to take, to send and to release
 pub data IsRelay : Request → Type 0 where
   takes : IsRelay Taking
-  sends : (t : Taken) → IsRelay (request_for t)
+  onward : {q : Request} → IsOnward q → IsRelay q
   releases : (n : ℕ) → IsRelay (Releasing n)
 
 taking_full : (a : Option (List ℕ)) (ds : List Datum) (t : Traffic) → LeavesFull t (taking_of a ds t)
@@ -330,21 +375,21 @@ releasing_full : (b : Bool) (n : ℕ) (t : Traffic) → LeavesFull t (if b then 
 releasing_full true n t = record { waiting = omega arith; pending = λ e. e }
 releasing_full false n t = record { waiting = omega arith; pending = λ e. e }
 
-carried_refused : (q : Taken) (role : Role) (ch : Channel) (r : Request) → IsRelay r → is_some (refusal role ch (request_for q)) ≡ true
-    → is_some (refusal role (owing (carried_out ch r)) (request_for q)) ≡ true
-carried_refused q role ch _ takes e = full_refused q role ch (taking ch.traffic) (taking_full ch.traffic.interrupt_arrived ch.traffic.arrived ch.traffic) e
-carried_refused q role ch _ (sends (TakenInterrupt octets)) e =
-    full_refused q role ch (queue_interrupt octets ch.traffic) (record { waiting = omega arith; pending = λ p. refl }) e
-carried_refused q role ch _ (sends (TakenPacket d)) e =
-    full_refused q role ch (queue d ch.traffic)
+carried_takes : (role : Role) (flow : Flow) (ch : Channel) (r : Request) (qs : List Request) → IsRelay r → AreOnward qs
+    → takes_all role flow (owing (carried_out ch r)) qs ≡ true → takes_all role flow ch qs ≡ true
+carried_takes role flow ch _ qs takes are e = full_takes role flow ch (taking ch.traffic) qs are (taking_full ch.traffic.interrupt_arrived ch.traffic.arrived ch.traffic) e
+carried_takes role flow ch _ qs (onward (interrupts octets)) are e =
+    full_takes role flow ch (queue_interrupt octets ch.traffic) qs are (record { waiting = omega arith; pending = λ p. refl }) e
+carried_takes role flow ch _ qs (onward (sends d)) are e =
+    full_takes role flow ch (queue d ch.traffic) qs are
     (record { waiting = let long = length-append ch.traffic.waiting (d ∷ []) in omega (arith, long); pending = λ p. p }) e
-carried_refused q role ch _ (releases n) e =
-    full_refused q role ch (if may_release n ch.traffic then releasing n ch.traffic else ch.traffic) (releasing_full (may_release n ch.traffic) n ch.traffic) e
+carried_takes role flow ch _ qs (releases n) are e =
+    full_takes role flow ch (if may_release n ch.traffic then releasing n ch.traffic else ch.traffic) qs are (releasing_full (may_release n ch.traffic) n ch.traffic) e
 
-unless_refused : (q : Taken) (role : Role) (o : Option Refusal) (ch : Channel) (r : Request) → IsRelay r → is_some (refusal role ch (request_for q)) ≡ true
-    → is_some (refusal role (owing (unless o (carried_out ch r) ch)) (request_for q)) ≡ true
-unless_refused q role None ch r i e = carried_refused q role ch r i e
-unless_refused q role (Some x) ch r i e = e
+unless_takes : (role : Role) (flow : Flow) (o : Option Refusal) (ch : Channel) (r : Request) (qs : List Request) → IsRelay r → AreOnward qs
+    → takes_all role flow (owing (unless o (carried_out ch r) ch)) qs ≡ true → takes_all role flow ch qs ≡ true
+unless_takes role flow None ch r qs i are e = carried_takes role flow ch r qs i are e
+unless_takes role flow (Some x) ch r qs i are e = e
 
 unless_front : (o : Option Refusal) (ch : Channel) (done : Step) → front done.channel.traffic ≡ front ch.traffic → front (owing (unless o done ch)).traffic ≡ front ch.traffic
 unless_front None ch done same = same
@@ -354,53 +399,54 @@ release_front : (b : Bool) (n : ℕ) (t : Traffic) → front (if b then releasin
 release_front true n t = refl
 release_front false n t = refl
 
-send_front : (t : Taken) (ch : Channel) → front (carried_out ch (request_for t)).channel.traffic ≡ front ch.traffic
-send_front (TakenInterrupt octets) ch = refl
-send_front (TakenPacket d) ch = refl
+onward_front : (q : Request) (ch : Channel) → IsOnward q → front (carried_out ch q).channel.traffic ≡ front ch.traffic
+onward_front _ ch (interrupts octets) = refl
+onward_front _ ch (sends d) = refl
 
 -- what is sent and what is released is calm
-pub sending_calm : (l : Layer) (k c : ℕ) (t : Taken) → IsCalm l (machine.request l k (request_for t)) c
-sending_calm l k c t = found_calm l k c (λ ch. requested l.role ch (request_for t)) (channel_of l k) refl (λ ch. record {
-  front = λ u e. sym (unless_front (refusal l.role ch (request_for t)) ch (carried_out ch (request_for t)) (send_front t ch)) ∙ e;
-  refused = λ u e. unless_refused u l.role (refusal l.role ch (request_for t)) ch (request_for t) (sends t) e;
+pub onward_calm : (l : Layer) (k c : ℕ) (q : Request) → IsOnward q → IsCalm l (machine.request l k q) c
+onward_calm l k c q i = found_calm l k c (λ ch. requested l.role l.flow ch q) (channel_of l k) refl (λ ch. record {
+  front = λ u e. sym (unless_front (refusal l.role l.flow ch q) ch (carried_out ch q) (onward_front q ch i)) ∙ e;
+  takes = λ qs are e. unless_takes l.role l.flow (refusal l.role l.flow ch q) ch q qs (onward i) are e;
 })
 
 pub releasing_calm : (l : Layer) (k c n : ℕ) → IsCalm l (machine.request l k (Releasing n)) c
-releasing_calm l k c n = found_calm l k c (λ ch. requested l.role ch (Releasing n)) (channel_of l k) refl (λ ch. record {
-  front = λ u e. sym (unless_front (refusal l.role ch (Releasing n)) ch (carried_out ch (Releasing n)) (release_front (may_release n ch.traffic) n ch.traffic)) ∙ e;
-  refused = λ u e. unless_refused u l.role (refusal l.role ch (Releasing n)) ch (Releasing n) (releases n) e;
+releasing_calm l k c n = found_calm l k c (λ ch. requested l.role l.flow ch (Releasing n)) (channel_of l k) refl (λ ch. record {
+  front = λ u e. sym (unless_front (refusal l.role l.flow ch (Releasing n)) ch (carried_out ch (Releasing n)) (release_front (may_release n ch.traffic) n ch.traffic)) ∙ e;
+  takes = λ qs are e. unless_takes l.role l.flow (refusal l.role l.flow ch (Releasing n)) ch (Releasing n) qs (releases n) are e;
 })
 
 -- a request touches no other channel
 pub request_apart : (l : Layer) (k c : ℕ) (r : Request) → c ≢ k → IsCalm l (machine.request l k r) c
-request_apart l k c r apart = found_apart l k c (λ ch. requested l.role ch r) (channel_of l k) apart
+request_apart l k c r apart = found_apart l k c (λ ch. requested l.role l.flow ch r) (channel_of l k) apart
 
 -- what is taken leaves what the channel refuses
-set_refused : (role : Role) (q : Request) (chs : List Channel) (i j : ℕ) (ch new : Channel) → slice_get chs i ≡ Some ch
-    → (is_some (refusal role ch q) ≡ true → is_some (refusal role new q) ≡ true)
-    → is_some (machine.refusal_at role q (slice_get chs j)) ≡ true → is_some (machine.refusal_at role q (slice_get (set chs i new) j)) ≡ true
-set_refused role q [] i j ch new found more e = e
-set_refused role q (x ∷ xs) zero zero ch new found more e = more (subst (λ (y : Channel). is_some (refusal role y q) ≡ true) (same_Some x ch found) e)
-set_refused role q (x ∷ xs) zero (suc j) ch new found more e = e
-set_refused role q (x ∷ xs) (suc i) zero ch new found more e = e
-set_refused role q (x ∷ xs) (suc i) (suc j) ch new found more e = set_refused role q xs i j ch new found more e
+set_takes : (role : Role) (flow : Flow) (qs : List Request) (chs : List Channel) (i j : ℕ) (ch new : Channel) → slice_get chs i ≡ Some ch
+    → (takes_all role flow new qs ≡ true → takes_all role flow ch qs ≡ true)
+    → takes_on_channel role flow (slice_get (set chs i new) j) qs ≡ true → takes_on_channel role flow (slice_get chs j) qs ≡ true
+set_takes role flow qs [] i j ch new found more e = e
+set_takes role flow qs (x ∷ xs) zero zero ch new found more e = subst (λ (y : Channel). takes_all role flow y qs ≡ true) (sym (same_Some x ch found)) (more e)
+set_takes role flow qs (x ∷ xs) zero (suc j) ch new found more e = e
+set_takes role flow qs (x ∷ xs) (suc i) zero ch new found more e = e
+set_takes role flow qs (x ∷ xs) (suc i) (suc j) ch new found more e = set_takes role flow qs xs i j ch new found more e
 
-nth_refused : (role : Role) (q : Request) (chs : List Channel) (i j : ℕ) (ch new : Channel) → nth_channel chs i ≡ Some ch
-    → (is_some (refusal role ch q) ≡ true → is_some (refusal role new q) ≡ true)
-    → is_some (machine.refusal_at role q (nth_channel chs j)) ≡ true → is_some (machine.refusal_at role q (nth_channel (with_nth chs i new) j)) ≡ true
-nth_refused role q chs zero j ch new found more e = e
-nth_refused role q chs (suc i) zero ch new found more e = e
-nth_refused role q chs (suc i) (suc j) ch new found more e = set_refused role q chs i j ch new found more e
+nth_takes : (role : Role) (flow : Flow) (qs : List Request) (chs : List Channel) (i j : ℕ) (ch new : Channel) → nth_channel chs i ≡ Some ch
+    → (takes_all role flow new qs ≡ true → takes_all role flow ch qs ≡ true)
+    → takes_on_channel role flow (nth_channel (with_nth chs i new) j) qs ≡ true → takes_on_channel role flow (nth_channel chs j) qs ≡ true
+nth_takes role flow qs chs zero j ch new found more e = e
+nth_takes role flow qs chs (suc i) zero ch new found more e = e
+nth_takes role flow qs chs (suc i) (suc j) ch new found more e = set_takes role flow qs chs i j ch new found more e
 
-found_refused : (l : Layer) (k c : ℕ) (q : Taken) (r : Request) (found : Option Channel) → IsRelay r → channel_of l k ≡ found
-    → is_some (request_refusal l c (request_for q)) ≡ true → is_some (request_refusal (on_found l k (λ ch. requested l.role ch r) found) c (request_for q)) ≡ true
-found_refused l k c q r None i is e = e
-found_refused l k c q r (Some ch) i is e =
-    nth_refused l.role (request_for q) l.channels k c ch (owing (requested l.role ch r)) is (λ f. unless_refused q l.role (refusal l.role ch r) ch r i f) e
-
-pub relay_refused : (l : Layer) (k c : ℕ) (q : Taken) (r : Request) → IsRelay r → is_some (request_refusal l c (request_for q)) ≡ true
-    → is_some (request_refusal (machine.request l k r) c (request_for q)) ≡ true
-relay_refused l k c q r i e = found_refused l k c q r (channel_of l k) i refl e
+-- what a channel takes after a request of the relay, it takes before
+pub relay_takes : (l : Layer) (k c : ℕ) (qs : List Request) (r : Request) → IsRelay r → AreOnward qs
+    → takes_on_channel l.role l.flow (channel_of (machine.request l k r) c) qs ≡ true → takes_on_channel l.role l.flow (channel_of l c) qs ≡ true
+relay_takes l k c qs r i are = by_channel (channel_of l k) refl
+  where
+    by_channel : (found : Option Channel) → channel_of l k ≡ found → takes_on_channel l.role l.flow (channel_of (on_found l k (λ ch. requested l.role l.flow ch r) found) c) qs ≡ true
+        → takes_on_channel l.role l.flow (channel_of l c) qs ≡ true
+    by_channel None is e = e
+    by_channel (Some ch) is e =
+        nth_takes l.role l.flow qs l.channels k c ch (owing (requested l.role l.flow ch r)) is (λ f. unless_takes l.role l.flow (refusal l.role l.flow ch r) ch r qs i are f) e
 
 -- ---- packets that go to the link leave what waits first
 
@@ -495,3 +541,44 @@ offered_front (suc most) e c =
 pub all_offered_front : (e : PacketEnd) (c : ℕ) → front_on (all_offered e).layer c ≡ front_on e.layer c
 unfolding all_offered
 all_offered_front e c = offered_front 7 e c
+
+-- nor do they change the flow control parameters
+served_flow : (l : Layer) (k : ℕ) (ch : Channel) (body : Option Body) (others : Next) → others.layer.flow ≡ l.flow
+    → (served l k (record { channel = ch; body = body }) others).layer.flow ≡ l.flow
+served_flow l k ch None others same = same
+served_flow l k ch (Some body) others same = refl
+
+found_flow : (l : Layer) (k : ℕ) (found : Option Channel) (others : Next) → others.layer.flow ≡ l.flow → (serve_found l k found others).layer.flow ≡ l.flow
+found_flow l k None others same = same
+found_flow l k (Some ch) others same = served_flow l k (next_of l.flow ch).channel (next_of l.flow ch).body others same
+
+serve_flow : (count : ℕ) (l : Layer) (k : ℕ) → (serve count l k).layer.flow ≡ l.flow
+serve_flow zero l k = refl
+serve_flow (suc count) l k = found_flow l k (channel_of l k) (serve count l (next_number l k)) (serve_flow count l (next_number l k))
+
+restart_flow : (owed : List Body) (l : Layer) → (next_restart owed l).layer.flow ≡ l.flow
+restart_flow [] l = serve_flow (length l.channels) l (next_number l l.served_last)
+restart_flow (b ∷ bs) l = refl
+
+next_in_flow : (phase : Phase) (relink : Bool) (l : Layer) → (next_in phase relink l).layer.flow ≡ l.flow
+next_in_flow NoSession relink l = refl
+next_in_flow OwnRestart true l = refl
+next_in_flow OwnRestart false l = restart_flow l.owed l
+next_in_flow PacketReady true l = refl
+next_in_flow PacketReady false l = restart_flow l.owed l
+
+cond_flow : (b : Bool) (d e : PacketEnd) (w : Flow) → d.layer.flow ≡ w → e.layer.flow ≡ w → (cond b d e).layer.flow ≡ w
+cond_flow true d e w f g = f
+cond_flow false d e w f g = g
+
+offered_flow : (most : ℕ) (e : PacketEnd) → (offered most e).layer.flow ≡ e.layer.flow
+offered_flow zero e = refl
+offered_flow (suc most) e =
+    let n = next_packet e.layer in
+    cond_flow (can_offer e.line.link) (cond (is_some n.packet) (offered most (with_next e n)) e) e e.layer.flow
+    (cond_flow (is_some n.packet) (offered most (with_next e n)) e e.layer.flow
+    (offered_flow most (with_next e n) ∙ next_in_flow e.layer.phase e.layer.relink e.layer) refl) refl
+
+pub all_offered_flow : (e : PacketEnd) → (all_offered e).layer.flow ≡ e.layer.flow
+unfolding all_offered
+all_offered_flow e = offered_flow 7 e

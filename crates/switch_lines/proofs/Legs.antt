@@ -1,15 +1,14 @@
 -- The relay on the joins of some lines, one channel after the other: what is joined to what stays as it is.
-use Rattle.std.proofs.Common.{◌≡◌, ℕ, zero, suc, ◌+◌, ◌-◌, ◌<◌, ◌≤◌, ◌⊎◌, inl, inr, true, false, List, [], ◌∷◌, ◌++◌, length, drop, get_or, refl, sym, ap, ap₂, ◌∙◌, arith, option_map, Option, Some, None}
+use Rattle.std.proofs.Common.{◌≡◌, ℕ, zero, suc, ◌+◌, ◌-◌, ◌<◌, ◌≤◌, ◌⊎◌, inl, inr, Bool, true, false, List, [], ◌∷◌, ◌++◌, length, drop, get_or, refl, sym, ap, ap₂, ◌∙◌, arith, option_map, Option, Some, None}
 use Rattle.std.specs.Prelude.{slice_get}
 use Rattle.std.proofs.lemmas.Option.{none-some, same_Some}
 use Rattle.packet_layer.specs.Traffic.{Taken}
-use Rattle.packet_layer.specs.Channel.{Refusal}
 use Rattle.packet_layer.specs.Channel.Request.{Taking, Releasing}
 use Rattle.switch_joins.specs.Direction.{released, releasable}
-use Rattle.switch_lines.specs.Lines.{SwitchChannel, Joined, SwitchLine, same_place, joined_at, with_joined, ask, front_at, refusal_at}
-use Rattle.switch_lines.specs.Relay.{carried_by, request_for, moved, moved_joined, moved_front, moved_unless, relayed, relayed_from, places_of, both_legs, legs_at, legs_of, most_moves}
+use Rattle.switch_lines.specs.Lines.{SwitchChannel, Joined, SwitchLine, same_place, joined_at, with_joined, ask, ask_all, front_at, sizes_at, takes_at}
+use Rattle.switch_lines.specs.Relay.{carried_by, due_at, moved, moved_joined, moved_front, moved_if, relayed, relayed_from, places_of, both_legs, legs_at, legs_of, most_moves}
 use Rattle.switch_lines.specs.OfLine.{places_by}
-use Rattle.switch_lines.proofs.Places.{joined_asked, joined_here, joined_apart}
+use Rattle.switch_lines.proofs.Places.{joined_asked, joined_asks, joined_here, joined_apart}
 use Rattle.switch_joins.proofs.Apart.{decided, place_is}
 use Rattle.switch_lines.proofs.Rounds.{counts, counts_from, counts_there, counts_length, on_line, from_both}
 
@@ -29,18 +28,19 @@ to_kept p j k ks ls x same e to = by_place (decided (same_place x p))
         ∙ ap (λ (q : SwitchChannel). Some q) to ∙ sym (ap (λ (o : Option Joined). option_map (λ (y : Joined). y.other) o) e) ∙ sym (ap (λ (y : SwitchChannel). to_at ls y) is)
     by_place (inr f) = ap (λ (o : Option Joined). option_map (λ (y : Joined). y.other) o) (joined_apart p (Some k) x ks f ∙ same x)
 
-pub to_unless : (r : Option Refusal) (t : Taken) (p : SwitchChannel) (j : Joined) (ls : List SwitchLine) (x : SwitchChannel) → joined_at ls p ≡ Some j → to_at (moved_unless r t p j ls) x ≡ to_at ls x
-to_unless (Some r) t p j ls x e = refl
-to_unless None t p j ls x e =
-    to_kept p j (record j { kept = released (carried_by t j.kept) }) _ ls x
+to_if : (b : Bool) (t : Taken) (p : SwitchChannel) (j : Joined) (ls : List SwitchLine) (x : SwitchChannel) → joined_at ls p ≡ Some j → to_at (moved_if b t p j ls) x ≡ to_at ls x
+to_if false t p j ls x e = refl
+to_if true t p j ls x e =
+    let v = carried_by (sizes_at ls p j.other) t j.kept in
+    to_kept p j (record j { kept = released v }) _ ls x
     (λ y.
-    joined_asked p (Releasing (releasable (carried_by t j.kept).held)) y (ask j.other (request_for t) (ask p Taking ls))
-    ∙ joined_asked j.other (request_for t) y (ask p Taking ls) ∙ joined_asked p Taking y ls)
+    joined_asked p (Releasing (releasable v.held)) y (ask_all j.other (due_at ls p j t) (ask p Taking ls))
+    ∙ joined_asks j.other (due_at ls p j t) y (ask p Taking ls) ∙ joined_asked p Taking y ls)
     e refl
 
 to_front : (o : Option Taken) (p : SwitchChannel) (j : Joined) (ls : List SwitchLine) (x : SwitchChannel) → joined_at ls p ≡ Some j → to_at (moved_front o p j ls) x ≡ to_at ls x
 to_front None p j ls x e = refl
-to_front (Some t) p j ls x e = to_unless (refusal_at ls j.other (request_for t)) t p j ls x e
+to_front (Some t) p j ls x e = to_if (takes_at ls j.other (due_at ls p j t)) t p j ls x e
 
 to_moved : (o : Option Joined) (p : SwitchChannel) (ls : List SwitchLine) (x : SwitchChannel) → joined_at ls p ≡ o → to_at (moved_joined o p ls) x ≡ to_at ls x
 to_moved None p ls x e = refl

@@ -1,5 +1,6 @@
 pub mod Unread
 pub mod Changing
+pub mod Onward
 pub mod Places
 pub mod Relaying
 pub mod Rounds
@@ -9,6 +10,8 @@ pub mod Heeding
 pub mod Ending
 pub mod Making
 pub mod Pooled
+pub mod Sharing
+pub mod Asking
 pub mod Settling
 pub mod Touched
 pub mod Relinking

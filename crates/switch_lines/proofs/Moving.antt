@@ -1,7 +1,7 @@
 -- What is left to relay on lines in the pool that they share, after each call.
-use Rattle.std.proofs.Common.{◌≡◌, ◌≢◌, ℕ, suc, ◌<◌, ◌≤◌, Bool, true, false, ◌&&◌, List, [], ◌∷◌, map, length, set, get_or, nat_lt, Option, Some, None, is_some, option_map, zero, refl, sym, ap, ap₂, subst, ◌∙◌, true≢false, arith}
+use Rattle.std.proofs.Common.{◌≡◌, ◌≢◌, ℕ, suc, ◌<◌, ◌≤◌, true, false, List, [], ◌∷◌, map, length, set, get_or, nat_lt, Option, Some, None, is_some, option_map, zero, refl, sym, ap, subst, ◌∙◌, true≢false, arith}
 use Rattle.std.specs.Prelude.{slice_get, replicate}
-use Rattle.std.proofs.lemmas.Bool.{ltb-true, eq-eqb}
+use Rattle.std.proofs.lemmas.Bool.{ltb-true}
 use Rattle.std.proofs.lemmas.Option.{none-some}
 use Rattle.packet_layer.specs.TakenView.{maybe_front}
 use Rattle.packet_layer.specs.Traffic.{Taken}
@@ -10,13 +10,13 @@ use Rattle.switch_joins.specs.ChannelSet.{has, is_small}
 use Rattle.switch_joins.specs.declared.channel_set.ChannelSet.{ChannelSet}
 use Rattle.switch_lines.specs.declared.config.SwitchLineConfig.{SwitchLineConfig}
 use Rattle.switch_lines.specs.Making.{made_line}
-use Rattle.switch_lines.specs.Lines.{SwitchChannel, Joined, SwitchLine, same_place, flat, nth_joined, with_nth_joined, joined_on, joined_at}
+use Rattle.switch_lines.specs.Lines.{SwitchChannel, Joined, SwitchLine, flat, nth_joined, with_nth_joined, joined_on, joined_at}
 use Rattle.switch_lines.specs.Pooled.{PooledLine, plain}
 use Rattle.switch_lines.specs.Switch.{without_joins}
 use Rattle.switch_lines.specs.Waiting.{other_at, NothingElseMoves}
 use Rattle.switch_lines.proofs.Calmer.{IsCalm, same_layer}
 use Rattle.switch_lines.proofs.Pooled.{Pooled, plain_set, plain_get, within_plain}
-use Rattle.switch_lines.proofs.Waiting.{written_calm, written_others, calm_kept, touched_kept, joined_kept, none_joined, nth_set, got_written}
+use Rattle.switch_lines.proofs.Waiting.{leads, written_calm, written_others, place_same, calm_kept, touched_kept, joined_kept, none_joined, nth_set, got_written}
 use Rattle.switch_joins.proofs.Slots.{nth_apart, set_size}
 use Rattle.switch_joins.proofs.Apart.{and_both}
 use Rattle.switch_joins.proofs.ChannelSets.{is_so_small, IsApart}
@@ -35,33 +35,36 @@ small_channel x e = ltb-true x.channel 63 (and_both (nat_lt x.line 64) (nat_lt x
 pub small_line : (x : SwitchChannel) → is_small x ≡ true → x.line < 64
 small_line x e = ltb-true x.line 64 (and_both (nat_lt x.line 64) (nat_lt x.channel 63) e).0
 
-pub place_same : (p x : SwitchChannel) → p.line ≡ x.line → p.channel ≡ x.channel → same_place p x ≡ true
-place_same p x e f = ap₂ (λ (a b : Bool). a && b) (eq-eqb p.line x.line e) (eq-eqb p.channel x.channel f)
-
 -- ---- one line changes
 
 -- all its channels are calm
-pub one_calm : (s r : ChannelSet) (f : SwitchLine → SwitchLine) (ps : Pooled) (n : ℕ) (old new : PooledLine) → n < length ps → old ≡ get_or ps n old
+pub one_calm_at : (s r : ChannelSet) (f : SwitchLine → SwitchLine) (ps : Pooled) (n : ℕ) (old new : PooledLine) → n < length ps → old ≡ get_or ps n old
     → new.line ≡ f old.line
-    → ((l : SwitchLine) (d : ℕ) → (other_on (f l).joined d ≡ other_on l.joined d) × IsCalm l.end.layer (f l).end.layer d)
+    → ((d : ℕ) → (leads (nth_joined (f old.line).joined d) ≡ leads (nth_joined old.line.joined d)) × IsCalm old.line.end.layer (f old.line).end.layer d)
     → NothingElseMoves s r (plain ps) → NothingElseMoves s r (plain (set ps n new))
-one_calm s r f ps n old new less is done calm i =
+one_calm_at s r f ps n old new less is done calm i =
     subst (λ (ls : Lines). NothingElseMoves s r ls) (sym (plain_set ps n new ∙ ap (λ (l : SwitchLine). set (plain ps) n l) done))
     (calm_kept s r (plain ps) (set (plain ps) n (f old.line))
-    (λ x. written_calm (plain ps) n old.line (f old.line) x (within_plain ps n less) (plain_get ps n old is) (λ same. calm old.line x.channel)) i)
+    (λ x. written_calm (plain ps) n old.line (f old.line) x (within_plain ps n less) (plain_get ps n old is) (λ same. calm x.channel)) i)
+
+pub one_calm : (s r : ChannelSet) (f : SwitchLine → SwitchLine) (ps : Pooled) (n : ℕ) (old new : PooledLine) → n < length ps → old ≡ get_or ps n old
+    → new.line ≡ f old.line
+    → ((l : SwitchLine) (d : ℕ) → (leads (nth_joined (f l).joined d) ≡ leads (nth_joined l.joined d)) × IsCalm l.end.layer (f l).end.layer d)
+    → NothingElseMoves s r (plain ps) → NothingElseMoves s r (plain (set ps n new))
+one_calm s r f ps n old new less is done calm i = one_calm_at s r f ps n old new less is done (calm old.line) i
 
 -- one of its channels is touched
 pub one_stirred : (s t r : ChannelSet) (f : SwitchLine → SwitchLine) (ps zs : Pooled) (n c : ℕ) (o : Option SwitchChannel) (old new : PooledLine)
     → n < length ps → old ≡ get_or ps n old → new.line ≡ f old.line → zs ≡ ps → o ≡ other_at (plain zs) (record { line = n; channel = c })
     → ((p : SwitchChannel) → has t p ≡ false → (has s p ≡ false) × IsApart p (record { line = n; channel = c }) o)
     → ((l : SwitchLine) (d : ℕ) → other_on (f l).joined d ≡ other_on l.joined d)
-    → ((l : SwitchLine) (d : ℕ) → d < 63 → d ≢ c → IsCalm l.end.layer (f l).end.layer d)
+    → ((l : SwitchLine) (d : ℕ) → d < 63 → d ≢ c → (leads (nth_joined (f l).joined d) ≡ leads (nth_joined l.joined d)) × IsCalm l.end.layer (f l).end.layer d)
     → NothingElseMoves s r (plain ps) → NothingElseMoves t r (plain (set ps n new))
 one_stirred s t r f ps zs n c o old new less is done seen found touches others calm i =
     subst (λ (ls : Lines). NothingElseMoves t r ls) (sym (plain_set ps n new ∙ ap (λ (l : SwitchLine). set (plain ps) n l) done))
-    (touched_kept s t r (plain ps) ms x o (found ∙ ap (λ (ys : Pooled). other_at (plain ys) x) seen) touches (λ y. written_others (plain ps) n old.line (f old.line) y inside at (λ d. others old.line d))
+    (touched_kept s t r (plain ps) ms x o (found ∙ ap (λ (ys : Pooled). other_at (plain ys) x) seen) touches (λ y. written_others (plain ps) n old.line (f old.line) y inside at (others old.line))
     (λ y small apart. written_calm (plain ps) n old.line (f old.line) y inside at
-    (λ same. (others old.line y.channel, calm old.line y.channel (small_channel y small) (λ e. true≢false (sym (place_same y x same e) ∙ apart))))) i)
+    (λ same. calm old.line y.channel (small_channel y small) (λ e. true≢false (sym (place_same y x same e) ∙ apart)))) i)
   where
     x : SwitchChannel
     x = record { line = n; channel = c }
@@ -81,12 +84,12 @@ pub one_joined : (s t r : ChannelSet) (ps : Pooled) (n c : ℕ) (j : Option Join
     → length new.line.joined ≤ 32 → o ≡ option_map (λ (k : Joined). k.other) j
     → ((p : SwitchChannel) → has t p ≡ false → (has s p ≡ false) × IsApart p (record { line = n; channel = c }) (other_at (plain ps) (record { line = n; channel = c })) × IsApart p (record { line = n; channel = c }) o)
     → NothingElseMoves s r (plain ps) → NothingElseMoves t r (plain (set ps n new))
-one_joined s t r ps n c j o old new less line is done few leads touches i =
+one_joined s t r ps n c j o old new less line is done few to touches i =
     subst (λ (ls : Lines). NothingElseMoves t r ls) (sym (plain_set ps n new ∙ ap (λ (l : SwitchLine). set (plain ps) n l) done))
     (joined_kept s t r (plain ps) ms x o touches
     (λ y apart. written_calm (plain ps) n old.line l y inside at
     (λ same. (
-      ap (λ (k : Option Joined). option_map (λ (z : Joined). z.other) k) (nth_apart old.line.joined c y.channel j (λ e. true≢false (sym (place_same y x same e) ∙ apart))),
+      ap leads (nth_apart old.line.joined c y.channel j (λ e. true≢false (sym (place_same y x same e) ∙ apart))),
       same_layer old.line.end.layer y.channel,
     )))
     own i)
@@ -113,7 +116,7 @@ one_joined s t r ps n c j o old new less line is done few leads touches i =
         let there_ = nth_set old.line.joined c j k e in
         let size : length l.joined ≤ 32 = subst (λ (z : SwitchLine). length z.joined ≤ 32) done few in
         let same = set_size old.line.joined c j in
-        (leads ∙ ap (λ (z : Option Joined). option_map (λ (y : Joined). y.other) z) there_.0 ∙ f, is_so_small x line (omega (arith, there_.1, size, same)))
+        (to ∙ ap (λ (z : Option Joined). option_map (λ (y : Joined). y.other) z) there_.0 ∙ f, is_so_small x line (omega (arith, there_.1, size, same)))
 
     own : (q : SwitchChannel) → other_at ms x ≡ Some q → (o ≡ Some q) × (is_small x ≡ true)
     own q e =

@@ -2,12 +2,14 @@
 use Rattle.std.proofs.Common.{◌≡◌, ℕ, zero, suc, ◌⊎◌, inl, inr, false, List, [], ◌∷◌, set, refl, sym, ap, subst, ◌∙◌, Option, Some, None}
 use Rattle.std.specs.Prelude.{slice_get}
 use Rattle.std.proofs.lemmas.Option.{none-some}
-use Rattle.packet_layer.specs.Channel.{Request}
+use Rattle.packet_channel.specs.declared.flow.Flow.{Flow}
+use Rattle.packet_layer.specs.Channel.{Channel, Request, requested}
+use Rattle.packet_layer.specs.Layer.{Layer, channel_of, on_found, request}
 use Rattle.packet_layer.specs.Channel.Request.{Releasing}
 use Rattle.packet_end.specs.PacketEnd.{asked}
 use Rattle.switch_joins.specs.Direction.{Direction, releasable, released}
 use Rattle.switch_joins.proofs.Apart.{apart_by}
-use Rattle.switch_lines.specs.Lines.{SwitchChannel, Joined, SwitchLine, same_place, changed, flat, nth_joined, joined_on, joined_at, with_nth_joined, with_joined, ask}
+use Rattle.switch_lines.specs.Lines.{SwitchChannel, Joined, SwitchLine, same_place, changed, flat, nth_joined, joined_on, joined_at, with_nth_joined, with_joined, ask, ask_all, size_of_line, sizes_at}
 use Rattle.switch_lines.specs.Relay.{with_kept, freed}
 use Rattle.switch_lines.specs.OfLine.{kept_on, kept_at, released_if, freed_on, freed_at}
 use Rattle.switch_joins.specs.Joins.{joined_with}
@@ -56,6 +58,10 @@ joined_after n f x ls same = joined_kept n x.line x.channel f ls same
 
 pub joined_asked : (p : SwitchChannel) (q : Request) (x : SwitchChannel) (ls : List SwitchLine) → joined_at (ask p q ls) x ≡ joined_at ls x
 joined_asked p q x ls = joined_after p.line _ x ls (λ l. refl)
+
+pub joined_asks : (p : SwitchChannel) (qs : List Request) (x : SwitchChannel) (ls : List SwitchLine) → joined_at (ask_all p qs ls) x ≡ joined_at ls x
+joined_asks p [] x ls = refl
+joined_asks p (q ∷ qs) x ls = joined_asks p qs x (ask p q ls) ∙ joined_asked p q x ls
 
 slot_here : (js : List (Option Joined)) (i : ℕ) (j : Joined) (o : Option Joined) → flat (slice_get js i) ≡ Some j → flat (slice_get (set js i o) i) ≡ o
 slot_here [] i j o e = absurd (none-some j e)
@@ -119,7 +125,7 @@ kept_on_none : (f : Direction → Direction) (c : ℕ) (l : SwitchLine) → nth_
 kept_on_none f c l e =
     ap (λ (o : Option Joined). record l { joined = with_nth_joined l.joined c (joined_with f o) }) e ∙ (λ i. record l { joined = nth_none l.joined c e i })
 
-same_all : {X : Type 0} (n : ℕ) (xs : List X) → changed n (λ x. x) xs ≡ xs
+pub same_all : {X : Type 0} (n : ℕ) (xs : List X) → changed n (λ x. x) xs ≡ xs
 same_all n [] = refl
 same_all zero (x ∷ xs) = refl
 same_all (suc n) (x ∷ xs) = ap (λ ys. x ∷ ys) (same_all n xs)
@@ -161,3 +167,39 @@ joined_apart p o x ls e = by_place (apart_by x p e)
     by_place (inl ne) = ap (λ l. joined_on l x.channel) (get_unchanged p.line x.line _ ls ne)
     by_place (inr h) =
         subst (λ (k : ℕ). joined_on (slice_get (with_joined p o ls) k) x.channel ≡ joined_on (slice_get ls k) x.channel) (sym h.0) (line_apart p.line p.channel x.channel o ls h.1)
+
+-- ---- packet sizes
+
+pub size_changed : (n m : ℕ) (f : SwitchLine → SwitchLine) (ls : List SwitchLine) → ((l : SwitchLine) → (f l).end.layer.flow ≡ l.end.layer.flow)
+    → size_of_line (slice_get (changed n f ls) m) ≡ size_of_line (slice_get ls m)
+size_changed n m f [] same = refl
+size_changed zero zero f (l ∷ ls) same = ap (λ (w : Flow). w.size) (same l)
+size_changed zero (suc m) f (l ∷ ls) same = refl
+size_changed (suc n) zero f (l ∷ ls) same = refl
+size_changed (suc n) (suc m) f (l ∷ ls) same = size_changed n m f ls same
+
+-- the lines of two places have the sizes that they had before
+pub sizes_same : (ls ms : List SwitchLine) (p q : SwitchChannel) → size_of_line (slice_get ms p.line) ≡ size_of_line (slice_get ls p.line)
+    → size_of_line (slice_get ms q.line) ≡ size_of_line (slice_get ls q.line) → sizes_at ms p q ≡ sizes_at ls p q
+sizes_same ls ms p q near far = λ i. record { near = near i; far = far i }
+
+pub sizes_changed : (n : ℕ) (f : SwitchLine → SwitchLine) (ls : List SwitchLine) (p q : SwitchChannel) → ((l : SwitchLine) → (f l).end.layer.flow ≡ l.end.layer.flow)
+    → sizes_at (changed n f ls) p q ≡ sizes_at ls p q
+sizes_changed n f ls p q same = sizes_same ls (changed n f ls) p q (size_changed n p.line f ls same) (size_changed n q.line f ls same)
+
+pub request_flow : (l : Layer) (k : ℕ) (r : Request) → (request l k r).flow ≡ l.flow
+request_flow l k r = by_channel (channel_of l k)
+  where
+    by_channel : (o : Option Channel) → (on_found l k (λ ch. requested l.role l.flow ch r) o).flow ≡ l.flow
+    by_channel None = refl
+    by_channel (Some ch) = refl
+
+pub sizes_asked : (x : SwitchChannel) (r : Request) (ls : List SwitchLine) (p q : SwitchChannel) → sizes_at (ask x r ls) p q ≡ sizes_at ls p q
+sizes_asked x r ls p q = sizes_changed x.line _ ls p q (λ l. request_flow l.end.layer x.channel r)
+
+pub sizes_asks : (x : SwitchChannel) (rs : List Request) (ls : List SwitchLine) (p q : SwitchChannel) → sizes_at (ask_all x rs ls) p q ≡ sizes_at ls p q
+sizes_asks x [] ls p q = refl
+sizes_asks x (r ∷ rs) ls p q = sizes_asks x rs (ask x r ls) p q ∙ sizes_asked x r ls p q
+
+pub sizes_joined : (x : SwitchChannel) (o : Option Joined) (ls : List SwitchLine) (p q : SwitchChannel) → sizes_at (with_joined x o ls) p q ≡ sizes_at ls p q
+sizes_joined x o ls p q = sizes_changed x.line _ ls p q (λ l. refl)

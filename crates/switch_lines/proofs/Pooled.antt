@@ -4,7 +4,7 @@ use Rattle.std.specs.Prelude.{Some, slice_get, ◌&&◌}
 use Rattle.std.specs.List.{list_all}
 use Rattle.std.proofs.lemmas.Option.{same_Some, none-some}
 use Rattle.std.proofs.lemmas.List.{length-map, map-set}
-use Rattle.flow_window.specs.Pool.{Pool, Buffer, IsIn, weight, pooled, Balances}
+use Rattle.flow_window.specs.Pool.{Pool, Buffer, IsIn, weight, pooled, in_use, Balances}
 use Rattle.flow_window.proofs.Weights.{weight_append, weight_ones, held_in, balances_same}
 use Rattle.frame_codec.specs.Spelling.{most_information}
 use Rattle.packet_channel.specs.Held.{Loses}
@@ -13,7 +13,7 @@ use Rattle.number_set.specs.NumberSet.{has, IsFirstOf}
 use Rattle.packet_end.specs.Timing.{TimersAgree}
 use Rattle.packet_end.specs.Pooled.{Serves}
 use Rattle.switch_lines.specs.Lines.{SwitchLine, changed}
-use Rattle.switch_lines.specs.Pooled.{PooledLine, plain, buffers, shares, KeepWithin, ArePooled, on_line}
+use Rattle.switch_lines.specs.Pooled.{Claim, PooledLine, plain, buffers, shares, KeepWithin, ArePooled, on_line}
 use Rattle.switch_lines.specs.Touched.{AreThere, NothingElseIsLeft, IsSettled, IsTaken, changed_in}
 use Rattle.switch_lines.proofs.Changing.{changed_lines, unchanged_lines, there}
 use Rattle.switch_lines.proofs.Touched.{AgreeBut, there_written, timers_written}
@@ -133,20 +133,23 @@ buffers_there w (x ∷ xs) (suc n) p e =
     let all = weight_append w x.held (buffers xs) in
     omega (arith, rest, all)
 
-shares_set : (ps : Pooled) (n : ℕ) (old new : PooledLine) → slice_get ps n ≡ Some old → new.share ≡ old.share →
+shares_set : (ps : Pooled) (n : ℕ) (old new : PooledLine) → slice_get ps n ≡ Some old → new.claim ≡ old.claim →
     shares (set ps n new) ≡ shares ps
 shares_set [] n old new e same = refl
 shares_set (x ∷ xs) zero old new e same =
-    ap (λ k. k + shares xs) (same ∙ ap (λ (p : PooledLine). p.share) (sym (same_Some x old e)))
-shares_set (x ∷ xs) (suc n) old new e same = ap (λ k. x.share + k) (shares_set xs n old new e same)
+    ap (λ k. k + shares xs) (ap (λ (c : Claim). c.share) same ∙ ap (λ (p : PooledLine). p.claim.share) (sym (same_Some x old e)))
+shares_set (x ∷ xs) (suc n) old new e same = ap (λ k. x.claim.share + k) (shares_set xs n old new e same)
 
-within_set : (ps : Pooled) (n : ℕ) (new : PooledLine) → KeepWithin ps → length new.held < new.share →
-    KeepWithin (set ps n new)
-within_set [] n new all fits = tt
-within_set (x ∷ xs) zero new all fits = (fits, all.1)
-within_set (x ∷ xs) (suc n) new all fits = (all.0, within_set xs n new all.1 fits)
+within_set : (size : ℕ) (ps : Pooled) (n : ℕ) (old new : PooledLine) → KeepWithin size ps → slice_get ps n ≡ Some old → new.claim ≡ old.claim → length new.held < new.claim.share →
+    KeepWithin size (set ps n new)
+within_set size [] n old new all e same fits = tt
+within_set size (x ∷ xs) zero old new all e same fits =
+    let info = ap (λ (c : Claim). c.info) same in
+    let there_ = ap (λ (p : PooledLine). p.claim.info) (same_Some x old e) in
+    (fits, omega (arith, info, there_, all.1), all.2)
+within_set size (x ∷ xs) (suc n) old new all e same fits = (all.0, all.1, within_set size xs n old new all.2 e same fits)
 
-count : (bs cs : List Buffer) → length (bs ++ cs) ≡ length bs + length cs
+pub count : (bs cs : List Buffer) → length (bs ++ cs) ≡ length bs + length cs
 count bs cs =
     let parts = weight_append (λ _. 1) bs cs in
     let all = weight_ones (bs ++ cs) in
@@ -154,72 +157,91 @@ count bs cs =
     let second = weight_ones cs in
     omega (arith, parts, all, first, second)
 
-few : (ps : Pooled) → KeepWithin ps → length (buffers ps) ≤ shares ps
-few [] all = omega arith
-few (p ∷ ps) all =
-    let rest = few ps all.1 in
+few : (size : ℕ) (ps : Pooled) → KeepWithin size ps → length (buffers ps) ≤ shares ps
+few size [] all = omega arith
+few size (p ∷ ps) all =
+    let rest = few size ps all.2 in
     let parts = count p.held (buffers ps) in
     omega (arith, rest, parts, all.0)
 
 -- beside what the others hold there is room for the whole share
-room_there : (ps : Pooled) (n : ℕ) (p : PooledLine) → KeepWithin ps → slice_get ps n ≡ Some p →
-    length (buffers ps) + p.share ≤ shares ps + length p.held
-room_there [] n p all e = absurd (none-some p e)
-room_there (x ∷ xs) zero p all e =
+room_there : (size : ℕ) (ps : Pooled) (n : ℕ) (p : PooledLine) → KeepWithin size ps → slice_get ps n ≡ Some p →
+    length (buffers ps) + p.claim.share ≤ shares ps + length p.held
+room_there size [] n p all e = absurd (none-some p e)
+room_there size (x ∷ xs) zero p all e =
     let held = ap (λ (p : PooledLine). length p.held) (same_Some x p e) in
-    let share = ap (λ (p : PooledLine). p.share) (same_Some x p e) in
-    let rest = few xs all.1 in
+    let share = ap (λ (p : PooledLine). p.claim.share) (same_Some x p e) in
+    let rest = few size xs all.2 in
     let parts = count x.held (buffers xs) in
     omega (arith, held, share, rest, parts)
-room_there (x ∷ xs) (suc n) p all e =
-    let rest = room_there xs n p all.1 e in
+room_there size (x ∷ xs) (suc n) p all e =
+    let rest = room_there size xs n p all.2 e in
     let parts = count x.held (buffers xs) in
     omega (arith, rest, parts, all.0)
 
+-- lines that are there leave a buffer
+pub room_left : (pool : Pool) (ps : Pooled) (n : ℕ) → ArePooled pool ps → n < length ps → in_use pool < length pool.places
+room_left pool [] n are less = absurd (omega (arith, less))
+room_left pool (p ∷ ps) n are less =
+    let rest = few pool.size ps are.within.2 in
+    let parts = count p.held (buffers ps) in
+    let exact = are.exact (λ _. 1) in
+    let ones = weight_ones (buffers (p ∷ ps)) in
+    omega (arith, rest, parts, exact, ones, are.within.0, are.places)
+
+pub info_there : (size : ℕ) (ps : Pooled) (n : ℕ) (p : PooledLine) → KeepWithin size ps → slice_get ps n ≡ Some p → p.claim.info ≤ size
+info_there size [] n p all e = absurd (none-some p e)
+info_there size (x ∷ xs) zero p all e = subst (λ (y : PooledLine). y.claim.info ≤ size) (same_Some x p e) all.1
+info_there size (x ∷ xs) (suc n) p all e = info_there size xs n p all.2 e
+
 pub serves : (pool : Pool) (ps : Pooled) (n : ℕ) (p : PooledLine) → ArePooled pool ps → slice_get ps n ≡ Some p →
-    Serves pool p.held p.share
+    Serves pool p.held p.claim.share p.claim.info
 serves pool ps n p are e = record {
-  size = are.size;
+  size_least = info_there pool.size ps n p are.within e;
+  size_most = are.size;
   holds = λ w.
       let there = buffers_there w ps n p e in
       let exact = are.exact w in
       omega (arith, there, exact);
   room =
-      let all = room_there ps n p are.within e in
+      let all = room_there pool.size ps n p are.within e in
       let exact = are.exact (λ _. 1) in
       let ones = weight_ones (buffers ps) in
       omega (arith, all, exact, ones, are.places);
 }
 
 pub serves_one : (pool : Pool) (ps : Pooled) (n : ℕ) (p : PooledLine) → ArePooled pool ps → n < length ps →
-    p ≡ get_or ps n p → Serves pool p.held p.share
+    p ≡ get_or ps n p → Serves pool p.held p.claim.share p.claim.info
 serves_one pool ps n p are less is = serves pool ps n p are (there ps n p less is)
 
 pub serves_got : (pool : Pool) (ps : Pooled) (n : ℕ) (d : PooledLine) → ArePooled pool ps → n < length ps →
-    Serves pool (get_or ps n d).held (get_or ps n d).share
+    Serves pool (get_or ps n d).held (get_or ps n d).claim.share (get_or ps n d).claim.info
 serves_got pool ps n d are less = serves_one pool ps n (get_or ps n d) are less (got_again ps n d less)
 
 -- one line gave buffers back or took some
 pub pooled_set : (before after : Pool) (ps : Pooled) (n : ℕ) (old new : PooledLine) → ArePooled before ps →
-    n < length ps → old ≡ get_or ps n old → Balances before old.held after new.held → new.share ≡ old.share →
-    length new.held < new.share → ArePooled after (set ps n new)
+    n < length ps → old ≡ get_or ps n old → Balances before old.held after new.held → new.claim ≡ old.claim →
+    length new.held < new.claim.share → ArePooled after (set ps n new)
 pooled_set before after ps n old new are less is change same fits =
     let e = there ps n old less is in
     record {
-      size = change.size ∙ are.size;
+      size = subst (λ k. k ≤ most_information) (sym change.size) are.size;
       places = change.places ∙ are.places ∙ sym (shares_set ps n old new e same);
       exact = λ w.
           let own = change.weights w in
           let all = buffers_set w ps n old new e in
           let exact = are.exact w in
           omega (arith, own, all, exact);
-      within = within_set ps n new are.within fits;
+      within = subst (λ k. KeepWithin k (set ps n new)) (sym change.size) (within_set before.size ps n old new are.within e same fits);
     }
 
-fits_there : (ps : Pooled) (n : ℕ) (p : PooledLine) → KeepWithin ps → slice_get ps n ≡ Some p → length p.held < p.share
-fits_there [] n p all e = absurd (none-some p e)
-fits_there (x ∷ xs) zero p all e = subst (λ (p : PooledLine). length p.held < p.share) (same_Some x p e) all.0
-fits_there (x ∷ xs) (suc n) p all e = fits_there xs n p all.1 e
+fits_there : (size : ℕ) (ps : Pooled) (n : ℕ) (p : PooledLine) → KeepWithin size ps → slice_get ps n ≡ Some p → length p.held < p.claim.share
+fits_there size [] n p all e = absurd (none-some p e)
+fits_there size (x ∷ xs) zero p all e = subst (λ (p : PooledLine). length p.held < p.claim.share) (same_Some x p e) all.0
+fits_there size (x ∷ xs) (suc n) p all e = fits_there size xs n p all.2 e
+
+pub fits_one : (pool : Pool) (ps : Pooled) (n : ℕ) (p : PooledLine) → ArePooled pool ps → n < length ps → p ≡ get_or ps n p → length p.held < p.claim.share
+fits_one pool ps n p are less is = fits_there pool.size ps n p are.within (there ps n p less is)
 
 -- one line holds what it held
 pub pooled_same : (pool : Pool) (f : SwitchLine → SwitchLine) (ps : Pooled) (n : ℕ) (old new : PooledLine) →
@@ -228,7 +250,7 @@ pooled_same pool f ps n old new are less is same =
     let e = there ps n old less is in
     subst (λ (p : PooledLine). ArePooled pool (set ps n p)) (sym same)
     (pooled_set pool pool ps n old (on_line f old) are less is (balances_same pool old.held) refl
-    (fits_there ps n old are.within e))
+    (fits_there pool.size ps n old are.within e))
 
 -- ---- many lines change, and hold what they held
 
@@ -236,7 +258,7 @@ abbrev pub one_if : Bool → (SwitchLine → SwitchLine) → PooledLine → Pool
 one_if b f p = if b then on_line f p else p
 
 held_if : (b : Bool) (f : SwitchLine → SwitchLine) (p : PooledLine) →
-    ((one_if b f p).held ≡ p.held) × ((one_if b f p).share ≡ p.share) ×
+    ((one_if b f p).held ≡ p.held) × ((one_if b f p).claim ≡ p.claim) ×
     ((one_if b f p).line ≡ (if b then f p.line else p.line))
 held_if true f p = (refl, refl, refl)
 held_if false f p = (refl, refl, refl)
@@ -254,15 +276,17 @@ buffers_changed s f k (p ∷ ps) = ap₂ (λ bs cs. bs ++ cs) (held_if (has s k)
 shares_changed : (s : NumberSet) (f : SwitchLine → SwitchLine) (k : ℕ) (ps : Pooled) →
     shares (changed_in s (on_line f) k ps) ≡ shares ps
 shares_changed s f k [] = refl
-shares_changed s f k (p ∷ ps) = ap₂ (λ m n. m + n) (held_if (has s k) f p).1 (shares_changed s f (suc k) ps)
+shares_changed s f k (p ∷ ps) = ap₂ (λ (c : Claim) (n : ℕ). c.share + n) (held_if (has s k) f p).1 (shares_changed s f (suc k) ps)
 
-within_changed : (s : NumberSet) (f : SwitchLine → SwitchLine) (k : ℕ) (ps : Pooled) → KeepWithin ps →
-    KeepWithin (changed_in s (on_line f) k ps)
-within_changed s f k [] all = tt
-within_changed s f k (p ∷ ps) all =
+within_changed : (size : ℕ) (s : NumberSet) (f : SwitchLine → SwitchLine) (k : ℕ) (ps : Pooled) → KeepWithin size ps →
+    KeepWithin size (changed_in s (on_line f) k ps)
+within_changed size s f k [] all = tt
+within_changed size s f k (p ∷ ps) all =
     let same = held_if (has s k) f p in
     let held = ap (λ (bs : List Buffer). length bs) same.0 in
-    (omega (arith, all.0, held, same.1), within_changed s f (suc k) ps all.1)
+    let share = ap (λ (c : Claim). c.share) same.1 in
+    let info = ap (λ (c : Claim). c.info) same.1 in
+    (omega (arith, all.0, held, share), omega (arith, all.1, info), within_changed size s f (suc k) ps all.2)
 
 pub pooled_changed : (pool : Pool) (s : NumberSet) (f : SwitchLine → SwitchLine) (ps qs : Pooled) →
     qs ≡ changed_in s (on_line f) 0 ps → ArePooled pool ps → ArePooled pool qs
@@ -270,7 +294,7 @@ pooled_changed pool s f ps qs is are = subst (λ (zs : Pooled). ArePooled pool z
   size = are.size;
   places = are.places ∙ sym (shares_changed s f 0 ps);
   exact = λ w. are.exact w ∙ ap (λ (bs : List Buffer). weight w bs) (sym (buffers_changed s f 0 ps));
-  within = within_changed s f 0 ps are.within;
+  within = within_changed pool.size s f 0 ps are.within;
 })
 
 pub plain_map : (f : SwitchLine → SwitchLine) (ps : Pooled) → plain (map (on_line f) ps) ≡ map f (plain ps)
@@ -283,11 +307,11 @@ buffers_map f (p ∷ ps) = ap (λ bs. p.held ++ bs) (buffers_map f ps)
 
 shares_map : (f : SwitchLine → SwitchLine) (ps : Pooled) → shares (map (on_line f) ps) ≡ shares ps
 shares_map f [] = refl
-shares_map f (p ∷ ps) = ap (λ n. p.share + n) (shares_map f ps)
+shares_map f (p ∷ ps) = ap (λ n. p.claim.share + n) (shares_map f ps)
 
-within_map : (f : SwitchLine → SwitchLine) (ps : Pooled) → KeepWithin ps → KeepWithin (map (on_line f) ps)
-within_map f [] all = tt
-within_map f (p ∷ ps) all = (all.0, within_map f ps all.1)
+within_map : (size : ℕ) (f : SwitchLine → SwitchLine) (ps : Pooled) → KeepWithin size ps → KeepWithin size (map (on_line f) ps)
+within_map size f [] all = tt
+within_map size f (p ∷ ps) all = (all.0, all.1, within_map size f ps all.2)
 
 pub pooled_map : (pool : Pool) (f : SwitchLine → SwitchLine) (ps qs : Pooled) → qs ≡ map (on_line f) ps →
     ArePooled pool ps → ArePooled pool qs
@@ -295,7 +319,7 @@ pooled_map pool f ps qs is are = subst (λ (zs : Pooled). ArePooled pool zs) (sy
   size = are.size;
   places = are.places ∙ sym (shares_map f ps);
   exact = λ w. are.exact w ∙ ap (λ (bs : List Buffer). weight w bs) (sym (buffers_map f ps));
-  within = within_map f ps are.within;
+  within = within_map pool.size f ps are.within;
 })
 
 pub pool_kept : (before after : Pool) (ps : Pooled) → after ≡ before → ArePooled before ps → ArePooled after ps
@@ -331,14 +355,14 @@ same_lines ps qs same = sym (plain_length qs) ∙ same ∙ plain_length ps
 
 -- buffers are in hand: a line handed them out, and no line holds them
 pub record InHand (pool : Pool) (ps : Pooled) (given : List Buffer) : Type 0 where
-  pub size : pool.size ≡ most_information
+  pub size : pool.size ≤ most_information
   pub places : length pool.places ≡ shares ps
   pub exact : (w : Buffer → ℕ) → pooled w pool ≡ weight w (buffers ps) + weight w given
-  pub within : KeepWithin ps
+  pub within : KeepWithin pool.size ps
 
 pub handed_out : (pool : Pool) (ps : Pooled) (n : ℕ) (old new : PooledLine) (given : List Buffer) → ArePooled pool ps →
-    n < length ps → old ≡ get_or ps n old → Loses old.held given new.held → new.share ≡ old.share →
-    length new.held < new.share → InHand pool (set ps n new) given
+    n < length ps → old ≡ get_or ps n old → Loses old.held given new.held → new.claim ≡ old.claim →
+    length new.held < new.claim.share → InHand pool (set ps n new) given
 handed_out pool ps n old new given are less is change same fits =
     let e = there ps n old less is in
     record {
@@ -349,7 +373,7 @@ handed_out pool ps n old new given are less is change same fits =
           let all = buffers_set w ps n old new e in
           let exact = are.exact w in
           omega (arith, own, all, exact);
-      within = within_set ps n new are.within fits;
+      within = within_set pool.size ps n old new are.within e same fits;
     }
 
 pub none_in_hand : (pool : Pool) (ps : Pooled) → InHand pool ps [] → ArePooled pool ps
@@ -366,18 +390,18 @@ is_in_hand pool ps b hand =
 
 pub handed_in : (before after : Pool) (ps : Pooled) (n : ℕ) (old new : PooledLine) (b : Buffer) →
     InHand before ps (b ∷ []) → n < length ps → old ≡ get_or ps n old → Balances before (b ∷ old.held) after new.held →
-    new.share ≡ old.share → length new.held < new.share → ArePooled after (set ps n new)
+    new.claim ≡ old.claim → length new.held < new.claim.share → ArePooled after (set ps n new)
 handed_in before after ps n old new b hand less is change same fits =
     let e = there ps n old less is in
     record {
-      size = change.size ∙ hand.size;
+      size = subst (λ k. k ≤ most_information) (sym change.size) hand.size;
       places = change.places ∙ hand.places ∙ sym (shares_set ps n old new e same);
       exact = λ w.
           let own = change.weights w in
           let all = buffers_set w ps n old new e in
           let exact = hand.exact w in
           omega (arith, own, all, exact);
-      within = within_set ps n new hand.within fits;
+      within = subst (λ k. KeepWithin k (set ps n new)) (sym change.size) (within_set before.size ps n old new hand.within e same fits);
     }
 
 -- ---- what is read of a line

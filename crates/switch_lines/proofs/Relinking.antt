@@ -6,11 +6,11 @@ use Rattle.std.specs.List.{list_any}
 use Rattle.std.proofs.lemmas.Option.{none-some, same_Some}
 use Rattle.link_timers.specs.declared.role.Role.{Role}
 use Rattle.link_timers.specs.declared.role.Role.TheVariants.{Dte, Dce}
+use Rattle.packet_channel.specs.declared.flow.Flow.{Flow}
 use Rattle.lapb.specs.Machine.{can_offer}
 use Rattle.packet_layer.specs.Packets.{Body, CallParts, Note}
 use Rattle.packet_layer.specs.Packets.Note.{Incoming, Connected, Closed, WasReset, InterruptConfirmed, Covered}
 use Rattle.packet_layer.specs.Traffic.{Taken}
-use Rattle.packet_layer.specs.Traffic.Taken.{TakenInterrupt, TakenPacket}
 use Rattle.packet_layer.specs.Channel.{Channel, Step, Request, Refusal, closed_channel, refusal, requested, unless}
 use Rattle.packet_layer.specs.Channel.{carried_out, quiet, passes_limit}
 use Rattle.packet_layer.specs.Channel.Request.{Accept, Clearing, Resetting, Sending, Interrupting, Stopping, Taking}
@@ -24,14 +24,15 @@ use Rattle.address_routes.specs.Routes.{RouteMap}
 use Rattle.switch_joins.specs.Direction.{Direction, releasable}
 use Rattle.switch_lines.specs.Causes.{reset_cause, clear_cause, far_diagnostic}
 use Rattle.switch_joins.specs.declared.channels.SwitchChannel.{SwitchChannel}
-use Rattle.switch_joins.specs.declared.join.Joined.{Joined}
-use Rattle.switch_lines.specs.Lines.{SwitchLine, changed, joined_at, with_joined, ask, front_at, refusal_at, is_trunk}
+use Rattle.switch_joins.specs.Joins.{Joined}
+use Rattle.switch_lines.specs.Lines.{SwitchLine, changed, joined_at, with_joined, ask, ask_all, front_at, sizes_at, takes_at, is_trunk}
 use Rattle.switch_lines.specs.Switch.{Answer, answer, answered, forwarded, place_call, heed, heed_all, with_end}
 use Rattle.switch_lines.specs.Switch.{notes_of, without_notes, quieted, acted, raised, to_relink, relinked_at}
 use Rattle.switch_lines.specs.Switch.{all_relinked, may_offer, offering_from, offered_from}
 use Rattle.switch_lines.specs.Switch.Answer.{Clears, Joins}
 use Rattle.switch_lines.specs.Alone.{relayed_alone, rounds_alone, offered_alone}
-use Rattle.switch_lines.specs.Relay.{carried_by, request_for, freed, kept_anew, covered_on, told_joined, told_of, moved, moved_unless, most_moves, moved_front, moved_joined, relayed, relayed_from, legs_of}
+use Rattle.switch_lines.specs.Relay.{carried_by, due_at, freed, kept_anew, covered_on, told_joined, told_of, moved, moved_if, most_moves, moved_front, moved_joined, relayed, relayed_from, legs_of}
+use Rattle.switch_lines.proofs.Onward.{IsOnward, AreOnward, sends, interrupts, are_onward}
 use Rattle.switch_lines.proofs.Ending.{relinks_no_more}
 use Rattle.switch_lines.proofs.Calmer.{closed_slice}
 
@@ -70,24 +71,24 @@ closed_map chs zero ch e = absurd (none-some ch e)
 closed_map chs (suc k) ch e = closed_slice chs k ch e
 
 -- each request is refused there
-refuses : (role : Role) (q : Request) → requested role closed_channel q ≡ quiet closed_channel
-refuses Dte Accept = refl
-refuses Dce Accept = refl
-refuses role (Clearing cause diagnostic) = refl
-refuses role (Resetting cause diagnostic) = refl
-refuses role (Sending d) = refl
-refuses role (Interrupting octets) = refl
-refuses role (Stopping b) = refl
-refuses role Taking = refl
-refuses role (Releasing n) = refl
-refuses role Confirming = refl
+refuses : (role : Role) (flow : Flow) (q : Request) → requested role flow closed_channel q ≡ quiet closed_channel
+refuses Dte flow Accept = refl
+refuses Dce flow Accept = refl
+refuses role flow (Clearing cause diagnostic) = refl
+refuses role flow (Resetting cause diagnostic) = refl
+refuses role flow (Sending d) = refl
+refuses role flow (Interrupting octets) = refl
+refuses role flow (Stopping b) = refl
+refuses role flow Taking = refl
+refuses role flow (Releasing n) = refl
+refuses role flow Confirming = refl
 
 down_found : (l : Layer) (c : ℕ) (q : Request) (o : Option Channel) → ((ch : Channel) → o ≡ Some ch →
-    ch ≡ closed_channel) → IsDown l → IsDown (on_found l c (λ ch. requested l.role ch q) o)
+    ch ≡ closed_channel) → IsDown l → IsDown (on_found l c (λ ch. requested l.role l.flow ch q) o)
 down_found l c q None is d = d
 down_found l c q (Some ch) is d =
-    subst (λ (x : Channel). IsDown (after_step l c (requested l.role x q))) (sym (is ch refl))
-    (subst (λ (st : Step). IsDown (after_step l c st)) (sym (refuses l.role q))
+    subst (λ (x : Channel). IsDown (after_step l c (requested l.role l.flow x q))) (sym (is ch refl))
+    (subst (λ (st : Step). IsDown (after_step l c st)) (sym (refuses l.role l.flow q))
     (record { asks_not = d.asks_not; phase = d.phase; closed = closed_with l.channels c d.closed }))
 
 down_asked : (l : Layer) (c : ℕ) (q : Request) → IsDown l → IsDown (request l c q)
@@ -307,11 +308,11 @@ abbrev OwesNothing : Request → Type 0
 OwesNothing q = (ch : Channel) → (carried_out ch q).owes ≡ None
 
 request_asks : (l : Layer) (c : ℕ) (q : Request) (o : Option Channel) → OwesNothing q →
-    (on_found l c (λ ch. requested l.role ch q) o).relink ≡ l.relink
+    (on_found l c (λ ch. requested l.role l.flow ch q) o).relink ≡ l.relink
 request_asks l c q None plain = refl
 request_asks l c q (Some ch) plain =
-    ap (λ (b : Option Body). set_if (passes_limit (requested l.role ch q).channel.owed b) l.relink)
-    (unless_owes (refusal l.role ch q) (carried_out ch q) ch (plain ch))
+    ap (λ (b : Option Body). set_if (passes_limit (requested l.role l.flow ch q).channel.owed b) l.relink)
+    (unless_owes (refusal l.role l.flow ch q) (carried_out ch q) ch (plain ch))
 
 asked_asks : (p : SwitchChannel) (q : Request) (ls : List SwitchLine) → OwesNothing q → asks (ask p q ls) ≡ asks ls
 asked_asks p q ls plain = map_unchanged (λ l. l.end.layer.relink) _ p.line ls
@@ -320,21 +321,25 @@ asked_asks p q ls plain = map_unchanged (λ l. l.end.layer.relink) _ p.line ls
 joined_asks : (p : SwitchChannel) (o : Option Joined) (ls : List SwitchLine) → asks (with_joined p o ls) ≡ asks ls
 joined_asks p o ls = map_unchanged (λ l. l.end.layer.relink) _ p.line ls (λ l. refl)
 
-sending_owes : (t : Taken) → OwesNothing (request_for t)
-sending_owes (TakenInterrupt octets) ch = refl
-sending_owes (TakenPacket d) ch = refl
+onward_owes : (q : Request) → IsOnward q → OwesNothing q
+onward_owes _ (sends d) ch = refl
+onward_owes _ (interrupts octets) ch = refl
 
-unless_asks : (r : Option Refusal) (t : Taken) (p : SwitchChannel) (j : Joined) (ls : List SwitchLine) →
-    asks (moved_unless r t p j ls) ≡ asks ls
-unless_asks (Some r) t p j ls = refl
-unless_asks None t p j ls =
-    joined_asks p _ _ ∙ (asked_asks p (Releasing (releasable (carried_by t j.kept).held))
-    (ask j.other (request_for t) (ask p Taking ls)) (λ ch. refl)
-    ∙ (asked_asks j.other (request_for t) (ask p Taking ls) (sending_owes t) ∙ asked_asks p Taking ls (λ ch. refl)))
+onward_asks : (p : SwitchChannel) (qs : List Request) (ls : List SwitchLine) → AreOnward qs → asks (ask_all p qs ls) ≡ asks ls
+onward_asks p [] ls are = refl
+onward_asks p (q ∷ qs) ls are = onward_asks p qs (ask p q ls) are.1 ∙ asked_asks p q ls (onward_owes q are.0)
+
+if_asks : (b : Bool) (t : Taken) (p : SwitchChannel) (j : Joined) (ls : List SwitchLine) → asks (moved_if b t p j ls) ≡ asks ls
+if_asks false t p j ls = refl
+if_asks true t p j ls =
+    let sizes = sizes_at ls p j.other in
+    joined_asks p _ _ ∙ (asked_asks p (Releasing (releasable (carried_by sizes t j.kept).held))
+    (ask_all j.other (due_at ls p j t) (ask p Taking ls)) (λ ch. refl)
+    ∙ (onward_asks j.other (due_at ls p j t) (ask p Taking ls) (are_onward sizes j.kept.gathered t) ∙ asked_asks p Taking ls (λ ch. refl)))
 
 front_asks : (o : Option Taken) (p : SwitchChannel) (j : Joined) (ls : List SwitchLine) → asks (moved_front o p j ls) ≡ asks ls
 front_asks None p j ls = refl
-front_asks (Some t) p j ls = unless_asks (refusal_at ls j.other (request_for t)) t p j ls
+front_asks (Some t) p j ls = if_asks (takes_at ls j.other (due_at ls p j t)) t p j ls
 
 moved_asks : (o : Option Joined) (p : SwitchChannel) (ls : List SwitchLine) → asks (moved_joined o p ls) ≡ asks ls
 moved_asks None p ls = refl

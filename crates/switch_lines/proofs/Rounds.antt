@@ -1,12 +1,12 @@
 -- The relay on all channels, one after the other.
-use Rattle.std.proofs.Common.{◌≡◌, ℕ, zero, suc, ◌+◌, ◌-◌, ◌<◌, ◌≤◌, List, [], ◌∷◌, ◌++◌, map, length, drop, get_or, refl, sym, ap, ap₂, ◌∙◌, arith, Option, Some, None}
+use Rattle.std.proofs.Common.{◌≡◌, ℕ, zero, suc, ◌+◌, ◌-◌, ◌<◌, ◌≤◌, Bool, true, false, List, [], ◌∷◌, ◌++◌, map, length, drop, get_or, refl, sym, ap, ap₂, ◌∙◌, arith, Option, Some, None}
 use Rattle.packet_layer.specs.Traffic.{Taken}
-use Rattle.packet_layer.specs.Channel.{Refusal, Request}
+use Rattle.packet_layer.specs.Channel.{Request}
 use Rattle.packet_layer.specs.Channel.Request.{Taking, Releasing}
 use Rattle.switch_joins.specs.Direction.{releasable}
-use Rattle.switch_lines.specs.Lines.{SwitchChannel, Joined, SwitchLine, changed, joined_at, with_joined, ask, front_at, refusal_at, places_on, places_from}
+use Rattle.switch_lines.specs.Lines.{SwitchChannel, Joined, SwitchLine, changed, joined_at, with_joined, ask, ask_all, front_at, sizes_at, takes_at, places_on, places_from}
 pub use Rattle.switch_lines.specs.OfLine.{places_by}
-use Rattle.switch_lines.specs.Relay.{carried_by, request_for, moved, moved_joined, moved_front, moved_unless, relayed, relayed_from, all_relayed, most_moves}
+use Rattle.switch_lines.specs.Relay.{carried_by, due_at, moved, moved_joined, moved_front, moved_if, relayed, relayed_from, all_relayed, most_moves}
 use Rattle.switch_joins.proofs.Slots.{set_size}
 
 -- how many channels the lines have
@@ -67,14 +67,19 @@ counts_asked p q ls = counts_changed p.line _ ls (λ l. refl)
 pub counts_joined : (p : SwitchChannel) (o : Option Joined) (ls : List SwitchLine) → counts (with_joined p o ls) ≡ counts ls
 counts_joined p o ls = counts_changed p.line _ ls (λ l. set_size l.joined p.channel o)
 
-counts_unless : (r : Option Refusal) (t : Taken) (p : SwitchChannel) (j : Joined) (ls : List SwitchLine) → counts (moved_unless r t p j ls) ≡ counts ls
-counts_unless (Some r) t p j ls = refl
-counts_unless None t p j ls =
-    counts_joined p _ _ ∙ (counts_asked p (Releasing (releasable (carried_by t j.kept).held)) (ask j.other (request_for t) (ask p Taking ls)) ∙ (counts_asked j.other (request_for t) (ask p Taking ls) ∙ counts_asked p Taking ls))
+counts_asks : (p : SwitchChannel) (qs : List Request) (ls : List SwitchLine) → counts (ask_all p qs ls) ≡ counts ls
+counts_asks p [] ls = refl
+counts_asks p (q ∷ qs) ls = counts_asks p qs (ask p q ls) ∙ counts_asked p q ls
+
+counts_if : (b : Bool) (t : Taken) (p : SwitchChannel) (j : Joined) (ls : List SwitchLine) → counts (moved_if b t p j ls) ≡ counts ls
+counts_if false t p j ls = refl
+counts_if true t p j ls =
+    counts_joined p _ _ ∙ (counts_asked p (Releasing (releasable (carried_by (sizes_at ls p j.other) t j.kept).held)) (ask_all j.other (due_at ls p j t) (ask p Taking ls))
+    ∙ (counts_asks j.other (due_at ls p j t) (ask p Taking ls) ∙ counts_asked p Taking ls))
 
 counts_front : (o : Option Taken) (p : SwitchChannel) (j : Joined) (ls : List SwitchLine) → counts (moved_front o p j ls) ≡ counts ls
 counts_front None p j ls = refl
-counts_front (Some t) p j ls = counts_unless (refusal_at ls j.other (request_for t)) t p j ls
+counts_front (Some t) p j ls = counts_if (takes_at ls j.other (due_at ls p j t)) t p j ls
 
 counts_moved : (o : Option Joined) (p : SwitchChannel) (ls : List SwitchLine) → counts (moved_joined o p ls) ≡ counts ls
 counts_moved None p ls = refl

@@ -1,5 +1,5 @@
 -- What is left to relay on the lines of a switch, after each call.
-use Rattle.std.proofs.Common.{◌≡◌, ℕ, zero, suc, ◌+◌, ◌<◌, ◌≤◌, ◌⊎◌, inl, inr, Bool, true, false, not, ◌&&◌, if◌then◌else◌, List, [], ◌∷◌, map, length, set, get_or, Option, Some, None, is_some, option_map, refl, sym, ap, ap₂, subst, ◌∙◌, true≢false, arith}
+use Rattle.std.proofs.Common.{◌≡◌, ℕ, zero, suc, ◌+◌, ◌<◌, ◌≤◌, ◌⊎◌, inl, inr, Bool, true, false, not, ◌&&◌, if◌then◌else◌, List, [], ◌∷◌, map, length, set, get_or, Option, Some, None, option_map, refl, sym, ap, ap₂, subst, ◌∙◌, true≢false, arith}
 use Rattle.std.specs.Prelude.{slice_get}
 use Rattle.std.proofs.lemmas.Bool.{cases_eq, eq-eqb}
 use Rattle.std.proofs.lemmas.Option.{none-some, same_Some}
@@ -7,62 +7,84 @@ use Rattle.link_timers.specs.declared.role.Role.{Role}
 use Rattle.number_set.specs.declared.NumberSet.{NumberSet}
 use Rattle.number_set.specs.NumberSet as numbers
 use Rattle.packet_layer.specs.Traffic.{Taken}
-use Rattle.packet_layer.specs.Channel.{Request, Refusal}
+use Rattle.packet_channel.specs.declared.flow.Flow.{Flow}
+use Rattle.packet_layer.specs.Channel.{Channel, Request, requested}
 use Rattle.packet_layer.specs.Channel.Request.{Taking, Releasing}
-use Rattle.packet_layer.specs.Layer.{channel_of, request_refusal}
+use Rattle.packet_layer.specs.Layer.{Layer, channel_of}
 use Rattle.packet_layer.specs.Layer as machine
-use Rattle.packet_end.specs.PacketEnd.{PacketEnd, asked, all_offered}
+use Rattle.packet_end.specs.PacketEnd.{asked, all_offered}
 use Rattle.switch_joins.specs.ChannelSet.{has, is_small}
 use Rattle.switch_joins.specs.declared.channel_set.ChannelSet.{ChannelSet}
 use Rattle.switch_joins.specs.Direction.{Direction, releasable, released}
-use Rattle.switch_lines.specs.Lines.{SwitchChannel, Joined, SwitchLine, same_place, changed, flat, nth_joined, with_nth_joined, joined_on, joined_at, ask, front_at, front_of_line, refusal_at, refusal_of_line}
+use Rattle.switch_lines.specs.Lines.{SwitchChannel, Joined, SwitchLine, same_place, changed, flat, nth_joined, with_nth_joined, joined_on, joined_at, with_joined, ask, ask_all, front_at, front_of_line, size_of_line, sizes_at, takes_at, takes_on_line, takes_on_channel}
 use Rattle.switch_lines.specs.OfLine.{kept_on, released_if, freed_on}
 use Rattle.switch_joins.specs.Joins.{joined_with}
-use Rattle.switch_lines.specs.Relay.{request_for, carried_by, moved, moved_joined, moved_front, moved_unless, relayed, relayed_from, both_legs, most_moves}
+use Rattle.switch_lines.specs.Relay.{requests_for, due_at, carried_by, moved, moved_joined, moved_front, moved_if, relayed, relayed_from, both_legs, most_moves}
 use Rattle.switch_lines.specs.Switch.{with_end}
 use Rattle.switch_lines.specs.Touched.{changed_in}
 use Rattle.switch_lines.specs.Waiting.{other_at, IsStuck, IsHeldBack, AreHeldBack, NothingElseMoves}
-use Rattle.switch_lines.proofs.Calmer.{same_layer, IsCalm, IsRelay, takes, sends, releases, sending_calm, releasing_calm, request_apart, relay_refused, all_offered_front}
+use Rattle.switch_lines.proofs.Calmer.{same_layer, IsCalm, IsRelay, takes, onward, releases, onward_calm, releasing_calm, request_apart, relay_takes, all_offered_front, all_offered_flow}
+use Rattle.switch_lines.proofs.Onward.{IsOnward, AreOnward, are_onward}
 use Rattle.switch_lines.proofs.Changing.{there}
-use Rattle.switch_lines.proofs.Legs.{to_unless}
+use Rattle.switch_joins.specs.Turning.{Sizes, Gathered}
+use Rattle.switch_joins.proofs.Slots.{nth_apart}
 use Rattle.switch_joins.proofs.Apart.{decided, place_is}
 use Rattle.switch_joins.proofs.ChannelSets.{and_not_no, IsApart}
 use Rattle.switch_lines.proofs.Relaying.{relayed_stays}
 use Rattle.switch_lines.proofs.Touched.{written_other, others_same}
-use Rattle.switch_lines.proofs.Places.{get_unchanged}
+use Rattle.switch_lines.proofs.Places.{get_unchanged, joined_asked, joined_asks, joined_apart, sizes_same, sizes_asked, sizes_asks, sizes_joined, request_flow}
 
 abbrev Lines : Type 0
 Lines = List SwitchLine
 
 -- ---- one channel of lines
 
--- nothing waits first there that did not before, and what it refused it still refuses
+still_false : (a b : Bool) → (b ≡ true → a ≡ true) → a ≡ false → b ≡ false
+still_false a true more e = absurd (true≢false (sym (more refl) ∙ e))
+still_false a false more e = refl
+
+-- where a join leads, and what is gathered of it
+abbrev pub leads : Option Joined → Option (SwitchChannel × Gathered)
+leads o = option_map (λ (j : Joined). (j.other, j.kept.gathered)) o
+
+-- nothing waits first there that did not before, what it takes it took before, and what it makes of a packet is the same
 pub record IsCalmAt (ls ms : Lines) (x : SwitchChannel) : Type 0 where
-  pub other : other_at ms x ≡ other_at ls x
+  pub leads : leads (joined_at ms x) ≡ leads (joined_at ls x)
   pub front : (t : Taken) → front_at ms x ≡ Some t → front_at ls x ≡ Some t
-  pub refused : (t : Taken) → is_some (refusal_at ls x (request_for t)) ≡ true → is_some (refusal_at ms x (request_for t)) ≡ true
+  pub takes : (qs : List Request) → AreOnward qs → takes_at ms x qs ≡ true → takes_at ls x qs ≡ true
+  pub size : size_of_line (slice_get ms x.line) ≡ size_of_line (slice_get ls x.line)
+
+to_of : (o p : Option Joined) → leads p ≡ leads o → option_map (λ (j : Joined). j.other) p ≡ option_map (λ (j : Joined). j.other) o
+to_of None None e = refl
+to_of None (Some k) e = absurd (none-some (k.other, k.kept.gathered) (sym e))
+to_of (Some j) None e = absurd (none-some (j.other, j.kept.gathered) e)
+to_of (Some j) (Some k) e = ap (λ (x : SwitchChannel × Gathered). Some x.0) (same_Some (k.other, k.kept.gathered) (j.other, j.kept.gathered) e)
+
+pub calm_other : (ls ms : Lines) (x : SwitchChannel) → IsCalmAt ls ms x → other_at ms x ≡ other_at ls x
+calm_other ls ms x i = to_of (joined_at ls x) (joined_at ms x) i.leads
 
 pub same_at : (ls ms : Lines) (x : SwitchChannel) → slice_get ms x.line ≡ slice_get ls x.line → IsCalmAt ls ms x
 same_at ls ms x e = record {
-  other = ap (λ (o : Option SwitchLine). option_map (λ (j : Joined). j.other) (joined_on o x.channel)) e;
+  leads = ap (λ (o : Option SwitchLine). leads (joined_on o x.channel)) e;
   front = λ t f. sym (ap (λ (o : Option SwitchLine). front_of_line o x.channel) e) ∙ f;
-  refused = λ t f. ap (λ (o : Option SwitchLine). is_some (refusal_of_line o x.channel (request_for t))) e ∙ f;
+  takes = λ qs are f. sym (ap (λ (o : Option SwitchLine). takes_on_line o x.channel qs) e) ∙ f;
+  size = ap size_of_line e;
 }
 
 pub line_calm : (ls ms : Lines) (x : SwitchChannel) (l m : SwitchLine) → slice_get ls x.line ≡ Some l → slice_get ms x.line ≡ Some m
-    → option_map (λ (j : Joined). j.other) (nth_joined m.joined x.channel) ≡ option_map (λ (j : Joined). j.other) (nth_joined l.joined x.channel)
+    → leads (nth_joined m.joined x.channel) ≡ leads (nth_joined l.joined x.channel)
     → IsCalm l.end.layer m.end.layer x.channel → IsCalmAt ls ms x
 line_calm ls ms x l m old new same i = record {
-  other = ap (λ (o : Option SwitchLine). option_map (λ (j : Joined). j.other) (joined_on o x.channel)) new ∙ same
-      ∙ sym (ap (λ (o : Option SwitchLine). option_map (λ (j : Joined). j.other) (joined_on o x.channel)) old);
+  leads = ap (λ (o : Option SwitchLine). leads (joined_on o x.channel)) new ∙ same
+      ∙ sym (ap (λ (o : Option SwitchLine). leads (joined_on o x.channel)) old);
   front = λ t f. ap (λ (o : Option SwitchLine). front_of_line o x.channel) old
       ∙ i.channel.front t (sym (ap (λ (o : Option SwitchLine). front_of_line o x.channel) new) ∙ f);
-  refused = λ t f.
-      let before : is_some (request_refusal l.end.layer x.channel (request_for t)) ≡ true =
-      sym (ap (λ (o : Option SwitchLine). is_some (refusal_of_line o x.channel (request_for t))) old) ∙ f in
-      ap (λ (o : Option SwitchLine). is_some (refusal_of_line o x.channel (request_for t))) new
-      ∙ ap (λ (r : Role). is_some (machine.refusal_at r (request_for t) (channel_of m.end.layer x.channel))) i.role
-      ∙ i.channel.refused t before;
+  takes = λ qs are f.
+      let after : takes_on_channel m.end.layer.role m.end.layer.flow (channel_of m.end.layer x.channel) qs ≡ true =
+      sym (ap (λ (o : Option SwitchLine). takes_on_line o x.channel qs) new) ∙ f in
+      ap (λ (o : Option SwitchLine). takes_on_line o x.channel qs) old
+      ∙ i.channel.takes qs are (sym (ap₂ (λ (r : Role) (w : Flow). takes_on_channel r w (channel_of m.end.layer x.channel) qs) i.role i.flow) ∙ after);
+  size = ap size_of_line new ∙ ap (λ (w : Flow). w.size) i.flow ∙ sym (ap size_of_line old);
 }
 
 -- ---- one line changes
@@ -79,7 +101,7 @@ none_changed_there f (suc n) (y ∷ ys) e = none_changed_there f n ys e
 
 -- a line is changed, and its channel is calm
 changed_calm : (n : ℕ) (f : SwitchLine → SwitchLine) (ls : Lines) (x : SwitchChannel)
-    → ((l : SwitchLine) → x.line ≡ n → (option_map (λ (j : Joined). j.other) (nth_joined (f l).joined x.channel) ≡ option_map (λ (j : Joined). j.other) (nth_joined l.joined x.channel)) × IsCalm l.end.layer (f l).end.layer x.channel)
+    → ((l : SwitchLine) → x.line ≡ n → (leads (nth_joined (f l).joined x.channel) ≡ leads (nth_joined l.joined x.channel)) × IsCalm l.end.layer (f l).end.layer x.channel)
     → IsCalmAt ls (changed n f ls) x
 changed_calm n f ls x calm = by_line (cases_eq x.line n)
   where
@@ -101,7 +123,7 @@ got_written (x ∷ xs) (suc n) y h = got_written xs n y (omega (arith, h))
 
 -- a line is written, and its channel is calm
 pub written_calm : (xs : Lines) (n : ℕ) (old new : SwitchLine) (x : SwitchChannel) → n < length xs → old ≡ get_or xs n old
-    → (x.line ≡ n → (option_map (λ (j : Joined). j.other) (nth_joined new.joined x.channel) ≡ option_map (λ (j : Joined). j.other) (nth_joined old.joined x.channel)) × IsCalm old.end.layer new.end.layer x.channel)
+    → (x.line ≡ n → (leads (nth_joined new.joined x.channel) ≡ leads (nth_joined old.joined x.channel)) × IsCalm old.end.layer new.end.layer x.channel)
     → IsCalmAt xs (set xs n new) x
 written_calm xs n old new x within is calm = by_line (cases_eq x.line n)
   where
@@ -127,7 +149,7 @@ written_others xs n old new x within is same = by_line (cases_eq x.line n)
 
 -- many lines change, each of whose channels is calm
 pub map_calm : (f : SwitchLine → SwitchLine) (ls : Lines) (x : SwitchChannel)
-    → ((l : SwitchLine) → (option_map (λ (j : Joined). j.other) (nth_joined (f l).joined x.channel) ≡ option_map (λ (j : Joined). j.other) (nth_joined l.joined x.channel)) × IsCalm l.end.layer (f l).end.layer x.channel)
+    → ((l : SwitchLine) → (leads (nth_joined (f l).joined x.channel) ≡ leads (nth_joined l.joined x.channel)) × IsCalm l.end.layer (f l).end.layer x.channel)
     → IsCalmAt ls (map f ls) x
 map_calm f ls x calm = by_line (slice_get ls x.line) refl
   where
@@ -161,7 +183,7 @@ changed_past s f k zero (y ∷ ys) e = absurd (none-some y (sym e))
 changed_past s f k (suc i) (y ∷ ys) e = changed_past s f (suc k) i ys e
 
 pub some_calm : (s : NumberSet) (f : SwitchLine → SwitchLine) (ls : Lines) (x : SwitchChannel)
-    → ((l : SwitchLine) → (option_map (λ (j : Joined). j.other) (nth_joined (f l).joined x.channel) ≡ option_map (λ (j : Joined). j.other) (nth_joined l.joined x.channel)) × IsCalm l.end.layer (f l).end.layer x.channel)
+    → ((l : SwitchLine) → (leads (nth_joined (f l).joined x.channel) ≡ leads (nth_joined l.joined x.channel)) × IsCalm l.end.layer (f l).end.layer x.channel)
     → IsCalmAt ls (changed_in s f 0 ls) x
 some_calm s f ls x calm = by_line (slice_get ls x.line) refl
   where
@@ -174,29 +196,40 @@ some_calm s f ls x calm = by_line (slice_get ls x.line) refl
     by_line (Some l) e = either (numbers.has s (0 + x.line)) l e (changed_at s f 0 x.line ls l e)
 
 -- what is kept of a direction changes
-kept_slot : (f : Direction → Direction) (js : List (Option Joined)) (i k : ℕ)
-    → option_map (λ (j : Joined). j.other) (flat (slice_get (set js i (joined_with f (flat (slice_get js i)))) k)) ≡ option_map (λ (j : Joined). j.other) (flat (slice_get js k))
-kept_slot f [] i k = refl
-kept_slot f (None ∷ js) zero zero = refl
-kept_slot f (Some j ∷ js) zero zero = refl
-kept_slot f (o ∷ js) zero (suc k) = refl
-kept_slot f (o ∷ js) (suc i) zero = refl
-kept_slot f (o ∷ js) (suc i) (suc k) = kept_slot f js i k
+kept_slot : {X : Type 0} (g : Joined → X) (f : Direction → Direction) (js : List (Option Joined)) (i k : ℕ)
+    → ((j : Joined) → flat (slice_get js i) ≡ Some j → g (record j { kept = f j.kept }) ≡ g j)
+    → option_map g (flat (slice_get (set js i (joined_with f (flat (slice_get js i)))) k)) ≡ option_map g (flat (slice_get js k))
+kept_slot g f [] i k same = refl
+kept_slot g f (None ∷ js) zero zero same = refl
+kept_slot g f (Some j ∷ js) zero zero same = ap Some (same j refl)
+kept_slot g f (o ∷ js) zero (suc k) same = refl
+kept_slot g f (o ∷ js) (suc i) zero same = refl
+kept_slot g f (o ∷ js) (suc i) (suc k) same = kept_slot g f js i k same
+
+kept_nth : {X : Type 0} (g : Joined → X) (f : Direction → Direction) (js : List (Option Joined)) (c d : ℕ)
+    → ((j : Joined) → nth_joined js c ≡ Some j → g (record j { kept = f j.kept }) ≡ g j)
+    → option_map g (nth_joined (with_nth_joined js c (joined_with f (nth_joined js c))) d) ≡ option_map g (nth_joined js d)
+kept_nth g f js zero d same = refl
+kept_nth g f js (suc i) zero same = refl
+kept_nth g f js (suc i) (suc k) same = kept_slot g f js i k same
 
 pub kept_other : (f : Direction → Direction) (js : List (Option Joined)) (c d : ℕ)
     → option_map (λ (j : Joined). j.other) (nth_joined (with_nth_joined js c (joined_with f (nth_joined js c))) d) ≡ option_map (λ (j : Joined). j.other) (nth_joined js d)
-kept_other f js zero d = refl
-kept_other f js (suc i) zero = refl
-kept_other f js (suc i) (suc k) = kept_slot f js i k
+kept_other f js c d = kept_nth (λ j. j.other) f js c d (λ j e. refl)
+
+-- what is gathered stays
+pub kept_leads : (f : Direction → Direction) (js : List (Option Joined)) (c d : ℕ) → ((j : Joined) → nth_joined js c ≡ Some j → (f j.kept).gathered ≡ j.kept.gathered)
+    → leads (nth_joined (with_nth_joined js c (joined_with f (nth_joined js c))) d) ≡ leads (nth_joined js d)
+kept_leads f js c d same = kept_nth (λ j. (j.other, j.kept.gathered)) f js c d (λ j e. ap (λ (g : Gathered). (j.other, g)) (same j e))
 
 pub freed_calm : (c : ℕ) (l : SwitchLine) (d : ℕ)
-    → (option_map (λ (j : Joined). j.other) (nth_joined (freed_on c l).joined d) ≡ option_map (λ (j : Joined). j.other) (nth_joined l.joined d)) × IsCalm l.end.layer (freed_on c l).end.layer d
+    → (leads (nth_joined (freed_on c l).joined d) ≡ leads (nth_joined l.joined d)) × IsCalm l.end.layer (freed_on c l).end.layer d
 freed_calm c l d = by_join (nth_joined l.joined c)
   where
-    by_join : (o : Option Joined) → (option_map (λ (j : Joined). j.other) (nth_joined (released_if o c (kept_on c released l)).joined d) ≡ option_map (λ (j : Joined). j.other) (nth_joined l.joined d))
+    by_join : (o : Option Joined) → (leads (nth_joined (released_if o c (kept_on c released l)).joined d) ≡ leads (nth_joined l.joined d))
         × IsCalm l.end.layer (released_if o c (kept_on c released l)).end.layer d
-    by_join None = (kept_other released l.joined c d, same_layer l.end.layer d)
-    by_join (Some j) = (kept_other released l.joined c d, releasing_calm l.end.layer c d (releasable j.kept.held))
+    by_join None = (kept_leads released l.joined c d (λ j e. refl), same_layer l.end.layer d)
+    by_join (Some j) = (kept_leads released l.joined c d (λ j e. refl), releasing_calm l.end.layer c d (releasable j.kept.held))
 
 -- a slot is written
 slot_set : (js : List (Option Joined)) (i : ℕ) (o : Option Joined) (j : Joined) → flat (slice_get (set js i o) i) ≡ Some j → (o ≡ Some j) × (i < length js)
@@ -210,29 +243,56 @@ nth_set js (suc i) o j e = let more = slot_set js i o j e in (more.0, omega (ari
 
 -- ---- what is left to relay
 
+-- what is made due at a calm channel, whose other leg is calm too
+due_calm : (ls ms : Lines) (x : SwitchChannel) (j k : Joined) (t : Taken) → IsCalmAt ls ms x → IsCalmAt ls ms j.other
+    → joined_at ls x ≡ Some j → joined_at ms x ≡ Some k → (k.other ≡ j.other) × (due_at ms x k t ≡ due_at ls x j t)
+due_calm ls ms x j k t here there old new =
+    let both = same_Some (k.other, k.kept.gathered) (j.other, j.kept.gathered) (sym (ap leads new) ∙ here.leads ∙ ap leads old) in
+    let to = ap (λ (y : SwitchChannel × Gathered). y.0) both in (
+      to,
+      ap₂ (λ (s : Sizes) (g : Gathered). requests_for s g t) (ap (λ (q : SwitchChannel). sizes_at ms x q) to ∙ sizes_same ls ms x j.other here.size there.size)
+          (ap (λ (y : SwitchChannel × Gathered). y.1) both),
+    )
+
+-- so what was not taken is not
+not_taken : (ls ms : Lines) (x : SwitchChannel) (j k : Joined) (t : Taken) → IsCalmAt ls ms x → IsCalmAt ls ms j.other
+    → joined_at ls x ≡ Some j → joined_at ms x ≡ Some k → takes_at ls j.other (due_at ls x j t) ≡ false → takes_at ms k.other (due_at ms x k t) ≡ false
+not_taken ls ms x j k t here there old new refused =
+    let same = due_calm ls ms x j k t here there old new in
+    let due = due_at ls x j t in
+    ap₂ (λ (q : SwitchChannel) (qs : List Request). takes_at ms q qs) same.0 same.1
+    ∙ still_false (takes_at ls j.other due) (takes_at ms j.other due) (there.takes due (are_onward (sizes_at ls x j.other) j.kept.gathered t)) refused
+
 -- what was held back still is
-still_held : (r : ChannelSet) (ls ms : Lines) (p q : SwitchChannel) → IsCalmAt ls ms p → IsCalmAt ls ms q → AreHeldBack r ls p q → AreHeldBack r ms p q
-still_held r ls ms p q a b h = (b.other ∙ h.0, held p q a b h.1, held q p b a h.2)
+still_held : (r : ChannelSet) (ls ms : Lines) (p q : SwitchChannel) → other_at ls p ≡ Some q → IsCalmAt ls ms p → IsCalmAt ls ms q → AreHeldBack r ls p q → AreHeldBack r ms p q
+still_held r ls ms p q to a b h = (calm_other ls ms q b ∙ h.0, held p q to a b h.1, held q p h.0 b a h.2)
   where
-    held : (x y : SwitchChannel) → IsCalmAt ls ms x → IsCalmAt ls ms y → IsHeldBack r ls x y → IsHeldBack r ms x y
-    held x y c d k v e = let old = k v (c.front v e) in (d.refused v old.0, old.1)
+    held : (x y : SwitchChannel) → other_at ls x ≡ Some y → IsCalmAt ls ms x → IsCalmAt ls ms y → IsHeldBack r ls x y → IsHeldBack r ms x y
+    held x y e c d h k t new f = by_join (joined_at ls x) refl
+      where
+        by_join : (o : Option Joined) → joined_at ls x ≡ o → (takes_at ms k.other (due_at ms x k t) ≡ false) × (has r y ≡ true)
+        by_join None old = absurd (none-some y (sym (ap (λ (o : Option Joined). option_map (λ (j : Joined). j.other) o) old) ∙ e))
+        by_join (Some j) old =
+            let before = h j t old (c.front t f) in
+            let to : j.other ≡ y = same_Some j.other y (sym (ap (λ (o : Option Joined). option_map (λ (j : Joined). j.other) o) old) ∙ e) in
+            (not_taken ls ms x j k t c (subst (λ (z : SwitchChannel). IsCalmAt ls ms z) (sym to) d) old new before.0, before.1)
 
 -- nothing new is to be relayed
 pub calm_kept : (s r : ChannelSet) (ls ms : Lines) → ((x : SwitchChannel) → IsCalmAt ls ms x) → NothingElseMoves s r ls → NothingElseMoves s r ms
 calm_kept s r ls ms calm i = record {
-  small = λ p q e. i.small p q (sym (calm p).other ∙ e);
-  waits = λ p q e out. still_held r ls ms p q (calm p) (calm q) (i.waits p q (sym (calm p).other ∙ e) out);
+  small = λ p q e. i.small p q (sym (calm_other ls ms p (calm p)) ∙ e);
+  waits = λ p q e out. let before = sym (calm_other ls ms p (calm p)) ∙ e in still_held r ls ms p q before (calm p) (calm q) (i.waits p q before out);
 }
 
 -- some lines change, or all do, and all channels are calm
 pub some_kept : (s r : ChannelSet) (t : NumberSet) (f : SwitchLine → SwitchLine) (ls ms : Lines) → ms ≡ changed_in t f 0 ls
-    → ((l : SwitchLine) (d : ℕ) → (option_map (λ (j : Joined). j.other) (nth_joined (f l).joined d) ≡ option_map (λ (j : Joined). j.other) (nth_joined l.joined d)) × IsCalm l.end.layer (f l).end.layer d)
+    → ((l : SwitchLine) (d : ℕ) → (leads (nth_joined (f l).joined d) ≡ leads (nth_joined l.joined d)) × IsCalm l.end.layer (f l).end.layer d)
     → NothingElseMoves s r ls → NothingElseMoves s r ms
 some_kept s r t f ls ms is calm i =
     subst (λ (ks : Lines). NothingElseMoves s r ks) (sym is) (calm_kept s r ls (changed_in t f 0 ls) (λ x. some_calm t f ls x (λ l. calm l x.channel)) i)
 
 pub all_kept : (s r : ChannelSet) (f : SwitchLine → SwitchLine) (ls ms : Lines) → ms ≡ map f ls
-    → ((l : SwitchLine) (d : ℕ) → (option_map (λ (j : Joined). j.other) (nth_joined (f l).joined d) ≡ option_map (λ (j : Joined). j.other) (nth_joined l.joined d)) × IsCalm l.end.layer (f l).end.layer d)
+    → ((l : SwitchLine) (d : ℕ) → (leads (nth_joined (f l).joined d) ≡ leads (nth_joined l.joined d)) × IsCalm l.end.layer (f l).end.layer d)
     → NothingElseMoves s r ls → NothingElseMoves s r ms
 all_kept s r f ls ms is calm i =
     subst (λ (ks : Lines). NothingElseMoves s r ks) (sym is) (calm_kept s r ls (map f ls) (λ x. map_calm f ls x (λ l. calm l x.channel)) i)
@@ -260,7 +320,7 @@ touched_kept s t r ls ms x o is touches same calm i = record {
       let a = touches p out in
       let h = i.waits p q before a.0 in
       let b = legs_apart s r ls x o p q i is before h.0 a.1 in
-      still_held r ls ms p q (by_place p (i.small p q before) b.0 (decided (same_place p x))) (by_place q (i.small q p h.0) b.1 (decided (same_place q x))) h;
+      still_held r ls ms p q before (by_place p (i.small p q before) b.0 (decided (same_place p x))) (by_place q (i.small q p h.0) b.1 (decided (same_place q x))) h;
 }
   where
     by_place : (y : SwitchChannel) → is_small y ≡ true → (y ≡ x → ⊥) → (same_place y x ≡ true) ⊎ (same_place y x ≡ false) → IsCalmAt ls ms y
@@ -280,7 +340,7 @@ joined_kept s t r ls ms x o touches calm new i = record {
     small : (p q : SwitchChannel) → other_at ms p ≡ Some q → (same_place p x ≡ true) ⊎ (same_place p x ≡ false) → is_small p ≡ true
     small p q e (inl here) =
         let at = place_is p x here in ap is_small at ∙ (new q (sym (ap (λ z. other_at ms z) at) ∙ e)).1
-    small p q e (inr apart) = i.small p q (sym (calm p apart).other ∙ e)
+    small p q e (inr apart) = i.small p q (sym (calm_other ls ms p (calm p apart)) ∙ e)
 
     waits : (p q : SwitchChannel) → other_at ms p ≡ Some q → (has s p ≡ false) × IsApart p x (other_at ls x) × IsApart p x o
         → (same_place p x ≡ true) ⊎ (same_place p x ≡ false) → (same_place q x ≡ true) ⊎ (same_place q x ≡ false) → AreHeldBack r ms p q
@@ -290,12 +350,12 @@ joined_kept s t r ls ms x o touches calm new i = record {
         let apart : IsApart p x (Some q) = subst (λ (v : Option SwitchChannel). IsApart p x v) n.0 a.2 in
         absurd (apart.0 n.1 at)
     waits p q e a (inr apart) (inl here) =
-        let before = sym (calm p apart).other ∙ e in
+        let before = sym (calm_other ls ms p (calm p apart)) ∙ e in
         let back = sym (ap (λ z. other_at ls z) (place_is q x here)) ∙ (i.waits p q before a.0).0 in
         let other : IsApart p x (Some p) = subst (λ (v : Option SwitchChannel). IsApart p x v) back a.1 in
         absurd (other.1 (i.small p q before) refl)
     waits p q e a (inr apart) (inr away) =
-        still_held r ls ms p q (calm p apart) (calm q away) (i.waits p q (sym (calm p apart).other ∙ e) a.0)
+        let before = sym (calm_other ls ms p (calm p apart)) ∙ e in still_held r ls ms p q before (calm p apart) (calm q away) (i.waits p q before a.0)
 
 -- both legs of a join are stuck: it is not to be relayed any more
 pub stopped : (s t r u : ChannelSet) (ls : Lines) (p q : SwitchChannel) → other_at ls p ≡ Some q → other_at ls q ≡ Some p → IsStuck ls p → IsStuck ls q
@@ -305,13 +365,13 @@ pub stopped : (s t r u : ChannelSet) (ls : Lines) (p q : SwitchChannel) → othe
 stopped s t r u ls p q to back here there known_there known_here more out_of i = record { small = i.small; waits = λ x y e out. by_place x y e (out_of x out) }
   where
     grown : (x y : SwitchChannel) → IsHeldBack r ls x y → IsHeldBack u ls x y
-    grown x y h v e = let old = h v e in (old.0, more y old.1)
+    grown x y h j v at e = let old = h j v at e in (old.0, more y old.1)
 
     onward : IsHeldBack u ls p q
-    onward v e = (here q v to e, known_there v e)
+    onward j v at e = (here j v at e, known_there v e)
 
     backward : IsHeldBack u ls q p
-    backward v e = (there p v back e, known_here v e)
+    backward j v at e = (there j v at e, known_here v e)
 
     by_place : (x y : SwitchChannel) → other_at ls x ≡ Some y → (has s x ≡ false) ⊎ (x ≡ p) ⊎ (x ≡ q) → AreHeldBack u ls x y
     by_place x y e (inl old) = let h = i.waits x y e old in (h.0, grown x y h.1, grown y x h.2)
@@ -341,13 +401,9 @@ none_joined s r ls none = record { small = λ p q e. absurd (none p q e); waits 
 pub stuck_unmoved : (ls : Lines) (p : SwitchChannel) → IsStuck ls p → moved p ls ≡ ls
 stuck_unmoved ls p stuck = by_join (joined_at ls p) refl
   where
-    by_refusal : (o : Option Refusal) (t : Taken) (j : Joined) → is_some o ≡ true → moved_unless o t p j ls ≡ ls
-    by_refusal None t j e = absurd (true≢false (sym e))
-    by_refusal (Some r) t j e = refl
-
     by_front : (o : Option Taken) (j : Joined) → joined_at ls p ≡ Some j → front_at ls p ≡ o → moved_front o p j ls ≡ ls
     by_front None j e f = refl
-    by_front (Some t) j e f = by_refusal (refusal_at ls j.other (request_for t)) t j (stuck j.other t (ap (λ (o : Option Joined). option_map (λ (k : Joined). k.other) o) e) f)
+    by_front (Some t) j e f = ap (λ (b : Bool). moved_if b t p j ls) (stuck j t e f)
 
     by_join : (o : Option Joined) → joined_at ls p ≡ o → moved p ls ≡ ls
     by_join None e = ap (λ (o : Option Joined). moved_joined o p ls) e
@@ -358,90 +414,130 @@ stuck_unrelayed ls p most stuck = relayed_stays most p ls (stuck_unmoved ls p st
 
 -- ---- a move makes no other channel less stuck
 
+pub place_same : (p x : SwitchChannel) → p.line ≡ x.line → p.channel ≡ x.channel → same_place p x ≡ true
+place_same p x e f = ap₂ (λ (a b : Bool). a && b) (eq-eqb p.line x.line e) (eq-eqb p.channel x.channel f)
+
 asked_apart : (x : SwitchChannel) (r : Request) (ls : Lines) (p : SwitchChannel) → same_place p x ≡ false → IsCalmAt ls (ask x r ls) p
 asked_apart x r ls p apart =
     changed_calm x.line (λ l. record l { end = asked l.end x.channel r }) ls p
     (λ l same. (refl, request_apart l.end.layer x.channel p.channel r (λ e. true≢false (sym (place_same p x same e) ∙ apart))))
-  where
-    place_same : (p x : SwitchChannel) → p.line ≡ x.line → p.channel ≡ x.channel → same_place p x ≡ true
-    place_same p x e f = ap₂ (λ (a b : Bool). a && b) (eq-eqb p.line x.line e) (eq-eqb p.channel x.channel f)
 
-sent_calm : (x : SwitchChannel) (t : Taken) (ls : Lines) (p : SwitchChannel) → IsCalmAt ls (ask x (request_for t) ls) p
-sent_calm x t ls p =
-    changed_calm x.line (λ l. record l { end = asked l.end x.channel (request_for t) }) ls p (λ l same. (refl, sending_calm l.end.layer x.channel p.channel t))
+onward_calm_at : (x : SwitchChannel) (q : Request) (ls : Lines) (p : SwitchChannel) → IsOnward q → IsCalmAt ls (ask x q ls) p
+onward_calm_at x q ls p i =
+    changed_calm x.line (λ l. record l { end = asked l.end x.channel q }) ls p (λ l same. (refl, onward_calm l.end.layer x.channel p.channel q i))
+
+calm_twice : (ls ks ms : Lines) (p : SwitchChannel) → IsCalmAt ls ks p → IsCalmAt ks ms p → IsCalmAt ls ms p
+calm_twice ls ks ms p a b = record {
+  leads = b.leads ∙ a.leads;
+  front = λ t e. a.front t (b.front t e);
+  takes = λ qs are e. a.takes qs are (b.takes qs are e);
+  size = b.size ∙ a.size;
+}
+
+sent_calm : (x : SwitchChannel) (qs : List Request) (ls : Lines) (p : SwitchChannel) → AreOnward qs → IsCalmAt ls (ask_all x qs ls) p
+sent_calm x [] ls p are = same_at ls ls p refl
+sent_calm x (q ∷ qs) ls p are = calm_twice ls (ask x q ls) (ask_all x qs (ask x q ls)) p (onward_calm_at x q ls p are.0) (sent_calm x qs (ask x q ls) p are.1)
 
 released_calm : (x : SwitchChannel) (n : ℕ) (ls : Lines) (p : SwitchChannel) → IsCalmAt ls (ask x (Releasing n) ls) p
 released_calm x n ls p =
     changed_calm x.line (λ l. record l { end = asked l.end x.channel (Releasing n) }) ls p (λ l same. (refl, releasing_calm l.end.layer x.channel p.channel n))
 
+request_role : (l : Layer) (k : ℕ) (r : Request) → (machine.request l k r).role ≡ l.role
+request_role l k r = by_channel (channel_of l k)
+  where
+    by_channel : (o : Option Channel) → (machine.on_found l k (λ ch. requested l.role l.flow ch r) o).role ≡ l.role
+    by_channel None = refl
+    by_channel (Some ch) = refl
+
 -- what is taken leaves what is refused
-refused_line : (n c : ℕ) (q : Taken) (r : Request) (x : SwitchChannel) (ls : Lines) → IsRelay r
-    → is_some (refusal_of_line (slice_get ls n) c (request_for q)) ≡ true → is_some (refusal_of_line (slice_get (ask x r ls) n) c (request_for q)) ≡ true
-refused_line n c q r x ls i e = by_line (cases_eq n x.line)
+taken_line : (n c : ℕ) (qs : List Request) (r : Request) (x : SwitchChannel) (ls : Lines) → IsRelay r → AreOnward qs
+    → takes_on_line (slice_get (ask x r ls) n) c qs ≡ true → takes_on_line (slice_get ls n) c qs ≡ true
+taken_line n c qs r x ls i are = by_line (cases_eq n x.line)
   where
     f : SwitchLine → SwitchLine
     f l = record l { end = asked l.end x.channel r }
 
-    here : (o : Option SwitchLine) → slice_get ls x.line ≡ o → n ≡ x.line → is_some (refusal_of_line (slice_get (ask x r ls) n) c (request_for q)) ≡ true
-    here None is same =
-        ap (λ (o : Option SwitchLine). is_some (refusal_of_line o c (request_for q))) (ap (λ k. slice_get (ask x r ls) k) same ∙ none_changed_there f x.line ls is ∙ sym (ap (λ k. slice_get ls k) same)) ∙ e
-    here (Some l) is same =
-        ap (λ (o : Option SwitchLine). is_some (refusal_of_line o c (request_for q))) (ap (λ k. slice_get (ask x r ls) k) same ∙ got_changed f x.line ls l is)
-        ∙ relay_refused l.end.layer x.channel c q r i (sym (ap (λ (o : Option SwitchLine). is_some (refusal_of_line o c (request_for q))) (ap (λ k. slice_get ls k) same ∙ is)) ∙ e)
+    here : (o : Option SwitchLine) → slice_get ls x.line ≡ o → n ≡ x.line → takes_on_line (slice_get (ask x r ls) n) c qs ≡ true → takes_on_line (slice_get ls n) c qs ≡ true
+    here None is same e =
+        sym (ap (λ (o : Option SwitchLine). takes_on_line o c qs) (ap (λ k. slice_get (ask x r ls) k) same ∙ none_changed_there f x.line ls is ∙ sym (ap (λ k. slice_get ls k) same))) ∙ e
+    here (Some l) is same e =
+        ap (λ (o : Option SwitchLine). takes_on_line o c qs) (ap (λ k. slice_get ls k) same ∙ is)
+        ∙ relay_takes l.end.layer x.channel c qs r i are
+        (sym (ap (λ (w : Flow). takes_on_channel l.end.layer.role w (channel_of (f l).end.layer c) qs) (request_flow l.end.layer x.channel r))
+        ∙ sym (ap (λ (w : Role). takes_on_channel w (f l).end.layer.flow (channel_of (f l).end.layer c) qs) (request_role l.end.layer x.channel r))
+        ∙ sym (ap (λ (o : Option SwitchLine). takes_on_line o c qs) (ap (λ k. slice_get (ask x r ls) k) same ∙ got_changed f x.line ls l is)) ∙ e)
 
-    by_line : (n ≡ x.line) ⊎ (n ≡ x.line → ⊥) → is_some (refusal_of_line (slice_get (ask x r ls) n) c (request_for q)) ≡ true
-    by_line (inl same) = here (slice_get ls x.line) refl same
-    by_line (inr apart) = ap (λ (o : Option SwitchLine). is_some (refusal_of_line o c (request_for q))) (get_unchanged x.line n f ls apart) ∙ e
+    by_line : (n ≡ x.line) ⊎ (n ≡ x.line → ⊥) → takes_on_line (slice_get (ask x r ls) n) c qs ≡ true → takes_on_line (slice_get ls n) c qs ≡ true
+    by_line (inl same) e = here (slice_get ls x.line) refl same e
+    by_line (inr apart) e = sym (ap (λ (o : Option SwitchLine). takes_on_line o c qs) (get_unchanged x.line n f ls apart)) ∙ e
+
+taken_first : (x : SwitchChannel) (p : SwitchChannel) (qs : List Request) (r : Request) (ls : Lines) → IsRelay r → AreOnward qs → takes_at (ask x r ls) p qs ≡ true → takes_at ls p qs ≡ true
+taken_first x p qs r ls i are e = taken_line p.line p.channel qs r x ls i are e
 
 -- a join that changes leaves all else
-joins_front : (n : ℕ) (f : SwitchLine → SwitchLine) (ls : Lines) (m c : ℕ) → ((l : SwitchLine) → (f l).end ≡ l.end)
-    → front_of_line (slice_get (changed n f ls) m) c ≡ front_of_line (slice_get ls m) c
-joins_front n f [] m c same = refl
-joins_front zero f (l ∷ ls) zero c same = ap (λ (e : PacketEnd). machine.front_on e.layer c) (same l)
-joins_front zero f (l ∷ ls) (suc m) c same = refl
-joins_front (suc n) f (l ∷ ls) zero c same = refl
-joins_front (suc n) f (l ∷ ls) (suc m) c same = joins_front n f ls m c same
+joins_calm : (p : SwitchChannel) (o : Option Joined) (ls : Lines) (x : SwitchChannel) → same_place x p ≡ false → IsCalmAt ls (with_joined p o ls) x
+joins_calm p o ls x apart =
+    changed_calm p.line (λ l. record l { joined = with_nth_joined l.joined p.channel o }) ls x
+    (λ l same. (ap leads (nth_apart l.joined p.channel x.channel o (λ e. true≢false (sym (place_same x p same e) ∙ apart))), same_layer l.end.layer x.channel))
 
-joins_refusal : (n : ℕ) (f : SwitchLine → SwitchLine) (ls : Lines) (m c : ℕ) (r : Request) → ((l : SwitchLine) → (f l).end ≡ l.end)
-    → refusal_of_line (slice_get (changed n f ls) m) c r ≡ refusal_of_line (slice_get ls m) c r
-joins_refusal n f [] m c r same = refl
-joins_refusal zero f (l ∷ ls) zero c r same = ap (λ (e : PacketEnd). request_refusal e.layer c r) (same l)
-joins_refusal zero f (l ∷ ls) (suc m) c r same = refl
-joins_refusal (suc n) f (l ∷ ls) zero c r same = refl
-joins_refusal (suc n) f (l ∷ ls) (suc m) c r same = joins_refusal n f ls m c r same
+joins_take : (p : SwitchChannel) (o : Option Joined) (ls : Lines) (x : SwitchChannel) (qs : List Request) → takes_at (with_joined p o ls) x qs ≡ takes_at ls x qs
+joins_take p o ls x qs = on_lines p.line x.line ls
+  where
+    on_lines : (n m : ℕ) (ks : Lines) → takes_on_line (slice_get (changed n (λ l. record l { joined = with_nth_joined l.joined p.channel o }) ks) m) x.channel qs ≡ takes_on_line (slice_get ks m) x.channel qs
+    on_lines n m [] = refl
+    on_lines zero zero (l ∷ ks) = refl
+    on_lines zero (suc m) (l ∷ ks) = refl
+    on_lines (suc n) zero (l ∷ ks) = refl
+    on_lines (suc n) (suc m) (l ∷ ks) = on_lines n m ks
 
 -- what a move makes of a channel that is stuck and another than that which is moved
-moved_apart : (x : SwitchChannel) (j : Joined) (t : Taken) (ls : Lines) (p : SwitchChannel) → joined_at ls x ≡ Some j → same_place p x ≡ false
-    → IsStuck ls p → IsStuck (moved_unless None t x j ls) p
-moved_apart x j t ls p e apart stuck q u to f =
+moved_apart : (x : SwitchChannel) (j : Joined) (t : Taken) (ls : Lines) (p : SwitchChannel) → same_place p x ≡ false → IsStuck ls p → IsStuck (moved_if true t x j ls) p
+moved_apart x j t ls p apart stuck k u at f =
+    let sizes = sizes_at ls x j.other in
+    let v = carried_by sizes t j.kept in
+    let due = due_at ls x j t in
+    let are = are_onward sizes j.kept.gathered t in
     let ks = ask x Taking ls in
-    let bs = ask j.other (request_for t) ks in
-    let n = releasable (carried_by t j.kept).held in
+    let bs = ask_all j.other due ks in
+    let n = releasable v.held in
     let ds = ask x (Releasing n) bs in
-    let ms = moved_unless None t x j ls in
-    let old_to : other_at ls p ≡ Some q = sym (to_unless None t x j ls p e) ∙ to in
-    let in_ds : front_at ds p ≡ Some u = sym (joins_front x.line _ ds p.line p.channel (λ l. refl)) ∙ f in
-    let old_front : front_at ls p ≡ Some u = (asked_apart x Taking ls p apart).front u ((sent_calm j.other t ks p).front u ((released_calm x n bs p).front u in_ds)) in
-    let refused = stuck q u old_to old_front in
-    ap is_some (joins_refusal x.line _ ds q.line q.channel (request_for u) (λ l. refl))
-    ∙ refused_line q.line q.channel u (Releasing n) x bs (releases n)
-    (refused_line q.line q.channel u (request_for t) j.other ks (sends t) (refused_line q.line q.channel u Taking x ls takes refused))
+    let ms = moved_if true t x j ls in
+    let calm = calm_twice ls ks ms p (asked_apart x Taking ls p apart) (calm_twice ks bs ms p (sent_calm j.other due ks p are)
+    (calm_twice bs ds ms p (released_calm x n bs p) (joins_calm x (Some (record j { kept = released v })) ds p apart))) in
+    let before : joined_at ls p ≡ Some k =
+    sym (joined_apart x (Some (record j { kept = released v })) p ds apart ∙ joined_asked x (Releasing n) p bs ∙ joined_asks j.other due p ks ∙ joined_asked x Taking p ls) ∙ at in
+    let same : due_at ms p k u ≡ due_at ls p k u =
+    ap (λ (s : Sizes). requests_for s k.kept.gathered u)
+    (sizes_joined x (Some (record j { kept = released v })) ds p k.other ∙ sizes_asked x (Releasing n) bs p k.other ∙ sizes_asks j.other due ks p k.other ∙ sizes_asked x Taking ls p k.other) in
+    let qs = due_at ls p k u in
+    let passed = are_onward (sizes_at ls p k.other) k.kept.gathered u in
+    ap (λ (rs : List Request). takes_at ms k.other rs) same
+    ∙ still_false (takes_at ls k.other qs) (takes_at ms k.other qs)
+    (λ e. taken_first x k.other qs Taking ls takes passed
+    (all_taken_first j.other k.other qs due ks are passed
+    (taken_first x k.other qs (Releasing n) bs (releases n) passed (sym (joins_take x (Some (record j { kept = released v })) ds k.other qs) ∙ e))))
+    (stuck k u before (calm.front u f))
+  where
+    all_taken_first : (y z : SwitchChannel) (qs rs : List Request) (ks : Lines) → AreOnward rs → AreOnward qs → takes_at (ask_all y rs ks) z qs ≡ true → takes_at ks z qs ≡ true
+    all_taken_first y z qs [] ks are passed e = e
+    all_taken_first y z qs (r ∷ rs) ks are passed e =
+        taken_first y z qs r ks (onward are.0) passed (all_taken_first y z qs rs (ask y r ks) are.1 passed e)
 
 pub moved_stuck : (x p : SwitchChannel) (ls : Lines) → IsStuck ls p → IsStuck (moved x ls) p
 moved_stuck x p ls stuck = by_join (joined_at ls x) refl
   where
-    by_refusal : (o : Option Refusal) (t : Taken) (j : Joined) → joined_at ls x ≡ Some j → front_at ls x ≡ Some t → refusal_at ls j.other (request_for t) ≡ o
-        → (same_place p x ≡ true) ⊎ (same_place p x ≡ false) → IsStuck (moved_unless o t x j ls) p
-    by_refusal (Some r) t j e f is place = stuck
-    by_refusal None t j e f is (inr apart) = moved_apart x j t ls p e apart stuck
-    by_refusal None t j e f is (inl here) =
+    by_test : (b : Bool) (t : Taken) (j : Joined) → joined_at ls x ≡ Some j → front_at ls x ≡ Some t → takes_at ls j.other (due_at ls x j t) ≡ b
+        → (same_place p x ≡ true) ⊎ (same_place p x ≡ false) → IsStuck (moved_if b t x j ls) p
+    by_test false t j e f is place = stuck
+    by_test true t j e f is (inr apart) = moved_apart x j t ls p apart stuck
+    by_test true t j e f is (inl here) =
         let at = place_is p x here in
-        absurd (true≢false (sym (ap is_some (sym is) ∙ stuck j.other t
-        (ap (λ z. other_at ls z) at ∙ ap (λ (o : Option Joined). option_map (λ (k : Joined). k.other) o) e) (ap (λ z. front_at ls z) at ∙ f))))
+        absurd (true≢false (sym is ∙ subst (λ (y : SwitchChannel). takes_at ls j.other (due_at ls y j t) ≡ false) at
+        (stuck j t (ap (λ z. joined_at ls z) at ∙ e) (ap (λ z. front_at ls z) at ∙ f))))
 
     by_front : (o : Option Taken) (j : Joined) → joined_at ls x ≡ Some j → front_at ls x ≡ o → IsStuck (moved_front o x j ls) p
     by_front None j e f = stuck
-    by_front (Some t) j e f = by_refusal (refusal_at ls j.other (request_for t)) t j e f refl (decided (same_place p x))
+    by_front (Some t) j e f = by_test (takes_at ls j.other (due_at ls x j t)) t j e f refl (decided (same_place p x))
 
     by_join : (o : Option Joined) → joined_at ls x ≡ o → IsStuck (moved_joined (joined_at ls x) x ls) p
     by_join None e = subst (λ (o : Option Joined). IsStuck (moved_joined o x ls) p) (sym e) stuck
@@ -456,10 +552,7 @@ relayed_stuck (suc most) x p ls stuck = relayed_stuck most x p (moved x ls) (mov
 pub held_stuck : (s r : ChannelSet) (ls : Lines) (p q : SwitchChannel) → NothingElseMoves s r ls → other_at ls p ≡ Some q → has s p ≡ false
     → IsStuck ls p × IsStuck ls q
 held_stuck s r ls p q i e out =
-    let h = i.waits p q e out in (
-      λ z t to front. subst (λ (y : SwitchChannel). is_some (refusal_at ls y (request_for t)) ≡ true) (same_Some q z (sym e ∙ to)) (h.1 t front).0,
-      λ z t to front. subst (λ (y : SwitchChannel). is_some (refusal_at ls y (request_for t)) ≡ true) (same_Some p z (sym h.0 ∙ to)) (h.2 t front).0,
-    )
+    let h = i.waits p q e out in (λ j t at front. (h.1 j t at front).0, λ j t at front. (h.2 j t at front).0)
 
 pub unmoved_join : (s r : ChannelSet) (ls : Lines) (p : SwitchChannel) → NothingElseMoves s r ls → has s p ≡ false
     → relayed_from (both_legs (joined_at ls p) p) ls ≡ ls
@@ -491,14 +584,29 @@ offered_front s ls p = by_line (slice_get ls p.line) refl
         ap (λ (o : Option SwitchLine). front_of_line o p.channel) (changed_at s (with_end all_offered) 0 p.line ls l e)
         ∙ either_front (numbers.has s (0 + p.line)) l p.channel ∙ sym (ap (λ (o : Option SwitchLine). front_of_line o p.channel) e)
 
-pub offered_other : (s : NumberSet) (ls : Lines) (p : SwitchChannel) → other_at (changed_in s (with_end all_offered) 0 ls) p ≡ other_at ls p
-offered_other s ls p = ap (λ (o : Option Joined). option_map (λ (j : Joined). j.other) o) (by_line (slice_get ls p.line) refl)
+offered_joined : (s : NumberSet) (ls : Lines) (p : SwitchChannel) → joined_at (changed_in s (with_end all_offered) 0 ls) p ≡ joined_at ls p
+offered_joined s ls p = by_line (slice_get ls p.line) refl
   where
     by_line : (o : Option SwitchLine) → slice_get ls p.line ≡ o → joined_at (changed_in s (with_end all_offered) 0 ls) p ≡ joined_at ls p
     by_line None e = ap (λ (o : Option SwitchLine). joined_on o p.channel) (changed_past s (with_end all_offered) 0 p.line ls e ∙ sym e)
     by_line (Some l) e =
         ap (λ (o : Option SwitchLine). joined_on o p.channel) (changed_at s (with_end all_offered) 0 p.line ls l e)
         ∙ either_joined (numbers.has s (0 + p.line)) l p.channel ∙ sym (ap (λ (o : Option SwitchLine). joined_on o p.channel) e)
+
+pub offered_other : (s : NumberSet) (ls : Lines) (p : SwitchChannel) → other_at (changed_in s (with_end all_offered) 0 ls) p ≡ other_at ls p
+offered_other s ls p = ap (λ (o : Option Joined). option_map (λ (j : Joined). j.other) o) (offered_joined s ls p)
+
+offered_size : (s : NumberSet) (ls : Lines) (n : ℕ) → size_of_line (slice_get (changed_in s (with_end all_offered) 0 ls) n) ≡ size_of_line (slice_get ls n)
+offered_size s ls n = by_line (slice_get ls n) refl
+  where
+    either : (b : Bool) (l : SwitchLine) → size_of_line (Some (if b then with_end all_offered l else l)) ≡ l.end.layer.flow.size
+    either true l = ap (λ (w : Flow). w.size) (all_offered_flow l.end)
+    either false l = refl
+
+    by_line : (o : Option SwitchLine) → slice_get ls n ≡ o → size_of_line (slice_get (changed_in s (with_end all_offered) 0 ls) n) ≡ size_of_line (slice_get ls n)
+    by_line None e = ap size_of_line (changed_past s (with_end all_offered) 0 n ls e ∙ sym e)
+    by_line (Some l) e =
+        ap size_of_line (changed_at s (with_end all_offered) 0 n ls l e) ∙ either (numbers.has s (0 + n)) l ∙ sym (ap size_of_line e)
 
 pub offered_kept : (s r : ChannelSet) (t : NumberSet) (ls ms : Lines) → ms ≡ changed_in t (with_end all_offered) 0 ls
     → ((x : SwitchChannel) → is_small x ≡ true → numbers.has t x.line ≡ true → has r x ≡ false) → NothingElseMoves s r ls → NothingElseMoves s r ms
@@ -507,19 +615,31 @@ offered_kept s r t ls ms is none i = subst (λ (ks : Lines). NothingElseMoves s 
   waits = λ p q e out.
       let there = sym (offered_other t ls p) ∙ e in
       let h = i.waits p q there out in
-      (offered_other t ls q ∙ h.0, held p q (i.small q p h.0) h.1, held q p (i.small p q there) h.2);
+      (offered_other t ls q ∙ h.0, held p q there (i.small q p h.0) h.1, held q p h.0 (i.small p q there) h.2);
 })
   where
-    by_line : (q : SwitchChannel) (u : Taken) → is_small q ≡ true → has r q ≡ true → (numbers.has t q.line ≡ true) ⊎ (numbers.has t q.line ≡ false)
-        → is_some (refusal_at ls q (request_for u)) ≡ true → is_some (refusal_at (changed_in t (with_end all_offered) 0 ls) q (request_for u)) ≡ true
-    by_line q u small known (inl there_) e = absurd (true≢false (sym known ∙ none q small there_))
-    by_line q u small known (inr away) e =
+    after : Lines
+    after = changed_in t (with_end all_offered) 0 ls
+
+    by_line : (q : SwitchChannel) (qs : List Request) → is_small q ≡ true → has r q ≡ true → (numbers.has t q.line ≡ true) ⊎ (numbers.has t q.line ≡ false)
+        → takes_at ls q qs ≡ false → takes_at after q qs ≡ false
+    by_line q qs small known (inl there_) e = absurd (true≢false (sym known ∙ none q small there_))
+    by_line q qs small known (inr away) e =
         let here : q.line ≡ 0 + q.line = omega arith in
-        ap (λ (o : Option SwitchLine). is_some (refusal_of_line o q.channel (request_for u)))
+        ap (λ (o : Option SwitchLine). takes_on_line o q.channel qs)
         (others_same t (with_end all_offered) 0 q.line ls (sym (ap (λ n. numbers.has t n) here) ∙ away)) ∙ e
 
-    held : (p q : SwitchChannel) → is_small q ≡ true → IsHeldBack r ls p q → IsHeldBack r (changed_in t (with_end all_offered) 0 ls) p q
-    held p q small h u e = let old = h u (sym (offered_front t ls p) ∙ e) in (by_line q u small old.1 (decided (numbers.has t q.line)) old.0, old.1)
+    held : (p q : SwitchChannel) → other_at ls p ≡ Some q → is_small q ≡ true → IsHeldBack r ls p q → IsHeldBack r after p q
+    held p q to small h j u at e =
+        let joined = sym (offered_joined t ls p) ∙ at in
+        let old = h j u joined (sym (offered_front t ls p) ∙ e) in
+        let there_ : j.other ≡ q = same_Some j.other q (sym (ap (λ (o : Option Joined). option_map (λ (k : Joined). k.other) o) joined) ∙ to) in
+        let same : due_at after p j u ≡ due_at ls p j u =
+        ap (λ (s : Sizes). requests_for s j.kept.gathered u) (sizes_same ls after p j.other (offered_size t ls p.line) (offered_size t ls j.other.line)) in (
+          ap (λ (qs : List Request). takes_at after j.other qs) same
+              ∙ by_line j.other (due_at ls p j u) (ap is_small there_ ∙ small) (ap (λ (x : SwitchChannel). has r x) there_ ∙ old.1) (decided (numbers.has t j.other.line)) old.0,
+          old.1,
+        )
 
 -- a channel that refused is looked at again
 pub looked_at : (s t r u : ChannelSet) (ls : Lines) (x : SwitchChannel) → ((p : SwitchChannel) → has t p ≡ false → (has s p ≡ false) × IsApart p x (other_at ls x))
@@ -538,4 +658,4 @@ looked_at s t r u ls x touches removes i = record {
     still q apart (inr f) known = removes q ∙ ap₂ (λ (a b : Bool). a && not (is_small x && b)) known f ∙ and_not_no true (is_small x)
 
     held : (p q : SwitchChannel) → (q ≡ x → ⊥) → IsHeldBack r ls p q → IsHeldBack u ls p q
-    held p q apart h v e = let old = h v e in (old.0, still q apart (decided (same_place q x)) old.1)
+    held p q apart h j v at e = let old = h j v at e in (old.0, still q apart (decided (same_place q x)) old.1)

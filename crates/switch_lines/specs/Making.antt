@@ -1,6 +1,6 @@
 -- How a switch is made.
-use Rattle.std.specs.Prelude.{◌≡◌, ℕ, ◌+◌, ◌≤◌, false, List, [], ◌∷◌, length, map, replicate, slice_get, Some, None}
-use Rattle.packet_end.specs.Params.{AreParams}
+use Rattle.std.specs.Prelude.{◌≡◌, ℕ, ◌+◌, ◌≤◌, max, false, List, [], ◌∷◌, length, map, replicate, slice_get, Some, None}
+use Rattle.packet_end.specs.Params.{AreParams, info_of}
 use Rattle.packet_end.specs.PacketEnd as end
 use Rattle.packet_end.specs.Pooled.{share_with}
 use Rattle.packet_end.specs.declared.fault.EndFault.{EndFault}
@@ -33,10 +33,19 @@ made_line c = record {
   joined = replicate c.params.channels None;
 }
 
--- the shares that lines have of the switch's pool, together
+-- the share that a line has of the switch's pool: that of its end, and one buffer for each channel, for what is gathered
+-- from there; and the shares of lines together
+abbrev pub line_share : SwitchLineConfig → ℕ
+line_share c = share_with c.params + c.params.channels
+
 abbrev pub shares_with : List SwitchLineConfig → ℕ
 shares_with [] = 0
-shares_with (c ∷ cs) = share_with c.params + shares_with cs
+shares_with (c ∷ cs) = line_share c + shares_with cs
+
+-- the most octets that a buffer of lines has to hold
+abbrev pub greatest_info : List SwitchLineConfig → ℕ
+greatest_info [] = 0
+greatest_info (c ∷ cs) = max (info_of c.params.flow) (greatest_info cs)
 
 abbrev pub made : RouteMap → List SwitchLineConfig → Switch
 made routes lines = record { routes = routes; lines = map made_line lines }

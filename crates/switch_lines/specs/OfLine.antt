@@ -1,19 +1,24 @@
 -- What becomes of one line where something of a joined channel changes.
-use Rattle.std.specs.Prelude.{◌≡◌, ℕ, zero, suc, ◌≤◌, Bool, false, nat_lt, List, [], ◌∷◌, length, slice_get}
-use Rattle.std.specs.Prelude.{Option, Some, None}
-use Rattle.packet_channel.specs.declared.taken.Front.{Front}
-use Rattle.packet_channel.specs.declared.taken.Front.TheVariants as front
-use Rattle.packet_layer.specs.Layer.{room}
-use Rattle.packet_layer.specs.Interrupting.{may_interrupt}
+use Rattle.std.specs.Prelude.{◌≡◌, ℕ, zero, suc, ◌≤◌, Bool, true, false, List, [], ◌∷◌, length, map}
+use Rattle.std.specs.Prelude.{slice_get, Option, Some, None}
 use Rattle.packet_layer.specs.Packets.{Note}
 use Rattle.packet_layer.specs.Traffic.{Taken}
 use Rattle.packet_layer.specs.Traffic.Taken.{TakenInterrupt, TakenPacket}
+use Rattle.packet_layer.specs.Channel.{Request}
 use Rattle.packet_layer.specs.Channel.Request.{Releasing, Interrupting, Sending, Taking}
 use Rattle.packet_end.specs.PacketEnd.{asked}
+use Rattle.switch_joins.specs.Turning.{Sizes, Gathered, turned}
 use Rattle.switch_joins.specs.Direction.{Direction, releasable, released, carried}
-use Rattle.switch_joins.specs.Joins.{with_nth_kept}
-use Rattle.switch_lines.specs.Lines.{SwitchChannel, Joined, SwitchLine, nth_joined, changed, ask}
+use Rattle.switch_joins.specs.Joins.{gathered_by, with_nth_kept}
+use Rattle.switch_lines.specs.Lines.{SwitchChannel, Joined, SwitchLine, nth_joined, changed, ask, ask_all, joined_at}
+use Rattle.switch_lines.specs.Lines.{front_at, sizes_at, takes_at}
+use Rattle.switch_lines.specs.Relay.{requests_for}
 use Rattle.switch_lines.specs.Switch.{notes_of}
+
+-- this is asked of a channel, one after the other
+abbrev pub asked_on : (channel : ℕ) → List Request → SwitchLine → SwitchLine
+asked_on c [] l = l
+asked_on c (q ∷ qs) l = asked_on c qs (record l { end = asked l.end c q })
 
 -- the direction from a joined channel is changed
 abbrev pub kept_on : (channel : ℕ) → (Direction → Direction) → SwitchLine → SwitchLine
@@ -35,37 +40,36 @@ kept_at p f ls = changed p.line (kept_on p.channel f) ls
 abbrev pub freed_at : SwitchChannel → List SwitchLine → List SwitchLine
 freed_at p ls = changed p.line (freed_on p.channel) ls
 
--- whether what waits first on another channel would be taken to be sent on this one, if it is not too long
-abbrev pub taken_on_line : Front → (channel : ℕ) → SwitchLine → Bool
-taken_on_line front.Interrupt c l = may_interrupt l.end.layer c
-taken_on_line (front.«Data» length more qualified delivery) c l = nat_lt 0 (room l.end.layer c)
-
-abbrev pub taken_on : Option SwitchLine → (channel : ℕ) → Front → Bool
-taken_on None c f = false
-taken_on (Some l) c f = taken_on_line f c l
-
-abbrev pub is_taken : List SwitchLine → SwitchChannel → Front → Bool
-is_taken ls p f = taken_on (slice_get ls p.line) p.channel f
-
 -- ---- what is taken on a joined channel
 
--- it is not too long to be sent on
+-- an interrupt has 1 to 32 octets
 abbrev pub Fits : Taken → Type 0
 Fits (TakenInterrupt octets) = (1 ≤ length octets) × (length octets ≤ 32)
-Fits (TakenPacket d) = length d.octets ≤ 128
+Fits (TakenPacket d) = Unit {0}
 
--- it is asked of the other leg, and what may be released is
-abbrev pub passed_on : Taken → (p q : SwitchChannel) → List SwitchLine → List SwitchLine
-passed_on (TakenInterrupt octets) p q ls = ask q (Interrupting octets) ls
-passed_on (TakenPacket d) p q ls = kept_at p (carried d.delivery) (ask q (Sending d) ls)
+-- what it makes due on q
+abbrev pub made_due : List SwitchLine → (p q : SwitchChannel) → Taken → List Request
+made_due ls p q t = requests_for (sizes_at ls p q) (gathered_by (joined_at ls p)) t
 
-abbrev pub sent_on : Taken → (p q : SwitchChannel) → List SwitchLine → List SwitchLine
-sent_on t p q ls = freed_at p (passed_on t p q ls)
+-- whether q takes every packet that the first one on p makes due
+abbrev pub TakesFront : Bool → List SwitchLine → (p q : SwitchChannel) → Type 0
+TakesFront true ls p q = (t : Taken) → front_at ls p ≡ Some t → Fits t → takes_at ls q (made_due ls p q t) ≡ true
+TakesFront false ls p q = (t : Taken) → front_at ls p ≡ Some t → takes_at ls q (made_due ls p q t) ≡ false
 
--- what waits first on a leg is taken there and asked of the other leg
+-- what it makes due is asked of the other leg, and what may be released is
+abbrev pub passed_on : Sizes → Gathered → Taken → (p q : SwitchChannel) → List SwitchLine → List SwitchLine
+passed_on sizes g (TakenInterrupt octets) p q ls = ask q (Interrupting octets) ls
+passed_on sizes g (TakenPacket d) p q ls =
+    kept_at p (carried d.delivery (turned sizes g d)) (ask_all q (map Sending (turned sizes g d).made) ls)
+
+abbrev pub sent_on : Sizes → Gathered → Taken → (p q : SwitchChannel) → List SwitchLine → List SwitchLine
+sent_on sizes g t p q ls = freed_at p (passed_on sizes g t p q ls)
+
+-- what waits first on a leg is taken there, and goes on to the other leg
 abbrev pub MovesFront : Option Taken → (p q : SwitchChannel) → List SwitchLine → List SwitchLine → Type 0
 MovesFront None p q old new = Unit {0}
-MovesFront (Some t) p q old new = (new ≡ passed_on t p q (ask p Taking old)) × Fits t
+MovesFront (Some t) p q old new =
+    (new ≡ passed_on (sizes_at old p q) (gathered_by (joined_at old p)) t p q (ask p Taking old)) × Fits t
 
 -- ---- the channels of a line, from this one on, so many
 

@@ -1,16 +1,17 @@
 -- What a switch relays between the two legs of a join, and what it is told of a leg.
-use Rattle.std.specs.Prelude.{ℕ, zero, suc, List, [], ◌∷◌, ◌++◌, slice_get, Option, Some, None}
+use Rattle.std.specs.Prelude.{ℕ, zero, suc, Bool, true, false, List, [], ◌∷◌, ◌++◌, map, slice_get, Option, Some, None}
 use Rattle.packet_layer.specs.Packets.{Note}
 use Rattle.packet_layer.specs.Packets.Note.{Connected, Closed, WasReset, InterruptConfirmed, Covered}
 use Rattle.packet_layer.specs.Traffic.{Taken}
 use Rattle.packet_layer.specs.Traffic.Taken.{TakenInterrupt, TakenPacket}
-use Rattle.packet_layer.specs.Channel.{Request, Refusal}
+use Rattle.packet_layer.specs.Channel.{Request}
 use Rattle.packet_layer.specs.Channel.Request.{Accept, Clearing, Resetting, Taking, Releasing, Confirming}
 use Rattle.packet_layer.specs.Channel.Request.{Sending, Interrupting}
+use Rattle.switch_joins.specs.Turning.{Sizes, Gathered, turned}
 use Rattle.switch_joins.specs.Direction.{Direction, new_direction, releasable, released, covered_by, carried}
 use Rattle.switch_lines.specs.Causes.{reset_cause, clear_cause, far_diagnostic}
 use Rattle.switch_lines.specs.Lines.{SwitchChannel, Joined, SwitchLine, joined_at, with_joined, places, places_on, ask}
-use Rattle.switch_lines.specs.Lines.{is_trunk, front_at, refusal_at}
+use Rattle.switch_lines.specs.Lines.{is_trunk, front_at, ask_all, sizes_at, takes_at}
 
 -- the joined channel p with this direction to the other leg
 abbrev pub with_kept : SwitchChannel → Joined → Direction → List SwitchLine → List SwitchLine
@@ -20,24 +21,29 @@ with_kept p j v ls = with_joined p (Some (record j { kept = v })) ls
 abbrev pub freed : SwitchChannel → Joined → Direction → List SwitchLine → List SwitchLine
 freed p j v ls = with_kept p j (released v) (ask p (Releasing (releasable v.held)) ls)
 
--- ---- relay, from p to the other leg: what waits first is taken there and sent here, unless that is refused
+-- ---- relay, from p to the other leg: what waits first is taken there, if the other leg takes all that it makes due
 
 -- what is asked of the far leg for what is taken on the near leg, and what is kept of it
-abbrev pub request_for : Taken → Request
-request_for (TakenInterrupt octets) = Interrupting octets
-request_for (TakenPacket d) = Sending d
+abbrev pub requests_for : Sizes → Gathered → Taken → List Request
+requests_for sizes g (TakenInterrupt octets) = Interrupting octets ∷ []
+requests_for sizes g (TakenPacket d) = map Sending (turned sizes g d).made
 
-abbrev pub carried_by : Taken → Direction → Direction
-carried_by (TakenInterrupt octets) v = v
-carried_by (TakenPacket d) v = carried d.delivery v
+abbrev pub carried_by : Sizes → Taken → Direction → Direction
+carried_by sizes (TakenInterrupt octets) v = v
+carried_by sizes (TakenPacket d) v = carried d.delivery (turned sizes v.gathered d) v
 
-abbrev pub moved_unless : Option Refusal → Taken → SwitchChannel → Joined → List SwitchLine → List SwitchLine
-moved_unless None t p j ls = freed p j (carried_by t j.kept) (ask j.other (request_for t) (ask p Taking ls))
-moved_unless (Some r) t p j ls = ls
+-- from p, with this join
+abbrev pub due_at : List SwitchLine → SwitchChannel → Joined → Taken → List Request
+due_at ls p j t = requests_for (sizes_at ls p j.other) j.kept.gathered t
+
+abbrev pub moved_if : Bool → Taken → SwitchChannel → Joined → List SwitchLine → List SwitchLine
+moved_if true t p j ls =
+    freed p j (carried_by (sizes_at ls p j.other) t j.kept) (ask_all j.other (due_at ls p j t) (ask p Taking ls))
+moved_if false t p j ls = ls
 
 abbrev pub moved_front : Option Taken → SwitchChannel → Joined → List SwitchLine → List SwitchLine
 moved_front None p j ls = ls
-moved_front (Some t) p j ls = moved_unless (refusal_at ls j.other (request_for t)) t p j ls
+moved_front (Some t) p j ls = moved_if (takes_at ls j.other (due_at ls p j t)) t p j ls
 
 abbrev pub moved_joined : Option Joined → SwitchChannel → List SwitchLine → List SwitchLine
 moved_joined None p ls = ls

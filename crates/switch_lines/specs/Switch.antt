@@ -17,6 +17,7 @@ use Rattle.packet_end.specs.PacketEnd.{all_offered}
 use Rattle.packet_end.specs.PacketEnd.{settled, elapsed, runs_at, due, without_first_frame, at_rest}
 use Rattle.address_routes.specs.Routes.{RouteMap, line_for}
 use Rattle.switch_joins.specs.Direction.{new_direction}
+use Rattle.switch_joins.specs.Joins.{gathers_nothing}
 use Rattle.switch_lines.specs.Lines.{SwitchChannel, SwitchLine, changed, with_joined, ask, is_trunk}
 use Rattle.switch_lines.specs.Relay.{told, relayed_first}
 
@@ -242,9 +243,10 @@ due_on (Some l) = due l.end
 
 -- ---- at rest
 
--- its link is up with nothing unacknowledged, nothing is owed, and nothing waits to be sent or to be carried on
+-- its link is up with nothing unacknowledged, nothing is owed, nothing waits to be sent or to be carried on, and nothing
+-- is gathered
 abbrev pub line_rests : SwitchLine → Bool
-line_rests l = at_rest l.end
+line_rests l = at_rest l.end && list_all gathers_nothing l.joined
 
 abbrev pub switch_rests : Switch → Bool
 switch_rests s = list_all line_rests s.lines

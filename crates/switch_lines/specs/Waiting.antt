@@ -1,28 +1,28 @@
 -- Which joins of a switch an event has to relay: those on which something happened. On the others nothing waits that
 -- the other leg takes.
-use Rattle.std.specs.Prelude.{◌≡◌, true, false, List, Option, Some, is_some}
+use Rattle.std.specs.Prelude.{◌≡◌, true, false, List, Option, Some}
 use Rattle.std.specs.Option.{option_map}
 use Rattle.packet_layer.specs.Traffic.{Taken}
 use Rattle.switch_joins.specs.ChannelSet.{has, is_small}
 use Rattle.switch_joins.specs.declared.channel_set.ChannelSet.{ChannelSet}
-use Rattle.switch_lines.specs.Relay.{request_for}
-use Rattle.switch_lines.specs.Lines.{SwitchChannel, SwitchLine, joined_at, front_at, refusal_at}
+use Rattle.switch_lines.specs.Relay.{due_at}
+use Rattle.switch_lines.specs.Lines.{SwitchChannel, Joined, SwitchLine, joined_at, front_at, takes_at}
 
 -- the channel that a channel is joined to, if it is
 abbrev pub other_at : List SwitchLine → SwitchChannel → Option SwitchChannel
 other_at ls p = option_map (λ j. j.other) (joined_at ls p)
 
--- what waits first on a joined channel is refused on the other leg
+-- the other leg does not take what a joined channel has first: all that it makes due
 abbrev pub IsStuck : List SwitchLine → SwitchChannel → Type 0
 IsStuck ls p =
-    (q : SwitchChannel) (t : Taken) → other_at ls p ≡ Some q → front_at ls p ≡ Some t
-    → is_some (refusal_at ls q (request_for t)) ≡ true
+    (j : Joined) (t : Taken) → joined_at ls p ≡ Some j → front_at ls p ≡ Some t
+    → takes_at ls j.other (due_at ls p j t) ≡ false
 
--- what waits first on p is refused on q, which is known to refuse something
+-- so it is on p, and its other leg is known to refuse something
 abbrev pub IsHeldBack : (refusing : ChannelSet) → List SwitchLine → (p q : SwitchChannel) → Type 0
 IsHeldBack refusing ls p q =
-    (t : Taken) → front_at ls p ≡ Some t
-    → (is_some (refusal_at ls q (request_for t)) ≡ true) × (has refusing q ≡ true)
+    (j : Joined) (t : Taken) → joined_at ls p ≡ Some j → front_at ls p ≡ Some t
+    → (takes_at ls j.other (due_at ls p j t) ≡ false) × (has refusing q ≡ true)
 
 -- p is joined to q, q to p, and what waits on either is held back
 abbrev pub AreHeldBack : (refusing : ChannelSet) → List SwitchLine → (p q : SwitchChannel) → Type 0

@@ -1,7 +1,7 @@
 //! How a switch is to be made.
-ghost use Rattle.std.specs.Prelude.{◌≡◌, MatchResult};
+ghost use Rattle.std.specs.Prelude.{◌≡◌, ◌≤◌, MatchResult};
 ghost use Rattle.packet_end.specs.declared.fault.EndFault.TheVariants as fault_is;
-ghost use Rattle.switch_lines.specs.Making.{IsLineConfig, IsConfig};
+ghost use Rattle.switch_lines.specs.Making.{IsLineConfig, IsConfig, line_share};
 
 use address_routes::Routes;
 use link_timers::Role;
@@ -31,6 +31,16 @@ pub struct SwitchConfig<'a> {
 }
 
 impl SwitchLineConfig {
+    /// How many buffers of the switch's pool the line needs: those of its end, and one for each channel, for what is
+    /// gathered from there.
+    pub(crate) fn buffers(&self) -> usize
+        requires { IsLineConfig self.now }
+        ensures share { result ≡ line_share self.now }
+        ensures most { result ≤ 1320 }
+    {
+        self.params.buffers() + usize::from(self.params.channels)
+    }
+
     // `BadConfig` comes where a parameter is out of its range, or the line stands.
     fn check(&self) -> Result<(), EndFault>
         ensures { MatchResult result

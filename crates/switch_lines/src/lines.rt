@@ -7,11 +7,12 @@ ghost use Rattle.packet_layer.specs.RequestView.{request_of};
 ghost use Rattle.packet_layer.specs.TakenView.{maybe_front};
 ghost use Rattle.packet_end.specs.PacketEnd.{without_first_frame};
 ghost use Rattle.packet_end.specs.declared.fault.EndFault.TheVariants as fault_is;
-ghost use Rattle.switch_joins.specs.Direction.{after};
-ghost use Rattle.switch_lines.specs.Making.{IsConfig, made_line, shares_with};
+ghost use Rattle.switch_joins.specs.Direction.{new_direction, covered_by};
+ghost use Rattle.switch_joins.specs.Held.{begun};
+ghost use Rattle.switch_lines.specs.Making.{IsConfig, made_line, shares_with, greatest_info};
 ghost use Rattle.switch_lines.specs.Lines.{role_on, is_trunk, with_joined, ask, front_at, changed};
 ghost use Rattle.switch_lines.specs.Switch.{timer_runs, due_on, frames_on, with_end, line_rests};
-ghost use Rattle.switch_lines.specs.OfLine.{kept_at, freed_at, is_taken};
+ghost use Rattle.switch_lines.specs.OfLine.{kept_at, freed_at};
 ghost use Rattle.switch_lines.specs.Pooled.{plain};
 ghost use Rattle.switch_lines.specs.Touched.{AreThere, HasAllFrames};
 ghost use Rattle.switch_lines.specs.Waiting.{other_at};
@@ -23,6 +24,7 @@ mod relaying;
 mod reopening;
 mod telling;
 mod touched;
+mod turning;
 
 use crate::config::SwitchLineConfig;
 use crate::line::SwitchLine;
@@ -35,7 +37,7 @@ use packet_end::{EndFault, MOST_FRAMES};
 use packet_layer::{Front, Request};
 use std::alloc::{AllocError, Global};
 use std::marker::Model;
-use switch_joins::{Change, ChannelSet, Joined, MOST_LINES, SwitchChannel};
+use switch_joins::{ChannelSet, Joined, MOST_LINES, SwitchChannel};
 
 /// The most lines of a list: all of a switch, and one of them once more.
 const MOST_LISTED: usize = MOST_LINES + 1;
@@ -79,9 +81,22 @@ fn buffers_for(lines: &[SwitchLineConfig]) -> usize
 {
     let mut total = 0;
     for line in lines {
-        total += line.params.buffers();
+        total += line.buffers();
     }
     total
+}
+
+// The most octets that a buffer of lines has to hold.
+fn octets_for(lines: &[SwitchLineConfig]) -> u16
+    requires { IsConfig lines.now }
+    ensures value { result ≡ greatest_info lines.now }
+    ensures most { result ≤ MAX_INFORMATION }
+{
+    let mut most = 0;
+    for line in lines {
+        most = line.params.info().max(most);
+    }
+    most
 }
 
 // The channel that a channel is joined to, if it is.
@@ -93,7 +108,7 @@ fn other_of(lines: &[SwitchLine], place: SwitchChannel) -> Option<SwitchChannel>
 
 // The channel that a join leads to, if there is one.
 fn joined_to(joined: &Option<Joined>) -> Option<SwitchChannel>
-    ensures { result ≡ option_map (λ j. j.other) joined.now }
+    ensures { result ≡ option_map (λ j. j.other) (option_map begun joined.now) }
 {
     match joined {
         Some(joined) => Some(joined.other),
@@ -114,7 +129,7 @@ impl Lines {
         requires { IsConfig lines.now }
         ensures { MatchResult result (λ made. made ≡ map made_line lines.now) (λ fault. fault ≡ fault_is.OutOfMemory) }
     {
-        let mut pool = Pool::new(alloc, buffers_for(lines), MAX_INFORMATION)?;
+        let mut pool = Pool::new(alloc, buffers_for(lines), usize::from(octets_for(lines)))?;
         let mut made = Vec::new(alloc);
         for line in lines {
             let line = SwitchLine::new(alloc, *line, &mut pool)?;
@@ -166,8 +181,8 @@ impl Lines {
         self.lines[line].due()
     }
 
-    /// Whether all lines are at rest: each link is up with nothing unacknowledged, and no packet waits to be sent or to
-    /// be carried on.
+    /// Whether all lines are at rest: each link is up with nothing unacknowledged, no packet waits to be sent or to be
+    /// carried on, and nothing is gathered.
     pub fn is_at_rest(&self) -> bool
         ensures { result ≡ list_all line_rests self.now }
     {
@@ -217,15 +232,15 @@ impl Lines {
         line < self.lines.len() && self.lines[line].is_trunk()
     }
 
-    // Joins a channel, or ends its join.
+    // Joins a channel, or ends its join. What is gathered from there is dropped.
     fn set_joined(&mut self, place: SwitchChannel, joined: Option<Joined>)
-        ensures { self.new ≡ with_joined place joined self.old }
+        ensures { self.new ≡ with_joined place (option_map begun joined) self.old }
     {
         if place.line < self.lines.len() {
             self.to_relay
                 .insert_join(place, other_of(&self.lines, place));
             self.to_relay.insert_join(place, joined_to(&joined));
-            self.lines[place.line].set_joined(place.channel, joined);
+            self.lines[place.line].set_joined(place.channel, joined, &mut self.pool);
         }
     }
 
@@ -252,25 +267,23 @@ impl Lines {
         }
     }
 
-    // Whether what waits first on another channel would be taken to be sent on this one.
-    fn may_take(&self, place: SwitchChannel, front: Front) -> bool
-        ensures { result ≡ is_taken self.now place front }
+    // The direction from a joined channel begins anew. What is gathered from there is dropped.
+    fn renew(&mut self, place: SwitchChannel)
+        ensures { self.new ≡ kept_at place (λ v. new_direction) self.old }
     {
-        let Some(line) = self.lines.get(place.line) else {
-            return false;
-        };
-        match front {
-            Front::Interrupt => line.may_interrupt(place.channel),
-            Front::Data { .. } => line.room(place.channel) > 0,
+        if place.line < self.lines.len() {
+            self.to_relay
+                .insert_join(place, other_of(&self.lines, place));
+            self.lines[place.line].renew(place.channel, &mut self.pool);
         }
     }
 
-    // Changes what is kept of the direction from a joined channel.
-    fn change(&mut self, place: SwitchChannel, change: Change)
-        ensures { self.new ≡ kept_at place (after change) self.old }
+    // P(R) covers so many packets more of the channel that a channel is joined to.
+    fn cover(&mut self, place: SwitchChannel, count: u8)
+        ensures { self.new ≡ kept_at place (covered_by count) self.old }
     {
         if place.line < self.lines.len() {
-            self.lines[place.line].change(place.channel, change);
+            self.lines[place.line].cover(place.channel, count);
         }
     }
 

@@ -97,7 +97,7 @@ impl Switch {
     ///
     /// Each join of two other lines is as it was, unless one of the two was set up anew, since a fifth packet came to
     /// be owed there. After it nothing waits that the other leg or the link takes, each new join is by its route, and a
-    /// packet with D = 1 was released only if it was covered on the other leg. On each line all frames of the event
+    /// packet with D = 1 was released only if all that it made due was covered there. On each line all frames of the event
     /// wait.
     pub fn on_frame(&mut self, line: usize, octets: &[u8]) -> Option<NewJoin>
         requires { line < length self.old.lines }
@@ -213,8 +213,8 @@ impl Switch {
         self.lines.due(line)
     }
 
-    /// Whether all lines are at rest: each link is up with nothing unacknowledged, and no packet waits to be sent or to
-    /// be carried on.
+    /// Whether all lines are at rest: each link is up with nothing unacknowledged, no packet waits to be sent or to be
+    /// carried on, and nothing is gathered.
     pub fn is_at_rest(&self) -> bool
         ensures { result ≡ switch_rests self.now }
     {

@@ -13,7 +13,7 @@ use crate::lines::Lines;
 use address_routes::Routes;
 use packet_codec::{Address, CallData, clear_cause, diagnostic};
 use packet_layer::{CallFault, Request};
-use switch_joins::{Direction, Joined, NewJoin, SwitchChannel};
+use switch_joins::{Joined, NewJoin, SwitchChannel};
 
 impl Lines {
     // A call came in on a channel: it goes on and is joined, or is cleared. Answers the join.
@@ -128,12 +128,10 @@ impl Lines {
         let there = Joined {
             other: callee,
             came_in: true,
-            kept: Direction::new(),
         };
         let back = Joined {
             other: caller,
             came_in: false,
-            kept: Direction::new(),
         };
         self.set_joined(caller, Some(there));
         self.set_joined(callee, Some(back));

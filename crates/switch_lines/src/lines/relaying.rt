@@ -1,22 +1,20 @@
 //! The relay between the two legs of a join (X.25 4.3).
-ghost use Rattle.std.specs.Prelude.{◌≡◌, ◌<◌, None, Some, length, slice_get};
+ghost use Rattle.std.specs.Prelude.{◌≡◌, None, Some, slice_get};
 ghost use Rattle.std.specs.Bool.{OnFalse, OnTrue};
-ghost use Rattle.switch_lines.specs.OfLine.{MovesFront};
 ghost use Rattle.switch_lines.specs.Alone.{relayed_alone};
-ghost use Rattle.switch_lines.specs.Lines.{joined_at, front_at};
+ghost use Rattle.switch_lines.specs.Lines.{joined_at};
 ghost use Rattle.switch_lines.specs.Waiting.{other_at, IsStuck};
 ghost use Rattle.switch_lines.specs.Relay.{moved, relayed, most_moves, relayed_from, both_legs, legs_at, places_of};
 
 use crate::lines::Lines;
-use packet_layer::{Request, TakenBuf};
-use switch_joins::{Change, SwitchChannel};
+use switch_joins::SwitchChannel;
 
 /// The most that waits on a leg: a queue of 32 packets, and an interrupt.
 const MOST_WAITING: usize = 33;
 
 impl Lines {
-    // What waits first on a joined channel is taken there and sent on the other leg, unless that one would refuse it.
-    // Answers whether it was.
+    // What waits first on a joined channel is taken there and goes on to the other leg, unless that one would refuse some
+    // of what it makes due. Answers whether it was.
     fn relay_one(&mut self, place: SwitchChannel) -> bool
         ensures lines { self.new ≡ moved place self.old }
         ensures stuck { OnFalse result (IsStuck self.old place) }
@@ -27,35 +25,12 @@ impl Lines {
         let Some(front) = self.front(place) else {
             return false;
         };
-        if !self.may_take(other, front) {
+        if !self.may_take(place, other, front) {
             return false;
         }
         self.move_front(place, other);
         self.release(place);
         true
-    }
-
-    // What waits first on a joined channel is taken there and goes to the other leg, a packet in its buffer.
-    fn move_front(&mut self, place: SwitchChannel, other: SwitchChannel)
-        requires there { place.line < length self.old }
-        requires other { other.line < length self.old }
-        requires joined { other_at self.old place ≡ Some other }
-        ensures { MovesFront (front_at self.old place) place other self.old self.new }
-    {
-        self.touched.insert(place.line);
-        self.to_relay.insert_join(place, Some(other));
-        match self.lines[place.line].take_buf(place.channel) {
-            Some(TakenBuf::Interrupt(interrupt)) => {
-                self.ask(other, &Request::Interrupt(interrupt.octets()));
-            }
-            Some(TakenBuf::Data(packet)) => {
-                let delivery = packet.delivery();
-                self.touched.insert(other.line);
-                self.lines[other.line].send_packet(other.channel, packet, &mut self.pool);
-                self.change(place, Change::Carried { delivery });
-            }
-            None => {}
-        }
     }
 
     // All that waits on a channel goes to the other leg of its join, as far as that one takes it. Answers whether that

@@ -7,7 +7,7 @@ ghost use Rattle.switch_lines.specs.Relay.{told};
 use crate::causes::{far_clear_cause, far_diagnostic, far_reset_cause};
 use crate::lines::Lines;
 use packet_layer::{Reason, Request};
-use switch_joins::{Change, SwitchChannel};
+use switch_joins::SwitchChannel;
 
 impl Lines {
     // The call on a channel was accepted there.
@@ -65,8 +65,8 @@ impl Lines {
             diagnostic: far_diagnostic(reason, diagnostic),
         };
         self.ask(other, &request);
-        self.change(place, Change::Renewed);
-        self.change(other, Change::Renewed);
+        self.renew(place);
+        self.renew(other);
     }
 
     // The interrupt that was sent on a channel is confirmed there: so is the one that was taken on the other leg.
@@ -86,7 +86,7 @@ impl Lines {
         ensures { self.new ≡ told (note.Covered place.channel count) place self.old }
     {
         if let Some(other) = self.other(place) {
-            self.change(other, Change::Covered(count));
+            self.cover(other, count);
             self.release(other);
         }
     }

@@ -6,5 +6,5 @@ use Rattle.switch_lines.proofs.lines.buffers_for.Given as goal
 abbrev pub invariant-loop-line : goal.invariant-loop-line
 invariant-loop-line l = record {
   sum : l.total ≡ shares_with (take l.line-index l.lines);
-  most : l.total ≤ l.line-index * 1288;
+  most : l.total ≤ l.line-index * 1320;
 }

@@ -1,6 +1,6 @@
-use Rattle.std.proofs.Common.{subst, sym}
-use Rattle.flow_window.specs.Pool.{Buffer, IsIn}
+use Rattle.switch_lines.proofs.Sharing.{end_takes}
 use Rattle.switch_lines.proofs.line.SwitchLine.send_packet.Goals as goal
 
-pub send_buf-sent-requires : goal.send_buf-sent-requires
-send_buf-sent-requires c = subst (λ (b : Buffer). IsIn b c.args.pool.now) (sym c.into_buffer-buffer.ensures.value) c.requires
+pub returns-clause-pool : goal.returns-clause-pool
+returns-clause-pool c =
+    end_takes c.self.inside c.args.self.now c.args.pool.now c.send_on.new.pool c.args.packet.buffer c.send_on.new.line c.self.view_is c.send_on.ensures.pool

@@ -35,10 +35,10 @@ invariant_of-self c =
           c.index_mut.ensures.value c.ask.ensures.line c.deref.ensures.value c.other_of.ensures
           (not_of_join c.self.inside.to_relay c.insert_join.new.self c.args.place c.other_of.result c.insert_join.ensures)
           (λ l d. refl)
-          (λ l d small apart. request_apart l.end.layer c.args.place.channel d (request_of c.args.request.now) apart)
+          (λ l d small apart. (refl, request_apart l.end.layer c.args.place.channel d (request_of c.args.request.now) apart))
           c.self.invariant.moves;
       pooled = pooled_set c.self.inside.pool c.ask.new.pool c.self.inside.lines.items c.args.place.line c.index_mut.result.now c.ask.new.self
-          c.self.invariant.pooled (omega arith) c.index_mut.ensures.value c.ask.ensures.pool c.ask.ensures.share
+          c.self.invariant.pooled (omega arith) c.index_mut.ensures.value c.ask.ensures.pool c.ask.ensures.claim
           c.ask.ensures.within;
     }
 

@@ -1,43 +1,76 @@
-use Rattle.std.proofs.Common.{◌≡◌, ◌<◌, List, length, get_or, ap, sym, subst, arith, ◌∙◌}
-use Rattle.std.specs.Prelude.{Option, nat_lt}
-use Rattle.std.proofs.lemmas.Bool.{ltb-false}
+use Rattle.std.proofs.Common.{◌≡◌, ◌<◌, List, length, get_or, ap, ap₂, sym, subst, ◌∙◌, map, Option, Some, nat_le, true, false}
+use Rattle.packet_channel.specs.Held.{are_short}
 use Rattle.packet_channel.specs.declared.taken.Front.{Front}
-use Rattle.switch_lines.specs.Lines.{SwitchLine}
-use Rattle.switch_lines.specs.OfLine.{taken_on, taken_on_line}
-use Rattle.switch_lines.specs.Pooled.{PooledLine, plain}
-use Rattle.switch_lines.proofs.Pooled.{one_seen, plain_length}
+use Rattle.packet_layer.specs.Channel.Request.{Sending}
+use Rattle.packet_layer.specs.Packets.{Datum}
+use Rattle.switch_joins.specs.Joins.{gathered_by}
+use Rattle.switch_joins.specs.Turning.{Sizes, Gathered, turned}
+use Rattle.switch_lines.specs.Lines.{SwitchLine, joined_on, nth_joined, size_of_line, takes_at}
+use Rattle.switch_lines.specs.Pooled.{PooledLine}
+use Rattle.switch_lines.proofs.Pooled.{one_seen, seen_within, serves_one}
+use Rattle.switch_lines.proofs.Relaying.{interrupt_goes, packet_goes, counted_goes, long_stays, front_there}
 use Rattle.switch_lines.proofs.lines.Lines.may_take.Goals as goal
-use Rattle.switch_joins.proofs.Slots.{get_outside}
 
-pub returns-in_default : goal.returns-in_default
-returns-in_default c =
-    let items = c.self.inside.lines.items in
-    let long = plain_length items in
-    let same = ap (λ (ps : List PooledLine). length ps) c.deref.ensures.value in
-    let beyond = ltb-false c.args.place.line (length c.deref.result.now) (sym c.in_default.ensures.lookup.0) in
-    rw (← c.self.view_is) (sym (ap (λ (o : Option SwitchLine). taken_on o c.args.place.channel c.args.front)
-    (get_outside (plain items) c.args.place.line (omega (arith, long, same, beyond)))))
+pub packets_due-requires : goal.packets_due-requires
+packets_due-requires c =
+    (serves_one c.self.inside.pool c.self.inside.lines.items c.args.place.line c.index-near.result.now c.self.invariant.pooled
+    (seen_within c.self.inside.lines.items c.args.self.now c.args.place.line c.self.view_is (front_there c.args.self.now c.args.place c.args.front (sym c.requires)))
+    c.index-near.ensures).holds
 
-pub returns-in-Interrupt : goal.returns-in-Interrupt
-returns-in-Interrupt c =
+pub returns-in-Interrupt-clause-takes : goal.returns-in-Interrupt-clause-takes
+returns-in-Interrupt-clause-takes c =
     let items = c.self.inside.lines.items in
-    let line = c.in-Some.line.now in
+    let far = c.in-Some.far.now in
+    let other = c.args.other in
+    let less = subst (λ (ps : List PooledLine). other.line < length ps) c.deref.ensures.value c.in-Some.ensures.lookup.3.0 in
+    let is = subst (λ (ps : List PooledLine). far ≡ get_or ps other.line far) c.deref.ensures.value c.in-Some.ensures.lookup.1 in
+    interrupt_goes c.may_interrupt.result c.args.self.now c.args.place other far.line (c.requires ∙ ap (λ (f : Front). Some f) c.in-Interrupt.is)
+    (one_seen items c.args.self.now other.line far c.self.view_is less is) c.may_interrupt.ensures
+
+pub returns-in-Some-packets_due-clause-takes : goal.returns-in-Some-packets_due-clause-takes
+returns-in-Some-packets_due-clause-takes c =
+    let items = c.self.inside.lines.items in
+    let ls = c.args.self.now in
+    let far = c.in-Some.far.now in
+    let other = c.args.other in
     let place = c.args.place in
-    let less = subst (λ (ps : List PooledLine). place.line < length ps) c.deref.ensures.value c.in-Some.ensures.lookup.3.0 in
-    let is = subst (λ (ps : List PooledLine). line ≡ get_or ps place.line line) c.deref.ensures.value c.in-Some.ensures.lookup.1 in
-    c.may_interrupt.ensures
-    ∙ ap (λ (f : Front). taken_on_line f place.channel line.line) (sym c.in-Interrupt.is)
-    ∙ ap (λ (o : Option SwitchLine). taken_on o place.channel c.args.front)
-    (one_seen items c.args.self.now place.line line c.self.view_is less is)
+    let less = subst (λ (ps : List PooledLine). other.line < length ps) c.deref.ensures.value c.in-Some.ensures.lookup.3.0 in
+    let is = subst (λ (ps : List PooledLine). far ≡ get_or ps other.line far) c.deref.ensures.value c.in-Some.ensures.lookup.1 in
+    let there = one_seen items ls other.line far c.self.view_is less is in
+    let here = one_seen items ls place.line c.index-near.result.now c.self.view_is
+    (seen_within items ls place.line c.self.view_is (front_there ls place c.args.front (sym c.requires))) c.index-near.ensures in
+    let near = ap (λ (o : Option SwitchLine). gathered_by (joined_on o place.channel)) here in
+    let size = ap (λ (s : Sizes). s.far) c.sizes-sizes.ensures ∙ sym (ap (λ (o : Option SwitchLine). size_of_line o) there) in
+    packet_goes (nat_le c.in-Some-packets_due.due c.from.result) ls place other c.in-Data.length c.in-Data.more c.in-Data.qualified c.in-Data.delivery
+    (c.requires ∙ ap (λ (f : Front). Some f) c.in-Data.is)
+    (λ d e.
+    let due = c.in-Some-packets_due.ensures d e in
+    let made : Sizes → Gathered → List Datum = λ s g. (turned s g d).made in
+    let same = ap₂ made (sym c.sizes-sizes.ensures) (sym near) in
+    ap (λ (ds : List Datum). takes_at ls other (map Sending ds)) same
+    ∙ counted_goes ls other far.line (made c.sizes-sizes.result (gathered_by (nth_joined c.index-near.result.now.line.joined place.channel))) c.in-Some-packets_due.due c.from.result there
+    (subst (λ k. are_short k (made c.sizes-sizes.result (gathered_by (nth_joined c.index-near.result.now.line.joined place.channel))) ≡ true) size due.0, due.1)
+    (c.from.ensures ∙ c.room.ensures))
 
-pub returns-in-Data : goal.returns-in-Data
-returns-in-Data c =
+pub returns-in-None-clause-takes : goal.returns-in-None-clause-takes
+returns-in-None-clause-takes c =
     let items = c.self.inside.lines.items in
-    let line = c.in-Some.line.now in
+    let ls = c.args.self.now in
+    let far = c.in-Some.far.now in
+    let other = c.args.other in
     let place = c.args.place in
-    let less = subst (λ (ps : List PooledLine). place.line < length ps) c.deref.ensures.value c.in-Some.ensures.lookup.3.0 in
-    let is = subst (λ (ps : List PooledLine). line ≡ get_or ps place.line line) c.deref.ensures.value c.in-Some.ensures.lookup.1 in
-    ap (λ n. nat_lt 0 n) c.room.ensures
-    ∙ ap (λ (f : Front). taken_on_line f place.channel line.line) (sym c.in-Data.is)
-    ∙ ap (λ (o : Option SwitchLine). taken_on o place.channel c.args.front)
-    (one_seen items c.args.self.now place.line line c.self.view_is less is)
+    let less = subst (λ (ps : List PooledLine). other.line < length ps) c.deref.ensures.value c.in-Some.ensures.lookup.3.0 in
+    let is = subst (λ (ps : List PooledLine). far ≡ get_or ps other.line far) c.deref.ensures.value c.in-Some.ensures.lookup.1 in
+    let there = one_seen items ls other.line far c.self.view_is less is in
+    let here = one_seen items ls place.line c.index-near.result.now c.self.view_is
+    (seen_within items ls place.line c.self.view_is (front_there ls place c.args.front (sym c.requires))) c.index-near.ensures in
+    let near = ap (λ (o : Option SwitchLine). gathered_by (joined_on o place.channel)) here in
+    let size = ap (λ (s : Sizes). s.far) c.sizes-sizes.ensures ∙ sym (ap (λ (o : Option SwitchLine). size_of_line o) there) in
+    packet_goes false ls place other c.in-Data.length c.in-Data.more c.in-Data.qualified c.in-Data.delivery
+    (c.requires ∙ ap (λ (f : Front). Some f) c.in-Data.is)
+    (λ d e.
+    let made : Sizes → Gathered → List Datum = λ s g. (turned s g d).made in
+    ap (λ (ds : List Datum). takes_at ls other (map Sending ds)) (ap₂ made (sym c.sizes-sizes.ensures) (sym near))
+    ∙ long_stays ls other far.line (made c.sizes-sizes.result (gathered_by (nth_joined c.index-near.result.now.line.joined place.channel))) there
+    (subst (λ k. are_short k (made c.sizes-sizes.result (gathered_by (nth_joined c.index-near.result.now.line.joined place.channel))) ≡ false) size
+    (c.in-None.ensures d e)))

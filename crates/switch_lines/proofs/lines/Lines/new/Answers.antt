@@ -26,13 +26,13 @@ invariant_of-result c =
           ∙ ap (λ k. nat_lt n k) count) (λ n is. absurd (true≢false (sym is ∙ c.new-2.ensures n)));
       moves = subst (λ (ls : List SwitchLine). NothingElseMoves c.new-3.result c.new-4.result ls)
           (sym (ap plain whole ∙ plain_made c.args.lines.now)) (made_moves c.new-3.result c.new-4.result c.args.lines.now);
-      pooled = pooled_made c.loop-line.pool c.args.lines.now ys whole i.size i.places i.none;
+      pooled = pooled_made c.loop-line.pool c.args.lines.now ys whole i.size (omega (arith, i.size, c.octets_for.ensures.value, c.octets_for.ensures.most)) i.places i.none;
     }
 
 pub loop-line-init : goal.loop-line-init
 loop-line-init c = record {
   made = c.new-made.ensures.items;
-  size = ap (λ (x : Pool). x.size) c.in_ok-pool.ensures.map;
+  size = ap (λ (x : Pool). x.size) c.in_ok-pool.ensures.map ∙ (c.from.ensures ∙ c.octets_for.ensures.value);
   places = ap (λ (x : Pool). length x.places) c.in_ok-pool.ensures.map ∙ replicated c.buffers_for.result _ ∙ c.buffers_for.ensures;
   none = c.in_ok-pool.ensures.weights;
 }

@@ -46,11 +46,14 @@ invariant_of-self c =
           (not_of_join c.self.inside.to_relay c.insert_join.new.self (record { line = c.args.line; channel = c.named_in-channel.result })
           c.other_of.result c.insert_join.ensures)
           (λ l d. refl)
-          (λ l d small apart. received_calm l.end c.args.octets.now d (λ i. omega (arith, c.type_inv.octets i))
-          (λ named. apart (c.named_in-channel.ensures d named small)))
+          (λ l d small apart. (
+            refl,
+            received_calm l.end c.args.octets.now d (λ i. omega (arith, c.type_inv.octets i))
+                (λ named. apart (c.named_in-channel.ensures d named small)),
+          ))
           c.self.invariant.moves;
       pooled = pooled_set c.self.inside.pool c.on_frame.new.pool c.self.inside.lines.items c.args.line c.index_mut.result.now c.on_frame.new.self
-          c.self.invariant.pooled within c.index_mut.ensures.value c.on_frame.ensures.pool c.on_frame.ensures.share
+          c.self.invariant.pooled within c.index_mut.ensures.value c.on_frame.ensures.pool c.on_frame.ensures.claim
           c.on_frame.ensures.within;
     }
 

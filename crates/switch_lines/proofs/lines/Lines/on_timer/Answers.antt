@@ -31,7 +31,7 @@ invariant_of-self c =
           c.index_mut.ensures.value c.on_timer.ensures.line (λ l d. (refl, after_timer_calm l.end c.args.id d))
           c.self.invariant.moves;
       pooled = pooled_set c.self.inside.pool c.on_timer.new.pool c.self.inside.lines.items c.args.line c.index_mut.result.now c.on_timer.new.self
-          c.self.invariant.pooled within c.index_mut.ensures.value c.on_timer.ensures.pool c.on_timer.ensures.share
+          c.self.invariant.pooled within c.index_mut.ensures.value c.on_timer.ensures.pool c.on_timer.ensures.claim
           c.on_timer.ensures.within;
     }
 

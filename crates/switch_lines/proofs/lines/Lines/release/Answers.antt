@@ -27,7 +27,7 @@ invariant_of-self c =
           c.release.new.self (omega arith) c.index_mut.ensures.value c.release.ensures.line
           (λ l d. freed_calm c.args.place.channel l d) c.self.invariant.moves;
       pooled = pooled_set c.self.inside.pool c.release.new.pool c.self.inside.lines.items c.args.place.line c.index_mut.result.now c.release.new.self
-          c.self.invariant.pooled (omega arith) c.index_mut.ensures.value c.release.ensures.pool c.release.ensures.share
+          c.self.invariant.pooled (omega arith) c.index_mut.ensures.value c.release.ensures.pool c.release.ensures.claim
           c.release.ensures.within;
     }
 

@@ -30,7 +30,7 @@ invariant_of-self c =
           c.args.line c.index_mut.result.now c.relink.new.self within
           c.index_mut.ensures.value c.relink.ensures.line (λ l d. (refl, relinked_calm l.end d)) c.self.invariant.moves;
       pooled = pooled_set c.self.inside.pool c.relink.new.pool c.self.inside.lines.items c.args.line c.index_mut.result.now c.relink.new.self
-          c.self.invariant.pooled within c.index_mut.ensures.value c.relink.ensures.pool c.relink.ensures.share
+          c.self.invariant.pooled within c.index_mut.ensures.value c.relink.ensures.pool c.relink.ensures.claim
           c.relink.ensures.within;
     }
 

@@ -4,8 +4,8 @@ use Rattle.switch_joins.specs.ChannelSet.{has, is_small}
 use Rattle.switch_lines.specs.Lines.{SwitchLine, same_place, front_at}
 use Rattle.switch_lines.specs.Waiting.{NothingElseMoves}
 use Rattle.switch_joins.proofs.ChannelSets.{still_in, added_in, taken_out}
-use Rattle.switch_lines.proofs.Moving.{place_same, shown_waits}
-use Rattle.switch_lines.proofs.Waiting.{stopped}
+use Rattle.switch_lines.proofs.Moving.{shown_waits}
+use Rattle.switch_lines.proofs.Waiting.{place_same, stopped}
 use Rattle.switch_lines.proofs.lines.Lines.rest_join.Goals as goal
 
 pub invariant_of-self : goal.invariant_of-self

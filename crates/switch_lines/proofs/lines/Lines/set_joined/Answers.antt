@@ -1,23 +1,24 @@
-use Rattle.std.proofs.Common.{arith, ap, subst, ◌∙◌, Option, List}
+use Rattle.std.proofs.Common.{arith, ap, subst, ◌∙◌, Option, List, option_map}
+use Rattle.switch_joins.specs.Held.{begun}
 use Rattle.switch_joins.proofs.ChannelSets.{IsApart, not_of_join}
-use Rattle.switch_lines.specs.Lines.{SwitchChannel, with_nth_joined}
+use Rattle.switch_lines.specs.Lines.{SwitchChannel, SwitchLine, with_nth_joined}
 use Rattle.switch_lines.specs.Pooled.{PooledLine, plain}
 use Rattle.switch_lines.specs.Waiting.{other_at}
-use Rattle.switch_lines.proofs.Pooled.{one_changed, none_changed, joins_of_one, pooled_same}
+use Rattle.switch_lines.proofs.Pooled.{one_changed, none_changed, joins_of_one, pooled_set, serves_one}
 use Rattle.switch_lines.proofs.Touched.{count_kept}
 use Rattle.switch_lines.proofs.Moving.{one_joined}
 use Rattle.switch_lines.proofs.lines.Lines.set_joined.Goals as goal
 
 pub returns-then-place-len : goal.returns-then-place-len
 returns-then-place-len c =
-    one_changed (λ l. record l { joined = with_nth_joined l.joined c.args.place.channel c.args.joined })
+    one_changed (λ l. record l { joined = with_nth_joined l.joined c.args.place.channel (option_map begun c.args.joined) })
     c.self.inside.lines.items c.args.self.now c.args.place.line
     c.index_mut.result.now c.set_joined.new.self c.self.view_is (omega arith) c.index_mut.ensures.value
-    (ap (λ (p : PooledLine). p.line) c.set_joined.ensures.line)
+    c.set_joined.ensures.line
 
 pub returns-else-place-len : goal.returns-else-place-len
 returns-else-place-len c =
-    none_changed (λ l. record l { joined = with_nth_joined l.joined c.args.place.channel c.args.joined })
+    none_changed (λ l. record l { joined = with_nth_joined l.joined c.args.place.channel (option_map begun c.args.joined) })
     c.self.inside.lines.items c.args.self.now c.args.place.line
     c.self.view_is (omega arith)
 
@@ -30,11 +31,11 @@ invariant_of-self c =
       most = count_kept xs n 64 new c.self.invariant.most;
       rest = joins_of_one c.self.inside.touched c.self.inside.untaken xs n c.index_mut.result.now new (omega arith)
           c.index_mut.ensures.value
-          (ap (λ (p : PooledLine). p.line.end) c.set_joined.ensures.line) c.self.invariant.rest;
+          (ap (λ (l : SwitchLine). l.end) c.set_joined.ensures.line) c.self.invariant.rest;
       moves = one_joined c.self.inside.to_relay c.insert_join-then-place-len.new.self c.self.inside.refusing xs n c.args.place.channel
-          c.args.joined c.joined_to.result c.index_mut.result.now new (omega arith)
+          (option_map begun c.args.joined) c.joined_to.result c.index_mut.result.now new (omega arith)
           (omega (arith, c.self.invariant.most)) c.index_mut.ensures.value
-          (ap (λ (p : PooledLine). p.line) c.set_joined.ensures.line) c.set_joined.ensures.few c.joined_to.ensures
+          c.set_joined.ensures.line c.set_joined.ensures.few c.joined_to.ensures
           (λ p out.
           let second = not_of_join c.insert_join.new.self c.insert_join-then-place-len.new.self c.args.place c.joined_to.result
           c.insert_join-then-place-len.ensures p out in
@@ -46,6 +47,11 @@ invariant_of-self c =
             second.1,
           ))
           c.self.invariant.moves;
-      pooled = pooled_same c.self.inside.pool (λ l. record l { joined = with_nth_joined l.joined c.args.place.channel c.args.joined }) c.self.inside.lines.items c.args.place.line c.index_mut.result.now c.set_joined.new.self
-          c.self.invariant.pooled (omega arith) c.index_mut.ensures.value c.set_joined.ensures.line;
+      pooled = pooled_set c.self.inside.pool c.set_joined.new.pool xs n c.index_mut.result.now new c.self.invariant.pooled (omega arith)
+          c.index_mut.ensures.value c.set_joined.ensures.pool c.set_joined.ensures.claim c.set_joined.ensures.within;
     }
+
+pub set_joined-requires : goal.set_joined-requires
+set_joined-requires c =
+    serves_one c.self.inside.pool c.self.inside.lines.items c.args.place.line c.index_mut.result.now c.self.invariant.pooled (omega arith)
+    c.index_mut.ensures.value

@@ -4,7 +4,7 @@ use Rattle.switch_joins.specs.ChannelSet.{has, is_small}
 use Rattle.switch_lines.specs.Lines.{SwitchChannel, same_place}
 use Rattle.switch_lines.specs.Pooled.{plain}
 use Rattle.switch_joins.proofs.ChannelSets.{is_so_small, never_in, IsApart, not_of_join}
-use Rattle.switch_lines.proofs.Moving.{place_same}
+use Rattle.switch_lines.proofs.Waiting.{place_same}
 use Rattle.switch_lines.proofs.Waiting.{looked_at}
 use Rattle.switch_lines.proofs.lines.reopening.reopen_line.Goals as goal
 

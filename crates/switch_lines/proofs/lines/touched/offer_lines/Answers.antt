@@ -29,7 +29,7 @@ loop-line-preserved-then-offer c =
       there = there_in s rest n ps c.offer.new.self first i.there;
       most = count_kept ps n 64 c.offer.new.self i.most;
       pooled = pooled_set c.loop-line.pool c.offer.new.pool ps n (get_or ps n c.index-lines-line.result) c.offer.new.self
-          i.pooled inside (got_again ps n c.index-lines-line.result inside) c.offer.ensures.pool c.offer.ensures.share
+          i.pooled inside (got_again ps n c.index-lines-line.result inside) c.offer.ensures.pool c.offer.ensures.claim
           c.offer.ensures.within;
       room = room_some s rest n (array_vec_len c.loop-line.offering) (array_vec_len c.push.new.self) first i.room
           c.push.ensures.len;
@@ -61,7 +61,7 @@ loop-line-preserved c =
       there = there_in s rest n ps c.offer.new.self first i.there;
       most = count_kept ps n 64 c.offer.new.self i.most;
       pooled = pooled_set c.loop-line.pool c.offer.new.pool ps n (get_or ps n c.index-lines-line.result) c.offer.new.self
-          i.pooled inside (got_again ps n c.index-lines-line.result inside) c.offer.ensures.pool c.offer.ensures.share
+          i.pooled inside (got_again ps n c.index-lines-line.result inside) c.offer.ensures.pool c.offer.ensures.claim
           c.offer.ensures.within;
       room = room_none s rest n (array_vec_len c.loop-line.offering) first i.room;
       offering = ap (λ (ls : List SwitchLine). c.loop-line.offering.items ++ offering_in rest 0 ls) written

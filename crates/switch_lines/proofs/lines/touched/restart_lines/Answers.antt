@@ -29,7 +29,7 @@ loop-line-preserved c =
           ∙ map_over_more (without_joins) (plain c.args.lines.now) (plain ps) n old.line (omega (arith, long))
           c.loop-line.invariant.lines (plain_get ps n old c.line-item.is);
       pooled = pooled_set c.loop-line.pool c.restart.new.pool ps n (get_or ps n old) c.restart.new.self
-          c.loop-line.invariant.pooled inside (got_again ps n old inside) c.restart.ensures.pool c.restart.ensures.share
+          c.loop-line.invariant.pooled inside (got_again ps n old inside) c.restart.ensures.pool c.restart.ensures.claim
           c.restart.ensures.within;
     }
 

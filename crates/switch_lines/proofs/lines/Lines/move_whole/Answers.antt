@@ -5,20 +5,24 @@ use Rattle.packet_channel.specs.Held.{datum_in}
 use Rattle.packet_layer.specs.Channel.Request.{Taking, Sending, Interrupting}
 use Rattle.packet_layer.specs.TakenView.{taken_in, buffers_in}
 use Rattle.packet_layer.specs.Traffic.{Taken as TakenValue}
-use Rattle.packet_layer.specs.Traffic.Taken.{TakenPacket}
 use Rattle.packet_end.specs.PacketEnd.{asked}
 use Rattle.switch_joins.specs.Direction.{carried}
 use Rattle.switch_joins.proofs.ChannelSets.{not_of_join}
-use Rattle.switch_lines.specs.Lines.{SwitchLine, ask, front_of_line}
+use Rattle.switch_joins.specs.Joins.{gathered_by}
+use Rattle.switch_joins.specs.Turning.{all_made}
+use Rattle.switch_lines.specs.Lines.{SwitchLine, ask, front_of_line, joined_at}
 use Rattle.switch_lines.specs.OfLine.{MovesFront, kept_at}
 use Rattle.switch_lines.specs.Pooled.{plain}
 use Rattle.switch_lines.specs.Switch.{with_end}
 use Rattle.switch_lines.proofs.Pooled.{one_changed, one_seen, one_touched, seen_within, handed_out, handed_in, none_in_hand, is_in_hand}
 use Rattle.switch_lines.proofs.Touched.{count_kept, count_written}
 use Rattle.switch_lines.specs.Waiting.{other_at}
-use Rattle.switch_lines.proofs.Calmer.{request_apart, sending_calm}
+use Rattle.switch_lines.proofs.Calmer.{request_apart, onward_calm}
+use Rattle.switch_lines.proofs.Onward.{sends}
+use Rattle.switch_lines.proofs.Places.{joined_asked}
+use Rattle.switch_lines.proofs.Relaying.{whole_on}
 use Rattle.switch_lines.proofs.Moving.{one_stirred, one_calm}
-use Rattle.switch_lines.proofs.lines.Lines.move_front.Goals as goal
+use Rattle.switch_lines.proofs.lines.Lines.move_whole.Goals as goal
 
 pub invariant_of-self : goal.invariant_of-self
 invariant_of-self c =
@@ -36,12 +40,12 @@ invariant_of-self c =
           (sym c.requires.joined ∙ ap (λ (ls : List SwitchLine). other_at ls c.args.place) (sym c.self.view_is))
           (not_of_join c.self.inside.to_relay c.insert_join.new.self c.args.place (Some c.args.other) c.insert_join.ensures)
           (λ l d. refl)
-          (λ l d small apart. request_apart l.end.layer c.args.place.channel d Taking apart) c.self.invariant.moves;
+          (λ l d small apart. (refl, request_apart l.end.layer c.args.place.channel d Taking apart)) c.self.invariant.moves;
       pooled = none_in_hand c.self.inside.pool _ (handed_out c.self.inside.pool xs n c.index_mut.result.now new []
           c.self.invariant.pooled within c.index_mut.ensures.value
           (λ w. c.in-Some-Interrupt.ensures.held w
           ∙ ap (λ x. weight w new.held + weight w (buffers_in x)) c.in-Some-Interrupt.field-0-is)
-          c.take_buf.ensures.share c.take_buf.ensures.within);
+          c.take_buf.ensures.claim c.take_buf.ensures.within);
     }
 
 pub invariant_of-self-in-None : goal.invariant_of-self-in-None
@@ -60,10 +64,10 @@ invariant_of-self-in-None c =
           (sym c.requires.joined ∙ ap (λ (ls : List SwitchLine). other_at ls c.args.place) (sym c.self.view_is))
           (not_of_join c.self.inside.to_relay c.insert_join.new.self c.args.place (Some c.args.other) c.insert_join.ensures)
           (λ l d. refl)
-          (λ l d small apart. request_apart l.end.layer c.args.place.channel d Taking apart) c.self.invariant.moves;
+          (λ l d small apart. (refl, request_apart l.end.layer c.args.place.channel d Taking apart)) c.self.invariant.moves;
       pooled = none_in_hand c.self.inside.pool _ (handed_out c.self.inside.pool xs n c.index_mut.result.now new []
           c.self.invariant.pooled within c.index_mut.ensures.value c.in-None.ensures.held
-          c.take_buf.ensures.share c.take_buf.ensures.within);
+          c.take_buf.ensures.claim c.take_buf.ensures.within);
     }
 
 pub send_packet-requires : goal.send_packet-requires
@@ -76,7 +80,7 @@ send_packet-requires c =
     c.self.invariant.pooled within c.index_mut.ensures.value
     (λ w. c.in-Some-Data.ensures.held w
     ∙ ap (λ x. weight w new.held + weight w (buffers_in x)) c.in-Some-Data.field-0-is)
-    c.take_buf.ensures.share c.take_buf.ensures.within)
+    c.take_buf.ensures.claim c.take_buf.ensures.within)
 
 pub invariant_of-self-in-Some-Data : goal.invariant_of-self-in-Some-Data
 invariant_of-self-in-Some-Data c =
@@ -98,22 +102,22 @@ invariant_of-self-in-Some-Data c =
           (with_end (λ e. asked e c.args.other.channel (Sending (datum_in c.in-Some-Data.packet)))) ys m
           c.index_mut-in-Some-Data.result.now c.send_packet.new.self inside c.index_mut-in-Some-Data.ensures.value
           c.send_packet.ensures.line
-          (λ l d. (refl, sending_calm l.end.layer c.args.other.channel d (TakenPacket (datum_in c.in-Some-Data.packet))))
+          (λ l d. (refl, onward_calm l.end.layer c.args.other.channel d (Sending (datum_in c.in-Some-Data.packet)) (sends (datum_in c.in-Some-Data.packet))))
           (one_stirred c.self.inside.to_relay c.insert_join.new.self c.self.inside.refusing
           (with_end (λ e. asked e c.args.place.channel Taking)) xs xs n c.args.place.channel (Some c.args.other)
           c.index_mut.result.now new within c.index_mut.ensures.value c.take_buf.ensures.line refl
           (sym c.requires.joined ∙ ap (λ (ls : List SwitchLine). other_at ls c.args.place) (sym c.self.view_is))
           (not_of_join c.self.inside.to_relay c.insert_join.new.self c.args.place (Some c.args.other) c.insert_join.ensures)
           (λ l d. refl)
-          (λ l d small apart. request_apart l.end.layer c.args.place.channel d Taking apart) c.self.invariant.moves);
+          (λ l d small apart. (refl, request_apart l.end.layer c.args.place.channel d Taking apart)) c.self.invariant.moves);
       pooled = handed_in c.self.inside.pool c.send_packet.new.pool ys m c.index_mut-in-Some-Data.result.now
           c.send_packet.new.self c.in-Some-Data.packet.buffer
           (handed_out c.self.inside.pool xs n c.index_mut.result.now new (c.in-Some-Data.packet.buffer ∷ [])
           c.self.invariant.pooled within c.index_mut.ensures.value
           (λ w. c.in-Some-Data.ensures.held w
           ∙ ap (λ x. weight w new.held + weight w (buffers_in x)) c.in-Some-Data.field-0-is)
-          c.take_buf.ensures.share c.take_buf.ensures.within)
-          inside c.index_mut-in-Some-Data.ensures.value c.send_packet.ensures.pool c.send_packet.ensures.share
+          c.take_buf.ensures.claim c.take_buf.ensures.within)
+          inside c.index_mut-in-Some-Data.ensures.value c.send_packet.ensures.pool c.send_packet.ensures.claim
           c.send_packet.ensures.within;
     }
 
@@ -169,8 +173,28 @@ returns-in-Some-Data c =
     let sent = one_changed (with_end (λ e. asked e q.channel (Sending d))) ys (plain ys) q.line
     c.index_mut-in-Some-Data.result.now c.send_packet.new.self refl inside c.index_mut-in-Some-Data.ensures.value
     c.send_packet.ensures.line in
-    let carried_on = c.change.ensures
-    ∙ ap₂ (λ (b : Bool) (ls : List SwitchLine). kept_at c.args.place (carried b) ls) c.delivery-delivery.ensures
+    let carried_on = c.pass.ensures d
+    ∙ ap₂ (λ (b : Bool) (ls : List SwitchLine). kept_at c.args.place (carried b (all_made (d ∷ []))) ls) c.delivery-delivery.ensures
     (sent ∙ ap (λ (ls : List SwitchLine). ask q (Sending d) ls) taken) in
-    subst (λ (o : Option TakenValue). MovesFront o c.args.place q c.args.self.now c.change.new.self) front
-    (carried_on, c.send_packet.ensures.fits)
+    subst (λ (o : Option TakenValue). MovesFront o c.args.place q c.args.self.now c.pass.new.self) front
+    (carried_on ∙ whole_on d c.args.self.now c.args.place q c.requires.whole c.requires.nothing, tt)
+
+pub pass-requires : goal.pass-requires
+pass-requires c =
+    let xs = c.self.inside.lines.items in
+    let within = seen_within xs c.args.self.now c.args.place.line c.self.view_is c.requires.there in
+    let n = c.args.place.line in
+    let q = c.args.other in
+    let new = c.take_buf.new.self in
+    let taken = one_changed (with_end (λ e. asked e c.args.place.channel Taking)) xs c.args.self.now n c.index_mut.result.now
+    new c.self.view_is within c.index_mut.ensures.value c.take_buf.ensures.line in
+    let d = datum_in c.in-Some-Data.packet in
+    let ys = set xs n new in
+    let kept = count_written xs n new in
+    let inside : c.args.other.line < length ys = omega (arith, kept, seen_within xs c.args.self.now c.args.other.line c.self.view_is c.requires.other) in
+    let sent = one_changed (with_end (λ e. asked e q.channel (Sending d))) ys (plain ys) q.line
+    c.index_mut-in-Some-Data.result.now c.send_packet.new.self refl inside c.index_mut-in-Some-Data.ensures.value
+    c.send_packet.ensures.line in
+    ap (λ (ls : List SwitchLine). gathered_by (joined_at ls c.args.place)) (sent ∙ ap (λ (ls : List SwitchLine). ask q (Sending d) ls) taken)
+    ∙ ap gathered_by (joined_asked q (Sending d) c.args.place (ask c.args.place Taking c.args.self.now) ∙ joined_asked c.args.place Taking c.args.place c.args.self.now)
+    ∙ c.requires.nothing

@@ -1,0 +1,168 @@
+//! What is taken on one leg of a join goes on to the other one, where the packet sizes of their lines may differ (X.25
+//! 4.3.4).
+ghost use Rattle.std.specs.Prelude.{◌≡◌, ◌<◌, ◌≤◌, [], ◌∷◌, Some, length, map, slice_get};
+ghost use Rattle.std.specs.Bool.{OnTrue};
+ghost use Rattle.packet_layer.specs.Channel.{Request as ask_for};
+ghost use Rattle.packet_layer.specs.Packets.{Datum};
+ghost use Rattle.packet_layer.specs.TakenView.{maybe_front, maybe_taken};
+ghost use Rattle.switch_joins.specs.Direction.{carried};
+ghost use Rattle.switch_joins.specs.Joins.{gathered_by};
+ghost use Rattle.switch_joins.specs.Turning.{nothing_gathered, all_made, turned};
+ghost use Rattle.switch_lines.specs.Lines.{ask, ask_all, joined_at, front_at, sizes_at};
+ghost use Rattle.switch_lines.specs.OfLine.{kept_at, TakesFront, MovesFront};
+ghost use Rattle.switch_lines.specs.Pooled.{PooledLine, plain};
+ghost use Rattle.switch_lines.specs.Waiting.{other_at};
+
+use crate::line::SwitchLine;
+use crate::lines::{Lines, other_of};
+use packet_layer::{Front, Request, Taken, TakenBuf, UserData};
+use switch_joins::{Outline, Sizes, SwitchChannel};
+
+// The packet sizes of the lines of two channels.
+fn sizes_of(lines: &[SwitchLine], place: SwitchChannel, other: SwitchChannel) -> Sizes
+    requires there { place.line < length lines.now }
+    requires other { other.line < length lines.now }
+    ensures sizes { result ≡ sizes_at (plain lines.now) place other }
+    ensures fits { (far : PooledLine) → slice_get lines.now other.line ≡ Some far → result.far ≤ far.claim.info }
+{
+    Sizes::new(lines[place.line].size(), lines[other.line].size())
+}
+
+impl Lines {
+    // The packet sizes of the lines of two channels.
+    fn sizes(&self, place: SwitchChannel, other: SwitchChannel) -> Sizes
+        requires there { place.line < length self.now }
+        requires other { other.line < length self.now }
+        ensures { result ≡ sizes_at self.now place other }
+    {
+        sizes_of(&self.lines, place, other)
+    }
+
+    // Whether the other leg of a join takes every packet that the first one on a channel makes due.
+    pub(super) fn may_take(&self, place: SwitchChannel, other: SwitchChannel, front: Front) -> bool
+        requires { maybe_front (front_at self.now place) ≡ Some front }
+        ensures takes { TakesFront result self.now place other }
+        ensures there { OnTrue result (other.line < length self.now) }
+    {
+        let Some(far) = self.lines.get(other.line) else {
+            return false;
+        };
+        match front {
+            Front::Interrupt => far.may_interrupt(other.channel),
+            Front::Data {
+                length,
+                more,
+                qualified,
+                delivery,
+            } => {
+                let packet = Outline {
+                    length,
+                    more,
+                    qualified,
+                    delivery,
+                };
+                let sizes = self.sizes(place, other);
+                let near = &self.lines[place.line];
+                match near.packets_due(place.channel, sizes, packet, &self.pool) {
+                    Some(due) => due <= usize::from(far.room(other.channel)),
+                    None => false,
+                }
+            }
+        }
+    }
+
+    // What waits first on a joined channel is taken there, and goes on to the other leg.
+    pub(super) fn move_front(&mut self, place: SwitchChannel, other: SwitchChannel)
+        requires there { place.line < length self.old }
+        requires other { other.line < length self.old }
+        requires joined { other_at self.old place ≡ Some other }
+        ensures { MovesFront (front_at self.old place) place other self.old self.new }
+    {
+        let sizes = self.sizes(place, other);
+        if self.lines[place.line].goes_whole(place.channel, sizes) {
+            self.move_whole(place, other);
+        } else {
+            self.move_turned(place, other);
+        }
+    }
+
+    // The same where a packet goes on as it is, in its buffer.
+    fn move_whole(&mut self, place: SwitchChannel, other: SwitchChannel)
+        requires there { place.line < length self.old }
+        requires other { other.line < length self.old }
+        requires joined { other_at self.old place ≡ Some other }
+        requires whole { (sizes_at self.old place other).near ≡ (sizes_at self.old place other).far }
+        requires nothing { gathered_by (joined_at self.old place) ≡ nothing_gathered }
+        ensures { MovesFront (front_at self.old place) place other self.old self.new }
+    {
+        self.touched.insert(place.line);
+        self.to_relay.insert_join(place, Some(other));
+        match self.lines[place.line].take_buf(place.channel) {
+            Some(TakenBuf::Interrupt(interrupt)) => {
+                self.ask(other, &Request::Interrupt(interrupt.octets()));
+            }
+            Some(TakenBuf::Data(packet)) => {
+                let delivery = packet.delivery();
+                self.touched.insert(other.line);
+                self.lines[other.line].send_packet(other.channel, packet, &mut self.pool);
+                self.pass(place, delivery);
+            }
+            None => {}
+        }
+    }
+
+    // A packet was taken on a joined channel, with D = 1 or without, and went on as it is.
+    fn pass(&mut self, place: SwitchChannel, delivery: bool)
+        requires { gathered_by (joined_at self.old place) ≡ nothing_gathered }
+        ensures { (d : Datum) → self.new ≡ kept_at place (carried delivery (all_made (d ∷ []))) self.old }
+    {
+        if place.line < self.lines.len() {
+            self.lines[place.line].pass(place.channel, delivery);
+        }
+    }
+
+    // What waits first on a joined channel is taken there, and what it makes due goes on to the other leg.
+    fn move_turned(&mut self, place: SwitchChannel, other: SwitchChannel)
+        requires there { place.line < length self.old }
+        requires other { other.line < length self.old }
+        ensures { MovesFront (front_at self.old place) place other self.old self.new }
+    {
+        match self.take(place) {
+            Some(Taken::Interrupt(interrupt)) => {
+                self.ask(other, &Request::Interrupt(interrupt.octets()));
+            }
+            Some(Taken::Data(packet)) => self.turn(place, other, &packet),
+            None => {}
+        }
+    }
+
+    // Takes what waits first on a channel, if anything.
+    fn take(&mut self, place: SwitchChannel) -> Option<Taken>
+        requires { place.line < length self.old }
+        ensures taken { maybe_taken result ≡ front_at self.old place }
+        ensures lines { self.new ≡ ask place ask_for.Taking self.old }
+    {
+        self.touched.insert(place.line);
+        self.to_relay
+            .insert_join(place, other_of(&self.lines, place));
+        self.lines[place.line].take(place.channel, &mut self.pool)
+    }
+
+    // What a packet that was taken on a joined channel makes due is sent on the other leg, and what is left is gathered.
+    fn turn(&mut self, place: SwitchChannel, other: SwitchChannel, packet: &UserData)
+        requires there { place.line < length self.old }
+        requires other { other.line < length self.old }
+        ensures { let turn = turned (sizes_at self.old place other) (gathered_by (joined_at self.old place)) packet.now in
+            self.new ≡ kept_at place (carried packet.now.delivery turn)
+            (ask_all other (map ask_for.Sending turn.made) self.old) }
+    {
+        let sizes = sizes_of(&self.lines, place, other);
+        let near = &self.lines[place.line];
+        let turned = near.turned(place.channel, sizes, packet, &self.pool);
+        self.touched.insert(other.line);
+        self.lines[other.line].send_all(other.channel, &turned, &mut self.pool);
+        self.to_relay
+            .insert_join(place, other_of(&self.lines, place));
+        self.lines[place.line].carry(place.channel, packet.delivery(), &turned, &mut self.pool);
+    }
+}
