@@ -1,15 +1,9 @@
 -- The room of a book, as its parts change.
-use Rattle.std.proofs.Common.{◌≡◌, ℕ, zero, suc, ◌+◌, ◌-◌, ◌<◌, ◌≤◌, List, map, length, refl, sym, ap, subst, ◌∙◌, inl, inr, arith}
+use Rattle.std.proofs.Common.{◌≡◌, ℕ, zero, suc, ◌+◌, ◌<◌, ◌≤◌, List, map, length, sym, ap, subst, ◌∙◌, inl, inr, arith}
 use Rattle.std.specs.Prelude.{◌⊎◌, Some, None}
 use Rattle.link_timers.specs.declared.role.Role.{Role}
 use Rattle.link_timers.specs.declared.role.Role.TheVariants.{Dte, Dce}
-use Rattle.packet_layer.specs.Packets.{Datum}
-use Rattle.packet_layer.specs.Traffic.{Taken}
-use Rattle.packet_layer.specs.Traffic.Taken.{TakenInterrupt, TakenPacket}
-use Rattle.epochs.specs.Item.{DataPacket}
-use Rattle.call_records.specs.Records.{with_taken, with_interrupt_taken}
-use Rattle.call_records.specs.Book.{Book, Slot, Side, side_of, nth_slot, with_nth, with_slot, changed, takes, packet_of}
-use Rattle.call_records.specs.Room.{BookState}
+use Rattle.call_records.specs.Book.{Book, Slot, Side, side_of, nth_slot, with_nth, with_slot}
 use Rattle.call_records.specs.RecordView.{shown, pair_of, PlacesAt}
 use Rattle.call_records.specs.BookView.{book_with, book_of, CallsHavePlaces, HasRoom}
 use Rattle.call_records.specs.declared.ends.Ends.{Ends}
@@ -82,14 +76,6 @@ put_room a ends Dce channel slot e none p = record {
   dte = same_places a.places ends.dte.slots a.ends.dte.slots a.records.items (ap (λ (b : Book). b.dte.slots) e) p.dte;
   dce = put_places a.places channel ends.dce.slots a.ends.dce.slots slot a.records.items (ap (λ (b : Book). b.dce.slots) e) none p.dce;
 }
-
-pub takes_interrupt : (s : BookState) (role : Role) (channel : ℕ) (t : Taken) (kept octets : List ℕ) → t ≡ TakenInterrupt octets → kept ≡ octets
-    → ◌≡◌ {A = BookState} (record s { book = changed role channel (with_interrupt_taken kept) s.book; room = s.room - 1 }) (record s { book = takes role channel (Some t) s.book; room = s.room - 1 })
-takes_interrupt s role channel t kept octets e h = rw (e, h) refl
-
-pub takes_packet : (s : BookState) (role : Role) (channel : ℕ) (t : Taken) (kept : DataPacket) (d : Datum) → t ≡ TakenPacket d → kept ≡ packet_of d
-    → ◌≡◌ {A = BookState} (record s { book = changed role channel (with_taken kept) s.book; room = s.room - 1 }) (record s { book = takes role channel (Some t) s.book; room = s.room - 1 })
-takes_packet s role channel t kept d e h = rw (e, h) refl
 
 -- the record of the present call on each channel up to the next one has the places, where it is a call's
 pub this_or_before : (slots : List Slot) (place count this : ℕ) (rs : List Record) → (nth_slot slots (place + 1)).present ≡ Some this → PlacesAt count this rs

@@ -1,11 +1,11 @@
 -- Packets that are written one behind the other, read and added.
-use Rattle.std.proofs.Common.{◌≡◌, ℕ, zero, suc, ◌+◌, ◌-◌, ◌≤◌, Bool, true, false, List, [], ◌∷◌, ◌++◌, length, take, drop, slice_index_or, refl, sym, ap, subst, ◌∙◌, arith}
+use Rattle.std.proofs.Common.{◌≡◌, ℕ, zero, suc, ◌+◌, ◌-◌, ◌/◌, ◌%◌, ◌≤◌, Bool, true, false, List, [], ◌∷◌, ◌++◌, length, take, drop, slice_index_or, refl, sym, ap, ap₂, subst, ◌∙◌, arith}
 use Rattle.std.specs.Prelude.{Result, Ok, Err, IsOk, is_ok, if◌then◌else◌, Option, Some, None, MatchOption}
 use Rattle.std.specs.List.{flat_map}
 use mir.Val.{bool_byte}
 use Rattle.std.proofs.lemmas.List.{append_assoc, length_push, length-append, length-take, drop-drop}
 use Rattle.epochs.specs.Item.{DataPacket}
-use Rattle.call_records.specs.Packets.{data_packet_of, bit, is_set, written, read_packets, AreWritten, AreThere}
+use Rattle.call_records.specs.Packets.{data_packet_of, bit, is_set, first_octet, second_octet, written, length_read, read_packets, AreWritten, AreThere}
 use Rattle.call_records.specs.declared.packets.Packet.{Packet}
 
 take_front : (xs ys : List ℕ) → take (length xs) (xs ++ ys) ≡ xs
@@ -16,9 +16,29 @@ drop_front : (xs ys : List ℕ) → drop (length xs) (xs ++ ys) ≡ ys
 drop_front [] ys = refl
 drop_front (x ∷ xs) ys = drop_front xs ys
 
-set_bit : (b : Bool) → is_set (bit b) ≡ b
-set_bit true = refl
-set_bit false = refl
+-- ---- a head is read as it is written
+
+pub bit_small : (b : Bool) → bit b ≤ 1
+bit_small true = omega arith
+bit_small false = omega arith
+
+set_bit : (b : Bool) (n : ℕ) → n ≡ bit b → is_set n ≡ b
+set_bit true n e = rw e refl
+set_bit false n e = rw e refl
+
+read_length : (p : DataPacket) → length_read (first_octet p) (second_octet p) ≡ length p.octets
+read_length p = omega (arith, bit_small p.more, bit_small p.qualified, bit_small p.delivery)
+
+read_more_bit : (p : DataPacket) → is_set (first_octet p / 4 % 2) ≡ p.more
+read_more_bit p = set_bit p.more _ (omega (arith, bit_small p.more, bit_small p.qualified, bit_small p.delivery))
+
+read_qualified : (p : DataPacket) → is_set (first_octet p / 2 % 2) ≡ p.qualified
+read_qualified p =
+    set_bit p.qualified _ (omega (arith, bit_small p.more, bit_small p.qualified, bit_small p.delivery))
+
+read_delivery : (p : DataPacket) → is_set (first_octet p % 2) ≡ p.delivery
+read_delivery p =
+    set_bit p.delivery _ (omega (arith, bit_small p.more, bit_small p.qualified, bit_small p.delivery))
 
 pub octet_of : (b : Bool) → bool_byte b ≡ bit b
 octet_of true = refl
@@ -33,17 +53,18 @@ where_ok (Err fault) new x y e ok = absurd (cc)
 read_back : (ps : List DataPacket) → read_packets (length ps) (flat_map written ps) ≡ ps
 read_back [] = refl
 read_back (p ∷ ps) = rw (
+  read_length p,
   take_front p.octets (flat_map written ps),
   drop_front p.octets (flat_map written ps),
-  set_bit p.more,
-  set_bit p.qualified,
-  set_bit p.delivery,
+  read_more_bit p,
+  read_qualified p,
+  read_delivery p,
   read_back ps,
 ) refl
 
 -- one behind the others
 all_with : (ps : List DataPacket) (p : DataPacket) → flat_map written (ps ++ p ∷ []) ≡ flat_map written ps ++ written p
-all_with [] p = ap (λ xs. length p.octets ∷ bit p.more ∷ bit p.qualified ∷ bit p.delivery ∷ xs) (append_nil p.octets) where
+all_with [] p = ap (λ xs. first_octet p ∷ second_octet p ∷ xs) (append_nil p.octets) where
   append_nil : (xs : List ℕ) → xs ++ [] ≡ xs
   append_nil [] = refl
   append_nil (x ∷ xs) = ap (λ zs. x ∷ zs) (append_nil xs)
@@ -75,25 +96,36 @@ count_fits n os w = omega (arith, few (read_packets n os), w.counted, ap (λ (xs
 
 -- ---- taken from the front
 
+abbrev pub front_length : List ℕ → ℕ
+front_length os = length_read (slice_index_or os 0 0) (slice_index_or os 1 0)
+
 abbrev pub first_of : List ℕ → DataPacket
 first_of os = record {
-  octets = take (slice_index_or os 0 0) (drop 4 os);
-  more = is_set (slice_index_or os 1 0);
-  qualified = is_set (slice_index_or os 2 0);
-  delivery = is_set (slice_index_or os 3 0);
+  octets = take (front_length os) (drop 2 os);
+  more = is_set (slice_index_or os 0 0 / 4 % 2);
+  qualified = is_set (slice_index_or os 0 0 / 2 % 2);
+  delivery = is_set (slice_index_or os 0 0 % 2);
 }
 
 abbrev pub behind : List ℕ → List ℕ
-behind os = drop (slice_index_or os 0 0) (drop 4 os)
+behind os = drop (front_length os) (drop 2 os)
+
+-- the first of them has the length that is read
+whole_length : (n a b : ℕ) (os : List ℕ) → AreWritten (suc n) (a ∷ b ∷ os) → length_read a b ≡ length (take (length_read a b) os)
+whole_length n a b os w =
+    let p = first_of (a ∷ b ∷ os) in
+    let first : a ≡ first_octet p = ap (λ xs. slice_index_or xs 0 0) w.whole in
+    let second : b ≡ second_octet p = ap (λ xs. slice_index_or xs 1 0) w.whole in
+    ap₂ (λ m n. length_read m n) first second ∙ read_length p
 
 -- what is written behind the first of them
-written_behind : (n a b c d : ℕ) (os : List ℕ) → AreWritten (suc n) (a ∷ b ∷ c ∷ d ∷ os) → AreWritten n (drop a os)
-written_behind n a b c d os w =
-    let rest = flat_map written (read_packets n (drop a os)) in
-    let size : a ≡ length (take a os) = ap (λ xs. slice_index_or xs 0 0) w.whole in
-    let tail : os ≡ take a os ++ rest = ap (λ (xs : List ℕ). drop 4 xs) w.whole in
+written_behind : (n a b : ℕ) (os : List ℕ) → AreWritten (suc n) (a ∷ b ∷ os) → AreWritten n (drop (length_read a b) os)
+written_behind n a b os w =
+    let size = length_read a b in
+    let rest = flat_map written (read_packets n (drop size os)) in
+    let tail : os ≡ take size os ++ rest = ap (λ (xs : List ℕ). drop 2 xs) w.whole in
     record {
-      whole = ap (λ xs. drop a xs) tail ∙ ap (λ k. drop k (take a os ++ rest)) size ∙ drop_front (take a os) rest;
+      whole = ap (λ xs. drop size xs) tail ∙ ap (λ k. drop k (take size os ++ rest)) (whole_length n a b os w) ∙ drop_front (take size os) rest;
       counted = omega (arith, w.counted);
     }
 
@@ -102,25 +134,22 @@ pub are_there : (n : ℕ) (os : List ℕ) → AreWritten n os → AreThere n os
 are_there zero os w = tt
 are_there (suc n) [] w = absurd (let no : ⊥ = omega (arith, w.counted) in no)
 are_there (suc n) (a ∷ []) w = absurd (let no : ⊥ = omega (arith, w.counted) in no)
-are_there (suc n) (a ∷ b ∷ []) w = absurd (let no : ⊥ = omega (arith, w.counted) in no)
-are_there (suc n) (a ∷ b ∷ c ∷ []) w = absurd (let no : ⊥ = omega (arith, w.counted) in no)
-are_there (suc n) (a ∷ b ∷ c ∷ d ∷ os) w =
-    let size : a ≡ length (take a os) = ap (λ xs. slice_index_or xs 0 0) w.whole in
-    let fits : a ≤ length os = omega (arith, size, length-take a os) in
-    (fits, are_there n (drop a os) (written_behind n a b c d os w))
+are_there (suc n) (a ∷ b ∷ os) w =
+    let size = length_read a b in
+    let fits : size ≤ length os = omega (arith, whole_length n a b os w, length-take size os) in
+    (fits, are_there n (drop size os) (written_behind n a b os w))
 
 -- the first of them fits, is read, and those behind it are there
 pub first_there : (n : ℕ) (os : List ℕ) → 1 ≤ n → AreThere n os
-    → (slice_index_or os 0 0 ≤ length (drop 4 os)) × (read_packets n os ≡ first_of os ∷ read_packets (n - 1) (behind os)) × AreThere (n - 1) (behind os)
+    → (front_length os ≤ length (drop 2 os)) × (read_packets n os ≡ first_of os ∷ read_packets (n - 1) (behind os)) × AreThere (n - 1) (behind os)
 first_there zero os h t = absurd (let no : ⊥ = omega (arith, h) in no)
 first_there (suc n) [] h t = absurd t
 first_there (suc n) (a ∷ []) h t = absurd t
-first_there (suc n) (a ∷ b ∷ []) h t = absurd t
-first_there (suc n) (a ∷ b ∷ c ∷ []) h t = absurd t
-first_there (suc n) (a ∷ b ∷ c ∷ d ∷ os) h t =
+first_there (suc n) (a ∷ b ∷ os) h t =
+    let size = length_read a b in
     let less : n ≡ suc n - 1 = omega arith in
-    let P : ℕ → Type 0 = λ k. AreThere k (drop a os) in
-    (t.0, ap (λ k. first_of (a ∷ b ∷ c ∷ d ∷ os) ∷ read_packets k (drop a os)) less, subst P less t.1)
+    let P : ℕ → Type 0 = λ k. AreThere k (drop size os) in
+    (t.0, ap (λ k. first_of (a ∷ b ∷ os) ∷ read_packets k (drop size os)) less, subst P less t.1)
 
 -- ---- some of them
 
@@ -128,9 +157,7 @@ pub read_count : (n : ℕ) (os : List ℕ) → AreThere n os → length (read_pa
 read_count zero os t = refl
 read_count (suc n) [] t = absurd t
 read_count (suc n) (a ∷ []) t = absurd t
-read_count (suc n) (a ∷ b ∷ []) t = absurd t
-read_count (suc n) (a ∷ b ∷ c ∷ []) t = absurd t
-read_count (suc n) (a ∷ b ∷ c ∷ d ∷ os) t = ap suc (read_count n (drop a os) t.1)
+read_count (suc n) (a ∷ b ∷ os) t = ap suc (read_count n (drop (length_read a b) os) t.1)
 
 -- the first k of them are there, and read
 pub fewer_there : (k n : ℕ) (os : List ℕ) → k ≤ n → AreThere n os → AreThere k os × (read_packets k os ≡ take k (read_packets n os))
@@ -138,11 +165,9 @@ fewer_there zero n os h t = (tt, refl)
 fewer_there (suc k) zero os h t = absurd (let no : ⊥ = omega (arith, h) in no)
 fewer_there (suc k) (suc n) [] h t = absurd t
 fewer_there (suc k) (suc n) (a ∷ []) h t = absurd t
-fewer_there (suc k) (suc n) (a ∷ b ∷ []) h t = absurd t
-fewer_there (suc k) (suc n) (a ∷ b ∷ c ∷ []) h t = absurd t
-fewer_there (suc k) (suc n) (a ∷ b ∷ c ∷ d ∷ os) h t =
-    let rest = fewer_there k n (drop a os) (omega (arith, h)) t.1 in
-    ((t.0, rest.0), ap (λ (ps : List DataPacket). first_of (a ∷ b ∷ c ∷ d ∷ os) ∷ ps) rest.1)
+fewer_there (suc k) (suc n) (a ∷ b ∷ os) h t =
+    let rest = fewer_there k n (drop (length_read a b) os) (omega (arith, h)) t.1 in
+    ((t.0, rest.0), ap (λ (ps : List DataPacket). first_of (a ∷ b ∷ os) ∷ ps) rest.1)
 
 -- one more is left out at the front
 next_left : (old new : List DataPacket) (r : Option Packet) → MatchOption r ((old ≡ []) × (new ≡ [])) (λ p. old ≡ data_packet_of p ∷ new) → new ≡ drop 1 old

@@ -1,6 +1,6 @@
 -- Packets as a record keeps them, written one behind the other.
-use Rattle.std.specs.Prelude.{◌≡◌, ℕ, zero, suc, ◌≤◌, ◌==◌, Bool, true, false, not, List, [], ◌∷◌, length, take}
-use Rattle.std.specs.Prelude.{drop}
+use Rattle.std.specs.Prelude.{◌≡◌, ℕ, zero, suc, ◌+◌, ◌-◌, ◌*◌, ◌/◌, ◌%◌, ◌≤◌, ◌==◌, Bool, true, false, not}
+use Rattle.std.specs.Prelude.{List, [], ◌∷◌, length, take, drop}
 use Rattle.std.specs.List.{flat_map}
 use Rattle.epochs.specs.Item.{DataPacket}
 use Rattle.call_records.specs.declared.packets.Packet.{Packet}
@@ -13,27 +13,46 @@ pub record PacketsState : Type 0 where
 abbrev pub data_packet_of : Packet → DataPacket
 data_packet_of p = record { octets = p.octets.now; more = p.more; qualified = p.qualified; delivery = p.delivery }
 
--- a bit as an octet, and back
+-- how many places a packet takes: one for each 128 octets that it begins, and at least one
+abbrev pub places_of : List ℕ → ℕ
+places_of octets = 1 + (length octets - 1) / 128
+
+-- ---- as they are written
+
+-- a bit as a number, and back
 abbrev pub bit : Bool → ℕ
 bit true = 1
 bit false = 0
 
 abbrev pub is_set : ℕ → Bool
-is_set octet = not (octet == 0)
+is_set number = not (number == 0)
 
--- a packet as it is written: its length, its bits and its octets
+-- the head of a packet: the length in all of its second octet and above the three lowest bits of the first one, which
+-- are M, Q and D
+abbrev pub bits_of : DataPacket → ℕ
+bits_of p = 4 * bit p.more + 2 * bit p.qualified + bit p.delivery
+
+abbrev pub first_octet : DataPacket → ℕ
+first_octet p = 8 * (length p.octets / 256) + bits_of p
+
+abbrev pub second_octet : DataPacket → ℕ
+second_octet p = length p.octets % 256
+
 abbrev pub written : DataPacket → List ℕ
-written p = length p.octets ∷ bit p.more ∷ bit p.qualified ∷ bit p.delivery ∷ p.octets
+written p = first_octet p ∷ second_octet p ∷ p.octets
+
+abbrev pub length_read : (first second : ℕ) → ℕ
+length_read first second = 256 * (first / 8) + second
 
 -- so many packets, as they are read from what is written
 abbrev pub read_packets : ℕ → List ℕ → List DataPacket
 read_packets zero octets = []
-read_packets (suc count) (len ∷ more ∷ qualified ∷ delivery ∷ octets) = record {
-  octets = take len octets;
-  more = is_set more;
-  qualified = is_set qualified;
-  delivery = is_set delivery;
-} ∷ read_packets count (drop len octets)
+read_packets (suc count) (first ∷ second ∷ octets) = record {
+  octets = take (length_read first second) octets;
+  more = is_set (first / 4 % 2);
+  qualified = is_set (first / 2 % 2);
+  delivery = is_set (first % 2);
+} ∷ read_packets count (drop (length_read first second) octets)
 read_packets (suc count) _ = []
 
 -- so many packets are written there, and nothing else
@@ -44,6 +63,6 @@ pub record AreWritten (count : ℕ) (octets : List ℕ) : Type 0 where
 -- so many packets are wholly there at the front, whatever is written behind them
 abbrev pub AreThere : ℕ → List ℕ → Type 0
 AreThere zero octets = Unit {0}
-AreThere (suc count) (len ∷ more ∷ qualified ∷ delivery ∷ octets) =
-    (len ≤ length octets) × AreThere count (drop len octets)
+AreThere (suc count) (first ∷ second ∷ octets) =
+    (length_read first second ≤ length octets) × AreThere count (drop (length_read first second) octets)
 AreThere (suc count) _ = ⊥

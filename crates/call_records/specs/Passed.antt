@@ -49,10 +49,10 @@ with_end e = record { before = e.before ++ e.last ∷ []; last = empty_part }
 
 -- ---- room
 
--- for so many packets, of which each takes at most 132 octets, as many interrupts and as many ends of epochs more there
--- is memory
+-- for packets that take so many places, of which each needs at most 130 octets, as many interrupts and as many ends of
+-- epochs more there is memory
 pub record HasSpare (room : ℕ) (p : PassedState) : Type 0 where
-  pub octets : 132 * room ≤ p.octets
+  pub octets : 130 * room ≤ p.octets
   pub interrupts : room ≤ p.interrupts
   pub ends : room ≤ p.ends
 

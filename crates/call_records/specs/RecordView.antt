@@ -4,7 +4,7 @@ use Rattle.epochs.specs.Epoch.{SentEpoch as Sent, TakenEpoch as Taken}
 use Rattle.pad_editing.specs.Edited.{Step, key, idle}
 use Rattle.call_records.specs.Records.{RecordValue, HopValue, PairValue, with_step, with_sent, with_interrupt_sent}
 use Rattle.call_records.specs.Records.{with_taken, with_interrupt_taken, with_released, with_covered, with_epoch, with_closed}
-use Rattle.call_records.specs.Packets.{data_packet_of}
+use Rattle.call_records.specs.Packets.{data_packet_of, places_of}
 use Rattle.call_records.specs.Passed.{Part, HasSpare, HasNoSpare}
 use Rattle.call_records.specs.declared.record.EditStep.{EditStep}
 use Rattle.call_records.specs.declared.record.EditStep.TheVariants as edit_step
@@ -81,17 +81,19 @@ grown (growth.Step step) r = with_step (step_of step) r
 grown growth.Epoch r = with_epoch r
 grown growth.Closed r = with_closed r
 
--- a packet has at most 128 octets
+-- a packet has at most 1,024 octets
 abbrev pub Fits : Growth → Type 0
-Fits (growth.Sent packet) = length packet.octets.now ≤ 128
-Fits (growth.Taken packet) = length packet.octets.now ≤ 128
+Fits (growth.Sent packet) = length packet.octets.now ≤ 1024
+Fits (growth.Taken packet) = length packet.octets.now ≤ 1024
 Fits _ = Unit {0}
 
--- how much room a write needs, and how much it leaves
+-- how much room a write needs, and how much it leaves: a packet needs as much as it has places
 abbrev pub needed : Growth → ℕ
 needed (growth.Covered count) = 0
 needed (growth.Released count) = 0
 needed growth.Closed = 0
+needed (growth.Sent packet) = places_of packet.octets.now
+needed (growth.Taken packet) = places_of packet.octets.now
 needed _ = 1
 
 abbrev pub left : Growth → (room : ℕ) → ℕ
@@ -99,4 +101,6 @@ left (growth.Covered count) room = room
 left (growth.Released count) room = room
 left growth.Closed room = room
 left growth.Epoch room = 0
+left (growth.Sent packet) room = room - places_of packet.octets.now
+left (growth.Taken packet) room = room - places_of packet.octets.now
 left _ room = room - 1

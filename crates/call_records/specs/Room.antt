@@ -1,13 +1,22 @@
--- The book with its room: for how many writes memory was reserved, and for how many pairs.
+-- The book with its room: for how many writes memory was reserved, where a packet counts with all of its places, and
+-- for how many pairs.
 use Rattle.std.specs.Prelude.{ℕ, ◌+◌, Bool, true, false, List, [], ◌∷◌}
 use Rattle.packet_layer.specs.Packets.{Note}
 use Rattle.packet_layer.specs.Packets.Note.{Incoming, Connected, Closed, WasReset, InterruptConfirmed, Covered}
+use Rattle.packet_layer.specs.Traffic.{Taken}
+use Rattle.packet_layer.specs.Traffic.Taken.{TakenInterrupt, TakenPacket}
 use Rattle.call_records.specs.Book.{Book}
+use Rattle.call_records.specs.Packets.{places_of}
 
 pub record BookState : Type 0 where
   pub book : Book
   pub room : ℕ
   pub pairs : ℕ
+
+-- the room that a packet or an interrupt needs that was taken
+abbrev pub taken_room : Taken → ℕ
+taken_room (TakenInterrupt octets) = 1
+taken_room (TakenPacket d) = places_of d.octets
 
 -- a note that opens something, a call or an epoch, for which no memory was reserved yet
 abbrev pub opens : Note → Bool

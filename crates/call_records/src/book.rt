@@ -3,15 +3,15 @@ ghost use Rattle.std.specs.Prelude.{◌≡◌, ◌≤◌, ◌+◌, ◌-◌, ℕ,
 ghost use Rattle.std.specs.Prelude.{◌<◌, ◌++◌, vec_capacity};
 ghost use Rattle.std.specs.Option.{option_to_list};
 ghost use Rattle.packet_layer.specs.NoteView.{note_of};
-ghost use Rattle.packet_layer.specs.TakenView.{taken_of};
+ghost use Rattle.packet_layer.specs.TakenView.{taken_with, HasFewOctets};
 ghost use Rattle.packet_layer.specs.Octets.{parts_of};
 ghost use Rattle.call_records.specs.Book.{made_book, slot_at, address_of, with_change, changed, places, comes};
 ghost use Rattle.call_records.specs.Book.{answers, closes, renews, sends, interrupts, takes, releases, covers, edits, told};
 ghost use Rattle.packet_codec.specs.Digits.{digits_or_none};
-ghost use Rattle.call_records.specs.Records.{changed_at, with_hop};
-ghost use Rattle.call_records.specs.Packets.{data_packet_of};
+ghost use Rattle.call_records.specs.Records.{changed_at, with_taken, with_interrupt_taken, with_hop};
+ghost use Rattle.call_records.specs.Packets.{data_packet_of, places_of};
 ghost use Rattle.call_records.specs.Closing.{all_closed};
-ghost use Rattle.call_records.specs.Room.{opens, room_after};
+ghost use Rattle.call_records.specs.Room.{opens, room_after, taken_room};
 ghost use Rattle.call_records.specs.BookView.{CallsHavePlaces};
 ghost use Rattle.call_records.specs.RecordView.{shown, pair_of, step_of, grown, needed, left, Fits, PlacesAt, NoPlacesAt, hop_of};
 
@@ -22,7 +22,7 @@ use crate::passed::Passed;
 use crate::record::{EditStep, Growth, Hop, Pair, Record};
 use link_timers::Role;
 use packet_codec::{Address, CallBuf, CallData};
-use packet_layer::{LayerNote, Taken};
+use packet_layer::{Front, LayerNote};
 use std::alloc::{AllocError, Global};
 use std::marker::Model;
 
@@ -35,8 +35,9 @@ const MOST_SPARE: usize = 4;
 
 /// The book of a line: the records of the calls' two ends, the pairs of them that make a call, and for each end,
 /// channel by channel, which records belong there. Only `new` and `reserve` take memory; what is written needs room
-/// that was reserved. A call that comes in leaves no room, but that for pairs stays: so it can be accepted at once. The
-/// record of a call that is over keeps no spare room, once room is made again.
+/// that was reserved, a packet as much as it has places: [`Packet::places`]. A call that comes in leaves no room, but
+/// that for pairs stays: so it can be accepted at once. The record of a call that is over keeps no spare room, once room
+/// is made again.
 #[derive(Drop)]
 pub struct Book {
     alloc: Global,
@@ -314,13 +315,13 @@ impl Book {
         self.grow(role, channel, Growth::Epoch);
     }
 
-    /// A Data packet of at most 128 octets was accepted to be sent (X.25 4.3).
+    /// A Data packet of at most 1,024 octets was accepted to be sent (X.25 4.3).
     pub fn send(&mut self, role: Role, channel: u8, packet: Packet<'_>)
-        requires room { 1 ≤ self.old.room }
-        requires fits { length packet.octets.now ≤ 128 }
+        requires room { places_of packet.octets.now ≤ self.old.room }
+        requires fits { length packet.octets.now ≤ 1024 }
         ensures { self.new ≡ record self.old {
           book = sends role channel (data_packet_of packet.entry) self.old.book;
-          room = self.old.room - 1;
+          room = self.old.room - places_of packet.entry.octets.now;
         } }
     {
         self.grow(role, channel, Growth::Sent(packet));
@@ -338,29 +339,60 @@ impl Book {
         self.grow(role, channel, Growth::InterruptSent(Interrupt::new(octets)));
     }
 
-    /// A packet or an interrupt was taken.
-    pub fn take(&mut self, role: Role, channel: u8, taken: &Taken)
-        requires { 1 ≤ self.old.room }
+    /// A packet or an interrupt of these octets was taken.
+    pub fn take(&mut self, role: Role, channel: u8, front: &Front, octets: &[u8])
+        requires few { HasFewOctets front.now octets.now }
+        requires room { taken_room (taken_with front.now octets.now) ≤ self.old.room }
         ensures { self.new ≡ record self.old {
-          book = takes role channel (Some (taken_of taken.now)) self.old.book;
+          book = takes role channel (Some (taken_with front.now octets.now)) self.old.book;
+          room = self.old.room - taken_room (taken_with front.now octets.now);
+        } }
+    {
+        match *front {
+            Front::Interrupt => self.take_interrupt(role, channel, octets),
+            Front::Data {
+                more,
+                qualified,
+                delivery,
+                ..
+            } => {
+                let packet = Packet {
+                    octets,
+                    more,
+                    qualified,
+                    delivery,
+                };
+                self.take_packet(role, channel, packet);
+            }
+        }
+    }
+
+    /// A Data packet of at most 1,024 octets was taken.
+    pub fn take_packet(&mut self, role: Role, channel: u8, packet: Packet<'_>)
+        requires room { places_of packet.octets.now ≤ self.old.room }
+        requires fits { length packet.octets.now ≤ 1024 }
+        ensures { self.new ≡ record self.old {
+          book = changed role channel (with_taken (data_packet_of packet.entry)) self.old.book;
+          room = self.old.room - places_of packet.entry.octets.now;
+        } }
+    {
+        self.grow(role, channel, Growth::Taken(packet));
+    }
+
+    /// An interrupt of at most 32 octets was taken.
+    pub fn take_interrupt(&mut self, role: Role, channel: u8, octets: &[u8])
+        requires room { 1 ≤ self.old.room }
+        requires fits { length octets.now ≤ 32 }
+        ensures { self.new ≡ record self.old {
+          book = changed role channel (with_interrupt_taken octets.now) self.old.book;
           room = self.old.room - 1;
         } }
     {
-        match taken {
-            Taken::Interrupt(interrupt) => {
-                let interrupt = Interrupt::new(interrupt.octets());
-                self.grow(role, channel, Growth::InterruptTaken(interrupt));
-            }
-            Taken::Data(data) => {
-                let packet = Packet {
-                    octets: data.octets(),
-                    more: data.more(),
-                    qualified: data.qualified(),
-                    delivery: data.delivery(),
-                };
-                self.grow(role, channel, Growth::Taken(packet));
-            }
-        }
+        self.grow(
+            role,
+            channel,
+            Growth::InterruptTaken(Interrupt::new(octets)),
+        );
     }
 
     /// So many more of the packets taken are released, if so many are not yet (X.25 4.4.1.3).

@@ -1,16 +1,18 @@
 //! What a record keeps of the Data packets that passed on a call.
 ghost use Rattle.std.specs.Prelude.{◌≡◌, ◌≤◌, ◌==◌, ◌+◌, ◌-◌, ◌*◌, [], ◌∷◌, ◌++◌, OnOk, length, take, drop};
-ghost use Rattle.call_records.specs.Packets.{data_packet_of};
+ghost use Rattle.call_records.specs.Packets.{data_packet_of, places_of};
 
 use crate::spare::give_back;
-use packet_codec::MAX_USER_DATA;
 use std::alloc::{AllocError, Global};
 use std::marker::Model;
 
-/// The most octets that a packet takes, as it is written.
-const MOST_WRITTEN: usize = MAX_USER_DATA + 4;
+/// How many octets of user data a place has.
+const PLACE: usize = 128;
 
-/// A Data packet that passed on a call: at most 128 octets, and the bits M, Q and D (X.25 4.3).
+/// How many octets a packet takes as it is written, beside its own.
+const HEAD: usize = 2;
+
+/// A Data packet that passed on a call: at most 1,024 octets, and the bits M, Q and D (X.25 4.3).
 #[derive(Clone, Copy, PartialEq, Eq)]
 pub struct Packet<'a> {
     pub octets: &'a [u8],
@@ -19,7 +21,16 @@ pub struct Packet<'a> {
     pub delivery: bool,
 }
 
-/// Data packets in order, one written behind the other: of each its length and its bits M, Q and D, an octet each, and
+impl Packet<'_> {
+    /// How many places it takes: one for each 128 octets that it begins, and at least one.
+    pub fn places(&self) -> usize
+        ensures { result ≡ places_of self.now.octets.now }
+    {
+        self.octets.len().saturating_sub(1) / PLACE + 1
+    }
+}
+
+/// Data packets in order, one written behind the other: of each its length and its bits M, Q and D in two octets, and
 /// then its octets.
 #[derive(Drop)]
 pub(crate) struct Packets {
@@ -86,12 +97,12 @@ impl Packets {
         packets
     }
 
-    /// Makes room for so many packets more.
+    /// Makes room for packets that take so many places more.
     pub(crate) fn reserve(&mut self, count: usize) -> Result<(), AllocError>
         ensures same { self.new.packets ≡ self.old.packets }
-        ensures ok { OnOk result (132 * count ≤ self.new.spare) }
+        ensures ok { OnOk result (130 * count ≤ self.new.spare) }
     {
-        let Some(octets) = count.checked_mul(MOST_WRITTEN) else {
+        let Some(octets) = count.checked_mul(PLACE + HEAD) else {
             return Err(AllocError);
         };
         self.written.reserve(octets)
@@ -99,17 +110,16 @@ impl Packets {
 
     /// Adds a packet at the end.
     pub(crate) fn push(&mut self, packet: Packet<'_>)
-        requires fits { length packet.octets.now ≤ 128 }
-        requires spare { length packet.octets.now + 4 ≤ self.old.spare }
+        requires fits { length packet.octets.now ≤ 1024 }
+        requires spare { length packet.octets.now + 2 ≤ self.old.spare }
         ensures packets { self.new.packets ≡ self.old.packets ++ data_packet_of packet.entry ∷ [] }
-        ensures spare { self.old.spare ≤ self.new.spare + (length packet.entry.octets.now + 4) }
+        ensures spare { self.old.spare ≤ self.new.spare + (length packet.entry.octets.now + 2) }
     {
-        let head = [
-            packet.octets.len() as u8,
-            u8::from(packet.more),
-            u8::from(packet.qualified),
-            u8::from(packet.delivery),
-        ];
+        let length = packet.octets.len();
+        let bits = 4 * u8::from(packet.more)
+            + 2 * u8::from(packet.qualified)
+            + u8::from(packet.delivery);
+        let head = [8 * (length / 256) as u8 + bits, (length % 256) as u8];
         let _ = self.written.extend_from_slice(&head);
         let _ = self.written.extend_from_slice(packet.octets);
         self.count += 1;
@@ -174,17 +184,18 @@ impl<'a> Iterator for PacketsIter<'a> {
         if self.count == 0 {
             return None;
         }
-        let [length, more, qualified, delivery, rest @ ..] = self.written else {
+        let [first, second, rest @ ..] = self.written else {
             return None;
         };
-        let (octets, others) = rest.split_at(usize::from(*length));
+        let length = 256 * usize::from(first / 8) + usize::from(*second);
+        let (octets, others) = rest.split_at(length);
         self.written = others;
         self.count -= 1;
         Some(Packet {
             octets,
-            more: *more != 0,
-            qualified: *qualified != 0,
-            delivery: *delivery != 0,
+            more: first / 4 % 2 != 0,
+            qualified: first / 2 % 2 != 0,
+            delivery: first % 2 != 0,
         })
     }
 }

@@ -1,8 +1,8 @@
 //! What passed in one direction of a call, epoch by epoch, that is, between two resets.
 ghost use Rattle.std.specs.Bool.{OnTrue};
-ghost use Rattle.std.specs.Prelude.{◌≡◌, ◌≤◌, option_map, slice_get, length, OnOk};
+ghost use Rattle.std.specs.Prelude.{◌≡◌, ◌≤◌, ◌*◌, option_map, slice_get, length, OnOk};
 ghost use Rattle.call_records.specs.Records.{counted as counted_of};
-ghost use Rattle.call_records.specs.Packets.{data_packet_of};
+ghost use Rattle.call_records.specs.Packets.{data_packet_of, places_of};
 ghost use Rattle.call_records.specs.Passed.{first_epoch, with_packet, with_interrupt, with_counted, with_end};
 ghost use Rattle.call_records.specs.Passed.{HasSpare, HasNoSpare, HasUsed};
 ghost use Rattle.call_records.specs.EpochEnds.{outset, end_of, part_between, part_of, IsWithin};
@@ -124,7 +124,7 @@ impl Passed {
         epoch_between(&self.packets, interrupts, from, here)
     }
 
-    /// Makes room for so many packets, interrupts and ends of epochs more.
+    /// Makes room for packets that take so many places, for as many interrupts and as many ends of epochs more.
     pub(crate) fn reserve(&mut self, count: usize) -> Result<(), AllocError>
         ensures same { self.new.epochs ≡ self.old.epochs }
         ensures ok { OnOk result (HasSpare count self.new) }
@@ -136,10 +136,10 @@ impl Passed {
 
     /// A packet passed.
     pub(crate) fn push(&mut self, packet: Packet<'_>)
-        requires fits { length packet.octets.now ≤ 128 }
-        requires spare { 132 ≤ self.old.octets }
+        requires fits { length packet.octets.now ≤ 1024 }
+        requires spare { 130 * places_of packet.octets.now ≤ self.old.octets }
         ensures epochs { self.new.epochs ≡ with_packet (data_packet_of packet.entry) self.old.epochs }
-        ensures used { HasUsed 132 0 0 self.old self.new }
+        ensures used { HasUsed (130 * places_of packet.entry.octets.now) 0 0 self.old self.new }
     {
         self.packets.push(packet);
     }

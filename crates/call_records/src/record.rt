@@ -99,11 +99,8 @@ impl Growth<'_> {
         match self {
             Growth::Covered(_) | Growth::Released(_) | Growth::Closed => room,
             Growth::Epoch => 0,
-            Growth::Sent(_)
-            | Growth::InterruptSent(_)
-            | Growth::Taken(_)
-            | Growth::InterruptTaken(_)
-            | Growth::Step(_) => room - 1,
+            Growth::Sent(packet) | Growth::Taken(packet) => room - packet.places(),
+            Growth::InterruptSent(_) | Growth::InterruptTaken(_) | Growth::Step(_) => room - 1,
         }
     }
 }

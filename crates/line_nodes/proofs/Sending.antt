@@ -1,24 +1,19 @@
--- A message whose packets are written one by one.
-use Rattle.std.proofs.Common.{◌≡◌, ℕ, zero, suc, ◌+◌, ◌-◌, ◌<◌, Bool, true, false, List, take, drop, sym, ap, arith}
-use Rattle.link_timers.specs.declared.role.Role.{Role}
-use Rattle.packet_layer.specs.Packets.{Datum}
-use Rattle.packet_host.specs.Saying.{cut_after}
-use Rattle.call_records.specs.Book.{Book, sends}
-use Rattle.line_nodes.specs.Turn.{all_sent}
+-- The room that the packets of a message take, one by one.
+use Rattle.std.proofs.Common.{◌≡◌, ℕ, ◌-◌, ◌<◌, ◌≤◌, true, List, length, take, drop, arith, length-drop, length-take}
+use Rattle.packet_channel.specs.Flow.{is_size}
+use Rattle.packet_channel.proofs.Pieces.{by_size}
+use Rattle.call_records.specs.Packets.{places_of}
 
-abbrev pub full_packet : List ℕ → Bool → Datum
-full_packet octets qualified = record { octets = take 128 octets; more = true; qualified = qualified; delivery = false }
+-- a packet takes no more than the octets of which it is the first part
+pub front_places : (size : ℕ) (octets : List ℕ) (room : ℕ) → places_of octets ≤ room → places_of (take size octets) ≤ room
+front_places size octets room fits = omega (arith, fits, length-take size octets)
 
-one_more : (n m : ℕ) (role : Role) (c : ℕ) (octets : List ℕ) (qualified delivery : Bool) (b : Book) → n ≡ suc m →
-    all_sent role c (cut_after n octets qualified delivery) b
-    ≡ all_sent role c (cut_after m (drop 128 octets) qualified delivery) (sends role c (full_packet octets qualified) b)
-one_more zero m role c octets qualified delivery b is = absurd (omega arith)
-one_more (suc n) m role c octets qualified delivery b is =
-    let same : n ≡ m = omega arith in
-    ap (λ k. all_sent role c (cut_after k (drop 128 octets) qualified delivery) (sends role c (full_packet octets qualified) b)) same
-
-pub one_sent : (full count : ℕ) (role : Role) (c : ℕ) (octets : List ℕ) (qualified delivery : Bool) (b : Book) → count < full →
-    all_sent role c (cut_after (full - (count + 1)) (drop 128 octets) qualified delivery) (sends role c (full_packet octets qualified) b)
-    ≡ all_sent role c (cut_after (full - count) octets qualified delivery) b
-one_sent full count role c octets qualified delivery b within =
-    sym (one_more (full - count) (full - (count + 1)) role c octets qualified delivery b (omega arith))
+-- and leaves room for the others
+pub places_left : (size : ℕ) (octets : List ℕ) (room : ℕ) → is_size size ≡ true → size < length octets →
+    places_of octets ≤ room → places_of (drop size octets) ≤ room - places_of (take size octets)
+places_left size octets room is =
+    by_size (λ s. s < length octets → places_of octets ≤ room → places_of (drop s octets) ≤ room - places_of (take s octets))
+    (λ long fits. omega (arith, long, fits, length-drop 128 octets, length-take 128 octets))
+    (λ long fits. omega (arith, long, fits, length-drop 256 octets, length-take 256 octets))
+    (λ long fits. omega (arith, long, fits, length-drop 512 octets, length-take 512 octets))
+    (λ long fits. omega (arith, long, fits, length-drop 1024 octets, length-take 1024 octets)) size is

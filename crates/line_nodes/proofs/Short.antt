@@ -3,6 +3,7 @@ use Rattle.std.proofs.Common.{◌≡◌, ◌≤◌, ℕ, Bool, true, false, List
 use Rattle.std.specs.Prelude.{Option, Some, None, not, ◌||◌, ◌==◌, nat_lt}
 use Rattle.std.proofs.lemmas.Bool.{ltb-false}
 use Rattle.link_timers.specs.declared.role.Role.{Role}
+use Rattle.packet_channel.specs.declared.flow.Flow.{Flow}
 use Rattle.packet_layer.specs.Channel.{Channel, Refusal, Request, refused_if, in_transfer}
 use Rattle.packet_layer.specs.Traffic.{interrupt_pending}
 use Rattle.packet_layer.specs.Layer.{refusal_at, flow_refusal, channel_of, room}
@@ -25,9 +26,9 @@ neither_is : (v w : Bool) → (v || w) ≡ false → w ≡ false
 neither_is true w h = absurd (cc)
 neither_is false w h = h
 
-interrupt_short : (role : Role) (octets : List ℕ) (found : Option Channel) → refusal_at role (Request.Interrupting octets) found ≡ None → length octets ≤ 32
-interrupt_short role octets None h = absurd (cc)
-interrupt_short role octets (Some ch) h =
+interrupt_short : (role : Role) (flow : Flow) (octets : List ℕ) (found : Option Channel) → refusal_at role flow (Request.Interrupting octets) found ≡ None → length octets ≤ 32
+interrupt_short role flow octets None h = absurd (cc)
+interrupt_short role flow octets (Some ch) h =
     let pending : Option Refusal = refused_if (interrupt_pending ch.traffic) Refusal.InterruptPending None in
     let long : Bool = (length octets == 0) || nat_lt 32 (length octets) in
     let first = (not_refused (not (in_transfer ch.state)) Refusal.NoCall (refused_if ch.resetting Refusal.IsResetting (refused_if long Refusal.TooLong pending)) h).1 in
@@ -41,7 +42,7 @@ most_said false = omega arith
 said_short : (e : PacketEnd) (channel : ℕ) (octets : List ℕ) (qualified : Bool) → say_refusal e.layer channel octets qualified ≡ None → length octets ≤ 1024
 said_short e channel octets qualified h =
     let long : Option Refusal = refused_if (nat_lt (most_octets qualified) (length octets)) Refusal.TooLong None in
-    let full : Bool = nat_lt (room e.layer channel) (places_needed qualified octets) in
+    let full : Bool = nat_lt (room e.layer channel) (places_needed e.layer.flow.size qualified octets) in
     let rest = neither (flow_refusal e.layer channel) (refused_if full Refusal.QueueFull long) h in
     let last = (not_refused full Refusal.QueueFull long rest).1 in
     let short = ltb-false (most_octets qualified) (length octets) (not_refused (nat_lt (most_octets qualified) (length octets)) Refusal.TooLong None last).0 in
@@ -51,7 +52,7 @@ pub accepted_short : (e : PacketEnd) (channel : ℕ) (r : HostRequest) → ask_r
 accepted_short e channel Answer h = tt
 accepted_short e channel Refuse h = tt
 accepted_short e channel (Say octets qualified delivery) h = said_short e channel octets.items qualified h
-accepted_short e channel (Interrupt octets) h = interrupt_short e.layer.role octets.items (channel_of e.layer channel) h
+accepted_short e channel (Interrupt octets) h = interrupt_short e.layer.role e.layer.flow octets.items (channel_of e.layer channel) h
 accepted_short e channel Reset h = tt
 accepted_short e channel Clear h = tt
 accepted_short e channel Stop h = tt

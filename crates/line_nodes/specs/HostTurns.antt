@@ -1,12 +1,13 @@
 -- What a host's user asks, and what is written of it.
 use Rattle.std.specs.Prelude.{ℕ, Bool, List, Option, Some, None}
 use Rattle.link_timers.specs.declared.role.Role.{Role}
+use Rattle.packet_channel.specs.Cutting.{cut}
 use Rattle.packet_layer.specs.Packets.{CallParts}
 use Rattle.packet_layer.specs.Traffic.{Taken}
 use Rattle.packet_layer.specs.Channel.{Request}
 use Rattle.packet_layer.specs.Layer.{channel_given, request_refusal, front_on}
 use Rattle.packet_end.specs.PacketEnd.{PacketEnd}
-use Rattle.packet_host.specs.Saying.{cut, say_refusal}
+use Rattle.packet_host.specs.Saying.{message, say_refusal}
 use Rattle.packet_host.specs.Host.{after_call, after_request, refuse_refusal, after_refuse, after_say, after_take}
 use Rattle.call_records.specs.Book.{Book, closes, takes}
 use Rattle.call_records.specs.Carried.{carried, unless_refused, placed_on}
@@ -35,7 +36,7 @@ abbrev pub host_says : Role → PacketEnd → (channel : ℕ) → List ℕ → (
 host_says role e channel octets qualified delivery b =
     told role (Host (after_say e channel octets qualified delivery))
     (unless_refused (say_refusal e.layer channel octets qualified)
-    (all_sent role channel (cut octets qualified delivery) b) b)
+    (all_sent role channel (cut e.layer.flow.size (message octets qualified delivery)) b) b)
 
 abbrev pub taken_turn : Option Taken → Role → PacketEnd → (channel : ℕ) → Book → Turn
 taken_turn None role e channel b = unchanged (Host e) b

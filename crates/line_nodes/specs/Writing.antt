@@ -1,7 +1,8 @@
 -- What the network writes into the book of a line: what a user asked where it was not refused, and what a node noted.
 use Rattle.std.specs.Prelude.{ℕ, ◌≤◌, length}
 use Rattle.link_timers.specs.declared.role.Role.{Role}
-use Rattle.packet_host.specs.Saying.{cut}
+use Rattle.packet_channel.specs.Cutting.{cut}
+use Rattle.packet_host.specs.Saying.{message}
 use Rattle.packet_host.specs.declared.request.HostRequest.{HostRequest}
 use Rattle.packet_host.specs.declared.request.HostRequest.TheVariants.{Answer, Refuse, Say, Interrupt, Reset, Clear}
 use Rattle.packet_host.specs.declared.request.HostRequest.TheVariants.{Stop, Go}
@@ -13,16 +14,17 @@ use Rattle.line_nodes.specs.Turn.{all_sent}
 
 -- ---- what a host is asked
 
-abbrev pub request_written : Role → (channel : ℕ) → HostRequest → Book → Book
-request_written role channel Answer b = answers role channel b
-request_written role channel Refuse b = closes role channel b
-request_written role channel (Say octets qualified delivery) b =
-    all_sent role channel (cut octets.items qualified delivery) b
-request_written role channel (Interrupt octets) b = interrupts role channel octets.items b
-request_written role channel Reset b = renews role channel b
-request_written role channel Clear b = closes role channel b
-request_written role channel Stop b = b
-request_written role channel Go b = b
+-- on a line of this packet size
+abbrev pub request_written : (size : ℕ) → Role → (channel : ℕ) → HostRequest → Book → Book
+request_written size role channel Answer b = answers role channel b
+request_written size role channel Refuse b = closes role channel b
+request_written size role channel (Say octets qualified delivery) b =
+    all_sent role channel (cut size (message octets.items qualified delivery)) b
+request_written size role channel (Interrupt octets) b = interrupts role channel octets.items b
+request_written size role channel Reset b = renews role channel b
+request_written size role channel Clear b = closes role channel b
+request_written size role channel Stop b = b
+request_written size role channel Go b = b
 
 -- a message that no host refuses has at most 1,024 octets, an interrupt at most 32
 abbrev pub IsShort : HostRequest → Type 0

@@ -1,6 +1,8 @@
 //! What the network writes into the book of a line: what a user asked, and what a node noted.
-ghost use Rattle.std.specs.Prelude.{◌≡◌, ◌≤◌, [], length, vec_capacity};
-ghost use Rattle.packet_host.specs.Saying.{cut};
+ghost use Rattle.std.specs.Prelude.{◌≡◌, ◌≤◌, [], true, length, vec_capacity};
+ghost use Rattle.packet_channel.specs.Cutting.{cut};
+ghost use Rattle.packet_channel.specs.Flow.{is_size};
+ghost use Rattle.packet_host.specs.Saying.{message};
 ghost use Rattle.call_records.specs.Book.{all_told};
 ghost use Rattle.call_records.specs.Room.{opening_notes};
 ghost use Rattle.line_nodes.specs.Node.{all_read};
@@ -14,16 +16,17 @@ use crate::node::Node;
 use crate::note::{HostNote, list_note};
 use call_records::{Book, Packet};
 use link_timers::Role;
-use packet_codec::MAX_USER_DATA;
+use packet_channel::full_packets;
 use packet_end::MOST_NOTES;
-use packet_host::{Host, HostRequest, full_packets};
+use packet_host::{Host, HostRequest};
 
-/// Writes what a host was asked on a channel and did not refuse. The book has room for it: a message has eight packets
-/// at most.
-pub fn write_request(book: &mut Book, role: Role, channel: u8, request: &HostRequest)
+/// Writes what a host was asked on a channel and did not refuse, on a line of this packet size. The book has room for
+/// it: a message takes eight places at most.
+pub fn write_request(book: &mut Book, role: Role, channel: u8, size: u16, request: &HostRequest)
+    requires size { is_size size ≡ true }
     requires short { IsShort request.now }
     requires room { 8 ≤ book.old.room }
-    ensures { book.new.book ≡ request_written role channel request.now book.old.book }
+    ensures { book.new.book ≡ request_written size role channel request.now book.old.book }
 {
     match request {
         HostRequest::Answer => book.answer(role, channel),
@@ -36,6 +39,7 @@ pub fn write_request(book: &mut Book, role: Role, channel: u8, request: &HostReq
             book,
             role,
             channel,
+            size,
             octets.as_slice(),
             *qualified,
             *delivery,
@@ -67,22 +71,24 @@ pub fn write_notes(node: &mut Node, at: Attachment, book: &mut Book, notes: &mut
     }
 }
 
-// Writes the packets of a message.
+// Writes the packets of a message, cut to this size.
 fn write_message(
     book: &mut Book,
     role: Role,
     channel: u8,
+    size: u16,
     octets: &[u8],
     qualified: bool,
     delivery: bool,
 )
+    requires size { is_size size ≡ true }
     requires fits { length octets.now ≤ 1024 }
     requires room { 8 ≤ book.old.room }
-    ensures { book.new.book ≡ all_sent role channel (cut octets.now qualified delivery) book.old.book }
+    ensures { book.new.book ≡ all_sent role channel (cut size (message octets.now qualified delivery)) book.old.book }
 {
     let mut rest = octets;
-    for _ in 0..full_packets(octets) {
-        let (full, others) = rest.split_at(MAX_USER_DATA);
+    for _ in 0..full_packets(octets, size) {
+        let (full, others) = rest.split_at(usize::from(size));
         let packet = Packet {
             octets: full,
             more: true,
