@@ -18,9 +18,10 @@ ghost use Rattle.line_sim.specs.Runs.{IsMadeBy};
 
 use call_records::{Pair, Record};
 use epoch_matching::all_match;
+use frame_codec::FrameBuf;
 use memory_line::{Direction, Line};
 use net_config::{Config, MakeFault};
-use net_events::{Answer, Event, Outcome, StepFault};
+use net_events::{Answer, Event, Outcome, Puts, StepFault};
 use net_nodes::Nodes;
 use net_plans::plan_of;
 use std::alloc::Global;
@@ -32,6 +33,7 @@ use std::marker::Model;
 #[derive(Drop)]
 pub struct Net<L: Line> {
     nodes: Nodes<L>,
+    arrived: FrameBuf,
     answer: Answer,
 }
 
@@ -55,7 +57,7 @@ impl<L: Line> Model for Net<L> {
 /// An answer without frames, notes and text, which takes no memory.
 fn bare_answer(alloc: Global) -> Answer {
     Answer {
-        frames: Vec::new(alloc),
+        frames: Puts::new(alloc),
         notes: Vec::new(alloc),
         text: Vec::new(alloc),
         outcome: Outcome::Done,
@@ -80,8 +82,11 @@ impl<L: Line> Net<L> {
     {
         let plan = plan_of(alloc, config)?;
         let nodes = Nodes::new(alloc, &plan, lines)?;
-        let answer = bare_answer(alloc);
-        Ok(Net { nodes, answer })
+        Ok(Net {
+            nodes,
+            arrived: FrameBuf::new(),
+            answer: bare_answer(alloc),
+        })
     }
 
     /// What the network keeps of each end's part in each call, in the order of making.
@@ -106,8 +111,9 @@ impl<L: Line> Net<L> {
         all_match(self.nodes.records(), self.nodes.pairs())
     }
 
-    /// Whether nothing is in flight, unacknowledged, owed, or waits to be sent, carried on or taken. What waits at a
-    /// terminal does not count; what is in flight is what the lines say. Then, on faithful lines, nothing is missing:
+    /// Whether nothing is in flight, unacknowledged, owed, gathered, or waits to be sent, carried on or taken. What
+    /// waits at a terminal does not count; what is in flight is what the lines say. Then, on faithful lines, nothing
+    /// is missing:
     /// of each call that is open at both ends each end took all that the other one sent since the last reset.
     pub fn at_rest(&self) -> bool
         ensures exact { result ≡ net_rests self.now }
@@ -165,7 +171,8 @@ impl<L: Line> Net<L> {
         ensures* after { sem 𝓛 (Rests (the_row L.row L.Line) self.entry (λ net.
             HasStepped L.service event.now self.old (lent result) net)) }
     {
-        self.nodes.happen(event, &mut self.answer)?;
+        self.nodes
+            .happen(event, &mut self.arrived, &mut self.answer)?;
         Ok(&self.answer)
     }
 }

@@ -81,9 +81,14 @@ is_node_served c n =
 abbrev pub is_numbered : LineConfig → Bool
 is_numbered l = ((l.modulo == 8) && is_from 1 7 l.window) || ((l.modulo == 128) && is_from 1 32 l.window)
 
--- 1 to 32 channels, such numbers, k of 1 to 7 and n2 of 1 to 20
+-- the packet sizes that a line may have
+abbrev pub is_sized : LineConfig → Bool
+is_sized l = (l.size == 128) || (l.size == 256) || (l.size == 512) || (l.size == 1024)
+
+-- 1 to 32 channels, such numbers, such a size, k of 1 to 7 and n2 of 1 to 20
 abbrev pub is_within : LineConfig → Bool
-is_within l = is_from 1 32 l.channels && is_numbered l && is_from 1 7 l.k && is_from 1 20 l.n2
+is_within l =
+    is_from 1 32 l.channels && is_numbered l && is_sized l && is_from 1 7 l.k && is_from 1 20 l.n2
 
 abbrev pub is_pad : NodeKind → Bool
 is_pad (node_kind.Pad p) = true
@@ -129,6 +134,10 @@ is_in_tree c l =
     (not (is_from_switch c.nodes.items l) || (is_at_switch c.nodes.items l && leads_back c.nodes.items l))
     && exactly_one (has_dte (string_bytes l.dte)) c.lines.items
 
+-- the packets of a line from a PAD have 128 octets
+abbrev pub suits_pad : List NodeConfig → LineConfig → Bool
+suits_pad nodes l = not (list_any (is_pad_named (string_bytes l.dte)) nodes) || (l.size == 128)
+
 -- 1 to 15 digits
 abbrev pub is_address : List ℕ → Bool
 is_address text = is_ok (address_of text)
@@ -152,6 +161,7 @@ is_line_served c l =
     joins_nodes c.nodes.items l
     && is_in_tree c l
     && is_within l
+    && suits_pad c.nodes.items l
     && has_own_address c.nodes.items l
     && (not l.standing || may_stand c l)
 

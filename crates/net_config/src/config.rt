@@ -42,8 +42,8 @@ pub struct Setting {
 }
 
 /// A line: the names of the nodes at its ends, the DTE's address (its digits, none where it is empty), how many logical
-/// channels it has, the modulus of its packets' numbers, the window size, the link's k and n2, and whether a call stands
-/// on it from the making.
+/// channels it has, the modulus of its packets' numbers, how many octets of user data a packet may have, the window size,
+/// the link's k and n2, and whether a call stands on it from the making.
 #[derive(Drop)]
 pub struct LineConfig {
     pub dte: String,
@@ -51,6 +51,7 @@ pub struct LineConfig {
     pub address: String,
     pub channels: u16,
     pub modulo: u16,
+    pub size: u16,
     pub window: u16,
     pub k: u16,
     pub n2: u16,

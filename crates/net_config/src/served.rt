@@ -2,8 +2,8 @@
 ghost use Rattle.std.specs.Prelude.{◌≡◌, length, slice_get, string_bytes};
 ghost use Rattle.net_config.specs.Served.{is_from, is_named, has_dte, has_end, place_of, is_accepted};
 ghost use Rattle.net_config.specs.Served.{is_pad_served, is_kind_served, most_lines, is_route_of, is_node_served};
-ghost use Rattle.net_config.specs.Served.{is_numbered, is_within, is_pad, is_switch, is_dce_named};
-ghost use Rattle.net_config.specs.Served.{is_pad_named, is_switch_named};
+ghost use Rattle.net_config.specs.Served.{is_numbered, is_sized, is_within, is_pad, is_switch, is_dce_named};
+ghost use Rattle.net_config.specs.Served.{is_pad_named, is_switch_named, suits_pad};
 ghost use Rattle.net_config.specs.Served.{joins_nodes, is_from_switch, is_at_switch, leads_back, is_in_tree};
 ghost use Rattle.net_config.specs.Served.{is_address, has_own_address, may_stand, is_line_served, ends_at};
 ghost use Rattle.net_config.specs.Served.{same_route, is_route_served, is_served};
@@ -153,11 +153,19 @@ fn is_numbered(line: &LineConfig) -> bool
         || (line.modulo == 128 && is_from(1, 32, line.window))
 }
 
+/// Whether a line may have its packet size.
+fn is_sized(line: &LineConfig) -> bool
+    ensures { result ≡ is_sized line.now }
+{
+    line.size == 128 || line.size == 256 || line.size == 512 || line.size == 1024
+}
+
 fn is_within(line: &LineConfig) -> bool
     ensures { result ≡ is_within line.now }
 {
     is_from(1, 32, line.channels)
         && is_numbered(line)
+        && is_sized(line)
         && is_from(1, 7, line.k)
         && is_from(1, 20, line.n2)
 }
@@ -257,6 +265,13 @@ fn is_in_tree(config: &Config, line: &LineConfig) -> bool
         && count_as_dte(&config.lines, &line.dte) == 1
 }
 
+/// Whether the packets of the line have 128 octets, if it is from a PAD.
+fn suits_pad(nodes: &[NodeConfig], line: &LineConfig) -> bool
+    ensures { result ≡ suits_pad nodes.now line.now }
+{
+    !has_pad(nodes, &line.dte) || line.size == 128
+}
+
 /// Whether a text is an address: 1 to 15 digits.
 fn is_address(text: &str) -> bool
     ensures { result ≡ is_address text.now }
@@ -289,6 +304,7 @@ fn is_line_served(config: &Config, line: &LineConfig) -> bool
     joins_nodes(&config.nodes, line)
         && is_in_tree(config, line)
         && is_within(line)
+        && suits_pad(&config.nodes, line)
         && has_own_address(&config.nodes, line)
         && (!line.standing || may_stand(config, line))
 }

@@ -17,7 +17,7 @@ pub record UserLine (nodes : List Planned) (line : ℕ) (l : NewLine) : Type 0 w
   pub dce_line : dce.line ≡ line
   pub dte_role : dte.role ≡ Dte
   pub dce_role : dce.role ≡ Dce
-  pub dte_made : IsNewDte dte.as_dte
+  pub dte_made : IsNewDte dte.as_dte l.params
   pub no_address : l.address ≡ []
   pub apart : l.dte ≢ l.dce
   pub params : AreParams l.params

@@ -5,3 +5,4 @@ pub mod AtSwitch
 pub mod EventView
 pub mod NextDue
 pub mod Opening
+pub mod Puts

@@ -63,10 +63,10 @@ pub record NetPlan : Type 0 where
 
 -- ---- plans of networks that there can be
 
--- a PAD has 1 to 16 terminals
-abbrev pub IsNewDte : NewDte → Type 0
-IsNewDte (NewPad params terminals) = (1 ≤ terminals) × (terminals ≤ 16)
-IsNewDte NewHost = Unit {0}
+-- a PAD has 1 to 16 terminals, and packets of 128 octets on its line
+abbrev pub IsNewDte : NewDte → EndParams → Type 0
+IsNewDte (NewPad params terminals) line = (1 ≤ terminals) × (terminals ≤ 16) × (line.flow.size ≡ 128)
+IsNewDte NewHost line = Unit {0}
 
 -- a node is at the end of a role of a line: one with users was made for it, and a switch has it as one of its own lines
 abbrev pub IsEndPlan : (line : ℕ) → Role → Planned → Type 0
@@ -77,9 +77,9 @@ IsEndPlan line role (PlannedSwitch n) = (own : ℕ) × (slice_get n.lines own �
 -- trunk: it has no address, and its DCE comes earlier. No switch is the DTE of a user's line. A call stands only
 -- between users
 abbrev pub IsKindOfLine : NewLine → (dte dce : Planned) → Type 0
-IsKindOfLine l (PlannedUser dte) (PlannedUser dce) = IsNewDte dte.as_dte × (l.address ≡ [])
+IsKindOfLine l (PlannedUser dte) (PlannedUser dce) = IsNewDte dte.as_dte l.params × (l.address ≡ [])
 IsKindOfLine l (PlannedUser dte) (PlannedSwitch dce) =
-    IsNewDte dte.as_dte × AreDigits l.address × (l.params.standing ≡ false)
+    IsNewDte dte.as_dte l.params × AreDigits l.address × (l.params.standing ≡ false)
 IsKindOfLine l (PlannedSwitch dte) (PlannedSwitch dce) =
     (l.address ≡ []) × (l.dce < l.dte) × (l.params.standing ≡ false)
 IsKindOfLine l (PlannedSwitch dte) (PlannedUser dce) = ⊥

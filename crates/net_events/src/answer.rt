@@ -1,4 +1,5 @@
 //! What answers an event of a network.
+use crate::puts::Puts;
 use frame_codec::FrameBuf;
 use line_nodes::HostNote;
 use memory_line::Direction;
@@ -34,7 +35,7 @@ pub struct Put {
 /// that a host took, and the outcome.
 #[derive(Drop)]
 pub struct Answer {
-    pub frames: Vec<Put>,
+    pub frames: Puts,
     pub notes: Vec<HostNote>,
     pub text: Vec<u8>,
     pub outcome: Outcome,

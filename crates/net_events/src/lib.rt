@@ -4,9 +4,11 @@
 mod answer;
 mod event;
 mod node_event;
+mod puts;
 mod switch_event;
 
 pub use answer::{Answer, Outcome, Put};
 pub use event::{Event, StepFault};
 pub use node_event::{HostEvent, LineEvent, UserEvent};
+pub use puts::Puts;
 pub use switch_event::SwitchEvent;

@@ -74,13 +74,14 @@ is_address_or_none text = (length text == 0) || is_address text
 
 pub record IsLine (entry : Members) (line : LineConfig) : Type 0 where
   pub keys : IsTrue (has_only (codes "dte" ∷ codes "dce" ∷ codes "address" ∷ codes "channels" ∷ codes "modulo"
-      ∷ codes "window" ∷ codes "k" ∷ codes "n2" ∷ codes "standing" ∷ []) entry)
+      ∷ codes "size" ∷ codes "window" ∷ codes "k" ∷ codes "n2" ∷ codes "standing" ∷ []) entry)
   pub dte : name_at (codes "dte") entry ≡ Some (string_bytes line.dte)
   pub dce : name_at (codes "dce") entry ≡ Some (string_bytes line.dce)
   pub address : passing is_address_or_none (text_at (codes "address") (Some []) entry)
       ≡ Some (string_bytes line.address)
   pub channels : number_at (codes "channels") (Some 4) entry ≡ Some line.channels
   pub modulo : number_at (codes "modulo") (Some 8) entry ≡ Some line.modulo
+  pub size : number_at (codes "size") (Some 128) entry ≡ Some line.size
   pub window : number_at (codes "window") (Some 2) entry ≡ Some line.window
   pub k : number_at (codes "k") (Some 7) entry ≡ Some line.k
   pub n2 : number_at (codes "n2") (Some 3) entry ≡ Some line.n2

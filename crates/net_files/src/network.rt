@@ -179,7 +179,7 @@ fn read_line(alloc: Global, entry: &Table) -> Result<LineConfig, ProgFault>
     if !has_only(
         entry,
         &[
-            "dte", "dce", "address", "channels", "modulo", "window", "k", "n2", "standing",
+            "dte", "dce", "address", "channels", "modulo", "size", "window", "k", "n2", "standing",
         ],
     ) {
         return Err(ProgFault::NetText);
@@ -190,6 +190,7 @@ fn read_line(alloc: Global, entry: &Table) -> Result<LineConfig, ProgFault>
         address: read_address(alloc, text(entry, "address", Some(""))?)?,
         channels: number(entry, "channels", Some(4))?,
         modulo: number(entry, "modulo", Some(8))?,
+        size: number(entry, "size", Some(128))?,
         window: number(entry, "window", Some(2))?,
         k: number(entry, "k", Some(7))?,
         n2: number(entry, "n2", Some(3))?,

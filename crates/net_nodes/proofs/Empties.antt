@@ -16,4 +16,4 @@ emptied v = record {
 }
 
 abbrev pub none_arrived : {X : Type 0} → Vec X → Answer
-none_arrived v = record { frames = emptied v; notes = emptied v; text = emptied v; outcome = Delivered false }
+none_arrived v = record { frames = record { items = []; room = 0 }; notes = emptied v; text = emptied v; outcome = Delivered false }

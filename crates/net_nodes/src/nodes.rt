@@ -14,6 +14,7 @@ mod switching;
 mod turn;
 
 use call_records::Register;
+use frame_codec::FrameBuf;
 use link_timers::Role;
 use memory_line::Line;
 use net_events::{Answer, Event, StepFault};
@@ -103,9 +104,14 @@ impl<L: Line> Nodes<L> {
     }
 
     /// Handles an event, and writes the answer; what stood there before is gone. Where the event is refused the answer
-    /// says nothing.
+    /// says nothing. A frame that arrives or is lost is taken into the place that is lent.
     #[inline(always)]
-    pub fn happen(&mut self, event: &Event, answer: &mut Answer) -> Result<(), StepFault>
+    pub fn happen(
+        &mut self,
+        event: &Event,
+        frame: &mut FrameBuf,
+        answer: &mut Answer,
+    ) -> Result<(), StepFault>
         requires { IsStanding self.old }
         ensures { Happens L.service event.now self.old (result_and result (Ok answer.new)) self.new }
     {
@@ -126,8 +132,8 @@ impl<L: Line> Nodes<L> {
                 request,
             } => self.ask(*node, *channel, request, answer),
             Event::Take { node, channel } => self.take(*node, *channel, answer),
-            Event::Deliver { line, direction } => self.deliver(*line, *direction, answer),
-            Event::Lose { line, direction } => self.lose(*line, *direction, answer),
+            Event::Deliver { line, direction } => self.deliver(*line, *direction, frame, answer),
+            Event::Lose { line, direction } => self.lose(*line, *direction, frame, answer),
             Event::Expire { node, line, timer } => self.expire(*node, *line, *timer, answer),
             Event::Relink { line } => self.relink(*line, answer),
             Event::Restart { node } => self.restart(*node, answer),

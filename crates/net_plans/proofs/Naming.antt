@@ -7,9 +7,10 @@ use Rattle.std.specs.Cmp.Lexicographic.{bytes_decides}
 use Rattle.std.proofs.lemmas.Bool.{and_parts, or_cases, leb-true, not-true, eq-eqb, eqb-true}
 use Rattle.packet_codec.specs.declared.packet.Numbering.TheVariants.{Modulo8, Modulo128}
 use Rattle.packet_layer.specs.Flow.{IsFlow}
+use Rattle.packet_channel.proofs.Windows.{size_most}
 use Rattle.packet_end.specs.Params.{AreParams}
 use Rattle.net_config.specs.Served.{is_from, same_text, is_named, has_dte, has_end, exactly_one, place_of}
-use Rattle.net_config.specs.Served.{is_kind_served, most_lines, is_switch, is_dce_named, is_numbered, is_within}
+use Rattle.net_config.specs.Served.{is_kind_served, most_lines, is_switch, is_dce_named, is_numbered, is_sized, is_within, suits_pad}
 use Rattle.net_config.specs.Served.{joins_nodes, is_from_switch, is_at_switch, leads_back, is_in_tree, has_own_address}
 use Rattle.net_config.specs.Served.{may_stand, is_node_served, is_line_served, is_route_served, is_served}
 use Rattle.net_plans.specs.Plan.{numbering_of, flow_of, end_params}
@@ -94,6 +95,7 @@ pub record LineIsServed (c : Config) (l : LineConfig) : Type 0 where
   pub up : (not (is_from_switch c.nodes.items l) || (is_at_switch c.nodes.items l && leads_back c.nodes.items l)) ≡ true
   pub one_dte : exactly_one (has_dte (string_bytes l.dte)) c.lines.items ≡ true
   pub within : is_within l ≡ true
+  pub pad : suits_pad c.nodes.items l ≡ true
   pub address : has_own_address c.nodes.items l ≡ true
   pub stands : (not l.standing || may_stand c l) ≡ true
 
@@ -105,10 +107,12 @@ line_is_served c l h =
     let up = not (is_from_switch c.nodes.items l) || (is_at_switch c.nodes.items l && leads_back c.nodes.items l) in
     let tree = is_in_tree c l in
     let own = has_own_address c.nodes.items l in
+    let pad = suits_pad c.nodes.items l in
     let joined = joins_nodes c.nodes.items l in
-    let parts = and_parts (joined && tree && is_within l && own) (not l.standing || may_stand c l) h in
-    let address = and_parts (joined && tree && is_within l) own parts.0 in
-    let within = and_parts (joined && tree) (is_within l) address.0 in
+    let parts = and_parts (joined && tree && is_within l && pad && own) (not l.standing || may_stand c l) h in
+    let address = and_parts (joined && tree && is_within l && pad) own parts.0 in
+    let suits = and_parts (joined && tree && is_within l) pad address.0 in
+    let within = and_parts (joined && tree) (is_within l) suits.0 in
     let in_tree = and_parts joined tree within.0 in
     let joins = and_parts (apart && dte) dce in_tree.0 in
     let ends = and_parts apart dte joins.0 in
@@ -120,24 +124,25 @@ line_is_served c l h =
       up = ups.0;
       one_dte = ups.1;
       within = within.1;
+      pad = suits.1;
       address = address.1;
       stands = parts.1;
     }
 
 -- such a window is right for the numbering of the line
-numbered_flow : (l : LineConfig) → is_numbered l ≡ true → IsFlow (flow_of l)
-numbered_flow l h =
+flow_is : (l : LineConfig) → is_numbered l ≡ true → is_sized l ≡ true → IsFlow (flow_of l)
+flow_is l h size =
     elim (or_cases ((l.modulo == 8) && is_from 1 7 l.window) ((l.modulo == 128) && is_from 1 32 l.window) h) [
       | inl modulo_8 ↦
           let parts = and_parts (l.modulo == 8) (is_from 1 7 l.window) modulo_8 in
           let window = from_so 1 7 l.window parts.1 in
           let same : numbering_of l.modulo ≡ Modulo8 = ap numbering_of (eqb-true l.modulo 8 parts.0) in
-          record { window_least = window.least; window_most = rw same window.most; size_is = refl }
+          record { window_least = window.least; window_most = rw same window.most; size_is = size }
       | inr modulo_128 ↦
           let parts = and_parts (l.modulo == 128) (is_from 1 32 l.window) modulo_128 in
           let window = from_so 1 32 l.window parts.1 in
           let same : numbering_of l.modulo ≡ Modulo128 = ap numbering_of (eqb-true l.modulo 128 parts.0) in
-          record { window_least = window.least; window_most = rw same window.most; size_is = refl }
+          record { window_least = window.least; window_most = rw same window.most; size_is = size }
     ]
 
 pub within_params : (l : LineConfig) → is_within l ≡ true → AreParams (end_params l)
@@ -145,18 +150,27 @@ within_params l h =
     let channels = is_from 1 32 l.channels in
     let k = is_from 1 7 l.k in
     let n2 = is_from 1 20 l.n2 in
-    let to_n2 = and_parts (channels && is_numbered l && k) n2 h in
-    let to_k = and_parts (channels && is_numbered l) k to_n2.0 in
-    let to_numbers = and_parts channels (is_numbered l) to_k.0 in
+    let to_n2 = and_parts (channels && is_numbered l && is_sized l && k) n2 h in
+    let to_k = and_parts (channels && is_numbered l && is_sized l) k to_n2.0 in
+    let to_size = and_parts (channels && is_numbered l) (is_sized l) to_k.0 in
+    let to_numbers = and_parts channels (is_numbered l) to_size.0 in
     let channels_is = from_so 1 32 l.channels to_numbers.0 in
     let k_is = from_so 1 7 l.k to_k.1 in
     let n2_is = from_so 1 20 l.n2 to_n2.1 in
+    let flow = flow_is l to_numbers.1 to_size.1 in
+    let size : l.size ≤ 1024 = size_most (flow_of l) flow in
     record {
-      link = record { k_least = k_is.least; k_most = k_is.most; n2_least = n2_is.least; n2_most = n2_is.most };
+      link = record {
+        k_least = k_is.least;
+        k_most = k_is.most;
+        n2_least = n2_is.least;
+        n2_most = n2_is.most;
+        info_most = omega (arith, size);
+      };
       layer = record {
         channels_least = channels_is.least;
         channels_most = channels_is.most;
-        flow_is = numbered_flow l to_numbers.1;
+        flow_is = flow;
       };
     }
 

@@ -11,6 +11,7 @@ use Rattle.link_timers.specs.declared.role.Role.TheVariants.{Dte, Dce}
 use Rattle.packet_codec.specs.Address.{AreDigits, address_of, are_digits, digit_values}
 use Rattle.packet_codec.specs.declared.address.AddressFault.TheVariants.{Empty, TooLong, NotADigit}
 use Rattle.packet_codec.proofs.Addresses.{AreDigits-digit_values}
+use Rattle.packet_end.specs.declared.params.EndParams.{EndParams}
 use Rattle.net_events.specs.Opening.{NewDte, NewPad, NewHost, Planned, PlannedUser, PlannedSwitch, NewLine}
 use Rattle.net_events.specs.Opening.{IsNewDte, IsEndPlan, IsKindOfLine, IsLinePlan, HasEndAt, IsSwitchPlan, IsNodePlan}
 use Rattle.net_events.specs.Opening.{switch_places}
@@ -18,7 +19,7 @@ use Rattle.net_config.specs.Served.{same_text, is_named, has_dte, has_end, place
 use Rattle.net_config.specs.Served.{is_dce_named, is_switch_named, is_pad_named, is_from_switch, is_at_switch}
 use Rattle.net_config.specs.Served.{leads_back, is_address, may_stand, is_served, is_from, is_kind_served}
 use Rattle.net_plans.specs.Plan.{role_of, initial_params, new_user, lines_from, new_switch, planned_as, planned_node}
-use Rattle.net_plans.specs.Plan.{digits_in, new_line, plan_of, StandsAlone, PlanLaw}
+use Rattle.net_plans.specs.Plan.{digits_in, end_params, new_line, plan_of, StandsAlone, PlanLaw}
 use Rattle.net_config.specs.declared.config.Config.{Config}
 use Rattle.net_config.specs.declared.config.NodeConfig.{NodeConfig}
 use Rattle.net_config.specs.declared.config.NodeKind.{NodeKind}
@@ -52,23 +53,24 @@ there_mapped f xs i x e = slice_get-map f xs i ∙ ap (option_map f) e
 -- ---- what a node is planned as
 
 -- a PAD that is served has 1 to 16 terminals
-pad_made : (p : TerminalsConfig) → is_kind_served (node_kind.Pad p) ≡ true → IsNewDte (NewPad (initial_params p) p.terminals)
-pad_made p served =
+pad_made : (p : TerminalsConfig) → is_kind_served (node_kind.Pad p) ≡ true → (line : EndParams) → line.flow.size ≡ 128
+    → IsNewDte (NewPad (initial_params p) p.terminals) line
+pad_made p served line size =
     let parts = and_parts (is_from 1 16 p.terminals && nat_le p.speed 255) _ served in
     let terminals = from_so 1 16 p.terminals (and_parts (is_from 1 16 p.terminals) (nat_le p.speed 255) parts.0).0 in
-    (terminals.least, terminals.most)
+    (terminals.least, terminals.most, size)
 
 -- one with users
 pub record UserAs (c : Config) (name : List ℕ) (k : NodeKind) : Type 0 where
   pub dte : NewDte
-  pub made : IsNewDte dte
+  pub made : (line : EndParams) → (is_pad k ≡ true → line.flow.size ≡ 128) → IsNewDte dte line
   pub as_user : planned_as c name k ≡ PlannedUser (new_user c.lines.items name dte)
 
 user_as : (c : Config) (name : List ℕ) (k : NodeKind) → not (is_switch k) ≡ true → is_kind_served k ≡ true
     → UserAs c name k
 user_as c name (node_kind.Pad p) users served =
-    record { dte = NewPad (initial_params p) p.terminals; made = pad_made p served; as_user = refl }
-user_as c name node_kind.Host users served = record { dte = NewHost; made = tt; as_user = refl }
+    record { dte = NewPad (initial_params p) p.terminals; made = λ line size. pad_made p served line (size refl); as_user = refl }
+user_as c name node_kind.Host users served = record { dte = NewHost; made = λ line size. tt; as_user = refl }
 user_as c name node_kind.Switch users served = absurd (true≢false (sym users))
 
 -- a switch
@@ -193,6 +195,10 @@ ends_apart c served l h dte dce e =
     = sym dte.name_is ∙ ap (λ n. string_bytes n.name) node ∙ dce.name_is in
     true≢false (sym (so_same (string_bytes l.dte) (string_bytes l.dce) name) ∙ h.apart)
 
+both_true : (a b : Bool) → a ≡ true → b ≡ true → (a && b) ≡ true
+both_true true b e h = h
+both_true false b e h = absurd (true≢false (sym e))
+
 -- ---- lines of switches
 
 -- a switch has the name exactly where the node of the name is one
@@ -200,11 +206,7 @@ switch_named : (c : Config) (name : List ℕ) (d : NodeOf c name) → is_switch 
     → list_any (is_switch_named name) c.nodes.items ≡ true
 switch_named c name d h =
     any_passes_from_place (is_switch_named name) c.nodes.items d.place d.node d.there
-    (and_true (is_named name d.node) (is_switch d.node.kind) (so_same (string_bytes d.node.name) name d.name_is) h)
-  where
-    and_true : (a b : Bool) → a ≡ true → b ≡ true → (a && b) ≡ true
-    and_true true b e h = h
-    and_true false b e h = absurd (true≢false (sym e))
+    (both_true (is_named name d.node) (is_switch d.node.kind) (so_same (string_bytes d.node.name) name d.name_is) h)
 
 no_switch_named : (c : Config) → is_served c ≡ true → (name : List ℕ) (d : NodeOf c name)
     → is_switch d.node.kind ≡ false → list_any (is_switch_named name) c.nodes.items ≡ false
@@ -224,6 +226,20 @@ no_switch_named c served name d users =
 up_from : (from at back : Bool) → (not from || (at && back)) ≡ true → from ≡ true → (at && back) ≡ true
 up_from true at back h e = h
 up_from false at back h e = absurd (true≢false (sym e))
+
+-- ---- the packet size of a line
+
+-- from a PAD it is 128
+pad_size : (c : Config) (l : LineConfig) → LineIsServed c l → (d : NodeOf c (string_bytes l.dte))
+    → is_pad d.node.kind ≡ true → l.size ≡ 128
+pad_size c l h d pad =
+    let name = string_bytes l.dte in
+    let named = any_passes_from_place (is_pad_named name) c.nodes.items d.place d.node d.there (both_true (is_named name d.node) (is_pad d.node.kind) (so_same (string_bytes d.node.name) name d.name_is) pad) in
+    eqb-true l.size 128 (second (list_any (is_pad_named name) c.nodes.items) (l.size == 128) h.pad named)
+  where
+    second : (from right : Bool) → (not from || right) ≡ true → from ≡ true → right ≡ true
+    second true right h e = h
+    second false right h e = absurd (true≢false (sym e))
 
 -- ---- the address of a line
 
@@ -325,6 +341,9 @@ line_kind c served l h d e = elim (cases_Bool (is_switch d.node.kind)) [
     as_dte q =
         user_as c (string_bytes d.node.name) d.node.kind (ap not q) (served_node c served d.place d.node d.there).kind
 
+    made_on : (q : is_switch d.node.kind ≡ false) → IsNewDte (as_dte q).dte (end_params l)
+    made_on q = (as_dte q).made (end_params l) (pad_size c l h d)
+
     trunk : is_switch d.node.kind ≡ true → IsKindOfLine (new_line c.nodes.items l) (planned_node c d.node) (planned_node c e.node)
     trunk q =
         let n = new_line c.nodes.items l in
@@ -355,7 +374,7 @@ line_kind c served l h d e = elim (cases_Bool (is_switch d.node.kind)) [
         let u = as_dte q in
         let address = to_switch at from (is_address text) (length text == 0) h.address is_at (no_switch_named c served (string_bytes l.dte) d q) in
         let one : IsKindOfLine n (PlannedUser (new_user c.lines.items (string_bytes d.node.name) u.dte)) (PlannedSwitch (new_switch c (string_bytes e.node.name)))
-        = (u.made, is_digits text address, standing is_at) in
+        = (made_on q, is_digits text address, standing is_at) in
         let other = subst (IsKindOfLine n (PlannedUser (new_user c.lines.items (string_bytes d.node.name) u.dte))) (sym (switch_as c (string_bytes e.node.name) e.node.kind w)) one in
         subst (λ (x : Planned). IsKindOfLine n x (planned_node c e.node)) (sym u.as_user) other
 
@@ -370,7 +389,7 @@ line_kind c served l h d e = elim (cases_Bool (is_switch d.node.kind)) [
         let v = user_as c (string_bytes e.node.name) e.node.kind (ap not w) (served_node c served e.place e.node e.there).kind in
         let address = to_user at from (is_address text) (length text == 0) h.address (no_switch_named c served (string_bytes l.dce) e w) in
         let one : IsKindOfLine n (PlannedUser (new_user c.lines.items (string_bytes d.node.name) u.dte)) (PlannedUser (new_user c.lines.items (string_bytes e.node.name) v.dte))
-        = (u.made, no_digits text address) in
+        = (made_on q, no_digits text address) in
         let other = subst (IsKindOfLine n (PlannedUser (new_user c.lines.items (string_bytes d.node.name) u.dte))) (sym v.as_user) one in
         subst (λ (x : Planned). IsKindOfLine n x (planned_node c e.node)) (sym u.as_user) other
 

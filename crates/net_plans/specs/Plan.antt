@@ -101,9 +101,8 @@ planned_node c n = planned_as c (string_bytes n.name) n.kind
 abbrev pub numbering_of : (modulo : ℕ) → Numbering
 numbering_of modulo = if modulo == 128 then Modulo128 else Modulo8
 
--- packets have 128 octets on each line
 abbrev pub flow_of : LineConfig → Flow
-flow_of l = record { window = l.window; numbering = numbering_of l.modulo; size = 128 }
+flow_of l = record { window = l.window; numbering = numbering_of l.modulo; size = l.size }
 
 abbrev pub end_params : LineConfig → EndParams
 end_params l = record { k = l.k; n2 = l.n2; channels = l.channels; flow = flow_of l; standing = l.standing }

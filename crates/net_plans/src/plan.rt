@@ -22,7 +22,7 @@ use net_config::{
     Config, LineConfig, MakeFault, NodeConfig, NodeKind, RouteConfig, Setting, TerminalsConfig,
     has_dte, has_end, is_route_of, is_served, place_of,
 };
-use packet_codec::{Address, MAX_USER_DATA, Numbering};
+use packet_codec::{Address, Numbering};
 use packet_end::EndParams;
 use packet_layer::Flow;
 use std::alloc::Global;
@@ -253,7 +253,7 @@ fn flow_of(line: &LineConfig) -> Flow
     Flow {
         window: line.window as u8,
         numbering: numbering_of(line.modulo),
-        size: MAX_USER_DATA as u16,
+        size: line.size,
     }
 }
 

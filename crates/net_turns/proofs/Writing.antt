@@ -8,7 +8,8 @@ use Rattle.packet_layer.specs.Channel.{Refusal, Request as ask}
 use Rattle.packet_layer.specs.Layer.{front_on, channel_given, request_refusal}
 use Rattle.packet_end.specs.PacketEnd.{PacketEnd}
 use Rattle.packet_host.specs.Host.{call_parts, after_call, after_request, after_refuse, after_say, after_take, taken_as, refuse_refusal}
-use Rattle.packet_host.specs.Saying.{cut, say_refusal}
+use Rattle.packet_channel.specs.Cutting.{cut}
+use Rattle.packet_host.specs.Saying.{message, say_refusal}
 use Rattle.packet_host.specs.Asking.{ask_refusal, after_ask}
 use Rattle.packet_host.specs.declared.request.HostRequest.{HostRequest}
 use Rattle.packet_host.specs.declared.request.HostRequest.TheVariants.{Answer, Refuse, Say, Interrupt, Reset, Clear, Stop, Go}
@@ -127,7 +128,7 @@ accepted None done old h = refl
 accepted (Some r) done old h = absurd (cc)
 
 asked_turn : (role : Role) (e : PacketEnd) (channel : ℕ) (r : HostRequest) (b : Book) → ask_refusal e channel r ≡ None
-    → told role (Host (after_ask e channel r)) (request_written role channel r b) ≡ turn_of (request_event channel r) role (Host e) b
+    → told role (Host (after_ask e channel r)) (request_written e.layer.flow.size role channel r b) ≡ turn_of (request_event channel r) role (Host e) b
 asked_turn role e channel Answer b h =
     ap (told role (Host (after_request e channel ask.Accept)))
     (accepted (request_refusal e.layer channel ask.Accept) (carried role channel ask.Accept (front_on e.layer channel) b) b h)
@@ -135,7 +136,7 @@ asked_turn role e channel Refuse b h =
     ap (told role (Host (after_refuse e channel))) (accepted (refuse_refusal e channel) (closes role channel b) b h)
 asked_turn role e channel (Say octets qualified delivery) b h =
     ap (told role (Host (after_say e channel octets.items qualified delivery)))
-    (accepted (say_refusal e.layer channel octets.items qualified) (all_sent role channel (cut octets.items qualified delivery) b) b h)
+    (accepted (say_refusal e.layer channel octets.items qualified) (all_sent role channel (cut e.layer.flow.size (message octets.items qualified delivery)) b) b h)
 asked_turn role e channel (Interrupt octets) b h =
     let r = ask.Interrupting octets.items in
     ap (told role (Host (after_request e channel r))) (accepted (request_refusal e.layer channel r) (carried role channel r (front_on e.layer channel) b) b h)
@@ -164,7 +165,7 @@ asked_none role e channel Go b q = opens-asks role e channel (ask.Stopping false
 
 pub called_asks : (role : Role) (e : PacketEnd) (channel : ℕ) (r : HostRequest) (b : Book) (room pairs : ℕ) → IsQuiet (Host e)
     → ask_refusal e channel r ≡ None
-    → IsCalled (request_event channel r) role (Host e) b (Host (after_ask e channel r)) (record { book = request_written role channel r b; room = room; pairs = pairs })
+    → IsCalled (request_event channel r) role (Host e) b (Host (after_ask e channel r)) (record { book = request_written e.layer.flow.size role channel r b; room = room; pairs = pairs })
 called_asks role e channel r b room pairs q none = record {
   reads_so = asked_turn role e channel r b none;
   room_for = room_for_none (after_ask e channel r) room pairs (asked_none role e channel r b q);

@@ -3,9 +3,7 @@ use Rattle.std.specs.Prelude.{◌≡◌, ℕ, true, List, [], Option, Some, None
 use Rattle.packet_channel.specs.declared.fault.ChannelFault.TheVariants as channel_fault
 use Rattle.packet_layer.specs.Channel.{Refusal}
 use Rattle.packet_layer.specs.Layer.{call_refusal, channel_given, request_refusal, front_on}
-use Rattle.packet_layer.specs.TakenView.{maybe_front}
-use Rattle.packet_layer.specs.Traffic.{Taken}
-use Rattle.packet_layer.specs.Traffic.Taken.{TakenInterrupt, TakenPacket}
+use Rattle.packet_layer.specs.TakenView.{maybe_front, taken_octets}
 use Rattle.packet_layer.specs.declared.fault.CallFault.TheVariants as call_fault
 use Rattle.packet_host.specs.Host.{refuse_refusal}
 use Rattle.packet_host.specs.Saying.{say_refusal}
@@ -52,12 +50,6 @@ pub record CalledOn (n : NodeState) (o : Outcome) : Type 0 where
   pub channel : ℕ
   pub given : channel_given (end_of n).layer (end_of n).layer.phase ≡ Some channel
   pub answered : o ≡ Called channel
-
--- the octets of what comes next on a channel, if anything does
-abbrev pub taken_octets : Option Taken → List ℕ
-taken_octets None = []
-taken_octets (Some (TakenInterrupt octets)) = octets
-taken_octets (Some (TakenPacket d)) = d.octets
 
 -- what a PAD answers to what happens at a terminal
 abbrev pub pad_outcome : (terminal : ℕ) → TerminalEvent → PadState → Outcome

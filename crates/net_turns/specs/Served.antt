@@ -39,7 +39,7 @@ pub record Served (L : LineService) (at : Attachment) (turn : Turn) (before : Fl
 pub record IsReady (a : Answer) : Type 0 where
   pub frames : a.frames.items ≡ []
   pub notes : a.notes.items ≡ []
-  pub frame_places : 9 ≤ vec_capacity a.frames
+  pub frame_places : 9 ≤ a.frames.room
   pub note_places : MOST_NOTES ≤ vec_capacity a.notes
 
 -- and no text

@@ -2,12 +2,12 @@
 ghost use Rattle.std.specs.Prelude.{◌≡◌, ◌≤◌, [], Some, Ok, OnOk, OnErr, length, vec_capacity};
 ghost use Rattle.std.specs.Result.{result_and};
 ghost use Rattle.packet_layer.specs.Layer.{front_on};
-ghost use Rattle.packet_layer.specs.TakenView.{taken_of, shown_front, maybe_front};
+ghost use Rattle.packet_layer.specs.TakenView.{maybe_front, taken_octets};
 ghost use Rattle.packet_host.specs.Host.{after_take};
 ghost use Rattle.line_nodes.specs.Node.{Host as HostNode};
 ghost use Rattle.node_laws.specs.Quiet.{IsQuiet};
 ghost use Rattle.net_events.specs.EventView.{host_event_of};
-ghost use Rattle.net_turns.specs.Outcomes.{IsAnswered, taken_octets, text_of};
+ghost use Rattle.net_turns.specs.Outcomes.{IsAnswered, text_of};
 ghost use Rattle.net_turns.specs.Served.{IsCalled, taken_written};
 ghost use Rattle.net_turns.specs.Users.{IsNumbered, IsWholeCall};
 
@@ -18,7 +18,7 @@ use link_timers::Role;
 use net_events::{HostEvent, Outcome};
 use packet_codec::MAX_USER_DATA;
 use packet_host::Host;
-use packet_layer::{Front, Taken};
+use packet_layer::Front;
 
 /// A host takes no more octets at once than this.
 pub(crate) const MOST_TAKEN: usize = MAX_USER_DATA;
@@ -31,7 +31,7 @@ fn take(
     book: &mut Book,
     text: &mut Vec<u8>,
 ) -> Option<Front>
-    requires room { 1 ≤ book.old.room }
+    requires room { MOST_WRITES ≤ book.old.room }
     requires empty { text.old.items ≡ [] }
     requires places { MOST_TAKEN ≤ vec_capacity text.old }
     ensures taken { result ≡ maybe_front (front_on host.old.layer channel) }
@@ -39,38 +39,9 @@ fn take(
     ensures book { book.new.book ≡ taken_written (front_on host.old.layer channel) role channel book.old.book }
     ensures text { text.new.items ≡ taken_octets (front_on host.old.layer channel) }
 {
-    let taken = host.take(channel)?;
-    write_taken(book, role, channel, &taken);
-    let Ok(()) = text.extend_from_slice(octets_of(&taken)) else {
-        unreachable!()
-    };
-    Some(front_of(&taken))
-}
-
-/// The octets of what was taken.
-fn octets_of(taken: &Taken) -> &[u8]
-    ensures value { result.now ≡ taken_octets (Some (taken_of taken.now)) }
-    ensures most { length result.now ≤ MOST_TAKEN }
-{
-    match taken {
-        Taken::Interrupt(interrupt) => interrupt.octets(),
-        Taken::Data(packet) => packet.octets(),
-    }
-}
-
-/// What was taken, but for its octets.
-fn front_of(taken: &Taken) -> Front
-    ensures { result ≡ shown_front (taken_of taken.now) }
-{
-    match taken {
-        Taken::Interrupt(_) => Front::Interrupt,
-        Taken::Data(packet) => Front::Data {
-            length: packet.octets().len() as u8,
-            more: packet.more(),
-            qualified: packet.qualified(),
-            delivery: packet.delivery(),
-        },
-    }
+    let front = host.take_into(channel, text)?;
+    write_taken(book, role, channel, &front, text.as_slice());
+    Some(front)
 }
 
 /// Asks a host what its user asks, writes it, and gives the outcome. The octets of what is taken are added to the text.
@@ -104,8 +75,9 @@ pub(crate) fn ask_host(
         }
         HostEvent::Asks(channel, request) => {
             let channel = *channel as u8;
+            let size = host.packet_size();
             host.ask(channel, request)?;
-            write_request(book, role, channel, request);
+            write_request(book, role, channel, size, request);
             *outcome = Outcome::Done;
             Ok(())
         }

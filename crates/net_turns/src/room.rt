@@ -16,8 +16,13 @@ pub fn make_room(answer: &mut Answer, octets: usize) -> Result<(), AllocError>
 {
     clear(answer);
     answer.frames.reserve(MOST_FRAMES)?;
-    answer.notes.reserve(MOST_NOTES)?;
-    answer.text.reserve(octets)
+    if answer.notes.capacity() < MOST_NOTES {
+        answer.notes.reserve(MOST_NOTES)?;
+    }
+    if answer.text.capacity() < octets {
+        answer.text.reserve(octets)?;
+    }
+    Ok(())
 }
 
 /// Empties an answer's lists, and makes room where it lacks for so many frames.
@@ -25,7 +30,7 @@ pub fn make_frame_room(answer: &mut Answer, frames: usize) -> Result<(), AllocEr
     ensures frames { answer.new.frames.items ≡ [] }
     ensures notes { answer.new.notes.items ≡ [] }
     ensures text { answer.new.text.items ≡ [] }
-    ensures room { OnOk result (frames ≤ vec_capacity answer.new.frames) }
+    ensures room { OnOk result (frames ≤ answer.new.frames.room) }
 {
     clear(answer);
     answer.frames.reserve(frames)
@@ -43,6 +48,7 @@ pub fn make_bare(answer: &mut Answer, outcome: Outcome)
 }
 
 /// Empties an answer's lists, which keep their room.
+#[inline(always)]
 fn clear(answer: &mut Answer)
     ensures frames { answer.new.frames.items ≡ [] }
     ensures notes { answer.new.notes.items ≡ [] }

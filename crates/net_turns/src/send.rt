@@ -1,14 +1,13 @@
 //! The frames that a node has to send at the end of an event.
-ghost use Rattle.std.specs.Prelude.{◌≡◌, ◌≤◌, [], vec_capacity};
+ghost use Rattle.std.specs.Prelude.{◌≡◌, ◌≤◌, []};
 ghost use Rattle.line_nodes.specs.Node.{drained, frames_of};
 ghost use Rattle.line_nodes.specs.NodeView.{node_of};
 ghost use Rattle.net_turns.specs.Sends.{Sends};
 
-use frame_codec::FrameBuf;
 use line_end::MOST_FRAMES;
 use line_nodes::Node;
 use memory_line::{Direction, Line};
-use net_events::Put;
+use net_events::Puts;
 
 /// Puts all frames that wait at a node on its line, which is that of this number, and lists them.
 #[inline(always)]
@@ -17,22 +16,17 @@ pub fn put_frames<L: Line>(
     number: usize,
     line: &mut L,
     direction: Direction,
-    puts: &mut Vec<Put>,
+    puts: &mut Puts,
 )
     requires empty { puts.old.items ≡ [] }
-    requires room { MOST_FRAMES ≤ vec_capacity puts.old }
+    requires room { MOST_FRAMES ≤ puts.old.room }
     ensures node { node_of node.new ≡ drained (node_of node.old) }
     ensures puts { Sends L.service direction number (frames_of (node_of node.old)) (L.flights line.old) puts.new.items
         (L.flights line.new) }
 {
     for _ in 0..node.waiting_frames() {
-        let mut put = Put {
-            line: number,
-            direction,
-            octets: FrameBuf::new(),
-        };
-        node.out(&mut put.octets);
-        line.put(direction, &put.octets);
-        puts.push_reserved(put);
+        let frame = puts.add(number, direction);
+        node.out(frame);
+        line.put(direction, frame);
     }
 }

@@ -52,7 +52,7 @@ free_at_dce l n (PlannedUser dte) kind = kind.2
 free_at_dce l n (PlannedSwitch dte) kind = kind.2
 
 -- a node with users that is the DTE of its line may be made
-made_at_dte : (l : NewLine) (n : NewNode) (dce : Planned) → IsKindOfLine l (PlannedUser n) dce → IsNewDte n.as_dte
+made_at_dte : (l : NewLine) (n : NewNode) (dce : Planned) → IsKindOfLine l (PlannedUser n) dce → IsNewDte n.as_dte l.params
 made_at_dte l n (PlannedUser dce) kind = kind.0
 made_at_dte l n (PlannedSwitch dce) kind = kind.0
 
@@ -62,8 +62,10 @@ pub node_of_end : (plan : NetPlan) (at place : ℕ) (p q : Planned) → slice_ge
 node_of_end plan at place p q there same at_place =
     same_Some p q (sym there ∙ ap (λ i. slice_get plan.nodes i) same ∙ at_place)
 
-pub dte_made : (plan : NetPlan) (place : ℕ) (n : NewNode) → IsPlan plan → slice_get plan.nodes place ≡ Some (PlannedUser n) → n.role ≡ Dte → IsNewDte n.as_dte
-dte_made plan place n h at is = by e.at_end
+pub dte_made : (plan : NetPlan) (place : ℕ) (n : NewNode) (line : NewLine) → IsPlan plan → slice_get plan.nodes place ≡ Some (PlannedUser n)
+    → slice_get plan.lines n.line ≡ Some line → n.role ≡ Dte → IsNewDte n.as_dte line.params
+dte_made plan place n line h at line_at is =
+    subst (λ (l : NewLine). IsNewDte n.as_dte l.params) (same_Some e.line_is line (sym e.there ∙ line_at)) (by e.at_end)
   where
     e : HasEndAt plan.lines place n.line
     e = h.nodes place (PlannedUser n) at
@@ -71,7 +73,7 @@ dte_made plan place n h at is = by e.at_end
     p : IsLinePlan plan.nodes n.line e.line_is
     p = h.lines n.line e.line_is e.there
 
-    by : (e.line_is.dte ≡ place) ⊎ (e.line_is.dce ≡ place) → IsNewDte n.as_dte
+    by : (e.line_is.dte ≡ place) ⊎ (e.line_is.dce ≡ place) → IsNewDte n.as_dte e.line_is.params
     by (inl w) =
         let same : p.dte ≡ PlannedUser n = node_of_end plan e.line_is.dte place p.dte (PlannedUser n) p.dte_there w at in
         made_at_dte e.line_is n p.dce (subst (λ (x : Planned). IsKindOfLine e.line_is x p.dce) same p.kind)

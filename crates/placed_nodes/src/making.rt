@@ -49,6 +49,7 @@ fn new_pad(alloc: Global, params: Params, terminals: u8, line: EndParams) -> Res
     requires line { AreParams line }
     requires least { 1 ≤ terminals }
     requires most { terminals ≤ 16 }
+    requires size { line.flow.size ≡ 128 }
     ensures ok { IfOk result (λ node. node_of node ≡ pad_node (pad_made.made
         (record { line = line; params = params; terminals = terminals }))) }
     ensures err { IfErr result (λ fault. fault ≡ make_fault_is.OutOfMemory) }
@@ -68,7 +69,7 @@ fn new_pad(alloc: Global, params: Params, terminals: u8, line: EndParams) -> Res
 /// A node in the state in which it is made.
 fn new_node(alloc: Global, node: &NewNode, line: EndParams) -> Result<Node, MakeFault>
     requires line { AreParams line }
-    requires dte { node.now.role ≡ role_is.Dte → IsNewDte node.now.as_dte }
+    requires dte { node.now.role ≡ role_is.Dte → IsNewDte node.now.as_dte line }
     ensures ok { IfOk result (λ made. node_of made ≡ new_node node.now line) }
     ensures err { IfErr result (λ fault. fault ≡ make_fault_is.OutOfMemory) }
 {

@@ -1,5 +1,5 @@
 //! The frames that a switch has to send at the end of an event go onto its lines, one line after the other.
-ghost use Rattle.std.specs.Prelude.{◌≡◌, ◌≤◌, ◌<◌, ◌+◌, ◌++◌, true, false, length, vec_len, vec_capacity};
+ghost use Rattle.std.specs.Prelude.{◌≡◌, ◌≤◌, ◌<◌, ◌+◌, ◌++◌, true, false, length};
 ghost use Rattle.memory_line.specs.Lines.{ArePut};
 ghost use Rattle.switch_lines.specs.Lines.{changed};
 ghost use Rattle.net_events.specs.AtSwitch.{switch_drained, waiting_on, line_drained};
@@ -9,10 +9,9 @@ ghost use Rattle.switch_turns.specs.Switching.{CanPut, LinesPut, puts_on, all_pu
 
 use crate::net_line::NetLine;
 use crate::roles::role_of;
-use frame_codec::FrameBuf;
 use line_end::MOST_FRAMES;
 use memory_line::Line;
-use net_events::Put;
+use net_events::Puts;
 use net_turns::direction_of;
 use placed_nodes::network_line;
 use x25_switch::Switch;
@@ -24,29 +23,24 @@ fn put_switch_frames<L: Line>(
     own: usize,
     number: usize,
     line: &mut L,
-    puts: &mut Vec<Put>,
+    puts: &mut Puts,
 )
     requires there { own < length switch.old.lines }
-    requires room { vec_len puts.old + MOST_FRAMES ≤ vec_capacity puts.old }
+    requires room { length puts.old.items + MOST_FRAMES ≤ puts.old.room }
     ensures switch { switch.new ≡ record switch.old { lines = changed own line_drained switch.old.lines } }
     ensures puts { puts.new.items
         ≡ puts.old.items ++ puts_on number (direction_of (own_role switch.old own)) (waiting_on own switch.old) }
-    ensures most { vec_len puts.new ≤ vec_len puts.old + MOST_FRAMES }
-    ensures capacity { vec_capacity puts.new ≡ vec_capacity puts.old }
+    ensures most { length puts.new.items ≤ length puts.old.items + MOST_FRAMES }
+    ensures places { puts.new.room ≡ puts.old.room }
     ensures line { L.service.faithful
         → ArePut L.service (direction_of (own_role switch.old own)) (waiting_on own switch.old) (L.flights line.old)
         (L.flights line.new) }
 {
     let direction = direction_of(role_of(switch, own));
     for _ in 0..switch.waiting_frames(own) {
-        let mut put = Put {
-            line: number,
-            direction,
-            octets: FrameBuf::new(),
-        };
-        switch.out(own, &mut put.octets);
-        line.put(direction, &put.octets);
-        puts.push_reserved(put);
+        let frame = puts.add(number, direction);
+        switch.out(own, frame);
+        line.put(direction, frame);
     }
 }
 
@@ -56,9 +50,9 @@ fn put_anew<L: Line>(
     switch: &mut Switch,
     own: &[usize],
     lines: &mut Vec<NetLine<L>>,
-    puts: &mut Vec<Put>,
+    puts: &mut Puts,
 )
-    requires { CanPut own.now switch.old.lines lines.old.items puts.old.items (vec_capacity puts.old) }
+    requires { CanPut own.now switch.old.lines lines.old.items puts.old.items puts.old.room }
     ensures switch { switch.new ≡ switch_drained switch.old }
     ensures puts { puts.new.items ≡ all_puts own.now switch.old.lines }
     ensures lines { LinesPut L.service true own.now switch.old lines.old.items lines.new.items }
@@ -77,9 +71,9 @@ fn put_waiting<L: Line>(
     switch: &mut Switch,
     own: &[usize],
     lines: &mut Vec<NetLine<L>>,
-    puts: &mut Vec<Put>,
+    puts: &mut Puts,
 )
-    requires { CanPut own.now switch.old.lines lines.old.items puts.old.items (vec_capacity puts.old) }
+    requires { CanPut own.now switch.old.lines lines.old.items puts.old.items puts.old.room }
     ensures switch { switch.new ≡ switch_drained switch.old }
     ensures puts { puts.new.items ≡ all_puts own.now switch.old.lines }
     ensures lines { LinesPut L.service false own.now switch.old lines.old.items lines.new.items }
@@ -99,9 +93,9 @@ pub fn put_lines<L: Line>(
     own: &[usize],
     lines: &mut Vec<NetLine<L>>,
     anew: bool,
-    puts: &mut Vec<Put>,
+    puts: &mut Puts,
 )
-    requires { CanPut own.now switch.old.lines lines.old.items puts.old.items (vec_capacity puts.old) }
+    requires { CanPut own.now switch.old.lines lines.old.items puts.old.items puts.old.room }
     ensures switch { switch.new ≡ switch_drained switch.old }
     ensures puts { puts.new.items ≡ all_puts own.now switch.old.lines }
     ensures lines { LinesPut L.service anew own.now switch.old lines.old.items lines.new.items }

@@ -1,5 +1,5 @@
 //! What happens at a switch: it is called, its frames go onto its lines, and the call that it joined is handed on.
-ghost use Rattle.std.specs.Prelude.{◌≡◌, MatchResult, vec_capacity};
+ghost use Rattle.std.specs.Prelude.{◌≡◌, MatchResult};
 ghost use Rattle.std.specs.Option.{option_to_list};
 ghost use Rattle.call_records.specs.RegisterView.{register_of};
 ghost use Rattle.net_events.specs.AtSwitch.{HasOwnLine, switched, joins_of, all_handed};
@@ -13,7 +13,7 @@ use crate::putting::put_lines;
 use crate::roles::role_of;
 use call_records::{ChannelEnd, Register};
 use memory_line::Line;
-use net_events::{Put, StepFault, SwitchEvent};
+use net_events::{Puts, StepFault, SwitchEvent};
 use placed_nodes::{Equipment, NetNode, network_line};
 use x25_switch::{NewJoin, Switch};
 
@@ -76,10 +76,10 @@ pub fn serve_switch<L: Line>(
     lines: &mut Vec<NetLine<L>>,
     register: &mut Register,
     event: &SwitchEvent<'_>,
-    puts: &mut Vec<Put>,
+    puts: &mut Puts,
 ) -> Result<(), StepFault>
     requires { CanServeSwitch (switch_event_of event.now) node.old lines.old.items puts.old.items
-        (vec_capacity puts.old) }
+        puts.old.room }
     ensures { (n : network.PlacedSwitch) → node.old ≡ network.Switching n
         → MatchResult result (λ _. SwitchServed L.service (switch_event_of event.now) n lines.old.items
         (register_of register.old) node.new lines.new.items (register_of register.new) puts.new.items) (λ _. ⊥) }

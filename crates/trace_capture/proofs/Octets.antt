@@ -8,7 +8,7 @@ use Rattle.trace_capture.specs.Trace.{spaced, hex_digit}
 pub record Left (text : List ℕ) (count : ℕ) : Type 0 where
   pub octets : List ℕ
   pub each : All (λ octet. octet < 256) octets
-  pub fit : count + length octets ≤ 147
+  pub fit : count + length octets ≤ 1030
   pub spelled : text ≡ flat_map spaced octets
 
 -- its first octet, and what is behind that
@@ -17,14 +17,14 @@ pub record First (text : List ℕ) (count : ℕ) : Type 0 where
   pub below : octet < 256
   pub high_is : get_or text 1 0 ≡ hex_digit (octet / 16)
   pub low_is : get_or text 2 0 ≡ hex_digit (octet % 16)
-  pub room : count < 147
+  pub room : count < 1030
   pub others_left : Left (take (length text - 3) (drop 3 text)) (count + 1)
 
 pub behind_first : {X : Type 0} (P : X → Type 0) (x : X) (xs : List X) → All P (x ∷ xs) → All P xs
 behind_first P x xs each k d less = each (suc k) d (omega arith)
 
 first_of : (text : List ℕ) (count : ℕ) (octets : List ℕ) → 3 ≤ length text
-    → All (λ octet. octet < 256) octets → count + length octets ≤ 147
+    → All (λ octet. octet < 256) octets → count + length octets ≤ 1030
     → text ≡ flat_map spaced octets → First text count
 first_of text count [] long each fit spelled = absurd (omega (arith, ap length spelled))
 first_of text count (octet ∷ octets) long each fit spelled = record {

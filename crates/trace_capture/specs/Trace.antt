@@ -17,10 +17,10 @@ hex_digit n = if nat_lt n 10 then 48 + n else 55 + n
 abbrev pub spaced : ℕ → List ℕ
 spaced octet = 32 ∷ hex_digit (octet / 16) ∷ hex_digit (octet % 16) ∷ []
 
--- what a frame may have: at most 147 octets
+-- what a frame may have: at most 1,030 octets
 pub record AreOctets (octets : List ℕ) : Type 0 where
   pub each : All (λ octet. octet < 256) octets
-  pub fit : length octets ≤ 147
+  pub fit : length octets ≤ 1030
 
 -- the sign of a direction: `>` from the DTE, `<` from the DCE
 abbrev pub sign_of : Direction → ℕ

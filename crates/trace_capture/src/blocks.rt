@@ -102,7 +102,7 @@ fn packet_body(alloc: Global, number: u32, frame: &TracedFrame<'_>) -> Result<Ve
     requires { length frame.now.line.now ≤ 5 }
     ensures value { IfOk result (λ body. body.items
         ≡ packet_body number frame.now.line.now frame.now.direction frame.now.octets) }
-    ensures fits { IfOk result (λ body. length body.items ≤ 300) }
+    ensures fits { IfOk result (λ body. length body.items ≤ 1200) }
 {
     let octets = frame.octets.as_slice();
     let length = octets.len() as u32 + 20;
@@ -143,7 +143,7 @@ fn push_padding(octets: &mut Vec<u8>, length: usize) -> Result<(), AllocError>
 
 /// Appends a block of this kind.
 fn push_block(capture: &mut Vec<u8>, kind: u32, body: &[u8]) -> Result<(), AllocError>
-    requires { length body.now ≤ 300 }
+    requires { length body.now ≤ 1200 }
     ensures { OnOk result (capture.new.items ≡ capture.old.items ++ block kind body.now) }
 {
     let length = body.len() as u32 + 12;

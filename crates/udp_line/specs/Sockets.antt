@@ -39,7 +39,7 @@ pub record Puts (D : Type 0) (Sent : D → List ℕ → Result ℕ Error → D �
 
 -- a datagram is a frame if it has octets, and no more than a frame
 abbrev pub IsFrame : (count : ℕ) → Type 0
-IsFrame count = (0 < count) × (count ≤ 147)
+IsFrame count = (0 < count) × (count ≤ 1030)
 
 -- a datagram was received once: where it is a frame this was taken whole, and else none was
 pub record Takes (D : Type 0) (Received : D → Result ℕ Error → List ℕ → D → Type 0)

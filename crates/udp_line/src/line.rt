@@ -27,12 +27,12 @@ pub struct UdpLine<D: Datagrams> {
 }
 
 impl UdpLine<UdpSocket> {
-    /// A line over two sockets on 127.0.0.1 that know each other alone and do not wait, which receives into 148 octets,
-    /// one more than a frame has.
+    /// A line over two sockets on 127.0.0.1 that know each other alone and do not wait, which receives into 1,031
+    /// octets, one more than the longest frame has.
     ///
     /// `OutOfMemory` comes for want of memory and `Socket` where the system gives no such sockets.
     pub fn pair<N: Net>(net: &N, alloc: Global) -> Result<Self, SocketFault>
-        ensures { IfOk result (λ line. length line.received.items ≡ 148) }
+        ensures { IfOk result (λ line. length line.received.items ≡ 1031) }
     {
         let dte = UdpSocket::bind(net, (Ipv4Addr::LOCALHOST, 0))?;
         let dce = UdpSocket::bind(net, (Ipv4Addr::LOCALHOST, 0))?;
@@ -50,7 +50,7 @@ impl<D: Datagrams> UdpLine<D> {
     /// `OutOfMemory` comes for want of memory.
     pub fn over(alloc: Global, dte: D, dce: D) -> Result<Self, SocketFault>
         ensures partners { IfOk result (λ line. (line.dte ≡ dte) × (line.dce ≡ dce)) }
-        ensures room { IfOk result (λ line. length line.received.items ≡ 148) }
+        ensures room { IfOk result (λ line. length line.received.items ≡ 1031) }
         ensures fault { IfErr result (λ fault. fault ≡ SocketFault.OutOfMemory) }
     {
         let received = vec![in alloc; 0; MAX_FRAME + 1]?;

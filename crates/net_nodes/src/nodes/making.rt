@@ -1,6 +1,5 @@
 //! How the lines of a network begin, whose nodes are made.
 ghost use Rattle.std.specs.Prelude.{◌≡◌, ◌≤◌, [], Some, IfOk, IfErr, OnOk, length, slice_get, vec_len};
-ghost use Rattle.std.specs.Prelude.{vec_capacity};
 ghost use Rattle.net_events.specs.Network as network;
 ghost use Rattle.net_events.specs.Opening.{IsPlan, IsMade};
 ghost use Rattle.net_config.specs.declared.fault.MakeFault.TheVariants as make_fault_is;
@@ -12,7 +11,7 @@ use crate::nodes::Nodes;
 use line_end::MOST_FRAMES;
 use memory_line::{Direction, Line};
 use net_config::MakeFault;
-use net_events::Put;
+use net_events::Puts;
 use net_plans::{NetPlan, NewLine};
 use net_turns::put_frames;
 use placed_nodes::{Equipment, NetNode, new_nodes, new_register};
@@ -25,10 +24,10 @@ fn put_user_frames<L: Line>(
     number: usize,
     line: &mut L,
     direction: Direction,
-    puts: &mut Vec<Put>,
+    puts: &mut Puts,
 )
     requires empty { puts.old.items ≡ [] }
-    requires room { MOST_FRAMES ≤ vec_capacity puts.old }
+    requires room { MOST_FRAMES ≤ puts.old.room }
     ensures { PutsFirst L.service direction node.old (L.flights line.old) node.new (L.flights line.new) }
 {
     match &mut node.kind {
@@ -50,8 +49,8 @@ fn begin<L: Line>(
         → slice_get nodes.old.items plan.now.dce ≡ Some dce
         → OnOk result (Begins L.service plan.now dte dce nodes.old.items nodes.new.items (L.flights line.new)) }
 {
-    let mut first = Vec::with_capacity(alloc, MOST_FRAMES)?;
-    let mut second = Vec::with_capacity(alloc, MOST_FRAMES)?;
+    let mut first = Puts::with_room(alloc, MOST_FRAMES)?;
+    let mut second = Puts::with_room(alloc, MOST_FRAMES)?;
     line.empty();
     put_user_frames(
         &mut nodes[plan.dte],
@@ -120,7 +119,7 @@ fn begin_switch<L: Line>(
             switch,
             ..
         } => {
-            let mut puts = Vec::with_capacity(alloc, switch.lines() * MOST_FRAMES)?;
+            let mut puts = Puts::with_room(alloc, switch.lines() * MOST_FRAMES)?;
             put_lines(switch, own, lines, false, &mut puts);
         }
     }

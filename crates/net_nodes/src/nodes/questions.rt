@@ -58,7 +58,8 @@ impl<L: Line> Nodes<L> {
         self.nodes.iter().all(|node| node.is_at_rest())
     }
 
-    /// Whether nothing is in flight, unacknowledged, owed, or waits to be sent or taken.
+    /// Whether nothing is in flight, unacknowledged or owed, nothing waits to be sent or taken, and no switch gathers
+    /// anything.
     pub fn is_at_rest(&self) -> bool
         ensures { result ≡ net_rests self.now }
     {

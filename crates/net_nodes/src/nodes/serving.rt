@@ -36,11 +36,12 @@ fn frame_heard(own: usize, octets: &[u8]) -> SwitchEvent<'_>
 }
 
 impl<L: Line> Nodes<L> {
-    /// The first frame in flight in a direction arrives.
+    /// The first frame in flight in a direction arrives. It is taken into the place that is lent.
     pub(super) fn deliver(
         &mut self,
         line: usize,
         direction: Direction,
+        frame: &mut FrameBuf,
         answer: &mut Answer,
     ) -> Result<(), StepFault>
         requires { IsStanding self.old }
@@ -57,8 +58,8 @@ impl<L: Line> Nodes<L> {
         }
         let place = place_at(hearer(direction), net_line);
         match self.own_line(line, place) {
-            Some(own) => self.deliver_to_switch(line, direction, place, own, answer),
-            None => self.deliver_to_user(line, direction, answer),
+            Some(own) => self.deliver_to_switch(line, direction, place, own, frame, answer),
+            None => self.deliver_to_user(line, direction, frame, answer),
         }
     }
 
@@ -67,6 +68,7 @@ impl<L: Line> Nodes<L> {
         &mut self,
         line: usize,
         direction: Direction,
+        frame: &mut FrameBuf,
         answer: &mut Answer,
     ) -> Result<(), StepFault>
         requires { HearsAt line (hearer direction) self.old }
@@ -76,8 +78,7 @@ impl<L: Line> Nodes<L> {
         make_room(answer, 0)?;
         self.register.open(line, MOST_WRITES)?;
         let net_line = &mut self.lines[line];
-        let mut frame = FrameBuf::new();
-        if !net_line.line.take(direction, &mut frame) {
+        if !net_line.line.take(direction, frame) {
             answer.outcome = Outcome::Delivered(false);
             return Ok(());
         }
@@ -97,6 +98,7 @@ impl<L: Line> Nodes<L> {
         direction: Direction,
         place: usize,
         own: usize,
+        frame: &mut FrameBuf,
         answer: &mut Answer,
     ) -> Result<(), StepFault>
         requires standing { IsStanding self.old }
@@ -105,8 +107,7 @@ impl<L: Line> Nodes<L> {
             (result_and result (Ok answer.new)) self.new }
     {
         self.make_switch_room(place, answer)?;
-        let mut frame = FrameBuf::new();
-        if !self.lines[line].line.take(direction, &mut frame) {
+        if !self.lines[line].line.take(direction, frame) {
             answer.outcome = Outcome::Delivered(false);
             return Ok(());
         }
@@ -119,6 +120,7 @@ impl<L: Line> Nodes<L> {
         &mut self,
         line: usize,
         direction: Direction,
+        frame: &mut FrameBuf,
         answer: &mut Answer,
     ) -> Result<(), StepFault>
         ensures { Happens L.service (event_is.Lose line direction) self.old
@@ -127,7 +129,7 @@ impl<L: Line> Nodes<L> {
         if line >= self.lines.len() {
             return Err(StepFault::NoSuchNode);
         }
-        let _ = self.lines[line].line.take(direction, &mut FrameBuf::new());
+        let _ = self.lines[line].line.take(direction, frame);
         make_bare(answer, Outcome::Done);
         Ok(())
     }

@@ -1,5 +1,5 @@
 //! What happens at the switch of a place in the network.
-ghost use Rattle.std.specs.Prelude.{◌≡◌, [], Some, OnOk, MatchResult, length, slice_get, vec_capacity};
+ghost use Rattle.std.specs.Prelude.{◌≡◌, [], Some, OnOk, MatchResult, length, slice_get};
 ghost use Rattle.net_events.specs.EventView.{switch_event_of};
 ghost use Rattle.net_events.specs.Network as network;
 ghost use Rattle.switch_turns.specs.Switching.{HasRoom};
@@ -42,7 +42,7 @@ impl<L: Line> Nodes<L> {
         answer: &mut Answer,
     ) -> Result<(), AllocError>
         ensures room { (n : network.PlacedSwitch) → slice_get self.now.nodes place ≡ Some (network.Switching n)
-            → OnOk result (HasRoom (length n.switch.lines) answer.new.frames.items (vec_capacity answer.new.frames)) }
+            → OnOk result (HasRoom (length n.switch.lines) answer.new.frames.items answer.new.frames.room) }
         ensures frames { answer.new.frames.items ≡ [] }
         ensures notes { answer.new.notes.items ≡ [] }
         ensures text { answer.new.text.items ≡ [] }
@@ -63,7 +63,7 @@ impl<L: Line> Nodes<L> {
         answer: &mut Answer,
     ) -> Result<(), StepFault>
         requires can { CanSwitch (switch_event_of event.now) place self.old answer.old.frames.items
-            (vec_capacity answer.old.frames) }
+            answer.old.frames.room }
         requires notes { answer.old.notes.items ≡ [] }
         requires text { answer.old.text.items ≡ [] }
         ensures { (n : network.PlacedSwitch) → slice_get self.old.nodes place ≡ Some (network.Switching n)

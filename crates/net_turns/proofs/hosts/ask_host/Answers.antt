@@ -8,7 +8,7 @@ returns-in_ok-channel-in-Calls-clause-ok c =
 
 pub returns-in_ok-ask-in-Asks-clause-ok : goal.returns-in_ok-ask-in-Asks-clause-ok
 returns-in_ok-ask-in-Asks-clause-ok c =
-    rw (c.in-Asks.is, c.ask.ensures.host, c.write_request.ensures)
+    rw (c.in-Asks.is, c.ask.ensures.host, c.write_request.ensures, c.packet_size-size.ensures.size)
     (called_asks c.args.role c.args.host.now c.in-Asks.channel c.in-Asks.request.now c.args.book.now.book c.write_request.new.book.room c.write_request.new.book.pairs c.requires.quiet c.in_ok-ask-in-Asks.ensures.answer)
 
 pub returns-in-Takes-clause-ok : goal.returns-in-Takes-clause-ok

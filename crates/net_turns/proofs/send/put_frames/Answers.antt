@@ -1,4 +1,5 @@
 use Rattle.std.proofs.Common.{◌≡◌, ◌<◌, [], length, refl, ap, arith}
+use Rattle.std.proofs.lemmas.List.{length_push}
 use Rattle.line_nodes.specs.Node.{frames_of}
 use Rattle.line_nodes.specs.NodeView.{node_of}
 use Rattle.net_turns.proofs.Sending.{putting-more, putting-ends, frames-kept, frames-end, given, none-left}
@@ -11,13 +12,13 @@ loop-preserved g c =
     record {
       putting =
           putting-more _ _ _ _ _ c.loop.puts.items _ _ c.out.new.frame (frames_of (node_of c.out.new.self)) _ _ (record { line = c.args.number; direction = c.args.direction; octets = c.out.new.frame }) c.loop.invariant.putting
-          first c.push_reserved.ensures.items (record { on = refl; to = refl; as_octets = refl })
+          first refl (record { on = refl; to = refl; as_octets = refl })
           (λ f. c.put.ensures f);
       node_is = frames-kept (node_of c.args.node.now) (node_of c.loop.node) (node_of c.out.new.self) c.loop.invariant.node_is c.out.ensures.node;
       left = (let l = ap length first in omega (arith, l, c.loop.invariant.left));
       most = c.loop.invariant.most;
-      put = omega (arith, c.loop.invariant.put, c.push_reserved.ensures.len);
-      room = omega (arith, c.loop.invariant.room, c.push_reserved.ensures.capacity);
+      put = (let more = length_push c.loop.puts.items (record { line = c.args.number; direction = c.args.direction; octets = c.out.new.frame }) in omega (arith, c.loop.invariant.put, more));
+      room = c.loop.invariant.room;
     }
 
 pub returns : goal.returns

@@ -1,4 +1,4 @@
-use Rattle.std.proofs.Common.{◌≡◌, ◌+◌, ◌≤◌, length, vec_len, vec_capacity}
+use Rattle.std.proofs.Common.{◌≡◌, ◌+◌, ◌≤◌, length}
 use Rattle.line_nodes.specs.Node.{frames_of}
 use Rattle.line_nodes.specs.NodeView.{node_of}
 use Rattle.net_turns.proofs.Sending.{Putting, with_frames}
@@ -10,6 +10,6 @@ invariant-loop g l = record {
   node_is : node_of l.node ≡ with_frames (frames_of (node_of l.node)) (node_of l.initial.node);
   left : length (frames_of (node_of l.node)) + l.counter ≡ l.end;
   most : l.end ≤ 9;
-  put : vec_len l.puts ≡ l.counter;
-  room : 9 ≤ vec_capacity l.puts;
+  put : length l.puts.items ≡ l.counter;
+  room : 9 ≤ l.puts.room;
 }

@@ -3,7 +3,7 @@ use Rattle.std.specs.Prelude.{slice_get}
 use Rattle.std.proofs.lemmas.Option.{same_Some}
 use Rattle.packet_end.specs.Params.{AreParams}
 use Rattle.net_events.specs.Network.{User}
-use Rattle.net_events.specs.Opening.{NewNode, PlannedUser, HasEndAt, NewLine, NetPlan, new_node}
+use Rattle.net_events.specs.Opening.{NewNode, PlannedUser, HasEndAt, NewLine, NetPlan, IsNewDte, new_node}
 use Rattle.placed_nodes.proofs.Lists.{within, found}
 use Rattle.placed_nodes.proofs.Plans.{dte_made}
 use Rattle.placed_nodes.proofs.making.new_user.Goals as goal
@@ -29,7 +29,14 @@ new_node-requires-clause-line c =
     subst AreParams (ap (λ (l : NewLine). l.params) (sym line)) (c.requires.plan.lines item.line stands.line_is stands.there).params
 
 pub new_node-requires-clause-dte : goal.new_node-requires-clause-dte
-new_node-requires-clause-dte c = dte_made c.args.plan.now c.requires.there.place c.args.node.now c.requires.plan c.requires.there.there
+new_node-requires-clause-dte c =
+    let item = c.args.node.now in
+    let plan = c.args.plan.now in
+    let stands : HasEndAt plan.lines c.requires.there.place item.line = c.requires.plan.nodes c.requires.there.place (PlannedUser item) c.requires.there.there in
+    let same = ap (λ (n : NewNode). n.line) c.node.view_is in
+    let line_there = ap (λ (p : NetPlan). slice_get p.lines c.node.inside.line) c.plan.view_is ∙ ap (slice_get plan.lines) same ∙ stands.there in
+    let line = c.line.view_is ∙ found c.plan.inside.lines.items c.node.inside.line _ c.index-line.result.now stands.line_is (within c.plan.inside.lines.items c.node.inside.line stands.line_is line_there) c.index-line.ensures line_there in
+    λ is. subst (λ (l : NewLine). IsNewDte item.as_dte l.params) (sym line) (dte_made plan c.requires.there.place item stands.line_is c.requires.plan c.requires.there.there stands.there is)
 
 pub returns-clause-ok : goal.returns-clause-ok
 returns-clause-ok c = λ l at.

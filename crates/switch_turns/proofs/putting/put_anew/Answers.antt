@@ -64,7 +64,7 @@ loop-at-preserved g c =
       puts_are = c.put_switch_frames.ensures.puts ∙ (λ i. c.loop-at.invariant.puts_are i ++ puts_on c.network_line-number.result (direction_of (role i)) (waits i))
           ∙ sym (puts_more n c.network_line-number.result own s.lines here within) ∙ ap (λ m. puts_to m own s.lines) next;
       places = omega (arith, c.loop-at.invariant.places, c.put_switch_frames.ensures.most);
-      capacity = c.put_switch_frames.ensures.capacity ∙ c.loop-at.invariant.capacity;
+      capacity = c.put_switch_frames.ensures.places ∙ c.loop-at.invariant.capacity;
       lines_put = put_next L true own s n (n + 1) c.network_line-number.result c.args.lines.now.items c.loop-at.lines.items _ _ (g.L.Line.flights c.empty.new.self) (g.L.Line.flights c.put_switch_frames.new.line)
           c.requires.apart c.loop-at.invariant.lines_put here line_there c.empty.ensures
           (λ f. put_again L _ _ _ _ (g.L.Line.flights c.empty.new.self) (g.L.Line.flights c.put_switch_frames.new.line) role waits (c.put_switch_frames.ensures.line f))

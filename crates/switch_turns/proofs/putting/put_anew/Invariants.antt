@@ -1,5 +1,5 @@
 -- The first own lines are drained, and their frames are put and listed.
-use Rattle.std.proofs.Common.{true, ◌≡◌, ◌≤◌, ◌*◌, vec_len, vec_capacity}
+use Rattle.std.proofs.Common.{true, ◌≡◌, ◌≤◌, ◌*◌, length}
 use Rattle.switch_turns.proofs.Switching.{drained_to, puts_to, PutTo}
 use Rattle.switch_turns.proofs.putting.put_anew.Given as goal
 
@@ -7,7 +7,7 @@ abbrev pub invariant-loop-at : goal.invariant-loop-at
 invariant-loop-at g l = record {
   switch_is : l.switch ≡ record l.initial.switch { lines = drained_to l.at l.initial.switch.lines };
   puts_are : l.puts.items ≡ puts_to l.at l.own l.initial.switch.lines;
-  places : vec_len l.puts ≤ 9 * l.at;
-  capacity : vec_capacity l.puts ≡ vec_capacity l.initial.puts;
+  places : length l.puts.items ≤ 9 * l.at;
+  capacity : l.puts.room ≡ l.initial.puts.room;
   lines_put : PutTo g.L.Line.service true l.own l.initial.switch l.at l.initial.lines.items l.lines.items;
 }

@@ -1,4 +1,5 @@
 use Rattle.std.proofs.Common.{◌≡◌, ◌<◌, [], length, refl, ap, ◌∙◌, subst, arith}
+use Rattle.std.proofs.lemmas.List.{length_push}
 use Rattle.switch_lines.specs.Switch.{Switch, with_end}
 use Rattle.packet_end.specs.PacketEnd.{without_first_frame}
 use Rattle.memory_line.specs.declared.line.Direction.{Direction}
@@ -28,15 +29,15 @@ loop-preserved g c =
     record {
       putting =
           putting_more g.L.Line.service c.args.number c.direction_of-direction.result _ _ c.args.puts.now.items c.loop.puts.items _ _ c.out.new.frame (waiting_on c.args.own c.out.new.self) _ _ c.loop.invariant.putting
-          first c.push_reserved.ensures.items
+          first refl
           (λ f. c.put.ensures f);
       switch_is = left_less c.args.own c.args.switch.now c.loop.switch c.out.new.self c.requires.there c.loop.invariant.switch_is c.out.ensures.switch;
       there = (let same : length c.out.new.self.lines ≡ length c.loop.switch.lines = ap (λ (s : Switch). length s.lines) c.out.ensures.switch ∙ length_changed c.args.own (with_end without_first_frame) c.loop.switch.lines in omega (arith, same, c.loop.invariant.there));
       left = (let l = ap length first in omega (arith, l, c.loop.invariant.left));
       most = c.loop.invariant.most;
-      put = omega (arith, c.loop.invariant.put, c.push_reserved.ensures.len);
-      room = omega (arith, c.loop.invariant.room, c.push_reserved.ensures.capacity);
-      capacity = c.push_reserved.ensures.capacity ∙ c.loop.invariant.capacity;
+      put = (let more = length_push c.loop.puts.items (record { line = c.args.number; direction = c.direction_of-direction.result; octets = c.out.new.frame }) in omega (arith, c.loop.invariant.put, more));
+      room = c.loop.invariant.room;
+      capacity = c.loop.invariant.capacity;
     }
 
 pub returns : goal.returns
@@ -49,6 +50,6 @@ returns g c =
       switch = left_ends c.args.own c.args.switch.now c.loop.switch c.loop.invariant.switch_is none;
       puts = all.listed;
       most = omega (arith, c.loop.invariant.put, c.loop.invariant.most, c.loop.invariant.left);
-      capacity = c.loop.invariant.capacity;
+      places = c.loop.invariant.capacity;
       line = all.put;
     }

@@ -1,4 +1,4 @@
-use Rattle.std.proofs.Common.{◌≡◌, ◌+◌, ◌≤◌, ◌<◌, length, vec_len, vec_capacity}
+use Rattle.std.proofs.Common.{◌≡◌, ◌+◌, ◌≤◌, ◌<◌, length}
 use Rattle.net_events.specs.AtSwitch.{waiting_on}
 use Rattle.switch_turns.proofs.SwitchSending.{PuttingOn, left_on}
 use Rattle.switch_turns.proofs.putting.put_switch_frames.Given as goal
@@ -10,7 +10,7 @@ invariant-loop g l = record {
   there : l.own < length l.switch.lines;
   left : length (waiting_on l.own l.switch) + l.counter ≡ l.end;
   most : l.end ≤ 9;
-  put : vec_len l.puts ≡ vec_len l.initial.puts + l.counter;
-  room : vec_len l.initial.puts + 9 ≤ vec_capacity l.puts;
-  capacity : vec_capacity l.puts ≡ vec_capacity l.initial.puts;
+  put : length l.puts.items ≡ length l.initial.puts.items + l.counter;
+  room : length l.initial.puts.items + 9 ≤ l.puts.room;
+  capacity : l.puts.room ≡ l.initial.puts.room;
 }

@@ -81,7 +81,7 @@ loop-at-preserved g c =
             (λ f. put_again L _ _ _ _ (g.L.Line.flights c.net_line.inside.line) (g.L.Line.flights c.put_switch_frames.new.line) role waits (c.put_switch_frames.ensures.line f))
             refl),
       );
-      capacity = c.put_switch_frames.ensures.capacity ∙ c.loop-at.invariant.capacity;
+      capacity = c.put_switch_frames.ensures.places ∙ c.loop-at.invariant.capacity;
     }
 
 pub returns : goal.returns

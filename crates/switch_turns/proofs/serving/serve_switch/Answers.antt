@@ -1,5 +1,4 @@
 use Rattle.std.proofs.Common.{◌≡◌, sym, ap, ◌∙◌, subst}
-use Rattle.std.specs.Prelude.{vec_capacity}
 use Rattle.std.specs.Option.{option_to_list}
 use Rattle.net_events.specs.AtSwitch.{HasOwnLine}
 use Rattle.net_events.specs.EventView.{switch_event_of}
@@ -19,8 +18,8 @@ pub put_lines-requires : goal.put_lines-requires
 put_lines-requires g c =
     let p : PlacedSwitch = record { lines = c.in-Switching.own.items; switch = c.in-Switching.switch } in
     let same : p ≡ c.requires.switch = switch_is p c.requires.switch (ap kind_of (sym c.in-Switching.is) ∙ c.node.view_is ∙ c.requires.is) in
-    let can = subst (λ (x : PlacedSwitch). CanPut x.lines x.switch.lines c.args.lines.now.items c.args.puts.now.items (vec_capacity c.args.puts.now)) (sym same) c.requires.can_put in
-    can_put_then (switch_event_of c.args.event.now) p c.deref-2.result.now c.call_switch-joined.new.switch c.args.lines.now.items c.args.puts.now.items (vec_capacity c.args.puts.now)
+    let can = subst (λ (x : PlacedSwitch). CanPut x.lines x.switch.lines c.args.lines.now.items c.args.puts.now.items c.args.puts.now.room) (sym same) c.requires.can_put in
+    can_put_then (switch_event_of c.args.event.now) p c.deref-2.result.now c.call_switch-joined.new.switch c.args.lines.now.items c.args.puts.now.items c.args.puts.now.room
     c.deref-2.ensures.value c.call_switch-joined.ensures.switch can
 
 pub returns : goal.returns

@@ -1,5 +1,4 @@
 use Rattle.std.proofs.Common.{set, sym, ap, subst}
-use Rattle.std.specs.Prelude.{vec_capacity}
 use Rattle.net_events.specs.EventView.{switch_event_of}
 use Rattle.net_events.specs.Network.{NetNode, Switching}
 use Rattle.net_nodes.specs.Switching.{CanSwitch}
@@ -10,7 +9,7 @@ use Rattle.net_nodes.proofs.nodes.Nodes.switch_acts.Goals as goal
 pub serve_switch-served-requires : goal.serve_switch-served-requires
 serve_switch-served-requires g c =
     let nodes = c.self.inside.nodes.items in
-    let can = subst (λ s. CanSwitch (switch_event_of c.args.event.now) c.args.place s c.args.answer.now.frames.items (vec_capacity c.args.answer.now.frames)) (sym c.self.view_is) c.requires.can in
+    let can = subst (λ s. CanSwitch (switch_event_of c.args.event.now) c.args.place s c.args.answer.now.frames.items c.args.answer.now.frames.room) (sym c.self.view_is) c.requires.can in
     record {
       switch = can.switch;
       is = found nodes c.args.place _ c.index_mut.result.now (Switching can.switch) (within nodes c.args.place (Switching can.switch) can.there) c.index_mut.ensures.value can.there;

@@ -1,5 +1,4 @@
 use Rattle.std.proofs.Common.{◌≡◌, ℕ, List, length, sym, ap, ◌∙◌, subst, arith}
-use Rattle.std.specs.Prelude.{vec_capacity}
 use Rattle.net_events.specs.Network.{PlacedSwitch}
 use Rattle.placed_nodes.specs.NodeView.{kind_of}
 use Rattle.switch_turns.specs.Switching.{CanPut}
@@ -9,11 +8,11 @@ pub put_lines-requires : goal.put_lines-requires
 put_lines-requires g c =
     let p : PlacedSwitch = record { lines = c.in-Switching.own.items; switch = c.in-Switching.switch } in
     let can = c.requires p (sym c.node.view_is ∙ ap kind_of c.in-Switching.is) in
-    let puts = c.in_ok-puts-in-Switching.puts in
     let count : length p.lines ≡ length p.switch.lines = can.count in
     let lines : c.lines.result ≡ length p.switch.lines = c.lines.ensures.count in
-    let places = c.in_ok-puts-in-Switching.ensures.capacity in
-    subst (λ (x : List ℕ). CanPut x p.switch.lines c.args.lines.now.items puts.items (vec_capacity puts)) (sym c.deref.ensures.value)
+    let puts = c.in_ok-puts-in-Switching.puts in
+    let places = c.in_ok-puts-in-Switching.ensures.room in
+    subst (λ (x : List ℕ). CanPut x p.switch.lines c.args.lines.now.items puts.items puts.room) (sym c.deref.ensures.value)
     (record {
       count = can.count;
       apart = can.apart;
