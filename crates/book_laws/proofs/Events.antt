@@ -4,6 +4,7 @@ use Rattle.std.proofs.Common.{inl, inr, refl, sym, ap, subst, ◌∙◌, arith, 
 use Rattle.std.proofs.lemmas.Option.{none-some}
 use Rattle.std.proofs.lemmas.Bool.{eq-eqb, ne_eqb}
 use Rattle.link_timers.specs.declared.role.Role.{Role}
+use Rattle.packet_channel.specs.declared.flow.Flow.{Flow}
 use Rattle.packet_layer.specs.Packets.{CallParts}
 use Rattle.packet_layer.specs.Traffic.{front}
 use Rattle.packet_layer.specs.Channel.{Channel, Step, Request, Refusal, requested, carried_out, unless, refusal}
@@ -114,16 +115,16 @@ abbrev told_of : Option Refusal → Request → Channel → History → History
 told_of o Accept ch st = accepted_unless o st
 told_of o r ch st = opened (unless o (carried_out ch r) ch).owes (grown_unless o (λ e. logged ch.traffic r e) st)
 
-told_is : (x : Role) (ch : Channel) (r : Request) (st : History) → requested_history x ch r st ≡ told_of (refusal x ch r) r ch st
-told_is x ch Accept st = refl
-told_is x ch (Clearing cause diagnostic) st = refl
-told_is x ch (Resetting cause diagnostic) st = refl
-told_is x ch (Sending d) st = refl
-told_is x ch (Interrupting octets) st = refl
-told_is x ch (Stopping v) st = refl
-told_is x ch Taking st = refl
-told_is x ch (Releasing n) st = refl
-told_is x ch Confirming st = refl
+told_is : (x : Role) (flow : Flow) (ch : Channel) (r : Request) (st : History) → requested_history x flow ch r st ≡ told_of (refusal x flow ch r) r ch st
+told_is x flow ch Accept st = refl
+told_is x flow ch (Clearing cause diagnostic) st = refl
+told_is x flow ch (Resetting cause diagnostic) st = refl
+told_is x flow ch (Sending d) st = refl
+told_is x flow ch (Interrupting octets) st = refl
+told_is x flow ch (Stopping v) st = refl
+told_is x flow ch Taking st = refl
+told_is x flow ch (Releasing n) st = refl
+told_is x flow ch Confirming st = refl
 
 refused_told : (z : Refusal) (ch : Channel) (r : Request) (st : History) → SameHistory st (told_of (Some z) r ch st)
 refused_told z ch Accept st = history_refl st
@@ -139,20 +140,20 @@ refused_told z ch Confirming st = history_refl st
 abbrev Asked : Role → ℕ → Channel → Request → Option Refusal → Type 0
 Asked x d ch r o = Outcome x d ch (unless o (carried_out ch r) ch).channel (λ st. told_of o r ch st) (λ b. unless_refused o (carried x d r (front ch.traffic) b) b) (λ b l. l) NoCalls
 
-asked_of : (x : Role) (d : ℕ) (ch : Channel) (r : Request) → refusal x ch r ≡ None → Asked x d ch r None
-asked_of x d ch Accept e = asked x d ch Accept e
-asked_of x d ch (Clearing cause diagnostic) e = asked x d ch (Clearing cause diagnostic) e
-asked_of x d ch (Resetting cause diagnostic) e = asked x d ch (Resetting cause diagnostic) e
-asked_of x d ch (Sending datum) e = asked x d ch (Sending datum) e
-asked_of x d ch (Interrupting octets) e = asked x d ch (Interrupting octets) e
-asked_of x d ch (Stopping v) e = asked x d ch (Stopping v) e
-asked_of x d ch Taking e = asked x d ch Taking e
-asked_of x d ch (Releasing n) e = asked x d ch (Releasing n) e
-asked_of x d ch Confirming e = asked x d ch Confirming e
+asked_of : (x : Role) (flow : Flow) (d : ℕ) (ch : Channel) (r : Request) → refusal x flow ch r ≡ None → Asked x d ch r None
+asked_of x flow d ch Accept e = asked x flow d ch Accept e
+asked_of x flow d ch (Clearing cause diagnostic) e = asked x flow d ch (Clearing cause diagnostic) e
+asked_of x flow d ch (Resetting cause diagnostic) e = asked x flow d ch (Resetting cause diagnostic) e
+asked_of x flow d ch (Sending datum) e = asked x flow d ch (Sending datum) e
+asked_of x flow d ch (Interrupting octets) e = asked x flow d ch (Interrupting octets) e
+asked_of x flow d ch (Stopping v) e = asked x flow d ch (Stopping v) e
+asked_of x flow d ch Taking e = asked x flow d ch Taking e
+asked_of x flow d ch (Releasing n) e = asked x flow d ch (Releasing n) e
+asked_of x flow d ch Confirming e = asked x flow d ch Confirming e
 
-asked_any : (x : Role) (d : ℕ) (ch : Channel) (r : Request) (o : Option Refusal) → refusal x ch r ≡ o → Asked x d ch r o
-asked_any x d ch r None e = asked_of x d ch r e
-asked_any x d ch r (Some z) e = stays refl (λ st. refused_told z ch r st) (λ b. refl) (λ b l. refl)
+asked_any : (x : Role) (flow : Flow) (d : ℕ) (ch : Channel) (r : Request) (o : Option Refusal) → refusal x flow ch r ≡ o → Asked x d ch r o
+asked_any x flow d ch r None e = asked_of x flow d ch r e
+asked_any x flow d ch r (Some z) e = stays refl (λ st. refused_told z ch r st) (λ b. refl) (λ b l. refl)
 
 -- the history of another channel
 pub else_history : (c d : ℕ) (a st : History) → c ≢ d → cond (c == d) a st ≡ st
@@ -255,29 +256,29 @@ module _ (n : ℕ) (e y : End) (te ty : ℕ) (b : Book) (cs : List (Option ℕ))
 -- ---- a request
 
 abbrev after_request : End → ℕ → Request → Option Channel → End
-after_request e d r o = moved_end e (on_found e.layer d (λ ch. requested e.layer.role ch r) o) (λ c st. cond (c == d) (found_history o (λ ch z. requested_history e.layer.role ch r z) st) st) e.accepted
+after_request e d r o = moved_end e (on_found e.layer d (λ ch. requested e.layer.role e.layer.flow ch r) o) (λ c st. cond (c == d) (found_history o (λ ch z. requested_history e.layer.role e.layer.flow ch r z) st) st) e.accepted
 
 abbrev after_refusal : End → ℕ → Request → Channel → Option Refusal → End
-after_refusal e d r ch o = moved_end e (after_step e.layer d (unless o (carried_out ch r) ch)) (λ c st. cond (c == d) (requested_history e.layer.role ch r st) st) e.accepted
+after_refusal e d r ch o = moved_end e (after_step e.layer d (unless o (carried_out ch r) ch)) (λ c st. cond (c == d) (requested_history e.layer.role e.layer.flow ch r st) st) e.accepted
 
-request_on : (n : ℕ) (e y : End) (te ty : ℕ) (b : Book) (cs : List (Option ℕ)) (d : ℕ) (r : Request) (ch : Channel) → KeptAt n e.layer.role e y te ty b cs → Facts n e y → channel_of e.layer d ≡ Some ch → (o : Option Refusal) → refusal e.layer.role ch r ≡ o
+request_on : (n : ℕ) (e y : End) (te ty : ℕ) (b : Book) (cs : List (Option ℕ)) (d : ℕ) (r : Request) (ch : Channel) → KeptAt n e.layer.role e y te ty b cs → Facts n e y → channel_of e.layer d ≡ Some ch → (o : Option Refusal) → refusal e.layer.role e.layer.flow ch r ≡ o
     → (ses : Option ℕ) → e.session ≡ ses → KeptAt n e.layer.role (after_refusal e d r ch o) y te ty (unless_refused o (carried e.layer.role d r (front ch.traffic) b) b) cs
 request_on n e y te ty b cs d r ch k facts found o refused (Some s) up =
-    on_one n e y te ty b cs s d ch (owing (unless o (carried_out ch r) ch)) (unless o (carried_out ch r) ch).channel (after_step e.layer d (unless o (carried_out ch r) ch)) (λ c st. cond (c == d) (requested_history e.layer.role ch r st) st) e.accepted
+    on_one n e y te ty b cs s d ch (owing (unless o (carried_out ch r) ch)) (unless o (carried_out ch r) ch).channel (after_step e.layer d (unless o (carried_out ch r) ch)) (λ c st. cond (c == d) (requested_history e.layer.role e.layer.flow ch r st) st) e.accepted
     (λ st. told_of o r ch st) (λ v. unless_refused o (carried e.layer.role d r (front ch.traffic) v) v) (λ v l. l) NoCalls k facts up found refl refl refl refl
-    (λ st. here_history d (requested_history e.layer.role ch r st) st ∙ told_is e.layer.role ch r st ∙ ap (λ (z : Option Refusal). told_of z r ch st) refused) (λ c st h. else_history c d (requested_history e.layer.role ch r st) st h) (same_rises e)
-    (λ parts c h. absurd c) (asked_any e.layer.role d ch r o refused)
+    (λ st. here_history d (requested_history e.layer.role e.layer.flow ch r st) st ∙ told_is e.layer.role e.layer.flow ch r st ∙ ap (λ (z : Option Refusal). told_of z r ch st) refused) (λ c st h. else_history c d (requested_history e.layer.role e.layer.flow ch r st) st h) (same_rises e)
+    (λ parts c h. absurd c) (asked_any e.layer.role e.layer.flow d ch r o refused)
 request_on n e y te ty b cs d r ch k facts found o refused None none =
-    none_step n e y te ty b cs d ch (owing (unless o (carried_out ch r) ch)) (after_step e.layer d (unless o (carried_out ch r) ch)) (λ c st. cond (c == d) (requested_history e.layer.role ch r st) st) k none
+    none_step n e y te ty b cs d ch (owing (unless o (carried_out ch r) ch)) (after_step e.layer d (unless o (carried_out ch r) ch)) (λ c st. cond (c == d) (requested_history e.layer.role e.layer.flow ch r st) st) k none
     (no_session n e y te ty b cs d ch k found none) found refl refl refl (λ st. told_of o r ch st) (λ v. unless_refused o (carried e.layer.role d r (front ch.traffic) v) v) (λ v l. l)
-    (owed_same e.layer.role d ch (unless o (carried_out ch r) ch) (λ st. told_of o r ch st) (λ v. unless_refused o (carried e.layer.role d r (front ch.traffic) v) v) (λ v l. l) (asked_any e.layer.role d ch r o refused))
+    (owed_same e.layer.role d ch (unless o (carried_out ch r) ch) (λ st. told_of o r ch st) (λ v. unless_refused o (carried e.layer.role d r (front ch.traffic) v) v) (λ v l. l) (asked_any e.layer.role e.layer.flow d ch r o refused))
 
 request_found : (n : ℕ) (e y : End) (te ty : ℕ) (b : Book) (cs : List (Option ℕ)) (d : ℕ) (r : Request) → KeptAt n e.layer.role e y te ty b cs → Facts n e y → (o : Option Channel) → channel_of e.layer d ≡ o
-    → KeptAt n e.layer.role (after_request e d r o) y te ty (unless_refused (refusal_at e.layer.role r o) (carried e.layer.role d r (front_at o) b) b) cs
+    → KeptAt n e.layer.role (after_request e d r o) y te ty (unless_refused (refusal_at e.layer.role e.layer.flow r o) (carried e.layer.role d r (front_at o) b) b) cs
 request_found n e y te ty b cs d r k facts None found =
     still n e y te ty b cs e.layer (λ c st. cond (c == d) st st) e.accepted k (λ c. refl) (λ c st. either_way (λ (z : History). SameHistory st z) (c == d) st st (history_refl st) (history_refl st)) (same_rises e) refl
     (same_end_is n e (after_request e d r None) k.here refl (same_rises e) refl refl refl)
-request_found n e y te ty b cs d r k facts (Some ch) found = request_on n e y te ty b cs d r ch k facts found (refusal e.layer.role ch r) refl e.session refl
+request_found n e y te ty b cs d r k facts (Some ch) found = request_on n e y te ty b cs d r ch k facts found (refusal e.layer.role e.layer.flow ch r) refl e.session refl
 
 pub requests_kept : (n : ℕ) (e y : End) (te ty : ℕ) (b : Book) (cs : List (Option ℕ)) (d : ℕ) (r : Request) → KeptAt n e.layer.role e y te ty b cs → Facts n e y
     → KeptAt n e.layer.role (after_request e d r (channel_of e.layer d)) y te ty (unless_refused (request_refusal e.layer d r) (carried e.layer.role d r (front_on e.layer d) b) b) cs

@@ -33,3 +33,4 @@ pub mod Accepted
 pub mod AcceptedPairs
 pub mod Delivery
 pub mod Rows
+mod NumbersRun

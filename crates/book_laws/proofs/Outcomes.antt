@@ -1,5 +1,5 @@
 -- What a step of one channel comes to for its call, its history and the book.
-use Rattle.std.specs.Prelude.{◌≡◌, ◌≢◌, ℕ, zero, suc, ◌+◌, ◌-◌, ◌%◌, ◌<◌, ◌≤◌, Bool, true, false, cond, not, ◌&&◌, ◌==◌, nat_le, nat_lt, List, [], ◌∷◌, ◌++◌, length, map, Option, Some, None}
+use Rattle.std.specs.Prelude.{◌≡◌, ◌≢◌, ℕ, zero, suc, ◌+◌, ◌<◌, ◌≤◌, Bool, true, false, cond, not, ◌&&◌, ◌==◌, nat_le, nat_lt, List, [], ◌∷◌, ◌++◌, length, map, Option, Some, None}
 use Rattle.std.proofs.Common.{inl, inr, refl, sym, ap, subst, ◌∙◌, arith, true≢false}
 use Rattle.std.proofs.lemmas.Option.{none-some}
 use Rattle.std.proofs.lemmas.Bool.{eqb-true, leb-true, le-leb, lt-leb}
@@ -552,26 +552,26 @@ abbrev history_of : Channel → Request → History → History
 history_of ch Accept st = call_accepted st
 history_of ch r st = opened (carried_out ch r).owes (grown (λ e. logged ch.traffic r e) st)
 
-pub asked : (x : Role) (d : ℕ) (ch : Channel) (r : Request) → refusal x ch r ≡ None
+pub asked : (x : Role) (flow : Flow) (d : ℕ) (ch : Channel) (r : Request) → refusal x flow ch r ≡ None
     → Outcome x d ch (carried_out ch r).channel (λ st. history_of ch r st) (λ b. carried x d r (front ch.traffic) b) (λ b l. l) NoCalls
-asked x d ch Accept e = accepts (accept_of x ch.state e) refl (λ st. refl) (λ b. refl) (λ b l. refl)
-asked x d ch (Clearing cause diagnostic) e = ends refl ends_after (λ b. refl) (λ b l. refl)
-asked x d ch (Resetting cause diagnostic) e =
+asked x flow d ch Accept e = accepts (accept_of x ch.state e) refl (λ st. refl) (λ b. refl) (λ b l. refl)
+asked x flow d ch (Clearing cause diagnostic) e = ends refl ends_after (λ b. refl) (λ b l. refl)
+asked x flow d ch (Resetting cause diagnostic) e =
     let open_ = transfer_of ch.state (refused_if ch.resetting Refusal.IsResetting None) x e in
     goes with_epoch open_ open_ (λ st. opens_grows st (next_epoch_of (grown (λ z. z) st)) (opens_after st)) (λ st r. opens_record ch st (next_epoch_of (grown (λ z. z) st)) r (opens_after st)) (λ b. refl) (λ b l. refl)
-asked x d ch (Sending datum) e =
+asked x flow d ch (Sending datum) e =
     let open_ = transfer_of ch.state _ x e in
     goes (λ r. with_sent (packet_of datum) r) open_ open_ (grown_grows ch (λ z. record z { sent = z.sent ++ datum ∷ [] }) (λ r. with_sent (packet_of datum) r) (by_sending ch datum))
     (grown_record ch (λ z. record z { sent = z.sent ++ datum ∷ [] }) (λ r. with_sent (packet_of datum) r) (by_sending ch datum)) (λ b. refl) (λ b l. refl)
-asked x d ch (Interrupting octets) e =
+asked x flow d ch (Interrupting octets) e =
     let open_ = transfer_of ch.state _ x e in
     goes (λ r. with_interrupt_sent octets r) open_ open_ (grown_grows ch (λ z. record z { interrupts_sent = z.interrupts_sent ++ octets ∷ [] }) (λ r. with_interrupt_sent octets r) (by_interrupting ch octets))
     (grown_record ch (λ z. record z { interrupts_sent = z.interrupts_sent ++ octets ∷ [] }) (λ r. with_interrupt_sent octets r) (by_interrupting ch octets)) (λ b. refl) (λ b l. refl)
-asked x d ch (Stopping v) e = stays refl (grown_same (λ z. z) (λ z. refl)) (λ b. refl) (λ b l. refl)
-asked x d ch Taking e = let open_ = transfer_of ch.state None x e in asked_taking x d ch (carried_out ch Taking).channel (front ch.traffic) open_ open_
-asked x d ch (Releasing n) e =
+asked x flow d ch (Stopping v) e = stays refl (grown_same (λ z. z) (λ z. refl)) (λ b. refl) (λ b l. refl)
+asked x flow d ch Taking e = let open_ = transfer_of ch.state None x e in asked_taking x d ch (carried_out ch Taking).channel (front ch.traffic) open_ open_
+asked x flow d ch (Releasing n) e =
     let open_ = transfer_of ch.state None x e in
     let v = may_release n ch.traffic in
     goes (λ r. with_released n r) open_ open_ (grown_grows ch (λ z. cond v (record z { released = z.released + n }) z) (λ r. with_released n r) (by_releasing ch v n (flows x ch.state open_) refl))
     (grown_record ch (λ z. cond v (record z { released = z.released + n }) z) (λ r. with_released n r) (by_releasing ch v n (flows x ch.state open_) refl)) (λ b. refl) (λ b l. refl)
-asked x d ch Confirming e = stays refl (grown_same (λ z. z) (λ z. refl)) (λ b. refl) (λ b l. refl)
+asked x flow d ch Confirming e = stays refl (grown_same (λ z. z) (λ z. refl)) (λ b. refl) (λ b l. refl)

@@ -22,7 +22,7 @@ use Rattle.call_records.specs.Writes.Write.{Told}
 use Rattle.book_laws.proofs.Basics.{number_is}
 use Rattle.book_laws.proofs.Writing.{slot_changed}
 use Rattle.switch_joins.specs.declared.channels.SwitchChannel.{SwitchChannel}
-use Rattle.switch_joins.specs.declared.join.Joined.{Joined}
+use Rattle.switch_joins.specs.Joins.{Joined}
 use Rattle.switch_lines.specs.Lines.{SwitchLine, same_place, changed, joined_at, ask}
 use Rattle.switch_lines.specs.Switch.{heed, heed_all, with_end, without_notes, quieted}
 use Rattle.switch_laws.specs.Leg.{Leg, stepped}

@@ -20,7 +20,7 @@ use Rattle.call_records.specs.Carried.{placed_on}
 use Rattle.book_laws.proofs.Basics.{get_before, get_last}
 use Rattle.switch_joins.specs.Direction.{new_direction}
 use Rattle.switch_joins.specs.declared.channels.SwitchChannel.{SwitchChannel}
-use Rattle.switch_joins.specs.declared.join.Joined.{Joined}
+use Rattle.switch_joins.specs.Joins.{Joined}
 use Rattle.switch_lines.specs.Lines.{SwitchLine, same_place, joined_at, with_joined, ask}
 use Rattle.switch_lines.specs.Relay.{told, told_of}
 use Rattle.switch_lines.specs.Switch.{Answer, answer, route_from, answered, forwarded, place_call, heed, heed_all, has_any}

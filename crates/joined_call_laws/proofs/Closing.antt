@@ -137,7 +137,7 @@ clears_call Transfer e = refl
 clears_call Collision e = refl
 clears_call OwnClear e = e
 
-called : (l : Layer) (c m cause diagnostic : ℕ) (legs : ℕ → Leg) (b : Book) (o : Option Channel) → Has Dce c (call_on o (legs c)) b → (slot_at Dce c b).present ≡ Some m → refusal_at l.role (Clearing cause diagnostic) o ≡ None
+called : (l : Layer) (c m cause diagnostic : ℕ) (legs : ℕ → Leg) (b : Book) (o : Option Channel) → Has Dce c (call_on o (legs c)) b → (slot_at Dce c b).present ≡ Some m → refusal_at l.role l.flow (Clearing cause diagnostic) o ≡ None
 called l c m cause diagnostic legs b None h e = absurd (none-some m (sym h ∙ e))
 called l c m cause diagnostic legs b (Some ch) h e = by_call (had_call ch.state) refl h
   where

@@ -8,7 +8,7 @@ use Rattle.packet_laws.specs.Readable.{Every}
 use Rattle.packet_end.specs.PacketEnd.{begun}
 use Rattle.address_routes.specs.Routes.{RouteMap}
 use Rattle.switch_joins.specs.declared.channels.SwitchChannel.{SwitchChannel}
-use Rattle.switch_joins.specs.declared.join.Joined.{Joined}
+use Rattle.switch_joins.specs.Joins.{Joined}
 use Rattle.switch_lines.specs.Lines.{SwitchLine, changed}
 use Rattle.switch_lines.specs.Switch.{Switch, with_end, acted, to_relink, relinked_at, all_relinked, lines_first, rounds, finished, all_begun, quieted, notes_of, without_notes, heed_all, on_frame, on_expiry, relink}
 use Rattle.switch_laws.specs.World.{World, Act, layers_of, after_acts}

@@ -41,7 +41,7 @@ use Rattle.switch_record_laws.specs.Line.{Line}
 use Rattle.switch_record_laws.specs.Kept.{Setting, Kept, beginning, end_at}
 use Rattle.switch_record_laws.specs.Turned.{sight}
 use Rattle.switch_joins.specs.declared.channels.SwitchChannel.{SwitchChannel}
-use Rattle.switch_joins.specs.declared.join.Joined.{Joined}
+use Rattle.switch_joins.specs.Joins.{Joined}
 use Rattle.switch_lines.specs.Lines.{SwitchLine, is_trunk, changed, same_place, joined_at}
 use Rattle.switch_lines.specs.Switch.{forwarded, with_end, quieted}
 use Rattle.switch_laws.specs.World.{Act, Shown, shown_as, shown_on, shown_at, layers_of}
@@ -404,7 +404,7 @@ mine_role : (event : layer_event) (w : layers.Line) → (layers.happens event w)
 mine_role (layer_event.Up n) w = up_role (layers.may_begin n w) n w
 mine_role layer_event.Down w = refl
 mine_role (layer_event.Calls parts) w = (placed_same w.me.layer 0 parts (channel_given w.me.layer w.me.layer.phase)).0
-mine_role (layer_event.Requests c r) w = (found_same w.me.layer 0 c (λ ch. requested w.me.layer.role ch r) (channel_of w.me.layer c)).0
+mine_role (layer_event.Requests c r) w = (found_same w.me.layer 0 c (λ ch. requested w.me.layer.role w.me.layer.flow ch r) (channel_of w.me.layer c)).0
 mine_role (layer_event.Expires t) w = (timer_same w.me.layer 0 t).0
 mine_role layer_event.Offers w = offers_role w.me.session w.me
 mine_role layer_event.Arrives w = arrives_role w.me.session w

@@ -23,7 +23,7 @@ use Rattle.packet_end.specs.End.{End}
 use Rattle.address_routes.specs.Routes.{RouteMap, line_for}
 use Rattle.switch_lines.specs.Causes.{clear_cause, far_diagnostic}
 use Rattle.switch_joins.specs.declared.channels.SwitchChannel.{SwitchChannel}
-use Rattle.switch_joins.specs.declared.join.Joined.{Joined}
+use Rattle.switch_joins.specs.Joins.{Joined}
 use Rattle.switch_lines.specs.Lines.{SwitchLine, is_trunk, changed, joined_at, with_joined}
 use Rattle.switch_lines.specs.Relay.{told, told_of}
 use Rattle.switch_lines.specs.Switch.{Answer, answer, route_from, forwarded, heed, has_any, notes_of, with_end, quieted, to_relink, relinked_at, all_relinked, lines_first, rounds}

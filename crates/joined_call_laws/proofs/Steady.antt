@@ -22,16 +22,16 @@ use Rattle.book_laws.proofs.Writing.{slot_changed}
 use Rattle.switch_joins.specs.Direction.{new_direction, releasable, covered_by}
 use Rattle.switch_lines.specs.Causes.{reset_cause, far_diagnostic}
 use Rattle.switch_joins.specs.declared.channels.SwitchChannel.{SwitchChannel}
-use Rattle.switch_joins.specs.declared.join.Joined.{Joined}
-use Rattle.switch_lines.specs.Lines.{SwitchLine, same_place, joined_at, with_joined, ask, refusal_at}
+use Rattle.switch_joins.specs.Joins.{Joined}
+use Rattle.switch_lines.specs.Lines.{SwitchLine, same_place, joined_at, with_joined, ask, ask_all, sizes_at, takes_at}
 use Rattle.switch_lines.specs.Lines as lines
-use Rattle.switch_lines.specs.Relay.{carried_by, request_for, moved, relayed, places_first, relayed_first, most_moves}
+use Rattle.switch_lines.specs.Relay.{carried_by, due_at, moved, relayed, places_first, relayed_first, most_moves}
 use Rattle.switch_lines.specs.Switch.{heed, may_offer, offering_from, offered_from}
 use Rattle.switch_laws.specs.Joined.{IsSwitch, has_place}
 use Rattle.switch_laws.specs.World.{World, Act, layers_of, shown_at, line_of, after_act}
 use Rattle.switch_laws.specs.Steps.{Step, lines_after, lines_after_all, acts_of, on_line, offer_acts}
 use Rattle.switch_laws.specs.Steps.Step.{Asks, Places, Keeps, Happens, Offers, Begins, Settles, Elapses}
-use Rattle.switch_laws.specs.EventSteps.{moved_unless_steps, moved_front_steps, moved_joined_steps, relayed_steps, relayed_from_steps, relayed_first_steps, anew_steps, covered_steps, told_joined_steps, told_steps, heed_steps, heed_all_steps, offered_steps, rounds_steps}
+use Rattle.switch_laws.specs.EventSteps.{asks_steps, freed_steps, moved_if_steps, moved_front_steps, moved_joined_steps, relayed_steps, relayed_from_steps, relayed_first_steps, anew_steps, covered_steps, told_joined_steps, told_steps, heed_steps, heed_all_steps, offered_steps, rounds_steps}
 use Rattle.switch_laws.proofs.Coming.{at}
 use Rattle.switch_laws.proofs.Leading.{Leads, moved_leads, relayed_leads, relayed_first_leads, offered_leads, heed_leads}
 use Rattle.switch_laws.proofs.Places.{joined_here, joined_place}
@@ -41,7 +41,8 @@ use Rattle.switch_record_laws.specs.Rests.{Rests}
 use Rattle.switch_record_laws.proofs.Resting.{acts_rest}
 use Rattle.joined_call_laws.specs.Calls.{JoinedCall, present_at, made_call, calls_of, books_by, books_by_all, calls_of_all, Stands, HasEnded, StandsOrEnded, AreCalls}
 use Rattle.switch_joins.proofs.Apart.{decided, place_is}
-use Rattle.switch_lines.proofs.Places.{joined_kept, joined_asked, joined_apart}
+use Rattle.switch_lines.proofs.Places.{joined_kept, joined_asked, joined_asks, joined_apart}
+use Rattle.switch_lines.proofs.Onward.{IsOnward, AreOnward, sends, interrupts, are_onward}
 
 -- ---- joins, but for what is kept of them
 
@@ -373,21 +374,29 @@ steadies_shape (s ∷ more) ls x i = steadies_shape more (lines_after s ls) x i.
 both_after : (steps : List Step) (ls ms : List SwitchLine) → lines_after_all steps ls ≡ ms → AreSteady steps ls → BothJoined ls → BothJoined ms
 both_after steps ls ms e i b = subst (λ (ks : List SwitchLine). BothJoined ks) e (both_stay ls (lines_after_all steps ls) (λ x. steadies_shape steps ls x i) b)
 
-sent_steady : (t : Taken) (p : SwitchChannel) (k : Joined) (ls : List SwitchLine) → joined_at ls p ≡ Some k → IsSteady (Asks p (request_for t)) ls
-sent_steady (TakenInterrupt octets) p k ls e = (tt, (k, e))
-sent_steady (TakenPacket d) p k ls e = (tt, (k, e))
+onward_steady : (q : Request) (p : SwitchChannel) (k : Joined) (ls : List SwitchLine) → IsOnward q → joined_at ls p ≡ Some k → IsSteady (Asks p q) ls
+onward_steady _ p k ls (sends d) e = (tt, (k, e))
+onward_steady _ p k ls (interrupts octets) e = (tt, (k, e))
 
-unless_steady : (o : Option Refusal) (t : Taken) (p : SwitchChannel) (j : Joined) (ls : List SwitchLine) → BothJoined ls → joined_at ls p ≡ Some j → AreSteady (moved_unless_steps o t p j) ls
-unless_steady (Some r) t p j ls b e = tt
-unless_steady None t p j ls b e =
+asks_steady : (p : SwitchChannel) (k : Joined) (qs : List Request) (more : List Step) (ls : List SwitchLine) → AreOnward qs → joined_at ls p ≡ Some k → AreSteady more (ask_all p qs ls) → AreSteady (asks_steps p qs ++ more) ls
+asks_steady p k [] more ls are e h = h
+asks_steady p k (q ∷ qs) more ls are e h = (onward_steady q p k ls are.0 e, asks_steady p k qs more (ask p q ls) are.1 (joined_asked p q p ls ∙ e) h)
+
+if_steady : (b : Bool) (t : Taken) (p : SwitchChannel) (j : Joined) (ls : List SwitchLine) → BothJoined ls → joined_at ls p ≡ Some j → AreSteady (moved_if_steps b t p j ls) ls
+if_steady false t p j ls b e = tt
+if_steady true t p j ls b e =
     let k = b p j e in
+    let sizes = sizes_at ls p j.other in
+    let qs = due_at ls p j t in
+    let v = carried_by sizes t j.kept in
     let l1 = ask p Taking ls in
-    let l2 = ask j.other (request_for t) l1 in
-    ((tt, tt), (sent_steady t j.other k.0 l1 (joined_asked p Taking j.other ls ∙ k.1), ((tt, tt), ((j, (joined_asked p (Releasing (releasable (carried_by t j.kept).held)) p l2 ∙ (joined_asked j.other (request_for t) p l1 ∙ (joined_asked p Taking p ls ∙ e)), refl)), tt))))
+    let l2 = ask_all j.other qs l1 in
+    let same = joined_asked p (Releasing (releasable v.held)) p l2 ∙ (joined_asks j.other qs p l1 ∙ (joined_asked p Taking p ls ∙ e)) in
+    ((tt, tt), asks_steady j.other k.0 qs (freed_steps p j v) l1 (are_onward sizes j.kept.gathered t) (joined_asked p Taking j.other ls ∙ k.1) ((tt, tt), ((j, (same, refl)), tt)))
 
 front_steady : (o : Option Taken) (p : SwitchChannel) (j : Joined) (ls : List SwitchLine) → BothJoined ls → joined_at ls p ≡ Some j → AreSteady (moved_front_steps o p j ls) ls
 front_steady None p j ls b e = tt
-front_steady (Some t) p j ls b e = unless_steady (refusal_at ls j.other (request_for t)) t p j ls b e
+front_steady (Some t) p j ls b e = if_steady (takes_at ls j.other (due_at ls p j t)) t p j ls b e
 
 moved_steady : (o : Option Joined) (p : SwitchChannel) (ls : List SwitchLine) → BothJoined ls → joined_at ls p ≡ o → AreSteady (moved_joined_steps o p ls) ls
 moved_steady None p ls b e = tt

@@ -11,7 +11,7 @@ use Rattle.address_routes.specs.Routes.{RouteMap}
 use Rattle.call_records.specs.Records.{RecordValue}
 use Rattle.switch_lines.specs.Causes.{clear_cause, far_diagnostic}
 use Rattle.switch_joins.specs.declared.channels.SwitchChannel.{SwitchChannel}
-use Rattle.switch_joins.specs.declared.join.Joined.{Joined}
+use Rattle.switch_joins.specs.Joins.{Joined}
 use Rattle.switch_lines.specs.Lines.{SwitchLine, is_trunk, same_place, joined_at, with_joined, ask}
 use Rattle.switch_lines.specs.Relay.{told_of}
 use Rattle.switch_lines.specs.Switch.{heed, heed_all}

@@ -5,7 +5,7 @@ use Rattle.packet_laws.specs.Readable.{Every}
 use Rattle.call_records.specs.Records.{RecordValue}
 use Rattle.call_records.specs.Book.{slot_at}
 use Rattle.switch_joins.specs.declared.channels.SwitchChannel.{SwitchChannel}
-use Rattle.switch_joins.specs.declared.join.Joined.{Joined}
+use Rattle.switch_joins.specs.Joins.{Joined}
 use Rattle.switch_lines.specs.Lines.{SwitchLine, joined_at}
 use Rattle.switch_laws.specs.World.{layers_of}
 use Rattle.switch_laws.specs.Steps.{Step, lines_after, acts_of}

@@ -192,7 +192,7 @@ asked_agrees flow s rs o t e r le is k = record {
   controls = k.controls;
 }
 
-carried_agrees : (role : Role) (flow : Flow) (s : CallState) (rs : Bool) (o : List Body) (t : Traffic) (e : Epoch) (r : Request) → flow.window < modulus flow.numbering → refusal role (channel_in s rs o t) r ≡ None → Counts flow s rs o t e
+carried_agrees : (role : Role) (flow : Flow) (s : CallState) (rs : Bool) (o : List Body) (t : Traffic) (e : Epoch) (r : Request) → flow.window < modulus flow.numbering → refusal role flow (channel_in s rs o t) r ≡ None → Counts flow s rs o t e
     → StepAgrees flow (carried_out (channel_in s rs o t) r) (logged t r e)
 carried_agrees role flow s rs o t e Accept le none k = record {
   names = k.names;
@@ -208,10 +208,10 @@ carried_agrees role flow s rs o t e Taking le none k = asked_agrees flow s rs o 
 carried_agrees role flow s rs o t e (Releasing n) le none k = asked_agrees flow s rs o t e (Releasing n) le (in_call (in_transfer s) _ _ none) k
 carried_agrees role flow s rs o t e Confirming le none k = asked_agrees flow s rs o t e Confirming le (in_call (in_transfer s) _ _ none) k
 
-pub requested_agrees : (role : Role) (flow : Flow) (r : Request) → flow.window < modulus flow.numbering → (ch : Channel) (e : Epoch) → Agrees flow ch e → Agrees flow (owing (requested role ch r)) (after_request role r ch e)
-requested_agrees role flow r le ch e k = by_refusal (refusal role ch r) refl
+pub requested_agrees : (role : Role) (flow : Flow) (r : Request) → flow.window < modulus flow.numbering → (ch : Channel) (e : Epoch) → Agrees flow ch e → Agrees flow (owing (requested role flow ch r)) (after_request role flow r ch e)
+requested_agrees role flow r le ch e k = by_refusal (refusal role flow ch r) refl
   where
-    by_refusal : (x : Option Refusal) → refusal role ch r ≡ x → StepAgrees flow (unless x (carried_out ch r) ch) (grown_unless x ch.traffic r e)
+    by_refusal : (x : Option Refusal) → refusal role flow ch r ≡ x → StepAgrees flow (unless x (carried_out ch r) ch) (grown_unless x ch.traffic r e)
     by_refusal None none = carried_agrees role flow ch.state ch.resetting ch.owed ch.traffic e r le none k
     by_refusal (Some refused) is = k
 

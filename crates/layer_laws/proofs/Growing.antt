@@ -166,8 +166,8 @@ act_goes : (act : Act) (l : Layer) (es : Epochs) (d : ℕ) → GoesOn (es d) (ep
 act_goes Up l es d = inl refl
 act_goes Down l es d = inl refl
 act_goes (Requests c r) l es d =
-    found_goes (channel_of l c) c (λ ch e. after_request l.role r ch e) es d
-    (λ ch e. begun_goes (requested l.role ch r).owes e _ (logs_unless (refusal l.role ch r) ch.traffic r e))
+    found_goes (channel_of l c) c (λ ch e. after_request l.role l.flow r ch e) es d
+    (λ ch e. begun_goes (requested l.role l.flow ch r).owes e _ (logs_unless (refusal l.role l.flow ch r) ch.traffic r e))
 act_goes (Expires id) l es d = timer_goes l (timer_named l.role id) es d
 act_goes (Arrives octets) l es d = hearing_goes l (heard l.flow octets) es d
 act_goes _ l es d = inr (stays (es d))

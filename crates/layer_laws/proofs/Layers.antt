@@ -187,9 +187,13 @@ call_follows flow l parts es k = given (channel_given l l.phase) refl
     given (Some d) e = on_free d (free_is l.role l.channels d (given_ready l l.phase d e).1)
 
 request_follows : (flow : Flow) (l : Layer) (c : ℕ) (r : Request) (es : Epochs) → flow.window < modulus flow.numbering → Follows flow l es
-    → Follows flow (request l c r) (epochs.on_found (channel_of l c) c (λ ch e. after_request l.role r ch e) es)
+    → Follows flow (request l c r) (epochs.on_found (channel_of l c) c (λ ch e. after_request l.role l.flow r ch e) es)
 request_follows flow l c r es le k =
-    found_follows flow l es c (λ ch. requested l.role ch r) (λ ch e. after_request l.role r ch e) (λ ch e good. requested_agrees l.role flow r le ch e good) k (channel_of l c) refl
+    found_follows flow l es c (λ ch. requested l.role l.flow ch r) (λ ch e. after_request l.role l.flow r ch e) step k (channel_of l c) refl
+  where
+    step : (ch : Channel) (e : Epoch) → Agrees flow ch e → Agrees flow (owing (requested l.role l.flow ch r)) (after_request l.role l.flow r ch e)
+    step ch e good =
+        subst (λ (f : Flow). Agrees flow (owing (requested l.role f ch r)) (after_request l.role f r ch e)) (sym k.window_is) (requested_agrees l.role flow r le ch e good)
 
 -- ---- what goes to the link
 

@@ -48,7 +48,7 @@ layer_after Reads l = record l { notes = drop 1 l.notes }
 abbrev pub epochs_after : Act → Layer → Epochs → Epochs
 epochs_after Up l es = all_begun
 epochs_after Down l es = all_begun
-epochs_after (Requests c r) l es = on_found (channel_of l c) c (λ ch e. after_request l.role r ch e) es
+epochs_after (Requests c r) l es = on_found (channel_of l c) c (λ ch e. after_request l.role l.flow r ch e) es
 epochs_after (Expires id) l es = on_timer l (timer_named l.role id) es
 epochs_after (Arrives octets) l es = on_hearing l (heard l.flow octets) es
 epochs_after act l es = es

@@ -30,9 +30,9 @@ abbrev pub grown_unless : Option Refusal → Traffic → Request → Epoch → E
 grown_unless None t r e = logged t r e
 grown_unless (Some refused) t r e = e
 
-abbrev pub after_request : Role → Request → Channel → Epoch → Epoch
-after_request role r ch e =
-    begun_by (requested role ch r).owes (grown_unless (refusal role ch r) ch.traffic r e)
+abbrev pub after_request : Role → Flow → Request → Channel → Epoch → Epoch
+after_request role flow r ch e =
+    begun_by (requested role flow ch r).owes (grown_unless (refusal role flow ch r) ch.traffic r e)
 
 -- a packet that is heard in d1 covers what its P(R) covers
 abbrev pub grown_by : CallState → (resetting : Bool) → Heard → Epoch → Epoch

@@ -24,6 +24,7 @@ use Rattle.packet_laws.specs.Line as layers
 use Rattle.packet_laws.specs.Line.{Event}
 use Rattle.packet_laws.specs.Readable.{IsReadable, CanBePlaced}
 use Rattle.packet_laws.proofs.Readable.{readable_link_down}
+use Rattle.packet_end.specs.Params.{info_of}
 use Rattle.packet_end.specs.PacketEnd as end
 use Rattle.packet_end.specs.PacketEnd.{PacketEnd, gathered, runs_at}
 use Rattle.line_laws.specs.Line.{Begins, Hears, Expires, Relinks, RelinksIfDue, Restarts, Calls, Requests, Settles, Elapses, Sends}
@@ -52,10 +53,10 @@ pub record Result (role : Role) (v : layers.Line) (me you : PacketEnd) (going co
   pub yours_is : session_of (other_of role) world ≡ yours
 
 pub result_of : (role : Role) (v : layers.Line) (e me you : PacketEnd) (going coming : List Octets) (events : List Event) (x next y : Side) →
-    Told x next y you.layer e me v events → IsReadable you.layer → you.layer.flow ≡ e.layer.flow →
+    Told x next y you.layer e me v events → IsReadable you.layer → you.layer.flow ≡ e.layer.flow → you.line.link.info ≡ info_of you.layer.flow →
     Goes role me.line.link you.line.link (going ++ me.line.frames) (coming ++ you.line.frames) next y →
     Result role v me you going coming events x.session y.session
-result_of role v e me you going coming events x next y t readable same g = record {
+result_of role v e me you going coming events x next y t readable same info g = record {
   world = g.world;
   joint = record {
     stands = g.stands;
@@ -64,6 +65,7 @@ result_of role v e me you going coming events x next y t readable same g = recor
     readable_here = t.readable;
     readable_there = readable;
     same_flow = same ∙ sym t.flow;
+    info = info;
   };
   rises = t.rises;
   mine_is = ap (λ (s : Side). s.session) g.mine_is ∙ t.session;
@@ -95,7 +97,7 @@ module _ (role : Role) (w : World) (v : layers.Line) (me you : PacketEnd) (going
 
   quiet : (e : PacketEnd) (out in_ : List Octets) → e.layer ≡ me.layer → at_line role e.line you.line.link out (in_ ++ you.line.frames) here_side there_side →
       Result role v e you out in_ [] (session_of role w) (session_of (other_of role) w)
-  quiet e out in_ is g = result_of role v e e you out in_ [] here_side here_side there_side (nothing_told e is) j.readable_there (subst (λ (l : Layer). you.layer.flow ≡ l.flow) (sym is) j.same_flow) g
+  quiet e out in_ is g = result_of role v e e you out in_ [] here_side here_side there_side (nothing_told e is) j.readable_there (subst (λ (l : Layer). you.layer.flow ≡ l.flow) (sym is) j.same_flow) j.info g
 
   pub step_begins : Step role Begins w v me you going coming
   step_begins =
@@ -128,13 +130,13 @@ module _ (role : Role) (w : World) (v : layers.Line) (me you : PacketEnd) (going
   pub step_calls : (parts : CallParts) → CanBePlaced parts → Step role (Calls parts) w v me you going coming
   step_calls parts fits =
       let t = told_call here_side there_side you.layer me v j.mine j.yours j.readable_here j.same_flow parts fits in
-      let r = result_of role v me (end.called me parts) you going coming (Event.Calls parts ∷ []) here_side here_side there_side t j.readable_there j.same_flow here in
+      let r = result_of role v me (end.called me parts) you going coming (Event.Calls parts ∷ []) here_side here_side there_side t j.readable_there j.same_flow j.info here in
       record { world = r.world; joint = r.joint; notes = t.notes; rises = r.rises; mine = r.mine_is; yours = r.yours_is }
 
   pub step_requests : (channel : ℕ) (q : Request) → Step role (Requests channel q) w v me you going coming
   step_requests channel q =
       let t = told_request here_side there_side you.layer me v j.mine j.yours j.readable_here j.same_flow channel q in
-      let r = result_of role v me (end.asked me channel q) you going coming (Event.Requests channel q ∷ []) here_side here_side there_side t j.readable_there j.same_flow here in
+      let r = result_of role v me (end.asked me channel q) you going coming (Event.Requests channel q ∷ []) here_side here_side there_side t j.readable_there j.same_flow j.info here in
       record { world = r.world; joint = r.joint; notes = t.notes; rises = r.rises; mine = r.mine_is; yours = r.yours_is }
 
   -- ---- the link is set up anew
@@ -148,7 +150,7 @@ module _ (role : Role) (w : World) (v : layers.Line) (me you : PacketEnd) (going
   pub step_relinks : Step role Relinks w v me you going coming
   step_relinks =
       let t = told_down here_side there_side you.layer (record me { line = line.relinked me.line }) v j.mine j.yours j.readable_here j.same_flow in
-      let r = result_of role v (record me { line = line.relinked me.line }) (end.relinked me) you going coming (Event.Down ∷ []) here_side (record here_side { up = false }) there_side t j.readable_there j.same_flow relink_goes in
+      let r = result_of role v (record me { line = line.relinked me.line }) (end.relinked me) you going coming (Event.Down ∷ []) here_side (record here_side { up = false }) there_side t j.readable_there j.same_flow j.info relink_goes in
       record { world = r.world; joint = r.joint; notes = t.notes; rises = r.rises; mine = r.mine_is; yours = r.yours_is }
 
   -- an act that may do nothing
@@ -178,7 +180,7 @@ module _ (role : Role) (w : World) (v : layers.Line) (me you : PacketEnd) (going
   either_told : (next : Side) (e before : PacketEnd) (events : List Event) → before.notes ≡ me.notes → you.layer.flow ≡ before.layer.flow → Told here_side next there_side you.layer before e v events →
       at_line role e.line you.line.link going (coming ++ you.line.frames) next there_side → Either e events
   either_told next e before events is same t g =
-      let r = result_of role v before e you going coming events here_side next there_side t j.readable_there same g in
+      let r = result_of role v before e you going coming events here_side next there_side t j.readable_there same j.info g in
       record { world = r.world; joint = r.joint; notes = t.notes ∙ ap (λ (z : List Note). z ++ notes_of events v) is; rises = r.rises; mine = r.mine_is; yours = r.yours_is }
 
   t1_expires : Either (end.expired timer.T1 me) (expiry_events (coming_session role w) timer.T1 me)
@@ -218,7 +220,7 @@ module _ (role : Role) (w : World) (v : layers.Line) (me you : PacketEnd) (going
 
   pub step_restarts : Step role Restarts w v me you going coming
   step_restarts =
-      let fresh : End = untouched me.line.link.role me.line.link.k me.line.link.n2 false in
+      let fresh : End = untouched me.line.link.role (link.params_anew me.line.link) in
       let a = goes_restart me.line.link you.line.link (going ++ me.line.frames) (coming ++ you.line.frames) here_side there_side role here in
       let b = goes_relink fresh.link you.line.link [] [] (at_link here_side fresh.link) there_side role a in
       let d = did_goes role fresh (link.relink fresh.link) you.line.link [] [] (at_link here_side (link.relink fresh.link).link) there_side role_is b in
@@ -233,6 +235,7 @@ module _ (role : Role) (w : World) (v : layers.Line) (me you : PacketEnd) (going
           readable_here = readable_link_down me.layer j.readable_here;
           readable_there = j.readable_there;
           same_flow = j.same_flow;
+          info = j.info;
         };
         notes = refl;
         rises = tt;
@@ -254,7 +257,7 @@ step_frame role w v me you going octets coming j =
     let before : PacketEnd = record me { line = line.received me.line octets } in
     let t = told_step x y you.layer before v j.mine j.yours j.readable_here j.same_flow step.note step.accepted (coming_session role w) h.0 h.1 in
     let g = subst (λ (q : End). at_line role q you.line.link going (coming ++ you.line.frames) h.0 y) (sym t.line) d in
-    let r = result_of role v before (end.received me octets) you going coming (frame_events (coming_session role w) (octets ∷ coming) me) x h.0 y t j.readable_there j.same_flow g in
+    let r = result_of role v before (end.received me octets) you going coming (frame_events (coming_session role w) (octets ∷ coming) me) x h.0 y t j.readable_there j.same_flow j.info g in
     record { world = r.world; joint = r.joint; notes = t.notes; rises = r.rises; mine = r.mine_is; yours = r.yours_is }
 
 pub step_hears : (role : Role) (w : World) (v : layers.Line) (me you : PacketEnd) (going coming : List Octets) → JointAt role w v me you going coming → Step role Hears w v me you going coming

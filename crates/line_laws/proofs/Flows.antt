@@ -33,7 +33,7 @@ pub call_flow : (l : Layer) (parts : CallParts) → (call l parts).flow ≡ l.fl
 call_flow l parts = (placed_same l 0 parts (channel_given l l.phase)).1
 
 pub request_flow : (l : Layer) (c : ℕ) (r : Request) → (request l c r).flow ≡ l.flow
-request_flow l c r = (found_same l 0 c (λ ch. requested l.role ch r) (channel_of l c)).1
+request_flow l c r = (found_same l 0 c (λ ch. requested l.role l.flow ch r) (channel_of l c)).1
 
 pub next_flow : (l : Layer) → (next_packet l).layer.flow ≡ l.flow
 next_flow l = (next_same l 0).1

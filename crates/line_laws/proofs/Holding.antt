@@ -5,6 +5,7 @@ use Rattle.link_timers.specs.declared.role.Role.{Role}
 use Rattle.link_timers.specs.declared.role.Role.TheVariants.{Dte, Dce}
 use Rattle.link_timers.specs.Role.{other_of}
 use Rattle.link_timers.specs.Timers.{none_running}
+use Rattle.lapb.specs.declared.link.LinkParams.{LinkParams}
 use Rattle.lapb.specs.Machine as link
 use Rattle.lapb.specs.Machine.{Octets, Link}
 use Rattle.lapb.specs.World.{World, opening}
@@ -20,13 +21,14 @@ use Rattle.packet_laws.specs.Line.Happening.{Here, There}
 use Rattle.packet_laws.proofs.Line.LineHolds.{line_holds}
 use Rattle.packet_laws.proofs.Readable.{readable_made}
 use Rattle.packet_end.specs.PacketEnd.{PacketEnd}
+use Rattle.packet_end.specs.Params.{info_of}
 use Rattle.line_laws.specs.Line.{Line, Act, Begins, Hears, Expires, Relinks, RelinksIfDue, Restarts, Calls, Requests, Offers, Settles, Elapses, Sends, Event, At, Loses, happens, after, made}
 use Rattle.line_laws.specs.Events.{after_here}
 use Rattle.line_laws.specs.Fit.{IsFit, IsFitEvent, AreFit}
 use Rattle.line_laws.specs.Joint.{Side, side, session_of, Follows, JointAt, Joint, Leads}
 use Rattle.line_laws.specs.Steps.{Step, events_at}
 use Rattle.line_laws.specs.Law.{LineEndsLaw}
-use Rattle.line_laws.proofs.Links.{Goes, goes_relink, goes_lose}
+use Rattle.line_laws.proofs.Links.{Goes, same_info, goes_relink, goes_lose}
 use Rattle.line_laws.proofs.Acts.{did_goes, step_begins, step_hears, step_expires, step_relinks, step_relinks_if_due, step_restarts, step_calls, step_requests, step_settles, step_elapses, step_sends}
 use Rattle.line_laws.proofs.Offering.{step_offers}
 
@@ -51,8 +53,8 @@ act_steps role (Sends kept) w v me you going coming fits j = step_sends role w v
 
 pub turned_joint : (role : Role) (w : World) (v : layers.Line) (me you : PacketEnd) (going coming : List Octets) → JointAt role w v me you going coming →
     JointAt (other_of role) w (turned v) you me coming going
-turned_joint Dte w v me you going coming j = record { stands = j.stands; mine = j.yours; yours = j.mine; readable_here = j.readable_there; readable_there = j.readable_here; same_flow = sym j.same_flow }
-turned_joint Dce w v me you going coming j = record { stands = j.stands; mine = j.yours; yours = j.mine; readable_here = j.readable_there; readable_there = j.readable_here; same_flow = sym j.same_flow }
+turned_joint Dte w v me you going coming j = record { stands = j.stands; mine = j.yours; yours = j.mine; readable_here = j.readable_there; readable_there = j.readable_here; same_flow = sym j.same_flow; info = same_info Dte w me.line.link you.line.link (going ++ me.line.frames) (coming ++ you.line.frames) j.stands ∙ j.info ∙ ap info_of j.same_flow }
+turned_joint Dce w v me you going coming j = record { stands = j.stands; mine = j.yours; yours = j.mine; readable_here = j.readable_there; readable_there = j.readable_here; same_flow = sym j.same_flow; info = same_info Dce w me.line.link you.line.link (going ++ me.line.frames) (coming ++ you.line.frames) j.stands ∙ j.info ∙ ap info_of j.same_flow }
 
 -- the first frame on the way to an end is lost
 pub loses_joint : (role : Role) (w : World) (v : layers.Line) (me you : PacketEnd) (going coming : List Octets) → JointAt role w v me you going coming →
@@ -71,6 +73,7 @@ loses_joint role w v me you going (octets ∷ coming) j =
         readable_here = j.readable_here;
         readable_there = j.readable_there;
         same_flow = j.same_flow;
+        info = j.info;
       },
       ap (λ (s : Side). s.session) g.mine_is,
       ap (λ (s : Side). s.session) g.yours_is,
@@ -127,9 +130,12 @@ all_lead start (event ∷ events) l fits d = all_lead start events (happens even
 
 -- ---- a line as it is made
 
+abbrev its_params : (flow : Flow) (k n2 : ℕ) → (standing : Bool) → LinkParams
+its_params flow k n2 standing = record { k = k; n2 = n2; info = info_of flow; standing = standing }
+
 abbrev new_end : Role → (channels : ℕ) (flow : Flow) (k n2 : ℕ) → (standing : Bool) → PacketEnd
 new_end role channels flow k n2 standing = record {
-  line = line.made role k n2 standing;
+  line = line.made role (its_params flow k n2 standing);
   layer = machine.made role channels flow standing;
   timers = none_running;
   notes = [];
@@ -150,28 +156,29 @@ turned_goes Dce mine yours going coming x y g = record { world = g.world; stands
 pub new_joint : (channels : ℕ) (flow : Flow) (k n2 k' n2' : ℕ) (standing : Bool) → k ≤ 7 → k' ≤ 7 → channels ≤ 32 →
     (w : World) × Joint (new_line channels flow k n2 k' n2' standing) w (start_line channels flow standing)
 new_joint channels flow k n2 k' n2' true small small' few = (
-  opening true (record { k = k; n2 = n2 }) (record { k = k'; n2 = n2' }),
+  opening true (its_params flow k n2 true) (its_params flow k' n2' true),
   record {
-    stands = stands_opening true (record { k = k; n2 = n2 }) (record { k = k'; n2 = n2' }) small small';
+    stands = stands_opening true (its_params flow k n2 true) (its_params flow k' n2' true) small small' refl;
     mine = record { session = refl; offered = λ s. tt; accepted = λ s. refl; layer = refl };
     yours = record { session = refl; offered = λ s. tt; accepted = λ s. refl; layer = refl };
     readable_here = readable_made Dte channels flow true few;
     readable_there = readable_made Dce channels flow true few;
     same_flow = refl;
+    info = refl;
   },
 )
 new_joint channels flow k n2 k' n2' false small small' few =
-    let dte : Link = link.new Dte k n2 false in
-    let dce : Link = link.new Dce k' n2' false in
-    let w : World = opening false (record { k = k; n2 = n2 }) (record { k = k'; n2 = n2' }) in
+    let dte : Link = link.new Dte (its_params flow k n2 false) in
+    let dce : Link = link.new Dce (its_params flow k' n2' false) in
+    let w : World = opening false (its_params flow k n2 false) (its_params flow k' n2' false) in
     let x : Side = side Dte w (link.relink dte).link in
     let y : Side = side Dce w (link.relink dce).link in
-    let a : Goes Dte dte dce [] [] (side Dte w dte) (side Dce w dce) = record { world = w; stands = stands_opening false (record { k = k; n2 = n2 }) (record { k = k'; n2 = n2' }) small small'; mine_is = refl; yours_is = refl } in
-    let b = did_goes Dte (untouched Dte k n2 false) (link.relink dte) dce [] [] x (side Dce w dce) refl (goes_relink dte dce [] [] (side Dte w dte) (side Dce w dce) Dte a) in
-    let up : List Octets = (line.made Dte k n2 false).frames in
+    let a : Goes Dte dte dce [] [] (side Dte w dte) (side Dce w dce) = record { world = w; stands = stands_opening false (its_params flow k n2 false) (its_params flow k' n2' false) small small' refl; mine_is = refl; yours_is = refl } in
+    let b = did_goes Dte (untouched Dte (its_params flow k n2 false)) (link.relink dte) dce [] [] x (side Dce w dce) refl (goes_relink dte dce [] [] (side Dte w dte) (side Dce w dce) Dte a) in
+    let up : List Octets = (line.made Dte (its_params flow k n2 false)).frames in
     let c = turned_goes Dte (link.relink dte).link dce up [] x (side Dce w dce) b in
-    let d = did_goes Dce (untouched Dce k' n2' false) (link.relink dce) (link.relink dte).link [] up y x refl (goes_relink dce (link.relink dte).link [] up (side Dce w dce) x Dce c) in
-    let g = turned_goes Dce (link.relink dce).link (link.relink dte).link (line.made Dce k' n2' false).frames up y x d in (
+    let d = did_goes Dce (untouched Dce (its_params flow k' n2' false)) (link.relink dce) (link.relink dte).link [] up y x refl (goes_relink dce (link.relink dte).link [] up (side Dce w dce) x Dce c) in
+    let g = turned_goes Dce (link.relink dce).link (link.relink dte).link (line.made Dce (its_params flow k' n2' false)).frames up y x d in (
       g.world,
       record {
         stands = g.stands;
@@ -182,6 +189,7 @@ new_joint channels flow k n2 k' n2' false small small' few =
         readable_here = readable_made Dte channels flow false few;
         readable_there = readable_made Dce channels flow false few;
         same_flow = refl;
+        info = refl;
       },
     )
 

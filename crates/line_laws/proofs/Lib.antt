@@ -10,3 +10,4 @@ pub mod Holding
 pub mod Finishing
 pub mod Resting
 mod Rows
+mod NumbersRun

@@ -9,10 +9,10 @@ use Rattle.frame_codec.specs.Spelling.{spelling}
 use Rattle.lapb.specs.declared.phase.Phase.{Phase}
 use Rattle.lapb.specs.declared.note.Note.{Note}
 use Rattle.lapb.specs.declared.note.Note.TheVariants.{Nothing, Up, Down}
-use Rattle.lapb.specs.Machine.{Octets, Link, Step, is_up, can_offer, is_full, on_frame, on_t1, relink, relink_as, settle, settle_in, send_all, sendable, offer}
+use Rattle.lapb.specs.Machine.{Octets, Link, Step, is_up, can_offer, is_full, on_frame, on_t1, relink, relink_as, settle, settle_in, send_all, sendable, offer, remade}
 use Rattle.lapb.specs.Octets.{on_octets}
 use Rattle.lapb.specs.Out.{with_frames}
-use Rattle.lapb.specs.World.{Sent, World, Offer, Deliver, Lose, Expire, Relink, Settle, Restart, IsPrefix, happens, dte_does, dce_does, to_dce, logged, emptied, is_sabm, is_up_note, offered, remade}
+use Rattle.lapb.specs.World.{Sent, World, Offer, Deliver, Lose, Expire, Relink, Settle, Restart, IsPrefix, happens, dte_does, dce_does, to_dce, logged, emptied, is_sabm, is_up_note, offered}
 use Rattle.lapb.specs.Fits.{AllSpelt, octets_of}
 use Rattle.lapb.specs.Line.{chosen, StandsIn}
 use Rattle.lapb.specs.Rising.{AsksInOrder, Tells, IsPlain}
@@ -36,6 +36,13 @@ pub record Goes (role : Role) (mine yours : Link) (going coming : List Octets) (
 pub role_of : (role : Role) (w : World) (mine yours : Link) (going coming : List Octets) → Stands role w mine yours going coming → mine.role ≡ role
 role_of Dte w mine yours going coming s = ap (λ (l : Link). l.role) (sym s.dte_is) ∙ (reached_inv w s.reached).dte_role
 role_of Dce w mine yours going coming s = ap (λ (l : Link). l.role) (sym s.dce_is) ∙ (reached_inv w s.reached).dce_role
+
+-- the I frames of both links of a line carry as many octets
+pub same_info : (role : Role) (w : World) (mine yours : Link) (going coming : List Octets) → Stands role w mine yours going coming → mine.info ≡ yours.info
+same_info Dte w mine yours going coming s =
+    ap (λ (l : Link). l.info) (sym s.dte_is) ∙ s.fit.dte.info_is ∙ sym s.fit.dce.info_is ∙ ap (λ (l : Link). l.info) s.dce_is
+same_info Dce w mine yours going coming s =
+    ap (λ (l : Link). l.info) (sym s.dce_is) ∙ s.fit.dce.info_is ∙ sym s.fit.dte.info_is ∙ ap (λ (l : Link). l.info) s.dte_is
 
 -- ---- frames that are dropped
 
@@ -177,7 +184,7 @@ module _ (mine yours : Link) (going coming : List Octets) (x y : Side) where
   }
 
   -- a packet is offered to a link that takes it
-  pub goes_offer : (role : Role) (packet : Octets) → can_offer mine ≡ true → length packet ≤ 145 → Goes role mine yours going coming x y →
+  pub goes_offer : (role : Role) (packet : Octets) → can_offer mine ≡ true → length packet ≤ mine.info → Goes role mine yours going coming x y →
       Goes role (offer mine packet) yours going coming (record x { offered = logged x.offered x.session (Some packet) }) y
   goes_offer Dte packet room short g = record {
     world = happens g.world (Offer Dte packet);
@@ -368,14 +375,14 @@ taken_first : (w : World) (dte dce : Link) (up down : List Octets) (bytes : Octe
     TakenFirst w (happens w (Deliver Dce [])) (on_octets dce bytes) (first_act w.up)
 taken_first w dte dce up down bytes s = go w.up refl s.fit.up s.up_is
   where
-    go : (flow : List Sent) → w.up ≡ flow → AllSpelt flow → octets_of Dte flow ≡ bytes ∷ up →
+    go : (flow : List Sent) → w.up ≡ flow → AllSpelt s.fit.info flow → octets_of Dte flow ≡ bytes ∷ up →
         TakenFirst w (to_dce w [] flow) (on_octets dce bytes) (first_act flow)
     go [] is all e = absurd (cc)
     go (x ∷ flow) is all e =
         let i : Inv w = reached_inv w s.reached in
         let head : spelling Dte x.frame ≡ bytes = cc in
         let step : on_frame w.dce x.frame ≡ on_octets dce bytes =
-        sym (octets_taken w.dce Dte x.frame i.dce_role all.0) ∙ ap (on_octets w.dce) head ∙ ap (λ l. on_octets l bytes) s.dce_is in
+        sym (octets_taken s.fit.info w.dce Dte x.frame i.dce_role s.fit.dce all.0) ∙ ap (on_octets w.dce) head ∙ ap (λ l. on_octets l bytes) s.dce_is in
         let set : is_sabm x.frame.content ≡ is_up_note (on_octets dce bytes).note =
         sym (dce_begins w.dce x.frame i.dce_role i.dce_set) ∙ ap (λ (t : Step). is_up_note t.note) step in
         let asks : AsksInOrder w (x ∷ flow) = subst (λ (q : List Sent). AsksInOrder w q) is (reached_rise w s.reached).asked in

@@ -1,6 +1,6 @@
 -- Packets that go from the layer of an end to its link, one after the other, in step.
-use Rattle.std.specs.Prelude.{◌≡◌, ℕ, zero, suc, ◌≤◌, Bool, true, false, cond, List, [], ◌∷◌, ◌++◌, length, Option, Some, None, is_some}
-use Rattle.std.proofs.Common.{refl, sym, ap, ◌∙◌, subst}
+use Rattle.std.specs.Prelude.{◌≡◌, ℕ, zero, suc, ◌+◌, ◌≤◌, Bool, true, false, cond, List, [], ◌∷◌, ◌++◌, length, Option, Some, None, is_some}
+use Rattle.std.proofs.Common.{refl, sym, ap, ◌∙◌, subst, arith}
 use Rattle.std.proofs.lemmas.List.{append-nil}
 use Rattle.link_timers.specs.declared.role.Role.{Role}
 use Rattle.link_timers.specs.Role.{other_of}
@@ -14,6 +14,8 @@ use Rattle.packet_layer.specs.Events.{written_packet}
 use Rattle.packet_laws.specs.Line as layers
 use Rattle.packet_laws.specs.Line.{Event, happens}
 use Rattle.packet_laws.proofs.Readable.{readable_next, next_heard, next_short}
+use Rattle.packet_channel.specs.declared.flow.Flow.{Flow}
+use Rattle.packet_end.specs.Params.{info_of}
 use Rattle.packet_end.specs.PacketEnd.{PacketEnd, with_next, offered, all_offered}
 use Rattle.line_laws.specs.Line.{Offers}
 use Rattle.line_laws.specs.Events.{offer_events, after_here, cleared, notes_of}
@@ -21,11 +23,15 @@ use Rattle.line_laws.specs.Joint.{Side, side, session_of, session_now, Follows, 
 use Rattle.line_laws.specs.Steps.{session_after, Rise, Step}
 use Rattle.line_laws.proofs.Flows.{next_flow}
 use Rattle.line_laws.proofs.Layers.{follows_offers, offers_happens, next_silent}
-use Rattle.line_laws.proofs.Links.{Goes, goes_offer, takes_up}
+use Rattle.line_laws.proofs.Links.{Goes, same_info, goes_offer, takes_up}
 
 some_is : (o : Option Packet) → is_some o ≡ true → (p : Packet) × (o ≡ Some p)
 some_is None e = absurd (cc)
 some_is (Some p) e = (p, refl)
+
+-- an I frame of the line has room for each packet
+room_for : (flow : Flow) (info : ℕ) → info ≡ info_of flow → (145 ≤ info) × (flow.size + 4 ≤ info)
+room_for flow info e = (omega arith, omega arith)
 
 -- what the end has become by these events; it and the other one came up last in sessions `mine` and `yours`
 record Went (role : Role) (v : layers.Line) (me you : PacketEnd) (going coming : List Octets) (e : PacketEnd) (events : List Event) (mine yours : ℕ) : Type 0 where
@@ -52,7 +58,9 @@ one_goes role w v me you going coming j room says =
     let p = some_is (next_packet me.layer).packet says in
     let octets : Octets = written_packet me.layer.flow (next_packet me.layer).packet [] in
     let is_heard : heard me.layer.flow octets ≡ Some (Whole p.0) = ap (λ (q : Option Packet). heard me.layer.flow (written_packet me.layer.flow q [])) p.1 ∙ next_heard me.layer j.readable_here p.0 p.1 in
-    let short : length octets ≤ 145 = subst (λ (q : Option Packet). length (written_packet me.layer.flow q []) ≤ 145) (sym p.1) (next_short me.layer j.readable_here p.0 p.1) in
+    let info : ℕ = me.line.link.info in
+    let carries = room_for me.layer.flow info (same_info role w me.line.link you.line.link (going ++ me.line.frames) (coming ++ you.line.frames) j.stands ∙ j.info ∙ ap info_of j.same_flow) in
+    let short : length octets ≤ info = subst (λ (q : Option Packet). length (written_packet me.layer.flow q []) ≤ info) (sym p.1) (next_short info me.layer carries.0 carries.1 j.readable_here p.0 p.1) in
     let here : Goes role me.line.link you.line.link (going ++ me.line.frames) (coming ++ you.line.frames) x y = record { world = w; stands = j.stands; mine_is = refl; yours_is = refl } in
     let g = goes_offer me.line.link you.line.link (going ++ me.line.frames) (coming ++ you.line.frames) x y role octets room short here in
     let session : v.me.session ≡ Some x.session = j.mine.session ∙ ap (λ (b : Bool). session_now b x.session) (takes_up me.line.link room) in
@@ -70,6 +78,7 @@ one_goes role w v me you going coming j room says =
         readable_here = readable_next me.layer j.readable_here;
         readable_there = j.readable_there;
         same_flow = j.same_flow ∙ sym (next_flow me.layer);
+        info = j.info;
       };
       silent = ap (λ (u : layers.Line). u.me.layer.notes) clear ∙ next_silent v.me.layer;
       mine_is = ap (λ (s : Side). s.session) g.mine_is;

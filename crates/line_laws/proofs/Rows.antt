@@ -24,7 +24,7 @@ abbrev params : EndParams
 params = record { k = 7; n2 = 3; channels = 4; flow = modulo_8 2; standing = false }
 
 -- the end of an event of a node, and a frame that comes to it
-abbrev ends : Role → List Event
+abbrev pub ends : Role → List Event
 ends role = At role Offers ∷ At role Settles ∷ At role (Sends []) ∷ []
 
 abbrev hears : Role → List Event
@@ -130,7 +130,7 @@ fits =
 
 are_params : AreParams params
 are_params = record {
-  link = record { k_least = omega arith; k_most = omega arith; n2_least = omega arith; n2_most = omega arith };
+  link = record { k_least = omega arith; k_most = omega arith; n2_least = omega arith; n2_most = omega arith; info_most = omega arith };
   layer = record { channels_least = omega arith; channels_most = omega arith; flow_is = record { window_least = omega arith; window_most = omega arith; size_is = refl } };
 }
 

@@ -132,12 +132,12 @@ reached_thin w up down r =
           ∙ ap (λ (v : World). thin up down v) r.leads;
     }
 
-spelt_thin : (kept : List Bool) (flow : List Sent) → AllSpelt flow → AllSpelt (chosen kept flow)
-spelt_thin [] flow all = all
-spelt_thin (true ∷ kept) [] all = tt
-spelt_thin (false ∷ kept) [] all = tt
-spelt_thin (true ∷ kept) (s ∷ flow) all = (all.0, spelt_thin kept flow all.1)
-spelt_thin (false ∷ kept) (s ∷ flow) all = spelt_thin kept flow all.1
+spelt_thin : (info : ℕ) (kept : List Bool) (flow : List Sent) → AllSpelt info flow → AllSpelt info (chosen kept flow)
+spelt_thin info [] flow all = all
+spelt_thin info (true ∷ kept) [] all = tt
+spelt_thin info (false ∷ kept) [] all = tt
+spelt_thin info (true ∷ kept) (s ∷ flow) all = (all.0, spelt_thin info kept flow all.1)
+spelt_thin info (false ∷ kept) (s ∷ flow) all = spelt_thin info kept flow all.1
 
 octets_thin : (from : Role) (kept : List Bool) (flow : List Sent) → octets_of from (chosen kept flow) ≡ chosen kept (octets_of from flow)
 octets_thin from [] flow = refl
@@ -151,10 +151,11 @@ pub stands_thin : (w : World) (dte dce : Link) (up down : List Octets) (kept_up 
 stands_thin w dte dce up down kept_up kept_down s = record {
   reached = reached_thin w kept_up kept_down s.reached;
   fit = record {
+    info = s.fit.info;
     dte = s.fit.dte;
     dce = s.fit.dce;
-    up = spelt_thin kept_up w.up s.fit.up;
-    down = spelt_thin kept_down w.down s.fit.down;
+    up = spelt_thin s.fit.info kept_up w.up s.fit.up;
+    down = spelt_thin s.fit.info kept_down w.down s.fit.down;
   };
   dte_is = s.dte_is;
   dce_is = s.dce_is;

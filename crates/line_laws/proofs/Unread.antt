@@ -31,7 +31,7 @@ silent_unless None ch r = silent_carried ch r
 silent_unless (Some refused) ch r = refl
 
 pub request_unread : (l : Layer) (c : ℕ) (r : Request) → unread (request l c r) ≡ request (unread l) c r
-request_unread l c r = found_unread l c (λ ch. requested l.role ch r) (channel_of l c) (λ ch. silent_unless (refusal l.role ch r) ch r)
+request_unread l c r = found_unread l c (λ ch. requested l.role l.flow ch r) (channel_of l c) (λ ch. silent_unless (refusal l.role l.flow ch r) ch r)
 
 given_same : (phase : Phase) (l : Layer) → channel_given l phase ≡ channel_given (unread l) phase
 given_same NoSession l = refl

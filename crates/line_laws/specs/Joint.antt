@@ -15,6 +15,7 @@ use Rattle.packet_layer.specs.Layer.{Layer, unread}
 use Rattle.packet_laws.specs.Line.{End, Happening}
 use Rattle.packet_laws.specs.Line as layers
 use Rattle.packet_end.specs.PacketEnd.{PacketEnd}
+use Rattle.packet_end.specs.Params.{info_of}
 use Rattle.line_laws.specs.Line.{Line}
 use Rattle.packet_laws.specs.Readable.{IsReadable}
 
@@ -94,7 +95,7 @@ abbrev pub part_of : PacketEnd → Part
 part_of e = record { link = e.line.link; waiting = e.line.frames; layer = e.layer }
 
 -- as the end of a role sees it: the frames that wait at an end come after those on the way from it, and both ends have
--- the same flow control
+-- the same flow control, and at either end links that carry the longest packets that it allows
 pub record JointOf (role : Role) (w : World) (v : layers.Line) (me you : Part) (going coming : List Octets) : Type 0
   where
     pub stands : Stands role w me.link you.link (going ++ me.waiting) (coming ++ you.waiting)
@@ -103,6 +104,7 @@ pub record JointOf (role : Role) (w : World) (v : layers.Line) (me you : Part) (
     pub readable_here : IsReadable me.layer
     pub readable_there : IsReadable you.layer
     pub same_flow : you.layer.flow ≡ me.layer.flow
+    pub info : you.link.info ≡ info_of you.layer.flow
 
 abbrev pub JointAt : Role → World → layers.Line → (me you : PacketEnd) → (going coming : List Octets) → Type 0
 JointAt role w v me you going coming = JointOf role w v (part_of me) (part_of you) going coming

@@ -1,6 +1,6 @@
 -- Ends of a line: whatever happens to them but time, no timer runs where it must not, and none is due that was not.
 use Rattle.std.specs.Prelude.{◌≡◌, ℕ, zero, suc, ◌<◌, ◌≤◌, Bool, true, false, cond, List, [], ◌∷◌, length, Option, Some, None, is_some}
-use Rattle.std.proofs.Common.{refl, ap, ◌∙◌, subst, arith}
+use Rattle.std.proofs.Common.{refl, sym, ap, ◌∙◌, subst, arith}
 use Rattle.link_timers.specs.declared.role.Role.{Role}
 use Rattle.link_timers.specs.declared.timers.TimerId.{TimerId}
 use Rattle.link_timers.specs.declared.timers.TimerId.TheVariants as timer
@@ -9,7 +9,7 @@ use Rattle.link_timers.proofs.DueLaws.{first_due}
 use Rattle.lapb.specs.declared.note.Note as link_note
 use Rattle.lapb.specs.declared.note.Note.TheVariants.{Nothing, Up, Down}
 use Rattle.lapb.specs.declared.note.Timing.{Timing}
-use Rattle.lapb.specs.Machine.{Octets, Step, on_t1, can_offer, timing}
+use Rattle.lapb.specs.Machine.{Octets, Step, on_t1, can_offer, timing, params_anew}
 use Rattle.lapb.specs.Machine as machine
 use Rattle.lapb.specs.Octets as link_octets
 use Rattle.packet_end.specs.End.{End, t1_ticks, timed, did}
@@ -20,11 +20,13 @@ use Rattle.packet_layer.specs.Traffic.Taken.{TakenInterrupt, TakenPacket}
 use Rattle.packet_layer.specs.Channel.{Refusal, Request}
 use Rattle.packet_layer.specs.Layer.{next_packet, front_on, call_refusal, request_refusal}
 use Rattle.packet_end.specs.Timing.{IsPacketTimer}
+use Rattle.packet_end.specs.Params.{link_params}
 use Rattle.packet_end.specs.PacketEnd as end
 use Rattle.packet_end.specs.PacketEnd.{PacketEnd, begun, heeded, after_packet, received, runs_at, after_timer, relinked, relinked_if_due, with_next, offered, all_offered, settled, finished, asked, called, due, either_timer}
 use Rattle.packet_end.specs.declared.params.EndParams.{EndParams}
 use Rattle.packet_host.specs.Host.{ended, unless_refused, refuse_refusal, after_call, after_request, after_refuse, after_say, let_go, taken_as, after_take}
-use Rattle.packet_host.specs.Saying.{queued, cut, say_refusal}
+use Rattle.packet_channel.specs.Cutting.{cut}
+use Rattle.packet_host.specs.Saying.{queued, message, say_refusal}
 use Rattle.line_record_laws.specs.Due.{RunsOnly, TimersApart, due_count}
 use Rattle.line_record_laws.proofs.DueCounts.{NoMore, no-more-same, no-more-then, stopped-more, started-more, only-none, none-more, stopped-fewer, only-elapsed, brought-more}
 
@@ -165,8 +167,9 @@ refuses-due e channel =
 
 pub says-due : (e : PacketEnd) (channel : ℕ) (octets : List ℕ) (qualified delivery : Bool) → NoMoreDue e (after_say e channel octets qualified delivery)
 says-due e channel octets qualified delivery =
-    let x : PacketEnd = queued channel (cut octets qualified delivery) e in
-    unless-due (say_refusal e.layer channel octets qualified) (ended x) e (ended-due e x (queued-due channel (cut octets qualified delivery) e))
+    let ds : List Datum = cut e.layer.flow.size (message octets qualified delivery) in
+    let x : PacketEnd = queued channel ds e in
+    unless-due (say_refusal e.layer channel octets qualified) (ended x) e (ended-due e x (queued-due channel ds e))
 
 let-go-due : (x : Taken) (channel : ℕ) (old e : PacketEnd) → NoMoreDue old e → NoMoreDue old (let_go x channel e)
 let-go-due (TakenInterrupt octets) channel old e h = record { link = h.link; layer = h.layer }
@@ -186,15 +189,15 @@ takes-due e channel = taken-due (front_on e.layer channel) channel e
 pub elapsed-apart : (e : PacketEnd) (ticks : ℕ) → TimersApart e → TimersApart (end.elapsed e ticks)
 elapsed-apart e ticks a = record { link = only-elapsed IsT1 e.line.timers ticks a.link; layer = only-elapsed IsPacketTimer e.timers ticks a.layer }
 
-line-apart : (role : Role) (k n2 : ℕ) (standing : Bool) → RunsOnly IsT1 (line.made role k n2 standing).timers
-line-apart role k n2 true = only-none IsT1
-line-apart role k n2 false = (times _ none_running).only (only-none IsT1)
+line-apart : (e : line.End) (standing : Bool) → e.timers ≡ none_running → RunsOnly IsT1 (line.started_unless standing e).timers
+line-apart e true none = subst (λ (t : Places). RunsOnly IsT1 t) (sym none) (only-none IsT1)
+line-apart e false none = (times _ e.timers).only (subst (λ (t : Places). RunsOnly IsT1 t) (sym none) (only-none IsT1))
 
 pub made-apart : (role : Role) (p : EndParams) → TimersApart (end.made role p)
-made-apart role p = record { link = line-apart role p.k p.n2 p.standing; layer = only-none IsPacketTimer }
+made-apart role p = record { link = line-apart (line.untouched role (link_params p)) p.standing refl; layer = only-none IsPacketTimer }
 
 pub restarted-apart : (e : PacketEnd) → TimersApart (end.restarted e)
-restarted-apart e = record { link = line-apart e.line.link.role e.line.link.k e.line.link.n2 false; layer = only-none IsPacketTimer }
+restarted-apart e = record { link = line-apart (line.untouched e.line.link.role (params_anew e.line.link)) false refl; layer = only-none IsPacketTimer }
 
 -- ---- the timer that is due expires
 

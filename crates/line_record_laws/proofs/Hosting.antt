@@ -3,6 +3,7 @@ use Rattle.std.specs.Prelude.{◌≡◌, ℕ, Bool, true, false, cond, not, List
 use Rattle.std.proofs.Common.{refl, sym, ap, subst, ◌∙◌}
 use Rattle.std.proofs.lemmas.Option.{none-some}
 use Rattle.link_timers.specs.declared.role.Role.{Role}
+use Rattle.packet_channel.specs.declared.flow.Flow.{Flow}
 use Rattle.link_timers.specs.declared.timers.TimerId.{TimerId}
 use Rattle.link_timers.specs.Role.{other_of}
 use Rattle.lapb.specs.Machine.{Octets}
@@ -19,7 +20,9 @@ use Rattle.packet_end.specs.PacketEnd.{PacketEnd, begun, finished, asked, called
 use Rattle.line_laws.specs.Line.{Line}
 use Rattle.packet_host.specs.Host as host
 use Rattle.packet_host.specs.Host.{ended, after_call, after_request, after_refuse, after_say, after_take, after_expiry, let_go, taken_as}
-use Rattle.packet_host.specs.Saying.{cut, queued, say_refusal, AllTaken}
+use Rattle.packet_channel.specs.Flow.{is_size}
+use Rattle.packet_channel.specs.Cutting.{cut}
+use Rattle.packet_host.specs.Saying.{message, queued, say_refusal, AllTaken}
 use Rattle.packet_host.proofs.Refused.{accepted_clears}
 use Rattle.packet_host.proofs.Taken.{all_said}
 use Rattle.call_records.specs.Book.{Book, sends, closes, takes, all_told}
@@ -31,6 +34,7 @@ use Rattle.line_record_laws.specs.Happens.{with_event}
 use Rattle.line_record_laws.specs.Hosts.{sends_all, says, refuses, lets_go, takes_any, IsKeptAfter, HostExpiryLaw, HostCallLaw, HostRequestLaw, HostSayLaw, HostRefuseLaw, HostTakeLaw}
 use Rattle.line_record_laws.proofs.WaitsInTransfer.{found_open}
 use Rattle.line_record_laws.proofs.Views.{KeptAt, seen, kept_waits}
+use Rattle.line_record_laws.proofs.Flows.{kept_flow}
 use Rattle.line_record_laws.proofs.Acting.{sends_at, requests_at}
 use Rattle.line_record_laws.proofs.Keeping.{front_kept}
 use Rattle.line_record_laws.proofs.Happening.{on_line, asked_on, called_on, expiry_on}
@@ -56,15 +60,15 @@ taken_state : (ch : Channel) (o : Option Refusal) → in_transfer (unless o (car
 taken_state ch None = refl
 taken_state ch (Some r) = refl
 
-may_release : (role : Role) (found : Option Channel) (ch : Channel) → found ≡ Some ch → in_transfer ch.state ≡ true → refusal_at role (Releasing 1) found ≡ None
-may_release role found ch e h = ap (λ (o : Option Channel). refusal_at role (Releasing 1) o) e ∙ ap (λ (v : Bool). refused_if (not v) Refusal.NoCall None) h
+may_release : (role : Role) (flow : Flow) (found : Option Channel) (ch : Channel) → found ≡ Some ch → in_transfer ch.state ≡ true → refusal_at role flow (Releasing 1) found ≡ None
+may_release role flow found ch e h = ap (λ (o : Option Channel). refusal_at role flow (Releasing 1) o) e ∙ ap (λ (v : Bool). refused_if (not v) Refusal.NoCall None) h
 
 may_release_after : (l : Layer) (c : ℕ) (ch : Channel) → channel_of l c ≡ Some ch → in_transfer ch.state ≡ true → request_refusal (request l c Taking) c (Releasing 1) ≡ None
 may_release_after l c ch e h =
-    let st : Step = requested l.role ch Taking in
-    let is : request l c Taking ≡ after_step l c st = ap (λ (o : Option Channel). on_found l c (λ z. requested l.role z Taking) o) e in
+    let st : Step = requested l.role l.flow ch Taking in
+    let is : request l c Taking ≡ after_step l c st = ap (λ (o : Option Channel). on_found l c (λ z. requested l.role l.flow z Taking) o) e in
     ap (λ (z : Layer). request_refusal z c (Releasing 1)) is
-    ∙ may_release l.role (channel_of (after_step l c st) c) (owing st) (put_here l.channels c ch (owing st) e) (taken_state ch (refusal l.role ch Taking) ∙ h)
+    ∙ may_release l.role l.flow (channel_of (after_step l c st) c) (owing st) (put_here l.channels c ch (owing st) e) (taken_state ch (refusal l.role l.flow ch Taking) ∙ h)
 
 -- ---- the events
 
@@ -139,12 +143,17 @@ module _ (s : Setting) (b : Book) (l : Line) (role : Role) (kept : List Bool) (n
       IsKeptAfter s role (after_say me channel octets qualified delivery) (says role channel octets qualified delivery me b) kept l
   say_after channel octets qualified delivery = by (say_refusal me.layer channel octets qualified) refl
     where
+      packets : List Datum
+      packets = cut me.layer.flow.size (message octets qualified delivery)
+
+      is : is_size me.layer.flow.size ≡ true
+      is = ap (λ (f : Flow). is_size f.size) (kept_flow s b l role k) ∙ k.setting.dte.layer.flow_is.size_is
+
       by : (o : Option Refusal) → say_refusal me.layer channel octets qualified ≡ o →
-          IsKeptAfter s role (host.unless_refused o (ended (queued channel (cut octets qualified delivery) me)) me)
-          (unless_refused o (sends_all role channel (cut octets qualified delivery) b) b) kept l
+          IsKeptAfter s role (host.unless_refused o (ended (queued channel packets me)) me) (unless_refused o (sends_all role channel packets b) b) kept l
       by None e =
-          asked_on s b l role (queued channel (cut octets qualified delivery) me) (sends_all role channel (cut octets qualified delivery) b) kept
-          (all_queued channel (cut octets qualified delivery) me b (all_said me channel octets qualified delivery e) (seen s b role l k))
+          asked_on s b l role (queued channel packets me) (sends_all role channel packets b) kept
+          (all_queued channel packets me b (all_said me channel octets qualified delivery is e) (seen s b role l k))
       by (Some x) e = unchanged
 
   -- ---- what is taken

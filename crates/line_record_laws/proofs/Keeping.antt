@@ -3,6 +3,7 @@ use Rattle.std.specs.Prelude.{◌≡◌, ℕ, suc, not, ◌+◌, Bool, true, fal
 use Rattle.std.proofs.Common.{refl, sym, ap, subst, ◌∙◌, arith, true≢false}
 use Rattle.link_timers.specs.declared.role.Role.{Role}
 use Rattle.link_timers.specs.declared.role.Role.TheVariants.{Dte, Dce}
+use Rattle.packet_channel.specs.declared.flow.Flow.{Flow}
 use Rattle.link_timers.specs.Role.{other_of}
 use Rattle.lapb.specs.Machine.{Octets, Link}
 use Rattle.lapb.specs.World as links
@@ -20,6 +21,7 @@ use Rattle.packet_layer.specs.Layer.{Layer, channel_of, link_down, channel_given
 use Rattle.packet_laws.specs.Readable.{IsReadable}
 use Rattle.packet_laws.specs.Line as layers
 use Rattle.packet_end.specs.PacketEnd.{PacketEnd}
+use Rattle.packet_end.specs.Params.{info_of}
 use Rattle.line_laws.specs.Line as acts
 use Rattle.line_laws.specs.Line.{Line, Act, Begins, Hears, Expires, Relinks, RelinksIfDue, Restarts, Calls, Requests, Offers, Settles, Elapses, Sends, At, does, other_after, going_after, coming_after, made}
 use Rattle.line_laws.specs.Joint.{Joint, Stands, side, Follows}
@@ -45,7 +47,7 @@ made_kept s is =
     let j : Joint (made s.dte s.dce) n.0 (beginning s).line =
     subst (λ (e : PacketEnd). Joint (record (made s.dte s.dce) { dce = e }) n.0 (beginning s).line)
     (λ i. record {
-      line = line.made Dce s.dce.k s.dce.n2 (sym is.alike.standing i);
+      line = line.made Dce (record { k = s.dce.k; n2 = s.dce.n2; info = info_of (sym is.alike.flow i); standing = sym is.alike.standing i });
       layer = machine.made Dce (sym is.alike.channels i) (sym is.alike.flow i) (sym is.alike.standing i);
       timers = none_running;
       notes = [];
@@ -149,6 +151,7 @@ like_joint w v l m h j = record {
   readable_there = subst (λ (x : Layer). IsReadable x) (sym h.dce_layer) j.readable_there;
   same_flow =
       ap (λ (x : Layer). x.flow) h.dce_layer ∙ j.same_flow ∙ ap (λ (x : Layer). x.flow) (sym h.dte_layer);
+  info = ap (λ (x : Link). x.info) h.dce_link ∙ j.info ∙ ap (λ (x : Layer). info_of x.flow) (sym h.dce_layer);
 }
 
 pub like_kept : LikeLaw
@@ -202,52 +205,52 @@ found_transfer (Some ch) h = transfer_call ch.state ch.resetting h
 no_call : (o : Option Refusal) → o ≡ Some Refusal.NoCall → o ≡ None → ⊥
 no_call o e f = let h : ◌≡◌ {A = ℕ} 1 0 = ap refusal_number (sym e ∙ f) in omega arith
 
-ready_refused : (role : Role) (ch : Channel) (r : Request) → refusal role (entered Ready ch) r ≡ Some Refusal.NoCall
-ready_refused role ch Accept = refl
-ready_refused role ch (Clearing cause diagnostic) = refl
-ready_refused role ch (Resetting cause diagnostic) = refl
-ready_refused role ch (Sending d) = refl
-ready_refused role ch (Interrupting octets) = refl
-ready_refused role ch (Stopping v) = refl
-ready_refused role ch Taking = refl
-ready_refused role ch (Releasing n) = refl
-ready_refused role ch Confirming = refl
+ready_refused : (role : Role) (flow : Flow) (ch : Channel) (r : Request) → refusal role flow (entered Ready ch) r ≡ Some Refusal.NoCall
+ready_refused role flow ch Accept = refl
+ready_refused role flow ch (Clearing cause diagnostic) = refl
+ready_refused role flow ch (Resetting cause diagnostic) = refl
+ready_refused role flow ch (Sending d) = refl
+ready_refused role flow ch (Interrupting octets) = refl
+ready_refused role flow ch (Stopping v) = refl
+ready_refused role flow ch Taking = refl
+ready_refused role flow ch (Releasing n) = refl
+ready_refused role flow ch Confirming = refl
 
-clear_refused : (role : Role) (ch : Channel) (r : Request) → refusal role (entered OwnClear ch) r ≡ Some Refusal.NoCall
-clear_refused role ch Accept = refl
-clear_refused role ch (Clearing cause diagnostic) = refl
-clear_refused role ch (Resetting cause diagnostic) = refl
-clear_refused role ch (Sending d) = refl
-clear_refused role ch (Interrupting octets) = refl
-clear_refused role ch (Stopping v) = refl
-clear_refused role ch Taking = refl
-clear_refused role ch (Releasing n) = refl
-clear_refused role ch Confirming = refl
+clear_refused : (role : Role) (flow : Flow) (ch : Channel) (r : Request) → refusal role flow (entered OwnClear ch) r ≡ Some Refusal.NoCall
+clear_refused role flow ch Accept = refl
+clear_refused role flow ch (Clearing cause diagnostic) = refl
+clear_refused role flow ch (Resetting cause diagnostic) = refl
+clear_refused role flow ch (Sending d) = refl
+clear_refused role flow ch (Interrupting octets) = refl
+clear_refused role flow ch (Stopping v) = refl
+clear_refused role flow ch Taking = refl
+clear_refused role flow ch (Releasing n) = refl
+clear_refused role flow ch Confirming = refl
 
-request_call : (role : Role) (state : CallState) (ch : Channel) (r : Request) → refusal role (entered state ch) r ≡ None → had_call state ≡ true
-request_call role Ready ch r h = absurd (no_call (refusal role (entered Ready ch) r) (ready_refused role ch r) h)
-request_call role OwnClear ch r h = absurd (no_call (refusal role (entered OwnClear ch) r) (clear_refused role ch r) h)
-request_call role OwnWaiting ch r h = refl
-request_call role FarWaiting ch r h = refl
-request_call role Transfer ch r h = refl
-request_call role Collision ch r h = refl
+request_call : (role : Role) (flow : Flow) (state : CallState) (ch : Channel) (r : Request) → refusal role flow (entered state ch) r ≡ None → had_call state ≡ true
+request_call role flow Ready ch r h = absurd (no_call (refusal role flow (entered Ready ch) r) (ready_refused role flow ch r) h)
+request_call role flow OwnClear ch r h = absurd (no_call (refusal role flow (entered OwnClear ch) r) (clear_refused role flow ch r) h)
+request_call role flow OwnWaiting ch r h = refl
+request_call role flow FarWaiting ch r h = refl
+request_call role flow Transfer ch r h = refl
+request_call role flow Collision ch r h = refl
 
-found_request : (role : Role) (r : Request) (o : Option Channel) → refusal_at role r o ≡ None → has_call o ≡ true
-found_request role r None h = absurd (no_call (Some Refusal.NoCall) refl h)
-found_request role r (Some ch) h = request_call role ch.state ch r h
+found_request : (role : Role) (flow : Flow) (r : Request) (o : Option Channel) → refusal_at role flow r o ≡ None → has_call o ≡ true
+found_request role flow r None h = absurd (no_call (Some Refusal.NoCall) refl h)
+found_request role flow r (Some ch) h = request_call role flow ch.state ch r h
 
 pub transfer_kept : TransferLaw
 transfer_kept s b l role channel k h = present_kept s b l role channel k ∙ found_transfer (channel_of (end_at role l).layer channel) h
 
 pub asked_kept : AskedLaw
-asked_kept s b l role channel r k h = present_kept s b l role channel k ∙ found_request (end_at role l).layer.role r (channel_of (end_at role l).layer channel) h
+asked_kept s b l role channel r k h = present_kept s b l role channel k ∙ found_request (end_at role l).layer.role (end_at role l).layer.flow r (channel_of (end_at role l).layer channel) h
 
 pub front_kept : FrontLaw
 front_kept s b l role channel x k is =
     let e : PacketEnd = end_at role l in
     let waits = kept_waits s b role e (end_at (other_of role) l) (coming_to (other_of role) l) (coming_to role l) (seen s b role l k) in
     let f = found_open e.layer channel x (channel_of e.layer channel) refl waits is in
-    ap (λ (o : Option Channel). refusal_at e.layer.role Taking o) f.1 ∙ ap (λ (v : Bool). refused_if (not v) Refusal.NoCall None) f.2
+    ap (λ (o : Option Channel). refusal_at e.layer.role e.layer.flow Taking o) f.1 ∙ ap (λ (v : Bool). refused_if (not v) Refusal.NoCall None) f.2
 
 pub channels_kept : ChannelsLaw
 channels_kept s b l Dte k =

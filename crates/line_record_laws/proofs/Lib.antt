@@ -5,6 +5,7 @@ mod Moving
 mod Telling
 mod WaitsInTransfer
 pub mod Views
+pub mod Flows
 pub mod Acting
 pub mod Keeping
 pub mod Happening
@@ -18,3 +19,4 @@ pub mod Confirming
 pub mod Counting
 pub mod Histories
 pub mod Relinking
+mod NumbersRun

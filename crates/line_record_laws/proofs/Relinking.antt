@@ -13,7 +13,8 @@ use Rattle.packet_end.specs.PacketEnd as end
 use Rattle.packet_end.specs.PacketEnd.{PacketEnd, begun, runs_at, after_timer, relinked, relinked_if_due, with_next, offered, all_offered, finished, asked, called}
 use Rattle.packet_end.specs.declared.params.EndParams.{EndParams}
 use Rattle.packet_host.specs.Host.{ended, unless_refused, refuse_refusal, after_call, after_request, after_refuse, after_say, let_go, taken_as, after_take, after_expiry}
-use Rattle.packet_host.specs.Saying.{queued, cut, say_refusal}
+use Rattle.packet_channel.specs.Cutting.{cut}
+use Rattle.packet_host.specs.Saying.{queued, message, say_refusal}
 
 abbrev pub AsksNone : PacketEnd → Type 0
 AsksNone e = e.layer.relink ≡ false
@@ -77,7 +78,7 @@ pub refuses_ask : (e : PacketEnd) (channel : ℕ) → AsksNone e → AsksNone (a
 refuses_ask e channel h = unless_asks (refuse_refusal e channel) (asked e channel (Request.Clearing 0 0)) e h
 
 pub says_ask : (e : PacketEnd) (channel : ℕ) (octets : List ℕ) (qualified delivery : Bool) → AsksNone e → AsksNone (after_say e channel octets qualified delivery)
-says_ask e channel octets qualified delivery h = unless_asks (say_refusal e.layer channel octets qualified) (queued channel (cut octets qualified delivery) e) e h
+says_ask e channel octets qualified delivery h = unless_asks (say_refusal e.layer channel octets qualified) (queued channel (cut e.layer.flow.size (message octets qualified delivery)) e) e h
 
 taken_asks : (o : Option Taken) (channel : ℕ) (e : PacketEnd) → AsksNone e → AsksNone (taken_as o channel e)
 taken_asks None channel e h = h

@@ -27,24 +27,24 @@ use Rattle.line_record_laws.proofs.Happening.{frame_kept, called_kept, requested
 
 -- ---- events of nodes, of whose frames none is lost
 
-data Happening : Type 0 where
+pub data Happening : Type 0 where
   Starts : Role → Happening
   Hears : Role → Happening
   Places : Role → CallParts → Happening
   Asks : Role → (channel : ℕ) → List Request → Happening
 
-record Net : Type 0 where
-  line : Line
-  book : Book
+pub record Net : Type 0 where
+  pub line : Line
+  pub book : Book
 
-abbrev ended : Role → PacketEnd → List Octets → Book → Line → Net
+abbrev pub ended : Role → PacketEnd → List Octets → Book → Line → Net
 ended role e coming b l = record { line = with_event role e [] coming l; book = all_told role e.notes b }
 
-abbrev heard_by : Role → List Octets → Net → Net
+abbrev pub heard_by : Role → List Octets → Net → Net
 heard_by role [] n = n
 heard_by role (octets ∷ coming) n = ended role (finished (received (begun (end_at role n.line)) octets)) coming n.book n.line
 
-abbrev after_one : Happening → Net → Net
+abbrev pub after_one : Happening → Net → Net
 after_one (Starts role) n = record n { line = happens (At role (Sends [])) n.line }
 after_one (Hears role) n = heard_by role (coming_to role n.line) n
 after_one (Places role parts) n =
@@ -53,17 +53,17 @@ after_one (Places role parts) n =
 after_one (Asks role channel rs) n =
     ended role (finished (begun (asked_all channel rs (end_at role n.line)))) (coming_to role n.line) (requested_all role channel rs (end_at role n.line) n.book) n.line
 
-abbrev after : List Happening → Net → Net
+abbrev pub after : List Happening → Net → Net
 after [] n = n
 after (h ∷ hs) n = after hs (after_one h n)
 
 -- ---- what is kept
 
-abbrev IsFitOne : Happening → Type 0
+abbrev pub IsFitOne : Happening → Type 0
 IsFitOne (Places role parts) = CanBePlaced parts
 IsFitOne h = Unit {0}
 
-abbrev AreFit : List Happening → Type 0
+abbrev pub AreFit : List Happening → Type 0
 AreFit [] = Unit {0}
 AreFit (h ∷ hs) = IsFitOne h × AreFit hs
 
@@ -77,7 +77,7 @@ one_kept s (Hears role) n fits k = heard_kept s role (coming_to role n.line) n r
 one_kept s (Places role parts) n fits k = called_kept s n.book n.line role parts [] fits k
 one_kept s (Asks role channel rs) n fits k = requested_kept s n.book n.line role channel rs [] k
 
-all_kept : (s : Setting) (hs : List Happening) (n : Net) → AreFit hs → Kept s n.book n.line → Kept s (after hs n).book (after hs n).line
+pub all_kept : (s : Setting) (hs : List Happening) (n : Net) → AreFit hs → Kept s n.book n.line → Kept s (after hs n).book (after hs n).line
 all_kept s [] n fits k = k
 all_kept s (h ∷ hs) n fits k = all_kept s hs (after_one h n) fits.1 (one_kept s h n fits.0 k)
 
@@ -92,11 +92,11 @@ setting = record { dte = params; dce = params; dte_node = 3; dce_node = 5 }
 abbrev before : Net
 before = record { line = made params params; book = made_book 3 5 4 false }
 
-abbrev rounds : ℕ → List Happening
+abbrev pub rounds : ℕ → List Happening
 rounds zero = []
 rounds (suc n) = Hears Dce ∷ Hears Dte ∷ rounds n
 
-abbrev digits : CallParts
+abbrev pub digits : CallParts
 digits = record { called = 2 ∷ 0 ∷ 0 ∷ 1 ∷ []; calling = []; facilities = []; user_part = [] }
 
 abbrev hi : Datum
@@ -160,14 +160,14 @@ pairs_are = refl
 
 are_params : AreParams params
 are_params = record {
-  link = record { k_least = omega arith; k_most = omega arith; n2_least = omega arith; n2_most = omega arith };
+  link = record { k_least = omega arith; k_most = omega arith; n2_least = omega arith; n2_most = omega arith; info_most = omega arith };
   layer = record { channels_least = omega arith; channels_most = omega arith; flow_is = record { window_least = omega arith; window_most = omega arith; size_is = refl } };
 }
 
 is_setting : IsSetting setting
 is_setting = record { dte = are_params; dce = are_params; alike = record { channels = refl; flow = refl; standing = refl } }
 
-can_be_placed : CanBePlaced digits
+pub can_be_placed : CanBePlaced digits
 can_be_placed = record {
   called = (omega arith, omega arith, refl);
   calling = (omega arith, refl);
@@ -175,16 +175,16 @@ can_be_placed = record {
   user_data = omega arith;
 }
 
-fit_append : (hs more : List Happening) → AreFit hs → AreFit more → AreFit (hs ++ more)
+pub fit_append : (hs more : List Happening) → AreFit hs → AreFit more → AreFit (hs ++ more)
 fit_append [] more f g = g
 fit_append (h ∷ hs) more f g = (f.0, fit_append hs more f.1 g)
 
-fit_rounds : (n : ℕ) → AreFit (rounds n)
+pub fit_rounds : (n : ℕ) → AreFit (rounds n)
 fit_rounds zero = tt
 fit_rounds (suc n) = (tt, (tt, fit_rounds n))
 
 -- something further, and two rounds
-fit_further : (hs : List Happening) (h : Happening) → AreFit hs → IsFitOne h → AreFit (hs ++ h ∷ rounds 2)
+pub fit_further : (hs : List Happening) (h : Happening) → AreFit hs → IsFitOne h → AreFit (hs ++ h ∷ rounds 2)
 fit_further hs h f g = fit_append hs (h ∷ rounds 2) f (g, fit_rounds 2)
 
 fits : AreFit taken

@@ -106,22 +106,22 @@ is_open : (v : Bool) (r : Refusal) (other : Option Refusal) → refused_if (not 
 is_open true r other e = refl
 is_open false r other e = absurd (none-some r (sym e))
 
-carried_waits : (role : Role) (ch : Channel) (r : Request) → refusal role ch r ≡ None → WaitsInTransfer (carried_out ch r).channel
-carried_waits role ch Accept e = open_waits (entered Transfer ch) refl
-carried_waits role ch (Clearing cause diagnostic) e = λ f. refl
-carried_waits role ch (Resetting cause diagnostic) e = λ f. refl
-carried_waits role ch (Sending d) e = open_waits (carried_out ch (Sending d)).channel (is_open (in_transfer ch.state) Refusal.NoCall _ e)
-carried_waits role ch (Interrupting octets) e = open_waits (carried_out ch (Interrupting octets)).channel (is_open (in_transfer ch.state) Refusal.NoCall _ e)
-carried_waits role ch (Stopping v) e = open_waits (carried_out ch (Stopping v)).channel (is_open (in_transfer ch.state) Refusal.NoCall _ e)
-carried_waits role ch Taking e = open_waits (carried_out ch Taking).channel (is_open (in_transfer ch.state) Refusal.NoCall _ e)
-carried_waits role ch (Releasing n) e = open_waits (carried_out ch (Releasing n)).channel (is_open (in_transfer ch.state) Refusal.NoCall _ e)
-carried_waits role ch Confirming e = open_waits (carried_out ch Confirming).channel (is_open (in_transfer ch.state) Refusal.NoCall _ e)
+carried_waits : (role : Role) (flow : Flow) (ch : Channel) (r : Request) → refusal role flow ch r ≡ None → WaitsInTransfer (carried_out ch r).channel
+carried_waits role flow ch Accept e = open_waits (entered Transfer ch) refl
+carried_waits role flow ch (Clearing cause diagnostic) e = λ f. refl
+carried_waits role flow ch (Resetting cause diagnostic) e = λ f. refl
+carried_waits role flow ch (Sending d) e = open_waits (carried_out ch (Sending d)).channel (is_open (in_transfer ch.state) Refusal.NoCall _ e)
+carried_waits role flow ch (Interrupting octets) e = open_waits (carried_out ch (Interrupting octets)).channel (is_open (in_transfer ch.state) Refusal.NoCall _ e)
+carried_waits role flow ch (Stopping v) e = open_waits (carried_out ch (Stopping v)).channel (is_open (in_transfer ch.state) Refusal.NoCall _ e)
+carried_waits role flow ch Taking e = open_waits (carried_out ch Taking).channel (is_open (in_transfer ch.state) Refusal.NoCall _ e)
+carried_waits role flow ch (Releasing n) e = open_waits (carried_out ch (Releasing n)).channel (is_open (in_transfer ch.state) Refusal.NoCall _ e)
+carried_waits role flow ch Confirming e = open_waits (carried_out ch Confirming).channel (is_open (in_transfer ch.state) Refusal.NoCall _ e)
 
-requested_waits : (role : Role) (ch : Channel) (r : Request) → WaitsInTransfer ch → WaitsInTransfer (requested role ch r).channel
-requested_waits role ch r h = by (refusal role ch r) refl
+requested_waits : (role : Role) (flow : Flow) (ch : Channel) (r : Request) → WaitsInTransfer ch → WaitsInTransfer (requested role flow ch r).channel
+requested_waits role flow ch r h = by (refusal role flow ch r) refl
   where
-    by : (o : Option Refusal) → refusal role ch r ≡ o → WaitsInTransfer (unless o (carried_out ch r) ch).channel
-    by None e = carried_waits role ch r e
+    by : (o : Option Refusal) → refusal role flow ch r ≡ o → WaitsInTransfer (unless o (carried_out ch r) ch).channel
+    by None e = carried_waits role flow ch r e
     by (Some x) e = h
 
 -- ---- what goes to the link
@@ -209,7 +209,7 @@ timer_waits : (l : Layer) (t : Timer) → AllWaitInTransfer l → AllWaitInTrans
 timer_waits l t h = either_way AllWaitInTransfer (runs l t) (expired (unread l) t) l (expired_waits (unread l) t h) h
 
 request_waits : (l : Layer) (c : ℕ) (r : Request) → AllWaitInTransfer l → AllWaitInTransfer (request l c r)
-request_waits l c r h = found_waits l c (λ ch. requested l.role ch r) (channel_of l c) refl h (λ ch e k. requested_waits l.role ch r k)
+request_waits l c r h = found_waits l c (λ ch. requested l.role l.flow ch r) (channel_of l c) refl h (λ ch e k. requested_waits l.role l.flow ch r k)
 
 placed_waits : (l : Layer) (parts : CallParts) (o : Option ℕ) → ((d : ℕ) → o ≡ Some d → (ch : Channel) × (channel_of l d ≡ Some ch) × (ch.state ≡ Ready)) → AllWaitInTransfer l → AllWaitInTransfer (placed_on l parts o)
 placed_waits l parts None free h = h

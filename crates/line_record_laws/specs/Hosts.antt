@@ -11,7 +11,8 @@ use Rattle.packet_layer.specs.Layer.{channel_given, front_on}
 use Rattle.packet_laws.specs.Readable.{CanBePlaced}
 use Rattle.packet_end.specs.PacketEnd.{PacketEnd}
 use Rattle.line_laws.specs.Line.{Line}
-use Rattle.packet_host.specs.Saying.{cut, say_refusal}
+use Rattle.packet_channel.specs.Cutting.{cut}
+use Rattle.packet_host.specs.Saying.{message, say_refusal}
 use Rattle.packet_host.specs.Host.{after_call, after_request, after_refuse, after_say, after_take, after_expiry}
 use Rattle.packet_host.specs.Host.{refuse_refusal}
 use Rattle.call_records.specs.Book.{Book, sends, closes, takes, releases, all_told}
@@ -30,7 +31,7 @@ sends_all role channel (d ∷ ds) b = sends_all role channel ds (sends role chan
 abbrev pub says : Role → (channel : ℕ) → List ℕ → (qualified delivery : Bool) → PacketEnd → Book → Book
 says role channel octets qualified delivery e b =
     unless_refused (say_refusal e.layer channel octets qualified)
-    (sends_all role channel (cut octets qualified delivery) b) b
+    (sends_all role channel (cut e.layer.flow.size (message octets qualified delivery)) b) b
 
 -- a call that came in and is not answered is cleared
 abbrev pub refuses : Role → (channel : ℕ) → PacketEnd → Book → Book

@@ -81,7 +81,7 @@ typed-host (Host e) b h = tt
 typed-drained : (p : PadState) (b : Book) → PadHolds Dte p b → NodeHolds Dte (drained (Pad p)) b
 typed-drained p b h =
     record {
-      typed = record { book = h.typed.book; read = h.typed.read; unread = h.typed.unread; ports = h.typed.ports; alone = h.typed.alone; calls = h.typed.calls };
+      typed = record { size = h.typed.size; book = h.typed.book; read = h.typed.read; unread = h.typed.unread; ports = h.typed.ports; alone = h.typed.alone; calls = h.typed.calls };
       occasions = h.occasions;
       led = h.led;
       said = h.said;
@@ -91,7 +91,7 @@ typed-drained p b h =
 typed-told : (p : PadState) (b : Book) → HoldsAfter Dte b p → NodeHolds Dte (drained (told Dte (Pad p) b).node) (told Dte (Pad p) b).book
 typed-told p b h =
     record {
-      typed = record { book = h.typed.book; read = h.typed.read; unread = h.typed.unread; ports = h.typed.ports; alone = h.typed.alone; calls = h.typed.calls };
+      typed = record { size = h.typed.size; book = h.typed.book; read = h.typed.read; unread = h.typed.unread; ports = h.typed.ports; alone = h.typed.alone; calls = h.typed.calls };
       occasions = h.occasions;
       led = h.led;
       said = h.said;

@@ -25,3 +25,4 @@ pub mod Due
 mod Rows
 mod PadRows
 pub mod PadRuns
+mod NumbersRun

@@ -47,13 +47,13 @@ pub made-quiet : (d : NewDte) (l : EndParams) → IsQuiet (drained (new_dte d l)
 made-quiet (NewPad params terminals) l = quiet_law.quiet-made-pad (record { line = l; params = params; terminals = terminals })
 made-quiet NewHost l = quiet_law.quiet-made-host (record { role = Dte; line = l })
 
-made-typed : (d : NewDte) (l : EndParams) (dte_node dce_node : ℕ) → (dte_node ≡ dce_node → ⊥) → AreParams l → IsNewDte d
+made-typed : (d : NewDte) (l : EndParams) (dte_node dce_node : ℕ) → (dte_node ≡ dce_node → ⊥) → AreParams l → IsNewDte d l
     → NodeHolds Dte (drained (new_dte d l)) (made_book dte_node dce_node l.channels l.standing)
 made-typed (NewPad params terminals) l dte_node dce_node apart are is =
     let c : PadConfig = record { line = l; params = params; terminals = terminals } in
-    let h = pad_law.made_kept Dte c dte_node dce_node l.channels apart (record { line = are; least = is.0; most = is.1 }) in
+    let h = pad_law.made_kept Dte c dte_node dce_node l.channels apart (record { line = are; least = is.0; most = is.1; size = is.2 }) in
     record {
-      typed = record { book = h.typed.book; read = h.typed.read; unread = h.typed.unread; ports = h.typed.ports; alone = h.typed.alone; calls = h.typed.calls };
+      typed = record { size = h.typed.size; book = h.typed.book; read = h.typed.read; unread = h.typed.unread; ports = h.typed.ports; alone = h.typed.alone; calls = h.typed.calls };
       occasions = h.occasions;
       led = h.led;
       said = h.said;
@@ -91,7 +91,7 @@ kept_made L dte_place dce_place d line l params sent =
     (record { dte = params; dce = params; alike = record { channels = refl; flow = refl; standing = refl } }) (made-end d line, refl)).kept
 
 pub made_lines : (L : LineService) (dte_place dce_place : ℕ) (d : NewDte) (line : EndParams) (l : Flights)
-    → dte_place ≢ dce_place → AreParams line → IsNewDte d → (L.faithful → AreSent L (new_dte d line) (new_dce line) l)
+    → dte_place ≢ dce_place → AreParams line → IsNewDte d line → (L.faithful → AreSent L (new_dte d line) (new_dce line) l)
     → IsLine L (made_line dte_place dce_place d line l)
 made_lines L dte_place dce_place d line l apart params is sent =
     let nodes = book-nodes dte_place dce_place line.channels line.standing in

@@ -43,7 +43,7 @@ use Rattle.network_laws.proofs.Made.{made_lines}
 
 -- ---- frames that are put, of which none is lost
 
-puts_all : (d : Direction) (frames : List (List ℕ)) (f : Flights) → ArePut lossless_service d frames f (all_put d frames f)
+pub puts_all : (d : Direction) (frames : List (List ℕ)) (f : Flights) → ArePut lossless_service d frames f (all_put d frames f)
 puts_all d [] f = refl
 puts_all d (frame ∷ frames) f =
     let mid : Flights = with_flying d (flying d f ++ frame ∷ []) f in (mid, inl (tt, refl), puts_all d frames mid)
@@ -262,8 +262,9 @@ are_params standing =
     let most_polls : 3 ≤ 20 = omega arith in let least_polls : 1 ≤ 3 = omega arith in
     let most_channels : 1 ≤ 32 = omega arith in let least_channels : 1 ≤ 1 = omega arith in
     let most_window : 2 ≤ 7 = omega arith in let least_window : 1 ≤ 2 = omega arith in
+    let most_info : 145 ≤ 1028 = omega arith in
     record {
-      link = record { k_least = least_k; k_most = most_k; n2_least = least_polls; n2_most = most_polls };
+      link = record { k_least = least_k; k_most = most_k; n2_least = least_polls; n2_most = most_polls; info_most = most_info };
       layer = record { channels_least = least_channels; channels_most = most_channels; flow_is = record { window_least = least_window; window_most = most_window; size_is = refl } };
     }
 
@@ -280,7 +281,7 @@ sent standing =
 begins : (standing : Bool) → IsLine lossless_service (first standing)
 begins standing =
     made_lines lossless_service 0 1 new_pad (params standing) (first_frames standing) (λ e. omega (arith, e)) (are_params standing)
-    (let least : 1 ≤ 2 = omega arith in let most : 2 ≤ 16 = omega arith in (least, most)) (λ f. sent standing)
+    (let least : 1 ≤ 2 = omega arith in let most : 2 ≤ 16 = omega arith in (least, most, refl)) (λ f. sent standing)
 
 are_first : (standing : Bool) → Are (first standing)
 are_first standing = record { dte = (let some : 0 < 2 = omega arith in some); dce = tt }

@@ -4,11 +4,12 @@ use Rattle.std.proofs.Common.{◌≡◌, ℕ, Bool, true, false, List, [], ◌�
 use Rattle.std.specs.Prelude.{cond}
 use Rattle.link_timers.specs.declared.role.Role.{Role}
 use Rattle.packet_layer.specs.Traffic.{Taken}
+use Rattle.packet_channel.specs.Cutting.{cut}
 use Rattle.packet_layer.specs.Layer.{request_refusal, front_on, channel_given}
 use Rattle.packet_end.specs.PacketEnd.{PacketEnd}
 use Rattle.packet_host.specs.Host.{call_parts, refuse_refusal, after_call, after_request, after_refuse, after_say}
 use Rattle.packet_host.specs.Host.{after_take}
-use Rattle.packet_host.specs.Saying.{cut, say_refusal}
+use Rattle.packet_host.specs.Saying.{message, say_refusal}
 use Rattle.call_records.specs.Book.{Book}
 use Rattle.call_records.specs.Writes.{Write, all_written}
 use Rattle.call_records.specs.Writes.Write.{Told, Placed, Asked, Said, Took, Cleared, AllClosed}
@@ -89,7 +90,7 @@ uniform (Says channel octets q d) role n =
     let e = end_of n in
     record {
       node = λ b c. refl;
-      writes = Said (say_refusal e.layer channel octets q) channel (cut octets q d)
+      writes = Said (say_refusal e.layer channel octets q) channel (cut e.layer.flow.size (message octets q d))
           ∷ Told (after_say e channel octets q d).notes ∷ [];
       written = λ b. refl;
     }

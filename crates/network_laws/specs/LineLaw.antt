@@ -31,7 +31,7 @@ made_line dte_place dce_place dte line flights = record {
 
 abbrev pub MadeLaw : LineService → Type 0
 MadeLaw L = (dte_place dce_place : ℕ) (dte : NewDte) (line : EndParams) (flights : Flights)
-    → dte_place ≢ dce_place → AreParams line → IsNewDte dte
+    → dte_place ≢ dce_place → AreParams line → IsNewDte dte line
     → (L.faithful → AreSent L (new_dte dte line) (new_dce line) flights)
     → IsLine L (made_line dte_place dce_place dte line flights)
 

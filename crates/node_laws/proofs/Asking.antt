@@ -3,6 +3,7 @@ use Rattle.std.specs.Prelude.{◌≡◌, ℕ, ◌≤◌, List, [], ◌∷◌, le
 use Rattle.std.proofs.Common.{refl, sym, subst, arith}
 use Rattle.link_timers.specs.declared.role.Role.{Role}
 use Rattle.packet_codec.specs.Address.{AreDigits}
+use Rattle.packet_channel.specs.Cutting.{cut}
 use Rattle.packet_layer.specs.Packets.{CallParts, Datum}
 use Rattle.packet_layer.specs.Traffic.{Taken}
 use Rattle.packet_layer.specs.Traffic.Taken.{TakenInterrupt, TakenPacket}
@@ -11,7 +12,7 @@ use Rattle.packet_laws.specs.Readable.{CanBePlaced}
 use Rattle.packet_end.specs.PacketEnd.{PacketEnd}
 use Rattle.line_laws.specs.Line.{Line}
 use Rattle.packet_host.specs.Host.{call_parts, after_call, after_request, after_refuse, after_say, after_take}
-use Rattle.packet_host.specs.Saying.{cut, say_refusal}
+use Rattle.packet_host.specs.Saying.{message, say_refusal}
 use Rattle.call_records.specs.Book.{Book, sends, takes, releases}
 use Rattle.call_records.specs.Carried.{unless_refused, placed_on}
 use Rattle.line_record_laws.specs.Kept.{end_at, coming_to}
@@ -72,7 +73,7 @@ says_keeps s b l role e channel octets qualified delivery kept h k =
     at_end role l e (λ (x : PacketEnd). KeepsBy s role l kept (host_says role x channel octets qualified delivery b)) h
     (λ g. let me : PacketEnd = end_at role l in
     let said : PacketEnd = after_say me channel octets qualified delivery in
-    let ds : List Datum = cut octets qualified delivery in
+    let ds : List Datum = cut me.layer.flow.size (message octets qualified delivery) in
     told_keeps s (unless_refused (say_refusal me.layer channel octets qualified) (all_sent role channel ds b) b) role said l kept (coming_to role l)
     (subst (λ (x : Book). IsKeptAfter s role said (unless_refused (say_refusal me.layer channel octets qualified) x b) kept l) (same_sent role channel ds b)
     (say_kept s b l role channel octets qualified delivery kept g.node.read k)))

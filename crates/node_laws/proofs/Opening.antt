@@ -7,7 +7,8 @@ use Rattle.packet_layer.specs.Layer.{call_refusal, request_refusal, front_on}
 use Rattle.packet_end.specs.PacketEnd.{PacketEnd, begun, after_timer, finished, asked, called, runs_at}
 use Rattle.packet_host.specs.Host as host
 use Rattle.packet_host.specs.Host.{ended, refuse_refusal, let_go, taken_as}
-use Rattle.packet_host.specs.Saying.{cut, queued, say_refusal}
+use Rattle.packet_channel.specs.Cutting.{cut}
+use Rattle.packet_host.specs.Saying.{message, queued, say_refusal}
 use Rattle.x25_pad.specs.Pad as pad
 use Rattle.call_records.specs.Room.{opening_notes}
 use Rattle.line_record_laws.proofs.Opening.{frame_opens, expiry_opens, relink_opens, end_opens, read_kept}
@@ -54,7 +55,8 @@ pub refusal_opens : RefusalOpens
 refusal_opens role e channel b h = user_none (refuse_refusal e channel) (asked e channel (Request.Clearing 0 0)) e h.read
 
 pub saying_opens : SayingOpens
-saying_opens role e channel octets qualified delivery b h = user_none (say_refusal e.layer channel octets qualified) (queued channel (cut octets qualified delivery) e) e h.read
+saying_opens role e channel octets qualified delivery b h =
+    user_none (say_refusal e.layer channel octets qualified) (queued channel (cut e.layer.flow.size (message octets qualified delivery)) e) e h.read
 
 pub taking_opens : TakingOpens
 taking_opens role e channel b h = by (front_on e.layer channel) refl

@@ -16,7 +16,8 @@ use Rattle.packet_layer.specs.Layer.{Layer, unread, call, request, next_packet, 
 use Rattle.packet_end.specs.PacketEnd as end
 use Rattle.packet_end.specs.PacketEnd.{PacketEnd, begun, heeded, after_packet, received, runs_at, after_timer, relinked, relinked_if_due, with_next, offered, all_offered, finished, asked, called}
 use Rattle.packet_host.specs.Host.{ended, unless_refused, refuse_refusal, after_call, after_request, after_refuse, after_say, let_go, taken_as, after_take}
-use Rattle.packet_host.specs.Saying.{queued, cut, say_refusal}
+use Rattle.packet_channel.specs.Cutting.{cut}
+use Rattle.packet_host.specs.Saying.{message, queued, say_refusal}
 use Rattle.line_laws.proofs.Unread.{request_unread, call_unread}
 use Rattle.line_laws.proofs.Layers.{next_silent}
 
@@ -122,9 +123,10 @@ refuses_unread e channel h =
 
 pub says_unread : (e : PacketEnd) (channel : ℕ) (octets : List ℕ) (qualified delivery : Bool) → IsUnread e → IsUnread (after_say e channel octets qualified delivery)
 says_unread e channel octets qualified delivery h =
-    let x : PacketEnd = queued channel (cut octets qualified delivery) e in
+    let ds : List Datum = cut e.layer.flow.size (message octets qualified delivery) in
+    let x : PacketEnd = queued channel ds e in
     unless_unread (say_refusal e.layer channel octets qualified) (ended x) e
-    (ended_unread x (queued_unread channel (cut octets qualified delivery) e h)) h
+    (ended_unread x (queued_unread channel ds e h)) h
 
 let_go_unread : (x : Taken) (channel : ℕ) (e : PacketEnd) → IsUnread e → IsUnread (let_go x channel e)
 let_go_unread (TakenInterrupt octets) channel e h = asked_unread e channel Request.Confirming h

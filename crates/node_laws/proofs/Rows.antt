@@ -184,7 +184,7 @@ pairs_are = refl
 
 are_params : AreParams params
 are_params = record {
-  link = record { k_least = omega arith; k_most = omega arith; n2_least = omega arith; n2_most = omega arith };
+  link = record { k_least = omega arith; k_most = omega arith; n2_least = omega arith; n2_most = omega arith; info_most = omega arith };
   layer = record { channels_least = omega arith; channels_most = omega arith; flow_is = record { window_least = omega arith; window_most = omega arith; size_is = refl } };
 }
 

@@ -123,10 +123,10 @@ abbrev pub accepted_unless : Option Refusal → History → History
 accepted_unless None st = call_accepted st
 accepted_unless (Some r) st = st
 
-abbrev pub requested_history : Role → Channel → Request → History → History
-requested_history role ch Accept st = accepted_unless (refusal role ch Accept) st
-requested_history role ch r st =
-    opened (requested role ch r).owes (grown_unless (refusal role ch r) (λ e. logged ch.traffic r e) st)
+abbrev pub requested_history : Role → Flow → Channel → Request → History → History
+requested_history role flow ch Accept st = accepted_unless (refusal role flow ch Accept) st
+requested_history role flow ch r st =
+    opened (requested role flow ch r).owes (grown_unless (refusal role flow ch r) (λ e. logged ch.traffic r e) st)
 
 abbrev pub heard_history : CallState → Bool → Heard → History → History
 heard_history Transfer false (Wrong diagnostic) st = st
@@ -143,7 +143,7 @@ found_history (Some ch) f st = f ch st
 
 abbrev pub request_history : Layer → ℕ → Request → ℕ → History → History
 request_history l d r c st =
-    if c == d then found_history (channel_of l d) (λ ch s. requested_history l.role ch r s) st else st
+    if c == d then found_history (channel_of l d) (λ ch s. requested_history l.role l.flow ch r s) st else st
 
 abbrev pub call_history : CallParts → Option ℕ → ℕ → History → History
 call_history parts None c st = st

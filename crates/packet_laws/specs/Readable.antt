@@ -27,43 +27,44 @@ AreOctets xs = Every (λ x. x < 256) xs
 abbrev pub value_of : Flow → Packet → PacketValue
 value_of flow p = record { numbering = flow.numbering; channel = p.channel; content = content_of p.body }
 
--- what each logical channel can carry, whatever the numbering, and what the channel of the restart packets can
+-- what each logical channel can carry, whatever the numbering and the size, and what the channel of the restart packets
+-- can
 abbrev pub FitsChannels : Body → Type 0
-FitsChannels b =
-    (numbering : Numbering) (channel : ℕ) → IsLogicalChannel channel → IsContentOn numbering 128 channel (content_of b)
+FitsChannels b = (numbering : Numbering) (size channel : ℕ) → IsLogicalChannel channel
+    → IsContentOn numbering size channel (content_of b)
 
 abbrev pub FitsRestarts : Body → Type 0
-FitsRestarts b = (numbering : Numbering) → IsContentOn numbering 128 0 (content_of b)
+FitsRestarts b = (numbering : Numbering) (size : ℕ) → IsContentOn numbering size 0 (content_of b)
 
 -- what each logical channel of a line with this flow control can carry
 abbrev pub FitsLine : Flow → Body → Type 0
-FitsLine flow b = (channel : ℕ) → IsLogicalChannel channel → IsContentOn flow.numbering 128 channel (content_of b)
+FitsLine flow b = (channel : ℕ) → IsLogicalChannel channel → IsContentOn flow.numbering flow.size channel (content_of b)
 
--- what waits on a channel is short enough
-abbrev pub IsShortDatum : Datum → Type 0
-IsShortDatum d = length d.octets ≤ 128
+-- what waits on a channel is short enough for a line of this size
+abbrev pub IsShortDatum : (size : ℕ) → Datum → Type 0
+IsShortDatum size d = length d.octets ≤ size
 
 abbrev pub IsInterrupt : List ℕ → Type 0
 IsInterrupt octets = (1 ≤ length octets) × (length octets ≤ 32)
 
-pub record TrafficFits (waiting : List Datum) (interrupt : Option (List ℕ)) : Type 0 where
-  pub waiting_fits : Every IsShortDatum waiting
+pub record TrafficFits (size : ℕ) (waiting : List Datum) (interrupt : Option (List ℕ)) : Type 0 where
+  pub waiting_fits : Every (IsShortDatum size) waiting
   pub interrupt_fits : IfAny IsInterrupt interrupt
 
-abbrev pub TrafficReads : Traffic → Type 0
-TrafficReads t = TrafficFits t.waiting t.interrupt_waiting
+abbrev pub TrafficReads : (size : ℕ) → Traffic → Type 0
+TrafficReads size t = TrafficFits size t.waiting t.interrupt_waiting
 
-abbrev pub ChannelReads : Channel → Type 0
-ChannelReads ch = Every FitsChannels ch.owed × TrafficReads ch.traffic
+abbrev pub ChannelReads : (size : ℕ) → Channel → Type 0
+ChannelReads size ch = Every FitsChannels ch.owed × TrafficReads size ch.traffic
 
 -- at most 32 channels, and nothing waits or is owed that could not be read at the other end
-pub record AllRead (channels : List Channel) (owed : List Body) : Type 0 where
+pub record AllRead (size : ℕ) (channels : List Channel) (owed : List Body) : Type 0 where
   pub few : length channels ≤ 32
-  pub channels_read : Every ChannelReads channels
+  pub channels_read : Every (ChannelReads size) channels
   pub owed_read : Every FitsRestarts owed
 
 abbrev pub IsReadable : Layer → Type 0
-IsReadable l = AllRead l.channels l.owed
+IsReadable l = AllRead l.flow.size l.channels l.owed
 
 -- a call that can be placed: a called address, a calling one or none, at most 109 octets of facilities and 16 of user
 -- data

@@ -26,8 +26,9 @@ are_params =
     let most_polls : 3 ≤ 20 = omega arith in let least_polls : 1 ≤ 3 = omega arith in
     let most_channels : 4 ≤ 32 = omega arith in let least_channels : 1 ≤ 4 = omega arith in
     let most_window : 2 ≤ 7 = omega arith in let least_window : 1 ≤ 2 = omega arith in
+    let most_info : 145 ≤ 1028 = omega arith in
     record {
-      link = record { k_least = least_k; k_most = most_k; n2_least = least_polls; n2_most = most_polls };
+      link = record { k_least = least_k; k_most = most_k; n2_least = least_polls; n2_most = most_polls; info_most = most_info };
       layer = record { channels_least = least_channels; channels_most = most_channels; flow_is = record { window_least = least_window; window_most = most_window; size_is = refl } };
     }
 
@@ -137,7 +138,7 @@ empty v = record {
 
 abbrev answer : Config → Answer
 answer config = record {
-  frames = empty config.nodes;
+  frames = record { items = []; room = 0 };
   notes = empty config.nodes;
   text = empty config.nodes;
   outcome = Done;

@@ -6,7 +6,7 @@ use Rattle.std.proofs.lemmas.Bool.{eqb-true}
 use Rattle.std.proofs.lemmas.Option.{none-some}
 use Rattle.packet_end.specs.PacketEnd.{settled}
 use Rattle.switch_joins.specs.declared.channels.SwitchChannel.{SwitchChannel}
-use Rattle.switch_joins.specs.declared.join.Joined.{Joined}
+use Rattle.switch_joins.specs.Joins.{Joined}
 use Rattle.switch_lines.specs.Lines.{SwitchLine, joined_at, places}
 use Rattle.switch_lines.specs.Relay.{relayed_from, places_of, both_legs, legs_at, legs_of, relayed_first}
 use Rattle.switch_lines.specs.Switch.{Switch, with_end, acted, all_begun, may_offer, offering_from, offered_from, lines_first, rounds, finished}

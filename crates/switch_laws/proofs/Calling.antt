@@ -3,6 +3,7 @@ use Rattle.std.proofs.Common.{◌≡◌, ℕ, zero, suc, ◌⊎◌, inl, inr, Bo
 use Rattle.std.specs.Prelude.{slice_get}
 use Rattle.std.proofs.lemmas.Option.{none-some, same_Some}
 use Rattle.link_timers.specs.declared.role.Role.{Role}
+use Rattle.packet_channel.specs.declared.flow.Flow.{Flow}
 use Rattle.packet_codec.specs.Diagnostic.{no_information}
 use Rattle.packet_layer.specs.Packets.{CallParts, Note, Reason}
 use Rattle.packet_layer.specs.Packets.Note.{Incoming, Connected, Closed, WasReset, InterruptConfirmed, Covered}
@@ -15,7 +16,7 @@ use Rattle.address_routes.specs.Routes.{RouteMap, line_for}
 use Rattle.switch_joins.specs.Direction.{Direction, new_direction, releasable, released}
 use Rattle.switch_lines.specs.Causes.{clear_cause, reset_cause, far_diagnostic}
 use Rattle.switch_joins.specs.declared.channels.SwitchChannel.{SwitchChannel}
-use Rattle.switch_joins.specs.declared.join.Joined.{Joined}
+use Rattle.switch_joins.specs.Joins.{Joined}
 use Rattle.switch_lines.specs.Lines.{SwitchLine, same_place, changed, joined_at, with_joined, ask, is_trunk}
 use Rattle.switch_lines.specs.Relay.{freed, kept_anew, covered_on, told_joined, told_of}
 use Rattle.switch_lines.specs.Switch.{Answer, answer, answered, forwarded, place_call, has_any, route_from, heed, heed_all}
@@ -36,17 +37,17 @@ use Rattle.switch_lines.proofs.Places.{joined_kept, joined_asked, joined_apart}
 
 -- ---- a request makes no call
 
-unless_call : (r : Option Refusal) (role : Role) (q : Request) (ch : Channel) → refusal role ch q ≡ r → had_call (owing (unless r (carried_out ch q) ch)).state ≡ true → had_call ch.state ≡ true
-unless_call (Some r) role q ch e h = h
-unless_call None role Accept ch e h = accepts_call role ch.state (not_false _ (not_refused (not (may_accept role ch.state)) _ _ e).0)
-unless_call None role (Clearing cause diagnostic) ch e h = absurd (true≢false (sym h))
-unless_call None role (Resetting cause diagnostic) ch e h = h
-unless_call None role (Sending d) ch e h = h
-unless_call None role (Interrupting octets) ch e h = h
-unless_call None role (Stopping b) ch e h = h
-unless_call None role Taking ch e h = h
-unless_call None role (Releasing n) ch e h = h
-unless_call None role Confirming ch e h = h
+unless_call : (r : Option Refusal) (role : Role) (flow : Flow) (q : Request) (ch : Channel) → refusal role flow ch q ≡ r → had_call (owing (unless r (carried_out ch q) ch)).state ≡ true → had_call ch.state ≡ true
+unless_call (Some r) role flow q ch e h = h
+unless_call None role flow Accept ch e h = accepts_call role ch.state (not_false _ (not_refused (not (may_accept role ch.state)) _ _ e).0)
+unless_call None role flow (Clearing cause diagnostic) ch e h = absurd (true≢false (sym h))
+unless_call None role flow (Resetting cause diagnostic) ch e h = h
+unless_call None role flow (Sending d) ch e h = h
+unless_call None role flow (Interrupting octets) ch e h = h
+unless_call None role flow (Stopping b) ch e h = h
+unless_call None role flow Taking ch e h = h
+unless_call None role flow (Releasing n) ch e h = h
+unless_call None role flow Confirming ch e h = h
 
 -- a clear leaves none
 may_clear_call : (s : CallState) → may_clear s ≡ false → had_call s ≡ false
@@ -78,12 +79,12 @@ pub record AskedShown (q : SwitchChannel) (r : Request) (ls : List SwitchLine) (
   pub layer : Layer
   pub old : Channel
   pub there : shown_at (layers_of ls) q ≡ Some (record { role = layer.role; flow = layer.flow; channel = old })
-  pub is : s.channel ≡ owing (requested layer.role old r)
+  pub is : s.channel ≡ owing (requested layer.role layer.flow old r)
 
 asked_shown : (q : SwitchChannel) (r : Request) (ls : List SwitchLine) (s : Shown) → shown_at (layers_of (ask q r ls)) q ≡ Some s → AskedShown q r ls s
 asked_shown q r ls s e =
     let a = shown_in (λ l. request l q.channel r) q.line q.channel (layers_of ls) s (sym (ap (λ (ys : List Layer). shown_at ys q) (layers_asked q r ls)) ∙ e) in
-    let b = found_here a.0 q.channel (λ ch. requested a.0.role ch r) (channel_of a.0 q.channel) s refl a.1.0 in
+    let b = found_here a.0 q.channel (λ ch. requested a.0.role a.0.flow ch r) (channel_of a.0 q.channel) s refl a.1.0 in
     record {
       layer = a.0;
       old = b.0;
@@ -102,7 +103,7 @@ asked_call q r ls x h = by_place (decided (same_place x q))
         record {
           channel = record { role = a.layer.role; flow = a.layer.flow; channel = a.old };
           there = ap (λ (y : SwitchChannel). shown_at (layers_of ls) y) is ∙ a.there;
-          call = unless_call (refusal a.layer.role a.old r) a.layer.role r a.old refl (ap (λ (ch : Channel). had_call ch.state) (sym a.is) ∙ h.call);
+          call = unless_call (refusal a.layer.role a.layer.flow a.old r) a.layer.role a.layer.flow r a.old refl (ap (λ (ch : Channel). had_call ch.state) (sym a.is) ∙ h.call);
         }
 
 pub cleared_none : (q : SwitchChannel) (cause diagnostic : ℕ) (ls : List SwitchLine) → HasCall (ask q (Clearing cause diagnostic) ls) q → ⊥

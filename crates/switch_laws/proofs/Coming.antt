@@ -13,14 +13,15 @@ use Rattle.packet_laws.specs.History.{Epoch, empty_epoch}
 use Rattle.packet_laws.specs.Readable.{Every}
 use Rattle.address_routes.specs.Routes.{RouteMap}
 use Rattle.switch_joins.specs.Direction.{new_direction, Direction}
+use Rattle.switch_joins.proofs.Turning.{nothing_is}
 use Rattle.switch_joins.specs.declared.channels.SwitchChannel.{SwitchChannel}
-use Rattle.switch_joins.specs.declared.join.Joined.{Joined}
+use Rattle.switch_joins.specs.Joins.{Joined}
 use Rattle.switch_lines.specs.Lines.{SwitchLine, same_place, joined_at, ask}
 use Rattle.switch_lines.specs.Relay.{told, told_of}
 use Rattle.switch_lines.specs.Switch.{heed, heed_all}
 use Rattle.switch_laws.specs.Leg.{Leg, IsLeg, asked, asked_unless, stepped}
 use Rattle.switch_laws.specs.Clause.{Passed, IsDirection, taken_part, sent_part}
-use Rattle.switch_laws.specs.Way.{IsRight}
+use Rattle.switch_laws.specs.Way.{Way, sizes, IsRight}
 use Rattle.switch_laws.specs.Join.{Join, IsJoin}
 use Rattle.switch_laws.specs.Join as join
 use Rattle.switch_laws.specs.Steps.{acts_of_all}
@@ -152,18 +153,22 @@ tells_all routes n c (x ∷ ns) ls w j k i e s =
 -- ---- a call is connected
 
 start_there : (g h : Leg) → IsLeg g → IsLeg h → IsAtStart g → IsAtStart h → g.channel.state ≡ Transfer → h.channel.state ≡ Transfer → IsRight (record { near = g; far = h; kept = new_direction })
-start_there g h ig ih a b s t = record {
-  holds = record {
-    near = ig;
-    far = ih;
-    near_call = s;
-    far_call = t;
-    passed = subst (λ (ns : List Epoch). Passed ns h.before) (sym a.before) (subst (λ (fs : List Epoch). Passed [] fs) (sym b.before) Passed.none);
-    direction = subst (λ (x : Epoch). IsDirection new_direction (taken_part x) (sent_part h.epoch)) (sym a.epoch) (subst (λ (x : Epoch). IsDirection new_direction (taken_part empty_epoch) (sent_part x)) (sym b.epoch) direction_begins);
-    interrupted = ap (λ (u : Traffic). u.interrupt_taken) a.traffic ∙ sym (ap (λ (u : Traffic). interrupt_pending u) b.traffic);
-  };
-  all_released = refl;
-}
+start_there g h ig ih a b s t =
+    let w : Way = record { near = g; far = h; kept = new_direction } in
+    record {
+      holds = record {
+        near = ig;
+        far = ih;
+        near_call = s;
+        far_call = t;
+        passed = subst (λ (ns : List Epoch). Passed (sizes w) ns h.before) (sym a.before) (subst (λ (fs : List Epoch). Passed (sizes w) [] fs) (sym b.before) Passed.none);
+        direction = subst (λ (x : Epoch). IsDirection new_direction (taken_part x) (sent_part h.epoch)) (sym a.epoch) (subst (λ (x : Epoch). IsDirection new_direction (taken_part empty_epoch) (sent_part x)) (sym b.epoch) direction_begins);
+        gathered = nothing_is _;
+        packets = λ e. ap (λ (x : Epoch). x.sent) b.epoch ∙ sym (ap (λ (x : Epoch). x.taken) a.epoch);
+        interrupted = ap (λ (u : Traffic). u.interrupt_taken) a.traffic ∙ sym (ap (λ (u : Traffic). interrupt_pending u) b.traffic);
+      };
+      all_released = refl;
+    }
 
 start_joined : (g h : Leg) → IsLeg g → IsLeg h → IsAtStart g → IsAtStart h → g.channel.state ≡ Transfer → h.channel.state ≡ Transfer → IsJoin (record { a = g; b = h; there = new_direction; back = new_direction })
 start_joined g h ig ih a b s t = record { there = start_there g h ig ih a b s t; back = start_there h g ih ig b a t s }

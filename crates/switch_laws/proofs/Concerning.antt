@@ -2,18 +2,20 @@
 use Rattle.std.proofs.Common.{◌≡◌, ℕ, zero, suc, ◌+◌, ◌&&◌, map, arith, option_map, ◌⊎◌, inl, inr, Bool, true, false, ◌||◌, ◌==◌, if◌then◌else◌, List, [], ◌∷◌, length, Option, Some, None, is_some, refl, sym, ap, subst, ◌∙◌, true≢false}
 use Rattle.std.specs.Prelude.{slice_get}
 use Rattle.std.proofs.lemmas.Bool.{eq-eqb}
+use Rattle.std.proofs.lemmas.Option.{same_Some}
 use Rattle.lapb.specs.Machine.{can_offer}
 use Rattle.packet_layer.specs.Packets.{Note}
 use Rattle.packet_layer.specs.Traffic.{Taken, front}
-use Rattle.packet_layer.specs.Channel.{Channel, Request, Refusal, refusal}
-use Rattle.packet_layer.specs.Layer.{Layer, channel_of, next_packet, refusal_at as refusal_of_channel, front_at as front_of_channel}
+use Rattle.packet_layer.specs.Channel.{Channel, Request}
+use Rattle.packet_layer.specs.Layer.{Layer, channel_of, next_packet, front_at as front_of_channel}
 use Rattle.packet_end.specs.PacketEnd.{PacketEnd, begun, relinked}
 use Rattle.packet_end.proofs.Offering.{no_room, no_packet}
 use Rattle.address_routes.specs.Routes.{RouteMap}
 use Rattle.switch_joins.specs.declared.channels.SwitchChannel.{SwitchChannel}
-use Rattle.switch_joins.specs.declared.join.Joined.{Joined}
-use Rattle.switch_lines.specs.Lines.{SwitchLine, same_place, joined_on, joined_at, front_at, front_of_line, refusal_at, refusal_of_line, places}
-use Rattle.switch_lines.specs.Relay.{request_for, moved_joined, moved_front, moved_unless, relayed, relayed_from, all_relayed, most_moves}
+use Rattle.switch_joins.specs.Joins.{Joined}
+use Rattle.switch_joins.specs.Turning.{Sizes}
+use Rattle.switch_lines.specs.Lines.{SwitchLine, same_place, joined_on, joined_at, front_at, front_of_line, size_of_line, sizes_at, takes_on_channel, takes_on_line, takes_at, places}
+use Rattle.switch_lines.specs.Relay.{requests_for, due_at, moved_joined, moved_front, moved_if, relayed, relayed_from, all_relayed, most_moves}
 use Rattle.switch_lines.specs.Switch.{Switch, acted, all_begun, may_offer, offering_from, offered_from, to_relink, relinked_at, all_relinked, relinks_of}
 use Rattle.switch_laws.specs.Steps.{Happening, does, acts_of_all}
 use Rattle.switch_laws.specs.Steps.Happening.{Relinks}
@@ -26,23 +28,25 @@ use Rattle.switch_laws.specs.Concern.{is_one_of, joined_to, is_concerned, concer
 use Rattle.switch_laws.proofs.Lists.{not_equal, get_map}
 use Rattle.switch_laws.proofs.Rounds.{offers_line, in_turn}
 use Rattle.switch_lines.proofs.Relaying.{relayed_stays}
+use Rattle.switch_lines.proofs.Places.{sizes_same}
+use Rattle.switch_laws.proofs.Places.{some_there, takes_is, size_is}
 use Rattle.switch_laws.proofs.Relaying.{StuckAt, VisitedBy, visited}
 use Rattle.switch_laws.proofs.Staying.{IsOther, acted_beside}
 use Rattle.switch_laws.proofs.Turning.{relinked_effect, acted_right}
 use Rattle.switch_laws.proofs.Keeping.{layers_on_ends, joined_on_ends}
 use Rattle.switch_laws.proofs.Newness.{before_joins}
-use Rattle.switch_laws.proofs.Finishing.{begun_right, happens, none_relinks, all_relinks, offers_from}
+use Rattle.switch_laws.proofs.Finishing.{begun_right, happens, none_relinks, relinks_leave, all_relinks, offers_from}
 use Rattle.switch_joins.proofs.Apart.{decided, place_is}
 
 -- ---- joins that are passed over
 
-unless_stuck : (r : Option Refusal) (t : Taken) (x : SwitchChannel) (j : Joined) (ls : List SwitchLine) → is_some r ≡ true → moved_unless r t x j ls ≡ ls
-unless_stuck None t x j ls e = absurd (true≢false (sym e))
-unless_stuck (Some r) t x j ls e = refl
+if_stuck : (b : Bool) (t : Taken) (x : SwitchChannel) (j : Joined) (ls : List SwitchLine) → b ≡ false → moved_if b t x j ls ≡ ls
+if_stuck true t x j ls e = absurd (true≢false e)
+if_stuck false t x j ls e = refl
 
 front_stuck : (o : Option Taken) (x : SwitchChannel) (j : Joined) (ls : List SwitchLine) → front_at ls x ≡ o → joined_at ls x ≡ Some j → StuckAt ls x → moved_front o x j ls ≡ ls
 front_stuck None x j ls f e s = refl
-front_stuck (Some t) x j ls f e s = unless_stuck (refusal_at ls j.other (request_for t)) t x j ls (s j t e f)
+front_stuck (Some t) x j ls f e s = if_stuck (takes_at ls j.other (due_at ls x j t)) t x j ls (s j t e f)
 
 joined_stuck : (o : Option Joined) (x : SwitchChannel) (ls : List SwitchLine) → joined_at ls x ≡ o → StuckAt ls x → moved_joined o x ls ≡ ls
 joined_stuck None x ls e s = refl
@@ -82,27 +86,14 @@ abbrev pub front_shown : Option Shown → Option Taken
 front_shown None = None
 front_shown (Some s) = front s.channel.traffic
 
-abbrev pub refusal_shown : Request → Option Shown → Option Refusal
-refusal_shown q None = Some Refusal.NoCall
-refusal_shown q (Some s) = refusal s.role s.channel q
-
 channel_front : (l : Layer) (o : Option Channel) → front_of_channel o ≡ front_shown (shown_as l o)
 channel_front l None = refl
 channel_front l (Some ch) = refl
-
-channel_refusal : (l : Layer) (q : Request) (o : Option Channel) → refusal_of_channel l.role q o ≡ refusal_shown q (shown_as l o)
-channel_refusal l q None = refl
-channel_refusal l q (Some ch) = refl
 
 line_front : (ls : List SwitchLine) (n c : ℕ) → front_of_line (slice_get ls n) c ≡ front_shown (shown_on (slice_get (layers_of ls) n) c)
 line_front [] n c = refl
 line_front (l ∷ ls) zero c = channel_front l.end.layer (channel_of l.end.layer c)
 line_front (l ∷ ls) (suc n) c = line_front ls n c
-
-line_refusal : (ls : List SwitchLine) (n c : ℕ) (q : Request) → refusal_of_line (slice_get ls n) c q ≡ refusal_shown q (shown_on (slice_get (layers_of ls) n) c)
-line_refusal [] n c q = refl
-line_refusal (l ∷ ls) zero c q = channel_refusal l.end.layer q (channel_of l.end.layer c)
-line_refusal (l ∷ ls) (suc n) c q = line_refusal ls n c q
 
 abbrev pub SameShown : (ls ms : List SwitchLine) → SwitchChannel → Type 0
 SameShown ls ms p = shown_at (layers_of ms) p ≡ shown_at (layers_of ls) p
@@ -110,8 +101,60 @@ SameShown ls ms p = shown_at (layers_of ms) p ≡ shown_at (layers_of ls) p
 pub same_front : (ls ms : List SwitchLine) (p : SwitchChannel) → SameShown ls ms p → front_at ms p ≡ front_at ls p
 same_front ls ms p e = line_front ms p.line p.channel ∙ (ap (λ (o : Option Shown). front_shown o) e ∙ sym (line_front ls p.line p.channel))
 
-pub same_refusal : (ls ms : List SwitchLine) (p : SwitchChannel) (q : Request) → SameShown ls ms p → refusal_at ms p q ≡ refusal_at ls p q
-same_refusal ls ms p q e = line_refusal ms p.line p.channel q ∙ (ap (λ (o : Option Shown). refusal_shown q o) e ∙ sym (line_refusal ls p.line p.channel q))
+-- the lines of a join have the packet sizes that they had, and a channel takes what it took
+abbrev pub SameSizes : (ls ms : List SwitchLine) → SwitchChannel → SwitchChannel → Type 0
+SameSizes ls ms p q = sizes_at ms p q ≡ sizes_at ls p q
+
+abbrev pub TakesSame : (ls ms : List SwitchLine) → SwitchChannel → Type 0
+TakesSame ls ms p = (qs : List Request) → takes_at ms p qs ≡ takes_at ls p qs
+
+pub same_takes : (ls ms : List SwitchLine) (p : SwitchChannel) (j : Joined) (t : Taken) → SameSizes ls ms p j.other → TakesSame ls ms j.other
+    → takes_at ms j.other (due_at ms p j t) ≡ takes_at ls j.other (due_at ls p j t)
+same_takes ls ms p j t sizes takes =
+    ap (λ (s : Sizes). takes_at ms j.other (requests_for s j.kept.gathered t)) sizes ∙ takes (due_at ls p j t)
+
+-- where its layers are the same
+abbrev takes_on_layer : Option Layer → (channel : ℕ) → List Request → Bool
+takes_on_layer None c qs = false
+takes_on_layer (Some l) c qs = takes_on_channel l.role l.flow (channel_of l c) qs
+
+layer_takes : (ls : List SwitchLine) (n c : ℕ) (qs : List Request) → takes_on_line (slice_get ls n) c qs ≡ takes_on_layer (slice_get (layers_of ls) n) c qs
+layer_takes [] n c qs = refl
+layer_takes (l ∷ ls) zero c qs = refl
+layer_takes (l ∷ ls) (suc n) c qs = layer_takes ls n c qs
+
+pub layers_take : (ls ms : List SwitchLine) (p : SwitchChannel) → layers_of ms ≡ layers_of ls → TakesSame ls ms p
+layers_take ls ms p e qs =
+    layer_takes ms p.line p.channel qs ∙ (ap (λ (ys : List Layer). takes_on_layer (slice_get ys p.line) p.channel qs) e ∙ sym (layer_takes ls p.line p.channel qs))
+
+abbrev size_of_layer : Option Layer → ℕ
+size_of_layer None = 0
+size_of_layer (Some l) = l.flow.size
+
+layer_size : (ls : List SwitchLine) (n : ℕ) → size_of_line (slice_get ls n) ≡ size_of_layer (slice_get (layers_of ls) n)
+layer_size [] n = refl
+layer_size (l ∷ ls) zero = refl
+layer_size (l ∷ ls) (suc n) = layer_size ls n
+
+pub layers_sizes : (ls ms : List SwitchLine) (p q : SwitchChannel) → layers_of ms ≡ layers_of ls → SameSizes ls ms p q
+layers_sizes ls ms p q e = sizes_same ls ms p q (at p.line) (at q.line)
+  where
+    at : (n : ℕ) → size_of_line (slice_get ms n) ≡ size_of_line (slice_get ls n)
+    at n = layer_size ms n ∙ (ap (λ (ys : List Layer). size_of_layer (slice_get ys n)) e ∙ sym (layer_size ls n))
+
+-- where they show the same
+pub shown_takes : (ls ms : List SwitchLine) (p : SwitchChannel) → is_some (shown_at (layers_of ls) p) ≡ true → SameShown ls ms p → TakesSame ls ms p
+shown_takes ls ms p there e qs =
+    let s = some_there (shown_at (layers_of ls) p) there in
+    takes_is ms p.line p.channel qs s.0 (e ∙ s.1) ∙ sym (takes_is ls p.line p.channel qs s.0 s.1)
+
+shown_size : (ls ms : List SwitchLine) (p : SwitchChannel) → is_some (shown_at (layers_of ls) p) ≡ true → SameShown ls ms p → size_of_line (slice_get ms p.line) ≡ size_of_line (slice_get ls p.line)
+shown_size ls ms p there e =
+    let s = some_there (shown_at (layers_of ls) p) there in
+    size_is ms p.line p.channel s.0 (e ∙ s.1) ∙ sym (size_is ls p.line p.channel s.0 s.1)
+
+pub shown_sizes : (ls ms : List SwitchLine) (p q : SwitchChannel) → is_some (shown_at (layers_of ls) p) ≡ true → is_some (shown_at (layers_of ls) q) ≡ true → SameShown ls ms p → SameShown ls ms q → SameSizes ls ms p q
+shown_sizes ls ms p q p_there q_there here there = sizes_same ls ms p q (shown_size ls ms p p_there here) (shown_size ls ms q q_there there)
 
 -- ---- links that are set up anew
 
@@ -186,8 +229,11 @@ event_but n f s w v i k all p j t away e g =
     let shown_q : SameShown s.lines rs old.other =
     relinks_beside (length ms) (to_relink ms) s.routes ms v refl k old.other back (beside.stays old.other back two) there.1 to_p.1
     ∙ (beside.shown old.other back two ∙ ap (λ (ys : List Layer). shown_at ys old.other) begun_) in
-    ap (λ (q : SwitchChannel). is_some (refusal_at rs q (request_for t))) (sym was.other)
-    ∙ (ap (λ (o : Option Refusal). is_some o) (same_refusal s.lines rs old.other (request_for t) shown_q)
+    let p_there = ap (λ (ys : List Layer). is_some (shown_at ys p)) (sym begun_) ∙ pair.there in
+    let q_there = ap (λ (ys : List Layer). is_some (shown_at ys old.other)) (sym begun_) ∙ (i.joined old.other back pair.joined).there in
+    let same : j ≡ old = same_Some j old (sym e ∙ relinks_leave (length ms) (to_relink ms) s.routes ms v refl k p old (beside.stays p old one) off.0.1 there.1) in
+    ap (λ (y : Joined). takes_at rs y.other (due_at rs p y t)) same
+    ∙ (same_takes s.lines rs p old t (shown_sizes s.lines rs p old.other p_there q_there shown_p shown_q) (shown_takes s.lines rs old.other q_there shown_q)
     ∙ all p old t was.joined (sym (same_front s.lines rs p shown_p) ∙ g))
 
 pub before_right : (n : ℕ) (f : PacketEnd → PacketEnd) (s : Switch) (v : World) → IsSwitch (acted s.routes n f (all_begun s.lines)) v
@@ -245,10 +291,11 @@ offered_but ls all p j t away e g =
     let ms = map offers_line ls in
     let lines = offering_from 0 ls in
     let both = neither_one lines ms p j e away in
-    let here = same_line ls ms p (not_offering 0 p.line p.line ls (omega arith) both.0) in
-    let there = same_line ls ms j.other (not_offering 0 j.other.line j.other.line ls (omega arith) both.1) in
-    ap (λ (o : Option Refusal). is_some o) (same_refusal ls ms j.other (request_for t) there)
-    ∙ all p j t (sym (joined_offered ls p.line p.channel) ∙ e) (sym (same_front ls ms p here) ∙ g)
+    let line_p = not_offering 0 p.line p.line ls (omega arith) both.0 in
+    let line_q = not_offering 0 j.other.line j.other.line ls (omega arith) both.1 in
+    let sizes = sizes_same ls ms p j.other (ap (λ (o : Option SwitchLine). size_of_line o) line_p) (ap (λ (o : Option SwitchLine). size_of_line o) line_q) in
+    same_takes ls ms p j t sizes (λ qs. ap (λ (o : Option SwitchLine). takes_on_line o j.other.channel qs) line_q)
+    ∙ all p j t (sym (joined_offered ls p.line p.channel) ∙ e) (sym (same_front ls ms p (same_line ls ms p line_p)) ∙ g)
 
 pub offers : (ls : List SwitchLine) (w : World) → IsSwitch ls w → HasRelayedAll ls
     → all_relayed (offered_from (length ls) 0 ls) ≡ relayed_on (offering_from 0 ls) (offered_from (length ls) 0 ls)

@@ -3,7 +3,10 @@ use Rattle.std.proofs.Common.{◌≡◌, ℕ, zero, suc, ◌+◌, ◌-◌, ◌<�
 use Rattle.epochs.specs.Item.{Item, items_of, all_items}
 use Rattle.epochs.proofs.Prefixes.{all_items-append}
 use Rattle.packet_layer.specs.Packets.{Datum}
-use Rattle.switch_joins.specs.Direction.{Direction, new_direction, one_more, carried, covered_by, releasable, unreleasable, released}
+use Rattle.switch_joins.specs.Turning.{Sizes, Gathered, Turn, turned, items_gathered}
+use Rattle.switch_joins.specs.Direction.{Direction, new_direction, more_sent, carried, covered_by, releasable, unreleasable, released}
+use Rattle.switch_joins.proofs.Turning.{turned_items, turned_delivery}
+use Rattle.switch_laws.proofs.Sequences.{turned_only}
 use Rattle.switch_laws.specs.Clause.{Handled, packets_of, made_of, Turned, AreTurned, TakenPart, SentPart, Carries, AreCovered, needs, IsDirection}
 
 -- ---- packets that were handled
@@ -24,25 +27,28 @@ made_length : (xs ys : List Handled) → length (made_of (xs ++ ys)) ≡ length 
 made_length xs ys = ap (λ (ds : List Datum). length ds) (made_append xs ys) ∙ length-append (made_of xs) (made_of ys)
 
 -- no item is lost, and none is made
-turned_items : (before : List Item) (hs : List Handled) (after : List Item) → AreTurned before hs after → before ++ all_items (packets_of hs) ≡ all_items (made_of hs) ++ after
-turned_items before [] after t = append-nil before ∙ t
-turned_items before (h ∷ hs) after t =
+handled_items : (before : List Item) (hs : List Handled) (after : List Item) → AreTurned before hs after → before ++ all_items (packets_of hs) ≡ all_items (made_of hs) ++ after
+handled_items before [] after t = append-nil before ∙ t
+handled_items before (h ∷ hs) after t =
     sym (append_assoc before (items_of h.packet) (all_items (packets_of hs))) ∙ ap (λ is. is ++ all_items (packets_of hs)) t.1.items
-    ∙ append_assoc (all_items h.made) t.0 (all_items (packets_of hs)) ∙ ap (λ is. all_items h.made ++ is) (turned_items t.0 hs after t.2)
+    ∙ append_assoc (all_items h.made) t.0 (all_items (packets_of hs)) ∙ ap (λ is. all_items h.made ++ is) (handled_items t.0 hs after t.2)
     ∙ sym (append_assoc (all_items h.made) (all_items (made_of hs)) after) ∙ ap (λ is. is ++ after) (sym (all_items-append h.made (made_of hs)))
 
 pub carried_items : (n : TakenPart) (f : SentPart) (left : List Item) → Carries n f left → all_items n.packets ≡ all_items f.packets ++ left
 carried_items n f left c =
-    ap (λ (ds : List Datum). all_items ds) (sym c.taken) ∙ turned_items [] (c.out ++ c.kept) left c.turned ∙ ap (λ (ds : List Datum). all_items ds ++ left) c.made
+    ap (λ (ds : List Datum). all_items ds) (sym c.taken) ∙ handled_items [] (c.out ++ c.kept) left c.turned ∙ ap (λ (ds : List Datum). all_items ds ++ left) c.made
 
 turned_more : (before : List Item) (hs : List Handled) (h : Handled) (between after : List Item) → AreTurned before hs between → Turned between h after → AreTurned before (hs ++ h ∷ []) after
 turned_more before [] h between after e t = (after, subst (λ (is : List Item). Turned is h after) (sym e) t, refl)
 turned_more before (x ∷ hs) h between after e t = (e.0, e.1, turned_more e.0 hs h between after e.2 t)
 
-itself : (d : Datum) → Turned [] (record { packet = d; made = d ∷ [] }) []
-itself d = record {
-  items = sym (append-nil (items_of d)) ∙ sym (append-nil (items_of d ++ []));
-  delivery = λ e. (refl, record { front = []; last = d; parts = refl; delivery = e });
+-- what a packet makes due has its items, and D if it has
+turns : (sizes : Sizes) (g : Gathered) (d : Datum)
+    → Turned (items_gathered g) (record { packet = d; made = (turned sizes g d).made }) (items_gathered (turned sizes g d).left)
+turns sizes g d = record {
+  items = turned_items sizes g d;
+  delivery = λ e. let ends = turned_delivery sizes g d e in (ends.0, record { front = ends.1; last = ends.2; parts = ends.3; delivery = ends.4 });
+  no_other = turned_only sizes g d;
 }
 
 taken_length : (n : TakenPart) (f : SentPart) (left : List Item) → (c : Carries n f left) → length c.out + length c.kept ≡ length n.packets
@@ -92,8 +98,9 @@ covered_append c i (x ∷ xs) ys a b =
 
 pub direction_begins : IsDirection new_direction (record { packets = []; interrupts = []; released = 0 }) (record { packets = []; interrupts = []; covered = 0 })
 direction_begins = record {
-  carries = record { out = []; kept = []; taken = refl; made = refl; turned = refl; interrupts = refl; released = refl; covered = tt; packets = refl };
+  carries = record { out = []; kept = []; taken = refl; made = refl; turned = refl; interrupts = refl; released = refl; covered = tt };
   outstanding = refl;
+  octet = omega arith;
   held = refl;
 }
 
@@ -104,8 +111,9 @@ pub direction_interrupts : (octets : List ℕ) (v : Direction) (n : TakenPart) (
 direction_interrupts octets v n f i =
     let k = i.carries in
     record {
-      carries = record { out = k.out; kept = k.kept; taken = k.taken; made = k.made; turned = k.turned; interrupts = ap (λ (l : List (List ℕ)). l ++ octets ∷ []) k.interrupts; released = k.released; covered = k.covered; packets = k.packets };
+      carries = record { out = k.out; kept = k.kept; taken = k.taken; made = k.made; turned = k.turned; interrupts = ap (λ (l : List (List ℕ)). l ++ octets ∷ []) k.interrupts; released = k.released; covered = k.covered };
       outstanding = i.outstanding;
+      octet = i.octet;
       held = i.held;
     }
 
@@ -116,52 +124,64 @@ kept_whole zero (h ∷ hs) le = absurd (omega arith)
 kept_whole (suc n) [] le = refl
 kept_whole (suc n) (h ∷ hs) le = ap (λ ks. h ∷ ks) (kept_whole n hs (omega arith))
 
-carried_whole : (delivery : Bool) (v : Direction) → length v.held < 32 → v.outstanding < 255 →
-    carried delivery v ≡ record { held = v.held ++ (if delivery then v.outstanding + 1 else 0) ∷ []; outstanding = v.outstanding + 1 }
-carried_whole delivery v few less =
-    let more : one_more v.outstanding ≡ v.outstanding + 1 = omega arith in
-    let size = length-append v.held ((if delivery then one_more v.outstanding else 0) ∷ []) in
-    ap (λ (hs : List ℕ). record { held = hs; outstanding = one_more v.outstanding })
-    (kept_whole 32 (v.held ++ (if delivery then one_more v.outstanding else 0) ∷ []) (omega arith))
-    ∙ ap (λ (n : ℕ). record { held = v.held ++ (if delivery then n else 0) ∷ []; outstanding = n }) more
+carried_whole : (delivery : Bool) (turn : Turn) (v : Direction) → length v.held < 32 → v.outstanding + length turn.made ≤ 255 →
+    carried delivery turn v
+    ≡ record {
+      held = v.held ++ (if delivery then v.outstanding + length turn.made else 0) ∷ [];
+      outstanding = v.outstanding + length turn.made;
+      gathered = turn.left;
+    }
+carried_whole delivery turn v few room =
+    let after = more_sent (length turn.made) v.outstanding in
+    let more : after ≡ v.outstanding + length turn.made = omega (arith, room) in
+    let size = length-append v.held ((if delivery then after else 0) ∷ []) in
+    ap (λ (hs : List ℕ). record { held = hs; outstanding = after; gathered = turn.left })
+    (kept_whole 32 (v.held ++ (if delivery then after else 0) ∷ []) (omega arith))
+    ∙ ap (λ (n : ℕ). record { held = v.held ++ (if delivery then n else 0) ∷ []; outstanding = n; gathered = turn.left }) more
 
-carries_more : (d : Datum) (v : Direction) (n : TakenPart) (f : SentPart) → IsDirection v n f
-    → IsDirection (record { held = v.held ++ (if d.delivery then v.outstanding + 1 else 0) ∷ []; outstanding = v.outstanding + 1 })
-    (record n { packets = n.packets ++ d ∷ [] }) (record f { packets = f.packets ++ d ∷ [] })
-carries_more d v n f i =
+carries_more : (d : Datum) (turn : Turn) (v : Direction) (n : TakenPart) (f : SentPart) → v.outstanding + length turn.made ≤ 255
+    → Turned (items_gathered v.gathered) (record { packet = d; made = turn.made }) (items_gathered turn.left) → IsDirection v n f
+    → IsDirection (record {
+      held = v.held ++ (if d.delivery then v.outstanding + length turn.made else 0) ∷ [];
+      outstanding = v.outstanding + length turn.made;
+      gathered = turn.left;
+    }) (record n { packets = n.packets ++ d ∷ [] }) (record f { packets = f.packets ++ turn.made })
+carries_more d turn v n f room t i =
     let k = i.carries in
-    let h : Handled = record { packet = d; made = d ∷ [] } in
-    let more = length-append f.packets (d ∷ []) in
+    let h : Handled = record { packet = d; made = turn.made } in
+    let more = length-append f.packets turn.made in
     let sent : length (made_of k.out) + length (made_of k.kept) ≡ length f.packets = sym (made_length k.out k.kept) ∙ ap (λ (l : List Datum). length l) k.made in
     let left = i.outstanding in
-    let place : v.outstanding + 1 ≡ length (made_of k.out) + length (made_of k.kept) + 1 - f.covered = omega arith in
+    let place : v.outstanding + length turn.made ≡ length (made_of k.out) + length (made_of k.kept) + length turn.made - f.covered = omega arith in
     let whole : (k.out ++ k.kept) ++ h ∷ [] ≡ k.out ++ (k.kept ++ h ∷ []) = append_assoc k.out k.kept (h ∷ []) in
     record {
       carries = record {
         out = k.out;
         kept = k.kept ++ h ∷ [];
         taken = ap packets_of (sym whole) ∙ packets_append (k.out ++ k.kept) (h ∷ []) ∙ ap (λ (l : List Datum). l ++ d ∷ []) k.taken;
-        made = ap made_of (sym whole) ∙ made_append (k.out ++ k.kept) (h ∷ []) ∙ ap (λ (l : List Datum). l ++ d ∷ []) k.made;
-        turned = subst (λ (hs : List Handled). AreTurned [] hs []) whole (turned_more [] (k.out ++ k.kept) h [] [] k.turned (itself d));
+        made = ap made_of (sym whole) ∙ made_append (k.out ++ k.kept) (h ∷ []) ∙ ap₂ (λ (l ds : List Datum). l ++ ds) k.made (append-nil turn.made);
+        turned = subst (λ (hs : List Handled). AreTurned [] hs (items_gathered turn.left)) whole
+            (turned_more [] (k.out ++ k.kept) h (items_gathered v.gathered) (items_gathered turn.left) k.turned t);
         interrupts = k.interrupts;
         released = k.released;
         covered = k.covered;
-        packets = ap (λ (l : List Datum). l ++ d ∷ []) k.packets;
       };
       outstanding = omega arith;
+      octet = room;
       held = ap₂ (λ (hs : List ℕ) (p : ℕ). hs ++ (if d.delivery then p else 0) ∷ []) i.held place ∙ sym (needs_append f.covered (length (made_of k.out)) k.kept (h ∷ []));
     }
 
-pub direction_carries : (d : Datum) (v : Direction) (n : TakenPart) (f : SentPart) → length n.packets < n.released + 32
-    → length f.packets < f.covered + 255 → IsDirection v n f
-    → IsDirection (carried d.delivery v) (record n { packets = n.packets ++ d ∷ [] }) (record f { packets = f.packets ++ d ∷ [] })
-direction_carries d v n f few less i =
+pub direction_carries : (sizes : Sizes) (d : Datum) (v : Direction) (n : TakenPart) (f : SentPart) → length n.packets < n.released + 32
+    → v.outstanding + length (turned sizes v.gathered d).made ≤ 255 → IsDirection v n f
+    → IsDirection (carried d.delivery (turned sizes v.gathered d) v) (record n { packets = n.packets ++ d ∷ [] })
+    (record f { packets = f.packets ++ (turned sizes v.gathered d).made })
+direction_carries sizes d v n f few room i =
+    let turn = turned sizes v.gathered d in
     let size : length v.held ≡ length i.carries.kept = ap (λ (hs : List ℕ). length hs) i.held ∙ needs_length f.covered (length (made_of i.carries.out)) i.carries.kept in
-    let whole = taken_length n f [] i.carries in
+    let whole = taken_length n f (items_gathered v.gathered) i.carries in
     let out = i.carries.released in
-    let left = i.outstanding in
-    subst (λ (w : Direction). IsDirection w (record n { packets = n.packets ++ d ∷ [] }) (record f { packets = f.packets ++ d ∷ [] }))
-    (sym (carried_whole d.delivery v (omega arith) (omega arith))) (carries_more d v n f i)
+    subst (λ (w : Direction). IsDirection w (record n { packets = n.packets ++ d ∷ [] }) (record f { packets = f.packets ++ turn.made }))
+    (sym (carried_whole d.delivery turn v (omega arith) room)) (carries_more d turn v n f room (turns sizes v.gathered d) i)
 
 -- ---- covered
 
@@ -171,8 +191,9 @@ direction_covered more v n f le i =
     let k = i.carries in
     let left = i.outstanding in
     record {
-      carries = record { out = k.out; kept = k.kept; taken = k.taken; made = k.made; turned = k.turned; interrupts = k.interrupts; released = k.released; covered = covered_more more f.covered 0 k.out k.covered; packets = k.packets };
+      carries = record { out = k.out; kept = k.kept; taken = k.taken; made = k.made; turned = k.turned; interrupts = k.interrupts; released = k.released; covered = covered_more more f.covered 0 k.out k.covered };
       outstanding = omega arith;
+      octet = let octet = i.octet in omega arith;
       held = ap (λ (l : List ℕ). map (λ h. h - more) l) i.held ∙ needs_covered more f.covered (length (made_of k.out)) k.kept;
     }
 
@@ -238,13 +259,13 @@ direction_released v n f i =
         kept = s.rest;
         taken = ap packets_of whole ∙ k.taken;
         made = ap made_of whole ∙ k.made;
-        turned = subst (λ (hs : List Handled). AreTurned [] hs []) (sym whole) k.turned;
+        turned = subst (λ (hs : List Handled). AreTurned [] hs (items_gathered v.gathered)) (sym whole) k.turned;
         interrupts = k.interrupts;
         released = omega arith;
         covered = covered_append f.covered 0 k.out s.first k.covered (subst (λ (j : ℕ). AreCovered f.covered j s.first) first s.covered);
-        packets = k.packets;
       };
       outstanding = i.outstanding;
+      octet = i.octet;
       held = s.left ∙ ap (λ (j : ℕ). needs f.covered j s.rest) next;
     }
 
@@ -253,7 +274,7 @@ pub releasable_within : (v : Direction) (n : TakenPart) (f : SentPart) → IsDir
 releasable_within v n f i =
     let k = (direction_released v n f i).carries in
     let out : n.released + releasable v.held ≡ length k.out = k.released in
-    let whole = taken_length (record n { released = n.released + releasable v.held }) f [] k in
+    let whole = taken_length (record n { released = n.released + releasable v.held }) f (items_gathered v.gathered) k in
     omega arith
 
 pub releasable_none : (hs : List ℕ) → releasable (unreleasable hs) ≡ 0

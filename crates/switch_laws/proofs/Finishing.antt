@@ -5,14 +5,15 @@ use Rattle.std.specs.List.{list_any}
 use Rattle.std.proofs.lemmas.Option.{none-some, same_Some}
 use Rattle.lapb.specs.Machine.{can_offer}
 use Rattle.packet_layer.specs.Packets.{Packet}
-use Rattle.packet_layer.specs.Channel.{Channel, CallState, had_call, Request, Refusal, may_accept, waits_for_call}
+use Rattle.packet_layer.specs.Channel.{Channel, CallState, had_call, Request, may_accept, waits_for_call}
 use Rattle.packet_layer.specs.Layer.{Layer, next_packet, channel_of, unread, link_down}
 use Rattle.packet_end.specs.PacketEnd.{PacketEnd, begun, relinked, with_next, offered, all_offered, settled, elapsed}
 use Rattle.address_routes.specs.Routes.{RouteMap}
 use Rattle.switch_joins.specs.declared.channels.SwitchChannel.{SwitchChannel}
-use Rattle.switch_joins.specs.declared.join.Joined.{Joined}
-use Rattle.switch_lines.specs.Lines.{SwitchLine, changed, flat, nth_joined, joined_on, front_of_line, refusal_of_line}
-use Rattle.switch_lines.specs.Relay.{request_for, relayed_first}
+use Rattle.switch_joins.specs.Joins.{Joined}
+use Rattle.switch_joins.specs.Turning.{Sizes}
+use Rattle.switch_lines.specs.Lines.{SwitchLine, changed, flat, nth_joined, joined_on, front_of_line, size_of_line, takes_on_line, takes_at}
+use Rattle.switch_lines.specs.Relay.{requests_for, due_at, relayed_first}
 use Rattle.switch_lines.specs.Switch.{Switch, with_end, acted, to_relink, relinked_at, all_relinked, relinks_of}
 use Rattle.switch_lines.specs.Switch.{all_offered_on, may_offer, offering_from, offered_from, lines_first, rounds}
 use Rattle.switch_lines.specs.Switch.{finished, all_begun, restart, without_joins}
@@ -46,7 +47,7 @@ use Rattle.switch_laws.proofs.Coming.{becomes_same, becomes_then, becomes_by}
 use Rattle.switch_laws.proofs.Effects.{steady, leg_on_line, leg_elsewhere}
 use Rattle.switch_laws.proofs.Turning.{changed_at, changed_none, changed_twice, changed_same, got_changed, layer_got, layers_changed, acted_right, relinked_effect, does_effect}
 use Rattle.switch_joins.proofs.Apart.{decided}
-use Rattle.switch_lines.proofs.Places.{joined_kept}
+use Rattle.switch_lines.proofs.Places.{joined_kept, sizes_same}
 
 -- ---- a packet goes to a link
 
@@ -282,10 +283,15 @@ settled_front [] n c = refl
 settled_front (l ∷ ls) zero c = refl
 settled_front (l ∷ ls) (suc n) c = settled_front ls n c
 
-settled_refusal : (ls : List SwitchLine) (n c : ℕ) (q : Request) → refusal_of_line (slice_get (map (with_end settled) ls) n) c q ≡ refusal_of_line (slice_get ls n) c q
-settled_refusal [] n c q = refl
-settled_refusal (l ∷ ls) zero c q = refl
-settled_refusal (l ∷ ls) (suc n) c q = settled_refusal ls n c q
+settled_takes : (ls : List SwitchLine) (n c : ℕ) (qs : List Request) → takes_on_line (slice_get (map (with_end settled) ls) n) c qs ≡ takes_on_line (slice_get ls n) c qs
+settled_takes [] n c qs = refl
+settled_takes (l ∷ ls) zero c qs = refl
+settled_takes (l ∷ ls) (suc n) c qs = settled_takes ls n c qs
+
+settled_size : (ls : List SwitchLine) (n : ℕ) → size_of_line (slice_get (map (with_end settled) ls) n) ≡ size_of_line (slice_get ls n)
+settled_size [] n = refl
+settled_size (l ∷ ls) zero = refl
+settled_size (l ∷ ls) (suc n) = settled_size ls n
 
 pub finished_stuck : (routes : RouteMap) (n : ℕ) (ls : List SwitchLine) (w : World) → IsSwitch ls w → HasRelayedAll (finished routes n ls)
 finished_stuck routes n ls w i p j t e f =
@@ -294,7 +300,9 @@ finished_stuck routes n ls w i p j t e f =
     let rs = all_relinked (length ls) routes ls in
     let ks = rounds (7 * length rs) first rs in
     let stuck = rounds_stuck (7 * length rs) first rs a.world a.right in
-    ap (λ (o : Option Refusal). is_some o) (settled_refusal ks j.other.line j.other.channel (request_for t))
+    let ms = map (with_end settled) ks in
+    let sizes = sizes_same ks ms p j.other (settled_size ks p.line) (settled_size ks j.other.line) in
+    ap (λ (s : Sizes). takes_at ms j.other (requests_for s j.kept.gathered t)) sizes ∙ settled_takes ks j.other.line j.other.channel (due_at ks p j t)
     ∙ stuck p j t (sym (joined_on_ends settled ks p.line p.channel) ∙ e) (sym (settled_front ks p.line p.channel) ∙ f)
 
 -- ---- events

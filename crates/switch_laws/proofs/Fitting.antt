@@ -8,12 +8,14 @@ use Rattle.link_timers.specs.declared.timers.TimerId.{TimerId}
 use Rattle.link_timers.specs.declared.timers.TimerId.TheVariants.{T1}
 use Rattle.lapb.specs.declared.note.Note as link_note
 use Rattle.lapb.specs.declared.note.Note.TheVariants.{Nothing, Up, Down}
+use Rattle.lapb.specs.declared.link.LinkParams.{LinkParams}
 use Rattle.lapb.specs.Machine as link
-use Rattle.lapb.specs.Machine.{Octets, Link}
+use Rattle.lapb.specs.Machine.{Octets, Link, params_anew}
 use Rattle.lapb.specs.Octets as link_octets
 use Rattle.line_end.proofs.Calls.{made_queue}
 use Rattle.line_end.proofs.Steps.{Keeps, sends_on_octets, sends_relink, sends_on_t1, settles, offer_fits}
 use Rattle.packet_end.specs.End as line
+use Rattle.packet_end.specs.Params.{link_params}
 use Rattle.packet_layer.specs.Layer.{next_packet}
 use Rattle.packet_layer.specs.Events.{written_packet}
 use Rattle.packet_end.specs.PacketEnd.{PacketEnd, heeded, after_packet, expired, runs_at, offered, all_offered, with_next, begun, settled}
@@ -163,12 +165,11 @@ none_kept k xs e = omega (arith, e)
 pub restarted_fit : (ls : List SwitchLine) → AreFit (links_of (map without_joins ls))
 restarted_fit [] = tt
 restarted_fit (l ∷ ls) =
-    (none_kept _ (line.restarted l.end.line).link.queue (made_queue l.end.line.link.role l.end.line.link.k l.end.line.link.n2), restarted_fit ls)
+    (none_kept _ (line.restarted l.end.line).link.queue (made_queue l.end.line.link.role (params_anew l.end.line.link)), restarted_fit ls)
 
-made_fits : (role : Role) (standing : Bool) (k n2 : ℕ) → Fits (line.made role k n2 standing).link
-made_fits role true k n2 = omega arith
-made_fits role false k n2 = none_kept _ (line.made role k n2 false).link.queue (made_queue role k n2)
+made_fits : (role : Role) (p : LinkParams) → Fits (line.made role p).link
+made_fits role p = none_kept _ (line.made role p).link.queue (made_queue role p)
 
 pub made_fit : (lines : List SwitchLineConfig) → AreFit (links_of (map made_line lines))
 made_fit [] = tt
-made_fit (c ∷ cs) = (made_fits c.role c.params.standing c.params.k c.params.n2, made_fit cs)
+made_fit (c ∷ cs) = (made_fits c.role (link_params c.params), made_fit cs)

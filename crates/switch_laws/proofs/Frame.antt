@@ -7,7 +7,7 @@ use Rattle.packet_layer.specs.Layer.{Layer}
 use Rattle.packet_laws.specs.Readable.{Every}
 use Rattle.switch_joins.specs.Direction.{Direction}
 use Rattle.switch_joins.specs.declared.channels.SwitchChannel.{SwitchChannel}
-use Rattle.switch_joins.specs.declared.join.Joined.{Joined}
+use Rattle.switch_joins.specs.Joins.{Joined}
 use Rattle.switch_lines.specs.Lines.{SwitchLine, same_place, joined_at, with_joined, ask}
 use Rattle.switch_laws.specs.Leg.{Leg}
 use Rattle.switch_laws.specs.World.{World, IsWorld, shown_at, layers_of, Act, MayHappen, MayAsk, after_act, after_acts, world_after, world_after_all}

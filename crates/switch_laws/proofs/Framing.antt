@@ -7,6 +7,7 @@ use Rattle.std.proofs.lemmas.List.{length-map}
 use Rattle.std.proofs.lemmas.Option.{none-some, same_Some}
 use Rattle.link_timers.specs.declared.role.Role.{Role}
 use Rattle.link_timers.specs.declared.role.Role.TheVariants.{Dte, Dce}
+use Rattle.packet_channel.specs.declared.flow.Flow.{Flow}
 use Rattle.link_timers.specs.declared.timers.TimerId.{TimerId}
 use Rattle.link_timers.specs.declared.timers.TimerId.TheVariants.{T1}
 use Rattle.frame_codec.specs.Spelling.{spelling}
@@ -32,9 +33,9 @@ use Rattle.packet_laws.proofs.Line.Lines.{nth_other}
 use Rattle.packet_end.specs.PacketEnd.{PacketEnd, heeded, after_packet, expired, runs_at, relinked, settled, all_offered}
 use Rattle.address_routes.specs.Routes.{RouteMap}
 use Rattle.switch_joins.specs.declared.channels.SwitchChannel.{SwitchChannel}
-use Rattle.switch_joins.specs.declared.join.Joined.{Joined}
-use Rattle.switch_lines.specs.Lines.{SwitchLine, changed, joined_at, front_at, refusal_at}
-use Rattle.switch_lines.specs.Relay.{request_for, moved, relayed, places_first, relayed_first, most_moves}
+use Rattle.switch_joins.specs.Joins.{Joined}
+use Rattle.switch_lines.specs.Lines.{SwitchLine, changed, joined_at, front_at, sizes_at, takes_at}
+use Rattle.switch_lines.specs.Relay.{carried_by, due_at, moved, relayed, places_first, relayed_first, most_moves}
 use Rattle.switch_lines.specs.Switch.{Switch, with_end, without_notes, notes_of, quieted, acted, all_begun, to_relink, relinked_at, all_relinked, may_offer, offering_from, offered_from, lines_first, rounds, finished, frames_on, timer_runs, on_expiry}
 use Rattle.switch_laws.specs.World.{World, Act, layers_of, layer_after, after_act, after_acts}
 use Rattle.switch_laws.specs.World.Act.{Comes, Expires, GoesUp, GoesDown, Calls, Gives, Reads}
@@ -43,7 +44,7 @@ use Rattle.switch_laws.specs.Events.{SwitchHolds}
 use Rattle.switch_laws.specs.Steps.{Happening, does, Step, lines_after, on_line, acts_of_all, happening_acts}
 use Rattle.switch_laws.specs.Steps.Happening.{Brings, RunsOut, Relinks}
 use Rattle.switch_laws.specs.Steps.Step.{Asks, Places, Keeps, Happens, Offers, Begins, Settles, Elapses}
-use Rattle.switch_laws.specs.EventSteps.{moved_unless_steps, moved_front_steps, moved_joined_steps, relayed_steps, relayed_from_steps, relayed_first_steps, heed_all_steps, acted_steps, relinked_steps, all_relinked_steps, offered_steps, rounds_steps, finished_steps, event_steps}
+use Rattle.switch_laws.specs.EventSteps.{asks_steps, freed_steps, moved_if_steps, moved_front_steps, moved_joined_steps, relayed_steps, relayed_from_steps, relayed_first_steps, heed_all_steps, acted_steps, relinked_steps, all_relinked_steps, offered_steps, rounds_steps, finished_steps, event_steps}
 use Rattle.packet_end.specs.Sending.{answer_frames, expiry_frames, relink_frames, last_frames}
 use Rattle.packet_end.proofs.Sending.{answer_few, expiry_few, timer_few, relink_few, all_offered_frames}
 use Rattle.switch_laws.specs.Sent.{happening_frames, frames_at, step_frames, all_frames, AreAllSent, SentLaw}
@@ -110,13 +111,17 @@ asking_silent (Begins ∷ more) h = absurd h.0
 asking_silent (Settles ∷ more) h = absurd h.0
 asking_silent (Elapses ticks ∷ more) h = absurd h.0
 
-unless_silent : (r : Option channel.Refusal) (t : Taken) (p : SwitchChannel) (j : Joined) → Every IsSilent (moved_unless_steps r t p j)
-unless_silent None t p j = (tt, (tt, (tt, (tt, tt))))
-unless_silent (Some r) t p j = tt
+asks_silent : (p : SwitchChannel) (qs : List Request) (more : List Step) → Every IsSilent more → Every IsSilent (asks_steps p qs ++ more)
+asks_silent p [] more h = h
+asks_silent p (q ∷ qs) more h = (tt, asks_silent p qs more h)
+
+if_silent : (b : Bool) (t : Taken) (p : SwitchChannel) (j : Joined) (ls : List SwitchLine) → Every IsSilent (moved_if_steps b t p j ls)
+if_silent true t p j ls = (tt, asks_silent j.other (due_at ls p j t) (freed_steps p j (carried_by (sizes_at ls p j.other) t j.kept)) (tt, (tt, tt)))
+if_silent false t p j ls = tt
 
 front_silent : (o : Option Taken) (p : SwitchChannel) (j : Joined) (ls : List SwitchLine) → Every IsSilent (moved_front_steps o p j ls)
 front_silent None p j ls = tt
-front_silent (Some t) p j ls = unless_silent (refusal_at ls j.other (request_for t)) t p j
+front_silent (Some t) p j ls = if_silent (takes_at ls j.other (due_at ls p j t)) t p j ls
 
 joined_silent : (o : Option Joined) (p : SwitchChannel) (ls : List SwitchLine) → Every IsSilent (moved_joined_steps o p ls)
 joined_silent None p ls = tt
@@ -269,20 +274,20 @@ goes_down : (l : Layer) → IsDown (unread (link_down l))
 goes_down l = record { phase = refl; asks_not = refl; closed = λ c ch e. closed_channels l.channels c ch e }
 
 -- all that is asked of a channel without a call is refused
-refuses : (role : Role) (q : Request) → requested role closed_channel q ≡ quiet closed_channel
-refuses role Accept = refuses_accept role
+refuses : (role : Role) (flow : Flow) (q : Request) → requested role flow closed_channel q ≡ quiet closed_channel
+refuses role flow Accept = refuses_accept role
   where
-    refuses_accept : (role : Role) → requested role closed_channel Accept ≡ quiet closed_channel
+    refuses_accept : (role : Role) → requested role flow closed_channel Accept ≡ quiet closed_channel
     refuses_accept Dte = refl
     refuses_accept Dce = refl
-refuses role (Clearing cause diagnostic) = refl
-refuses role (Resetting cause diagnostic) = refl
-refuses role (Sending d) = refl
-refuses role (Interrupting octets) = refl
-refuses role (Stopping b) = refl
-refuses role Taking = refl
-refuses role (Releasing n) = refl
-refuses role Confirming = refl
+refuses role flow (Clearing cause diagnostic) = refl
+refuses role flow (Resetting cause diagnostic) = refl
+refuses role flow (Sending d) = refl
+refuses role flow (Interrupting octets) = refl
+refuses role flow (Stopping b) = refl
+refuses role flow Taking = refl
+refuses role flow (Releasing n) = refl
+refuses role flow Confirming = refl
 
 set_is : (chs : List Channel) (i : ℕ) (x ch : Channel) → slice_get (set chs i x) i ≡ Some ch → ch ≡ x
 set_is [] i x ch e = absurd (none-some ch e)
@@ -300,11 +305,11 @@ quiet_down l d h = record { phase = h.phase; asks_not = h.asks_not; closed = λ 
     by_channel c ch e (inl t) = nth_is l.channels d closed_channel ch (ap (λ (k : ℕ). nth_channel (with_nth l.channels d closed_channel) k) (sym (eqb-true c d t)) ∙ e)
     by_channel c ch e (inr f) = h.closed c ch (sym (nth_other l.channels c d closed_channel (not_equal c d f)) ∙ e)
 
-found_down : (l : Layer) (d : ℕ) (q : Request) (o : Option Channel) → channel_of l d ≡ o → IsDown l → IsDown (on_found l d (λ ch. requested l.role ch q) o)
+found_down : (l : Layer) (d : ℕ) (q : Request) (o : Option Channel) → channel_of l d ≡ o → IsDown l → IsDown (on_found l d (λ ch. requested l.role l.flow ch q) o)
 found_down l d q None e h = h
 found_down l d q (Some ch) e h =
     subst (λ (st : channel.Step). IsDown (after_step l d st))
-    (sym (ap (λ (x : Channel). requested l.role x q) (h.closed d ch e) ∙ refuses l.role q)) (quiet_down l d h)
+    (sym (ap (λ (x : Channel). requested l.role l.flow x q) (h.closed d ch e) ∙ refuses l.role l.flow q)) (quiet_down l d h)
 
 none_given : (l : Layer) (parts : CallParts) (phase : Phase) → phase ≡ NoSession → placed_on l parts (channel_given l phase) ≡ l
 none_given l parts NoSession e = refl

@@ -9,13 +9,15 @@ use Rattle.link_timers.specs.declared.role.Role.{Role}
 use Rattle.link_timers.specs.declared.timers.TimerId.{TimerId}
 use Rattle.lapb.specs.declared.phase.Phase.{Phase}
 use Rattle.lapb.specs.declared.phase.Phase.TheVariants as phase
+use Rattle.lapb.specs.declared.link.LinkParams.{LinkParams}
 use Rattle.lapb.specs.Machine as link
 use Rattle.lapb.specs.Machine.{Octets, Link, can_offer, sendable, send_all, settle_in}
 use Rattle.packet_channel.specs.declared.flow.Flow.{Flow}
 use Rattle.packet_end.specs.End as line
 use Rattle.packet_end.specs.End.{End}
+use Rattle.packet_end.specs.Params.{link_params}
 use Rattle.packet_layer.specs.Packets.{Packet}
-use Rattle.packet_layer.specs.Channel.{Refusal, Channel, closed_channel, had_call}
+use Rattle.packet_layer.specs.Channel.{Channel, closed_channel, had_call}
 use Rattle.packet_layer.specs.Layer.{Layer, channel_of, nth_channel, standing_channels, start_phase, next_in}
 use Rattle.packet_layer.specs.Layer.{next_packet}
 use Rattle.packet_laws.specs.History.{empty_epoch}
@@ -23,10 +25,10 @@ use Rattle.packet_end.specs.PacketEnd.{PacketEnd, HasOfferedAll, all_offered, se
 use Rattle.packet_end.specs.PacketEnd.{without_first_frame}
 use Rattle.address_routes.specs.Routes.{RouteMap}
 use Rattle.switch_joins.specs.declared.channels.SwitchChannel.{SwitchChannel}
-use Rattle.switch_joins.specs.declared.join.Joined.{Joined}
+use Rattle.switch_joins.specs.Joins.{Joined}
 use Rattle.switch_lines.specs.declared.config.SwitchLineConfig.{SwitchLineConfig}
 use Rattle.switch_lines.specs.Lines.{SwitchLine, changed, flat, nth_joined, joined_on, joined_at}
-use Rattle.switch_lines.specs.Relay.{request_for, relayed_first}
+use Rattle.switch_lines.specs.Relay.{relayed_first}
 use Rattle.switch_lines.specs.Making.{IsConfig, IsLineConfig, made, made_line}
 use Rattle.switch_lines.specs.Switch.{Switch, with_end, acted, all_begun, all_relinked, all_offered_on, finished}
 use Rattle.switch_lines.specs.Switch.{may_offer, offering_from, offered_from, lines_first, rounds, timer_runs, on_expiry, on_timer}
@@ -54,7 +56,7 @@ use Rattle.switch_laws.proofs.Offered.{does_k, event_offered}
 use Rattle.switch_laws.proofs.Keeping.{ends_keep, layers_on_ends, joined_on_ends}
 use Rattle.switch_lines.proofs.Relinking.{ends_ask, same_asking}
 use Rattle.switch_laws.proofs.Relinking.{finished_end}
-use Rattle.switch_laws.proofs.Concerning.{same_front, same_refusal}
+use Rattle.switch_laws.proofs.Concerning.{same_front, same_takes, layers_sizes, layers_take}
 use Rattle.switch_laws.proofs.Coming.{begins_right}
 use Rattle.switch_laws.proofs.Finishing.{turns, event_right, event_stuck, event_calls, restarted_joined}
 use Rattle.switch_laws.proofs.Fitting.{fit_list, fit_each, all_fit, same_fit, event_fits, restarted_fit, made_fit}
@@ -120,8 +122,7 @@ finished_ks routes n ls =
 restarted_ks : (ls : List SwitchLine) → ks (lines_of (map without_joins ls)) ≡ ks (lines_of ls)
 restarted_ks [] = refl
 restarted_ks (l ∷ ls) =
-    ap₂ (λ (k : ℕ) (more : List ℕ). k ∷ more) (relink_keeps_k (link.new l.end.line.link.role l.end.line.link.k
-    l.end.line.link.n2 false)) (restarted_ks ls)
+    ap₂ (λ (k : ℕ) (more : List ℕ). k ∷ more) (relink_keeps_k (link.remade l.end.line.link)) (restarted_ks ls)
 
 -- ---- an end of which the layer and the link stay
 
@@ -161,8 +162,7 @@ steady_calls n f ls same all x h =
 still_relayed : (ls ms : List SwitchLine) → layers_of ms ≡ layers_of ls →
     ((x : SwitchChannel) → joined_at ms x ≡ joined_at ls x) → HasRelayedAll ls → HasRelayedAll ms
 still_relayed ls ms same joined_ all p j t e f =
-    ap (λ (o : Option Refusal). is_some o) (same_refusal ls ms j.other (request_for t)
-    (ap (λ (ys : List Layer). shown_at ys j.other) same))
+    same_takes ls ms p j t (layers_sizes ls ms p j.other same) (layers_take ls ms j.other same)
     ∙ all p j t (sym (joined_ p) ∙ e) (sym (same_front ls ms p (ap (λ (ys : List Layer). shown_at ys p) same)) ∙ f)
 
 -- ---- no link takes a packet
@@ -431,15 +431,18 @@ new_joined [] n c = refl
 new_joined (x ∷ xs) zero c = none_new x.params.channels c
 new_joined (x ∷ xs) (suc n) c = new_joined xs n c
 
-new_k : (role : Role) (k n2 : ℕ) (standing : Bool) → (line.made role k n2 standing).link.k ≡ k
-new_k role k n2 true = refl
-new_k role k n2 false = relink_keeps_k (link.new role k n2 false)
+new_k : (role : Role) (p : LinkParams) → (line.made role p).link.k ≡ p.k
+new_k role p = by p.standing
+  where
+    by : (standing : Bool) → (line.started_unless standing (line.untouched role p)).link.k ≡ p.k
+    by true = refl
+    by false = relink_keeps_k (link.new role p)
 
 new_links : (lines : List SwitchLineConfig) → AreConfigs lines → HaveSmallLinks (map made_line lines)
 new_links [] are n l e = absurd (none-some l e)
 new_links (x ∷ xs) are zero l e =
     subst (λ (y : SwitchLine). y.end.line.link.k ≤ 7) (same_Some (made_line x) l e)
-    (subst (λ (k : ℕ). k ≤ 7) (sym (new_k x.role x.params.k x.params.n2 x.params.standing)) (are 0 x refl).params.link.k_most)
+    (subst (λ (k : ℕ). k ≤ 7) (sym (new_k x.role (link_params x.params))) (are 0 x refl).params.link.k_most)
 new_links (x ∷ xs) are (suc n) l e = new_links xs (λ m y f. are (suc m) y f) n l e
 
 unready : (standing : Bool) (l : Layer) → standing ≡ false → (next_in (start_phase standing) false l).packet ≡ None

@@ -67,6 +67,8 @@ covers_some n u j clear k f i =
       far_call = h.far_call;
       passed = h.passed;
       direction = direction_covered n j.there (taken_part j.a.epoch) (sent_part j.b.epoch) (covered_within j.b.flow u (record j.b.epoch { covered = j.b.epoch.covered + n }) k) h.direction;
+      gathered = h.gathered;
+      packets = h.packets;
       interrupted = h.interrupted ∙ sym f.pending;
     } in
     let right = freed_right w holds in
@@ -124,6 +126,8 @@ confirms_interrupt j clear k sent i =
       far_call = h.far_call;
       passed = h.passed;
       direction = h.direction;
+      gathered = h.gathered;
+      packets = h.packets;
       interrupted = sym (ap (λ (q : Option (List ℕ)). is_some q || false) none);
     } in
     subst (λ (x : Leg). IsJoin (record (b_confirmed j) { a = x })) (sym (asked_as Confirming j.a (confirming_allowed j.a h.near_call))) (record {

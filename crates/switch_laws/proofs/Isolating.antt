@@ -7,7 +7,7 @@ use Rattle.std.proofs.lemmas.Option.{none-some, same_Some, slice_get_within}
 use Rattle.lapb.specs.Machine.{Link, can_offer}
 use Rattle.packet_layer.specs.Packets.{Body}
 use Rattle.packet_layer.specs.Traffic.{Taken}
-use Rattle.packet_layer.specs.Channel.{Channel, Request, Refusal, requested}
+use Rattle.packet_layer.specs.Channel.{Channel, Request, requested}
 use Rattle.packet_layer.specs.Channel.Request.{Taking, Releasing}
 use Rattle.packet_layer.specs.Layer.{Layer, Phase, Next, ChannelNext, channel_of, with_nth, next_of, next_number, serve, serve_found, packet_of, next_restart, next_in, next_packet}
 use Rattle.packet_layer.specs.Layer.Phase.{NoSession, OwnRestart, PacketReady}
@@ -18,9 +18,9 @@ use Rattle.packet_end.specs.PacketEnd.{PacketEnd, offered, with_next, HasOffered
 use Rattle.packet_end.proofs.Offering.{no_room}
 use Rattle.switch_joins.specs.Direction.{releasable, released}
 use Rattle.switch_joins.specs.declared.channels.SwitchChannel.{SwitchChannel}
-use Rattle.switch_joins.specs.declared.join.Joined.{Joined}
-use Rattle.switch_lines.specs.Lines.{SwitchLine, same_place, joined_at, with_joined, ask, front_at, refusal_at}
-use Rattle.switch_lines.specs.Relay.{carried_by, request_for, moved, moved_unless, moved_front, moved_joined, relayed, relayed_from, places_first, relayed_first, most_moves}
+use Rattle.switch_joins.specs.Joins.{Joined}
+use Rattle.switch_lines.specs.Lines.{SwitchLine, same_place, joined_at, with_joined, ask, ask_all, front_at, sizes_at, takes_at}
+use Rattle.switch_lines.specs.Relay.{carried_by, due_at, moved, moved_if, moved_front, moved_joined, relayed, relayed_from, places_first, relayed_first, most_moves}
 use Rattle.switch_lines.specs.Switch.{may_offer, to_relink, raised, offering_from, offered_from, rounds}
 use Rattle.switch_laws.specs.World.{World, Shown, shown_as, shown_on, shown_at, layers_of}
 use Rattle.switch_laws.specs.Joined.{IsSwitch}
@@ -28,7 +28,7 @@ use Rattle.switch_laws.proofs.Lists.{same_as, map_unchanged}
 use Rattle.switch_laws.proofs.Rounds.{lines_of, first_lines, from_lines, offers_line, offers_all, any_may}
 use Rattle.switch_laws.proofs.Relaying.{StuckAt, visited}
 use Rattle.switch_laws.proofs.Staying.{stay_moved, asked_beside, joined_beside}
-use Rattle.switch_laws.proofs.Concerning.{SameShown, same_front, same_refusal, stuck_stays, joined_offered}
+use Rattle.switch_laws.proofs.Concerning.{SameShown, SameSizes, TakesSame, same_front, same_takes, shown_sizes, shown_takes, stuck_stays, joined_offered}
 use Rattle.switch_laws.proofs.Finishing.{offers_from}
 use Rattle.switch_laws.proofs.Offered.{HaveOfferedAll, none_may}
 use Rattle.switch_laws.proofs.Owing.{found_phase, phase_of}
@@ -167,7 +167,7 @@ abbrev pub phases_of : List SwitchLine → List Phase
 phases_of ls = map (λ l. l.end.layer.phase) ls
 
 asked_phases : (p : SwitchChannel) (q : Request) (ls : List SwitchLine) → phases_of (ask p q ls) ≡ phases_of ls
-asked_phases p q ls = map_unchanged (λ l. l.end.layer.phase) _ p.line ls (λ l. found_phase l.end.layer p.channel (λ ch. requested l.end.layer.role ch q) (channel_of l.end.layer p.channel))
+asked_phases p q ls = map_unchanged (λ l. l.end.layer.phase) _ p.line ls (λ l. found_phase l.end.layer p.channel (λ ch. requested l.end.layer.role l.end.layer.flow ch q) (channel_of l.end.layer p.channel))
 
 joined_phases : (p : SwitchChannel) (o : Option Joined) (ls : List SwitchLine) → phases_of (with_joined p o ls) ≡ phases_of ls
 joined_phases p o ls = map_unchanged (λ l. l.end.layer.phase) _ p.line ls (λ l. refl)
@@ -190,20 +190,25 @@ asked_before p q r ls e = record { shown = asked_beside q r ls p e; phases = ask
 joined_before : (p q : SwitchChannel) (o : Option Joined) (ls : List SwitchLine) → same_place p q ≡ false → Before p ls (with_joined q o ls)
 joined_before p q o ls e = record { shown = joined_beside q o ls p; phases = joined_phases q o ls; joined = joined_apart q o p ls e }
 
-unless_before : (p x : SwitchChannel) (r : Option Refusal) (t : Taken) (i : Joined) (ls : List SwitchLine) → same_place p x ≡ false → same_place p i.other ≡ false → Before p ls (moved_unless r t x i ls)
-unless_before p x (Some r) t i ls here there = nothing_moved p ls
-unless_before p x None t i ls here there =
+asks_before : (p q : SwitchChannel) (rs : List Request) (ls : List SwitchLine) → same_place p q ≡ false → Before p ls (ask_all q rs ls)
+asks_before p q [] ls e = nothing_moved p ls
+asks_before p q (r ∷ rs) ls e = before_then p ls (ask q r ls) _ (asked_before p q r ls e) (asks_before p q rs (ask q r ls) e)
+
+if_before : (p x : SwitchChannel) (b : Bool) (t : Taken) (i : Joined) (ls : List SwitchLine) → same_place p x ≡ false → same_place p i.other ≡ false → Before p ls (moved_if b t x i ls)
+if_before p x false t i ls here there = nothing_moved p ls
+if_before p x true t i ls here there =
+    let qs = due_at ls x i t in
     let l1 = ask x Taking ls in
-    let l2 = ask i.other (request_for t) l1 in
-    let v = carried_by t i.kept in
+    let l2 = ask_all i.other qs l1 in
+    let v = carried_by (sizes_at ls x i.other) t i.kept in
     let l3 = ask x (Releasing (releasable v.held)) l2 in
     before_then p ls l1 _ (asked_before p x Taking ls here)
-    (before_then p l1 l2 _ (asked_before p i.other (request_for t) l1 there)
+    (before_then p l1 l2 _ (asks_before p i.other qs l1 there)
     (before_then p l2 l3 _ (asked_before p x (Releasing (releasable v.held)) l2 here) (joined_before p x (Some (record i { kept = released v })) l3 here)))
 
 front_before : (p x : SwitchChannel) (o : Option Taken) (i : Joined) (ls : List SwitchLine) → same_place p x ≡ false → same_place p i.other ≡ false → Before p ls (moved_front o x i ls)
 front_before p x None i ls here there = nothing_moved p ls
-front_before p x (Some t) i ls here there = unless_before p x (refusal_at ls i.other (request_for t)) t i ls here there
+front_before p x (Some t) i ls here there = if_before p x (takes_at ls i.other (due_at ls x i t)) t i ls here there
 
 -- the channel x is joined with none, or with another one than p
 abbrev Apart : SwitchChannel → SwitchChannel → List SwitchLine → Type 0
@@ -235,6 +240,8 @@ pub record Waits (ls : List SwitchLine) (p : SwitchChannel) (j k : Joined) : Typ
   pub here : joined_at ls p ≡ Some j
   pub there : joined_at ls j.other ≡ Some k
   pub back : k.other ≡ p
+  pub p_there : is_some (shown_at (layers_of ls) p) ≡ true
+  pub q_there : is_some (shown_at (layers_of ls) j.other) ≡ true
   pub stuck_here : StuckAt ls p
   pub stuck_there : StuckAt ls j.other
 
@@ -246,19 +253,20 @@ pub record IsLeft (ls : List SwitchLine) (p : SwitchChannel) (j k : Joined) (ms 
   pub mute_here : IsMute ms p
   pub mute_there : IsMute ms j.other
 
-same_stuck : (ls ms : List SwitchLine) (p : SwitchChannel) (j : Joined) → joined_at ls p ≡ Some j → joined_at ms p ≡ Some j → SameShown ls ms p → SameShown ls ms j.other → StuckAt ls p → StuckAt ms p
-same_stuck ls ms p j old new here there s i t e f =
+same_stuck : (ls ms : List SwitchLine) (p : SwitchChannel) (j : Joined) → joined_at ls p ≡ Some j → joined_at ms p ≡ Some j → SameSizes ls ms p j.other → TakesSame ls ms j.other → SameShown ls ms p → StuckAt ls p → StuckAt ms p
+same_stuck ls ms p j old new sizes takes here s i t e f =
     let same : i ≡ j = same_Some i j (sym e ∙ new) in
-    ap (λ (y : Joined). is_some (refusal_at ms y.other (request_for t))) same
-    ∙ (ap (λ (o : Option Refusal). is_some o) (same_refusal ls ms j.other (request_for t) there)
-    ∙ s j t old (sym (same_front ls ms p here) ∙ f))
+    ap (λ (y : Joined). takes_at ms y.other (due_at ms p y t)) same
+    ∙ (same_takes ls ms p j t sizes takes ∙ s j t old (sym (same_front ls ms p here) ∙ f))
 
 stuck_first : (ls ms : List SwitchLine) (p : SwitchChannel) (j k : Joined) → Waits ls p j k → IsLeft ls p j k ms → StuckAt ms p
-stuck_first ls ms p j k u h = same_stuck ls ms p j u.here h.here h.shown_here h.shown_there u.stuck_here
+stuck_first ls ms p j k u h = same_stuck ls ms p j u.here h.here (shown_sizes ls ms p j.other u.p_there u.q_there h.shown_here h.shown_there) (shown_takes ls ms j.other u.q_there h.shown_there) h.shown_here u.stuck_here
 
 stuck_second : (ls ms : List SwitchLine) (p : SwitchChannel) (j k : Joined) → Waits ls p j k → IsLeft ls p j k ms → StuckAt ms j.other
 stuck_second ls ms p j k u h =
-    same_stuck ls ms j.other k u.there h.there h.shown_there (subst (λ (x : SwitchChannel). SameShown ls ms x) (sym u.back) h.shown_here) u.stuck_there
+    let back : SameShown ls ms k.other = subst (λ (x : SwitchChannel). SameShown ls ms x) (sym u.back) h.shown_here in
+    let p_there : is_some (shown_at (layers_of ls) k.other) ≡ true = ap (λ (x : SwitchChannel). is_some (shown_at (layers_of ls) x)) u.back ∙ u.p_there in
+    same_stuck ls ms j.other k u.there h.there (shown_sizes ls ms j.other k.other u.q_there p_there h.shown_there back) (shown_takes ls ms k.other p_there back) h.shown_there u.stuck_there
 
 -- a joined channel that is none of its two is joined with none of them
 other_apart : (ls ms : List SwitchLine) (w : World) (p x : SwitchChannel) (j k : Joined) → IsSwitch ms w → joined_at ms p ≡ Some j → same_place x j.other ≡ false → Apart p x ms

@@ -12,7 +12,7 @@ use Rattle.packet_layer.specs.Layer.{Layer, channel_of, closing_notes}
 use Rattle.packet_laws.specs.History.{Epoch}
 use Rattle.address_routes.specs.Routes.{RouteMap}
 use Rattle.switch_joins.specs.declared.channels.SwitchChannel.{SwitchChannel}
-use Rattle.switch_joins.specs.declared.join.Joined.{Joined}
+use Rattle.switch_joins.specs.Joins.{Joined}
 use Rattle.switch_lines.specs.Lines.{SwitchLine, same_place, changed, joined_at}
 use Rattle.switch_lines.specs.Switch.{heed_all, with_end, notes_of, without_notes, quieted, acted}
 use Rattle.switch_laws.specs.Leg.{Leg, stepped}

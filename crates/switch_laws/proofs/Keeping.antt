@@ -8,7 +8,7 @@ use Rattle.lapb.specs.Machine.{can_offer}
 use Rattle.packet_channel.specs.declared.flow.Flow.{Flow}
 use Rattle.packet_layer.specs.Packets.{Body, Packet}
 use Rattle.packet_layer.specs.Traffic.{Taken, says}
-use Rattle.packet_layer.specs.Channel.{CallState, Channel, ChannelNext, Refusal, had_call, has_flow, next_of, next_owed, moved as with_traffic}
+use Rattle.packet_layer.specs.Channel.{CallState, Channel, ChannelNext, Request, had_call, has_flow, next_of, next_owed, moved as with_traffic}
 use Rattle.packet_layer.specs.Channel.Request.{Taking}
 use Rattle.packet_layer.specs.Layer.{Layer, Phase, Next, channel_of, with_nth, nth_channel, next_packet, next_in, next_restart, next_number, serve, serve_found, packet_of}
 use Rattle.packet_layer.specs.Layer.Phase.{NoSession, OwnRestart, PacketReady}
@@ -16,9 +16,9 @@ use Rattle.packet_laws.proofs.Line.Lines.{nth_same, nth_other}
 use Rattle.packet_end.specs.PacketEnd.{PacketEnd, relinked, with_next, offered, all_offered, settled}
 use Rattle.address_routes.specs.Routes.{RouteMap}
 use Rattle.switch_joins.specs.declared.channels.SwitchChannel.{SwitchChannel}
-use Rattle.switch_joins.specs.declared.join.Joined.{Joined}
-use Rattle.switch_lines.specs.Lines.{SwitchLine, changed, joined_on, joined_at, ask, front_at, refusal_at}
-use Rattle.switch_lines.specs.Relay.{carried_by, request_for, moved, moved_unless, moved_front, moved_joined, relayed, relayed_from, places_first, relayed_first, most_moves}
+use Rattle.switch_joins.specs.Joins.{Joined}
+use Rattle.switch_lines.specs.Lines.{SwitchLine, changed, joined_on, joined_at, ask, ask_all, front_at, sizes_at, takes_at}
+use Rattle.switch_lines.specs.Relay.{carried_by, due_at, moved, moved_if, moved_front, moved_joined, relayed, relayed_from, places_first, relayed_first, most_moves}
 use Rattle.switch_lines.specs.Switch.{with_end, acted, to_relink, relinked_at, all_relinked, may_offer, offering_from, offered_from, rounds, all_offered_on, lines_first, finished}
 use Rattle.switch_laws.specs.Steps.Happening.{Relinks}
 use Rattle.switch_laws.specs.World.{World, Shown, shown_as, shown_on, shown_at, layers_of}
@@ -35,16 +35,21 @@ use Rattle.switch_lines.proofs.Places.{get_unchanged, joined_kept}
 
 -- ---- relays
 
-unless_keeps : (r : Option Refusal) (t : Taken) (q : SwitchChannel) (k : Joined) (ls : List SwitchLine) → Keeps ls (moved_unless r t q k ls)
-unless_keeps (Some r) t q k ls = keeps_same ls
-unless_keeps None t q k ls =
+asks_keep : (q : SwitchChannel) (rs : List Request) (ls : List SwitchLine) → Keeps ls (ask_all q rs ls)
+asks_keep q [] ls = keeps_same ls
+asks_keep q (r ∷ rs) ls = keeps_then ls (ask q r ls) _ (keeps_asked q r ls) (asks_keep q rs (ask q r ls))
+
+if_keeps : (b : Bool) (t : Taken) (q : SwitchChannel) (k : Joined) (ls : List SwitchLine) → Keeps ls (moved_if b t q k ls)
+if_keeps false t q k ls = keeps_same ls
+if_keeps true t q k ls =
     let l1 = ask q Taking ls in
-    let l2 = ask k.other (request_for t) l1 in
-    keeps_then ls l1 _ (keeps_asked q Taking ls) (keeps_then l1 l2 _ (keeps_asked k.other (request_for t) l1) (keeps_freed q k (carried_by t k.kept) l2))
+    let l2 = ask_all k.other (due_at ls q k t) l1 in
+    keeps_then ls l1 _ (keeps_asked q Taking ls)
+    (keeps_then l1 l2 _ (asks_keep k.other (due_at ls q k t) l1) (keeps_freed q k (carried_by (sizes_at ls q k.other) t k.kept) l2))
 
 front_keeps : (o : Option Taken) (q : SwitchChannel) (k : Joined) (ls : List SwitchLine) → Keeps ls (moved_front o q k ls)
 front_keeps None q k ls = keeps_same ls
-front_keeps (Some t) q k ls = unless_keeps (refusal_at ls k.other (request_for t)) t q k ls
+front_keeps (Some t) q k ls = if_keeps (takes_at ls k.other (due_at ls q k t)) t q k ls
 
 moved_keeps : (o : Option Joined) (q : SwitchChannel) (ls : List SwitchLine) → Keeps ls (moved_joined o q ls)
 moved_keeps None q ls = keeps_same ls

@@ -102,9 +102,9 @@ asked_unless_shown None q g = sym (opened_shown (carried_out g.channel q).owes _
 
 line_asks : (l : Layer) (d c : ℕ) (q : Request) (g : Leg) → MayAsk q → LineAgrees l c g → LineAgrees (request l d q) c (if c == d then asked q g else g)
 line_asks l d c q g m i =
-    one_channel l d c (λ ch. requested l.role ch q) (channel_of l d) (λ x. asked q x) g refl
+    one_channel l d c (λ ch. requested l.role l.flow ch q) (channel_of l d) (λ x. asked q x) g refl
     (λ ch same here a. record {
-      shown = ap (λ (t : Shown). record t { channel = owing (requested t.role t.channel q) }) a.shown ∙ asked_unless_shown (refusal g.role g.channel q) q g;
+      shown = ap (λ (t : Shown). record t { channel = owing (requested t.role t.flow t.channel q) }) a.shown ∙ asked_unless_shown (refusal g.role g.flow g.channel q) q g;
       leg = asked_good q g m a.leg;
     }) i
 

@@ -6,20 +6,20 @@ use Rattle.std.specs.List.{list_any}
 use Rattle.packet_layer.specs.Packets.{CallParts, Note}
 use Rattle.packet_layer.specs.Packets.Note.{Incoming, Connected, Closed, WasReset, InterruptConfirmed, Covered}
 use Rattle.packet_layer.specs.Traffic.{Taken}
-use Rattle.packet_layer.specs.Channel.{Refusal}
-use Rattle.packet_layer.specs.Channel.Request.{Resetting}
+use Rattle.packet_layer.specs.Channel.{Request}
+use Rattle.packet_layer.specs.Channel.Request.{Taking, Resetting}
 use Rattle.address_routes.specs.Routes.{RouteMap}
 use Rattle.switch_lines.specs.Causes.{reset_cause, far_diagnostic}
 use Rattle.switch_joins.specs.declared.channels.SwitchChannel.{SwitchChannel}
-use Rattle.switch_joins.specs.declared.join.Joined.{Joined}
-use Rattle.switch_lines.specs.Lines.{SwitchLine, changed, joined_at, ask, front_at, refusal_at}
-use Rattle.switch_lines.specs.Relay.{request_for, moved, moved_unless, moved_front, moved_joined, relayed, relayed_from, places_first, relayed_first, told_joined, told_of, kept_anew, covered_on, most_moves}
+use Rattle.switch_joins.specs.Joins.{Joined}
+use Rattle.switch_lines.specs.Lines.{SwitchLine, changed, joined_at, ask, ask_all, front_at, sizes_at, takes_at}
+use Rattle.switch_lines.specs.Relay.{carried_by, due_at, moved, moved_if, moved_front, moved_joined, relayed, relayed_from, places_first, relayed_first, told_joined, told_of, kept_anew, covered_on, most_moves}
 use Rattle.switch_lines.specs.Switch.{Answer, answer, answered, heed, heed_all, notes_of, with_end, quieted, acted, to_relink, relinked_at, all_relinked, may_offer, offering_from, offered_from, rounds, lines_first, finished, all_begun}
 use Rattle.switch_lines.specs.Switch.Answer.{Clears, Joins}
 use Rattle.switch_laws.specs.Steps.{Happening, does, Step, lines_after, lines_after_all, acts_of, acts_of_all}
 use Rattle.switch_laws.specs.Steps.Happening.{Relinks}
 use Rattle.switch_laws.specs.Steps.Step.{Settles, Happens}
-use Rattle.switch_laws.specs.EventSteps.{moved_unless_steps, moved_front_steps, moved_joined_steps, relayed_steps, relayed_from_steps, relayed_first_steps, anew_steps, covered_steps, told_joined_steps, told_steps, answered_steps, on_channel, heed_steps, heed_all_steps, acted_steps, relinked_steps, all_relinked_steps, offered_steps, rounds_steps, finished_steps, event_steps}
+use Rattle.switch_laws.specs.EventSteps.{asks_steps, freed_steps, moved_if_steps, moved_front_steps, moved_joined_steps, relayed_steps, relayed_from_steps, relayed_first_steps, anew_steps, covered_steps, told_joined_steps, told_steps, answered_steps, on_channel, heed_steps, heed_all_steps, acted_steps, relinked_steps, all_relinked_steps, offered_steps, rounds_steps, finished_steps, event_steps}
 
 abbrev pub Leads : List Step → List SwitchLine → List SwitchLine → Type 0
 Leads steps ls ms = lines_after_all steps ls ≡ ms
@@ -39,13 +39,19 @@ acts_lead (a ∷ as_) bs ls ms e =
 
 -- ---- relay
 
-moved_unless_leads : (o : Option Refusal) (t : Taken) (p : SwitchChannel) (j : Joined) (ls : List SwitchLine) → Leads (moved_unless_steps o t p j) ls (moved_unless o t p j ls)
-moved_unless_leads None t p j ls = refl
-moved_unless_leads (Some r) t p j ls = refl
+asks_lead : (p : SwitchChannel) (qs : List Request) (ls : List SwitchLine) → Leads (asks_steps p qs) ls (ask_all p qs ls)
+asks_lead p [] ls = refl
+asks_lead p (q ∷ qs) ls = asks_lead p qs (ask p q ls)
+
+moved_if_leads : (b : Bool) (t : Taken) (p : SwitchChannel) (j : Joined) (ls : List SwitchLine) → Leads (moved_if_steps b t p j ls) ls (moved_if b t p j ls)
+moved_if_leads true t p j ls =
+    leads_then (asks_steps j.other (due_at ls p j t)) (freed_steps p j (carried_by (sizes_at ls p j.other) t j.kept)) (ask p Taking ls)
+    (ask_all j.other (due_at ls p j t) (ask p Taking ls)) _ (asks_lead j.other (due_at ls p j t) (ask p Taking ls)) refl
+moved_if_leads false t p j ls = refl
 
 moved_front_leads : (o : Option Taken) (p : SwitchChannel) (j : Joined) (ls : List SwitchLine) → Leads (moved_front_steps o p j ls) ls (moved_front o p j ls)
 moved_front_leads None p j ls = refl
-moved_front_leads (Some t) p j ls = moved_unless_leads (refusal_at ls j.other (request_for t)) t p j ls
+moved_front_leads (Some t) p j ls = moved_if_leads (takes_at ls j.other (due_at ls p j t)) t p j ls
 
 pub moved_leads : (o : Option Joined) (p : SwitchChannel) (ls : List SwitchLine) → Leads (moved_joined_steps o p ls) ls (moved_joined o p ls)
 moved_leads None p ls = refl

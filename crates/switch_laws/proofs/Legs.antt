@@ -40,16 +40,16 @@ pub none_of_or : (a b : Bool) → (a || b) ≡ false → (a ≡ false) × (b ≡
 none_of_or true b e = absurd (true≢false e)
 none_of_or false b e = (refl, e)
 
-pub asked_as : (q : Request) (g : Leg) → refusal g.role g.channel q ≡ None → asked q g ≡ asked_unless None q g
+pub asked_as : (q : Request) (g : Leg) → refusal g.role g.flow g.channel q ≡ None → asked q g ≡ asked_unless None q g
 asked_as q g e = ap (λ (r : Option Refusal). asked_unless r q g) e
 
-pub taking_allowed : (g : Leg) → g.channel.state ≡ Transfer → refusal g.role g.channel Taking ≡ None
+pub taking_allowed : (g : Leg) → g.channel.state ≡ Transfer → refusal g.role g.flow g.channel Taking ≡ None
 taking_allowed g e = ap (λ (s : CallState). refused_if (not (in_transfer s)) Refusal.NoCall None) e
 
-pub releasing_allowed : (n : ℕ) (g : Leg) → g.channel.state ≡ Transfer → refusal g.role g.channel (Releasing n) ≡ None
+pub releasing_allowed : (n : ℕ) (g : Leg) → g.channel.state ≡ Transfer → refusal g.role g.flow g.channel (Releasing n) ≡ None
 releasing_allowed n g e = ap (λ (s : CallState). refused_if (not (in_transfer s)) Refusal.NoCall None) e
 
-pub confirming_allowed : (g : Leg) → g.channel.state ≡ Transfer → refusal g.role g.channel Confirming ≡ None
+pub confirming_allowed : (g : Leg) → g.channel.state ≡ Transfer → refusal g.role g.flow g.channel Confirming ≡ None
 confirming_allowed g e = ap (λ (s : CallState). refused_if (not (in_transfer s)) Refusal.NoCall None) e
 
 -- ---- counts
@@ -228,6 +228,7 @@ leg_connected role flow owed le = record {
 -- what goes to the line leaves this of a leg
 pub record Gives (g h : Leg) : Type 0 where
   pub leg : IsLeg h
+  pub flow : h.flow ≡ g.flow
   pub state : h.channel.state ≡ g.channel.state
   pub flags : Flags g.channel.traffic h.channel.traffic
   pub before : h.before ≡ g.before
@@ -243,16 +244,18 @@ gives_says true g i clear = record {
     epoch_anew = i.epoch_anew;
     one_interrupt = (says_flags g.flow g.channel.traffic).one i.one_interrupt;
   };
+  flow = refl;
   state = refl;
   flags = says_flags g.flow g.channel.traffic;
   before = refl;
   epoch = refl;
 }
-gives_says false g i clear = record { leg = i; state = refl; flags = same_flags g.channel.traffic; before = refl; epoch = refl }
+gives_says false g i clear = record { leg = i; flow = refl; state = refl; flags = same_flags g.channel.traffic; before = refl; epoch = refl }
 
 gives_owed : (owed : List Body) (g : Leg) → IsLeg g → Gives g (record g { channel = (next_owed g.flow owed g.channel).channel })
 gives_owed (b ∷ bs) g i = record {
   leg = record { flow = i.flow; counts = i.counts; traffic_anew = i.traffic_anew; epoch_anew = i.epoch_anew; one_interrupt = i.one_interrupt };
+  flow = refl;
   state = refl;
   flags = same_flags g.channel.traffic;
   before = refl;

@@ -13,10 +13,12 @@ pub mod Leading
 pub mod Addresses
 pub mod Telling
 pub mod Outcomes
+mod Sequences
 pub mod SettingUp
 pub mod Coming
 pub mod Effects
 pub mod Running
+pub mod SizesRunning
 pub mod TrunkRunning
 pub mod Turning
 pub mod Finishing
@@ -41,3 +43,4 @@ pub mod Untouched
 pub mod Fitting
 pub mod Framing
 pub mod RolesStay
+mod NumbersRun

@@ -115,7 +115,7 @@ on_reading_k l octets (Ok frame) = on_content_k frame.content l.role l frame.res
 on_reading_k l octets (Err fault) = on_fault_k l fault octets
 
 pub octets_keep_k : (l : Link) (octets : List ℕ) → (link_octets.on_octets l octets).link.k ≡ l.k
-octets_keep_k l octets = (on_reading_k l octets (frames.reading l.role octets)).it
+octets_keep_k l octets = (on_reading_k l octets (frames.reading l.role l.info octets)).it
 
 relinks_as : (role : Role) (phase : Phase) (l : Link) → SameK l.k (link.relink_as role phase l)
 relinks_as Dte SettingUp l = still_k l

@@ -9,7 +9,7 @@ use Rattle.packet_layer.specs.Packets.{CallParts, Note, Reason}
 use Rattle.packet_layer.specs.Packets.Reason.{LinkLost}
 use Rattle.packet_layer.specs.Packets.Note.{Incoming, Connected, Closed, WasReset, InterruptConfirmed, Covered}
 use Rattle.packet_layer.specs.Traffic.{Taken}
-use Rattle.packet_layer.specs.Channel.{Channel, Request, Refusal, had_call}
+use Rattle.packet_layer.specs.Channel.{Channel, Request, had_call}
 use Rattle.packet_layer.specs.Channel.Request.{Accept, Clearing, Resetting, Taking, Releasing, Confirming}
 use Rattle.packet_layer.specs.Layer.{closing_notes}
 use Rattle.packet_end.specs.PacketEnd.{PacketEnd, relinked, all_offered, settled, begun}
@@ -17,10 +17,10 @@ use Rattle.address_routes.specs.Routes.{RouteMap}
 use Rattle.switch_joins.specs.Direction.{Direction, new_direction, releasable, released, covered_by}
 use Rattle.switch_lines.specs.Causes.{reset_cause, clear_cause, far_diagnostic}
 use Rattle.switch_joins.specs.declared.channels.SwitchChannel.{SwitchChannel}
-use Rattle.switch_joins.specs.declared.join.Joined.{Joined}
+use Rattle.switch_joins.specs.Joins.{Joined}
 use Rattle.switch_lines.specs.Lines.{SwitchLine, changed, flat, nth_joined, joined_on, joined_at, with_nth_joined}
-use Rattle.switch_lines.specs.Lines.{with_joined, ask, front_at, refusal_at, is_trunk}
-use Rattle.switch_lines.specs.Relay.{carried_by, request_for, with_kept, freed, moved, moved_unless, moved_front}
+use Rattle.switch_lines.specs.Lines.{with_joined, ask, ask_all, front_at, sizes_at, takes_at, is_trunk}
+use Rattle.switch_lines.specs.Relay.{carried_by, due_at, with_kept, freed, moved, moved_if, moved_front}
 use Rattle.switch_lines.specs.Relay.{moved_joined, relayed, relayed_from, places_first, relayed_first, kept_anew}
 use Rattle.switch_lines.specs.Relay.{covered_on, told_joined, told_of, most_moves}
 use Rattle.switch_lines.specs.Switch.{Switch, Answer, answer, answered, forwarded, place_call, heed, heed_all, with_end}
@@ -124,14 +124,19 @@ from_ends g ls ms f x j e = f x j (sym (joined_on_ends g ms x.line x.channel) �
 
 -- ---- relay and rounds
 
-from_unless : (r : Option Refusal) (t : Taken) (p : SwitchChannel) (j : Joined) (ls : List SwitchLine) → joined_at ls p ≡ Some j → JoinsNone ls (moved_unless r t p j ls)
-from_unless (Some r) t p j ls at = from_same ls
-from_unless None t p j ls at =
-    from_freed p j (carried_by t j.kept) ls (ask j.other (request_for t) (ask p Taking ls)) at (from_asked j.other (request_for t) ls (ask p Taking ls) (from_asked p Taking ls ls (from_same ls)))
+from_asks : (p : SwitchChannel) (qs : List Request) (ls ms : List SwitchLine) → JoinsNone ls ms → JoinsNone ls (ask_all p qs ms)
+from_asks p [] ls ms f = f
+from_asks p (q ∷ qs) ls ms f = from_asks p qs ls (ask p q ms) (from_asked p q ls ms f)
+
+from_if : (b : Bool) (t : Taken) (p : SwitchChannel) (j : Joined) (ls : List SwitchLine) → joined_at ls p ≡ Some j → JoinsNone ls (moved_if b t p j ls)
+from_if false t p j ls at = from_same ls
+from_if true t p j ls at =
+    from_freed p j (carried_by (sizes_at ls p j.other) t j.kept) ls (ask_all j.other (due_at ls p j t) (ask p Taking ls)) at
+    (from_asks j.other (due_at ls p j t) ls (ask p Taking ls) (from_asked p Taking ls ls (from_same ls)))
 
 from_front : (o : Option Taken) (p : SwitchChannel) (j : Joined) (ls : List SwitchLine) → joined_at ls p ≡ Some j → JoinsNone ls (moved_front o p j ls)
 from_front None p j ls at = from_same ls
-from_front (Some t) p j ls at = from_unless (refusal_at ls j.other (request_for t)) t p j ls at
+from_front (Some t) p j ls at = from_if (takes_at ls j.other (due_at ls p j t)) t p j ls at
 
 from_moved : (o : Option Joined) (p : SwitchChannel) (ls : List SwitchLine) → joined_at ls p ≡ o → JoinsNone ls (moved_joined o p ls)
 from_moved None p ls at = from_same ls

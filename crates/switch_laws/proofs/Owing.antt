@@ -21,7 +21,7 @@ use Rattle.packet_laws.specs.Readable.{Every}
 use Rattle.packet_end.specs.PacketEnd.{PacketEnd, runs_at, relinked}
 use Rattle.address_routes.specs.Routes.{RouteMap}
 use Rattle.switch_joins.specs.declared.channels.SwitchChannel.{SwitchChannel}
-use Rattle.switch_joins.specs.declared.join.Joined.{Joined}
+use Rattle.switch_joins.specs.Joins.{Joined}
 use Rattle.switch_lines.specs.Lines.{SwitchLine, changed, joined_at}
 use Rattle.switch_lines.specs.Switch.{Switch, Answer, answer, heed, notes_of, with_end, quieted, acted, all_begun, to_relink, raised, relinked_at, all_relinked, relinks_of, lines_first}
 use Rattle.switch_lines.specs.Switch.Answer.{Clears, Joins}
@@ -197,7 +197,7 @@ placed_fifth l parts None r e = absurd (true≢false (sym e ∙ r))
 placed_fifth l parts (Some c) r e = found_fifth l c (λ ch. placing parts ch) (channel_of l c) r e
 
 act_fifth : (a : Act) (l : Layer) → IsMild a → l.relink ≡ false → (layer_after a l).relink ≡ true → makes_fifth a (Some l) ≡ true
-act_fifth (Act.Asks p q) l m r e = found_fifth l p.channel (λ ch. requested l.role ch q) (channel_of l p.channel) r e
+act_fifth (Act.Asks p q) l m r e = found_fifth l p.channel (λ ch. requested l.role l.flow ch q) (channel_of l p.channel) r e
 act_fifth (Comes n x) l m r e = absurd m
 act_fifth (Expires n t) l m r e = absurd m
 act_fifth (GoesUp n) l m r e = absurd m
@@ -215,7 +215,7 @@ placed_phase l parts None = refl
 placed_phase l parts (Some c) = found_phase l c (λ ch. placing parts ch) (channel_of l c)
 
 act_phase : (a : Act) (l : Layer) → IsMild a → (layer_after a l).phase ≡ l.phase
-act_phase (Act.Asks p q) l m = found_phase l p.channel (λ ch. requested l.role ch q) (channel_of l p.channel)
+act_phase (Act.Asks p q) l m = found_phase l p.channel (λ ch. requested l.role l.flow ch q) (channel_of l p.channel)
 act_phase (Comes n x) l m = absurd m
 act_phase (Expires n t) l m = absurd m
 act_phase (GoesUp n) l m = absurd m

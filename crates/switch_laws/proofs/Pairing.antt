@@ -12,7 +12,7 @@ use Rattle.packet_layer.specs.Layer.Phase.{NoSession, OwnRestart, PacketReady}
 use Rattle.packet_end.specs.PacketEnd.{received, after_timer}
 use Rattle.address_routes.specs.Routes.{RouteMap, line_for}
 use Rattle.switch_joins.specs.declared.channels.SwitchChannel.{SwitchChannel}
-use Rattle.switch_joins.specs.declared.join.Joined.{Joined}
+use Rattle.switch_joins.specs.Joins.{Joined}
 use Rattle.switch_lines.specs.Lines.{SwitchLine, joined_at, is_trunk}
 use Rattle.switch_lines.specs.Switch.{answer, answer_by, answer_on, answer_free, has_any, route_from, address_of}
 use Rattle.switch_lines.specs.Switch.Answer.{Clears}

@@ -8,14 +8,14 @@ use Rattle.packet_layer.specs.Packets.{Body, CallParts, Received}
 use Rattle.packet_layer.specs.Packets.Body.{Restart, RestartConfirmation}
 use Rattle.packet_layer.specs.Packets.Received.{Whole, Unknown, Faulty}
 use Rattle.packet_layer.specs.Traffic.{front}
-use Rattle.packet_layer.specs.Channel.{Channel, Step, Request, refusal, requested, next_of, closed_channel, clear_error, placing}
-use Rattle.packet_layer.specs.Layer.{Layer, Phase, Timer, Next, nth_channel, channel_of, with_nth, next_in, next_restart, serve, serve_found, next_number, on_found, on_received, expired, unread, runs, placed_on, channel_given, restart_packet, on_channel, front_at as front_of_channel, refusal_at as refusal_of_channel}
+use Rattle.packet_layer.specs.Channel.{Channel, Step, Request, requested, next_of, closed_channel, clear_error, placing}
+use Rattle.packet_layer.specs.Layer.{Layer, Phase, Timer, Next, nth_channel, channel_of, with_nth, next_in, next_restart, serve, serve_found, next_number, on_found, on_received, expired, unread, runs, placed_on, channel_given, restart_packet, on_channel, front_at as front_of_channel}
 use Rattle.packet_layer.specs.Layer.Phase.{NoSession, OwnRestart, PacketReady}
 use Rattle.packet_layer.specs.Layer.Timer.{RestartTimer, CallTimer, ResetTimer, ClearTimer}
 use Rattle.packet_laws.proofs.Call.Saying.{by_cond}
 use Rattle.switch_joins.specs.declared.channels.SwitchChannel.{SwitchChannel}
-use Rattle.switch_joins.specs.declared.join.Joined.{Joined}
-use Rattle.switch_lines.specs.Lines.{SwitchLine, same_place, changed, flat, nth_joined, joined_on, joined_at, with_nth_joined, with_joined, ask, front_of_line, refusal_of_line}
+use Rattle.switch_joins.specs.Joins.{Joined}
+use Rattle.switch_lines.specs.Lines.{SwitchLine, same_place, changed, flat, nth_joined, joined_on, joined_at, with_nth_joined, with_joined, ask, front_of_line, size_of_line, takes_all, takes_on_channel, takes_on_line}
 use Rattle.switch_laws.specs.Leg.{asked}
 use Rattle.switch_laws.specs.World.{World, Shown, shown_as, shown_on, shown_at, layers_of, Act, after_act, world_after, layer_after, leg_after, line_of}
 use Rattle.switch_laws.specs.World.Act.{Asks, Comes, Expires, GoesUp, GoesDown, Calls, Gives, Reads}
@@ -103,14 +103,23 @@ front_is (l ∷ ls) zero c s e = by_channel (channel_of l.end.layer c) e
     by_channel (Some ch) e = ap (λ (t : Shown). front t.channel.traffic) (same_Some _ s e)
 front_is (l ∷ ls) (suc n) c s e = front_is ls n c s e
 
-pub refusal_is : (ls : List SwitchLine) (n c : ℕ) (q : Request) (s : Shown) → shown_on (slice_get (layers_of ls) n) c ≡ Some s → refusal_of_line (slice_get ls n) c q ≡ refusal s.role s.channel q
-refusal_is [] n c q s e = absurd (none-some s e)
-refusal_is (l ∷ ls) zero c q s e = by_channel (channel_of l.end.layer c) e
+pub takes_is : (ls : List SwitchLine) (n c : ℕ) (qs : List Request) (s : Shown) → shown_on (slice_get (layers_of ls) n) c ≡ Some s → takes_on_line (slice_get ls n) c qs ≡ takes_all s.role s.flow s.channel qs
+takes_is [] n c qs s e = absurd (none-some s e)
+takes_is (l ∷ ls) zero c qs s e = by_channel (channel_of l.end.layer c) e
   where
-    by_channel : (o : Option Channel) → shown_as l.end.layer o ≡ Some s → refusal_of_channel l.end.layer.role q o ≡ refusal s.role s.channel q
+    by_channel : (o : Option Channel) → shown_as l.end.layer o ≡ Some s → takes_on_channel l.end.layer.role l.end.layer.flow o qs ≡ takes_all s.role s.flow s.channel qs
     by_channel None e = absurd (none-some s e)
-    by_channel (Some ch) e = ap (λ (t : Shown). refusal t.role t.channel q) (same_Some _ s e)
-refusal_is (l ∷ ls) (suc n) c q s e = refusal_is ls n c q s e
+    by_channel (Some ch) e = ap (λ (t : Shown). takes_all t.role t.flow t.channel qs) (same_Some _ s e)
+takes_is (l ∷ ls) (suc n) c qs s e = takes_is ls n c qs s e
+
+pub size_is : (ls : List SwitchLine) (n c : ℕ) (s : Shown) → shown_on (slice_get (layers_of ls) n) c ≡ Some s → size_of_line (slice_get ls n) ≡ s.flow.size
+size_is [] n c s e = absurd (none-some s e)
+size_is (l ∷ ls) zero c s e = by_channel (channel_of l.end.layer c) e
+  where
+    by_channel : (o : Option Channel) → shown_as l.end.layer o ≡ Some s → l.end.layer.flow.size ≡ s.flow.size
+    by_channel None e = absurd (none-some s e)
+    by_channel (Some ch) e = ap (λ (t : Shown). t.flow.size) (same_Some _ s e)
+size_is (l ∷ ls) (suc n) c s e = size_is ls n c s e
 
 -- ---- legs
 
@@ -208,7 +217,7 @@ next_there OwnRestart false l c = restart_given_there l.owed l c
 next_there PacketReady false l c = restart_given_there l.owed l c
 
 pub line_there : (a : Act) (l : Layer) (c : ℕ) → is_some (channel_of (layer_after a l) c) ≡ is_some (channel_of l c)
-line_there (Asks p q) l c = found_there l p.channel c (λ ch. requested l.role ch q) (channel_of l p.channel)
+line_there (Asks p q) l c = found_there l p.channel c (λ ch. requested l.role l.flow ch q) (channel_of l p.channel)
 line_there (Comes n r) l c = received_there r (unread l) c
 line_there (Expires n t) l c = by_cond (λ (y : Layer). is_some (channel_of (unread y) c) ≡ is_some (channel_of l c)) (runs l t) _ _ (λ h. expired_there t (unread l) c) (λ h. refl)
 line_there (GoesUp n) l c = closed_there l.channels c

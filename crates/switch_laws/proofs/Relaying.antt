@@ -1,21 +1,24 @@
 -- What the switch relays on its lines is what the two legs of a join relay, and no other join is touched.
-use Rattle.std.proofs.Common.{◌≡◌, ℕ, zero, suc, ◌+◌, arith, ◌⊎◌, inl, inr, Bool, true, false, List, [], ◌∷◌, ◌++◌, Option, Some, None, is_some, refl, sym, ap, ap₂, subst, ◌∙◌, true≢false}
+use Rattle.std.proofs.Common.{◌≡◌, ℕ, zero, suc, ◌+◌, arith, ◌⊎◌, inl, inr, Bool, true, false, List, [], ◌∷◌, ◌++◌, map, append-nil, Option, Some, None, is_some, refl, sym, ap, ap₂, subst, ◌∙◌, true≢false}
 use Rattle.std.specs.Prelude.{slice_get}
 use Rattle.std.proofs.lemmas.Option.{none-some, same_Some}
 use Rattle.link_timers.specs.declared.role.Role.{Role}
 use Rattle.link_timers.specs.declared.role.Role.TheVariants.{Dte, Dce}
+use Rattle.packet_layer.specs.Packets.{Datum}
 use Rattle.packet_layer.specs.Traffic.{Taken, Traffic, front}
 use Rattle.packet_layer.specs.Traffic.Taken.{TakenInterrupt, TakenPacket}
-use Rattle.packet_layer.specs.Channel.{CallState, Request, Refusal, refusal, in_transfer, waits_for_call}
+use Rattle.packet_layer.specs.Channel.{CallState, Request, in_transfer, waits_for_call}
 use Rattle.packet_layer.specs.Channel.CallState.{Ready, OwnWaiting, FarWaiting, Transfer, Collision, OwnClear}
-use Rattle.packet_layer.specs.Channel.Request.{Taking, Releasing}
+use Rattle.packet_layer.specs.Channel.Request.{Sending, Taking, Releasing}
+use Rattle.switch_joins.specs.Turning.{Sizes, Gathered, turned}
 use Rattle.switch_joins.specs.Direction.{Direction, releasable, released}
 use Rattle.switch_joins.specs.declared.channels.SwitchChannel.{SwitchChannel}
-use Rattle.switch_joins.specs.declared.join.Joined.{Joined}
-use Rattle.switch_lines.specs.Lines.{SwitchLine, same_place, joined_at, ask, front_at, refusal_at, places, places_on, places_from}
-use Rattle.switch_lines.specs.Relay.{carried_by, request_for, moved, moved_joined, moved_front, moved_unless, relayed, relayed_from, all_relayed, legs_of, places_first, relayed_first, most_moves}
+use Rattle.switch_joins.specs.Joins.{Joined}
+use Rattle.switch_lines.specs.Lines.{SwitchLine, same_place, joined_at, ask, ask_all, front_at, size_of_line, sizes_at, takes_all, takes_at, places, places_on, places_from}
+use Rattle.switch_lines.specs.Relay.{carried_by, requests_for, due_at, moved, moved_joined, moved_front, moved_if, relayed, relayed_from, all_relayed, legs_of, places_first, relayed_first, most_moves}
 use Rattle.switch_lines.proofs.Relaying.{relayed_stays}
-use Rattle.switch_laws.specs.Leg.{Leg, asked}
+use Rattle.packet_laws.specs.Readable.{Every}
+use Rattle.switch_laws.specs.Leg.{Leg, asked, asked_all}
 use Rattle.switch_laws.specs.Way.{Way}
 use Rattle.switch_laws.specs.Way as way
 use Rattle.switch_laws.specs.Join.{IsJoin}
@@ -24,16 +27,16 @@ use Rattle.switch_laws.specs.World.Act.{Asks}
 use Rattle.switch_laws.specs.Joined.{WaitsFor, IsPair, IsSwitch, HasRelayedAll, Reached, Becomes, has_nth, has_place_on, has_place}
 use Rattle.switch_laws.specs.Joined.IsPair.{connected, waiting}
 use Rattle.switch_laws.specs.Steps.{Step, acts_of_all}
-use Rattle.switch_laws.specs.EventSteps.{moved_unless_steps, moved_front_steps, moved_joined_steps, relayed_steps, relayed_from_steps, all_relayed_steps, relayed_first_steps}
+use Rattle.switch_laws.specs.EventSteps.{asks_steps, freed_steps, moved_if_steps, moved_front_steps, moved_joined_steps, relayed_steps, relayed_from_steps, all_relayed_steps, relayed_first_steps}
 use Rattle.switch_laws.proofs.Leading.{acts_lead, moved_leads, relayed_leads}
 use Rattle.switch_laws.proofs.Joins.{there_right}
 use Rattle.switch_laws.proofs.Lists.{same_as}
-use Rattle.switch_laws.proofs.Ways.{Beside, relayed_beside, relayed_stuck, same_refusal}
+use Rattle.switch_laws.proofs.Ways.{Near, Open, open_of, Beside, relayed_beside, relayed_stuck, same_takes}
 use Rattle.switch_laws.proofs.Standing.{accepts_before}
-use Rattle.switch_laws.proofs.Places.{joined_here, joined_place, front_is, refusal_is, some_there, leg_asked, leg_apart}
+use Rattle.switch_laws.proofs.Places.{joined_here, joined_place, front_is, takes_is, size_is, some_there, leg_asked, leg_apart}
 use Rattle.switch_laws.proofs.Frame.{Touches, touches_none, touches_then, touches_turned, touches_asked, touches_joined, reached_there, reached_none, reached_then, other_apart, Pairing, pairing, pair_kept, apart_turned}
 use Rattle.switch_joins.proofs.Apart.{decided, place_is}
-use Rattle.switch_lines.proofs.Places.{joined_asked, joined_apart}
+use Rattle.switch_lines.proofs.Places.{joined_asked, joined_asks, joined_apart}
 
 -- ---- what is seen at the lines is the legs
 
@@ -42,11 +45,20 @@ front_of_leg ls w p i e =
     let s = some_there (shown_at (layers_of ls) p) e in
     front_is ls p.line p.channel s.0 s.1 ∙ ap (λ (t : Shown). front t.channel.traffic) (i p s.0 s.1).shown
 
-pub refusal_of_leg : (ls : List SwitchLine) (w : World) (p : SwitchChannel) (q : Request) → IsWorld (layers_of ls) w → is_some (shown_at (layers_of ls) p) ≡ true
-    → refusal_at ls p q ≡ refusal (w p).role (w p).channel q
-refusal_of_leg ls w p q i e =
+pub takes_of_leg : (ls : List SwitchLine) (w : World) (p : SwitchChannel) (qs : List Request) → IsWorld (layers_of ls) w → is_some (shown_at (layers_of ls) p) ≡ true
+    → takes_at ls p qs ≡ takes_all (w p).role (w p).flow (w p).channel qs
+takes_of_leg ls w p qs i e =
     let s = some_there (shown_at (layers_of ls) p) e in
-    refusal_is ls p.line p.channel q s.0 s.1 ∙ ap (λ (t : Shown). refusal t.role t.channel q) (i p s.0 s.1).shown
+    takes_is ls p.line p.channel qs s.0 s.1 ∙ ap (λ (t : Shown). takes_all t.role t.flow t.channel qs) (i p s.0 s.1).shown
+
+size_of_leg : (ls : List SwitchLine) (w : World) (p : SwitchChannel) → IsWorld (layers_of ls) w → is_some (shown_at (layers_of ls) p) ≡ true → size_of_line (slice_get ls p.line) ≡ (w p).flow.size
+size_of_leg ls w p i e =
+    let s = some_there (shown_at (layers_of ls) p) e in
+    size_is ls p.line p.channel s.0 s.1 ∙ ap (λ (t : Shown). t.flow.size) (i p s.0 s.1).shown
+
+sizes_of_legs : (ls : List SwitchLine) (w : World) (p q : SwitchChannel) → IsWorld (layers_of ls) w → is_some (shown_at (layers_of ls) p) ≡ true → is_some (shown_at (layers_of ls) q) ≡ true
+    → sizes_at ls p q ≡ record { near = (w p).flow.size; far = (w q).flow.size }
+sizes_of_legs ls w p q i a b = ap₂ (λ (n m : ℕ). record { near = n; far = m }) (size_of_leg ls w p i a) (size_of_leg ls w q i b)
 
 -- ---- one move
 
@@ -63,9 +75,13 @@ pub record Moved (acts : List Act) (ls : List SwitchLine) (w : World) (p : Switc
   pub there : joined_at ms j.other ≡ Some k
   pub is : way_at world p j.other kept ≡ to
 
-pub may_ask : (t : Taken) → MayAsk (request_for t)
-may_ask (TakenInterrupt octets) = tt
-may_ask (TakenPacket d) = tt
+may_send : (ds : List Datum) → Every MayAsk (map Sending ds)
+may_send [] = tt
+may_send (d ∷ ds) = (tt, may_send ds)
+
+pub may_ask : (s : Sizes) (g : Gathered) (t : Taken) → Every MayAsk (requests_for s g t)
+may_ask s g (TakenInterrupt octets) = (tt, tt)
+may_ask s g (TakenPacket d) = may_send (turned s g d).made
 
 stays : (ls : List SwitchLine) (w : World) (p : SwitchChannel) (j k : Joined) → IsSwitch ls w → Pairing ls p j k → Moved [] ls w p j k ls (way_at w p j.other j.kept)
 stays ls w p j k i s = record { world = w; touches = touches_none p j.other ls w; switch = i; kept = j.kept; here = s.here; there = s.there; is = refl }
@@ -73,13 +89,42 @@ stays ls w p j k i s = record { world = w; touches = touches_none p j.other ls w
 same_way : (g h : Leg) (g' h' : Leg) (d : Direction) → g ≡ g' → h ≡ h' → ◌≡◌ {A = Way} (record { near = g; far = h; kept = d }) (record { near = g'; far = h'; kept = d })
 same_way g h g' h' d a b = ap₂ (λ (x y : Leg). record { near = x; far = y; kept = d }) a b
 
--- the request is not refused
+-- several requests to one leg of two
+abbrev asks_acts : SwitchChannel → List Request → List Act
+asks_acts q [] = []
+asks_acts q (r ∷ rs) = Asks q r ∷ asks_acts q rs
+
+record AskedOn (q p : SwitchChannel) (rs : List Request) (ls : List SwitchLine) (w : World) : Type 0 where
+  world : World
+  touches : Touches (asks_acts q rs) q p ls w (ask_all q rs ls) world
+  asked : world q ≡ asked_all rs (w q)
+  other : world p ≡ w p
+
+asks_on : (q p : SwitchChannel) (rs : List Request) (ls : List SwitchLine) (w : World) → is_some (shown_at (layers_of ls) q) ≡ true → same_place p q ≡ false → Every MayAsk rs → AskedOn q p rs ls w
+asks_on q p [] ls w there apart may = record { world = w; touches = touches_none q p ls w; asked = refl; other = refl }
+asks_on q p (r ∷ rs) ls w there apart may =
+    let v = world_after (Asks q r) (layers_of ls) w in
+    let first = touches_asked q p r ls w may.0 in
+    let rest = asks_on q p rs (ask q r ls) v (reached_there ls (ask q r ls) w v first.reached q ∙ there) apart may.1 in
+    record {
+      world = rest.world;
+      touches = touches_then q p ls (ask q r ls) (ask_all q rs (ask q r ls)) w v rest.world first rest.touches;
+      asked = rest.asked ∙ ap (λ (g : Leg). asked_all rs g) (leg_asked q r (layers_of ls) w there);
+      other = rest.other ∙ leg_apart q r (layers_of ls) w p apart;
+    }
+
+-- the steps of a move are these acts
+asks_then : (q : SwitchChannel) (rs : List Request) (more : List Step) (ls : List SwitchLine) → acts_of_all (asks_steps q rs ++ more) ls ≡ asks_acts q rs ++ acts_of_all more (ask_all q rs ls)
+asks_then q [] more ls = refl
+asks_then q (r ∷ rs) more ls = ap (λ (acts : List Act). Asks q r ∷ acts) (asks_then q rs more (ask q r ls))
+
+-- the other leg takes all that is due
 moves_on : (t : Taken) (ls : List SwitchLine) (w : World) (p : SwitchChannel) (j k : Joined) → IsSwitch ls w → Pairing ls p j k
-    → IsJoin (record { a = w p; b = w j.other; there = j.kept; back = k.kept }) → way.moved (way_at w p j.other j.kept) ≡ way.moved_unless None t (way_at w p j.other j.kept)
-    → Moved (acts_of_all (moved_unless_steps None t p j) ls) ls w p j k (moved_unless None t p j ls) (way.moved_unless None t (way_at w p j.other j.kept))
+    → IsJoin (record { a = w p; b = w j.other; there = j.kept; back = k.kept }) → way.moved (way_at w p j.other j.kept) ≡ way.moved_if true t (way_at w p j.other j.kept)
+    → Moved (acts_of_all (moved_if_steps true t p j ls) ls) ls w p j k (moved_if true t p j ls) (way.moved_if true t (way_at w p j.other j.kept))
 moves_on t ls w p j k i s c e = record {
   world = v;
-  touches = touches;
+  touches = subst (λ (acts : List Act). Touches acts p q ls w ms v) (sym steps) touches;
   switch = pair_kept 0 0 [] [] ls ms w v p j k kept k.kept i s touches here there (connected right) (λ x a b f. f);
   kept = kept;
   here = here;
@@ -90,14 +135,17 @@ moves_on t ls w p j k i s c e = record {
     q : SwitchChannel
     q = j.other
 
-    r : Request
-    r = request_for t
+    sizes : Sizes
+    sizes = sizes_at ls p q
+
+    rs : List Request
+    rs = due_at ls p j t
 
     kept : Direction
-    kept = released (carried_by t j.kept)
+    kept = released (carried_by sizes t j.kept)
 
     n : ℕ
-    n = releasable (carried_by t j.kept).held
+    n = releasable (carried_by sizes t j.kept).held
 
     l1 : List SwitchLine
     l1 = ask p Taking ls
@@ -105,11 +153,17 @@ moves_on t ls w p j k i s c e = record {
     w1 : World
     w1 = world_after (Asks p Taking) (layers_of ls) w
 
+    t1 : Touches (Asks p Taking ∷ []) p q ls w l1 w1
+    t1 = touches_asked p q Taking ls w tt
+
     l2 : List SwitchLine
-    l2 = ask q r l1
+    l2 = ask_all q rs l1
+
+    on : AskedOn q p rs l1 w1
+    on = asks_on q p rs l1 w1 (reached_there ls l1 w w1 t1.reached q ∙ s.q_there) s.apart (may_ask sizes j.kept.gathered t)
 
     w2 : World
-    w2 = world_after (Asks q r) (layers_of l1) w1
+    w2 = on.world
 
     l3 : List SwitchLine
     l3 = ask p (Releasing n) l2
@@ -118,19 +172,22 @@ moves_on t ls w p j k i s c e = record {
     v = world_after (Asks p (Releasing n)) (layers_of l2) w2
 
     ms : List SwitchLine
-    ms = moved_unless None t p j ls
+    ms = moved_if true t p j ls
 
-    t1 : Touches (Asks p Taking ∷ []) p q ls w l1 w1
-    t1 = touches_asked p q Taking ls w tt
+    t2 : Touches (Asks p Taking ∷ asks_acts q rs) p q ls w l2 w2
+    t2 = touches_then p q ls l1 l2 w w1 w2 t1 (touches_turned q p l1 l2 w1 w2 on.touches)
 
-    t2 : Touches (Asks p Taking ∷ Asks q r ∷ []) p q ls w l2 w2
-    t2 = touches_then p q ls l1 l2 w w1 w2 t1 (touches_turned q p l1 l2 w1 w2 (touches_asked q p r l1 w1 (may_ask t)))
-
-    t3 : Touches (Asks p Taking ∷ Asks q r ∷ Asks p (Releasing n) ∷ []) p q ls w l3 v
+    t3 : Touches ((Asks p Taking ∷ asks_acts q rs) ++ Asks p (Releasing n) ∷ []) p q ls w l3 v
     t3 = touches_then p q ls l2 l3 w w2 v t2 (touches_asked p q (Releasing n) l2 w2 tt)
 
-    touches : Touches (Asks p Taking ∷ Asks q r ∷ Asks p (Releasing n) ∷ []) p q ls w ms v
-    touches = touches_then p q ls l3 ms w v v t3 (touches_joined p q (Some (record j { kept = kept })) l3 v)
+    acts : List Act
+    acts = (Asks p Taking ∷ asks_acts q rs) ++ Asks p (Releasing n) ∷ []
+
+    touches : Touches acts p q ls w ms v
+    touches = subst (λ (as_ : List Act). Touches as_ p q ls w ms v) (append-nil acts) (touches_then p q ls l3 ms w v v t3 (touches_joined p q (Some (record j { kept = kept })) l3 v))
+
+    steps : acts_of_all (moved_if_steps true t p j ls) ls ≡ acts
+    steps = ap (λ (as_ : List Act). Asks p Taking ∷ as_) (asks_then q rs (freed_steps p j (carried_by sizes t j.kept)) l1)
 
     here : joined_at ms p ≡ Some (record j { kept = kept })
     here = joined_here p (Some (record j { kept = kept })) l3 (t3.places p ∙ joined_place ls p j s.here)
@@ -138,40 +195,67 @@ moves_on t ls w p j k i s c e = record {
     there : joined_at ms q ≡ Some k
     there =
         joined_apart p (Some (record j { kept = kept })) q l3 (apart_turned p q s.apart)
-        ∙ (joined_asked p (Releasing n) q l2 ∙ (joined_asked q r q l1 ∙ (joined_asked p Taking q ls ∙ s.there)))
+        ∙ (joined_asked p (Releasing n) q l2 ∙ (joined_asks q rs q l1 ∙ (joined_asked p Taking q ls ∙ s.there)))
 
     near : v p ≡ asked (Releasing n) (asked Taking (w p))
     near =
         leg_asked p (Releasing n) (layers_of l2) w2 (reached_there ls l2 w w2 t2.reached p ∙ s.p_there)
-        ∙ ap (λ (g : Leg). asked (Releasing n) g) (leg_apart q r (layers_of l1) w1 p s.apart ∙ leg_asked p Taking (layers_of ls) w s.p_there)
+        ∙ ap (λ (g : Leg). asked (Releasing n) g) (on.other ∙ leg_asked p Taking (layers_of ls) w s.p_there)
 
-    far : v q ≡ asked r (w q)
+    far : v q ≡ asked_all rs (w q)
     far =
         leg_apart p (Releasing n) (layers_of l2) w2 q (apart_turned p q s.apart)
-        ∙ (leg_asked q r (layers_of l1) w1 (reached_there ls l1 w w1 t1.reached q ∙ s.q_there)
-        ∙ ap (λ (g : Leg). asked r g) (leg_apart p Taking (layers_of ls) w q (apart_turned p q s.apart)))
+        ∙ (on.asked ∙ ap (λ (g : Leg). asked_all rs g) (leg_apart p Taking (layers_of ls) w q (apart_turned p q s.apart)))
 
-    is : way_at v p q kept ≡ way.moved_unless None t (way_at w p q j.kept)
-    is = same_way (v p) (v q) _ _ kept near far
+    -- what the lines say of the sizes is what the legs say
+    by_sizes : Sizes → Way
+    by_sizes z = record {
+      near = asked (Releasing (releasable (carried_by z t j.kept).held)) (asked Taking (w p));
+      far = asked_all (requests_for z j.kept.gathered t) (w q);
+      kept = released (carried_by z t j.kept);
+    }
+
+    is : way_at v p q kept ≡ way.moved_if true t (way_at w p q j.kept)
+    is = same_way (v p) (v q) _ _ kept near far ∙ ap by_sizes (sizes_of_legs ls w p q i.world s.p_there s.q_there)
 
     right : IsJoin (record { a = v p; b = v q; there = kept; back = k.kept })
     right =
         subst (λ (x : Way). IsJoin (record { a = x.near; b = x.far; there = x.kept; back = k.kept })) (e ∙ sym is)
         (there_right 1 (record { a = w p; b = w q; there = j.kept; back = k.kept }) c)
 
-by_refusal : (r : Option Refusal) (t : Taken) (ls : List SwitchLine) (w : World) (p : SwitchChannel) (j k : Joined) → IsSwitch ls w → Pairing ls p j k
-    → IsJoin (record { a = w p; b = w j.other; there = j.kept; back = k.kept }) → way.moved (way_at w p j.other j.kept) ≡ way.moved_unless r t (way_at w p j.other j.kept)
-    → Moved (acts_of_all (moved_unless_steps r t p j) ls) ls w p j k (moved_unless r t p j ls) (way.moved_unless r t (way_at w p j.other j.kept))
-by_refusal (Some r) t ls w p j k i s c e = stays ls w p j k i s
-by_refusal None t ls w p j k i s c e = moves_on t ls w p j k i s c e
+by_takes : (b : Bool) (t : Taken) (ls : List SwitchLine) (w : World) (p : SwitchChannel) (j k : Joined) → IsSwitch ls w → Pairing ls p j k
+    → IsJoin (record { a = w p; b = w j.other; there = j.kept; back = k.kept }) → way.moved (way_at w p j.other j.kept) ≡ way.moved_if b t (way_at w p j.other j.kept)
+    → Moved (acts_of_all (moved_if_steps b t p j ls) ls) ls w p j k (moved_if b t p j ls) (way.moved_if b t (way_at w p j.other j.kept))
+by_takes false t ls w p j k i s c e = stays ls w p j k i s
+by_takes true t ls w p j k i s c e = moves_on t ls w p j k i s c e
+
+-- what is due is taken at the lines where it is on the leg
+takes_due : (t : Taken) (ls : List SwitchLine) (w : World) (p : SwitchChannel) (j : Joined) → IsWorld (layers_of ls) w → is_some (shown_at (layers_of ls) p) ≡ true → is_some (shown_at (layers_of ls) j.other) ≡ true
+    → takes_at ls j.other (due_at ls p j t) ≡ takes_all (w j.other).role (w j.other).flow (w j.other).channel (way.due (way_at w p j.other j.kept) t)
+takes_due t ls w p j i p_there q_there =
+    takes_of_leg ls w j.other (due_at ls p j t) i q_there
+    ∙ ap (λ (z : Sizes). takes_all (w j.other).role (w j.other).flow (w j.other).channel (requests_for z j.kept.gathered t)) (sizes_of_legs ls w p j.other i p_there q_there)
+
+-- legs of a join of which the far one is open as before take as before
+takes_still : (t : Taken) (ls ms : List SwitchLine) (w v : World) (p : SwitchChannel) (j : Joined) → IsWorld (layers_of ls) w → IsWorld (layers_of ms) v
+    → ((x : SwitchChannel) → is_some (shown_at (layers_of ms) x) ≡ is_some (shown_at (layers_of ls) x)) → is_some (shown_at (layers_of ls) p) ≡ true → is_some (shown_at (layers_of ls) j.other) ≡ true
+    → (v p).flow.size ≡ (w p).flow.size → open_of (v j.other) ≡ open_of (w j.other) → takes_at ms j.other (due_at ms p j t) ≡ takes_at ls j.other (due_at ls p j t)
+takes_still t ls ms w v p j i k places p_there q_there near open_ =
+    let g = w j.other in
+    let h = v j.other in
+    let same : ◌≡◌ {A = Sizes} (record { near = (v p).flow.size; far = h.flow.size }) (record { near = (w p).flow.size; far = g.flow.size }) =
+    ap₂ (λ (n m : ℕ). record { near = n; far = m }) near (ap (λ (o : Open). o.size) open_) in
+    takes_due t ms v p j k (places p ∙ p_there) (places j.other ∙ q_there)
+    ∙ (ap (λ (z : Sizes). takes_all h.role h.flow h.channel (requests_for z j.kept.gathered t)) same
+    ∙ (same_takes (record { near = (w p).flow.size; far = g.flow.size }) j.kept.gathered t g h open_ ∙ sym (takes_due t ls w p j i p_there q_there)))
 
 by_front : (o : Option Taken) (ls : List SwitchLine) (w : World) (p : SwitchChannel) (j k : Joined) → IsSwitch ls w → Pairing ls p j k
     → IsJoin (record { a = w p; b = w j.other; there = j.kept; back = k.kept }) → way.moved (way_at w p j.other j.kept) ≡ way.moved_front o (way_at w p j.other j.kept)
     → Moved (acts_of_all (moved_front_steps o p j ls) ls) ls w p j k (moved_front o p j ls) (way.moved_front o (way_at w p j.other j.kept))
 by_front None ls w p j k i s c e = stays ls w p j k i s
 by_front (Some t) ls w p j k i s c e =
-    subst (λ (r : Option Refusal). Moved (acts_of_all (moved_unless_steps r t p j) ls) ls w p j k (moved_unless r t p j ls) (way.moved_front (Some t) (way_at w p j.other j.kept)))
-    (sym (refusal_of_leg ls w j.other (request_for t) i.world s.q_there)) (by_refusal _ t ls w p j k i s c e)
+    subst (λ (b : Bool). Moved (acts_of_all (moved_if_steps b t p j ls) ls) ls w p j k (moved_if b t p j ls) (way.moved_front (Some t) (way_at w p j.other j.kept)))
+    (sym (takes_due t ls w p j i.world s.p_there s.q_there)) (by_takes _ t ls w p j k i s c e)
 
 pub moves : (ls : List SwitchLine) (w : World) (p : SwitchChannel) (j k : Joined) → IsSwitch ls w → Pairing ls p j k → IsJoin (record { a = w p; b = w j.other; there = j.kept; back = k.kept })
     → Moved (acts_of_all (moved_joined_steps (joined_at ls p) p ls) ls) ls w p j k (moved p ls) (way.moved (way_at w p j.other j.kept))
@@ -220,7 +304,7 @@ relays (suc most) ls w p j k i s c =
 -- ---- each channel is visited
 
 abbrev pub StuckAt : List SwitchLine → SwitchChannel → Type 0
-StuckAt ls p = (j : Joined) (t : Taken) → joined_at ls p ≡ Some j → front_at ls p ≡ Some t → is_some (refusal_at ls j.other (request_for t)) ≡ true
+StuckAt ls p = (j : Joined) (t : Taken) → joined_at ls p ≡ Some j → front_at ls p ≡ Some t → takes_at ls j.other (due_at ls p j t) ≡ false
 
 pub record Visited (acts : List Act) (ls : List SwitchLine) (w : World) (x : SwitchChannel) (ms : List SwitchLine) : Type 0 where
   pub world : World
@@ -306,10 +390,8 @@ visited_pair ls w x j k i s (connected c) = record {
     stuck_here : StuckAt ms x
     stuck_here y t e f =
         let stuck : way.IsStuck (way_at v x j.other m.kept) = subst (λ (u : Way). way.IsStuck u) (sym m.is) (relayed_stuck from c.there) in
-        let same : y.other ≡ j.other = ap (λ (z : Joined). z.other) (same_Some y _ (sym e ∙ m.here)) in
-        ap (λ (z : SwitchChannel). is_some (refusal_at ms z (request_for t))) same
-        ∙ (ap (λ (o : Option Refusal). is_some o) (refusal_of_leg ms v j.other (request_for t) m.switch.world q_there)
-        ∙ stuck t (sym (front_of_leg ms v x m.switch.world x_there) ∙ f))
+        ap (λ (z : Joined). takes_at ms z.other (due_at ms x z t)) (same_Some y _ (sym e ∙ m.here))
+        ∙ (takes_due t ms v x (record j { kept = m.kept }) m.switch.world x_there q_there ∙ stuck t (sym (front_of_leg ms v x m.switch.world x_there) ∙ f))
 
     beside : Beside from (way.relayed most_moves from)
     beside = relayed_beside most_moves from
@@ -317,17 +399,15 @@ visited_pair ls w x j k i s (connected c) = record {
     -- of the other leg
     stuck_other : StuckAt ls j.other → StuckAt ms j.other
     stuck_other h y t e f =
-        let same : y ≡ k = same_Some y k (sym e ∙ m.there) in
-        let to_x : y.other ≡ x = ap (λ (z : Joined). z.other) same ∙ s.back in
         let far : front (v j.other).channel.traffic ≡ front (w j.other).channel.traffic = ap (λ (u : Way). front u.far.channel.traffic) m.is ∙ beside.far.front in
         let old_front : front_at ls j.other ≡ Some t =
         front_of_leg ls w j.other i.world s.q_there ∙ (sym far ∙ (sym (front_of_leg ms v j.other m.switch.world q_there) ∙ f)) in
-        let old = h k t s.there old_front in
-        let refused : refusal (v x).role (v x).channel (request_for t) ≡ refusal (w x).role (w x).channel (request_for t) =
-        ap (λ (u : Way). refusal u.near.role u.near.channel (request_for t)) m.is ∙ same_refusal t (w x) (way.relayed most_moves from).near beside.near.open_ in
-        ap (λ (z : SwitchChannel). is_some (refusal_at ms z (request_for t))) to_x
-        ∙ (ap (λ (o : Option Refusal). is_some o) (refusal_of_leg ms v x (request_for t) m.switch.world x_there ∙ (refused ∙ sym (refusal_of_leg ls w x (request_for t) i.world s.p_there)))
-        ∙ (ap (λ (z : SwitchChannel). is_some (refusal_at ls z (request_for t))) (sym s.back) ∙ old))
+        let near : (v j.other).flow.size ≡ (w j.other).flow.size = ap (λ (u : Way). u.far.flow.size) m.is ∙ ap (λ (z : Near). z.size) beside.far.seen in
+        let open_ : open_of (v k.other) ≡ open_of (w k.other) =
+        ap (λ (z : SwitchChannel). open_of (v z)) s.back ∙ (ap (λ (u : Way). open_of u.near) m.is ∙ (beside.near.open_ ∙ ap (λ (z : SwitchChannel). open_of (w z)) (sym s.back))) in
+        let x_was : is_some (shown_at (layers_of ls) k.other) ≡ true = ap (λ (z : SwitchChannel). is_some (shown_at (layers_of ls) z)) s.back ∙ s.p_there in
+        ap (λ (z : Joined). takes_at ms z.other (due_at ms j.other z t)) (same_Some y k (sym e ∙ m.there))
+        ∙ (takes_still t ls ms w v j.other k i.world m.switch.world (reached_there ls ms w v m.touches.reached) s.q_there x_was near open_ ∙ h k t s.there old_front)
 
     -- of another join
     stuck_apart : (p : SwitchChannel) → same_place p x ≡ false → same_place p j.other ≡ false → StuckAt ls p → StuckAt ms p
@@ -340,10 +420,9 @@ visited_pair ls w x j k i s (connected c) = record {
         let o_there : is_some (shown_at (layers_of ls) y.other) ≡ true = (i.joined y.other z.other z.joined).there in
         let front_same : front_at ls p ≡ front_at ms p =
         front_of_leg ls w p i.world z.there ∙ (ap (λ (g : Leg). front g.channel.traffic) (sym (m.touches.legs p a b)) ∙ sym (front_of_leg ms v p m.switch.world p_there)) in
-        let refusal_same : refusal_at ms y.other (request_for t) ≡ refusal_at ls y.other (request_for t) =
-        refusal_of_leg ms v y.other (request_for t) m.switch.world (reached_there ls ms w v m.touches.reached y.other ∙ o_there)
-        ∙ (ap (λ (g : Leg). refusal g.role g.channel (request_for t)) (m.touches.legs y.other d d') ∙ sym (refusal_of_leg ls w y.other (request_for t) i.world o_there)) in
-        ap (λ (o : Option Refusal). is_some o) refusal_same ∙ h y t e' (front_same ∙ f)
+        let near = ap (λ (g : Leg). g.flow.size) (m.touches.legs p a b) in
+        let open_ = ap (λ (g : Leg). open_of g) (m.touches.legs y.other d d') in
+        takes_still t ls ms w v p y i.world m.switch.world (reached_there ls ms w v m.touches.reached) z.there o_there near open_ ∙ h y t e' (front_same ∙ f)
 
     stuck_elsewhere : (p : SwitchChannel) → same_place p x ≡ false → StuckAt ls p → StuckAt ms p
     stuck_elsewhere p a h = by_other (decided (same_place p j.other))

@@ -102,7 +102,7 @@ all_roles f same (suc m) (l ∷ ls) = all_roles f same m ls
 
 step_role : (s : Step) (m : ℕ) (ls : List SwitchLine) → role_on (slice_get (lines_after s ls) m) ≡ role_on (slice_get ls m)
 step_role (Asks p q) m ls =
-    changed_role p.line _ (λ l. (found_same l.end.layer 0 p.channel (λ ch. requested l.end.layer.role ch q) (channel_of l.end.layer p.channel)).0) m ls
+    changed_role p.line _ (λ l. (found_same l.end.layer 0 p.channel (λ ch. requested l.end.layer.role l.end.layer.flow ch q) (channel_of l.end.layer p.channel)).0) m ls
 step_role (Places n parts) m ls = changed_role n _ (λ l. (placed_same l.end.layer 0 parts (channel_given l.end.layer l.end.layer.phase)).0) m ls
 step_role (Keeps p o) m ls = changed_role p.line _ (λ l. refl) m ls
 step_role (Happens n what) m ls =

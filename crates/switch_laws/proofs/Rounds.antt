@@ -5,7 +5,7 @@ use Rattle.std.proofs.lemmas.Bool.{leb-true, leb-false}
 use Rattle.lapb.specs.Machine.{Octets, Link, can_offer}
 use Rattle.packet_end.specs.End.{End}
 use Rattle.packet_layer.specs.Traffic.{Taken}
-use Rattle.packet_layer.specs.Channel.{Request, Refusal}
+use Rattle.packet_layer.specs.Channel.{Request}
 use Rattle.packet_layer.specs.Channel.Request.{Taking, Releasing}
 use Rattle.packet_layer.specs.Layer.{Next, next_packet}
 use Rattle.packet_layer.specs.Events.{written_packet}
@@ -13,9 +13,9 @@ use Rattle.packet_end.specs.PacketEnd.{PacketEnd, offered, all_offered, with_nex
 use Rattle.packet_end.proofs.Offering.{takes_none, longer, one_offered}
 use Rattle.switch_joins.specs.Direction.{releasable}
 use Rattle.switch_joins.specs.declared.channels.SwitchChannel.{SwitchChannel}
-use Rattle.switch_joins.specs.declared.join.Joined.{Joined}
-use Rattle.switch_lines.specs.Lines.{SwitchLine, changed, joined_at, with_joined, ask, front_at, refusal_at}
-use Rattle.switch_lines.specs.Relay.{carried_by, request_for, moved, moved_unless, moved_front, moved_joined, relayed, relayed_from, places_first, relayed_first, most_moves}
+use Rattle.switch_joins.specs.Joins.{Joined}
+use Rattle.switch_lines.specs.Lines.{SwitchLine, changed, joined_at, with_joined, ask, ask_all, front_at, sizes_at, takes_at}
+use Rattle.switch_lines.specs.Relay.{carried_by, due_at, moved, moved_if, moved_front, moved_joined, relayed, relayed_from, places_first, relayed_first, most_moves}
 use Rattle.switch_lines.specs.Switch.{with_end, may_offer, offering_from, offered_from, rounds}
 use Rattle.switch_laws.proofs.Lists.{map_unchanged}
 use Rattle.switch_joins.proofs.Apart.{and_both, decided}
@@ -31,14 +31,19 @@ asked_lines p q ls = map_unchanged (λ l. l.end.line) _ p.line ls (λ l. refl)
 pub joined_lines : (p : SwitchChannel) (o : Option Joined) (ls : List SwitchLine) → lines_of (with_joined p o ls) ≡ lines_of ls
 joined_lines p o ls = map_unchanged (λ l. l.end.line) _ p.line ls (λ l. refl)
 
-unless_lines : (r : Option Refusal) (t : Taken) (p : SwitchChannel) (j : Joined) (ls : List SwitchLine) → lines_of (moved_unless r t p j ls) ≡ lines_of ls
-unless_lines (Some r) t p j ls = refl
-unless_lines None t p j ls =
-    joined_lines p _ _ ∙ (asked_lines p (Releasing (releasable (carried_by t j.kept).held)) (ask j.other (request_for t) (ask p Taking ls)) ∙ (asked_lines j.other (request_for t) (ask p Taking ls) ∙ asked_lines p Taking ls))
+asks_lines : (p : SwitchChannel) (qs : List Request) (ls : List SwitchLine) → lines_of (ask_all p qs ls) ≡ lines_of ls
+asks_lines p [] ls = refl
+asks_lines p (q ∷ qs) ls = asks_lines p qs (ask p q ls) ∙ asked_lines p q ls
+
+if_lines : (b : Bool) (t : Taken) (p : SwitchChannel) (j : Joined) (ls : List SwitchLine) → lines_of (moved_if b t p j ls) ≡ lines_of ls
+if_lines false t p j ls = refl
+if_lines true t p j ls =
+    joined_lines p _ _ ∙ (asked_lines p (Releasing (releasable (carried_by (sizes_at ls p j.other) t j.kept).held)) (ask_all j.other (due_at ls p j t) (ask p Taking ls))
+    ∙ (asks_lines j.other (due_at ls p j t) (ask p Taking ls) ∙ asked_lines p Taking ls))
 
 front_lines : (o : Option Taken) (p : SwitchChannel) (j : Joined) (ls : List SwitchLine) → lines_of (moved_front o p j ls) ≡ lines_of ls
 front_lines None p j ls = refl
-front_lines (Some t) p j ls = unless_lines (refusal_at ls j.other (request_for t)) t p j ls
+front_lines (Some t) p j ls = if_lines (takes_at ls j.other (due_at ls p j t)) t p j ls
 
 moved_lines : (o : Option Joined) (p : SwitchChannel) (ls : List SwitchLine) → lines_of (moved_joined o p ls) ≡ lines_of ls
 moved_lines None p ls = refl

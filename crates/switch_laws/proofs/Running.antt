@@ -12,7 +12,7 @@ use Rattle.std.specs.Prelude.{slice_get}
 use Rattle.switch_lines.specs.declared.config.SwitchLineConfig.{SwitchLineConfig}
 use Rattle.switch_joins.specs.declared.channels.SwitchChannel.{SwitchChannel}
 use Rattle.switch_lines.specs.Making.{IsConfig, IsLineConfig}
-use Rattle.switch_joins.specs.declared.join.Joined.{Joined}
+use Rattle.switch_joins.specs.Joins.{Joined}
 use Rattle.switch_lines.specs.Lines.{joined_at}
 use Rattle.switch_laws.specs.Join.{IsJoin, turned, hears, gives}
 use Rattle.switch_laws.specs.World.{Shown, Agrees, shown_at, shown_of, layers_of}
@@ -98,7 +98,7 @@ switch_right = record {
 
 pub parameters_right : AreParams parameters
 parameters_right = record {
-  link = record { k_least = omega arith; k_most = omega arith; n2_least = omega arith; n2_most = omega arith };
+  link = record { k_least = omega arith; k_most = omega arith; n2_least = omega arith; n2_most = omega arith; info_most = omega arith };
   layer = record { channels_least = omega arith; channels_most = omega arith; flow_is = two };
 }
 

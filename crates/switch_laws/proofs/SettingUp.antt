@@ -17,7 +17,7 @@ use Rattle.packet_laws.proofs.Line.Outcomes.{free_is, given_ready}
 use Rattle.address_routes.specs.Routes.{RouteMap, line_for}
 use Rattle.switch_joins.specs.Direction.{new_direction}
 use Rattle.switch_joins.specs.declared.channels.SwitchChannel.{SwitchChannel}
-use Rattle.switch_joins.specs.declared.join.Joined.{Joined}
+use Rattle.switch_joins.specs.Joins.{Joined}
 use Rattle.switch_lines.specs.Lines.{SwitchLine, same_place, joined_at, with_joined, ask, is_trunk}
 use Rattle.switch_lines.specs.Switch.{Answer, answer, answer_by, answer_on, answer_free, answered, forwarded}
 use Rattle.switch_lines.specs.Switch.{place_call, with_join, heed, has_any, route_from}

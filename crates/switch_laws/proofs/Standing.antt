@@ -47,7 +47,7 @@ accepts_before role OwnClear e = refl
 in_call : (g : Leg) (o : Option Refusal) → refused_if (not (in_transfer g.channel.state)) Refusal.NoCall o ≡ None → in_transfer g.channel.state ≡ true
 in_call g o e = not_false _ (not_refused (not (in_transfer g.channel.state)) _ _ e).0
 
-asked_done : (q : Request) (g : Leg) → MayAsk q → refusal g.role g.channel q ≡ None → IsCallLeg g → IsCallLeg (asked_unless None q g)
+asked_done : (q : Request) (g : Leg) → MayAsk q → refusal g.role g.flow g.channel q ≡ None → IsCallLeg g → IsCallLeg (asked_unless None q g)
 asked_done Accept g m e i =
     let a = i.start (accepts_before g.role g.channel.state (not_false _ (not_refused (not (may_accept g.role g.channel.state)) _ _ e).0)) in
     start_good (asked_unless None Accept g) i.leg.flow (record { not_resetting = a.not_resetting; traffic = a.traffic; before = a.before; epoch = a.epoch })
@@ -69,12 +69,12 @@ asked_done Taking g m e i = transfer_good (asked_unless None Taking g) (in_call 
 asked_done (Releasing n) g m e i = transfer_good (asked_unless None (Releasing n) g) (in_call g _ e) (leg_released n g i.leg)
 asked_done Confirming g m e i = transfer_good (asked_unless None Confirming g) (in_call g _ e) (leg_confirmed g i.leg)
 
-asked_unless_good : (r : Option Refusal) (q : Request) (g : Leg) → MayAsk q → refusal g.role g.channel q ≡ r → IsCallLeg g → IsCallLeg (asked_unless r q g)
+asked_unless_good : (r : Option Refusal) (q : Request) (g : Leg) → MayAsk q → refusal g.role g.flow g.channel q ≡ r → IsCallLeg g → IsCallLeg (asked_unless r q g)
 asked_unless_good (Some r) q g m e i = i
 asked_unless_good None q g m e i = asked_done q g m e i
 
 pub asked_good : (q : Request) (g : Leg) → MayAsk q → IsCallLeg g → IsCallLeg (asked q g)
-asked_good q g m i = asked_unless_good (refusal g.role g.channel q) q g m refl i
+asked_good q g m i = asked_unless_good (refusal g.role g.flow g.channel q) q g m refl i
 
 -- ---- heard
 

@@ -6,7 +6,7 @@ use Rattle.std.proofs.lemmas.Option.{none-some, same_Some}
 use Rattle.packet_layer.specs.Packets.{CallParts, Note}
 use Rattle.packet_layer.specs.Packets.Note.{Incoming, Connected, Closed, WasReset, InterruptConfirmed, Covered}
 use Rattle.packet_layer.specs.Traffic.{Taken}
-use Rattle.packet_layer.specs.Channel.{Channel, Step, Request, Refusal, requested, had_call, placing, is_ready}
+use Rattle.packet_layer.specs.Channel.{Channel, Step, Request, requested, had_call, placing, is_ready}
 use Rattle.packet_layer.specs.Channel.Request.{Accept, Clearing, Resetting, Taking, Releasing, Confirming}
 use Rattle.packet_layer.specs.Layer.{Layer, channel_of, on_found, placed_on, call, request, channel_given}
 use Rattle.packet_laws.proofs.Call.Saying.{and_parts}
@@ -17,11 +17,11 @@ use Rattle.address_routes.specs.Routes.{RouteMap, line_for}
 use Rattle.switch_joins.specs.Direction.{Direction, new_direction, releasable, released}
 use Rattle.switch_lines.specs.Causes.{clear_cause, reset_cause, far_diagnostic}
 use Rattle.switch_joins.specs.declared.channels.SwitchChannel.{SwitchChannel}
-use Rattle.switch_joins.specs.declared.join.Joined.{Joined}
-use Rattle.switch_lines.specs.Lines.{SwitchLine, same_place, changed, joined_at, with_joined, ask, front_at, refusal_at}
+use Rattle.switch_joins.specs.Joins.{Joined}
+use Rattle.switch_lines.specs.Lines.{SwitchLine, same_place, changed, joined_at, with_joined, ask, ask_all, front_at, sizes_at, takes_at}
 use Rattle.switch_lines.specs.Lines.{is_trunk}
-use Rattle.switch_lines.specs.Relay.{carried_by, request_for, freed, kept_anew, covered_on, told_joined, told_of, moved}
-use Rattle.switch_lines.specs.Relay.{moved_unless, moved_front, moved_joined, relayed, relayed_from, places_first}
+use Rattle.switch_lines.specs.Relay.{carried_by, due_at, freed, kept_anew, covered_on, told_joined, told_of, moved}
+use Rattle.switch_lines.specs.Relay.{moved_if, moved_front, moved_joined, relayed, relayed_from, places_first}
 use Rattle.switch_lines.specs.Relay.{relayed_first, most_moves}
 use Rattle.switch_lines.specs.Switch.{Answer, answer, answered, forwarded, place_call, has_any, heed, heed_all}
 use Rattle.switch_lines.specs.Switch.{with_end, notes_of, without_notes, quieted, acted, may_offer, offering_from}
@@ -36,7 +36,7 @@ use Rattle.switch_laws.proofs.SettingUp.{IsFreePlace, IsAnswer, answer_by_is, an
 use Rattle.switch_laws.proofs.Coming.{at}
 use Rattle.switch_laws.proofs.Turning.{changed_twice}
 use Rattle.switch_joins.proofs.Apart.{decided, place_is, apart_by}
-use Rattle.switch_lines.proofs.Places.{get_unchanged, joined_kept, joined_asked, joined_apart}
+use Rattle.switch_lines.proofs.Places.{get_unchanged, joined_kept, joined_asked, joined_asks, joined_apart}
 
 -- ---- a channel beside those that something is asked of
 
@@ -68,7 +68,7 @@ pub asked_beside : (q : SwitchChannel) (r : Request) (ls : List SwitchLine) (x :
 asked_beside q r ls x e =
     ap (λ (ys : List Layer). shown_at ys x) (layers_asked q r ls)
     ∙ line_beside (λ l. request l q.channel r) q.line x.line x.channel (layers_of ls)
-    (λ l same got. found_beside l q.channel x.channel (λ ch. requested l.role ch r) (channel_of l q.channel) (differ x q e same))
+    (λ l same got. found_beside l q.channel x.channel (λ ch. requested l.role l.flow ch r) (channel_of l q.channel) (differ x q e same))
 
 pub joined_beside : (q : SwitchChannel) (o : Option Joined) (ls : List SwitchLine) (x : SwitchChannel) → shown_at (layers_of (with_joined q o ls)) x ≡ shown_at (layers_of ls) x
 joined_beside q o ls x = ap (λ (ys : List Layer). shown_at ys x) (layers_joined q o ls)
@@ -342,19 +342,21 @@ stay_kept ls q k v got p j e = by_place (decided (same_place p q))
         }
     by_place (inr f) = record { kept = j.kept; joined = joined_apart q (Some (record k { kept = v })) p ls f ∙ e }
 
-stay_unless : (r : Option Refusal) (t : Taken) (q : SwitchChannel) (k : Joined) (ls : List SwitchLine) → joined_at ls q ≡ Some k → AllStay ls (moved_unless r t q k ls)
-stay_unless (Some r) t q k ls got = stay_same ls ls (λ p. refl)
-stay_unless None t q k ls got =
+stay_if : (b : Bool) (t : Taken) (q : SwitchChannel) (k : Joined) (ls : List SwitchLine) → joined_at ls q ≡ Some k → AllStay ls (moved_if b t q k ls)
+stay_if false t q k ls got = stay_same ls ls (λ p. refl)
+stay_if true t q k ls got =
+    let qs = due_at ls q k t in
+    let v = carried_by (sizes_at ls q k.other) t k.kept in
     let l1 = ask q Taking ls in
-    let l2 = ask k.other (request_for t) l1 in
-    let r = Releasing (releasable (carried_by t k.kept).held) in
+    let l2 = ask_all k.other qs l1 in
+    let r = Releasing (releasable v.held) in
     let l3 = ask q r l2 in
-    let same : (p : SwitchChannel) → joined_at l3 p ≡ joined_at ls p = λ p. joined_asked q r p l2 ∙ (joined_asked k.other (request_for t) p l1 ∙ joined_asked q Taking p ls) in
-    stay_then ls l3 (moved_unless None t q k ls) (stay_same ls l3 same) (stay_kept l3 q k (released (carried_by t k.kept)) (same q ∙ got))
+    let same : (p : SwitchChannel) → joined_at l3 p ≡ joined_at ls p = λ p. joined_asked q r p l2 ∙ (joined_asks k.other qs p l1 ∙ joined_asked q Taking p ls) in
+    stay_then ls l3 (moved_if true t q k ls) (stay_same ls l3 same) (stay_kept l3 q k (released v) (same q ∙ got))
 
 stay_front : (o : Option Taken) (q : SwitchChannel) (k : Joined) (ls : List SwitchLine) → joined_at ls q ≡ Some k → AllStay ls (moved_front o q k ls)
 stay_front None q k ls got = stay_same ls ls (λ p. refl)
-stay_front (Some t) q k ls got = stay_unless (refusal_at ls k.other (request_for t)) t q k ls got
+stay_front (Some t) q k ls got = stay_if (takes_at ls k.other (due_at ls q k t)) t q k ls got
 
 pub stay_moved : (o : Option Joined) (q : SwitchChannel) (ls : List SwitchLine) → joined_at ls q ≡ o → AllStay ls (moved_joined o q ls)
 stay_moved None q ls got = stay_same ls ls (λ p. refl)

@@ -9,7 +9,7 @@ use Rattle.packet_layer.specs.Channel.Request.{Clearing, Resetting, Releasing, C
 use Rattle.switch_joins.specs.Direction.{Direction, new_direction, releasable, released, covered_by}
 use Rattle.switch_lines.specs.Causes.{reset_cause, clear_cause, far_diagnostic}
 use Rattle.switch_joins.specs.declared.channels.SwitchChannel.{SwitchChannel}
-use Rattle.switch_joins.specs.declared.join.Joined.{Joined}
+use Rattle.switch_joins.specs.Joins.{Joined}
 use Rattle.switch_lines.specs.Lines.{SwitchLine, same_place, joined_at, with_joined, ask, is_trunk}
 use Rattle.switch_lines.specs.Relay.{told, told_of, told_joined, covered_on, kept_anew}
 use Rattle.switch_laws.specs.Leg.{Leg, asked}

@@ -7,7 +7,7 @@ use Rattle.packet_layer.specs.Layer.{Layer}
 use Rattle.packet_end.specs.PacketEnd.{PacketEnd, begun, relinked, settled}
 use Rattle.address_routes.specs.Routes.{RouteMap}
 use Rattle.switch_joins.specs.declared.channels.SwitchChannel.{SwitchChannel}
-use Rattle.switch_joins.specs.declared.join.Joined.{Joined}
+use Rattle.switch_joins.specs.Joins.{Joined}
 use Rattle.switch_lines.specs.Lines.{SwitchLine, changed, joined_at}
 use Rattle.switch_lines.specs.Switch.{Switch, with_end, without_notes, notes_of, quieted, acted, all_begun, to_relink, relinked_at, all_relinked, relinks_of, lines_first, rounds, finished, timer_runs, on_expiry}
 use Rattle.switch_laws.specs.World.{World, layers_of, shown_at}
@@ -134,6 +134,8 @@ untouched n what s w b h p j e here there =
       here = e;
       there = pair.joined;
       back = pair.back;
+      p_there = pair.there;
+      q_there = (h.joins.joined j.other k pair.joined).there;
       stuck_here = λ i t g f. h.relayed p i t g f;
       stuck_there = λ i t g f. h.relayed j.other i t g f;
     } in

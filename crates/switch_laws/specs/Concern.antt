@@ -1,16 +1,15 @@
 -- Which joins an event has to relay: those with a leg on the line of the event, or on one whose link is set up anew.
-use Rattle.std.specs.Prelude.{◌≡◌, ℕ, Bool, true, false, ◌||◌, ◌==◌, if◌then◌else◌, List, [], ◌∷◌, length}
-use Rattle.std.specs.Prelude.{Option, Some, None, is_some}
+use Rattle.std.specs.Prelude.{◌≡◌, ℕ, Bool, false, ◌||◌, ◌==◌, if◌then◌else◌, List, [], ◌∷◌, length}
+use Rattle.std.specs.Prelude.{Option, Some, None}
 use Rattle.std.specs.List.{list_any}
 use Rattle.link_timers.specs.declared.timers.TimerId.{TimerId}
 use Rattle.packet_layer.specs.Traffic.{Taken}
 use Rattle.packet_end.specs.PacketEnd as end
 use Rattle.packet_end.specs.PacketEnd.{PacketEnd}
-use Rattle.switch_lines.specs.Relay.{request_for}
 use Rattle.switch_joins.specs.declared.channels.SwitchChannel.{SwitchChannel}
-use Rattle.switch_joins.specs.declared.join.Joined.{Joined}
-use Rattle.switch_lines.specs.Lines.{SwitchLine, joined_at, front_at, refusal_at, places}
-use Rattle.switch_lines.specs.Relay.{relayed_from, all_relayed}
+use Rattle.switch_joins.specs.Joins.{Joined}
+use Rattle.switch_lines.specs.Lines.{SwitchLine, joined_at, front_at, takes_at, places}
+use Rattle.switch_lines.specs.Relay.{due_at, relayed_from, all_relayed}
 use Rattle.switch_lines.specs.Switch.{Switch, acted, all_begun, all_relinked, offered_from, offering_from, on_frame}
 use Rattle.switch_lines.specs.Switch.{on_expiry, relink}
 use Rattle.switch_lines.specs.Alone.{on_frame_alone, on_expiry_alone, relink_alone}
@@ -40,7 +39,7 @@ relayed_on lines ls = relayed_from (concerned lines ls (places ls)) ls
 -- on no other channel anything waits that the other leg takes
 abbrev pub HasRelayedBut : List ℕ → List SwitchLine → Type 0
 HasRelayedBut lines ls = (p : SwitchChannel) (j : Joined) (t : Taken) → is_concerned lines ls p ≡ false
-    → joined_at ls p ≡ Some j → front_at ls p ≡ Some t → is_some (refusal_at ls j.other (request_for t)) ≡ true
+    → joined_at ls p ≡ Some j → front_at ls p ≡ Some t → takes_at ls j.other (due_at ls p j t) ≡ false
 
 -- ---- the lines on which something happened in an event of line n, and the switch before its relay
 

@@ -1,22 +1,20 @@
 -- The steps of each event of a switch.
 use Rattle.std.specs.Prelude.{ℕ, zero, suc, ◌*◌, if◌then◌else◌, List, [], ◌∷◌, ◌++◌, length, slice_get, Option}
 use Rattle.std.specs.Prelude.{Some, None}
-use Rattle.std.specs.Prelude.{true, false}
+use Rattle.std.specs.Prelude.{Bool, true, false}
 use Rattle.std.specs.List.{list_any}
 use Rattle.packet_codec.specs.Diagnostic.{no_information}
 use Rattle.packet_layer.specs.Packets.{CallParts, Note}
 use Rattle.packet_layer.specs.Packets.Note.{Incoming, Connected, Closed, WasReset, InterruptConfirmed, Covered}
 use Rattle.packet_layer.specs.Traffic.{Taken}
-use Rattle.packet_layer.specs.Channel.{Refusal}
+use Rattle.packet_layer.specs.Channel.{Request}
 use Rattle.packet_layer.specs.Channel.Request.{Accept, Clearing, Resetting, Taking, Releasing, Confirming}
 use Rattle.address_routes.specs.Routes.{RouteMap}
 use Rattle.switch_joins.specs.Direction.{Direction, new_direction, releasable, released, covered_by}
-use Rattle.switch_lines.specs.Relay.{carried_by}
-use Rattle.switch_lines.specs.Relay.{request_for}
+use Rattle.switch_lines.specs.Relay.{carried_by, due_at}
 use Rattle.switch_lines.specs.Causes.{reset_cause, clear_cause, far_diagnostic}
 use Rattle.switch_joins.specs.declared.channels.SwitchChannel.{SwitchChannel}
-use Rattle.switch_joins.specs.declared.join.Joined.{Joined}
-use Rattle.switch_lines.specs.Lines.{SwitchLine, changed, joined_at, places, front_at, refusal_at, is_trunk}
+use Rattle.switch_lines.specs.Lines.{Joined, SwitchLine, changed, joined_at, places, front_at, sizes_at, takes_at, is_trunk}
 use Rattle.switch_lines.specs.Relay.{moved, relayed, places_first, relayed_first, most_moves}
 use Rattle.switch_lines.specs.Switch.{Answer, answer, forwarded, heed, notes_of, with_end, quieted, acted, to_relink}
 use Rattle.switch_lines.specs.Switch.{relinked_at, all_relinked, may_offer, offering_from, offered_from}
@@ -32,13 +30,19 @@ use Rattle.switch_laws.specs.Steps.Step.{Asks, Places, Keeps, Happens, Offers, B
 abbrev pub freed_steps : SwitchChannel → Joined → Direction → List Step
 freed_steps p j v = Asks p (Releasing (releasable v.held)) ∷ Keeps p (Some (record j { kept = released v })) ∷ []
 
-abbrev pub moved_unless_steps : Option Refusal → Taken → SwitchChannel → Joined → List Step
-moved_unless_steps None t p j = Asks p Taking ∷ Asks j.other (request_for t) ∷ freed_steps p j (carried_by t j.kept)
-moved_unless_steps (Some r) t p j = []
+abbrev pub asks_steps : SwitchChannel → List Request → List Step
+asks_steps p [] = []
+asks_steps p (q ∷ qs) = Asks p q ∷ asks_steps p qs
+
+abbrev pub moved_if_steps : Bool → Taken → SwitchChannel → Joined → List SwitchLine → List Step
+moved_if_steps true t p j ls =
+    Asks p Taking
+    ∷ (asks_steps j.other (due_at ls p j t) ++ freed_steps p j (carried_by (sizes_at ls p j.other) t j.kept))
+moved_if_steps false t p j ls = []
 
 abbrev pub moved_front_steps : Option Taken → SwitchChannel → Joined → List SwitchLine → List Step
 moved_front_steps None p j ls = []
-moved_front_steps (Some t) p j ls = moved_unless_steps (refusal_at ls j.other (request_for t)) t p j
+moved_front_steps (Some t) p j ls = moved_if_steps (takes_at ls j.other (due_at ls p j t)) t p j ls
 
 abbrev pub moved_joined_steps : Option Joined → SwitchChannel → List SwitchLine → List Step
 moved_joined_steps None p ls = []

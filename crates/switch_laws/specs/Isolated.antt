@@ -6,7 +6,7 @@ use Rattle.packet_layer.specs.Packets.{CallParts}
 use Rattle.packet_layer.specs.Channel.{Channel, Step, requested, placing}
 use Rattle.packet_layer.specs.Layer.{Layer, channel_of, channel_given}
 use Rattle.switch_joins.specs.declared.channels.SwitchChannel.{SwitchChannel}
-use Rattle.switch_joins.specs.declared.join.Joined.{Joined}
+use Rattle.switch_joins.specs.Joins.{Joined}
 use Rattle.switch_lines.specs.Lines.{SwitchLine, joined_at}
 use Rattle.switch_lines.specs.Switch.{Switch, on_frame, on_timer, relink}
 use Rattle.switch_laws.specs.World.{World, Act, line_of, after_act, layers_of, shown_at}
@@ -41,7 +41,7 @@ fifth_placed l (Some c) parts = fifth_on (channel_of l c) (λ ch. placing parts 
 -- a request on a channel of the line does that, or a call that is placed there
 abbrev pub makes_fifth : Act → Option Layer → Bool
 makes_fifth act None = false
-makes_fifth (Asks p q) (Some l) = fifth_on (channel_of l p.channel) (λ ch. requested l.role ch q)
+makes_fifth (Asks p q) (Some l) = fifth_on (channel_of l p.channel) (λ ch. requested l.role l.flow ch q)
 makes_fifth (Calls n parts) (Some l) = fifth_placed l (channel_given l l.phase) parts
 makes_fifth act (Some l) = false
 

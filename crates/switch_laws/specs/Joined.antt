@@ -3,13 +3,11 @@ use Rattle.std.specs.Prelude.{◌≡◌, ℕ, zero, suc, Bool, true, false, not,
 use Rattle.std.specs.Prelude.{Option, Some, None, is_some}
 use Rattle.packet_layer.specs.Packets.{Note}
 use Rattle.packet_layer.specs.Packets.Note.{Closed}
-use Rattle.packet_layer.specs.Traffic.{Taken}
 use Rattle.packet_layer.specs.Channel.{may_accept, waits_for_call}
 use Rattle.switch_joins.specs.Direction.{new_direction}
-use Rattle.switch_lines.specs.Relay.{request_for}
+use Rattle.switch_lines.specs.Waiting.{IsStuck}
 use Rattle.switch_joins.specs.declared.channels.SwitchChannel.{SwitchChannel}
-use Rattle.switch_joins.specs.declared.join.Joined.{Joined}
-use Rattle.switch_lines.specs.Lines.{SwitchLine, same_place, joined_at, front_at, refusal_at}
+use Rattle.switch_lines.specs.Lines.{Joined, SwitchLine, same_place, joined_at}
 use Rattle.switch_laws.specs.Leg.{Leg}
 use Rattle.switch_laws.specs.Join.{IsJoin}
 use Rattle.packet_laws.specs.Readable.{Every}
@@ -78,8 +76,7 @@ IsSwitch ls w = IsSwitchBefore 0 [] ls w
 
 -- nothing waits on a joined channel that the other leg takes
 abbrev pub HasRelayedAll : List SwitchLine → Type 0
-HasRelayedAll ls = (p : SwitchChannel) (j : Joined) (t : Taken) → joined_at ls p ≡ Some j → front_at ls p ≡ Some t
-    → is_some (refusal_at ls j.other (request_for t)) ≡ true
+HasRelayedAll ls = (p : SwitchChannel) → IsStuck ls p
 
 -- the packet layers and the legs of one switch are reached from those of another one by these acts
 pub record Reached (acts : List Act) (ls : List SwitchLine) (w : World) (ms : List SwitchLine) (v : World)

@@ -1,15 +1,16 @@
 -- What holds of the relay of a switch, and of its joins, whatever its partners send.
-use Rattle.std.specs.Prelude.{◌≡◌, ℕ, Bool, true, false, List, [], ◌∷◌, slice_get, Some, None, is_some}
+use Rattle.std.specs.Prelude.{◌≡◌, ℕ, ◌≤◌, ◌<◌, Bool, true, false, List, [], ◌∷◌, ◌++◌, length, slice_get, Some, None, is_some}
 use Rattle.link_timers.specs.declared.role.Role.{Role}
 use Rattle.link_timers.specs.declared.timers.TimerId.{TimerId}
 use Rattle.epochs.specs.Item.{all_items}
 use Rattle.packet_channel.specs.declared.flow.Flow.{Flow}
 use Rattle.packet_layer.specs.Flow.{IsFlow}
-use Rattle.packet_layer.specs.Packets.{Body, CallParts}
+use Rattle.packet_layer.specs.Packets.{Body, CallParts, Datum}
 use Rattle.packet_layer.specs.Channel.{received, unreadable}
 use Rattle.packet_layer.specs.Channel.CallState.{Transfer}
 use Rattle.packet_layer.specs.Layer.{Layer}
 use Rattle.address_routes.specs.Routes.{RouteMap, line_for}
+use Rattle.switch_joins.specs.Turning.{nothing_gathered, turned, items_gathered}
 use Rattle.switch_joins.specs.Direction.{new_direction}
 use Rattle.switch_joins.specs.declared.channels.SwitchChannel.{SwitchChannel}
 use Rattle.switch_lines.specs.Lines.{SwitchLine, joined_at, is_trunk}
@@ -17,7 +18,8 @@ use Rattle.switch_lines.specs.Relay.{all_relayed, most_moves}
 use Rattle.switch_lines.specs.Switch.{Switch, answer, heed_all, on_frame, on_expiry, relink, restart, elapse}
 use Rattle.switch_lines.specs.Switch.Answer.{Joins}
 use Rattle.switch_laws.specs.Leg.{connected}
-use Rattle.switch_laws.specs.Way.{Way, Holds, IsRight, IsStuck, freed, moved, relayed}
+use Rattle.switch_laws.specs.Clause.{EndsSequence}
+use Rattle.switch_laws.specs.Way.{Way, sizes, Holds, IsRight, IsStuck, freed, moved, relayed}
 use Rattle.switch_laws.specs.Join.{Join, IsJoin, IsAtRest, relayed_both, hears, mishears, gives}
 use Rattle.packet_end.specs.PacketEnd as end
 use Rattle.switch_laws.specs.Calls.{CallsAreJoined, HasCall}
@@ -29,12 +31,21 @@ use Rattle.switch_laws.specs.Steps.Happening.{Brings, RunsOut, Relinks}
 use Rattle.switch_laws.specs.EventSteps.{all_relayed_steps, heed_all_steps, event_acts}
 use Rattle.switch_laws.specs.Joined.{IsSwitch, Becomes, HasRelayedAll, HasActed, IsTold, notes_made, has_place}
 
--- one direction: item by item what was sent is what was taken, and on lines of one size packet by packet, with M, Q
--- and D. Releasing what may be released and relaying keep the clause, and after the most moves nothing waits that the
--- far leg takes, since no more than a queue of packets and an interrupt can wait on the near leg
+-- one direction: item by item what was sent, with what is gathered behind it, is what was taken; between lines of one
+-- size, packet by packet, with M, Q and D. What is gathered is less than a packet of the far line, and no packet of the
+-- near line makes more packets due than a queue has places. What ends a sequence leaves nothing gathered. Releasing
+-- what may be released and relaying keep the clause, and after the most moves nothing waits that the far leg takes,
+-- since no more than a queue of packets and an interrupt can wait on the near leg
 pub record RelayLaw : Type 0 where
-  pub items : (w : Way) → Holds w → all_items w.far.epoch.sent ≡ all_items w.near.epoch.taken
-  pub packets : (w : Way) → Holds w → w.far.epoch.sent ≡ w.near.epoch.taken
+  pub items : (w : Way) → Holds w
+      → all_items w.far.epoch.sent ++ items_gathered w.kept.gathered ≡ all_items w.near.epoch.taken
+  pub packets : (w : Way) → Holds w → w.near.flow.size ≡ w.far.flow.size
+      → w.far.epoch.sent ≡ w.near.epoch.taken
+  pub gathers_little : (w : Way) → Holds w → length w.kept.gathered.octets < w.far.flow.size
+  pub makes_few : (w : Way) (d : Datum) → Holds w → length d.octets ≤ w.near.flow.size
+      → length (turned (sizes w) w.kept.gathered d).made ≤ 8
+  pub ends : (w : Way) (d : Datum) → EndsSequence w.near.flow.size d
+      → (turned (sizes w) w.kept.gathered d).left ≡ nothing_gathered
   pub frees : (w : Way) → Holds w → IsRight (freed w)
   pub moves : (w : Way) → IsRight w → IsRight (moved w)
   pub relays : (most : ℕ) (w : Way) → IsRight w → IsRight (relayed most w)

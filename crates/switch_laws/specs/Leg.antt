@@ -12,8 +12,8 @@ use Rattle.packet_layer.specs.Channel.CallState.{Transfer}
 use Rattle.packet_laws.specs.History.{Epoch, empty_epoch, logged, logged_heard}
 use Rattle.packet_laws.specs.Counts.{NamesCounts}
 
--- the role and the window of the line; the channel; the epochs of its present call: the past ones, the latest first,
--- and the present one
+-- the role and the flow control of the line; the channel; the epochs of its present call: the past ones, the latest
+-- first, and the present one
 pub record Leg : Type 0 where
   pub role : Role
   pub flow : Flow
@@ -40,7 +40,12 @@ asked_unless None q g = stepped (carried_out g.channel q) (logged g.channel.traf
 asked_unless (Some r) q g = g
 
 abbrev pub asked : Request → Leg → Leg
-asked q g = asked_unless (refusal g.role g.channel q) q g
+asked q g = asked_unless (refusal g.role g.flow g.channel q) q g
+
+-- requests, one after the other
+abbrev pub asked_all : List Request → Leg → Leg
+asked_all [] g = g
+asked_all (q ∷ qs) g = asked_all qs (asked q g)
 
 -- a packet that is heard in d1 covers what its P(R) covers
 abbrev pub heard_epoch : CallState → Bool → Heard → Epoch → Epoch
@@ -70,8 +75,9 @@ connected role flow owed = record {
   epoch = empty_epoch;
 }
 
--- what always holds of a leg that no user stops: its flow control is one of a line; its numbers name the counts of its epoch; while its own reset is not
--- confirmed nothing was sent or taken; and an interrupt waits only where none is unconfirmed
+-- what always holds of a leg that no user stops: its flow control is one of a line; its numbers name the counts of its
+-- epoch; while its own reset is not confirmed nothing was sent or taken; and an interrupt waits only where none is
+-- unconfirmed
 pub record IsLeg (g : Leg) : Type 0 where
   pub flow : IsFlow g.flow
   pub counts : NamesCounts g.flow g.channel.traffic g.epoch

@@ -10,7 +10,7 @@ use Rattle.packet_end.specs.PacketEnd as end
 use Rattle.packet_end.specs.PacketEnd.{PacketEnd}
 use Rattle.address_routes.specs.Routes.{RouteMap, line_for}
 use Rattle.switch_joins.specs.declared.channels.SwitchChannel.{SwitchChannel}
-use Rattle.switch_joins.specs.declared.join.Joined.{Joined}
+use Rattle.switch_joins.specs.Joins.{Joined}
 use Rattle.switch_lines.specs.Lines.{SwitchLine, changed, joined_at, is_trunk}
 use Rattle.switch_lines.specs.Switch.{Switch, answer, has_any, on_frame, on_expiry, all_begun, with_end, quieted}
 use Rattle.switch_lines.specs.Switch.{notes_of, relink, forwarded}

@@ -17,8 +17,7 @@ use Rattle.packet_layer.specs.Events.{timer_named}
 use Rattle.packet_end.specs.PacketEnd as end
 use Rattle.packet_end.specs.PacketEnd.{PacketEnd, runs_at, with_next, all_offered, begun, settled, elapsed}
 use Rattle.switch_joins.specs.declared.channels.SwitchChannel.{SwitchChannel}
-use Rattle.switch_joins.specs.declared.join.Joined.{Joined}
-use Rattle.switch_lines.specs.Lines.{SwitchLine, changed, with_joined, ask}
+use Rattle.switch_lines.specs.Lines.{Joined, SwitchLine, changed, with_joined, ask}
 use Rattle.switch_lines.specs.Switch.{with_end, quieted, without_notes, place_call}
 use Rattle.switch_laws.specs.World.{Act}
 

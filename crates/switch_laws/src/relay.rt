@@ -6,12 +6,14 @@ ghost use Rattle.switch_laws.specs.Law.{JoinLaw, RelayLaw, SwitchLaw, TurnLaw};
 ghost use Rattle.switch_laws.specs.Pairs.{PairLaw};
 ghost use Rattle.switch_laws.specs.Run.{RunLaw};
 ghost use Rattle.switch_laws.specs.Sent.{SentLaw};
+ghost use Rattle.switch_laws.specs.SizesRun.{SizesRunLaw};
 ghost use Rattle.switch_laws.specs.TrunkRun.{TrunkRunLaw};
 
-/// One direction of a join, over the definitions of the layer and of the switch alone: what the switch sends on the far
-/// leg is what it takes on the near leg, item by item, and packet by packet on lines of one size; a packet with D = 1 is
-/// released only when the far leg's P(R) covers it; and after 33 moves nothing waits on the near leg that the far leg
-/// takes (X.25 4.3.3).
+/// One direction of a join, over the definitions of the layer and of the switch alone. What the switch sends on the far
+/// leg, with what it gathers behind it, is what it takes on the near leg, item by item, and packet by packet between
+/// lines of one size. A packet with D = 1 is released only when the far leg's P(R) covers all that it made due. What
+/// ends a sequence of packets leaves nothing gathered. After 33 moves nothing waits on the near leg that the far leg
+/// takes (X.25 4.3.3, 4.3.4).
 pub fn relay_law()
     ensures { RelayLaw }
 {}
@@ -68,9 +70,11 @@ pub fn switch_events_law()
     ensures { EventLaw }
 {}
 
-/// A run of one join, and a switch of two lines without calls; and a run of a switch with a trunk at which it is the
-/// DTE: they meet what the laws above ask for.
+/// A run of one join, and a switch of two lines without calls; a run of a join between lines of 128 and 256 octets, with
+/// packets that are cut and gathered; and a run of a switch with a trunk at which it is the DTE: they meet what the laws
+/// above ask for.
 pub fn run_law()
     ensures join { RunLaw }
+    ensures sizes { SizesRunLaw }
     ensures trunk { TrunkRunLaw }
 {}

@@ -51,7 +51,7 @@ pub at_dce : (d : Planned) (params : EndParams) → new_at d Dce params ≡ new_
 at_dce (PlannedUser n) params = refl
 at_dce (PlannedSwitch n) params = refl
 
-pub is_new_dte : (l : NewLine) (dte dce : Planned) → IsKindOfLine l dte dce → IsNewDte (as_dte dte)
+pub is_new_dte : (l : NewLine) (dte dce : Planned) → IsKindOfLine l dte dce → IsNewDte (as_dte dte) l.params
 is_new_dte l (PlannedUser dte) (PlannedUser dce) kind = kind.0
 is_new_dte l (PlannedUser dte) (PlannedSwitch dce) kind = kind.0
 is_new_dte l (PlannedSwitch dte) dce kind = tt

@@ -1,9 +1,10 @@
 -- Where a network is at rest, with switches or without one, nothing is missing.
-use Rattle.std.proofs.Common.{◌≡◌, ℕ, ◌<◌, true, zero, suc, Bool, List, [], ◌∷◌, Some, sym, ap, ◌∙◌, subst}
+use Rattle.std.proofs.Common.{◌≡◌, ℕ, ◌<◌, true, false, zero, suc, Bool, List, [], ◌∷◌, Some, sym, ap, ◌∙◌, subst}
 use Rattle.std.specs.Prelude.{slice_get}
 use Rattle.std.specs.List.{list_all}
 use Rattle.std.proofs.lemmas.Option.{same_Some, none-some}
 use Rattle.std.proofs.lemmas.Bool.{and_parts}
+use Rattle.link_timers.specs.declared.role.Role.{Role}
 use Rattle.link_timers.specs.declared.role.Role.TheVariants.{Dte, Dce}
 use Rattle.line_laws.specs.Line.{Line}
 use Rattle.line_laws.specs.Rest.{AreAtRest}
@@ -14,17 +15,22 @@ use Rattle.book_laws.specs.Rest.{NothingMissing}
 use Rattle.line_record_laws.proofs.Missing.{rest_kept}
 use Rattle.network_laws.specs.Node.{NodeState, node_rests}
 use Rattle.memory_line.specs.Lines.{LineService}
+use Rattle.packet_end.specs.PacketEnd.{at_rest}
+use Rattle.switch_joins.specs.Joins.{gathers_nothing}
 use Rattle.switch_lines.specs.Switch.{line_rests}
-use Rattle.switch_path_laws.specs.Law.{SwitchesRest}
+use Rattle.switch_path_laws.specs.Law.{GathersNothing, SwitchesRest}
+use Rattle.switch_path_laws.specs.Sight.{Switched}
+use Rattle.switch_path_laws.proofs.Gathering.{none_gathered}
 use Rattle.switch_path_laws.proofs.Begins.{network_holds}
 use Rattle.network_laws.specs.OneLine.{LineState}
-use Rattle.network_laws.specs.Network.{NetNode, User, Switching, NetLine, Network}
+use Rattle.network_laws.specs.Network.{NetNode, User, Switching, NetLine, Network, place_at}
 use Rattle.network_laws.specs.IsLine.{line_of}
 use Rattle.network_laws.specs.Rest.{MissesNothing}
 use Rattle.network_laws.proofs.Resting.{rest_network}
 use Rattle.switch_network_laws.specs.IsSwitched.{ends_state, line_between, IsEndOf, EndStands, LineStands, IsHeld, IsSwitched, of_users, with_switches}
 use Rattle.switch_network_laws.specs.Rest.{AreAllAtRest}
 use Rattle.switch_network_laws.specs.Laws.{RestLaw}
+use Rattle.switch_network_laws.proofs.OwnLines.{switch_there}
 use Rattle.switch_network_laws.proofs.PromiseHeld.{held, LineHas, line_has, its_line}
 
 -- ---- lists
@@ -43,7 +49,8 @@ module _ (L : LineService) (s : Network) (p : IsSwitched L s) (f : L.faithful) (
     where
       by : (n : NetNode) → slice_get s.nodes place ≡ Some n → IsEndOf n line x → node_rests x ≡ true
       by (User n) there is = ap node_rests is.1 ∙ rests.users place n there
-      by (Switching n) there is = ap node_rests is.4 ∙ all_at line_rests n.switch.lines is.0 is.1 (rests.switches place n there) is.3
+      by (Switching n) there is =
+          ap node_rests is.4 ∙ (and_parts (at_rest is.1.end) (list_all gathers_nothing is.1.joined) (all_at line_rests n.switch.lines is.0 is.1 (rests.switches place n there) is.3)).0
 
   -- both ends of each line
   ends_rest : (line : ℕ) (l : NetLine) (h : LineStands s.nodes line l) → AreAtRest (line_between l h.at).dte (line_between l h.at).dce
@@ -54,11 +61,24 @@ module _ (L : LineService) (s : Network) (p : IsSwitched L s) (f : L.faithful) (
     no_relink_at_dce = (h.quiet Dce).settled;
   }
 
-  switch_rests : SwitchesRest (held L s p f).plan (held L s p f).lines (held L s p f).books
+  -- nothing is gathered at the switch at an end of a line
+  switch_gathers : (line : ℕ) (l : NetLine) (role : Role) (x : Switched) → slice_get s.lines line ≡ Some l → (h : LineStands s.nodes line l) → (held L s p f).plan.has_user line role ≡ false
+      → (held L s p f).switches ((held L s p f).plan.node line role) ≡ Some x → GathersNothing x.switch.lines
+  switch_gathers line l role x at h switch there =
+      let own = switch_there (held L s p f).plan s (held L s p f).plan_is line l role at (h.there role) switch in
+      let is = (held L s p f).switches_are (place_at role l) own.0 own.1 in
+      let same = same_Some _ x (sym is.is ∙ (ap (held L s p f).switches (sym ((held L s p f).plan_is.node line l role at)) ∙ there)) in
+      subst (λ (y : Switched). GathersNothing y.switch.lines) same
+      (none_gathered line_rests (λ k e. (and_parts (at_rest k.end) (list_all gathers_nothing k.joined) e).1) own.0.switch.lines (rests.switches (place_at role l) own.0 own.1))
+
+  switch_rests : SwitchesRest (held L s p f).plan (held L s p f).switches (held L s p f).lines (held L s p f).books
   switch_rests line role less switch =
       let l = get_there s.lines line (subst (λ (n : ℕ). line < n) (held L s p f).count less) in
       let h : LineStands s.nodes line l.0 = p.lines line l.0 l.1 in
-      subst (λ (x : Line). AreAtRest x.dte x.dce) (sym ((held L s p f).lines_are line l.0 l.1 h)) (ends_rest line l.0 h)
+      record {
+        ends = subst (λ (x : Line). AreAtRest x.dte x.dce) (sym ((held L s p f).lines_are line l.0 l.1 h)) (ends_rest line l.0 h);
+        gathered = λ x there. switch_gathers line l.0 role x l.1 h switch there;
+      }
 
   line_rests_so : (line : ℕ) (b : Book) → slice_get (held L s p f).books line ≡ Some b → NothingMissing b.records b.pairs
   line_rests_so line b there =

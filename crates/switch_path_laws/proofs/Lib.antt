@@ -18,6 +18,7 @@ mod Joined
 mod Promised
 mod Along
 mod Transferring
+pub mod Gathering
 mod Resting
 pub mod Begins
 pub mod Only

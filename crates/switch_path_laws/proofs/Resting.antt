@@ -1,5 +1,5 @@
 -- Where all lines of a network of switches are at rest, nothing is missing in its register.
-use Rattle.std.specs.Prelude.{◌≡◌, ℕ, ◌<◌, ◌⊎◌, Bool, true, false, is_some, List, [], length, slice_get, Option, Some, None}
+use Rattle.std.specs.Prelude.{◌≡◌, ℕ, ◌<◌, ◌⊎◌, Bool, true, false, is_some, List, [], ◌∷◌, length, slice_get, Option, Some, None}
 use Rattle.std.proofs.Common.{inl, inr, refl, sym, ap, ap₂, subst, ◌∙◌, true≢false, append-nil, option_map}
 use Rattle.std.proofs.lemmas.Option.{same_Some, slice_get_within}
 use Rattle.link_timers.specs.declared.role.Role.{Role}
@@ -31,10 +31,11 @@ use Rattle.register_laws.proofs.Steps.{same_place}
 use Rattle.line_record_laws.specs.Kept.{Setting, Kept, end_at}
 use Rattle.line_record_laws.proofs.Missing.{rest_kept}
 use Rattle.switch_joins.specs.declared.channels.SwitchChannel.{SwitchChannel}
-use Rattle.switch_joins.specs.declared.join.Joined.{Joined}
+use Rattle.switch_joins.specs.Joins.{Joined}
 use Rattle.switch_lines.specs.Lines.{SwitchLine}
 use Rattle.switch_lines.specs.Switch.{Switch}
 use Rattle.switch_laws.specs.Leg.{Leg}
+use Rattle.switch_joins.specs.Turning.{Gathered, items_gathered}
 use Rattle.switch_laws.specs.Clause.{Carries, taken_part, sent_part}
 use Rattle.switch_laws.specs.Joined.{WaitsFor, IsPair, IsJoinedAt}
 use Rattle.switch_laws.specs.Joined.IsPair.{connected, waiting}
@@ -52,7 +53,7 @@ use Rattle.call_path_laws.specs.Rest.{HasHandedAll, HaveHandedAll}
 use Rattle.call_path_laws.proofs.Resting.{rest_paths}
 use Rattle.switch_path_laws.specs.Sight.{Switched, Switches, OwnLines, Lines, role_at, network_line, StaysInSight}
 use Rattle.switch_path_laws.specs.Network.{PlacedCall, of_switch, lines_of, HasNumber, JoinIs, IsNetwork}
-use Rattle.switch_path_laws.specs.Law.{IsOfUsers, SwitchesRest, RestLaw}
+use Rattle.switch_path_laws.specs.Law.{IsOfUsers, GathersNothing, RestsAt, SwitchesRest, RestLaw}
 use Rattle.switch_path_laws.proofs.Seeing.{line_there, own_trace, line_seen}
 use Rattle.switch_path_laws.proofs.Elsewhere.{end_in_sight}
 use Rattle.switch_path_laws.proofs.Joined.{in_sight, its_switch, kept_line, of_its, users_or_switch}
@@ -70,18 +71,30 @@ no_wait : (role : Role) (state : CallState) → waits_for_call role state ≡ tr
 no_wait Dte state h e = true≢false (sym h ∙ ap (λ (x : CallState). waits_for_call Dte x) e)
 no_wait Dce state h e = true≢false (sym h ∙ ap (λ (x : CallState). waits_for_call Dce x) e)
 
--- the epochs that carry each other are one where nothing is left over
-same_epoch : (n f : Epoch) → Carries (taken_part n) (sent_part f) [] → sent_epoch (sent_of f) ≡ taken_epoch (taken_of n)
-same_epoch n f c =
+-- the epochs that carry each other are one where nothing is gathered
+no_items : (g : Gathered) → length g.octets ≡ 0 → items_gathered g ≡ []
+no_items g none = by g.octets none
+  where
+    by : (octets : List ℕ) → length octets ≡ 0 → items_gathered (record g { octets = octets }) ≡ []
+    by [] e = by_bit g.qualified
+      where
+        by_bit : (q : Bool) → items_gathered (record { octets = []; qualified = q }) ≡ []
+        by_bit true = refl
+        by_bit false = refl
+    by (x ∷ xs) e = cc
+
+same_epoch : (n f : Epoch) (g : Gathered) → length g.octets ≡ 0 → Carries (taken_part n) (sent_part f) (items_gathered g) → sent_epoch (sent_of f) ≡ taken_epoch (taken_of n)
+same_epoch n f g none some =
+    let c = subst (λ (left : List Item). Carries (taken_part n) (sent_part f) left) (no_items g none) some in
     ap₂ (λ (is : List Item) (os : List (List ℕ)). record { items = is; interrupts = os }) (sym (append-nil (all_items f.sent)) ∙ sym (carried_items (taken_part n) (sent_part f) [] c)) c.interrupts
 
-are_connected : (g h : Leg) (j k : Joined) → IsPair g h j k → j.came_in ≡ true → h.channel.state ≡ Transfer → AreConnected g h
-are_connected g h j k (connected c) came in_call = record {
+are_connected : (g h : Leg) (j k : Joined) → length j.kept.gathered.octets ≡ 0 → length k.kept.gathered.octets ≡ 0 → IsPair g h j k → j.came_in ≡ true → h.channel.state ≡ Transfer → AreConnected g h
+are_connected g h j k near far (connected c) came in_call = record {
   near_call = c.there.holds.near_call;
-  onward = same_epoch g.epoch h.epoch c.there.holds.direction.carries;
-  backward = same_epoch h.epoch g.epoch c.back.holds.direction.carries;
+  onward = same_epoch g.epoch h.epoch j.kept.gathered near c.there.holds.direction.carries;
+  backward = same_epoch h.epoch g.epoch k.kept.gathered far c.back.holds.direction.carries;
 }
-are_connected g h j k (waiting there back w) came in_call =
+are_connected g h j k near far (waiting there back w) came in_call =
     absurd (no_wait h.role h.channel.state (subst (λ (v : Bool). WaitsFor v g h) came w).waits in_call)
 
 none_over : ⊥ ⊎ ⊥ → ⊥
@@ -126,7 +139,7 @@ own_seen Dce Dce e = refl
 -- ---- one switch
 
 module _ (plan : Plan) (ats : OwnLines) (xs : Switches) (cs : List PlacedCall) (lines : Lines) (books : List Book) (w : World) (traces : List (List Origin))
-    (i : IsNetwork plan ats xs cs lines books w traces) (rests : SwitchesRest plan lines books) (place : ℕ) (x : Switched) (x_there : xs place ≡ Some x) where
+    (i : IsNetwork plan ats xs cs lines books w traces) (rests : SwitchesRest plan xs lines books) (place : ℕ) (x : Switched) (x_there : xs place ≡ Some x) where
   abbrev at : List ℕ
   at = ats place
 
@@ -146,8 +159,14 @@ module _ (plan : Plan) (ats : OwnLines) (xs : Switches) (cs : List PlacedCall) (
   line_book : (n : ℕ) → n < length at → slice_get books (network_line at n) ≡ Some (sight (role_at x n) (h.books n))
   line_book n less = (st.sight n less).book
 
+  at_line : (n : ℕ) → n < length at → RestsAt plan xs lines (network_line at n) (role_at x n)
+  at_line n less = rests (network_line at n) (role_at x n) (slice_get_within books (network_line at n) (sight (role_at x n) (h.books n)) (line_book n less)) ((i.planned place x x_there).switch_end n less)
+
   line_rests : (n : ℕ) → n < length at → AreAtRest (lines (network_line at n)).line.dte (lines (network_line at n)).line.dce
-  line_rests n less = rests (network_line at n) (role_at x n) (slice_get_within books (network_line at n) (sight (role_at x n) (h.books n)) (line_book n less)) ((i.planned place x x_there).switch_end n less)
+  line_rests n less = (at_line n less).ends
+
+  nothing_gathered : (n : ℕ) → n < length at → GathersNothing s.lines
+  nothing_gathered n less = (at_line n less).gathered x (ap xs ((i.planned place x x_there).placed n less) ∙ x_there)
 
   layer_there : (n : ℕ) (l : SwitchLine) → slice_get s.lines n ≡ Some l → slice_get (layers_of s.lines) n ≡ Some l.end.layer
   layer_there n l e = get_map (λ (y : SwitchLine). y.end.layer) s.lines n ∙ ap (λ (o : Option SwitchLine). option_map (λ (y : SwitchLine). y.end.layer) o) e
@@ -231,10 +250,11 @@ module _ (plan : Plan) (ats : OwnLines) (xs : Switches) (cs : List PlacedCall) (
       let own = (st.tied.records c.far.line l.end.layer (layer_there c.far.line l got)).apart.apart t.role Dce t.channel c.far.channel c.placed t.present stands.far_present in
       let there : channel_of l.end.layer c.far.channel ≡ Some t.its_channel = ap (λ (d : ℕ). channel_of l.end.layer d) (sym own.1) ∙ t.there own.0 in
       let g : IsJoinedAt 0 [] s.lines h.legs c.near stands.join = st.tied.holds.joins.joined c.near stands.join stands.joined in
+      let none : GathersNothing s.lines = nothing_gathered c.near.line near_less in
       let far_call : (h.legs c.far).channel.state ≡ Transfer = ap (λ (y : Channel). y.state) (leg_of c.far l got t.its_channel there) ∙ t.in_call in
       let legs : AreConnected (h.legs c.near) (h.legs c.far) = elim g.pair [
         | inl p ↦ subst (λ (q : SwitchChannel). AreConnected (h.legs c.near) (h.legs q)) stands.other
-            (are_connected (h.legs c.near) (h.legs stands.join.other) stands.join g.other p stands.came_in_here (ap (λ (q : SwitchChannel). (h.legs q).channel.state) stands.other ∙ far_call))
+            (are_connected (h.legs c.near) (h.legs stands.join.other) stands.join g.other (none c.near stands.join stands.joined) (none stands.join.other g.other g.joined) p stands.came_in_here (ap (λ (q : SwitchChannel). (h.legs q).channel.state) stands.other ∙ far_call))
         | inr over ↦ absurd (none_over over)
       ] in
       let ln = its_line c.near.line near_less in
@@ -319,7 +339,7 @@ module _ (plan : Plan) (ats : OwnLines) (xs : Switches) (cs : List PlacedCall) (
 -- ---- all switches
 
 module _ (plan : Plan) (ats : OwnLines) (xs : Switches) (cs : List PlacedCall) (lines : Lines) (books : List Book) (w : World) (traces : List (List Origin))
-    (i : IsNetwork plan ats xs cs lines books w traces) (rests : SwitchesRest plan lines books) where
+    (i : IsNetwork plan ats xs cs lines books w traces) (rests : SwitchesRest plan xs lines books) where
   have_handed_all : HaveHandedAll w
   have_handed_all a b d k pair callee came joined pair_there caller callee_there open_ =
       let join : Join = record { came_in = a; placed = b } in
@@ -330,7 +350,7 @@ module _ (plan : Plan) (ats : OwnLines) (xs : Switches) (cs : List PlacedCall) (
 
   at_switch : (line : ℕ) (role : Role) (b : Book) → slice_get books line ≡ Some b → plan.has_user line role ≡ false → NothingMissing b.records b.pairs
   at_switch line role b there switch =
-      rest_kept (lines line).setting b (lines line).line (kept_line plan ats xs cs lines books w traces i line role b there switch) (rests line role (slice_get_within books line b there) switch)
+      rest_kept (lines line).setting b (lines line).line (kept_line plan ats xs cs lines books w traces i line role b there switch) (rests line role (slice_get_within books line b there) switch).ends
 
   nothing_missing : ((line : ℕ) (b : Book) → IsOfUsers plan line → slice_get books line ≡ Some b → NothingMissing b.records b.pairs) → (line : ℕ) (b : Book) → slice_get books line ≡ Some b → NothingMissing b.records b.pairs
   nothing_missing users line b there = elim (users_or_switch plan line) [ inl both ↦ users line b both there | inr switch ↦ at_switch line switch.0 b there switch.1 ]

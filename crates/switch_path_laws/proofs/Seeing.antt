@@ -23,7 +23,7 @@ use Rattle.book_laws.specs.Headline.{IsIn}
 use Rattle.register_laws.proofs.Positions.{is_place, one_here}
 use Rattle.register_laws.proofs.Steps.{same_place}
 use Rattle.switch_joins.specs.declared.channels.SwitchChannel.{SwitchChannel}
-use Rattle.switch_joins.specs.declared.join.Joined.{Joined}
+use Rattle.switch_joins.specs.Joins.{Joined}
 use Rattle.switch_lines.specs.Lines.{SwitchLine, is_trunk, joined_at}
 use Rattle.switch_lines.specs.Switch.{forwarded}
 use Rattle.switch_lines.specs.Switch as switch

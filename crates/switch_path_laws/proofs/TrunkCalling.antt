@@ -1,8 +1,10 @@
 -- The run over a trunk goes on: what it comes to is computed.
 use Rattle.std.specs.Prelude.{◌≡◌, ℕ, zero, suc, ◌<◌, Bool, true, false, not, ◌&&◌, if◌then◌else◌, List, [], ◌∷◌, ◌++◌, map, slice_get, Option, Some, None, is_some}
+use Rattle.std.specs.List.{list_all}
 use Rattle.std.specs.FinMap.{empty, insert, get-insert}
 use Rattle.std.proofs.Common.{refl, sym, ap, ap₂, subst, ◌∙◌, true≢false, arith}
 use Rattle.std.proofs.lemmas.Bool.{and_parts}
+use Rattle.std.proofs.lemmas.Option.{same_Some}
 use Rattle.std.proofs.lemmas.Cmp.{nat_list_cmp_total}
 use Rattle.link_timers.specs.declared.role.Role.TheVariants.{Dte, Dce}
 use Rattle.lapb.specs.Machine.{Octets}
@@ -25,6 +27,7 @@ use Rattle.line_record_laws.specs.Kept.{Setting, Kept}
 use Rattle.switch_joins.specs.declared.channels.NewJoin.{NewJoin}
 use Rattle.switch_joins.specs.declared.channels.SwitchChannel.{SwitchChannel}
 use Rattle.switch_lines.specs.Relay as relaying
+use Rattle.switch_joins.specs.Joins.{gathers_nothing}
 use Rattle.switch_lines.specs.Lines.{SwitchLine, changed}
 use Rattle.switch_lines.specs.NewJoins.{join_of, joins_of_notes, new_joins}
 use Rattle.switch_lines.specs.Switch.{Switch, on_frame, Answer, answer, answer_by, route_from, answered, has_any, heed_all, notes_of, without_notes, quieted, with_end, all_begun, finished}
@@ -33,8 +36,9 @@ use Rattle.switch_laws.specs.TrunkRun as trunk
 use Rattle.call_path_laws.specs.Promise.{PathsHold}
 use Rattle.call_path_laws.specs.Run.{message, one_sent, one_taken}
 use Rattle.call_path_laws.proofs.Ending.{ends_seen}
-use Rattle.switch_path_laws.specs.Sight.{Standing, network_line}
-use Rattle.switch_path_laws.specs.Law.{IsOfUsers, SwitchesRest}
+use Rattle.switch_path_laws.specs.Sight.{Switched, Standing, network_line}
+use Rattle.switch_path_laws.proofs.Gathering.{none_gathered}
+use Rattle.switch_path_laws.specs.Law.{IsOfUsers, GathersNothing, SwitchesRest}
 use Rattle.switch_path_laws.specs.TrunkRun.{plan, ats, top_routes}
 use Rattle.switch_path_laws.specs.TrunkCall.{TwoSwitches, Stands, below_moves, top_moves, takes_first, below_hears, top_hears, parts, Act, ToBelow, BelowSends, ToTop, TopSends, ToLast, Calls, to_below, to_top, after_act, after_acts, may_act, AllStand, start, set_up, below_turn, top_turn, ready, placed, went_on, came_in, accepting, connected, carrying, carried, restarting, ended, HasPlaced, RestsOn, AllRest, near_channel, trunk_channel, join_below, join_above, first_hop, second_hop, caller, callee, TrunkCallLaw}
 use Rattle.switch_path_laws.proofs.Begins.{network_holds}
@@ -253,8 +257,11 @@ records_carried = refl
 abbrev line_rests : Standing → Bool
 line_rests l = at_rest l.line.dte && at_rest l.line.dce && not l.line.dte.layer.relink && not l.line.dce.layer.relink
 
+abbrev has_nothing : SwitchLine → Bool
+has_nothing l = list_all gathers_nothing l.joined
+
 abbrev all_rest : TwoSwitches → Bool
-all_rest v = line_rests v.first && line_rests v.trunk && line_rests v.last
+all_rest v = line_rests v.first && line_rests v.trunk && line_rests v.last && list_all has_nothing v.below.lines && list_all has_nothing v.top.lines
 
 all_at_rest : in_the_end all_rest false talking gone_in ≡ true
 unfolding offers.all_offered offers.finished relaying.most_moves
@@ -341,9 +348,17 @@ rests_so l h =
 
 all_rest_so : (v : TwoSwitches) → all_rest v ≡ true → AllRest v
 all_rest_so v h =
-    let a = and_parts (line_rests v.first && line_rests v.trunk) (line_rests v.last) h in
-    let b = and_parts (line_rests v.first) (line_rests v.trunk) a.0 in
-    (rests_so v.first b.0, (rests_so v.trunk b.1, rests_so v.last a.1))
+    let top = and_parts (line_rests v.first && line_rests v.trunk && line_rests v.last && list_all has_nothing v.below.lines) (list_all has_nothing v.top.lines) h in
+    let below = and_parts (line_rests v.first && line_rests v.trunk && line_rests v.last) (list_all has_nothing v.below.lines) top.0 in
+    let last = and_parts (line_rests v.first && line_rests v.trunk) (line_rests v.last) below.0 in
+    let both = and_parts (line_rests v.first) (line_rests v.trunk) last.0 in
+    record {
+      first = rests_so v.first both.0;
+      trunk = rests_so v.trunk both.1;
+      last = rests_so v.last last.1;
+      below = none_gathered has_nothing (λ l e. e) v.below.lines below.1;
+      top = none_gathered has_nothing (λ l e. e) v.top.lines top.1;
+    }
 
 carried_rests : AllRest carried
 carried_rests = all_rest_so carried (in_carried all_rest false true all_at_rest)
@@ -387,10 +402,23 @@ no_more_lines line (suc zero) h e = let no : 1 ≡ suc (suc (suc line)) = e in o
 no_more_lines line (suc (suc n)) h e = omega arith
 
 module _ (v : TwoSwitches) (st : Stands v) (rests : AllRest v) where
-  switches_rest : SwitchesRest plan st.lines st.books
-  switches_rest zero role h switch = subst (λ (l : Standing). RestsOn l) (sym st.first) rests.0
-  switches_rest (suc zero) role h switch = subst (λ (l : Standing). RestsOn l) (sym st.trunk) rests.1.0
-  switches_rest (suc (suc zero)) role h switch = subst (λ (l : Standing). RestsOn l) (sym st.last) rests.1.1
+  below_gathers : (x : Switched) → st.xs 9 ≡ Some x → GathersNothing x.switch.lines
+  below_gathers x e =
+      subst (λ (y : Switched). GathersNothing y.switch.lines) (same_Some st.below x (sym st.below_there ∙ e))
+      (subst (λ (y : Switch). GathersNothing y.lines) (sym st.below_is) rests.below)
+
+  top_gathers : (x : Switched) → st.xs 4 ≡ Some x → GathersNothing x.switch.lines
+  top_gathers x e =
+      subst (λ (y : Switched). GathersNothing y.switch.lines) (same_Some st.top x (sym st.top_there ∙ e))
+      (subst (λ (y : Switch). GathersNothing y.lines) (sym st.top_is) rests.top)
+
+  switches_rest : SwitchesRest plan st.xs st.lines st.books
+  switches_rest zero Dte h switch = absurd (true≢false switch)
+  switches_rest zero Dce h switch = record { ends = subst (λ (l : Standing). RestsOn l) (sym st.first) rests.first; gathered = below_gathers }
+  switches_rest (suc zero) Dte h switch = record { ends = subst (λ (l : Standing). RestsOn l) (sym st.trunk) rests.trunk; gathered = below_gathers }
+  switches_rest (suc zero) Dce h switch = record { ends = subst (λ (l : Standing). RestsOn l) (sym st.trunk) rests.trunk; gathered = top_gathers }
+  switches_rest (suc (suc zero)) Dte h switch = absurd (true≢false switch)
+  switches_rest (suc (suc zero)) Dce h switch = record { ends = subst (λ (l : Standing). RestsOn l) (sym st.last) rests.last; gathered = top_gathers }
   switches_rest (suc (suc (suc line))) Dte h switch = absurd (true≢false switch)
   switches_rest (suc (suc (suc line))) Dce h switch =
       let e = st.network.ends (suc (suc (suc line))) Dce h switch in

@@ -147,7 +147,7 @@ top_configs_right = record { least = omega arith; most = omega arith; each = top
 
 are_params : AreParams parameters
 are_params = record {
-  link = record { k_least = omega arith; k_most = omega arith; n2_least = omega arith; n2_most = omega arith };
+  link = record { k_least = omega arith; k_most = omega arith; n2_least = omega arith; n2_most = omega arith; info_most = omega arith };
   layer = record { channels_least = omega arith; channels_most = omega arith; flow_is = record { window_least = omega arith; window_most = omega arith; size_is = refl } };
 }
 

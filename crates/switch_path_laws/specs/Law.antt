@@ -14,7 +14,7 @@ use Rattle.book_laws.specs.Rest.{NothingMissing}
 use Rattle.line_laws.specs.Line.{Line, Restarts, other_after}
 use Rattle.line_laws.specs.Rest.{AreAtRest}
 use Rattle.line_record_laws.specs.Kept.{Setting, Kept, end_at}
-use Rattle.switch_lines.specs.Lines.{SwitchLine}
+use Rattle.switch_lines.specs.Lines.{SwitchChannel, Joined, SwitchLine, joined_at}
 use Rattle.switch_lines.specs.Switch.{on_frame, on_expiry, relink, elapse, restart}
 use Rattle.packet_laws.specs.Readable.{AreOctets}
 use Rattle.switch_laws.specs.Steps.Happening.{Brings, RunsOut, Relinks}
@@ -239,10 +239,19 @@ PlacedLaw = (plan : Plan) (ats : OwnLines) (xs : Switches) (cs : List PlacedCall
 
 -- ---- at rest
 
--- both ends of each line of a switch are at rest
-abbrev pub SwitchesRest : Plan → Lines → List Book → Type 0
-SwitchesRest plan lines books = (line : ℕ) (role : Role) → line < length books → plan.has_user line role ≡ false
-    → AreAtRest (lines line).line.dte (lines line).line.dce
+-- of what was taken on the channels of a switch nothing is gathered
+abbrev pub GathersNothing : List SwitchLine → Type 0
+GathersNothing ls = (p : SwitchChannel) (j : Joined) → joined_at ls p ≡ Some j → length j.kept.gathered.octets ≡ 0
+
+-- both ends of a line are at rest, and nothing is gathered at the switch at this end
+pub record RestsAt (plan : Plan) (xs : Switches) (lines : Lines) (line : ℕ) (role : Role) : Type 0 where
+  pub ends : AreAtRest (lines line).line.dte (lines line).line.dce
+  pub gathered : (x : Switched) → xs (plan.node line role) ≡ Some x → GathersNothing x.switch.lines
+
+-- so it is of each line of a switch
+abbrev pub SwitchesRest : Plan → Switches → Lines → List Book → Type 0
+SwitchesRest plan xs lines books = (line : ℕ) (role : Role) → line < length books → plan.has_user line role ≡ false
+    → RestsAt plan xs lines line role
 
 -- then, where nothing is missing on the lines between users, nothing is missing in the register: of each call that is
 -- open at both ends, over one line or over any number of switches, each end took all that the other one sent since the
@@ -250,7 +259,7 @@ SwitchesRest plan lines books = (line : ℕ) (role : Role) → line < length boo
 abbrev pub RestLaw : Type 0
 RestLaw = (plan : Plan) (ats : OwnLines) (xs : Switches) (cs : List PlacedCall) (lines : Lines) (books : List Book)
     (w : World) (traces : List (List Origin)) → IsNetwork plan ats xs cs lines books w traces
-    → SwitchesRest plan lines books
+    → SwitchesRest plan xs lines books
     → ((line : ℕ) (b : Book) → IsOfUsers plan line → slice_get books line ≡ Some b → NothingMissing b.records b.pairs)
     → NothingMissing w.register.records w.register.pairs
 

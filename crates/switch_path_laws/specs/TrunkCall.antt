@@ -36,6 +36,7 @@ use Rattle.call_path_laws.specs.World.{Origin, World, made_world, far_end}
 use Rattle.call_path_laws.specs.Promise.{PathsHold}
 use Rattle.call_path_laws.specs.Run.{message, one_sent, one_taken}
 use Rattle.switch_path_laws.specs.Sight.{Switched, Switches, Lines, Standing, role_at, standing_with, partner_of}
+use Rattle.switch_path_laws.specs.Law.{GathersNothing}
 use Rattle.switch_path_laws.specs.Network.{PlacedCall, IsNetwork, channel_end}
 use Rattle.switch_path_laws.specs.TrunkRun.{plan, ats, lines, top, standing}
 
@@ -381,8 +382,13 @@ pub record HasPlaced (v : TwoSwitches) : Type 0 where
 abbrev pub RestsOn : Standing → Type 0
 RestsOn l = AreAtRest l.line.dte l.line.dce
 
-abbrev pub AllRest : TwoSwitches → Type 0
-AllRest v = RestsOn v.first × (RestsOn v.trunk × RestsOn v.last)
+-- all lines are at rest, and nothing is gathered at the switches
+pub record AllRest (v : TwoSwitches) : Type 0 where
+  pub first : RestsOn v.first
+  pub trunk : RestsOn v.trunk
+  pub last : RestsOn v.last
+  pub below : GathersNothing v.below.lines
+  pub top : GathersNothing v.top.lines
 
 -- the network stands at each step. The first user's call goes to its switch, which joins it with one that it places on
 -- the trunk: the caller's path has a hop. The other switch joins that one with one that it places on the last line: the

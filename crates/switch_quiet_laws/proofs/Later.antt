@@ -4,18 +4,18 @@ use Rattle.std.specs.List.{list_any}
 use Rattle.packet_layer.specs.Packets.{CallParts, Note}
 use Rattle.packet_layer.specs.Packets.Note.{Incoming, Connected, Closed, WasReset, InterruptConfirmed, Covered}
 use Rattle.packet_layer.specs.Traffic.{Taken}
-use Rattle.packet_layer.specs.Channel.{Refusal}
+use Rattle.packet_layer.specs.Channel.{Request}
 use Rattle.address_routes.specs.Routes.{RouteMap}
 use Rattle.switch_joins.specs.declared.channels.SwitchChannel.{SwitchChannel}
-use Rattle.switch_joins.specs.declared.join.Joined.{Joined}
-use Rattle.switch_lines.specs.Lines.{SwitchLine, changed, joined_at, front_at, refusal_at}
-use Rattle.switch_lines.specs.Relay.{request_for, moved, relayed, places_first, relayed_first, most_moves}
+use Rattle.switch_joins.specs.Joins.{Joined}
+use Rattle.switch_lines.specs.Lines.{SwitchLine, changed, joined_at, front_at, sizes_at, takes_at}
+use Rattle.switch_lines.specs.Relay.{carried_by, due_at, moved, relayed, places_first, relayed_first, most_moves}
 use Rattle.switch_lines.specs.Switch.{Answer, answer, heed, notes_of, with_end, quieted, to_relink, relinked_at, all_relinked, may_offer, offering_from, offered_from, lines_first}
 use Rattle.switch_lines.specs.Switch.Answer.{Clears, Joins}
 use Rattle.switch_laws.specs.Steps.{does, Step, lines_after}
 use Rattle.switch_laws.specs.Steps.Happening.{Relinks}
 use Rattle.switch_laws.specs.Steps.Step.{Happens, Settles, Elapses}
-use Rattle.switch_laws.specs.EventSteps.{moved_unless_steps, moved_front_steps, moved_joined_steps, relayed_steps, relayed_from_steps, relayed_first_steps, anew_steps, covered_steps, told_joined_steps, told_steps, answered_steps, on_channel, heed_steps, heed_all_steps, relinked_steps, all_relinked_steps, offered_steps, rounds_steps, finished_steps}
+use Rattle.switch_laws.specs.EventSteps.{asks_steps, freed_steps, moved_if_steps, moved_front_steps, moved_joined_steps, relayed_steps, relayed_from_steps, relayed_first_steps, anew_steps, covered_steps, told_joined_steps, told_steps, answered_steps, on_channel, heed_steps, heed_all_steps, relinked_steps, all_relinked_steps, offered_steps, rounds_steps, finished_steps}
 
 abbrev pub IsLater : Step → Type 0
 IsLater (Happens n Relinks) = Unit {0}
@@ -33,13 +33,17 @@ later-then (a ∷ as_) bs p q = (p.0, later-then as_ bs p.1 q)
 
 -- ---- relay
 
-unless-later : (o : Option Refusal) (t : Taken) (p : SwitchChannel) (j : Joined) → AreLater (moved_unless_steps o t p j)
-unless-later None t p j = (tt, (tt, (tt, (tt, tt))))
-unless-later (Some r) t p j = tt
+asks-later : (p : SwitchChannel) (qs : List Request) (more : List Step) → AreLater more → AreLater (asks_steps p qs ++ more)
+asks-later p [] more h = h
+asks-later p (q ∷ qs) more h = (tt, asks-later p qs more h)
+
+if-later : (b : Bool) (t : Taken) (p : SwitchChannel) (j : Joined) (ls : List SwitchLine) → AreLater (moved_if_steps b t p j ls)
+if-later true t p j ls = (tt, asks-later j.other (due_at ls p j t) (freed_steps p j (carried_by (sizes_at ls p j.other) t j.kept)) (tt, (tt, tt)))
+if-later false t p j ls = tt
 
 front-later : (o : Option Taken) (p : SwitchChannel) (j : Joined) (ls : List SwitchLine) → AreLater (moved_front_steps o p j ls)
 front-later None p j ls = tt
-front-later (Some t) p j ls = unless-later (refusal_at ls j.other (request_for t)) t p j
+front-later (Some t) p j ls = if-later (takes_at ls j.other (due_at ls p j t)) t p j ls
 
 moved-later : (o : Option Joined) (p : SwitchChannel) (ls : List SwitchLine) → AreLater (moved_joined_steps o p ls)
 moved-later None p ls = tt

@@ -9,14 +9,14 @@ use Rattle.packet_codec.specs.Digits.{digits_or_none}
 use Rattle.packet_layer.specs.Packets.{CallParts, Note}
 use Rattle.packet_layer.specs.Packets.Note.{Incoming, Connected, Closed, WasReset, InterruptConfirmed, Covered}
 use Rattle.packet_layer.specs.Traffic.{Taken}
-use Rattle.packet_layer.specs.Channel.{Refusal}
-use Rattle.packet_laws.specs.Readable.{CanBePlaced}
+use Rattle.packet_layer.specs.Channel.{Request}
+use Rattle.packet_laws.specs.Readable.{CanBePlaced, Every}
 use Rattle.address_routes.specs.Routes.{RouteMap}
 use Rattle.packet_end.specs.PacketEnd.{PacketEnd}
 use Rattle.switch_joins.specs.declared.channels.SwitchChannel.{SwitchChannel}
-use Rattle.switch_joins.specs.declared.join.Joined.{Joined}
-use Rattle.switch_lines.specs.Lines.{SwitchLine, changed, joined_at, front_at, refusal_at}
-use Rattle.switch_lines.specs.Relay.{request_for, moved, relayed, places_first, relayed_first, most_moves}
+use Rattle.switch_joins.specs.Joins.{Joined}
+use Rattle.switch_lines.specs.Lines.{SwitchLine, changed, joined_at, front_at, sizes_at, takes_at}
+use Rattle.switch_lines.specs.Relay.{carried_by, due_at, moved, relayed, places_first, relayed_first, most_moves}
 use Rattle.switch_lines.specs.Switch.{Answer, answer, address_of, heed, notes_of, with_end, quieted, acted, to_relink, relinked_at, all_relinked, may_offer, offering_from, offered_from, lines_first}
 use Rattle.switch_lines.specs.Switch.Answer.{Clears, Joins}
 use Rattle.switch_laws.specs.World.{MayAsk}
@@ -25,7 +25,7 @@ use Rattle.switch_laws.proofs.Lists.{map_unchanged, get_map, get_changed}
 use Rattle.switch_laws.specs.Steps.{Happening, does, Step, lines_after, lines_after_all}
 use Rattle.switch_laws.specs.Steps.Happening.{Brings, RunsOut, Relinks}
 use Rattle.switch_laws.specs.Steps.Step.{Asks, Places, Keeps, Happens, Offers, Begins, Settles, Elapses}
-use Rattle.switch_laws.specs.EventSteps.{moved_unless_steps, moved_front_steps, moved_joined_steps, relayed_steps, relayed_from_steps, relayed_first_steps, anew_steps, covered_steps, told_joined_steps, told_steps, answered_steps, on_channel, heed_steps, heed_all_steps, acted_steps, relinked_steps, all_relinked_steps, offered_steps, rounds_steps, finished_steps}
+use Rattle.switch_laws.specs.EventSteps.{asks_steps, freed_steps, moved_if_steps, moved_front_steps, moved_joined_steps, relayed_steps, relayed_from_steps, relayed_first_steps, anew_steps, covered_steps, told_joined_steps, told_steps, answered_steps, on_channel, heed_steps, heed_all_steps, acted_steps, relinked_steps, all_relinked_steps, offered_steps, rounds_steps, finished_steps}
 use Rattle.switch_record_laws.specs.Kept.{ReadsOctets, Partners, partners_after, partners_after_all, IsFit, AreFit, HaveAddresses}
 use Rattle.switch_laws.proofs.Leading.{Leads, heed_leads, acted_leads, relinked_leads}
 use Rattle.switch_record_laws.proofs.Fitting.{NotesCarry, happening_carries}
@@ -122,13 +122,19 @@ line_address ls n h = by (slice_get ls n) refl
 
 -- ---- relay
 
-unless_calm : (o : Option Refusal) (t : Taken) (p : SwitchChannel) (j : Joined) → AreCalm (moved_unless_steps o t p j)
-unless_calm None t p j = (tt, (may_ask t, (tt, (tt, tt))))
-unless_calm (Some r) t p j = tt
+asks_calm : (p : SwitchChannel) (qs : List Request) (more : List Step) → Every MayAsk qs → AreCalm more → AreCalm (asks_steps p qs ++ more)
+asks_calm p [] more may h = h
+asks_calm p (q ∷ qs) more may h = (may.0, asks_calm p qs more may.1 h)
+
+if_calm : (b : Bool) (t : Taken) (p : SwitchChannel) (j : Joined) (ls : List SwitchLine) → AreCalm (moved_if_steps b t p j ls)
+if_calm true t p j ls =
+    let sizes = sizes_at ls p j.other in
+    (tt, asks_calm j.other (due_at ls p j t) (freed_steps p j (carried_by sizes t j.kept)) (may_ask sizes j.kept.gathered t) (tt, (tt, tt)))
+if_calm false t p j ls = tt
 
 front_calm : (o : Option Taken) (p : SwitchChannel) (j : Joined) (ls : List SwitchLine) → AreCalm (moved_front_steps o p j ls)
 front_calm None p j ls = tt
-front_calm (Some t) p j ls = unless_calm (refusal_at ls j.other (request_for t)) t p j
+front_calm (Some t) p j ls = if_calm (takes_at ls j.other (due_at ls p j t)) t p j ls
 
 moved_calm : (o : Option Joined) (p : SwitchChannel) (ls : List SwitchLine) → AreCalm (moved_joined_steps o p ls)
 moved_calm None p ls = tt

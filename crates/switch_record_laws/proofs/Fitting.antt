@@ -75,14 +75,14 @@ unread_carries false None = tt
 unread_carries true (Some c) = tt
 unread_carries false (Some c) = tt
 
-read_carries : (n : Numbering) (octets : List ℕ) (r : Result PacketValue PacketFault) → Found n 128 octets r → MayReceive (heard_by octets r)
-read_carries n octets (Ok p) f = content_carries p.numbering 128 p.channel p.content f.fits
-read_carries n octets (Err packet_fault.TooShort) f = tt
-read_carries n octets (Err packet_fault.BadFormatId) f = tt
-read_carries n octets (Err packet_fault.UnknownType) f = unread_carries true (named_channel octets)
-read_carries n octets (Err packet_fault.BadLength) f = unread_carries false (named_channel octets)
-read_carries n octets (Err packet_fault.BadAddress) f = unread_carries false (named_channel octets)
-read_carries n octets (Err packet_fault.DataTooLong) f = unread_carries false (named_channel octets)
+read_carries : (n : Numbering) (size : ℕ) (octets : List ℕ) (r : Result PacketValue PacketFault) → Found n size octets r → MayReceive (heard_by octets r)
+read_carries n size octets (Ok p) f = content_carries p.numbering size p.channel p.content f.fits
+read_carries n size octets (Err packet_fault.TooShort) f = tt
+read_carries n size octets (Err packet_fault.BadFormatId) f = tt
+read_carries n size octets (Err packet_fault.UnknownType) f = unread_carries true (named_channel octets)
+read_carries n size octets (Err packet_fault.BadLength) f = unread_carries false (named_channel octets)
+read_carries n size octets (Err packet_fault.BadAddress) f = unread_carries false (named_channel octets)
+read_carries n size octets (Err packet_fault.DataTooLong) f = unread_carries false (named_channel octets)
 
 below : (octets : List ℕ) (k : ℕ) → AreOctets octets → get_or octets k 0 < 256
 below [] k are = omega arith
@@ -91,7 +91,7 @@ below (x ∷ xs) (suc k) are = below xs k are.1
 
 pub heard_carries : (flow : Flow) (octets : List ℕ) → AreOctets octets → MayReceive (heard flow octets)
 heard_carries flow octets are =
-    read_carries flow.numbering octets (reading flow.numbering 128 octets) (found flow.numbering 128 octets (λ k. below octets k are))
+    read_carries flow.numbering flow.size octets (reading flow.numbering flow.size octets) (found flow.numbering flow.size octets (λ k. below octets k are))
 
 -- ---- what is noted
 

@@ -116,14 +116,14 @@ opened_call st e g = ap (λ (s : Shown). had_call s.channel.state) (opened_shown
 line_asks : (x : Role) (l : Layer) (d : ℕ) (q : Request) (legs : ℕ → Leg) (b : Book) → MayAsk q → ((c : ℕ) → LineAgrees l c (legs c)) → AreRecords x l legs b
     → AreRecords x (request l d q) (λ c. if c == d then asked q (legs c) else legs c) (unless_refused (request_refusal l d q) (request_writes x d q (channel_of l d) b) b)
 line_asks x l d q legs b m i r =
-    stepped_on x l d (λ ch. requested l.role ch q) (channel_of l d) legs (λ c. if c == d then asked q (legs c) else legs c) b _ refl (λ c ne. if_other c d (legs c) _ ne)
-    (λ e. ap (λ (o : Option Channel). unless_refused (refusal_at l.role q o) (request_writes x d q o b) b) e)
+    stepped_on x l d (λ ch. requested l.role l.flow ch q) (channel_of l d) legs (λ c. if c == d then asked q (legs c) else legs c) b _ refl (λ c ne. if_other c d (legs c) _ ne)
+    (λ e. ap (λ (o : Option Channel). unless_refused (refusal_at l.role l.flow q o) (request_writes x d q o b) b) e)
     (λ ch e is h.
     let a = shown_leg l d ch (legs d) e (i d) in
-    subst (λ (o : Option Channel). Writes x d b (unless_refused (refusal_at l.role q o) (request_writes x d q o b) b) (leg_if (had_call (requested l.role ch q).channel.state) (if d == d then asked q (legs d) else legs d))) (sym e)
-    (subst (λ (g : Leg). Writes x d b (unless_refused (refusal l.role ch q) (request_writes x d q (Some ch) b) b) (leg_if (had_call (requested l.role ch q).channel.state) g)) (sym (if_same d (legs d) (asked q (legs d))))
-    (subst (λ (s : Shown). Writes x d b (unless_refused (refusal s.role s.channel q) (request_writes x d q (Some s.channel) b) b) (leg_if (had_call (requested s.role s.channel q).channel.state) (asked q (legs d)))) (sym a.shown)
-    (subst (λ (v : Bool). Writes x d b (unless_refused (refusal (legs d).role (legs d).channel q) (request_writes x d q (Some (legs d).channel) b) b) (leg_if v (asked q (legs d))))
+    subst (λ (o : Option Channel). Writes x d b (unless_refused (refusal_at l.role l.flow q o) (request_writes x d q o b) b) (leg_if (had_call (requested l.role l.flow ch q).channel.state) (if d == d then asked q (legs d) else legs d))) (sym e)
+    (subst (λ (g : Leg). Writes x d b (unless_refused (refusal l.role l.flow ch q) (request_writes x d q (Some ch) b) b) (leg_if (had_call (requested l.role l.flow ch q).channel.state) g)) (sym (if_same d (legs d) (asked q (legs d))))
+    (subst (λ (s : Shown). Writes x d b (unless_refused (refusal s.role s.flow s.channel q) (request_writes x d q (Some s.channel) b) b) (leg_if (had_call (requested s.role s.flow s.channel q).channel.state) (asked q (legs d)))) (sym a.shown)
+    (subst (λ (v : Bool). Writes x d b (unless_refused (refusal (legs d).role (legs d).flow (legs d).channel q) (request_writes x d q (Some (legs d).channel) b) b) (leg_if v (asked q (legs d))))
     (asked_call q (legs d))
     (asked_written x d q b (legs d) m a.leg (subst (λ (s : Shown). Has x d (leg_if (had_call s.channel.state) (legs d)) b) a.shown h)))))) r
   where
@@ -131,8 +131,8 @@ line_asks x l d q legs b m i r =
     asked_by (Some f) q g = refl
     asked_by None q g = opened_call (carried_out g.channel q) (logged g.channel.traffic q g.epoch) g
 
-    asked_call : (q : Request) (g : Leg) → had_call (asked q g).channel.state ≡ had_call (requested g.role g.channel q).channel.state
-    asked_call q g = asked_by (refusal g.role g.channel q) q g
+    asked_call : (q : Request) (g : Leg) → had_call (asked q g).channel.state ≡ had_call (requested g.role g.flow g.channel q).channel.state
+    asked_call q g = asked_by (refusal g.role g.flow g.channel q) q g
 
 -- ---- all calls of the line close
 

@@ -5,7 +5,6 @@ use Rattle.link_timers.specs.declared.role.Role.TheVariants.{Dte, Dce}
 use Rattle.frame_codec.specs.declared.fault.FrameFault.{FrameFault}
 use Rattle.frame_codec.specs.declared.fault.FrameFault.TheVariants.{TooShort, WrongAddress, UnknownControl, InfoNotAllowed, InfoTooLong}
 use Rattle.frame_codec.specs.Frame.{Content, I, Rr, Rnr, Rej, Sabm, Disc, Dm, Ua, Frmr, FrameValue}
-use Rattle.frame_codec.specs.Spelling.{most_information}
 use Rattle.frame_codec.specs.Reading as frames
 use Rattle.lapb.specs.declared.phase.Phase.{Phase}
 use Rattle.lapb.specs.declared.phase.Phase.TheVariants.{Down, SettingUp, Up, Rejecting}
@@ -57,19 +56,19 @@ response_read : (control : ℕ) (field : List ℕ) → OnContent (frames.respons
 response_read control field =
     by_if (λ r. OnContent r) _ _ _ (bare_read Dm field tt) (by_if (λ r. OnContent r) _ _ _ (bare_read Ua field tt) (by_if (λ r. OnContent r) _ _ _ (report_read field) (no_frame UnknownControl)))
 
-information_read : (control : ℕ) (field : List ℕ) → AreOctets field → OnContent (frames.information_read control field)
-information_read control field are =
-    by_if (λ r. OnContent r) (nat_le (length field) most_information) (Ok (I (control / 2 % 8) (control / 32) field)) (Err InfoTooLong) (record { it = are }) (no_frame InfoTooLong)
+information_read : (info control : ℕ) (field : List ℕ) → AreOctets field → OnContent (frames.information_read info control field)
+information_read info control field are =
+    by_if (λ r. OnContent r) (nat_le (length field) info) (Ok (I (control / 2 % 8) (control / 32) field)) (Err InfoTooLong) (record { it = are }) (no_frame InfoTooLong)
 
-command_read : (control : ℕ) (field : List ℕ) → AreOctets field → OnContent (frames.command_read control field)
-command_read control field are =
-    by_if (λ r. OnContent r) _ _ _ (information_read control field are) (by_if (λ r. OnContent r) _ _ _ (bare_read Sabm field tt) (by_if (λ r. OnContent r) _ _ _ (bare_read Disc field tt) (no_frame UnknownControl)))
+command_read : (info control : ℕ) (field : List ℕ) → AreOctets field → OnContent (frames.command_read info control field)
+command_read info control field are =
+    by_if (λ r. OnContent r) _ _ _ (information_read info control field are) (by_if (λ r. OnContent r) _ _ _ (bare_read Sabm field tt) (by_if (λ r. OnContent r) _ _ _ (bare_read Disc field tt) (no_frame UnknownControl)))
 
-content_read : (response : Bool) (control : ℕ) (field : List ℕ) → AreOctets field → OnContent (frames.content_read response control field)
-content_read response control field are =
+content_read : (info : ℕ) (response : Bool) (control : ℕ) (field : List ℕ) → AreOctets field → OnContent (frames.content_read info response control field)
+content_read info response control field are =
     by_if (λ r. OnContent r) _ _ _ (bare_read (Rr (control / 32)) field tt)
     (by_if (λ r. OnContent r) _ _ _ (bare_read (Rnr (control / 32)) field tt)
-    (by_if (λ r. OnContent r) _ _ _ (bare_read (Rej (control / 32)) field tt) (by_if (λ r. OnContent r) _ _ _ (response_read control field) (command_read control field are))))
+    (by_if (λ r. OnContent r) _ _ _ (bare_read (Rej (control / 32)) field tt) (by_if (λ r. OnContent r) _ _ _ (response_read control field) (command_read info control field are))))
 
 with_head : (response pf : Bool) (r : Result Content FrameFault) → OnContent r → OnFrame (frames.with_head response pf r)
 with_head response pf (Ok content) i = record { it = i.it }
@@ -78,12 +77,12 @@ with_head response pf (Err fault) i = record { it = tt }
 wrong : (fault : FrameFault) → OnFrame (Err fault)
 wrong fault = record { it = tt }
 
-frame_read : (at : Role) (octets : List ℕ) → AreOctets octets → OnFrame (frames.reading at octets)
-frame_read at [] are = wrong TooShort
-frame_read at (address ∷ []) are = wrong TooShort
-frame_read at (address ∷ control ∷ field) are =
-    by_if (λ r. OnFrame r) _ _ _ (with_head false (frames.has_bit control 16) (frames.content_read false control field) (content_read false control field are.1.1))
-    (by_if (λ r. OnFrame r) _ _ _ (with_head true (frames.has_bit control 16) (frames.content_read true control field) (content_read true control field are.1.1)) (wrong WrongAddress))
+frame_read : (at : Role) (info : ℕ) (octets : List ℕ) → AreOctets octets → OnFrame (frames.reading at info octets)
+frame_read at info [] are = wrong TooShort
+frame_read at info (address ∷ []) are = wrong TooShort
+frame_read at info (address ∷ control ∷ field) are =
+    by_if (λ r. OnFrame r) _ _ _ (with_head false (frames.has_bit control 16) (frames.content_read info false control field) (content_read info false control field are.1.1))
+    (by_if (λ r. OnFrame r) _ _ _ (with_head true (frames.has_bit control 16) (frames.content_read info true control field) (content_read info true control field are.1.1)) (wrong WrongAddress))
 
 record Accepts (st : Step) : Type 0 where
   it : IfAny (λ packet. AreOctets packet) st.accepted
@@ -178,4 +177,4 @@ on_reading l octets (Ok frame) i = on_content frame.content l.role l frame.respo
 on_reading l octets (Err fault) i = on_fault l fault octets
 
 pub accepts_octets : (l : Link) (octets : List ℕ) → AreOctets octets → IfAny (λ packet. AreOctets packet) (link_octets.on_octets l octets).accepted
-accepts_octets l octets are = (on_reading l octets (frames.reading l.role octets) (frame_read l.role octets are)).it
+accepts_octets l octets are = (on_reading l octets (frames.reading l.role l.info octets) (frame_read l.role l.info octets are)).it

@@ -14,11 +14,12 @@ use Rattle.packet_layer.specs.Layer.{Layer, channel_of}
 use Rattle.packet_laws.specs.History.{Epoch, empty_epoch}
 use Rattle.call_records.specs.Records.{RecordValue}
 use Rattle.switch_joins.specs.declared.channels.SwitchChannel.{SwitchChannel}
-use Rattle.switch_joins.specs.declared.join.Joined.{Joined}
+use Rattle.switch_joins.specs.Joins.{Joined}
+use Rattle.switch_joins.specs.Turning.{Sizes, items_gathered}
 use Rattle.switch_lines.specs.Lines.{SwitchLine}
 use Rattle.switch_laws.specs.Leg.{Leg}
 use Rattle.switch_laws.specs.Clause.{Carries, Passed, taken_part, sent_part}
-use Rattle.switch_laws.specs.Way.{Way, Holds}
+use Rattle.switch_laws.specs.Way.{Way, Holds, sizes}
 use Rattle.switch_laws.specs.World.{World, Shown, shown_as, shown_on, shown_at, layers_of, IsWorld, IsAtStart, IsCallLeg}
 use Rattle.switch_laws.specs.Joined.{IsPair, IsJoinedAt, WaitsFor}
 use Rattle.switch_laws.specs.Joined.IsPair.{connected, waiting}
@@ -42,15 +43,15 @@ in_turn ts ss us vs r q =
 later : (ts : List TakenEpoch) (ss : List SentEpoch) (n f : Epoch) (left : List Item) → Carries (taken_part n) (sent_part f) left → RelayedTo ts ss → RelayedTo (ts ++ taken_of n ∷ []) (ss ++ sent_of f ∷ [])
 later ts ss n f left c r = in_turn ts ss (taken_of n ∷ []) (sent_of f ∷ []) r (Confirms.join (carries_has n f left c) Confirms.nothing)
 
-passed : (ns fs : List Epoch) → Passed ns fs → RelayedTo (all_taken ns) (all_sent fs)
-passed [] [] Passed.none = Confirms.nothing
-passed (n ∷ ns) (f ∷ fs) (Passed.both {left = left} c p) = later (all_taken ns) (all_sent fs) n f left c (passed ns fs p)
-passed (n ∷ ns) fs (Passed.near_alone {left = left} c p) =
+passed : (s : Sizes) (ns fs : List Epoch) → Passed s ns fs → RelayedTo (all_taken ns) (all_sent fs)
+passed s [] [] Passed.none = Confirms.nothing
+passed s (n ∷ ns) (f ∷ fs) (Passed.both {left = left} c same p) = later (all_taken ns) (all_sent fs) n f left c (passed s ns fs p)
+passed s (n ∷ ns) fs (Passed.near_alone {left = left} c same p) =
     subst (λ (ss : List SentEpoch). RelayedTo (all_taken ns ++ taken_of n ∷ []) ss) (append-nil (all_sent fs))
-    (in_turn (all_taken ns) (all_sent fs) (taken_of n ∷ []) [] (passed ns fs p) (Confirms.skip (none_confirmed n left c) Confirms.nothing))
-passed ns (f ∷ fs) (Passed.far_alone a b p) =
+    (in_turn (all_taken ns) (all_sent fs) (taken_of n ∷ []) [] (passed s ns fs p) (Confirms.skip (none_confirmed n left c) Confirms.nothing))
+passed s ns (f ∷ fs) (Passed.far_alone a b p) =
     subst (λ (ts : List TakenEpoch). RelayedTo ts (all_sent fs ++ sent_of f ∷ [])) (append-nil (all_taken ns))
-    (in_turn (all_taken ns) (all_sent fs) [] (sent_of f ∷ []) (passed ns fs p)
+    (in_turn (all_taken ns) (all_sent fs) [] (sent_of f ∷ []) (passed s ns fs p)
     (Confirms.drop_empty (record { items = ap (λ (ps : List DataPacket). all_items ps) a; interrupts = b }) Confirms.nothing))
 
 -- ---- a way
@@ -59,7 +60,7 @@ way_relayed : (w : Way) (a b : RecordValue) → Holds w → IsRecordOf w.near a 
 way_relayed w a b h i k =
     subst (λ (ts : List TakenEpoch). RelayedTo ts (b.sent_before ++ b.sent ∷ [])) (sym (ap₂ (λ (ts : List TakenEpoch) (t : TakenEpoch). ts ++ t ∷ []) i.taken_before i.taken))
     (subst (λ (ss : List SentEpoch). RelayedTo (all_taken w.near.before ++ taken_of w.near.epoch ∷ []) ss) (sym (ap₂ (λ (ss : List SentEpoch) (s : SentEpoch). ss ++ s ∷ []) k.sent_before k.sent))
-    (later (all_taken w.near.before) (all_sent w.far.before) w.near.epoch w.far.epoch [] h.direction.carries (passed w.near.before w.far.before h.passed)))
+    (later (all_taken w.near.before) (all_sent w.far.before) w.near.epoch w.far.epoch (items_gathered w.kept.gathered) h.direction.carries (passed (sizes w) w.near.before w.far.before h.passed)))
 
 start_relayed : (g h : Leg) (a b : RecordValue) → IsAtStart g → IsAtStart h → IsRecordOf g a → IsRecordOf h b → RelayedTo (a.taken_before ++ a.taken ∷ []) (b.sent_before ++ b.sent ∷ [])
 start_relayed g h a b s t i k =

@@ -110,10 +110,10 @@ unreleased_by None n ch e = ap (λ (v : Bool). record { channel = record ch { tr
 unreleased_by (Some r) n ch e = refl
 
 stays : (l : Layer) (c n : ℕ) (o : Option Channel) → channel_of l c ≡ o → may_release_on o n ≡ false → request l c (Releasing n) ≡ l
-stays l c n None e h = ap (λ (o : Option Channel). on_found l c (λ ch. requested l.role ch (Releasing n)) o) e
+stays l c n None e h = ap (λ (o : Option Channel). on_found l c (λ ch. requested l.role l.flow ch (Releasing n)) o) e
 stays l c n (Some ch) e h =
-    ap (λ (o : Option Channel). on_found l c (λ x. requested l.role x (Releasing n)) o) e
-    ∙ (ap (λ st. after_step l c st) (unreleased_by (refusal l.role ch (Releasing n)) n ch h)
+    ap (λ (o : Option Channel). on_found l c (λ x. requested l.role l.flow x (Releasing n)) o) e
+    ∙ (ap (λ st. after_step l c st) (unreleased_by (refusal l.role l.flow ch (Releasing n)) n ch h)
     ∙ (ap (λ (chs : List Channel). record l { channels = chs; notes = l.notes ++ [] }) (nth_same l.channels c ch e) ∙ ap (λ (ns : List Note). record l { notes = ns }) (append-nil l.notes)))
 
 -- ends with the same link, layer and frames

@@ -238,7 +238,7 @@ cleared_written x c diagnostic b g = closed_written x c b
 -- ---- what is asked
 
 abbrev pub Asked : Role → ℕ → Request → Book → Leg → Type 0
-Asked x c q b g = Writes x c b (unless_refused (refusal g.role g.channel q) (request_writes x c q (Some g.channel) b) b) (leg_if (had_call (asked q g).channel.state) (asked q g))
+Asked x c q b g = Writes x c b (unless_refused (refusal g.role g.flow g.channel q) (request_writes x c q (Some g.channel) b) b) (leg_if (had_call (asked q g).channel.state) (asked q g))
 
 call_there : (s : CallState) → in_transfer s ≡ true → had_call s ≡ true
 call_there Transfer e = refl
@@ -336,7 +336,7 @@ call_after x c b b' v g e w = subst (λ (u : Bool). Writes x c b b' (leg_if u g)
 transfers : (g : Leg) (o : Option Refusal) → refused_if (not (in_transfer g.channel.state)) Refusal.NoCall o ≡ None → had_call g.channel.state ≡ true
 transfers g o e = call_there g.channel.state (not_false _ (not_refused (not (in_transfer g.channel.state)) _ _ e).0)
 
-done : (x : Role) (c : ℕ) (q : Request) (b : Book) (g : Leg) → MayAsk q → refusal g.role g.channel q ≡ None → IsCallLeg g → Before x c g b → Done x c q b g
+done : (x : Role) (c : ℕ) (q : Request) (b : Book) (g : Leg) → MayAsk q → refusal g.role g.flow g.channel q ≡ None → IsCallLeg g → Before x c g b → Done x c q b g
 done x c Accept b g m e i r =
     let a = acceptable g.role g.channel.state (not_false _ (not_refused (not (may_accept g.role g.channel.state)) _ _ e).0) in
     record { touches = touches_answered x c b; has = has_same x c (answers x c b) g (asked_unless None Accept g) (λ s j. record { sent_before = j.sent_before; sent = j.sent; taken_before = j.taken_before; taken = j.taken; open_ = j.open_ }) (has_answered x c b g (in_call x c b g a r)) }
@@ -351,10 +351,10 @@ done x c (Releasing n) b g m e i r =
     let t = transfers g _ e in call_after x c b _ _ _ t (releases_written x c n (may_release n g.channel.traffic) b g (asked_unless None (Releasing n) g) refl i.leg refl refl (in_call x c b g t r))
 done x c Confirming b g m e i r = let t = transfers g _ e in call_after x c b _ _ _ t (same_written x c b g (asked_unless None Confirming g) refl refl (in_call x c b g t r))
 
-by_refusal : (x : Role) (c : ℕ) (q : Request) (b : Book) (g : Leg) (o : Option Refusal) → refusal g.role g.channel q ≡ o → MayAsk q → IsCallLeg g → Before x c g b
+by_refusal : (x : Role) (c : ℕ) (q : Request) (b : Book) (g : Leg) (o : Option Refusal) → refusal g.role g.flow g.channel q ≡ o → MayAsk q → IsCallLeg g → Before x c g b
     → Writes x c b (unless_refused o (request_writes x c q (Some g.channel) b) b) (leg_if (had_call (asked_unless o q g).channel.state) (asked_unless o q g))
 by_refusal x c q b g None e m i r = done x c q b g m e i r
 by_refusal x c q b g (Some f) e m i r = nothing_written x c b _ r
 
 pub asked_written : (x : Role) (c : ℕ) (q : Request) (b : Book) (g : Leg) → MayAsk q → IsCallLeg g → Before x c g b → Asked x c q b g
-asked_written x c q b g m i r = by_refusal x c q b g (refusal g.role g.channel q) refl m i r
+asked_written x c q b g m i r = by_refusal x c q b g (refusal g.role g.flow g.channel q) refl m i r

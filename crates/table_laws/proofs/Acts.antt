@@ -3,6 +3,7 @@ use Rattle.std.proofs.Common.{◌≡◌, ℕ, zero, suc, Bool, true, false, List
 use Rattle.std.specs.Prelude.{◌↔◌, ◌&&◌, ◌==◌, length, Option, Some, None, IfSome, IsSome}
 use Rattle.link_timers.specs.declared.role.Role.{Role}
 use Rattle.link_timers.specs.declared.role.Role.TheVariants.{Dte, Dce}
+use Rattle.packet_channel.specs.declared.flow.Flow.{Flow}
 use Rattle.packet_codec.specs.declared.packet_type.PacketType.TheVariants as types
 use Rattle.call_states.specs.declared.state.CallState.TheVariants as states
 use Rattle.call_states.specs.declared.table.CallNote.TheVariants.{Nothing}
@@ -23,38 +24,38 @@ use Rattle.table_laws.proofs.Channels.{channel_in}
 
 -- ---- accept and clear
 
-pub record ActAt (role : Role) (c : ℕ) (ch : Channel) (r : Request) (act : UserAct) : Type 0 where
-  pub allowed : (refusal role ch r ≡ None) ↔ IsSome (act_row role ch act)
-  pub follows : IfSome (act_row role ch act) (λ row. FollowsCall role c None ch row (requested role ch r) × ((requested role ch r).owes ≡ packet_asked r))
+pub record ActAt (role : Role) (flow : Flow) (c : ℕ) (ch : Channel) (r : Request) (act : UserAct) : Type 0 where
+  pub allowed : (refusal role flow ch r ≡ None) ↔ IsSome (act_row role ch act)
+  pub follows : IfSome (act_row role ch act) (λ row. FollowsCall role c None ch row (requested role flow ch r) × ((requested role flow ch r).owes ≡ packet_asked r))
 
-pub accept_at : (role : Role) (c : ℕ) (s : CallState) (resetting : Bool) (owed : List Body) (t : Traffic) → ActAt role c (channel_in s resetting owed t) Request.Accept acts.Accept
-accept_at Dte c Ready resetting owed t = record { allowed = (λ e. cc, λ e. cc); follows = search }
-accept_at Dte c _ resetting owed t = record { allowed = (λ e. cc, λ e. cc); follows = search }
-accept_at Dce c Ready resetting owed t = record { allowed = (λ e. cc, λ e. cc); follows = search }
-accept_at Dce c _ resetting owed t = record { allowed = (λ e. cc, λ e. cc); follows = search }
+pub accept_at : (role : Role) (flow : Flow) (c : ℕ) (s : CallState) (resetting : Bool) (owed : List Body) (t : Traffic) → ActAt role flow c (channel_in s resetting owed t) Request.Accept acts.Accept
+accept_at Dte flow c Ready resetting owed t = record { allowed = (λ e. cc, λ e. cc); follows = search }
+accept_at Dte flow c _ resetting owed t = record { allowed = (λ e. cc, λ e. cc); follows = search }
+accept_at Dce flow c Ready resetting owed t = record { allowed = (λ e. cc, λ e. cc); follows = search }
+accept_at Dce flow c _ resetting owed t = record { allowed = (λ e. cc, λ e. cc); follows = search }
 
-pub clear_at : (role : Role) (c : ℕ) (s : CallState) (resetting : Bool) (owed : List Body) (t : Traffic) (cause diagnostic : ℕ)
-    → ActAt role c (channel_in s resetting owed t) (Request.Clearing cause diagnostic) acts.Clear
-clear_at Dte c Ready resetting owed t cause diagnostic = record { allowed = (λ e. cc, λ e. cc); follows = search }
-clear_at Dte c _ resetting owed t cause diagnostic = record { allowed = (λ e. cc, λ e. cc); follows = search }
-clear_at Dce c Ready resetting owed t cause diagnostic = record { allowed = (λ e. cc, λ e. cc); follows = search }
-clear_at Dce c _ resetting owed t cause diagnostic = record { allowed = (λ e. cc, λ e. cc); follows = search }
+pub clear_at : (role : Role) (flow : Flow) (c : ℕ) (s : CallState) (resetting : Bool) (owed : List Body) (t : Traffic) (cause diagnostic : ℕ)
+    → ActAt role flow c (channel_in s resetting owed t) (Request.Clearing cause diagnostic) acts.Clear
+clear_at Dte flow c Ready resetting owed t cause diagnostic = record { allowed = (λ e. cc, λ e. cc); follows = search }
+clear_at Dte flow c _ resetting owed t cause diagnostic = record { allowed = (λ e. cc, λ e. cc); follows = search }
+clear_at Dce flow c Ready resetting owed t cause diagnostic = record { allowed = (λ e. cc, λ e. cc); follows = search }
+clear_at Dce flow c _ resetting owed t cause diagnostic = record { allowed = (λ e. cc, λ e. cc); follows = search }
 
 -- ---- reset
 
-pub record ResetActAt (role : Role) (c : ℕ) (ch : Channel) (r : Request) : Type 0 where
-  pub allowed : (refusal role ch r ≡ None) ↔ IsSome (reset_row_of role ch UserReset)
-  pub follows : IfSome (reset_row_of role ch UserReset) (λ row. FollowsReset role c None ch row (requested role ch r) × ((requested role ch r).owes ≡ packet_asked r))
+pub record ResetActAt (role : Role) (flow : Flow) (c : ℕ) (ch : Channel) (r : Request) : Type 0 where
+  pub allowed : (refusal role flow ch r ≡ None) ↔ IsSome (reset_row_of role ch UserReset)
+  pub follows : IfSome (reset_row_of role ch UserReset) (λ row. FollowsReset role c None ch row (requested role flow ch r) × ((requested role flow ch r).owes ≡ packet_asked r))
 
-reset_parts : (role : Role) (c : ℕ) (s : CallState) (resetting : Bool) (owed : List Body) (t : Traffic) (cause diagnostic : ℕ)
-    → ResetActAt role c (channel_in s resetting owed t) (Request.Resetting cause diagnostic)
-reset_parts Dte c Transfer true owed t cause diagnostic = record { allowed = (λ e. cc, λ e. cc); follows = search }
-reset_parts Dte c _ _ owed t cause diagnostic = record { allowed = (λ e. cc, λ e. cc); follows = search }
-reset_parts Dce c Transfer true owed t cause diagnostic = record { allowed = (λ e. cc, λ e. cc); follows = search }
-reset_parts Dce c _ _ owed t cause diagnostic = record { allowed = (λ e. cc, λ e. cc); follows = search }
+reset_parts : (role : Role) (flow : Flow) (c : ℕ) (s : CallState) (resetting : Bool) (owed : List Body) (t : Traffic) (cause diagnostic : ℕ)
+    → ResetActAt role flow c (channel_in s resetting owed t) (Request.Resetting cause diagnostic)
+reset_parts Dte flow c Transfer true owed t cause diagnostic = record { allowed = (λ e. cc, λ e. cc); follows = search }
+reset_parts Dte flow c _ _ owed t cause diagnostic = record { allowed = (λ e. cc, λ e. cc); follows = search }
+reset_parts Dce flow c Transfer true owed t cause diagnostic = record { allowed = (λ e. cc, λ e. cc); follows = search }
+reset_parts Dce flow c _ _ owed t cause diagnostic = record { allowed = (λ e. cc, λ e. cc); follows = search }
 
-pub reset_act_at : (role : Role) (c : ℕ) (ch : Channel) (cause diagnostic : ℕ) → ResetActAt role c ch (Request.Resetting cause diagnostic)
-reset_act_at role c ch cause diagnostic = reset_parts role c ch.state ch.resetting ch.owed ch.traffic cause diagnostic
+pub reset_act_at : (role : Role) (flow : Flow) (c : ℕ) (ch : Channel) (cause diagnostic : ℕ) → ResetActAt role flow c ch (Request.Resetting cause diagnostic)
+reset_act_at role flow c ch cause diagnostic = reset_parts role flow c ch.state ch.resetting ch.owed ch.traffic cause diagnostic
 
 -- ---- a call
 

@@ -30,32 +30,32 @@ pub data_packets : DataPackets
 data_packets l p ch row at none e n =
     (step_by l.role l.flow ch (Whole p), comes_step l (Whole p) ch at, of_left (reset_row l.role ch (Whole p)) (call_row l.role ch (Whole p)) row (λ x. Heeds l.role l.flow p.channel ch p.body x) none e n (left_at l.role l.flow ch p.channel p.body))
 
-found_request : (l : Layer) (c : ℕ) (ch : Channel) (r : Request) → channel_of l c ≡ Some ch → request l c r ≡ after_step l c (requested l.role ch r)
-found_request l c ch r found = ap (λ (o : Option Channel). on_found l c (λ x. requested l.role x r) o) found
+found_request : (l : Layer) (c : ℕ) (ch : Channel) (r : Request) → channel_of l c ≡ Some ch → request l c r ≡ after_step l c (requested l.role l.flow ch r)
+found_request l c ch r found = ap (λ (o : Option Channel). on_found l c (λ x. requested l.role l.flow x r) o) found
 
-act_holds : (l : Layer) (c : ℕ) (ch : Channel) (r : Request) (act : UserAct) → channel_of l c ≡ Some ch → ActAt l.role c ch r act → ActsByCallTable l c ch r act
+act_holds : (l : Layer) (c : ℕ) (ch : Channel) (r : Request) (act : UserAct) → channel_of l c ≡ Some ch → ActAt l.role l.flow c ch r act → ActsByCallTable l c ch r act
 act_holds l c ch r act found h = record {
-  allowed = subst (λ (o : Option Channel). (refusal_at l.role r o ≡ None) ↔ IsSome (act_row l.role ch act)) (sym found) h.allowed;
-  follows = λ row e. let q = of_some (act_row l.role ch act) row (λ x. FollowsCall l.role c None ch x (requested l.role ch r) × ((requested l.role ch r).owes ≡ packet_asked r)) e h.follows in
-      (requested l.role ch r, found_request l c ch r found, q.0, q.1);
+  allowed = subst (λ (o : Option Channel). (refusal_at l.role l.flow r o ≡ None) ↔ IsSome (act_row l.role ch act)) (sym found) h.allowed;
+  follows = λ row e. let q = of_some (act_row l.role ch act) row (λ x. FollowsCall l.role c None ch x (requested l.role l.flow ch r) × ((requested l.role l.flow ch r).owes ≡ packet_asked r)) e h.follows in
+      (requested l.role l.flow ch r, found_request l c ch r found, q.0, q.1);
 }
 
-act_of : (l : Layer) (c : ℕ) (ch : Channel) (r : Request) (given act : UserAct) → Some given ≡ Some act → channel_of l c ≡ Some ch → ActAt l.role c ch r given → ActsByCallTable l c ch r act
+act_of : (l : Layer) (c : ℕ) (ch : Channel) (r : Request) (given act : UserAct) → Some given ≡ Some act → channel_of l c ≡ Some ch → ActAt l.role l.flow c ch r given → ActsByCallTable l c ch r act
 act_of l c ch r given act e found h = let same : given ≡ act = cc in subst (λ (a : UserAct). ActsByCallTable l c ch r a) same (act_holds l c ch r given found h)
 
 pub call_acts : CallActs
-call_acts l c ch Request.Accept act found e = act_of l c ch Request.Accept acts.Accept act e found (accept_at l.role c ch.state ch.resetting ch.owed ch.traffic)
-call_acts l c ch (Request.Clearing cause diagnostic) act found e = act_of l c ch (Request.Clearing cause diagnostic) acts.Clear act e found (clear_at l.role c ch.state ch.resetting ch.owed ch.traffic cause diagnostic)
+call_acts l c ch Request.Accept act found e = act_of l c ch Request.Accept acts.Accept act e found (accept_at l.role l.flow c ch.state ch.resetting ch.owed ch.traffic)
+call_acts l c ch (Request.Clearing cause diagnostic) act found e = act_of l c ch (Request.Clearing cause diagnostic) acts.Clear act e found (clear_at l.role l.flow c ch.state ch.resetting ch.owed ch.traffic cause diagnostic)
 call_acts l c ch _ act found e = absurd (cc)
 
 pub reset_acts : ResetActs
 reset_acts l c ch cause diagnostic found =
     let r : Request = Request.Resetting cause diagnostic in
-    let h = reset_act_at l.role c ch cause diagnostic in
+    let h = reset_act_at l.role l.flow c ch cause diagnostic in
     record {
-      allowed = subst (λ (o : Option Channel). (refusal_at l.role r o ≡ None) ↔ IsSome (reset_row_of l.role ch UserReset)) (sym found) h.allowed;
-      follows = λ row e. let q = of_some (reset_row_of l.role ch UserReset) row (λ x. FollowsReset l.role c None ch x (requested l.role ch r) × ((requested l.role ch r).owes ≡ packet_asked r)) e h.follows in
-          (requested l.role ch r, found_request l c ch r found, q.0, q.1);
+      allowed = subst (λ (o : Option Channel). (refusal_at l.role l.flow r o ≡ None) ↔ IsSome (reset_row_of l.role ch UserReset)) (sym found) h.allowed;
+      follows = λ row e. let q = of_some (reset_row_of l.role ch UserReset) row (λ x. FollowsReset l.role c None ch x (requested l.role l.flow ch r) × ((requested l.role l.flow ch r).owes ≡ packet_asked r)) e h.follows in
+          (requested l.role l.flow ch r, found_request l c ch r found, q.0, q.1);
     }
 
 pub calls_placed : CallsPlaced

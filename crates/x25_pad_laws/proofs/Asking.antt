@@ -5,6 +5,7 @@ use Rattle.std.proofs.lemmas.List.{map-append}
 use Rattle.std.proofs.lemmas.Option.{none-some}
 use Rattle.link_timers.specs.declared.role.Role.{Role}
 use Rattle.link_timers.specs.declared.role.Role.TheVariants.{Dte, Dce}
+use Rattle.packet_channel.specs.declared.flow.Flow.{Flow}
 use Rattle.lapb.specs.Machine.{Octets}
 use Rattle.pad_editing.specs.Edited.{Step}
 use Rattle.packet_layer.specs.Packets.{Note}
@@ -53,15 +54,15 @@ taken_state : (ch : Channel) (o : Option Refusal) → in_transfer (unless o (car
 taken_state ch None = refl
 taken_state ch (Some r) = refl
 
-may_release : (role : Role) (found : Option Channel) (ch : Channel) → found ≡ Some ch → in_transfer ch.state ≡ true → refusal_at role (Releasing 1) found ≡ None
-may_release role found ch e h = ap (λ (o : Option Channel). refusal_at role (Releasing 1) o) e ∙ ap (λ (v : Bool). refused_if (not v) Refusal.NoCall None) h
+may_release : (role : Role) (flow : Flow) (found : Option Channel) (ch : Channel) → found ≡ Some ch → in_transfer ch.state ≡ true → refusal_at role flow (Releasing 1) found ≡ None
+may_release role flow found ch e h = ap (λ (o : Option Channel). refusal_at role flow (Releasing 1) o) e ∙ ap (λ (v : Bool). refused_if (not v) Refusal.NoCall None) h
 
 may_release_after : (l : Layer) (c : ℕ) (ch : Channel) → channel_of l c ≡ Some ch → in_transfer ch.state ≡ true → request_refusal (request l c Taking) c (Releasing 1) ≡ None
 may_release_after l c ch e h =
-    let st : ChannelStep = requested l.role ch Taking in
-    let is : request l c Taking ≡ after_step l c st = ap (λ (o : Option Channel). on_found l c (λ z. requested l.role z Taking) o) e in
+    let st : ChannelStep = requested l.role l.flow ch Taking in
+    let is : request l c Taking ≡ after_step l c st = ap (λ (o : Option Channel). on_found l c (λ z. requested l.role l.flow z Taking) o) e in
     ap (λ (z : Layer). request_refusal z c (Releasing 1)) is
-    ∙ may_release l.role (channel_of (after_step l c st) c) (owing st) (put_here l.channels c ch (owing st) e) (taken_state ch (refusal l.role ch Taking) ∙ h)
+    ∙ may_release l.role l.flow (channel_of (after_step l c st) c) (owing st) (put_here l.channels c ch (owing st) e) (taken_state ch (refusal l.role l.flow ch Taking) ∙ h)
 
 -- what waits may be taken, since its channel is in data transfer
 front_at : (s : Setting) (x : Book) (role : Role) (e you : PacketEnd) (going coming : List Octets) (channel : ℕ) (taken : Taken) → KeptAt s x role e you going coming → front_on e.layer channel ≡ Some taken
@@ -75,9 +76,9 @@ by_transfer : (v : Bool) → refused_if (not v) Refusal.NoCall None ≡ None →
 by_transfer true h = refl
 by_transfer false h = absurd (none-some Refusal.NoCall (sym h))
 
-in_transfer_at : (role : Role) (found : Option Channel) → refusal_at role Taking found ≡ None → (ch : Channel) × (found ≡ Some ch) × (in_transfer ch.state ≡ true)
-in_transfer_at role None h = absurd (none-some Refusal.NoCall (sym h))
-in_transfer_at role (Some ch) h = (ch, refl, by_transfer (in_transfer ch.state) h)
+in_transfer_at : (role : Role) (flow : Flow) (found : Option Channel) → refusal_at role flow Taking found ≡ None → (ch : Channel) × (found ≡ Some ch) × (in_transfer ch.state ≡ true)
+in_transfer_at role flow None h = absurd (none-some Refusal.NoCall (sym h))
+in_transfer_at role flow (Some ch) h = (ch, refl, by_transfer (in_transfer ch.state) h)
 
 -- ---- what is kept during an event
 
@@ -186,7 +187,7 @@ module _ (s : Setting) (b : Book) (role : Role) (you : PacketEnd) (going coming 
 
   module _ (e : PacketEnd) (x : Book) (channel : ℕ) (taken : Taken) (k : KeptIn x e) (is : front_on e.layer channel ≡ Some taken) where
     open_ : (ch : Channel) × (channel_of e.layer channel ≡ Some ch) × (in_transfer ch.state ≡ true)
-    open_ = in_transfer_at e.layer.role (channel_of e.layer channel) (front_at s x role e you going coming channel taken k is)
+    open_ = in_transfer_at e.layer.role e.layer.flow (channel_of e.layer channel) (front_at s x role e you going coming channel taken k is)
 
     took : KeptIn (takes role channel (Some taken) x) (end.asked e channel Taking)
     took =

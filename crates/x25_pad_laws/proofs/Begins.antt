@@ -153,6 +153,7 @@ made_types role c dte_node dce_node channels differ config =
     let begins = book_begins dte_node dce_node channels s in
     let n : ℕ = c.terminals - 1 in
     record {
+      size = config.size;
       book = record {
         apart = made_apart role dte_node dce_node channels s differ;
         own = begins.has role;

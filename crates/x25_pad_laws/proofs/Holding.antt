@@ -387,7 +387,7 @@ module _ (event : PadEvent) (role : Role) (p : PadState) (b : Book) (os : ℕ �
               ∙ ap (λ (l : Octets). messages_taken (os n) ++ l) (of_plain (message_in (test n)) (messages_kind (test n)) ∙ event_messages event p nothing (test n))
               ∙ sym (messages_append (os n) (occasions_of event p (test n)));
           told = h.told
-              ∙ ap qualified_messages (ap (λ (l : Octets). told_octets (os n) ++ l) (of_plain (told_in (test n)) (told_kind (test n)) ∙ event_told event p nothing (test n))
+              ∙ ap qualified_messages (ap (λ (l : Octets). told_octets (os n) ++ l) (of_plain (told_in (test n)) (told_kind (test n)) ∙ event_told event p nothing types.size (test n))
               ∙ sym (octets_append (os n) (occasions_of event p (test n))));
           interrupts = h.interrupts
               ∙ ap (λ (l : Octets). all_interrupts (os n) ++ l) (of_plain (interrupt_in (test n)) (interrupts_kind (test n)) ∙ event_interrupts event p nothing (test n))
@@ -430,7 +430,7 @@ occasions_grow (HasTicks ticks) role p b os nothing types said = noted_said (Has
 
 -- with its notes read
 unread_types : (role : Role) (p : PadState) (b : Book) → PadTypes role p b → PadTypes role (without_notes p) b
-unread_types role p b h = record { book = h.book; read = h.read; unread = h.unread; ports = h.ports; alone = h.alone; calls = h.calls }
+unread_types role p b h = record { size = h.size; book = h.book; read = h.read; unread = h.unread; ports = h.ports; alone = h.alone; calls = h.calls }
 
 sent_so : (role : Role) (p : PadState) (b : Book) (h : PadHolds role p b) (r : RecordValue) → IsRecordOf role b r → HasSentIn role (record { pad = drained p; book = b; occasions = h.occasions }) r
 sent_so role p b h r o =

@@ -106,7 +106,7 @@ may_is (Some channel) l = at (channel_of l.end.layer channel)
     by true false false = refl
     by false r p = refl
 
-    at : (o : Option Channel) → may_interrupt_at o ≡ not (is_some (refusal_at l.end.layer.role (Interrupting (line.interrupt_octet ∷ [])) o))
+    at : (o : Option Channel) → may_interrupt_at o ≡ not (is_some (refusal_at l.end.layer.role l.end.layer.flow (Interrupting (line.interrupt_octet ∷ [])) o))
     at None = refl
     at (Some ch) = by (in_transfer ch.state) ch.resetting (interrupt_pending ch.traffic)
 

@@ -11,6 +11,7 @@ use Rattle.packet_layer.specs.Channel.{Refusal}
 use Rattle.packet_layer.specs.Channel.Request.{Accept, Clearing}
 use Rattle.packet_layer.specs.Layer.{request, request_refusal, link_down, unread}
 use Rattle.packet_end.specs.PacketEnd.{PacketEnd, begun, received, after_timer, relinked, relinked_if_due, finished, runs_at}
+use Rattle.packet_end.proofs.Sizes.{asked_same, received_same, timer_same, finished_same}
 use Rattle.line_record_laws.proofs.Basics.{get_set}
 use Rattle.call_records.specs.Book.{Book}
 use Rattle.line_record_laws.proofs.Happening.{all_offered_notes}
@@ -48,6 +49,7 @@ TypesAfter role b p = PadTypes role p (all_written role (writes_of p.line.notes)
 
 module _ (role : Role) (b : Book) where
   record MidHolds (l : PadLine) (ports : List PortState) : Type 0 where
+    size : l.end.layer.flow.size ≡ 128
     read : l.end.notes ≡ []
     unread_ : l.end.layer.notes ≡ []
     each : (j : ℕ) (q : PortState) → slice_get ports j ≡ Some q → IsPort q
@@ -57,6 +59,7 @@ module _ (role : Role) (b : Book) where
 
   mid_holds : (p : PadState) → MidHolds p.line p.ports → TypesAfter role b p
   mid_holds p h = record {
+    size = h.size;
     book = h.book;
     read = h.read;
     unread = h.unread_;
@@ -68,6 +71,7 @@ module _ (role : Role) (b : Book) where
   -- ports that come of those before
   ports_change : (l : PadLine) (ports after : List PortState) → Back ports after → MidHolds l ports → MidHolds l after
   ports_change l ports after back h = record {
+    size = h.size;
     read = h.read;
     unread_ = h.unread_;
     each = λ j q at. (back.from j q at).0;
@@ -83,6 +87,7 @@ module _ (role : Role) (b : Book) where
 
   at_holds : (l : PadLine) (ports : List PortState) (i : ℕ) (p : PortState) → slice_get ports i ≡ Some p → MidHolds l ports → AtHolds role b (Others ports i) (record { port = p; line = l })
   at_holds l ports i p at h = record {
+    size = h.size;
     port = h.each i p at;
     read = h.read;
     unread = h.unread_;
@@ -99,6 +104,7 @@ module _ (role : Role) (b : Book) where
 
   from_at : (l : PadLine) (ports : List PortState) (i : ℕ) (a : AtLine) → MidHolds l ports → AtHolds role b (Others ports i) a → MidHolds a.line (slice_set ports i a.port)
   from_at l ports i a before h = record {
+    size = h.size;
     read = h.read;
     unread_ = h.unread;
     each = λ j q at.
@@ -172,8 +178,9 @@ module _ (role : Role) (b : Book) where
   heard_book : (l : PadLine) (incoming : Option ℕ) (ports : List PortState) → Heard l incoming ports → BookHolds role (TextOf ports) (noted role l.notes b)
   heard_book l incoming ports h = narrowed role (TextOrNew incoming ports) (TextOf ports) (noted role l.notes b) (λ c t o. inl o) h.book
 
-  heard_mid : (l : PadLine) (incoming : Option ℕ) (ports : List PortState) → l.end.notes ≡ [] → l.end.layer.notes ≡ [] → Heard l incoming ports → MidHolds l ports
-  heard_mid l incoming ports read unread h = record {
+  heard_mid : (l : PadLine) (incoming : Option ℕ) (ports : List PortState) → l.end.layer.flow.size ≡ 128 → l.end.notes ≡ [] → l.end.layer.notes ≡ [] → Heard l incoming ports → MidHolds l ports
+  heard_mid l incoming ports size read unread h = record {
+    size = size;
     read = read;
     unread_ = unread;
     each = h.each;
@@ -198,8 +205,9 @@ module _ (role : Role) (b : Book) where
   unless_noted X None note ns h k = subst (λ (z : Book). BookHolds role X z) (sym (noted_append role ns (note ∷ []) b)) h
   unless_noted X (Some r) note ns h k = subst (λ (z : Book). BookHolds role X z) (sym (noted_append role ns [] b)) k
 
-  clears_it : (channel : ℕ) (p : PadState) → p.line.end.notes ≡ [] → p.line.end.layer.notes ≡ [] → Heard p.line (Some channel) p.ports → MidHolds (line.cleared channel p.line) p.ports
-  clears_it channel p read unread h = record {
+  clears_it : (channel : ℕ) (p : PadState) → p.line.end.layer.flow.size ≡ 128 → p.line.end.notes ≡ [] → p.line.end.layer.notes ≡ [] → Heard p.line (Some channel) p.ports → MidHolds (line.cleared channel p.line) p.ports
+  clears_it channel p size read unread h = record {
+    size = asked_same p.line.end channel (Clearing 0 0) ∙ size;
     read = read;
     unread_ = request_notes p.line.end.layer channel (Clearing 0 0) unread;
     each = h.each;
@@ -215,9 +223,10 @@ module _ (role : Role) (b : Book) where
   is_free None h = refl
   is_free (Some call) h = absurd (true≢false (sym h))
 
-  accepts_it : (channel number : ℕ) (p : PadState) → pad.first_free p.ports ≡ Some number → p.line.end.notes ≡ [] → p.line.end.layer.notes ≡ [] → Heard p.line (Some channel) p.ports
+  accepts_it : (channel number : ℕ) (p : PadState) → pad.first_free p.ports ≡ Some number → p.line.end.layer.flow.size ≡ 128 → p.line.end.notes ≡ [] → p.line.end.layer.notes ≡ [] → Heard p.line (Some channel) p.ports
       → MidHolds (line.accepted channel p.line) (changed_at number (port.connects channel) p.ports)
-  accepts_it channel number p free read unread h = record {
+  accepts_it channel number p free size read unread h = record {
+    size = asked_same p.line.end channel Accept ∙ size;
     read = read;
     unread_ = request_notes p.line.end.layer channel Accept unread;
     each = λ j q at.
@@ -284,13 +293,13 @@ module _ (role : Role) (b : Book) where
           unless_noted (TextOrNew (Some channel) p.ports) (request_refusal p.line.end.layer channel Accept) (notes.Accepted channel) p.line.notes
           (answers_holds role (TextOrNew (Some channel) p.ports) role channel (noted role p.line.notes b) h.book) h.book
 
-  answered_holds : (o : Option ℕ) (p : PadState) → p.line.end.notes ≡ [] → p.line.end.layer.notes ≡ [] → Heard p.line o p.ports → MidHolds (pad.answered o p).line (pad.answered o p).ports
-  answered_holds None p read unread h = heard_mid p.line None p.ports read unread h
-  answered_holds (Some channel) p read unread h = by (pad.first_free p.ports) refl
+  answered_holds : (o : Option ℕ) (p : PadState) → p.line.end.layer.flow.size ≡ 128 → p.line.end.notes ≡ [] → p.line.end.layer.notes ≡ [] → Heard p.line o p.ports → MidHolds (pad.answered o p).line (pad.answered o p).ports
+  answered_holds None p size read unread h = heard_mid p.line None p.ports size read unread h
+  answered_holds (Some channel) p size read unread h = by (pad.first_free p.ports) refl
     where
       by : (o : Option ℕ) → pad.first_free p.ports ≡ o → MidHolds (pad.answered_at o channel p).line (pad.answered_at o channel p).ports
-      by None e = clears_it channel p read unread h
-      by (Some number) e = accepts_it channel number p e read unread h
+      by None e = clears_it channel p size read unread h
+      by (Some number) e = accepts_it channel number p e size read unread h
 
   -- ---- the end of an event
 
@@ -325,20 +334,20 @@ module _ (role : Role) (b : Book) where
       let after : EndTells had (finished p.line.end) = finished_tells had p.line.end before in
       let q : PadState = pad.told (pad.with_end (finished p.line.end) p) in
       let heard = told_heard had (pad.with_end (finished p.line.end) p) h.each h.alone h.calls h.book after (finished_last p.line.end h.read) in
-      let mid : MidHolds q.line q.ports = heard_mid q.line (last_incoming None (finished p.line.end).notes) q.ports refl after.read heard in
+      let mid : MidHolds q.line q.ports = heard_mid q.line (last_incoming None (finished p.line.end).notes) q.ports (finished_same p.line.end ∙ h.size) refl after.read heard in
       mid_holds (pad.ended p) (ports_change q.line q.ports (map (port.settled q.line) q.ports) (settled_back q.line q.ports mid.each) mid)
 
   -- an event that came from the line
-  line_holds : (had : ℕ → Bool) (p : PadState) → p.line.notes ≡ [] → ((j : ℕ) (q : PortState) → slice_get p.ports j ≡ Some q → IsPort q) → AreAlone p.ports
+  line_holds : (had : ℕ → Bool) (p : PadState) → p.line.end.layer.flow.size ≡ 128 → p.line.notes ≡ [] → ((j : ℕ) (q : PortState) → slice_get p.ports j ≡ Some q → IsPort q) → AreAlone p.ports
       → ((i c : ℕ) (q : PortState) → IsOn p.ports i c q → had c ≡ true) → BookHolds role (TextOf p.ports) b → EndTells had p.line.end → IncomingLast p.line.end.notes → TypesAfter role b (pad.line_event p)
-  line_holds had p none each alone calls book h last =
+  line_holds had p size none each alone calls book h last =
       let heard = told_heard had p each alone calls (subst (λ (ns : List ChannelNote). BookHolds role (TextOf p.ports) (noted role ns b)) (sym none) book) h last in
-      ended_holds (pad.answered (last_incoming None p.line.end.notes) (pad.told p)) (answered_holds (last_incoming None p.line.end.notes) (pad.told p) refl h.read heard)
+      ended_holds (pad.answered (last_incoming None p.line.end.notes) (pad.told p)) (answered_holds (last_incoming None p.line.end.notes) (pad.told p) size refl h.read heard)
 
 -- ---- events that begin
 
 begun_holds : (role : Role) (p : PadState) (b : Book) → PadTypes role p b → MidHolds role b (pad.begun p).line (pad.begun p).ports
-begun_holds role p b h = record { read = refl; unread_ = h.unread; each = h.ports; alone = h.alone; calls = h.calls; book = h.book }
+begun_holds role p b h = record { size = h.size; read = refl; unread_ = h.unread; each = h.ports; alone = h.alone; calls = h.calls; book = h.book }
 
 abbrev had_in : PadState → ℕ → Bool
 had_in p c = call_at p.line.end.layer c
@@ -368,12 +377,12 @@ print_types role p number b h = terminal_holds role p b number port.after_print 
 
 pub frame_types : (role : Role) (p : PadState) (octets : Octets) (b : Book) → PadTypes role p b → TypesAfter role b (pad.after_frame p octets)
 frame_types role p octets b h =
-    line_holds role b (had_in p) (pad.with_end (received (begun p.line.end) octets) (pad.begun p)) refl h.ports h.alone h.calls h.book
+    line_holds role b (had_in p) (pad.with_end (received (begun p.line.end) octets) (pad.begun p)) (received_same (begun p.line.end) octets ∙ h.size) refl h.ports h.alone h.calls h.book
     (received_tells (had_in p) (begun p.line.end) octets (begun_tells role p b h)) (received_last (begun p.line.end) octets tt)
 
 pub relink_types : (role : Role) (p : PadState) (b : Book) → PadTypes role p b → TypesAfter role b (pad.after_relink p)
 relink_types role p b h =
-    line_holds role b (had_in p) (pad.with_end (relinked (begun p.line.end)) (pad.begun p)) refl h.ports h.alone h.calls h.book
+    line_holds role b (had_in p) (pad.with_end (relinked (begun p.line.end)) (pad.begun p)) h.size refl h.ports h.alone h.calls h.book
     (relinked_tells (had_in p) (begun p.line.end) (begun_tells role p b h)) (relinked_last (begun p.line.end) tt)
 
 pub idle_types : (role : Role) (p : PadState) (number : ℕ) (b : Book) → p.line.notes ≡ [] → PadTypes role p b → TypesAfter role b (pad.after_idle number p)
@@ -388,7 +397,7 @@ expiry_types role p id b none h = by (runs_at p.line.end id)
   where
     by : (v : Bool) → TypesAfter role b (if v then pad.line_event (pad.with_end (after_timer (begun p.line.end) id) (pad.begun p)) else p)
     by true =
-        line_holds role b (had_in p) (pad.with_end (after_timer (begun p.line.end) id) (pad.begun p)) refl h.ports h.alone h.calls h.book
+        line_holds role b (had_in p) (pad.with_end (after_timer (begun p.line.end) id) (pad.begun p)) (timer_same (begun p.line.end) id ∙ h.size) refl h.ports h.alone h.calls h.book
         (timer_tells (had_in p) (begun p.line.end) id (begun_tells role p b h)) (timer_last (begun p.line.end) id h.unread tt)
     by false = nothing_holds role p b none h
 
@@ -412,6 +421,7 @@ none_on ports j c q P on =
 
 pub restart_types : (role : Role) (p : PadState) (b : Book) → PadTypes role p b → PadTypes role (pad.restarted p) (all_written role (AllClosed ∷ []) b)
 restart_types role p b h = record {
+  size = h.size;
   book = narrowed role (TextOf p.ports) (TextOf (map port.restarted p.ports)) _ (λ c t x. none_on p.ports x.0 c x.1 (TextOf p.ports c t) (x.2, x.3)) (all_closed_holds role (TextOf p.ports) role b h.book);
   read = refl;
   unread = refl;
@@ -439,6 +449,7 @@ time_types role p ticks b h =
     let back = elapsed_back ticks p.ports h.ports in
     let after : List PortState = map (port.elapsed ticks) p.ports in
     record {
+      size = h.size;
       book = narrowed role (TextOf p.ports) (TextOf after) b (text_back p.ports after back) h.book;
       read = h.read;
       unread = h.unread;
@@ -448,10 +459,11 @@ time_types role p ticks b h =
     }
 
 pub drained_types : (role : Role) (p : PadState) (b : Book) → PadTypes role p b → PadTypes role (drained p) b
-drained_types role p b h = record { book = h.book; read = h.read; unread = h.unread; ports = h.ports; alone = h.alone; calls = h.calls }
+drained_types role p b h = record { size = h.size; book = h.book; read = h.read; unread = h.unread; ports = h.ports; alone = h.alone; calls = h.calls }
 
 pub far_types : (role : Role) (p : PadState) (writes : List Write) (b : Book) → PadTypes role p b → PadTypes role p (all_written (other_of role) writes b)
 far_types role p writes b h = record {
+  size = h.size;
   book = far_written role (TextOf p.ports) writes b h.book;
   read = h.read;
   unread = h.unread;

@@ -237,10 +237,10 @@ unless_notes : (o : Option Refusal) (ch : Channel) (st : Step) → st.notes ≡ 
 unless_notes None ch st e = e
 unless_notes (Some r) ch st e = refl
 
-found_notes : (l : Layer) (c : ℕ) (r : Request) (found : Option Channel) → l.notes ≡ [] → (on_found l c (λ ch. requested l.role ch r) found).notes ≡ []
+found_notes : (l : Layer) (c : ℕ) (r : Request) (found : Option Channel) → l.notes ≡ [] → (on_found l c (λ ch. requested l.role l.flow ch r) found).notes ≡ []
 found_notes l c r None none = none
 found_notes l c r (Some ch) none =
-    ap (λ (ns : List Note). ns ++ (requested l.role ch r).notes) none ∙ unless_notes (refusal l.role ch r) ch (carried_out ch r) (carried_notes ch r)
+    ap (λ (ns : List Note). ns ++ (requested l.role l.flow ch r).notes) none ∙ unless_notes (refusal l.role l.flow ch r) ch (carried_out ch r) (carried_notes ch r)
 
 -- a request tells nothing
 pub request_notes : (l : Layer) (c : ℕ) (r : Request) → l.notes ≡ [] → (request l c r).notes ≡ []
@@ -252,14 +252,14 @@ found_other l c d f (Some ch) ne = ap has_call (nth_other l.channels d c (owing 
 
 -- another channel is as it was
 pub request_other : (l : Layer) (c d : ℕ) (r : Request) → (d ≡ c → ⊥) → call_at (request l c r) d ≡ call_at l d
-request_other l c d r ne = found_other l c d (λ ch. requested l.role ch r) (channel_of l c) ne
+request_other l c d r ne = found_other l c d (λ ch. requested l.role l.flow ch r) (channel_of l c) ne
 
 found_here : (l : Layer) (c : ℕ) (r : Request) (found : Option Channel) → channel_of l c ≡ found → ((cause diagnostic : ℕ) → r ≡ Clearing cause diagnostic → ⊥) → call_at l c ≡ true
-    → call_at (on_found l c (λ ch. requested l.role ch r) found) c ≡ true
+    → call_at (on_found l c (λ ch. requested l.role l.flow ch r) found) c ≡ true
 found_here l c r None e f h = h
 found_here l c r (Some ch) e f h =
-    ap has_call (nth_same l.channels c ch (owing (requested l.role ch r)) e)
-    ∙ unless_keeps (refusal l.role ch r) ch (carried_out ch r) (carried_keeps ch r f) (sym (ap has_call e) ∙ h)
+    ap has_call (nth_same l.channels c ch (owing (requested l.role l.flow ch r)) e)
+    ∙ unless_keeps (refusal l.role l.flow ch r) ch (carried_out ch r) (carried_keeps ch r f) (sym (ap has_call e) ∙ h)
 
 pub request_here : (l : Layer) (c : ℕ) (r : Request) → ((cause diagnostic : ℕ) → r ≡ Clearing cause diagnostic → ⊥) → call_at l c ≡ true → call_at (request l c r) c ≡ true
 request_here l c r f h = found_here l c r (channel_of l c) refl f h

@@ -1,6 +1,6 @@
 -- Keys, breaks and printing at a terminal keep what holds of the PAD and of the book.
 use Rattle.std.specs.Prelude.{◌≡◌, ℕ, Bool, true, false, if◌then◌else◌, List, [], ◌∷◌, Option, Some, None}
-use Rattle.std.proofs.Common.{refl, sym, subst}
+use Rattle.std.proofs.Common.{refl, sym, subst, ◌∙◌, arith}
 use Rattle.link_timers.specs.declared.role.Role.{Role}
 use Rattle.pad_editing.specs.Edited.{key, idle}
 use Rattle.packet_layer.specs.Packets.{Datum}
@@ -9,6 +9,8 @@ use Rattle.packet_layer.specs.Traffic.Taken.{TakenInterrupt, TakenPacket}
 use Rattle.packet_layer.specs.Channel.{Request as LayerRequest}
 use Rattle.packet_layer.specs.Channel.Request.{Clearing, Taking, Releasing, Confirming}
 use Rattle.packet_layer.specs.Layer.{Layer, request}
+use Rattle.packet_end.specs.PacketEnd as end
+use Rattle.packet_end.proofs.Sizes.{asked_same}
 use Rattle.call_records.specs.Book.{Book, takes}
 use Rattle.x3_params.specs.Settings.{acts_on_break}
 use Rattle.x3_params.specs.declared.settings.BreakAction.TheVariants as action
@@ -84,12 +86,12 @@ module _ (role : Role) (b : Book) (Others : ℕ → List ℕ → Type 0) where
   pub key_holds : (o : ℕ) (a : AtLine) → Holds a → Holds (port.after_key o a)
   key_holds o a h =
       handles_holds role b Others (port.key_input o a).answer (key o a.port.terminal.settings.params) a (port.key_input o a).terminal
-      (key_follows o (line.condition a.port.call a.line) a.port.terminal) (λ text call is at short. key_blocks o a text call is at short) h
+      (key_follows o (line.condition a.port.call a.line) a.port.terminal) (λ text call is at short. key_blocks o a text call is at (omega (arith, short, h.size))) h
 
   pub idle_holds : (a : AtLine) → Holds a → Holds (port.after_idle a)
   idle_holds a h =
       handles_holds role b Others (port.idle_input a).answer (idle a.port.terminal.settings.params) a (port.idle_input a).terminal
-      (idle_follows (line.condition a.port.call a.line).queue_full a.port.terminal) (λ text call is at short. idle_blocks a text call is at short) h
+      (idle_follows (line.condition a.port.call a.line).queue_full a.port.terminal) (λ text call is at short. idle_blocks a text call is at (omega (arith, short, h.size))) h
 
   -- ---- what is taken
 
@@ -117,6 +119,7 @@ module _ (role : Role) (b : Book) (Others : ℕ → List ℕ → Type 0) where
       let X : ℕ → List ℕ → Type 0 = Joined role b Others a.port.call a.port.terminal.held in
       let x : Book = noted role a.line.notes b in
       record {
+        size = asked_same (end.asked a.line.end call Taking) call r ∙ asked_same a.line.end call Taking ∙ h.size;
         port = h.port;
         read = h.read;
         unread = request_notes m call r (request_notes l call Taking h.unread);

@@ -4,6 +4,7 @@ use Rattle.std.proofs.lemmas.Bool.{eqb-false}
 use Rattle.link_timers.specs.declared.role.Role.{Role}
 use Rattle.packet_layer.specs.Packets.{Datum}
 use Rattle.packet_layer.specs.Traffic.{Traffic, taking_of, may_release, releasing}
+use Rattle.packet_channel.specs.declared.flow.Flow.{Flow}
 use Rattle.packet_layer.specs.Channel.{Channel, Request, Refusal, Step as ChannelStep, unless, refusal, refused_if, carried_out, requested, in_transfer}
 use Rattle.packet_layer.specs.Channel.Request.{Interrupting, Taking, Releasing, Sending}
 use Rattle.packet_layer.specs.Layer.{Layer, channel_of, on_found, room, room_at, request, request_refusal, refusal_at, owing}
@@ -46,29 +47,31 @@ unless_keeps (Some r) ch st h = refl
 pub request_room : (l : Layer) (c : ℕ) (r : Request) → KeepsQueue r → room (request l c r) c ≡ room l c
 request_room l c r keeps = by (channel_of l c) refl
   where
-    by : (found : Option Channel) → channel_of l c ≡ found → room_at (channel_of (on_found l c (λ ch. requested l.role ch r) found) c) ≡ room_at (channel_of l c)
+    by : (found : Option Channel) → channel_of l c ≡ found → room_at (channel_of (on_found l c (λ ch. requested l.role l.flow ch r) found) c) ≡ room_at (channel_of l c)
     by None e = refl
     by (Some ch) e =
-        ap room_at (nth_same l.channels c ch (owing (requested l.role ch r)) e)
-        ∙ unless_keeps (refusal l.role ch r) ch (carried_out ch r) (keeps ch) ∙ sym (ap room_at e)
+        ap room_at (nth_same l.channels c ch (owing (requested l.role l.flow ch r)) e)
+        ∙ unless_keeps (refusal l.role l.flow ch r) ch (carried_out ch r) (keeps ch) ∙ sym (ap room_at e)
 
 -- with room for it a packet is taken to be sent
-open_queue : (transfer resetting : Bool) (waiting octets : ℕ) → (cond (transfer && not resetting) (8 - waiting) 0 == 0) ≡ false → octets ≤ 128
+open_queue : (transfer resetting : Bool) (waiting octets size : ℕ) → (cond (transfer && not resetting) (8 - waiting) 0 == 0) ≡ false → octets ≤ size
     → refused_if (not transfer) Refusal.NoCall
-    (refused_if resetting Refusal.IsResetting (refused_if (nat_le 8 waiting) Refusal.QueueFull (refused_if (nat_lt 128 octets) Refusal.TooLong None)))
+    (refused_if resetting Refusal.IsResetting (refused_if (nat_le 8 waiting) Refusal.QueueFull (refused_if (nat_lt size octets) Refusal.TooLong None)))
     ≡ None
-open_queue false resetting waiting octets h le = cc
-open_queue true true waiting octets h le = cc
-open_queue true false waiting octets h le =
+open_queue false resetting waiting octets size h le = cc
+open_queue true true waiting octets size h le = cc
+open_queue true false waiting octets size h le =
     let some : 8 - waiting ≢ 0 = eqb-false _ _ h in
     let free : nat_le 8 waiting ≡ false = grind arith in
-    let short : nat_lt 128 octets ≡ false = grind arith in
+    let short : nat_lt size octets ≡ false = grind arith in
     rw (free, short) refl
 
-taken_at : (role : Role) (found : Option Channel) (octets : List ℕ) → (room_at found == 0) ≡ false → length octets ≤ 128
-    → refusal_at role (Sending (datum octets true)) found ≡ None
-taken_at role None octets h le = cc
-taken_at role (Some ch) octets h le = open_queue (in_transfer ch.state) ch.resetting (length ch.traffic.waiting) (length octets) h le
+taken_at : (role : Role) (flow : Flow) (found : Option Channel) (octets : List ℕ) → (room_at found == 0) ≡ false → length octets ≤ flow.size
+    → refusal_at role flow (Sending (datum octets true)) found ≡ None
+taken_at role flow None octets h le = cc
+taken_at role flow (Some ch) octets h le =
+    open_queue (in_transfer ch.state) ch.resetting (length ch.traffic.waiting) (length octets) flow.size h le
 
-pub message_taken : (l : Layer) (c : ℕ) (octets : List ℕ) → (room l c == 0) ≡ false → length octets ≤ 128 → request_refusal l c (Sending (datum octets true)) ≡ None
-message_taken l c octets h le = taken_at l.role (channel_of l c) octets h le
+pub message_taken : (l : Layer) (c : ℕ) (octets : List ℕ) → (room l c == 0) ≡ false → length octets ≤ l.flow.size
+    → request_refusal l c (Sending (datum octets true)) ≡ None
+message_taken l c octets h le = taken_at l.role l.flow (channel_of l c) octets h le

@@ -9,6 +9,7 @@ use Rattle.x29_messages.specs.MessageForm.{octets_of}
 use Rattle.x29_messages.specs.declared.message.Message.{Message}
 use Rattle.x25_pad.specs.Notes.{ChannelNote}
 use Rattle.x25_pad.specs.Ports as port
+use Rattle.x25_pad.specs.Ports.{PortState, AtLine}
 use Rattle.x25_pad.specs.Pad as pad
 use Rattle.x25_pad.specs.Pad.{PadState}
 use Rattle.x25_pad_laws.specs.Occasions.{Occasion, TookMessage, HadBreak, HadCommand, messages_taken, told_at, all_told, interrupts_at, all_interrupts}
@@ -38,14 +39,18 @@ module _ (f : ChannelNote → Octets) (kind : IsKind f) where
   timer_says (Idle number) p none = idle_says number p none
   timer_says id p none = expiry_says id p none
 
+-- a terminal as an event begins
+abbrev at : PortState → PadState → AtLine
+at q p = record { port = q; line = (pad.begun p).line }
+
 pub event_messages : (event : PadEvent) (p : PadState) → p.line.notes ≡ [] → (test : ℕ → Bool) → all_in (message_in test) (after_event event p).line.notes ≡ messages_taken (occasions_of event p test)
 event_messages (HasKey number octet) p none test =
     event_says (message_in test) (messages_kind test) messages_taken refl test number (port.after_key octet) (by_key octet)
-    (λ a. key_says (message_in test) (messages_kind test) (λ c octets. refl) messages_taken refl refl test octet a) p
+    p (λ q. key_says (message_in test) (messages_kind test) (λ c octets. refl) messages_taken refl refl test octet (at q p))
 event_messages (HasBreak number) p none test =
-    event_says (message_in test) (messages_kind test) messages_taken refl test number port.after_break by_break (λ a. break_messages test a) p
+    event_says (message_in test) (messages_kind test) messages_taken refl test number port.after_break by_break p (λ q. break_messages test (at q p))
 event_messages (HasPrinting number) p none test =
-    event_says (message_in test) (messages_kind test) messages_taken refl test number port.after_print by_printing (λ a. print_messages test a) p
+    event_says (message_in test) (messages_kind test) messages_taken refl test number port.after_print by_printing p (λ q. print_messages test (at q p))
 event_messages (HasIdleTime number) p none test = idle_says (message_in test) (messages_kind test) number p none
 event_messages (HasFrame octets) p none test = line_says (message_in test) (messages_kind test) (pad.with_end (received (pad.begun p).line.end octets) (pad.begun p))
 event_messages (HasExpiry id) p none test = timer_says (message_in test) (messages_kind test) id p none
@@ -53,28 +58,28 @@ event_messages HasRelink p none test = line_says (message_in test) (messages_kin
 event_messages HasRestart p none test = refl
 event_messages (HasTicks ticks) p none test = nothing_noted (message_in test) p.line.notes none
 
-pub event_told : (event : PadEvent) (p : PadState) → p.line.notes ≡ [] → (test : ℕ → Bool) → all_in (told_in test) (after_event event p).line.notes ≡ told_octets (occasions_of event p test)
-event_told (HasKey number octet) p none test =
+pub event_told : (event : PadEvent) (p : PadState) → p.line.notes ≡ [] → p.line.end.layer.flow.size ≡ 128 → (test : ℕ → Bool) → all_in (told_in test) (after_event event p).line.notes ≡ told_octets (occasions_of event p test)
+event_told (HasKey number octet) p none size test =
     event_says (told_in test) (told_kind test) told_octets refl test number (port.after_key octet) (by_key octet)
-    (λ a. key_says (told_in test) (told_kind test) (λ c octets. refl) told_octets refl refl test octet a) p
-event_told (HasBreak number) p none test =
-    event_says (told_in test) (told_kind test) told_octets refl test number port.after_break by_break (λ a. break_told test a) p
-event_told (HasPrinting number) p none test =
-    event_says (told_in test) (told_kind test) told_octets refl test number port.after_print by_printing (λ a. print_told test a) p
-event_told (HasIdleTime number) p none test = idle_says (told_in test) (told_kind test) number p none
-event_told (HasFrame octets) p none test = line_says (told_in test) (told_kind test) (pad.with_end (received (pad.begun p).line.end octets) (pad.begun p))
-event_told (HasExpiry id) p none test = timer_says (told_in test) (told_kind test) id p none
-event_told HasRelink p none test = line_says (told_in test) (told_kind test) (pad.with_end (relinked (pad.begun p).line.end) (pad.begun p))
-event_told HasRestart p none test = refl
-event_told (HasTicks ticks) p none test = nothing_noted (told_in test) p.line.notes none
+    p (λ q. key_says (told_in test) (told_kind test) (λ c octets. refl) told_octets refl refl test octet (at q p))
+event_told (HasBreak number) p none size test =
+    event_says (told_in test) (told_kind test) told_octets refl test number port.after_break by_break p (λ q. break_told test (at q p) size)
+event_told (HasPrinting number) p none size test =
+    event_says (told_in test) (told_kind test) told_octets refl test number port.after_print by_printing p (λ q. print_told test (at q p) size)
+event_told (HasIdleTime number) p none size test = idle_says (told_in test) (told_kind test) number p none
+event_told (HasFrame octets) p none size test = line_says (told_in test) (told_kind test) (pad.with_end (received (pad.begun p).line.end octets) (pad.begun p))
+event_told (HasExpiry id) p none size test = timer_says (told_in test) (told_kind test) id p none
+event_told HasRelink p none size test = line_says (told_in test) (told_kind test) (pad.with_end (relinked (pad.begun p).line.end) (pad.begun p))
+event_told HasRestart p none size test = refl
+event_told (HasTicks ticks) p none size test = nothing_noted (told_in test) p.line.notes none
 
 pub event_interrupts : (event : PadEvent) (p : PadState) → p.line.notes ≡ [] → (test : ℕ → Bool) → all_in (interrupt_in test) (after_event event p).line.notes ≡ all_interrupts (occasions_of event p test)
 event_interrupts (HasKey number octet) p none test =
-    event_says (interrupt_in test) (interrupts_kind test) all_interrupts refl test number (port.after_key octet) (by_key octet) (λ a. key_interrupts test octet a) p
+    event_says (interrupt_in test) (interrupts_kind test) all_interrupts refl test number (port.after_key octet) (by_key octet) p (λ q. key_interrupts test octet (at q p))
 event_interrupts (HasBreak number) p none test =
-    event_says (interrupt_in test) (interrupts_kind test) all_interrupts refl test number port.after_break by_break (λ a. break_interrupts test a) p
+    event_says (interrupt_in test) (interrupts_kind test) all_interrupts refl test number port.after_break by_break p (λ q. break_interrupts test (at q p))
 event_interrupts (HasPrinting number) p none test =
-    event_says (interrupt_in test) (interrupts_kind test) all_interrupts refl test number port.after_print by_printing (λ a. print_interrupts test a) p
+    event_says (interrupt_in test) (interrupts_kind test) all_interrupts refl test number port.after_print by_printing p (λ q. print_interrupts test (at q p))
 event_interrupts (HasIdleTime number) p none test = idle_says (interrupt_in test) (interrupts_kind test) number p none
 event_interrupts (HasFrame octets) p none test = line_says (interrupt_in test) (interrupts_kind test) (pad.with_end (received (pad.begun p).line.end octets) (pad.begun p))
 event_interrupts (HasExpiry id) p none test = timer_says (interrupt_in test) (interrupts_kind test) id p none

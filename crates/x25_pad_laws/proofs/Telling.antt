@@ -9,8 +9,10 @@ use Rattle.packet_layer.specs.Traffic.{Taken}
 use Rattle.packet_layer.specs.Traffic.Taken.{TakenInterrupt, TakenPacket}
 use Rattle.packet_layer.specs.Channel.{Refusal}
 use Rattle.packet_layer.specs.Channel.Request.{Interrupting, Taking, Releasing}
-use Rattle.packet_layer.specs.Layer.{Layer, room, request, channel_given, front_on}
+use Rattle.packet_layer.specs.Layer.{room, request, channel_given, front_on}
+use Rattle.packet_end.specs.PacketEnd as end
 use Rattle.packet_end.specs.PacketEnd.{finished}
+use Rattle.packet_end.proofs.Sizes.{asked_same}
 use Rattle.x3_params.specs.Settings.{acts_on_break}
 use Rattle.x3_params.specs.declared.settings.BreakAction.TheVariants as action
 use Rattle.x29_messages.specs.MessageForm.{octets_of, pairs_octets}
@@ -204,14 +206,14 @@ nothing_noted f ns e = ap (λ (l : List ChannelNote). all_in f l) e
 
 -- something happens at a terminal, and that is an event
 module _ (f : ChannelNote → Octets) (kind : IsKind f) (g : List Occasion → Octets) (none : g [] ≡ []) (test : ℕ → Bool) where
-  pub event_says : (number : ℕ) (act : AtLine → AtLine) (why : AtLine → List Occasion) → ((a : AtLine) → IsSaidBy f g test act why a) → (p : PadState)
-      → all_in f (pad.terminal_event number act p).line.notes ≡ g (at_terminal number test why (pad.begun p))
-  event_says number act why said p = ended_says f kind (at_port number act (pad.begun p)) ∙ by (slice_get p.ports number)
+  pub event_says : (number : ℕ) (act : AtLine → AtLine) (why : AtLine → List Occasion) (p : PadState)
+      → ((q : PortState) → IsSaidBy f g test act why (record { port = q; line = (pad.begun p).line })) → all_in f (pad.terminal_event number act p).line.notes ≡ g (at_terminal number test why (pad.begun p))
+  event_says number act why p said = ended_says f kind (at_port number act (pad.begun p)) ∙ by (slice_get p.ports number)
     where
       by : (o : Option PortState) → all_in f (option_map_or (λ found. acted number (pad.begun p) (act (record { port = found; line = (pad.begun p).line }))) o (pad.begun p)).line.notes
           ≡ g (option_map_or (λ q. if meets test q.call then why (record { port = q; line = (pad.begun p).line }) else []) o [])
       by None = sym none
-      by (Some q) = said (record { port = q; line = (pad.begun p).line }) refl
+      by (Some q) = said q refl
 
   -- an event without an occasion
   pub silent_says : (number : ℕ) (act : AtLine → AtLine) → ((a : AtLine) → all_in f (act a).line.notes ≡ all_in f a.line.notes) → (p : PadState) → all_in f (pad.terminal_event number act p).line.notes ≡ g []
@@ -261,10 +263,10 @@ tells_silent f none (Some m) a = by a.port.call
     by None = refl
     by (Some call) = silent_unless f a.line.notes _ (notes.Sent call (datum (octets_of m) true)) (none call (octets_of m))
 
--- with room in the send queue it is sent
+-- with room in the send queue it is sent, on a line of 128 octets
 abbrev HasRoom : Option ℕ → PadLine → Type 0
 HasRoom None l = Unit {0}
-HasRoom (Some call) l = (room l.end.layer call == 0) ≡ false
+HasRoom (Some call) l = ((room l.end.layer call == 0) ≡ false) × (l.end.layer.flow.size ≡ 128)
 
 sends_told : (test : ℕ → Bool) (m : Message) (o : Option ℕ) (a : AtLine) → IsShort m → HasRoom o a.line
     → all_in (told_in test) (port.on_call (port.sends (octets_of m) true) o a).line.notes
@@ -272,7 +274,7 @@ sends_told : (test : ℕ → Bool) (m : Message) (o : Option ℕ) (a : AtLine) �
 sends_told test m None a short free = sym (append-nil (all_in (told_in test) a.line.notes))
 sends_told test m (Some call) a short free =
     let note : ChannelNote = notes.Sent call (datum (octets_of m) true) in
-    ap (λ (o : Option Refusal). all_in (told_in test) (a.line.notes ++ unless_refused o note)) (message_taken a.line.end.layer call (octets_of m) free short)
+    ap (λ (o : Option Refusal). all_in (told_in test) (a.line.notes ++ unless_refused o note)) (message_taken a.line.end.layer call (octets_of m) free.0 (omega (arith, short, free.1)))
     ∙ one_more (told_in test) a.line.notes note
 
 -- ---- a break
@@ -302,9 +304,9 @@ unasked : (v : Bool) (l : Octets) → l ≡ [] → l ≡ told_octets (if v then 
 unasked true l e = e
 unasked false l e = e
 
-has_room : (o : Option ℕ) (l : PadLine) → (condition o l).queue_full ≡ false → HasRoom o l
-has_room None l e = absurd (true≢false e)
-has_room (Some call) l e = e
+has_room : (o : Option ℕ) (l : PadLine) → l.end.layer.flow.size ≡ 128 → (condition o l).queue_full ≡ false → HasRoom o l
+has_room None l size e = absurd (true≢false e)
+has_room (Some call) l size e = (e, size)
 
 -- what a break asks for beside an indication
 data IsBeside : Option Request → Type 0 where
@@ -338,8 +340,10 @@ tells_beside test (Some request.Interrupt) m o x is interrupt_beside short free 
         let after : AtLine = port.interrupts call x in
         subst (λ (c : Option ℕ). all_in (told_in test) (port.on_call (port.sends (octets_of m) true) c after).line.notes ≡ all_in (told_in test) x.line.notes ++ (if meets test (Some call) then octets_of m ∷ [] else []))
         (sym is)
-        (sends_told test m (Some call) after short
-        (ap (λ (n : ℕ). n == 0) (request_room x.line.end.layer call (Interrupting (line.interrupt_octet ∷ [])) (interrupting_keeps (line.interrupt_octet ∷ []))) ∙ free)
+        (sends_told test m (Some call) after short (
+          ap (λ (n : ℕ). n == 0) (request_room x.line.end.layer call (Interrupting (line.interrupt_octet ∷ [])) (interrupting_keeps (line.interrupt_octet ∷ []))) ∙ free.0,
+          asked_same x.line.end call (Interrupting (line.interrupt_octet ∷ [])) ∙ free.1,
+        )
         ∙ ap (λ (l : Octets). l ++ (if meets test (Some call) then octets_of m ∷ [] else []))
         (silent_unless (told_in test) x.line.notes _ (notes.Interrupted call (line.interrupt_octet ∷ [])) refl))
 
@@ -371,13 +375,13 @@ unfolding octets_of
 indication_is_short params =
     either (λ (pairs : List (ℕ × ℕ)). length (3 ∷ pairs_octets pairs) ≤ 128) (acts_on_break params action.Discard) ((8, 1) ∷ []) [] (omega arith) (omega arith)
 
-pub break_told : (test : ℕ → Bool) (a : AtLine) → IsSaidBy (told_in test) told_octets test port.after_break by_break a
-break_told test a nothing =
+pub break_told : (test : ℕ → Bool) (a : AtLine) → a.line.end.layer.flow.size ≡ 128 → IsSaidBy (told_in test) told_octets test port.after_break by_break a
+break_told test a size nothing =
     let t : TerminalState = a.port.terminal in
     let call : CallCondition = condition a.port.call a.line in
     break_by test (is_connected t.mode) (breaks.indicates t.settings.params) call.queue_full (breaks.request_of t.settings.params call) (indication t.settings.params)
     (HadBreak t.settings.params (is_pending a.port.call a.line) ∷ []) (record a { port = port.with_terminal (breaks.after_break call t) a.port }) nothing
-    (ap (λ (ms : List Message). map octets_of ms) (append-nil _)) (indication_is_short t.settings.params) (λ e. request_beside t.settings.params call e) (λ e. has_room a.port.call a.line e)
+    (ap (λ (ms : List Message). map octets_of ms) (append-nil _)) (indication_is_short t.settings.params) (λ e. request_beside t.settings.params call e) (λ e. has_room a.port.call a.line size e)
 
 -- ---- printing
 
@@ -391,9 +395,10 @@ room_of true (Some x) true taken e q = by (port.is_qualified x) refl e
     by true is f = absurd (none-some taken f)
     by false is f = sym q ∙ ap port.is_qualified (sym (same_Some x taken f)) ∙ is
 
-taken_room : (p : PortState) (o : Option ℕ) (l : PadLine) (taken : Taken) → port.taken_of (record { port = record p { call = o }; line = l }) ≡ Some taken → port.is_qualified taken ≡ true → HasRoom o l
-taken_room p None l taken e q = tt
-taken_room p (Some call) l taken e q = room_of (may_show p.terminal) (front_on l.end.layer call) (condition (Some call) l).queue_full taken e q
+taken_room : (p : PortState) (o : Option ℕ) (l : PadLine) (taken : Taken) → l.end.layer.flow.size ≡ 128 → port.taken_of (record { port = record p { call = o }; line = l }) ≡ Some taken → port.is_qualified taken ≡ true → HasRoom o l
+taken_room p None l taken size e q = tt
+taken_room p (Some call) l taken size e q =
+    (room_of (may_show p.terminal) (front_on l.end.layer call) (condition (Some call) l).queue_full taken e q, size)
 
 -- a reply goes where there is room for it
 replies_told : (test : ℕ → Bool) (r : Reply) (call : ℕ) (p : PortState) (l : PadLine) → ReplyIsShort r → HasRoom (Some call) l
@@ -412,9 +417,11 @@ replies_told test reply.Clear call p l short free =
     none true = append-nil (all_in (told_in test) l.notes)
     none false = append-nil (all_in (told_in test) l.notes)
 
-released_room : (l : Layer) (c : ℕ) → (room l c == 0) ≡ false → (room (request (request l c Taking) c (Releasing 1)) c == 0) ≡ false
-released_room l c free =
-    ap (λ (n : ℕ). n == 0) (request_room (request l c Taking) c (Releasing 1) (releasing_keeps 1) ∙ request_room l c Taking taking_keeps) ∙ free
+released_room : (l : PadLine) (c : ℕ) → HasRoom (Some c) l → HasRoom (Some c) (record l { end = end.asked (end.asked l.end c Taking) c (Releasing 1) })
+released_room l c free = (
+  ap (λ (n : ℕ). n == 0) (request_room (request l.end.layer c Taking) c (Releasing 1) (releasing_keeps 1) ∙ request_room l.end.layer c Taking taking_keeps) ∙ free.0,
+  asked_same (end.asked l.end c Taking) c (Releasing 1) ∙ asked_same l.end c Taking ∙ free.1,
+)
 
 -- what is taken of a call that the terminal has
 module _ (test : ℕ → Bool) (call : ℕ) (p : PortState) (l : PadLine) (nothing : l.notes ≡ []) where
@@ -437,7 +444,7 @@ module _ (test : ℕ → Bool) (call : ℕ) (p : PortState) (l : PadLine) (nothi
   datum_told d true t is free =
       let answered = messages.after_octets d.octets p.terminal in
       let after : PadLine = (port.releases (Releasing 1) call (took (TakenPacket d))).line in
-      replies_told test answered.reply call (record p { terminal = answered.terminal }) after (reply_short d.octets p.terminal) (released_room l.end.layer call (free refl))
+      replies_told test answered.reply call (record p { terminal = answered.terminal }) after (reply_short d.octets p.terminal) (released_room l call (free refl))
       ∙ ap (λ (x : Octets). x ++ (if v then map octets_of (answer_in answered.reply ++ []) else [])) (took_silent (told_in test) (TakenPacket d) refl)
       ∙ if_told v (TookMessage d.octets (calls.without_text t) ∷ []) (map octets_of (answer_in answered.reply ++ []))
       (ap (λ (u : TerminalState). map octets_of (answer_in (messages.after_octets d.octets u).reply ++ [])) (sym is))
@@ -476,8 +483,8 @@ module _ (test : ℕ → Bool) (call : ℕ) (p : PortState) (l : PadLine) (nothi
       by_none (message_in test) messages_taken v (took (TakenInterrupt octets)).line.notes [] refl refl (took_silent (message_in test) (TakenInterrupt octets) refl)
   taking_messages (TakenPacket d) t = datum_silent d d.qualified ∙ took_message d t
 
-pub print_told : (test : ℕ → Bool) (a : AtLine) → IsSaidBy (told_in test) told_octets test port.after_print by_printing a
-print_told test a nothing = by a.port.call (port.taken_of a) refl
+pub print_told : (test : ℕ → Bool) (a : AtLine) → a.line.end.layer.flow.size ≡ 128 → IsSaidBy (told_in test) told_octets test port.after_print by_printing a
+print_told test a size nothing = by a.port.call (port.taken_of a) refl
   where
     by : (o : Option ℕ) (x : Option Taken) → port.taken_of (record { port = record a.port { call = o }; line = a.line }) ≡ x
         → all_in (told_in test) (port.after_taken x (port.with_taken x (record { port = record (port.with_terminal (calls.without_text a.port.terminal) a.port) { call = o }; line = a.line }))).line.notes
@@ -486,7 +493,7 @@ print_told test a nothing = by a.port.call (port.taken_of a) refl
     by None (Some taken) e = nothing_noted (told_in test) a.line.notes nothing
     by (Some call) (Some taken) e =
         taking_told test call (port.with_terminal (calls.without_text a.port.terminal) a.port) a.line nothing taken a.port.terminal refl
-        (λ q. taken_room a.port (Some call) a.line taken e q)
+        (λ q. taken_room a.port (Some call) a.line taken size e q)
 
 pub print_messages : (test : ℕ → Bool) (a : AtLine) → IsSaidBy (message_in test) messages_taken test port.after_print by_printing a
 print_messages test a nothing = by a.port.call (port.taken_of a)

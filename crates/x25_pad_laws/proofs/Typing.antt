@@ -10,6 +10,7 @@ use Rattle.packet_layer.specs.Channel.{Request as LayerRequest, Refusal}
 use Rattle.packet_layer.specs.Channel.Request.{Clearing, Resetting, Sending, Interrupting}
 use Rattle.packet_layer.specs.Layer.{Layer, channel_given, call_refusal, request_refusal, request}
 use Rattle.packet_end.specs.PacketEnd as end
+use Rattle.packet_end.proofs.Sizes.{asked_same, called_same}
 use Rattle.call_records.specs.Records.{with_epoch, with_sent}
 use Rattle.call_records.specs.Book.{Book, packet_of, address_of, edits, sends}
 use Rattle.call_records.specs.Writes.{written_by}
@@ -81,12 +82,14 @@ module _ (role : Role) (b : Book) (Others : ℕ → List ℕ → Type 0) where
 
   -- what holds of the others
   pub record OthersHold (l : PadLine) : Type 0 where
+    pub size : l.end.layer.flow.size ≡ 128
     pub read : l.end.notes ≡ []
     pub unread : l.end.layer.notes ≡ []
     pub calls : (c : ℕ) (t : List ℕ) → Others c t → call_at l.end.layer c ≡ true
     pub book : BookHolds role Others (noted role l.notes b)
 
   pub record AtHolds (a : AtLine) : Type 0 where
+    pub size : a.line.end.layer.flow.size ≡ 128
     pub port : IsPort a.port
     pub read : a.line.end.notes ≡ []
     pub unread : a.line.end.layer.notes ≡ []
@@ -97,6 +100,7 @@ module _ (role : Role) (b : Book) (Others : ℕ → List ℕ → Type 0) where
 
   others_hold : (a : AtLine) → AtHolds a → OthersHold a.line
   others_hold a h = record {
+    size = h.size;
     read = h.read;
     unread = h.unread;
     calls = h.others;
@@ -107,6 +111,7 @@ module _ (role : Role) (b : Book) (Others : ℕ → List ℕ → Type 0) where
   port_changes : (a : AtLine) (q : PortState) → IsPort q → ((c : ℕ) → has_channel q.call c ≡ true → has_channel a.port.call c ≡ true) → q.terminal.held ≡ a.port.terminal.held
       → AtHolds a → AtHolds (record { port = q; line = a.line })
   port_changes a q is on text h = record {
+    size = h.size;
     port = is;
     read = h.read;
     unread = h.unread;
@@ -126,6 +131,7 @@ module _ (role : Role) (b : Book) (Others : ℕ → List ℕ → Type 0) where
   -- without a call of its own
   pub over_holds : (l : PadLine) (u : TerminalState) (left : Option ℕ) → u.held ≡ [] → has_call u.mode ≡ false → OthersHold l → AtHolds (record { port = record { terminal = u; call = None; idle_left = left }; line = l })
   over_holds l u left none free h = record {
+    size = h.size;
     port = port_over u left none free;
     read = h.read;
     unread = h.unread;
@@ -157,6 +163,7 @@ module _ (role : Role) (b : Book) (Others : ℕ → List ℕ → Type 0) where
   pub asked_holds : (channel : ℕ) (r : LayerRequest) (note : ChannelNote) (a : AtLine) → ((cause diagnostic : ℕ) → r ≡ Clearing cause diagnostic → ⊥)
       → ((X : ℕ → List ℕ → Type 0) (x : Book) → BookHolds role X x → BookHolds role X (written_by role (write_of note) x)) → AtHolds a → AtHolds (record a { line = asked channel r note a.line })
   asked_holds channel r note a f quiet h = record {
+    size = asked_same a.line.end channel r ∙ h.size;
     port = h.port;
     read = h.read;
     unread = request_notes a.line.end.layer channel r h.unread;
@@ -171,6 +178,7 @@ module _ (role : Role) (b : Book) (Others : ℕ → List ℕ → Type 0) where
   -- the call of the terminal is cleared
   cleared_others : (l : PadLine) (channel : ℕ) → ((t : List ℕ) → Others channel t → ⊥) → OthersHold l → OthersHold (line.cleared channel l)
   cleared_others l channel alone h = record {
+    size = asked_same l.end channel (Clearing 0 0) ∙ h.size;
     read = h.read;
     unread = request_notes l.end.layer channel (Clearing 0 0) h.unread;
     calls = λ c t o. request_other l.end.layer channel c (Clearing 0 0) (λ e. alone t (subst (λ (k : ℕ). Others k t) e o)) ∙ h.calls c t o;
@@ -231,12 +239,14 @@ module _ (role : Role) (b : Book) (Others : ℕ → List ℕ → Type 0) where
       let over = ended_is _ u in
       over_holds (record { end = end.called l.end (call_parts s.address s.user_data.items); notes = l.notes ++ [] }) (calls.cleared (port.refusal_cause refusal) u) left over.0 over.1
       (record {
+        size = called_same l.end (call_parts s.address s.user_data.items) ∙ h.size;
         read = h.read;
         unread = call_unread l s h;
         calls = λ c t o. call_keeps l.end.layer (call_parts s.address s.user_data.items) c (h.calls c t o);
         book = subst (λ (z : Book). BookHolds role Others z) (sym (noted_append role l.notes [] b)) h.book;
       })
   places_by l s u left (Some channel) refusal given none there h = record {
+    size = called_same l.end (call_parts s.address s.user_data.items) ∙ h.size;
     port = port_new u channel left (subst (λ (t : List ℕ). length t < limit) (sym none) (omega arith)) there;
     read = h.read;
     unread = call_unread l s h;
@@ -299,14 +309,15 @@ module _ (role : Role) (b : Book) (Others : ℕ → List ℕ → Type 0) where
   abbrev BlockKeeps : Option (List ℕ) → ℕ → PortState → PadLine → Type 0
   BlockKeeps block call p l =
       let m : PadLine = (port.block_sent block call (record { port = p; line = l })).line in
-      ((l.end.layer.notes ≡ [] → m.end.layer.notes ≡ []) × ((d : ℕ) → call_at l.end.layer d ≡ true → call_at m.end.layer d ≡ true) × (m.end.notes ≡ l.end.notes))
+      ((l.end.layer.notes ≡ [] → m.end.layer.notes ≡ []) × ((d : ℕ) → call_at l.end.layer d ≡ true → call_at m.end.layer d ≡ true) × (m.end.notes ≡ l.end.notes) × (m.end.layer.flow.size ≡ l.end.layer.flow.size))
 
   block_keeps : (block : Option (List ℕ)) (call : ℕ) (p : PortState) (l : PadLine) → BlockKeeps block call p l
-  block_keeps None call p l = (λ e. e, λ d h. h, refl)
+  block_keeps None call p l = (λ e. e, λ d h. h, refl, refl)
   block_keeps (Some text) call p l = (
     λ e. request_notes l.end.layer call (Sending (datum text false)) e,
     λ d h. request_keeps l.end.layer call d (Sending (datum text false)) (λ cause diagnostic x. absurd cc) h,
     refl,
+    asked_same l.end call (Sending (datum text false)),
   )
 
   block_port : (block : Option (List ℕ)) (call : ℕ) (p : PortState) (l : PadLine) → (port.block_sent block call (record { port = p; line = l })).port ≡ p
@@ -321,6 +332,7 @@ module _ (role : Role) (b : Book) (Others : ℕ → List ℕ → Type 0) where
       let keeps = block_keeps block call q (step_line step call a.line) in
       let on : (c : ℕ) → has_channel q.call c ≡ true → has_channel a.port.call c ≡ true = λ c e. ap (λ (o : Option ℕ). has_channel o c) (was ∙ sym is) ∙ e in
       record {
+        size = keeps.3 ∙ h.size;
         port = port_is;
         read = keeps.2 ∙ h.read;
         unread = keeps.0 h.unread;

@@ -69,6 +69,8 @@ TextOf ports channel text =
 -- ---- a PAD between two events
 
 pub record PadTypes (role : Role) (p : PadState) (b : Book) : Type 0 where
+  -- a packet of the line has at most 128 octets
+  pub size : p.line.end.layer.flow.size ≡ 128
   pub book : BookHolds role (TextOf p.ports) b
   -- nothing is unread
   pub read : p.line.end.notes ≡ []

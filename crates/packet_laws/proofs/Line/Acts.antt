@@ -143,7 +143,7 @@ accept_collided flow rs n owed l = record {
 
 -- a reset begun
 reset_act : (flow : Flow) (role : Role) (m : Bool) (n : Whole) (owed : List Body) (cause diagnostic : ℕ) → Laters (in_state false (Open m) false n)
-    → Act flow role (in_state false (Open m) false n) owed (requested role (shown (stored (in_state false (Open m) false n)) owed) (Resetting cause diagnostic)).channel (Some (Reset cause diagnostic)) (λ st. next_epoch_of (grown (λ e. e) st))
+    → Act flow role (in_state false (Open m) false n) owed (requested role flow (shown (stored (in_state false (Open m) false n)) owed) (Resetting cause diagnostic)).channel (Some (Reset cause diagnostic)) (λ st. next_epoch_of (grown (λ e. e) st))
 reset_act flow role m n owed cause diagnostic l =
     let N : Whole = in_state false (Open m) false n in
     record {
@@ -194,7 +194,7 @@ maybe_act flow role m n owed r None done a same none =
 maybe_act flow role m n owed r (Some f) done a same none = unchanged flow role (in_state false (Open m) false n) owed tt
 
 abbrev pub Requested : Flow → Role → Whole → List Body → Request → Type 0
-Requested flow role n owed r = Act flow role n owed (requested role (shown (stored n) owed) r).channel (requested role (shown (stored n) owed) r).owes (λ st. requested_history role (shown (stored n) owed) r st)
+Requested flow role n owed r = Act flow role n owed (requested role flow (shown (stored n) owed) r).channel (requested role flow (shown (stored n) owed) r).owes (λ st. requested_history role flow (shown (stored n) owed) r st)
 
 abbrev pub in_any : Bool → Bool → Stage → Bool → Whole → Whole
 in_any rown own s rs n = record n { own = rown; now = record n.now { own = own; now = record n.now.now { stage = s; call = record n.now.now.call { own = rs } } } }
@@ -227,8 +227,8 @@ request_at flow role false false (Open m) true n owed Confirming l e = inner_act
 request_at flow role false false (Open m) false n owed (Clearing x y) l e = request_clears flow role (Open m) false n owed x y l
 request_at flow role false false (Open m) false n owed Accept l e = unchanged flow role (in_any false false (Open m) false n) owed e
 request_at flow role false false (Open m) false n owed (Resetting x y) l e = reset_act flow role m n owed x y l
-request_at flow role false false (Open m) false n owed (Sending x) l e = maybe_act flow role m n owed (Sending x) (refusal role (shown (stored (in_state false (Open m) false n)) owed) (Sending x)) (carried_out (shown (stored (in_state false (Open m) false n)) owed) (Sending x)) (λ f. tt) refl refl
-request_at flow role false false (Open m) false n owed (Interrupting x) l e = maybe_act flow role m n owed (Interrupting x) (refusal role (shown (stored (in_state false (Open m) false n)) owed) (Interrupting x)) (carried_out (shown (stored (in_state false (Open m) false n)) owed) (Interrupting x)) (λ f. (refused_none _ Refusal.InterruptPending None (refused_none _ Refusal.TooLong _ f).1).0) refl refl
+request_at flow role false false (Open m) false n owed (Sending x) l e = maybe_act flow role m n owed (Sending x) (refusal role flow (shown (stored (in_state false (Open m) false n)) owed) (Sending x)) (carried_out (shown (stored (in_state false (Open m) false n)) owed) (Sending x)) (λ f. tt) refl refl
+request_at flow role false false (Open m) false n owed (Interrupting x) l e = maybe_act flow role m n owed (Interrupting x) (refusal role flow (shown (stored (in_state false (Open m) false n)) owed) (Interrupting x)) (carried_out (shown (stored (in_state false (Open m) false n)) owed) (Interrupting x)) (λ f. (refused_none _ Refusal.InterruptPending None (refused_none _ Refusal.TooLong _ f).1).0) refl refl
 request_at flow role false false (Open m) false n owed (Stopping x) l e = inner_act flow role m false n owed (Stopping x) _ refl tt
 request_at flow role false false (Open m) false n owed Taking l e = inner_act flow role m false n owed Taking _ refl tt
 request_at flow role false false (Open m) false n owed (Releasing x) l e = inner_act flow role m false n owed (Releasing x) _ refl tt

@@ -67,7 +67,7 @@ pub happens_count : (n : ℕ) (e : Event) (w : Line) → Counts n w → Counts n
 happens_count n (Up k) w h = by_cond (λ (v : Line). Counts n v) (may_begin k w) (record w { me = begun k w.me }) w (λ e. (map_length w.me.layer.channels ∙ h.0, h.1)) (λ e. h)
 happens_count n Down w h = (map_length w.me.layer.channels ∙ h.0, h.1)
 happens_count n (Calls parts) w h = ((placed_same w.me.layer 0 parts (channel_given w.me.layer w.me.layer.phase)).3 ∙ h.0, h.1)
-happens_count n (Requests d r) w h = ((found_same w.me.layer 0 d (λ ch. requested w.me.layer.role ch r) (channel_of w.me.layer d)).3 ∙ h.0, h.1)
+happens_count n (Requests d r) w h = ((found_same w.me.layer 0 d (λ ch. requested w.me.layer.role w.me.layer.flow ch r) (channel_of w.me.layer d)).3 ∙ h.0, h.1)
 happens_count n (Expires timer) w h = ((timer_same w.me.layer 0 timer).3 ∙ h.0, h.1)
 happens_count n Offers w h = (offers_count w.me.session w.me ∙ h.0, h.1)
 happens_count n Arrives w h = arrives_count n w.me.session w h

@@ -134,9 +134,9 @@ calls_tied flow role w s c parts t =
 pub requests_tied : (flow : Flow) (role : Role) (w : Line) (s c d : ℕ) (r : Request) → Tied flow role w s c → Tied flow role (happens (Requests d r) w) s c
 requests_tied flow role w s c d r t =
     let l : Layer = w.me.layer in
-    let same_line = found_same l c d (λ ch. requested l.role ch r) (channel_of l d) in
+    let same_line = found_same l c d (λ ch. requested l.role l.flow ch r) (channel_of l d) in
     layer_event flow role w (with_layer (request l d r) (told (λ k st. request_history l d r k st) w.me)) s c (λ st. request_history l d r c st) same_line.0 same_line.1 same_line.2 (refl, refl, refl, refl)
-    (λ x y link b rest g st p. request_outcome flow role x y link b rest l c d r t.mine.role_is g st p) t
+    (λ x y link b rest g st p. request_outcome flow role x y link b rest l c d r t.mine.role_is t.mine.window_is g st p) t
 
 pub expires_tied : (flow : Flow) (role : Role) (w : Line) (s c : ℕ) (timer : Timer) → Tied flow role w s c → Tied flow role (happens (Expires timer) w) s c
 expires_tied flow role w s c timer t =

@@ -222,25 +222,26 @@ call_outcome flow role x y link b rest l c parts g s p =
 
 -- ---- a request
 
-request_here : (flow : Flow) (role : Role) (x y : Whole) (link b rest : List Body) (l : Layer) (c : ℕ) (r : Request) → l.role ≡ role
+request_here : (flow : Flow) (role : Role) (x y : Whole) (link b rest : List Body) (l : Layer) (c : ℕ) (r : Request) → l.role ≡ role → l.flow ≡ flow
     → GoodWhole flow role (record { me = x; you = y; out = link ++ rest; back = b }) → Settled x → Present l c x rest
-    → Outcome flow role x y link b (on_found l c (λ ch. requested l.role ch r) (channel_of l c)) c (λ st. found_history (channel_of l c) (λ ch z. requested_history l.role ch r z) st)
-request_here flow role x y link b rest l c r role_is g s p =
+    → Outcome flow role x y link b (on_found l c (λ ch. requested l.role l.flow ch r) (channel_of l c)) c (λ st. found_history (channel_of l c) (λ ch z. requested_history l.role l.flow ch r z) st)
+request_here flow role x y link b rest l c r role_is flow_is g s p =
     let ch : Channel = shown (stored x) p.owed in
-    subst (λ (found : Option Channel). Outcome flow role x y link b (on_found l c (λ q. requested l.role q r) found) c (λ st. found_history found (λ q z. requested_history l.role q r z) st)) (sym p.channel_is)
-    (act_outcome flow role x y link b rest l c (requested l.role ch r) (λ st. requested_history l.role ch r st) p
-    (subst (λ (q : Role). Act flow role x p.owed (requested q ch r).channel (requested q ch r).owes (λ st. requested_history q ch r st)) (sym role_is)
-    (request_act flow role x p.owed r (laters flow role x y (link ++ rest) b g) s)) g)
+    subst (λ (found : Option Channel). Outcome flow role x y link b (on_found l c (λ q. requested l.role l.flow q r) found) c (λ st. found_history found (λ q z. requested_history l.role l.flow q r z) st)) (sym p.channel_is)
+    (act_outcome flow role x y link b rest l c (requested l.role l.flow ch r) (λ st. requested_history l.role l.flow ch r st) p
+    (subst (λ (q : Role). Act flow role x p.owed (requested q l.flow ch r).channel (requested q l.flow ch r).owes (λ st. requested_history q l.flow ch r st)) (sym role_is)
+    (subst (λ (f : Flow). Act flow role x p.owed (requested role f ch r).channel (requested role f ch r).owes (λ st. requested_history role f ch r st)) (sym flow_is)
+    (request_act flow role x p.owed r (laters flow role x y (link ++ rest) b g) s))) g)
 
-pub request_outcome : (flow : Flow) (role : Role) (x y : Whole) (link b rest : List Body) (l : Layer) (c d : ℕ) (r : Request) → l.role ≡ role
+pub request_outcome : (flow : Flow) (role : Role) (x y : Whole) (link b rest : List Body) (l : Layer) (c d : ℕ) (r : Request) → l.role ≡ role → l.flow ≡ flow
     → GoodWhole flow role (record { me = x; you = y; out = link ++ rest; back = b }) → Settled x → Present l c x rest → Outcome flow role x y link b (request l d r) c (λ st. request_history l d r c st)
-request_outcome flow role x y link b rest l c d r role_is g s p =
+request_outcome flow role x y link b rest l c d r role_is flow_is g s p =
     elim (cases_eq c d) [
       | inl e ↦ subst (λ (k : ℕ). Outcome flow role x y link b (request l k r) c (λ st. request_history l k r c st)) e
-          (subst (λ (v : Bool). Outcome flow role x y link b (request l c r) c (λ st. cond v (found_history (channel_of l c) (λ ch z. requested_history l.role ch r z) st) st)) (sym (same c))
-          (request_here flow role x y link b rest l c r role_is g s p))
-      | inr ne ↦ other_found flow role x y link b rest l c d (λ ch. requested l.role ch r) (channel_of l d) (λ st. request_history l d r c st)
-          (λ st. ap (λ (v : Bool). cond v (found_history (channel_of l d) (λ ch z. requested_history l.role ch r z) st) st) (ne_eqb c d ne)) ne g s p
+          (subst (λ (v : Bool). Outcome flow role x y link b (request l c r) c (λ st. cond v (found_history (channel_of l c) (λ ch z. requested_history l.role l.flow ch r z) st) st)) (sym (same c))
+          (request_here flow role x y link b rest l c r role_is flow_is g s p))
+      | inr ne ↦ other_found flow role x y link b rest l c d (λ ch. requested l.role l.flow ch r) (channel_of l d) (λ st. request_history l d r c st)
+          (λ st. ap (λ (v : Bool). cond v (found_history (channel_of l d) (λ ch z. requested_history l.role l.flow ch r z) st) st) (ne_eqb c d ne)) ne g s p
     ]
 
 -- ---- an expiry

@@ -153,8 +153,8 @@ found_event role l d F rl fits acts = found_at role l d F (channel_of l d) rl fi
 
 pub request_event : (role : Role) (l : Layer) (d : ℕ) (r : Request) → l.role ≡ role → l.relink ≡ false → AllFit l → LayerEvent role l (request l d r)
 request_event role l d r is rl fits =
-    subst (λ (q : Role). LayerEvent role l (on_found l d (λ ch. requested q ch r) (channel_of l d))) (sym is)
-    (found_event role l d (λ ch. requested role ch r) rl fits (λ ch e ts. request_acts role (is_r1 l.phase) ch.state ch.resetting ch.owed ch.traffic r ts (fits d ch e)))
+    subst (λ (q : Role). LayerEvent role l (on_found l d (λ ch. requested q l.flow ch r) (channel_of l d))) (sym is)
+    (found_event role l d (λ ch. requested role l.flow ch r) rl fits (λ ch e ts. request_acts role l.flow (is_r1 l.phase) ch.state ch.resetting ch.owed ch.traffic r ts (fits d ch e)))
 
 ready_is : (s : CallState) → is_ready s ≡ true → s ≡ Ready
 ready_is Ready e = refl

@@ -207,7 +207,7 @@ asks_same : (f g : ℕ → ℕ → History) (n m : List Note) (event : Event) (w
 asks_same f g n m (Up k) w = up_asks f g n m w k (may_begin k w)
 asks_same f g n m Down w = refl
 asks_same f g n m (Calls parts) w = call_relink n w.me.layer parts (channel_given w.me.layer w.me.layer.phase)
-asks_same f g n m (Requests d r) w = found_asks (bare n w.me.layer) (record w.me.layer { relink = false }) d (λ ch. requested w.me.layer.role ch r) (channel_of w.me.layer d) refl
+asks_same f g n m (Requests d r) w = found_asks (bare n w.me.layer) (record w.me.layer { relink = false }) d (λ ch. requested w.me.layer.role w.me.layer.flow ch r) (channel_of w.me.layer d) refl
 asks_same f g n m (Expires t) w = timer_asks n w.me.layer t
 asks_same f g n m Offers w = offers_asks f g n m w w.me.session
 asks_same f g n m Arrives w = arrives_asks f g n m w w.me.session

@@ -31,7 +31,7 @@ bare_call : (n m : List Note) (l : Layer) (parts : CallParts) → bare n (call (
 bare_call n m l parts = bare_placed n m l parts (channel_given l l.phase)
 
 bare_request : (n m : List Note) (l : Layer) (d : ℕ) (r : Request) → bare n (request (bare m l) d r) ≡ bare n (request l d r)
-bare_request n m l d r = bare_found n m l d (λ ch. requested l.role ch r) (channel_of l d)
+bare_request n m l d r = bare_found n m l d (λ ch. requested l.role l.flow ch r) (channel_of l d)
 
 bare_cond : (n : List Note) (v : Bool) (a b c d : Layer) → bare n a ≡ bare n c → bare n b ≡ bare n d → bare n (cond v a b) ≡ bare n (cond v c d)
 bare_cond n true a b c d p q = p

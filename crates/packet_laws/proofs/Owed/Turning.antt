@@ -2,6 +2,7 @@
 use Rattle.std.proofs.Common.{◌≡◌, ℕ, ◌+◌, ◌≤◌, ◌⊎◌, Bool, true, false, List, [], ◌∷◌, ◌++◌, length, Option, Some, None, refl, sym, ap, subst, arith, inl, inr}
 use Rattle.link_timers.specs.declared.role.Role.{Role}
 use Rattle.link_timers.specs.declared.role.Role.TheVariants.{Dte, Dce}
+use Rattle.packet_channel.specs.declared.flow.Flow.{Flow}
 use Rattle.packet_layer.specs.Packets.{CallParts, Body}
 use Rattle.packet_layer.specs.Packets.Body.{Call, Accepted, Clear, Reset}
 use Rattle.packet_layer.specs.Traffic.{Traffic}
@@ -103,65 +104,65 @@ nothing_short o e = let l = ap (λ (q : List Body). length q) e in omega arith
 
 -- ---- any request
 
-acts_ready : (role : Role) (ready rs : Bool) (o : List Body) (tr : Traffic) (r : Request) (ts : List Body) → FitsIn ready Ready rs o → Acts role ready Ready rs o (requested role (channel_with Ready rs o tr) r) ts ts
-acts_ready role ready rs o tr Accept ts f = same_acts role ready Ready rs o tr tr ts f
-acts_ready role ready rs o tr _ ts f = same_acts role ready Ready rs o tr tr ts f
+acts_ready : (role : Role) (flow : Flow) (ready rs : Bool) (o : List Body) (tr : Traffic) (r : Request) (ts : List Body) → FitsIn ready Ready rs o → Acts role ready Ready rs o (requested role flow (channel_with Ready rs o tr) r) ts ts
+acts_ready role flow ready rs o tr Accept ts f = same_acts role ready Ready rs o tr tr ts f
+acts_ready role flow ready rs o tr _ ts f = same_acts role ready Ready rs o tr tr ts f
 
-acts_clear : (role : Role) (rs : Bool) (o : List Body) (tr : Traffic) (r : Request) (ts : List Body) → Fits OwnClear rs o → Acts role true OwnClear rs o (requested role (channel_with OwnClear rs o tr) r) ts ts
-acts_clear role rs o tr Accept ts f = same_acts role true OwnClear rs o tr tr ts f
-acts_clear role rs o tr _ ts f = same_acts role true OwnClear rs o tr tr ts f
+acts_clear : (role : Role) (flow : Flow) (rs : Bool) (o : List Body) (tr : Traffic) (r : Request) (ts : List Body) → Fits OwnClear rs o → Acts role true OwnClear rs o (requested role flow (channel_with OwnClear rs o tr) r) ts ts
+acts_clear role flow rs o tr Accept ts f = same_acts role true OwnClear rs o tr tr ts f
+acts_clear role flow rs o tr _ ts f = same_acts role true OwnClear rs o tr tr ts f
 
-acts_placed : (role : Role) (rs : Bool) (o : List Body) (tr : Traffic) (r : Request) (ts : List Body) → Fits OwnWaiting rs o → Acts role true OwnWaiting rs o (requested role (channel_with OwnWaiting rs o tr) r) ts ts
-acts_placed role rs o tr Accept ts f = same_acts role true OwnWaiting rs o tr tr ts f
-acts_placed role rs o tr (Clearing x y) ts f = clears role OwnWaiting rs o (requested role (channel_with OwnWaiting rs o tr) (Clearing x y)) x y ts tt f refl refl refl refl
-acts_placed role rs o tr _ ts f = same_acts role true OwnWaiting rs o tr tr ts f
+acts_placed : (role : Role) (flow : Flow) (rs : Bool) (o : List Body) (tr : Traffic) (r : Request) (ts : List Body) → Fits OwnWaiting rs o → Acts role true OwnWaiting rs o (requested role flow (channel_with OwnWaiting rs o tr) r) ts ts
+acts_placed role flow rs o tr Accept ts f = same_acts role true OwnWaiting rs o tr tr ts f
+acts_placed role flow rs o tr (Clearing x y) ts f = clears role OwnWaiting rs o (requested role flow (channel_with OwnWaiting rs o tr) (Clearing x y)) x y ts tt f refl refl refl refl
+acts_placed role flow rs o tr _ ts f = same_acts role true OwnWaiting rs o tr tr ts f
 
-acts_called : (role : Role) (rs : Bool) (o : List Body) (tr : Traffic) (r : Request) (ts : List Body) → Fits FarWaiting rs o → Acts role true FarWaiting rs o (requested role (channel_with FarWaiting rs o tr) r) ts ts
-acts_called role true o tr r ts f = absurd f
-acts_called role false o tr Accept ts f = record {
+acts_called : (role : Role) (flow : Flow) (rs : Bool) (o : List Body) (tr : Traffic) (r : Request) (ts : List Body) → Fits FarWaiting rs o → Acts role true FarWaiting rs o (requested role flow (channel_with FarWaiting rs o tr) r) ts ts
+acts_called role flow true o tr r ts f = absurd f
+acts_called role flow false o tr Accept ts f = record {
   owed_is = refl;
   fits = accepted_fits o (nothing_short o f);
   comes = λ h. all_looser role FarWaiting false o Transfer false (o ++ Accepted ∷ []) ts tt h;
 }
-acts_called role false o tr (Clearing x y) ts f = clears role FarWaiting false o (requested role (channel_with FarWaiting false o tr) (Clearing x y)) x y ts tt f refl refl refl refl
-acts_called role false o tr _ ts f = same_acts role true FarWaiting false o tr tr ts f
+acts_called role flow false o tr (Clearing x y) ts f = clears role FarWaiting false o (requested role flow (channel_with FarWaiting false o tr) (Clearing x y)) x y ts tt f refl refl refl refl
+acts_called role flow false o tr _ ts f = same_acts role true FarWaiting false o tr tr ts f
 
-acts_collided : (role : Role) (rs : Bool) (o : List Body) (tr : Traffic) (r : Request) (ts : List Body) → Fits Collision rs o → Acts role true Collision rs o (requested role (channel_with Collision rs o tr) r) ts ts
-acts_collided role true o tr r ts f = absurd f
-acts_collided Dte false o tr Accept ts f = same_acts Dte true Collision false o tr tr ts f
-acts_collided Dce false o tr Accept ts f = record {
+acts_collided : (role : Role) (flow : Flow) (rs : Bool) (o : List Body) (tr : Traffic) (r : Request) (ts : List Body) → Fits Collision rs o → Acts role true Collision rs o (requested role flow (channel_with Collision rs o tr) r) ts ts
+acts_collided role flow true o tr r ts f = absurd f
+acts_collided Dte flow false o tr Accept ts f = same_acts Dte true Collision false o tr tr ts f
+acts_collided Dce flow false o tr Accept ts f = record {
   owed_is = refl;
   fits = accepted_fits o f.short;
   comes = λ h. all_looser Dce Collision false o Transfer false (o ++ Accepted ∷ []) ts refl h;
 }
-acts_collided role false o tr (Clearing x y) ts f = clears role Collision false o (requested role (channel_with Collision false o tr) (Clearing x y)) x y ts tt f refl refl refl refl
-acts_collided role false o tr _ ts f = same_acts role true Collision false o tr tr ts f
+acts_collided role flow false o tr (Clearing x y) ts f = clears role Collision false o (requested role flow (channel_with Collision false o tr) (Clearing x y)) x y ts tt f refl refl refl refl
+acts_collided role flow false o tr _ ts f = same_acts role true Collision false o tr tr ts f
 
-acts_open : (role : Role) (rs : Bool) (o : List Body) (tr : Traffic) (r : Request) (ts : List Body) → Fits Transfer rs o → Acts role true Transfer rs o (requested role (channel_with Transfer rs o tr) r) ts ts
-acts_open role rs o tr Accept ts f = same_acts role true Transfer rs o tr tr ts f
-acts_open role rs o tr (Clearing x y) ts f = clears role Transfer rs o (requested role (channel_with Transfer rs o tr) (Clearing x y)) x y ts tt f refl refl refl refl
-acts_open role true o tr (Resetting x y) ts f = same_acts role true Transfer true o tr tr ts f
-acts_open role false o tr (Resetting x y) ts f = record {
+acts_open : (role : Role) (flow : Flow) (rs : Bool) (o : List Body) (tr : Traffic) (r : Request) (ts : List Body) → Fits Transfer rs o → Acts role true Transfer rs o (requested role flow (channel_with Transfer rs o tr) r) ts ts
+acts_open role flow rs o tr Accept ts f = same_acts role true Transfer rs o tr tr ts f
+acts_open role flow rs o tr (Clearing x y) ts f = clears role Transfer rs o (requested role flow (channel_with Transfer rs o tr) (Clearing x y)) x y ts tt f refl refl refl refl
+acts_open role flow true o tr (Resetting x y) ts f = same_acts role true Transfer true o tr tr ts f
+acts_open role flow false o tr (Resetting x y) ts f = record {
   owed_is = refl;
   fits = reset_fits o x y f;
   comes = λ h. all_looser role Transfer false o Transfer true (o ++ Reset x y ∷ []) ts (λ e. none_in o (Reset x y) refl e, one_reset_more o x y) h;
 }
-acts_open role rs o tr (Sending d) ts f = unless_acts role true Transfer rs o tr _ ts (refusal role (channel_with Transfer rs o tr) (Sending d)) f
-acts_open role rs o tr (Interrupting q) ts f = unless_acts role true Transfer rs o tr _ ts (refusal role (channel_with Transfer rs o tr) (Interrupting q)) f
-acts_open role rs o tr (Stopping q) ts f = same_acts role true Transfer rs o tr _ ts f
-acts_open role rs o tr Taking ts f = same_acts role true Transfer rs o tr _ ts f
-acts_open role rs o tr (Releasing n) ts f = same_acts role true Transfer rs o tr _ ts f
-acts_open role rs o tr Confirming ts f = same_acts role true Transfer rs o tr _ ts f
+acts_open role flow rs o tr (Sending d) ts f = unless_acts role true Transfer rs o tr _ ts (refusal role flow (channel_with Transfer rs o tr) (Sending d)) f
+acts_open role flow rs o tr (Interrupting q) ts f = unless_acts role true Transfer rs o tr _ ts (refusal role flow (channel_with Transfer rs o tr) (Interrupting q)) f
+acts_open role flow rs o tr (Stopping q) ts f = same_acts role true Transfer rs o tr _ ts f
+acts_open role flow rs o tr Taking ts f = same_acts role true Transfer rs o tr _ ts f
+acts_open role flow rs o tr (Releasing n) ts f = same_acts role true Transfer rs o tr _ ts f
+acts_open role flow rs o tr Confirming ts f = same_acts role true Transfer rs o tr _ ts f
 
-pub request_acts : (role : Role) (ready : Bool) (s : CallState) (rs : Bool) (o : List Body) (tr : Traffic) (r : Request) (ts : List Body) → FitsIn ready s rs o → Acts role ready s rs o (requested role (channel_with s rs o tr) r) ts ts
-request_acts role ready Ready rs o tr r ts f = acts_ready role ready rs o tr r ts f
-request_acts role true OwnClear rs o tr r ts f = acts_clear role rs o tr r ts f
-request_acts role true OwnWaiting rs o tr r ts f = acts_placed role rs o tr r ts f
-request_acts role true FarWaiting rs o tr r ts f = acts_called role rs o tr r ts f
-request_acts role true Collision rs o tr r ts f = acts_collided role rs o tr r ts f
-request_acts role true Transfer rs o tr r ts f = acts_open role rs o tr r ts f
-request_acts role false OwnClear rs o tr r ts f = let n : ⊥ = (let e = f.0 in cc) in absurd n
-request_acts role false OwnWaiting rs o tr r ts f = absurd (not_ready OwnWaiting tt f.0)
-request_acts role false FarWaiting rs o tr r ts f = absurd (not_ready FarWaiting tt f.0)
-request_acts role false Collision rs o tr r ts f = absurd (not_ready Collision tt f.0)
-request_acts role false Transfer rs o tr r ts f = absurd (not_ready Transfer tt f.0)
+pub request_acts : (role : Role) (flow : Flow) (ready : Bool) (s : CallState) (rs : Bool) (o : List Body) (tr : Traffic) (r : Request) (ts : List Body) → FitsIn ready s rs o → Acts role ready s rs o (requested role flow (channel_with s rs o tr) r) ts ts
+request_acts role flow ready Ready rs o tr r ts f = acts_ready role flow ready rs o tr r ts f
+request_acts role flow true OwnClear rs o tr r ts f = acts_clear role flow rs o tr r ts f
+request_acts role flow true OwnWaiting rs o tr r ts f = acts_placed role flow rs o tr r ts f
+request_acts role flow true FarWaiting rs o tr r ts f = acts_called role flow rs o tr r ts f
+request_acts role flow true Collision rs o tr r ts f = acts_collided role flow rs o tr r ts f
+request_acts role flow true Transfer rs o tr r ts f = acts_open role flow rs o tr r ts f
+request_acts role flow false OwnClear rs o tr r ts f = let n : ⊥ = (let e = f.0 in cc) in absurd n
+request_acts role flow false OwnWaiting rs o tr r ts f = absurd (not_ready OwnWaiting tt f.0)
+request_acts role flow false FarWaiting rs o tr r ts f = absurd (not_ready FarWaiting tt f.0)
+request_acts role flow false Collision rs o tr r ts f = absurd (not_ready Collision tt f.0)
+request_acts role flow false Transfer rs o tr r ts f = absurd (not_ready Transfer tt f.0)
