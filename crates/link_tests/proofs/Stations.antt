@@ -3,6 +3,7 @@ use Rattle.std.specs.Prelude.{◌≡◌, ℕ, zero, suc, ◌+◌, ◌<◌, ◌�
 use Rattle.std.proofs.Common.{refl, ap, ◌∙◌, sym, arith}
 use Rattle.link_timers.specs.declared.role.Role.{Role}
 use Rattle.link_timers.specs.declared.role.Role.TheVariants.{Dte, Dce}
+use Rattle.lapb.specs.declared.link.LinkParams.{LinkParams}
 use Rattle.line_end.specs.End as line
 use Rattle.flow_window.specs.Pool.{Pool, in_use, Balances}
 use Rattle.flow_window.proofs.Weights.{weight_ones}
@@ -28,6 +29,7 @@ pub still_station : (a : Inside) (link : Link) (pool : Pool) → IsStation a →
     Balances a.pool a.link.held pool link.held → length link.held ≡ length link.link.queue →
     IsStation (record a { link = link; pool = pool })
 still_station a link pool is keeps change tight = record {
+  info = keeps.info ∙ is.info;
   queue = omega (arith, keeps.queue, is.queue, keeps.k);
   pool = still_pooled a.pool pool a.link link is.pool keeps.k change tight;
 }
@@ -43,9 +45,10 @@ has_room pool link is few =
 -- ---- the end of a line
 
 pub still_terminus : (a : TerminusInside) (end : LineEnd) (pool : Pool) → IsTerminus a →
-    Balances a.pool a.end.held pool end.held → length end.held ≤ end.end.link.k → end.end.link.k ≡ a.end.end.link.k →
+    Balances a.pool a.end.held pool end.held → length end.held ≤ end.end.link.k → end.end.link.k ≡ a.end.end.link.k → end.end.link.info ≡ a.end.end.link.info →
     IsTerminus (record a { end = end; pool = pool })
-still_terminus a end pool is change few k = record {
+still_terminus a end pool is change few k info = record {
+  info = info ∙ is.info;
   size = change.size ∙ is.size;
   places = change.places ∙ is.places ∙ ap (λ n. n + 1) (sym k);
   exact = λ w. let weights = change.weights w in let exact = is.exact w in omega (arith, weights, exact);
@@ -59,11 +62,21 @@ has_buffer a is =
     omega (arith, all, ones, is.places, is.few)
 
 -- as it is made
-pub made_k : (role : Role) (k n2 : ℕ) (standing : Bool) → (line.made role k n2 standing).link.k ≡ k
-made_k Dte k n2 true = refl
-made_k Dce k n2 true = refl
-made_k Dte k n2 false = refl
-made_k Dce k n2 false = refl
+pub made_k : (role : Role) (p : LinkParams) → (line.made role p).link.k ≡ p.k
+made_k role p = by_standing role p.standing
+  where
+    by_standing : (role : Role) (standing : Bool) → (line.made role (record p { standing = standing })).link.k ≡ p.k
+    by_standing role true = refl
+    by_standing Dte false = refl
+    by_standing Dce false = refl
+
+pub made_info : (role : Role) (p : LinkParams) → (line.made role p).link.info ≡ p.info
+made_info role p = by_standing role p.standing
+  where
+    by_standing : (role : Role) (standing : Bool) → (line.made role (record p { standing = standing })).link.info ≡ p.info
+    by_standing role true = refl
+    by_standing Dte false = refl
+    by_standing Dce false = refl
 
 pub replicated : {X : Type 0} (n : ℕ) (x : X) → length (replicate n x) ≡ n
 replicated zero x = refl

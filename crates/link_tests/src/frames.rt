@@ -3,6 +3,11 @@ use FrameKind::{Disc, Dm, Frmr, I, Rej, Rnr, Rr, Sabm, Ua};
 use frame_codec::{Frame, FrameBuf, FrameFault, FrameKind, Rejection, read_frame, write_frame};
 use link_timers::Role;
 
+// The most octets of information of a line with packets of 128 octets, and of any line.
+const SHORT: u16 = 145;
+
+const LONG: u16 = 1_028;
+
 // Octets, where they are read, and the frame that they are: its kind, and its P/F bit.
 type Row = (&'static [u8], Role, FrameKind<'static>, bool);
 
@@ -110,13 +115,13 @@ fn reads_and_writes_frames(rt: HostRuntime) {
 fn fits(row: &Row, response: bool) -> bool {
     let (octets, at, kind, pf) = *row;
     let frame = Frame { kind, response, pf };
-    read_frame(octets, at) == Ok(frame) && is_written_back(octets, at)
+    read_frame(octets, at, SHORT) == Ok(frame) && is_written_back(octets, at)
 }
 
 // Whether the frame that the octets spell is written with the same octets.
 #[tactic(auto, using(frame_codec::proofs::Grammar::form_spelt))]
 fn is_written_back(octets: &[u8], at: Role) -> bool {
-    match read_frame(octets, at) {
+    match read_frame(octets, at, LONG) {
         Ok(frame) => {
             let mut buffer = FrameBuf::new();
             write_frame(&frame, at.other(), &mut buffer);
@@ -153,21 +158,27 @@ const FAULTS: &[(&[u8], Role, FrameFault)] = &[
 #[test]
 fn refuses(rt: HostRuntime) {
     for (octets, at, fault) in FAULTS {
-        assert!(rt; read_frame(octets, *at) == Err(*fault));
+        assert!(rt; read_frame(octets, *at, SHORT) == Err(*fault));
     }
 }
 
 #[test]
 fn refuses_information_that_is_too_long(rt: HostRuntime) {
-    let mut octets = [0u8; 148];
+    let mut octets = [0u8; 1_031];
     octets[0] = 0x01;
-    assert!(rt; read_frame(&octets, Role::Dce) == Err(FrameFault::InfoTooLong));
-    assert!(rt; is_written_back(&octets[..147], Role::Dce));
+    assert!(rt; is_too_long(&octets, LONG));
+    assert!(rt; is_written_back(&octets[..1_030], Role::Dce));
+    assert!(rt; is_too_long(&octets[..148], SHORT));
+    assert!(rt; !is_too_long(&octets[..147], SHORT));
+}
+
+fn is_too_long(octets: &[u8], info: u16) -> bool {
+    read_frame(octets, Role::Dce, info) == Err(FrameFault::InfoTooLong)
 }
 
 #[test]
 fn looks_at_no_spare_bit(rt: HostRuntime) {
-    let spare = read_frame(&[0x03, 0x87, 0x21, 0x7B, 0xFF], Role::Dce);
-    let none = read_frame(&[0x03, 0x87, 0x21, 0x7A, 0x0F], Role::Dce);
+    let spare = read_frame(&[0x03, 0x87, 0x21, 0x7B, 0xFF], Role::Dce, SHORT);
+    let none = read_frame(&[0x03, 0x87, 0x21, 0x7A, 0x0F], Role::Dce, SHORT);
     assert!(rt; spare == none);
 }

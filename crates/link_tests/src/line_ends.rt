@@ -1,4 +1,6 @@
 //! Two ends of a line by the octets of their frames.
+ghost use Rattle.std.specs.Prelude.{◌≡◌};
+
 use crate::fault::MakeFault;
 use crate::terminus::Terminus;
 use frame_codec::FrameBuf;
@@ -50,6 +52,7 @@ use Turn::{Dce, Dte};
 const PARAMS: LinkParams = LinkParams {
     k: 1,
     n2: 3,
+    info: 145,
     standing: false,
 };
 
@@ -237,7 +240,9 @@ fn line_ends_do_what_the_rules_say(rt: HostRuntime) {
 }
 
 // Whether an end of these parameters is not made, since they are bad.
-fn are_bad(alloc: Global, params: LinkParams) -> bool {
+fn are_bad(alloc: Global, params: LinkParams) -> bool
+    requires { params.info ≡ 145 }
+{
     match Terminus::new(alloc, Role::Dce, params) {
         Ok(_) => false,
         Err(fault) => fault == MakeFault::BadParams,

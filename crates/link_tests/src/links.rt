@@ -46,6 +46,7 @@ fn link(rt: &impl Abort, alloc: Global, role: Role) -> Station {
     let params = LinkParams {
         k: 7,
         n2: 3,
+        info: 145,
         standing: false,
     };
     match Station::new(alloc, role, params) {
@@ -416,23 +417,28 @@ fn cross(dte: &mut Station, dce: &mut Station) -> (u8, u8) {
 
 #[test]
 fn parameters_have_ranges(rt: HostRuntime) {
-    const PARAMS: &[(u8, u8, bool)] = &[
-        (7, 20, true),
-        (8, 3, false),
-        (0, 3, false),
-        (7, 0, false),
-        (7, 21, false),
-        (1, 1, true),
+    const PARAMS: &[(u8, u8, u16, bool)] = &[
+        (7, 20, 1_028, true),
+        (8, 3, 145, false),
+        (0, 3, 145, false),
+        (7, 0, 145, false),
+        (7, 21, 145, false),
+        (7, 20, 1_029, false),
+        (1, 1, 145, true),
     ];
-    for (k, n2, good) in PARAMS {
-        assert!(rt; is_made(*k, *n2) == *good, "k {k}, n2 {n2}");
+    for (k, n2, info, good) in PARAMS {
+        assert!(rt;
+            is_made(*k, *n2, *info) == *good,
+            "k {k}, n2 {n2}, info {info}"
+        );
     }
 }
 
-fn is_made(k: u8, n2: u8) -> bool {
+fn is_made(k: u8, n2: u8, info: u16) -> bool {
     let params = LinkParams {
         k,
         n2,
+        info,
         standing: true,
     };
     Link::new(Role::Dce, params).is_ok()

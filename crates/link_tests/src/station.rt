@@ -1,16 +1,14 @@
 //! A link with a pool of its own, as a station of the tests.
-ghost use Rattle.std.specs.Prelude.{◌≤◌, length};
-ghost use Rattle.frame_codec.specs.Spelling.{most_information};
+ghost use Rattle.std.specs.Prelude.{◌≡◌, ◌≤◌, length};
 
 use crate::fault::MakeFault;
 use flow_window::pool::Pool;
-use frame_codec::MAX_INFORMATION;
 use lapb::{Link, LinkOut, LinkParams, OfferFault, Phase};
 use link_timers::Role;
 use std::alloc::Global;
 use std::marker::Model;
 
-/// A link with a pool of its own.
+/// A link with a pool of its own, on a line whose I frames carry at most 145 octets.
 #[derive(Drop)]
 pub(crate) struct Station {
     link: Link,
@@ -30,10 +28,12 @@ impl Model for Station {
 }
 
 impl Station {
-    pub(crate) fn new(alloc: Global, role: Role, params: LinkParams) -> Result<Self, MakeFault> {
+    pub(crate) fn new(alloc: Global, role: Role, params: LinkParams) -> Result<Self, MakeFault>
+        requires { params.info ≡ 145 }
+    {
         Ok(Station {
             link: Link::new(role, params)?,
-            pool: Pool::new(alloc, usize::from(params.k) + 1, MAX_INFORMATION)?,
+            pool: Pool::new(alloc, usize::from(params.k) + 1, usize::from(params.info))?,
         })
     }
 
@@ -58,7 +58,7 @@ impl Station {
     }
 
     pub(crate) fn offer(&mut self, packet: &[u8]) -> Result<(), OfferFault>
-        requires { length packet.now ≤ most_information }
+        requires { length packet.now ≤ 145 }
     {
         self.link.offer(packet, &mut self.pool)
     }

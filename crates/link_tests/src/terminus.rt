@@ -1,17 +1,16 @@
 //! The end of a line with a pool of its own, for tests.
-ghost use Rattle.std.specs.Prelude.{◌≤◌, length};
-ghost use Rattle.frame_codec.specs.Spelling.{most_information};
+ghost use Rattle.std.specs.Prelude.{◌≡◌, ◌≤◌, length};
 
 use crate::fault::MakeFault;
 use flow_window::pool::Pool;
-use frame_codec::{FrameBuf, MAX_INFORMATION};
+use frame_codec::FrameBuf;
 use lapb::{LinkParams, Note, OfferFault};
 use line_end::{LineEnd, Received};
 use link_timers::{Role, TimerId};
 use std::alloc::Global;
 use std::marker::Model;
 
-/// The end of a line with a pool of its own.
+/// The end of a line whose I frames carry at most 145 octets, with a pool of its own.
 #[derive(Drop)]
 pub struct Terminus {
     end: LineEnd,
@@ -32,9 +31,11 @@ impl Model for Terminus {
 
 impl Terminus {
     /// The end of this role of a line, with a pool of k + 1 buffers.
-    pub fn new(alloc: Global, role: Role, params: LinkParams) -> Result<Self, MakeFault> {
+    pub fn new(alloc: Global, role: Role, params: LinkParams) -> Result<Self, MakeFault>
+        requires { params.info ≡ 145 }
+    {
         params.check()?;
-        let mut pool = Pool::new(alloc, usize::from(params.k) + 1, MAX_INFORMATION)?;
+        let mut pool = Pool::new(alloc, usize::from(params.k) + 1, usize::from(params.info))?;
         let end = LineEnd::new(role, params, &mut pool)?;
         Ok(Terminus { end, pool })
     }
@@ -65,7 +66,7 @@ impl Terminus {
     }
 
     pub fn offer(&mut self, packet: &[u8]) -> Result<(), OfferFault>
-        requires { length packet.now ≤ most_information }
+        requires { length packet.now ≤ 145 }
     {
         self.end.offer(packet, &mut self.pool)
     }

@@ -157,7 +157,7 @@ fn sent_matches(book: &Book) -> Option<bool> {
 
 // Writes, where there is room for it.
 fn writes(book: &mut Book, step: Step<'_>) -> bool {
-    match book.reserve(1) {
+    match book.reserve(8) {
         Ok(()) => {
             write(book, step);
             true
@@ -167,7 +167,7 @@ fn writes(book: &mut Book, step: Step<'_>) -> bool {
 }
 
 fn write(book: &mut Book, step: Step<'_>)
-    requires { 1 ≤ book.old.room }
+    requires { 8 ≤ book.old.room }
 {
     match step {
         Place(role, channel) => book.place(role, channel, &Address::new(&CALLED)),
@@ -181,10 +181,10 @@ fn write(book: &mut Book, step: Step<'_>)
 
 // What passes, and what of it counts.
 fn pass(book: &mut Book, step: Step<'_>)
-    requires { 1 ≤ book.old.room }
+    requires { 8 ≤ book.old.room }
 {
     match step {
-        Send(role, octets) if octets.len() <= 128 => {
+        Send(role, octets) if octets.len() <= 1_024 => {
             let packet = Packet {
                 octets,
                 more: true,
@@ -193,7 +193,7 @@ fn pass(book: &mut Book, step: Step<'_>)
             };
             book.send(role, 1, packet);
         }
-        SendOn(role, channel, octets) if octets.len() <= 128 => {
+        SendOn(role, channel, octets) if octets.len() <= 1_024 => {
             let packet = Packet {
                 octets,
                 more: false,
@@ -211,7 +211,7 @@ fn pass(book: &mut Book, step: Step<'_>)
 
 // What an end is told.
 fn tell(book: &mut Book, step: Step<'_>)
-    requires { 1 ≤ book.old.room }
+    requires { 8 ≤ book.old.room }
 {
     match step {
         Incoming(role, channel) => book.tell(role, &incoming(channel, Address::new(&CALLED))),

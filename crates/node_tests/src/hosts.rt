@@ -1,6 +1,9 @@
 //! Worked examples: two hosts on one line, by the octets of their frames.
 
-use crate::lines::{Frames, LINE, MODULO_128, NO_WINDOW, address_of, is_interrupt, keep};
+use crate::lines::{
+    Frames, LINE, MODULO_128, NO_SIZE, NO_WINDOW, SIZE_256, SIZE_1024, address_of, is_interrupt,
+    keep,
+};
 use arrayvec::ArrayVec;
 use frame_codec::FrameBuf;
 use link_timers::{Role, TimerId};
@@ -60,6 +63,8 @@ enum Act<'a> {
     // the one frame that was sent and not delivered, or the packet in it
     Sent(&'a [u8]),
     SentPacket(&'a [u8]),
+    // the first of the frames that were sent and not delivered has a packet with this head and these octets
+    SentData(&'a [u8], &'a [u8]),
     SentNothing,
     Hear(&'a [u8]),
     Elapse(u16),
@@ -86,7 +91,7 @@ enum Step<'a> {
 
 use Act::{
     Ask, Call, Confirmed, Due, Elapse, Expire, Hear, Interrupt, Relink, Restart, Say, SayOn,
-    SayQualified, Sent, SentNothing, SentPacket, Take, TakeInterrupt, TakeNothing,
+    SayQualified, Sent, SentData, SentNothing, SentPacket, Take, TakeInterrupt, TakeNothing,
 };
 use Role::{Dce, Dte};
 use Step::{At, Deliver, Flow, Lose, Pass};
@@ -167,12 +172,23 @@ fn has_sent_packet(frames: &Frames, octets: &[u8]) -> bool {
     frames.len() == 1 && frames[0].as_slice().get(2..) == Some(octets)
 }
 
+fn has_sent_data(frames: &Frames, head: &[u8], octets: &[u8]) -> bool {
+    let Some(frame) = frames.first() else {
+        return false;
+    };
+    let Some(packet) = frame.as_slice().get(2..) else {
+        return false;
+    };
+    packet.get(..head.len()) == Some(head) && packet.get(head.len()..) == Some(octets)
+}
+
 // Performs an act, and answers whether it fits.
 fn perform(station: &mut Station, act: Act<'_>) -> bool {
     match act {
         Act::Told(notes) => station.told.take().as_slice() == notes,
         Sent(octets) => has_sent(&station.sent, octets),
         SentPacket(octets) => has_sent_packet(&station.sent, octets),
+        SentData(head, octets) => has_sent_data(&station.sent, head, octets),
         SentNothing => station.sent.is_empty(),
         _ => is_answered(&mut station.host, act),
     }
@@ -597,6 +613,72 @@ fn hosts_number_modulo_128(rt: HostRuntime) {
     play(&rt, rt.alloc(), LOSSES);
 }
 
+// The longest message, one that is too long, and one of 300 octets with its two packets on a line of 256.
+const LONGEST: &[u8] = &[b'A'; 1_024];
+
+const TOO_LONG: &[u8] = &[b'A'; 1_025];
+
+const MESSAGE: &[u8] = &[b'B'; 300];
+
+const FULL: &[u8] = &[b'B'; 256];
+
+const REST: &[u8] = &[b'B'; 44];
+
+// Messages on lines of each packet size.
+const SIZES: &[Example] = &[
+    Example {
+        rule: "a message of 1,024 octets is one packet",
+        line: SIZE_1024,
+        connected: true,
+        steps: &[
+            At(Dte, Say(TOO_LONG, false, Err(ChannelFault::TooLong))),
+            At(Dte, SayQualified(MESSAGE, Err(ChannelFault::TooLong))),
+            At(Dte, Say(LONGEST, true, Ok(()))),
+            At(Dte, SentData(&[0x60, 0x04, 0x00, 0x00], LONGEST)),
+            Flow,
+            At(Dce, Take(LONGEST, false, false, true)),
+            At(Dce, SentPacket(&[0x20, 0x04, 0x01, 0x02])),
+            Flow,
+            At(Dte, Confirmed(true)),
+            At(Dce, Say(MESSAGE, false, Ok(()))),
+            At(Dce, SentData(&[0x20, 0x04, 0x00, 0x02], MESSAGE)),
+            Flow,
+            At(Dte, Take(MESSAGE, false, false, false)),
+        ],
+    },
+    Example {
+        rule: "a message of 300 octets is two packets where they have 256",
+        line: SIZE_256,
+        connected: true,
+        steps: &[
+            At(Dte, Say(MESSAGE, false, Ok(()))),
+            At(Dte, SentData(&[0x10, 0x04, 0x10], FULL)),
+            Deliver(Dte),
+            At(Dte, SentData(&[0x10, 0x04, 0x02], REST)),
+            Flow,
+            At(Dce, Take(FULL, true, false, false)),
+            At(Dce, Take(REST, false, false, false)),
+        ],
+    },
+    Example {
+        rule: "a message needs the places of its packets",
+        line: SIZE_256,
+        connected: true,
+        steps: &[
+            At(Dte, Say(LONGEST, false, Ok(()))),
+            At(Dte, Say(LONGEST, false, Ok(()))),
+            At(Dte, Say(LONGEST, false, Err(ChannelFault::QueueFull))),
+            At(Dte, Say(MESSAGE, false, Ok(()))),
+            At(Dte, Say(b"C", false, Err(ChannelFault::QueueFull))),
+        ],
+    },
+];
+
+#[test]
+fn hosts_cut_by_the_packet_size(rt: HostRuntime) {
+    play(&rt, rt.alloc(), SIZES);
+}
+
 // Calls that are refused and cleared, and sessions that begin anew.
 const ENDS: &[Example] = &[
     Example {
@@ -647,6 +729,7 @@ fn hosts_clear_calls(rt: HostRuntime) {
 const BAD_LINES: &[EndParams] = &[
     EndParams { k: 8, ..LINE },
     NO_WINDOW,
+    NO_SIZE,
     EndParams {
         channels: 33,
         ..LINE

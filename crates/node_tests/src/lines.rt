@@ -29,6 +29,36 @@ pub(crate) const MODULO_128: EndParams = EndParams {
     ..LINE
 };
 
+/// A line with packets of 256 octets.
+pub(crate) const SIZE_256: EndParams = EndParams {
+    flow: Flow {
+        window: 2,
+        numbering: Numbering::Modulo8,
+        size: 256,
+    },
+    ..LINE
+};
+
+/// A line with packets of 1,024 octets and numbers modulo 128.
+pub(crate) const SIZE_1024: EndParams = EndParams {
+    flow: Flow {
+        window: 7,
+        numbering: Numbering::Modulo128,
+        size: 1_024,
+    },
+    ..LINE
+};
+
+/// A line with packets of a size that no line has.
+pub(crate) const NO_SIZE: EndParams = EndParams {
+    flow: Flow {
+        window: 2,
+        numbering: Numbering::Modulo8,
+        size: 200,
+    },
+    ..LINE
+};
+
 /// A line of no window.
 pub(crate) const NO_WINDOW: EndParams = EndParams {
     flow: Flow {

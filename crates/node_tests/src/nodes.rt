@@ -8,7 +8,7 @@ use line_nodes::{Node, NodeFault, write_request, write_taken};
 use link_timers::Role;
 use packet_end::EndFault;
 use packet_host::{Host, HostRequest};
-use packet_layer::{CallFault, ChannelFault, Taken, UserData};
+use packet_layer::{CallFault, ChannelFault, Front};
 use std::alloc::{AllocError, Global};
 
 // The nodes at the DTE and at the DCE.
@@ -33,9 +33,10 @@ fn asks(
     book: &mut Book,
 ) -> Result<Result<(), ChannelFault>, AllocError> {
     book.reserve(8)?;
+    let size = host.packet_size();
     match host.ask(1, request) {
         Ok(()) => {
-            write_request(book, Role::Dce, 1, request);
+            write_request(book, Role::Dce, 1, size, request);
             Ok(Ok(()))
         }
         Err(fault) => Ok(Err(fault)),
@@ -160,10 +161,15 @@ fn writes_what_is_asked(alloc: Global, host: &mut Host, book: &mut Book) -> bool
 
 // Whether a host's packet `HI` is written as taken.
 fn writes_what_is_taken(book: &mut Book) -> bool {
-    match book.reserve(1) {
+    match book.reserve(8) {
         Ok(()) => {
-            let packet = UserData::new(b"HI", false, false, false);
-            write_taken(book, Role::Dce, 1, &Taken::Data(packet));
+            let front = Front::Data {
+                length: 2,
+                more: false,
+                qualified: false,
+                delivery: false,
+            };
+            write_taken(book, Role::Dce, 1, &front, b"HI");
             has_taken(book)
         }
         Err(_) => false,

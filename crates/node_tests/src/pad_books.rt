@@ -6,11 +6,10 @@ use crate::pad_steps::new_pad;
 use call_records::{Book, EditStep, Pair, Record};
 use link_timers::Role;
 use packet_codec::Address;
-use packet_layer::UserData;
 use pad_records::{write_note, write_notes};
 use std::alloc::{AllocError, Global};
 use x3_params::{Params, Profile};
-use x25_pad::{ChannelNote, Pad};
+use x25_pad::{ChannelNote, Pad, PadData};
 use x25_pad_laws::pad_room_law;
 
 /// The nodes of the two ends.
@@ -65,7 +64,7 @@ fn note_all(book: &mut Book) -> Result<(), AllocError> {
         },
     );
     write_note(book, Role::Dte, &ChannelNote::Paused { channel: 1, params });
-    let user_data = UserData::new(b"A", false, false, false);
+    let user_data = PadData::new(b"A", false, false, false);
     write_note(
         book,
         Role::Dte,

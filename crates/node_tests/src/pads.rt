@@ -1,12 +1,15 @@
 //! Calls of terminals through a PAD.
 
-use crate::pad_steps::{Example, Step, play};
+use crate::lines::{SIZE_256, SIZE_1024};
+use crate::pad_steps::{Example, Step, new_pad, play};
 use Step::{
     BreakDropped, Breaks, Drops, Due, Elapse, Expires, FarAccepts, FarCalls, FarClears, FarHears,
     FarInterrupted, FarIsTold, FarResets, FarSends, FarTakes, FarTakesNothing, FarTells, Flow,
     Idles, Prints, Relink, Restart, Rests, Type,
 };
 use link_timers::TimerId;
+use packet_end::{EndFault, EndParams};
+use std::alloc::Global;
 
 // Calls of both sides.
 const CALLS: &[Example] = &[
@@ -255,6 +258,17 @@ const FLOW: &[Example] = &[
         ],
     },
 ];
+
+// Whether no PAD is made for a line of this packet size.
+fn is_refused(alloc: Global, line: EndParams) -> bool {
+    new_pad(alloc, line, 1).err() == Some(EndFault::BadConfig)
+}
+
+#[test]
+fn the_line_of_a_pad_has_packets_of_128_octets(rt: HostRuntime) {
+    assert!(rt; is_refused(rt.alloc(), SIZE_256));
+    assert!(rt; is_refused(rt.alloc(), SIZE_1024));
+}
 
 #[test]
 fn pads_hold_text(rt: HostRuntime) {

@@ -11,7 +11,7 @@ use std::process::Abort;
 
 const ROUNDS: u16 = 2000;
 
-// The greatest frame is of 147 octets.
+// The greatest frame of these lines has 147 octets.
 const MOST: usize = 160;
 
 // Octets of no order, the same ones in each run.

@@ -148,6 +148,7 @@ fn new_partner(alloc: Global, role: Role) -> Option<Partner> {
     let params = LinkParams {
         k: 7,
         n2: 3,
+        info: 145,
         standing: false,
     };
     match Terminus::new(alloc, role, params) {

@@ -1,14 +1,15 @@
 -- The pool of a layer has room.
-use Rattle.std.proofs.Common.{◌≡◌, ℕ, zero, suc, ◌+◌, ◌*◌, Bool, true, false, List, [], ◌∷◌, length, refl, ap, sym, ◌∙◌, arith}
+use Rattle.std.proofs.Common.{◌≡◌, ℕ, zero, suc, ◌+◌, ◌*◌, ◌≤◌, Bool, true, false, List, [], ◌∷◌, length, refl, ap, sym, subst, ◌∙◌, arith}
 use Rattle.std.specs.Prelude.{replicate}
 use Rattle.link_timers.specs.declared.role.Role.{Role}
 use Rattle.flow_window.specs.Pool.{Buffer, IsIn, weight}
 use Rattle.flow_window.proofs.Weights.{weight_ones, held_in}
 use Rattle.packet_channel.specs.declared.flow.Flow.{Flow}
-use Rattle.packet_layer.specs.Channel.{closed_channel}
+use Rattle.packet_layer.specs.Channel.{Request, closed_channel}
 use Rattle.packet_layer.specs.Held.{Layer as Held, most_held, HasRoom}
 use Rattle.packet_layer.specs.Layer as machine
-use Rattle.packet_layer.specs.Layer.{standing_channels}
+use Rattle.packet_layer.specs.Layer.{Layer, standing_channels}
+use Rattle.packet_layer.proofs.Flows.{flow_request}
 use Rattle.packet_tests.specs.declared.station.Station.TheInside.{Inside}
 use Rattle.packet_tests.specs.Station.{IsStation}
 
@@ -42,9 +43,13 @@ replicated zero x = refl
 replicated (suc n) x = ap (λ m. suc m) (replicated n x)
 
 -- a call that touches no packet
-pub kept : (a : Inside) (new : Held) → IsStation a → most_held new.layer ≡ most_held a.layer.layer →
+pub kept : (a : Inside) (new : Held) (channel : ℕ) (r : Request) → IsStation a →
+    new.layer ≡ machine.request a.layer.layer channel r → most_held new.layer ≡ most_held a.layer.layer →
     new.held ≡ a.layer.held → IsStation (record a { layer = new })
-kept a new is most held = record {
+kept a new channel r is done most held = record {
+  most =
+      let flow = ap (λ (l : Layer). l.flow) done ∙ flow_request a.layer.layer channel r in
+      subst (λ (f : Flow). f.size ≤ 1024) (sym flow) is.most;
   size = is.size;
   places = is.places ∙ ap (λ (n : ℕ). n + 1) (sym most);
   exact = λ w. is.exact w ∙ ap (λ (bs : List Buffer). weight w bs) (sym held);

@@ -11,6 +11,8 @@ mod numbers;
 mod packets;
 #[cfg(test)]
 mod resets;
+#[cfg(test)]
+mod sizes;
 mod station;
 #[cfg(test)]
 mod steps;

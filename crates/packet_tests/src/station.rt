@@ -51,14 +51,17 @@ impl Station {
         self.layer.link_down(&mut self.pool);
     }
 
+    #[tactic(auto, using(packet_layer::proofs::Flows::flow_on_named))]
     pub(crate) fn on_timer(&mut self, id: TimerId) {
         self.layer.on_timer(id, &mut self.pool);
     }
 
+    #[tactic(auto, using(packet_layer::proofs::Flows::flow_on_octets))]
     pub(crate) fn on_packet(&mut self, octets: &[u8]) {
         self.layer.on_packet(octets, &mut self.pool);
     }
 
+    #[tactic(auto, using(packet_layer::proofs::Flows::flow_next))]
     pub(crate) fn next_packet(&mut self, buf: &mut PacketBuf) -> bool {
         self.layer.next_packet(buf, &mut self.pool)
     }
@@ -67,6 +70,7 @@ impl Station {
         self.layer.notes()
     }
 
+    #[tactic(auto, using(packet_layer::proofs::Flows::flow_call))]
     pub(crate) fn call(&mut self, call: &CallData<'_>) -> Result<u8, CallFault>
         requires { IsCallValue (call_view call.now) }
     {
@@ -77,14 +81,17 @@ impl Station {
         self.layer.accept(channel)
     }
 
+    #[tactic(auto, using(packet_layer::proofs::Flows::flow_request))]
     pub(crate) fn clear(&mut self, channel: u8) -> Result<(), ChannelFault> {
         self.layer.clear(channel, 0, 0, &mut self.pool)
     }
 
+    #[tactic(auto, using(packet_layer::proofs::Flows::flow_request))]
     pub(crate) fn reset(&mut self, channel: u8) -> Result<(), ChannelFault> {
         self.layer.reset(channel, 0, 0, &mut self.pool)
     }
 
+    #[tactic(auto, using(packet_layer::proofs::Flows::flow_request))]
     pub(crate) fn send(
         &mut self,
         channel: u8,
@@ -115,11 +122,13 @@ impl Station {
         self.layer.confirm_interrupt(channel);
     }
 
+    #[tactic(auto, using(packet_layer::proofs::Flows::flow_request))]
     pub(crate) fn take(&mut self, channel: u8) -> Option<Taken> {
         self.layer.take(channel, &mut self.pool)
     }
 
     /// The packet that waits on one channel goes in its buffer to another; where it is refused there it is given up.
+    #[tactic(auto, using(packet_layer::proofs::Flows::flow_request))]
     pub(crate) fn relay(&mut self, from: u8, to: u8) -> Option<Result<(), ChannelFault>> {
         let TakenBuf::Data(packet) = self.layer.take_buf(from)? else {
             return None;

@@ -146,12 +146,12 @@ fn step_fits(station: &mut Station, step: &Step<'_>) -> bool {
     }
 }
 
-fn says(station: &mut Station, octets: &[u8]) -> bool {
+pub(crate) fn says(station: &mut Station, octets: &[u8]) -> bool {
     let mut buf = PacketBuf::new();
     station.next_packet(&mut buf) && buf.as_slice() == octets
 }
 
-fn takes(station: &mut Station, channel: u8, octets: Option<&[u8]>) -> bool {
+pub(crate) fn takes(station: &mut Station, channel: u8, octets: Option<&[u8]>) -> bool {
     match station.take(channel) {
         Some(taken) => octets == Some(octets_of(&taken)),
         None => octets.is_none(),
@@ -218,7 +218,7 @@ fn call_2001(station: &mut Station) -> Result<u8, CallFault> {
     })
 }
 
-fn is_told(note: Option<LayerNote>, told: Told) -> bool {
+pub(crate) fn is_told(note: Option<LayerNote>, told: Told) -> bool {
     match note {
         Some(note) => is_note(&note, told),
         None => false,

@@ -102,8 +102,8 @@ fn line_of(alloc: Global, count: usize) -> Result<Vec<u8>, AllocError> {
 
 #[test]
 fn the_longest_frame_is_read(rt: HostRuntime) {
-    let longest = line_of(rt.alloc(), 147).expect(&rt, "a line");
-    assert!(rt; is_frame(longest.as_slice(), b"0", Direction::FromDte, &[0xFF; 147]));
-    let longer = line_of(rt.alloc(), 148).expect(&rt, "a line");
+    let longest = line_of(rt.alloc(), 1_030).expect(&rt, "a line");
+    assert!(rt; is_frame(longest.as_slice(), b"0", Direction::FromDte, &[0xFF; 1_030]));
+    let longer = line_of(rt.alloc(), 1_031).expect(&rt, "a line");
     assert!(rt; read_line(longer.as_slice()).is_err());
 }

@@ -332,6 +332,7 @@ fn adds_line(alloc: Global, config: &mut Config, line: &Line<'_>) -> bool {
         address: String::new(alloc),
         channels,
         modulo: 8,
+        size: 128,
         window: 2,
         k: 7,
         n2: 3,

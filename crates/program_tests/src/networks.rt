@@ -8,7 +8,7 @@ const NODES: &str =
     "[[node]]\nname = \"a\"\nkind = \"pad\"\n[[node]]\nname = \"b2\"\nkind = \"host\"\n[[node]]\nname = \"C\"\nkind = \"switch\"\n";
 
 /// What follows a list of nodes, each of which makes a text that is no network.
-const NO_NETWORKS: [&str; 45] = [
+const NO_NETWORKS: [&str; 48] = [
     "x = 1",
     "[[node]",
     "[[route2]]",
@@ -48,6 +48,9 @@ const NO_NETWORKS: [&str; 45] = [
     "[[line]]\ndte = \"a\"\ndce = \"b2\"\nk = 7.0",
     "[[line]]\ndte = \"a\"\ndce = \"b2\"\nk = true",
     "[[line]]\ndte = \"a\"\ndce = \"b2\"\nn2 = 99999999999999999999",
+    "[[line]]\ndte = \"a\"\ndce = \"b2\"\nsize = \"128\"",
+    "[[line]]\ndte = \"a\"\ndce = \"b2\"\nsize = -128",
+    "[[line]]\ndte = \"a\"\ndce = \"b2\"\nsize = 65536",
     "[[line]]\ndte = \"a\"\ndce = \"b2\"\nstanding = 1",
     "[[line]]\ndte = \"a\"\ndce = \"b2\"\naddress = \"12A\"",
     "[[line]]\ndte = \"a\"\ndce = \"b2\"\naddress = \"1234567890123456\"",
@@ -58,13 +61,14 @@ const NO_NETWORKS: [&str; 45] = [
 
 /// What follows a list of nodes and makes a text that is a network, though some of these have values outside their
 /// limits.
-const NETWORKS: [&str; 8] = [
+const NETWORKS: [&str; 9] = [
     "",
     "# nothing more",
     "[[node]]\nname = \"7\"\nkind = \"host\"\n[[node]]\nname = \"7\"\nkind = \"host\"",
     "[[node]]\nname = \"d\"\nkind = \"pad\"\nterminals = 65535\nprofile = \"TRANSPARENT\"\nset = \"\"\nspeed = 0",
     "[[node]]\nname = \"d\"\nkind = \"pad\"\nset = \"002:001,19:0,0:255\"",
     "[[line]]\ndte = \"x\"\ndce = \"y\"\naddress = \"\"\nchannels = 0\nwindow = 0x8\nk = +0\nn2 = 65535\nstanding = false",
+    "[[line]]\ndte = \"a\"\ndce = \"b2\"\nmodulo = 0\nsize = 65535",
     "[[line]]\ndte = \"a\"\ndce = \"C\"\naddress = \"123456789012345\"",
     "[[route]]\nswitch = \"a\"\nprefix = \"0\"\nline = 65535",
 ];
@@ -122,8 +126,8 @@ fn is_first_pad(node: &NodeConfig) -> bool {
 /// Whether the line is one of a standing call, with the values that it has where none are given.
 fn is_first_line(line: &LineConfig) -> bool {
     (line.dte.as_str(), line.dce.as_str(), line.address.as_str()) == ("pad", "host", "")
-        && (line.channels, line.modulo, line.window) == (1, 8, 2)
-        && (line.k, line.n2, line.standing) == (7, 3, true)
+        && (line.channels, line.modulo, line.size) == (1, 8, 128)
+        && (line.window, line.k, line.n2, line.standing) == (2, 7, 3, true)
 }
 
 /// Whether a network has a PAD as the first of two nodes, one line and no routes.

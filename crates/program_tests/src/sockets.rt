@@ -66,9 +66,9 @@ fn takes_datagrams_that_are_frames(rt: HostRuntime) {
         (None, None),
         (Some(0), None),
         (Some(1), Some(1)),
-        (Some(147), Some(147)),
-        (Some(148), None),
-        (Some(1_000), None),
+        (Some(1_030), Some(1_030)),
+        (Some(1_031), None),
+        (Some(2_000), None),
     ];
     for (octets, taken) in DATAGRAMS {
         assert!(rt; takes(rt.alloc(), *octets, *taken), "at {octets:?}");

@@ -58,7 +58,7 @@ impl Digest {
 
     /// Adds an answer.
     pub(crate) fn answer(&mut self, answer: &Answer) {
-        for put in &answer.frames {
+        for put in answer.frames.as_slice() {
             self.number(put.line);
             self.octet(if put.direction == Direction::FromDte {
                 0
@@ -102,12 +102,10 @@ impl Digest {
                         delivery,
                     },
                 ),
-            ) => self.octets(&[
-                length,
-                u8::from(more),
-                u8::from(qualified),
-                u8::from(delivery),
-            ]),
+            ) => {
+                self.number(usize::from(length));
+                self.octets(&[u8::from(more), u8::from(qualified), u8::from(delivery)]);
+            }
             Outcome::Done => self.octet(8),
         }
     }

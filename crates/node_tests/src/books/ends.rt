@@ -1,4 +1,6 @@
 //! What an end takes, and keys that a PAD edits, written into a book.
+ghost use Rattle.packet_layer.specs.TakenView.{HasFewOctets};
+
 use crate::books::{INTERRUPT, NOTHING, Passage, Shown, Step, fit, new_book};
 use crate::lines::STANDING;
 use Shown::{Sent, SentCount, TakenCount, Took};
@@ -6,8 +8,9 @@ use Step::{Cover, Covered, Records, Release, Send, SendInterrupt, Shows};
 use call_records::{Book, EditStep};
 use frame_codec::FrameBuf;
 use link_timers::Role::{self, Dce, Dte};
+use packet_codec::MAX_USER_DATA;
 use packet_end::{EndFault, EndParams, PacketEnd};
-use packet_layer::{Request, Taken};
+use packet_layer::{Front, Request};
 use std::alloc::Global;
 use x3_params::{Params, Profile};
 
@@ -59,17 +62,23 @@ fn hears_both(alloc: Global, dce: &mut PacketEnd) -> bool {
 }
 
 // What the DCE takes next is written into the book, if there is something.
-fn takes(book: &mut Book, dce: &mut PacketEnd) -> bool {
-    match dce.take(1) {
-        Some(taken) => writes_taken(book, &taken),
-        None => false,
+fn takes(alloc: Global, book: &mut Book, dce: &mut PacketEnd) -> bool {
+    let mut text = Vec::new(alloc);
+    match text.reserve(MAX_USER_DATA) {
+        Ok(()) => match dce.take_into(1, &mut text) {
+            Some(front) => writes_taken(book, &front, text.as_slice()),
+            None => false,
+        },
+        Err(_) => false,
     }
 }
 
-fn writes_taken(book: &mut Book, taken: &Taken) -> bool {
-    match book.reserve(1) {
+fn writes_taken(book: &mut Book, front: &Front, octets: &[u8]) -> bool
+    requires { HasFewOctets front.now octets.now }
+{
+    match book.reserve(8) {
         Ok(()) => {
-            book.take(Dce, 1, taken);
+            book.take(Dce, 1, front, octets);
             true
         }
         Err(_) => false,
@@ -119,13 +128,13 @@ const COVERED: &[Step] = &[
 ];
 
 // Whether all is written of what was sent, and of the interrupt and the packet that the DCE takes.
-fn writes_all(book: &mut Book, dce: &mut PacketEnd) -> bool {
-    fit(book, SENT) && takes(book, dce) && takes(book, dce) && fit(book, COVERED)
+fn writes_all(alloc: Global, book: &mut Book, dce: &mut PacketEnd) -> bool {
+    fit(book, SENT) && takes(alloc, book, dce) && takes(alloc, book, dce) && fit(book, COVERED)
 }
 
 fn both_pass(alloc: Global, book: &mut Book) -> bool {
     match new_end(alloc, Role::Dce) {
-        Ok(mut dce) => hears_both(alloc, &mut dce) && writes_all(book, &mut dce),
+        Ok(mut dce) => hears_both(alloc, &mut dce) && writes_all(alloc, book, &mut dce),
         Err(_) => false,
     }
 }

@@ -16,6 +16,39 @@ const FIRST_PAIR: &[Pair] = &[Pair {
     callee: 1,
 }];
 
+// Packets of more octets than a line has by default.
+const LARGEST: &[u8] = &[7; 1_024];
+
+const LARGE: &[u8] = &[8; 129];
+
+// What is kept of packets of each size.
+const SIZES: &[Example] = &[Example {
+    rule: "a packet is kept whole, with its bits",
+    standing: true,
+    steps: &[
+        Send(Dte, LARGEST),
+        Send(Dte, b""),
+        Send(Dte, LARGE),
+        Cover(Dte, 2),
+        Shows(
+            0,
+            Sent(
+                None,
+                Passage {
+                    packets: &[LARGEST, b"", LARGE],
+                    interrupt: None,
+                    counted: 2,
+                },
+            ),
+        ),
+    ],
+}];
+
+#[test]
+fn books_keep_large_packets(rt: HostRuntime) {
+    play(&rt, rt.alloc(), SIZES);
+}
+
 // What matches, and what does not.
 const MATCHES: &[Example] = &[
     Example {

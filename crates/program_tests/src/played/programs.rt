@@ -42,7 +42,7 @@ const PLAYED: [Run; 12] = [
     (b"break pad\n", b"", b"fault 2 line 1\n"),
 ];
 
-/// A PAD and a host on a line, of which more may be said.
+/// A PAD and a host on a line, of which more is said.
 const DIRECT: &str = r#"
 [[node]]
 name = "pad"
@@ -57,8 +57,23 @@ dte = "pad"
 dce = "host"
 "#;
 
-/// What is said of a line, and whether a network with it is made.
-const LIMITS: [(&str, bool); 8] = [
+/// Two hosts on a line, of which more is said.
+const HOSTS: &str = r#"
+[[node]]
+name = "a"
+kind = "host"
+
+[[node]]
+name = "b"
+kind = "host"
+
+[[line]]
+dte = "a"
+dce = "b"
+"#;
+
+/// What is said of the line of a PAD, and whether a network with it is made.
+const LIMITS: [(&str, bool); 10] = [
     ("k = 8", false),
     ("window = 7", true),
     ("window = 8", false),
@@ -67,6 +82,21 @@ const LIMITS: [(&str, bool); 8] = [
     ("modulo = 128\nwindow = 33", false),
     ("modulo = 128\nwindow = 0", false),
     ("modulo = 16", false),
+    ("size = 128", true),
+    ("size = 256", false),
+];
+
+/// What is said of the line of two hosts, and whether a network with it is made.
+const SIZES: [(&str, bool); 9] = [
+    ("size = 0", false),
+    ("size = 64", false),
+    ("size = 128", true),
+    ("size = 256", true),
+    ("size = 512", true),
+    ("size = 1000", false),
+    ("size = 1024", true),
+    ("size = 2048", false),
+    ("modulo = 128\nsize = 1024\nwindow = 32", true),
 ];
 
 /// Whether this is printed for a script on a network of this configuration.
@@ -176,6 +206,14 @@ fn is_made(alloc: Global, text: &str) -> Option<bool> {
 fn lines_have_limits(rt: HostRuntime) {
     for (said, made) in &LIMITS {
         let text = format!(in rt.alloc(); "{DIRECT}{said}\n").expect(&rt, "a text");
+        assert!(rt; is_made(rt.alloc(), text.as_str()) == Some(*made), "{said}");
+    }
+}
+
+#[test]
+fn lines_of_hosts_have_sizes(rt: HostRuntime) {
+    for (said, made) in &SIZES {
+        let text = format!(in rt.alloc(); "{HOSTS}{said}\n").expect(&rt, "a text");
         assert!(rt; is_made(rt.alloc(), text.as_str()) == Some(*made), "{said}");
     }
 }

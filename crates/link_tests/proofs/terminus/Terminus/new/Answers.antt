@@ -1,7 +1,7 @@
 use Rattle.std.proofs.Common.{◌+◌, ap, ◌∙◌, length, arith}
 use Rattle.flow_window.specs.Pool.{Pool, weight}
 use Rattle.line_end.specs.Held.{LineEnd}
-use Rattle.link_tests.proofs.Stations.{made_k, replicated}
+use Rattle.link_tests.proofs.Stations.{made_k, made_info, replicated}
 use Rattle.link_tests.proofs.terminus.Terminus.new.Goals as goal
 
 pub invariant_of-result : goal.invariant_of-result
@@ -9,11 +9,12 @@ invariant_of-result c =
     let p = c.args.params in
     let end = c.in_ok-end.ensures.end.1 in
     let change = c.in_ok-end.ensures.pool in
-    let k = ap (λ (x : LineEnd). x.end.link.k) end ∙ made_k c.args.role p.k p.n2 p.standing in
+    let k = ap (λ (x : LineEnd). x.end.link.k) end ∙ made_k c.args.role p in
     let none = ap (λ (x : LineEnd). length x.held) end in
     let there = change.places ∙ ap (λ (x : Pool). length x.places) c.in_ok-pool.ensures.map ∙ replicated (c.from.result + 1) _ in
     record {
-      size = change.size ∙ ap (λ (x : Pool). x.size) c.in_ok-pool.ensures.map;
+      info = ap (λ (x : LineEnd). x.end.link.info) end ∙ made_info c.args.role p ∙ c.requires;
+      size = change.size ∙ ap (λ (x : Pool). x.size) c.in_ok-pool.ensures.map ∙ c.from-2.ensures ∙ c.requires;
       places = omega (arith, there, c.from.ensures, k);
       exact = λ w.
           let own = ap (λ (x : LineEnd). weight w x.held) end in

@@ -7,3 +7,4 @@ invariant_of-self c =
     still_terminus c.self.inside c.settle.new.self c.settle.new.pool c.self.invariant
     (rw (c.settle.ensures.pool, c.settle.ensures.held) (balances_same c.self.inside.pool c.self.inside.end.held))
     c.settle.ensures.most c.settle.ensures.k
+    c.settle.ensures.info

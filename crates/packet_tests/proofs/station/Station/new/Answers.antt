@@ -1,5 +1,6 @@
-use Rattle.std.proofs.Common.{◌≡◌, ◌+◌, ◌*◌, ap, ◌∙◌, length, arith}
+use Rattle.std.proofs.Common.{◌≡◌, ◌+◌, ◌*◌, ◌≤◌, ap, ◌∙◌, sym, subst, length, arith}
 use Rattle.flow_window.specs.Pool.{Pool, weight}
+use Rattle.packet_channel.proofs.Windows.{size_most}
 use Rattle.packet_layer.specs.Held.{Layer, most_held}
 use Rattle.packet_tests.proofs.Stations.{made_most, replicated}
 use Rattle.packet_tests.proofs.station.Station.new.Goals as goal
@@ -13,6 +14,7 @@ invariant_of-result c =
     let asked : buffers ≡ p.channels * (p.flow.window + 8) + 1 = λ i. c.from.ensures i * (c.from-2.ensures i + 8) + 1 in
     let there = ap (λ (x : Pool). length x.places) c.in_ok-pool.ensures.map ∙ replicated buffers _ in
     record {
+      most = subst (λ (x : Layer). x.layer.flow.size ≤ 1024) (sym layer) (size_most p.flow c.in_ok-layer.ensures.0.flow_is);
       size = ap (λ (x : Pool). x.size) c.in_ok-pool.ensures.map;
       places = omega (arith, there, asked, most);
       exact = λ w.
