@@ -4,15 +4,15 @@ use Rattle.std.specs.Prelude.{is_some, true, false}
 use Rattle.link_timers.specs.declared.role.Role.{Role}
 use Rattle.link_timers.specs.declared.role.Role.TheVariants.{Dte, Dce}
 use Rattle.packet_channel.proofs.Windows.{window_below}
-use Rattle.packet_layer.specs.Channel.{Channel, may_accept, in_transfer}
+use Rattle.packet_channel.specs.Channel.{Channel, may_accept, in_transfer}
 use Rattle.packet_layer.specs.Layer.{Layer, channel_of}
-use Rattle.line_laws.specs.Line.{Line}
+use Rattle.node_laws.specs.Lines.Line.{Line}
 use Rattle.call_records.specs.Book.{Book, slot_at}
-use Rattle.book_laws.specs.Told.{after_all}
-use Rattle.book_laws.specs.Headline.{HaveRecords, IsPaired, HasCallee, AreAnswered, layer_at}
-use Rattle.book_laws.proofs.Answered.{are_answered}
-use Rattle.book_laws.proofs.Having.{have_records}
-use Rattle.line_record_laws.specs.Kept.{Setting, Kept, beginning, end_at}
+use Rattle.record_laws.specs.Books.Told.{after_all}
+use Rattle.record_laws.specs.Books.Headline.{HaveRecords, IsPaired, HasCallee, AreAnswered, layer_at}
+use Rattle.record_laws.proofs.Books.Answered.{are_answered}
+use Rattle.record_laws.proofs.Books.Having.{have_records}
+use Rattle.node_laws.specs.LineRecords.Kept.{Setting, Kept, beginning, end_at}
 
 answered : (s : Setting) (b : Book) (l : Line) (k : Kept s b l) → AreAnswered (after_all k.moves (beginning s))
 answered s b l k =

@@ -3,14 +3,14 @@ use Rattle.std.proofs.Common.{◌≡◌, ℕ, List, Option, Some, None, refl, sy
 use Rattle.std.specs.Prelude.{slice_get}
 use Rattle.std.proofs.lemmas.Option.{same_Some}
 use Rattle.link_timers.specs.declared.role.Role.{Role}
-use Rattle.line_laws.specs.Line.{Line}
+use Rattle.node_laws.specs.Lines.Line.{Line}
 use Rattle.call_records.specs.Records.{RecordValue}
 use Rattle.call_records.specs.Book.{Book, slot_at}
 use Rattle.call_records.specs.Register.{Register}
-use Rattle.register_laws.specs.Seen.{IsNumbered, renumbered, RecordIsSeen, Seen, positions}
-use Rattle.line_record_laws.specs.Kept.{Setting, Kept, end_at}
-use Rattle.line_record_laws.specs.Confirmed.{SaysConfirmed}
-use Rattle.line_record_laws.proofs.Confirming.{confirmed_kept}
+use Rattle.record_laws.specs.Registers.Seen.{IsNumbered, renumbered, RecordIsSeen, Seen, positions}
+use Rattle.node_laws.specs.LineRecords.Kept.{Setting, Kept, end_at}
+use Rattle.node_laws.specs.LineRecords.Confirmed.{SaysConfirmed}
+use Rattle.node_laws.proofs.LineRecords.Confirming.{confirmed_kept}
 use Rattle.network_laws.specs.Promise.{its_slot}
 
 -- the number of the line's book for a number of the register

@@ -3,14 +3,14 @@ use Rattle.std.proofs.Common.{◌≡◌, ℕ, List, Some, sym, subst, ◌∙◌}
 use Rattle.std.specs.Prelude.{slice_get}
 use Rattle.std.proofs.lemmas.Option.{same_Some}
 use Rattle.link_timers.specs.declared.role.Role.{Role}
-use Rattle.line_laws.specs.Line.{Line}
+use Rattle.node_laws.specs.Lines.Line.{Line}
 use Rattle.call_records.specs.Records.{RecordValue}
 use Rattle.call_records.specs.Book.{Book, slot_at}
 use Rattle.call_records.specs.Register.{Register}
-use Rattle.register_laws.specs.Seen.{renumbered, RecordIsSeen, Seen, positions}
-use Rattle.line_record_laws.specs.Kept.{Setting, Kept, end_at}
-use Rattle.line_record_laws.specs.Counted.{ShowsCounts}
-use Rattle.line_record_laws.proofs.Counting.{shown_kept}
+use Rattle.record_laws.specs.Registers.Seen.{renumbered, RecordIsSeen, Seen, positions}
+use Rattle.node_laws.specs.LineRecords.Kept.{Setting, Kept, end_at}
+use Rattle.node_laws.specs.LineRecords.Counted.{ShowsCounts}
+use Rattle.node_laws.proofs.LineRecords.Counting.{shown_kept}
 use Rattle.network_laws.specs.Promise.{its_slot}
 use Rattle.network_laws.proofs.Confirming.{own_number}
 

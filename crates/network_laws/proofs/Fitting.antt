@@ -4,9 +4,9 @@ use Rattle.link_timers.specs.declared.role.Role.{Role}
 use Rattle.link_timers.specs.declared.role.Role.TheVariants.{Dte, Dce}
 use Rattle.lapb.specs.Machine.{Octets}
 use Rattle.lapb.specs.Line.{chosen}
-use Rattle.line_laws.specs.Line as line
-use Rattle.line_record_laws.specs.Kept.{Setting, Kept, coming_to}
-use Rattle.line_record_laws.specs.Happens.{sent, with_event}
+use Rattle.node_laws.specs.Lines.Line as line
+use Rattle.node_laws.specs.LineRecords.Kept.{Setting, Kept, coming_to}
+use Rattle.node_laws.specs.LineRecords.Happens.{sent, with_event}
 use Rattle.node_laws.specs.Nodes.{StandsAt}
 use Rattle.node_laws.specs.Quiet.{IsQuiet}
 use Rattle.line_nodes.specs.Node.{NodeState, Pad, Host, end_of, is_pad, drained, frames_of}
@@ -113,7 +113,3 @@ kept-after L role s turn mid l coming c put setting keeps =
 pub stands : (role : Role) (s : LineState) → AreQuiet s → StandsAt role (line_of s) (node_at role s)
 stands Dte s q = record { end = refl; node = q.dte.node }
 stands Dce s q = record { end = refl; node = q.dce.node }
-
-pub quiet-at : (role : Role) (s : LineState) → AreQuiet s → IsQuiet (node_at role s)
-quiet-at Dte s q = q.dte
-quiet-at Dce s q = q.dce

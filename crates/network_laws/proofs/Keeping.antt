@@ -7,9 +7,9 @@ use Rattle.lapb.specs.Machine.{Octets}
 use Rattle.lapb.specs.Line.{chosen}
 use Rattle.packet_end.specs.PacketEnd.{PacketEnd}
 use Rattle.packet_end.specs.PacketEnd as end
-use Rattle.line_laws.specs.Line as line
-use Rattle.line_record_laws.specs.Kept.{Kept, coming_to}
-use Rattle.line_record_laws.specs.Happens.{sent, with_event, with_restart}
+use Rattle.node_laws.specs.Lines.Line as line
+use Rattle.node_laws.specs.LineRecords.Kept.{Kept, coming_to}
+use Rattle.node_laws.specs.LineRecords.Happens.{sent, with_event, with_restart}
 use Rattle.line_nodes.specs.Node.{NodeState, Pad, Host, end_of, drained, frames_of}
 use Rattle.line_nodes.specs.Turn.{Turn}
 use Rattle.line_nodes.specs.LineTurns.{restarts}

@@ -10,9 +10,9 @@ use Rattle.packet_host.specs.Host.{call_parts}
 use Rattle.x25_pad.specs.Pad as pad
 use Rattle.x25_pad.specs.Pad.{PadState}
 use Rattle.x25_pad.specs.Ports as port
-use Rattle.node_laws.specs.Courses.{PadHolds}
-use Rattle.node_laws.specs.RecordClauses.{HoldsAfter}
-use Rattle.node_laws.proofs.Holding as pad_law
+use Rattle.node_laws.specs.Pads.Courses.{PadHolds}
+use Rattle.node_laws.specs.Pads.RecordClauses.{HoldsAfter}
+use Rattle.node_laws.proofs.Pads.Holding as pad_law
 use Rattle.call_records.specs.Book.{Book}
 use Rattle.call_records.specs.Writes.{Write, all_written}
 use Rattle.node_laws.specs.Nodes.{StandsAt}

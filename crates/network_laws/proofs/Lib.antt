@@ -1,8 +1,4 @@
-pub use Rattle.net_events.proofs.Users
-pub use Rattle.node_laws.proofs.Making
-pub use Rattle.node_laws.proofs.QuietTurns
-pub use Rattle.node_laws.proofs.Expiring
-pub use Rattle.node_laws.proofs.Holding
+pub mod Switched
 pub mod Flying
 pub mod Shapes
 pub mod Uniform

@@ -9,15 +9,15 @@ use Rattle.x25_pad.specs.Pad.{PadState}
 use Rattle.x25_pad.specs.Making.{made}
 use Rattle.x25_pad.specs.Notes.{ChannelNote}
 use Rattle.x25_pad.specs.Ports as port
-use Rattle.pad_records.specs.Writing.{writes_of, without_notes}
+use Rattle.line_nodes.specs.PadWriting.{writes_of, without_notes}
 use Rattle.call_records.specs.Book.{Book}
 use Rattle.call_records.specs.Writes.{Write, all_written}
-use Rattle.x25_pad_laws.specs.Holds.{node_at as node_of_end}
-use Rattle.x25_pad_laws.specs.Courses.{Happening, Here, There, Course, happened, begins, goes_on}
+use Rattle.node_laws.specs.Pads.Holds.{node_at as node_of_end}
+use Rattle.node_laws.specs.Pads.Courses.{Happening, Here, There, Course, happened, begins, goes_on}
 use Rattle.node_laws.specs.Quiet.{IsQuiet}
-use Rattle.x25_pad_laws.proofs.Holding.{timer_drained, course_is}
-use Rattle.x25_pad_laws.specs.Standing.{drained}
-use Rattle.x25_pad_laws.specs.Happening.{PadEvent, HasKey, HasBreak, HasIdleTime, HasPrinting, HasFrame, HasExpiry, HasRelink, HasRestart, HasTicks, after_event, writes_after}
+use Rattle.node_laws.proofs.Pads.Holding.{timer_drained, course_is}
+use Rattle.node_laws.specs.Pads.Standing.{drained}
+use Rattle.node_laws.specs.Pads.Happening.{PadEvent, HasKey, HasBreak, HasIdleTime, HasPrinting, HasFrame, HasExpiry, HasRelink, HasRestart, HasTicks, after_event, writes_after}
 use Rattle.line_nodes.specs.Node as node
 use Rattle.line_nodes.specs.Node.{NodeState, Pad, Host, sent_out}
 use Rattle.line_nodes.specs.Turn.{Turn, told}

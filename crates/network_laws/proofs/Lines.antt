@@ -4,7 +4,7 @@ use Rattle.link_timers.specs.declared.role.Role.{Role}
 use Rattle.link_timers.specs.declared.role.Role.TheVariants.{Dte, Dce}
 use Rattle.packet_end.specs.PacketEnd as end
 use Rattle.call_records.specs.Book.{Book}
-use Rattle.line_record_laws.specs.Kept.{Kept}
+use Rattle.node_laws.specs.LineRecords.Kept.{Kept}
 use Rattle.node_laws.specs.Clauses.{elapsed_line}
 use Rattle.line_nodes.specs.Node.{NodeState, Pad, Host, end_of, is_pad, node_elapsed}
 use Rattle.memory_line.specs.declared.line.Direction.{Direction}
@@ -17,10 +17,10 @@ use Rattle.network_laws.specs.LineLaw.{elapsed}
 use Rattle.network_laws.proofs.Fitting.{after-turn}
 use Rattle.network_laws.proofs.Leaving.{leaves}
 use Rattle.network_laws.proofs.Keeping.{keeps}
-use Rattle.line_record_laws.proofs.Keeping as keeping_law
+use Rattle.node_laws.proofs.LineRecords.Keeping as keeping_law
 use Rattle.node_laws.proofs.Making as making_law
 use Rattle.node_laws.proofs.QuietTurns as quiet_law
-use Rattle.node_laws.proofs.Holding as pad_law
+use Rattle.node_laws.proofs.Pads.Holding as pad_law
 
 pub happened_line : (L : LineService) (event : NodeEvent) (role : Role) (s t : LineState) → IsLine L s
     → Happened L event role s t → IsLine L t

@@ -8,24 +8,25 @@ use Rattle.packet_end.specs.declared.params.EndParams.{EndParams}
 use Rattle.x25_pad.specs.declared.config.PadConfig.{PadConfig}
 use Rattle.call_records.specs.Records.{RecordValue}
 use Rattle.call_records.specs.Book.{made_book}
-use Rattle.book_laws.specs.Headline.{BookHolds}
-use Rattle.line_record_laws.specs.Kept.{Setting, Kept}
+use Rattle.record_laws.specs.Books.Headline.{BookHolds}
+use Rattle.node_laws.specs.LineRecords.Kept.{Setting, Kept}
 use Rattle.node_laws.specs.Quiet.{IsQuiet}
 use Rattle.node_laws.specs.Clauses.{first_line}
 use Rattle.x25_pad.specs.Pad.{PadState}
-use Rattle.node_laws.specs.Courses.{IsRecordOf, PadSends}
+use Rattle.node_laws.specs.Pads.Courses.{IsRecordOf, PadSends}
 use Rattle.line_nodes.specs.Node.{NodeState, Pad, end_of, drained, frames_of}
 use Rattle.memory_line.specs.Lines.{Flights, LineService}
 use Rattle.net_events.specs.OneLine.{LineState}
 use Rattle.network_laws.specs.IsLine.{NodeHolds, line_of, IsLine}
-use Rattle.net_events.specs.Opening.{NewDte, NewPad, NewHost, IsNewDte, new_dte, new_dce, AreSent}
+use Rattle.net_config.specs.NetPlan.{NewDte, NewPad, NewHost, IsNewDte}
+use Rattle.net_events.specs.Opening.{new_dte, new_dce, AreSent}
 use Rattle.network_laws.specs.LineLaw.{made_line}
 use Rattle.network_laws.proofs.Flying.{BothLanded, both_landed}
 use Rattle.network_laws.proofs.Fitting.{end-drained}
-use Rattle.line_record_laws.proofs.Keeping as keeping_law
+use Rattle.node_laws.proofs.LineRecords.Keeping as keeping_law
 use Rattle.node_laws.proofs.Making as making_law
 use Rattle.node_laws.proofs.QuietTurns as quiet_law
-use Rattle.node_laws.proofs.Holding as pad_law
+use Rattle.node_laws.proofs.Pads.Holding as pad_law
 
 -- ---- the promise
 

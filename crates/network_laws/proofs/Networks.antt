@@ -9,9 +9,9 @@ use Rattle.link_timers.specs.declared.role.Role.TheVariants.{Dte, Dce}
 use Rattle.call_records.specs.Book.{Book, side_of}
 use Rattle.call_records.specs.Writes.{all_written}
 use Rattle.call_records.specs.Register.{Register, book_at, with_book, all_written_at}
-use Rattle.register_laws.specs.Seen.{Seen}
-use Rattle.register_laws.proofs.Seeing.{writes_seen}
-use Rattle.book_laws.proofs.Basics.{get_set, set_here, set_elsewhere, length_set, get_there}
+use Rattle.record_laws.specs.Registers.Seen.{Seen}
+use Rattle.record_laws.proofs.Registers.Seeing.{writes_seen}
+use Rattle.record_laws.proofs.Books.Basics.{get_set, set_here, set_elsewhere, length_set, get_there}
 use Rattle.line_nodes.specs.Node.{NodeState, drained, frames_of}
 use Rattle.line_nodes.specs.Turn.{Turn}
 use Rattle.memory_line.specs.declared.line.Direction.{Direction}

@@ -6,7 +6,7 @@ use Rattle.std.proofs.lemmas.Bool.{and_parts}
 use Rattle.std.proofs.lemmas.Option.{same_Some, none-some}
 use Rattle.link_timers.specs.declared.role.Role.{Role}
 use Rattle.link_timers.specs.declared.role.Role.TheVariants.{Dte, Dce}
-use Rattle.packet_layer.specs.Flow.{modulo_128}
+use Rattle.packet_channel.specs.Flow.{modulo_128}
 use Rattle.packet_end.specs.declared.params.EndParams.{EndParams}
 use Rattle.packet_end.specs.Params.{AreParams}
 use Rattle.packet_end.specs.PacketEnd.{finished, all_offered}
@@ -19,7 +19,8 @@ use Rattle.net_events.specs.OneLine.{direction_of, direction_to}
 use Rattle.net_events.specs.NodeEvents.{NodeEvent, IsFor, LeftBy, turn_of}
 use Rattle.net_events.specs.NodeEvents.NodeEvent.{Hears, Says, Takes}
 use Rattle.net_events.specs.Network.{User, NetLine, Network, HappenedAt}
-use Rattle.net_events.specs.Opening.{NewHost, NewNode, Planned, PlannedUser, PlannedSwitch, NewLine, NetPlan, IsLinePlan, IsNodePlan, IsPlan, AreUsers, AreSent, new_dte, new_dce, new_at, placed_new, line_plan, NodeIsMade, LineIsMade, IsMade}
+use Rattle.net_config.specs.NetPlan.{NewHost, NewNode, Planned, PlannedUser, PlannedSwitch, NewLine, NetPlan, IsLinePlan, IsNodePlan, IsPlan, AreUsers}
+use Rattle.net_events.specs.Opening.{AreSent, new_dte, new_dce, new_at, placed_new, line_plan, NodeIsMade, LineIsMade, IsMade}
 use Rattle.network_laws.specs.IsNetwork.{IsNetwork}
 use Rattle.network_laws.specs.Promise.{NetworkHolds}
 use Rattle.network_laws.specs.PadRun.{all_put}

@@ -9,15 +9,16 @@ use Rattle.link_timers.specs.declared.role.Role.TheVariants.{Dte, Dce}
 use Rattle.packet_end.specs.declared.params.EndParams.{EndParams}
 use Rattle.call_records.specs.Book.{Book}
 use Rattle.call_records.specs.Register.{Register, LinePlan, planned_book}
-use Rattle.register_laws.specs.Seen.{Seen}
-use Rattle.register_laws.specs.Law.{HaveChannels, HaveNoAddress}
-use Rattle.register_laws.proofs.Making.{made_seen}
-use Rattle.book_laws.proofs.Basics.{get_there}
+use Rattle.record_laws.specs.Registers.Seen.{Seen}
+use Rattle.record_laws.specs.Registers.Law.{HaveChannels, HaveNoAddress}
+use Rattle.record_laws.proofs.Registers.Making.{made_seen}
+use Rattle.record_laws.proofs.Books.Basics.{get_there}
 use Rattle.memory_line.specs.Lines.{LineService}
 use Rattle.line_nodes.specs.Node.{node_elapsed}
 use Rattle.net_events.specs.Network.{NetNode, User, Switching, NetLine, Network, elapsed_node, all_elapsed}
 use Rattle.network_laws.specs.IsNetwork.{line_state, LineHolds, IsUserAt, IsNetwork}
-use Rattle.net_events.specs.Opening.{NewNode, PlannedUser, NewLine, NetPlan, HasEndAt, IsPlan, AreUsers, new_end, placed_new, line_plan, LineIsMade, IsMade}
+use Rattle.net_config.specs.NetPlan.{NewNode, PlannedUser, NewLine, NetPlan, HasEndAt, IsPlan, AreUsers}
+use Rattle.net_events.specs.Opening.{new_end, placed_new, line_plan, LineIsMade, IsMade}
 use Rattle.net_events.proofs.Users.{UserLine, user_line}
 use Rattle.network_laws.proofs.Lines.{elapsed_lines}
 use Rattle.network_laws.proofs.Channels.{channels_made}

@@ -25,7 +25,7 @@ use Rattle.x25_pad.specs.Pad.{all_heard}
 use Rattle.call_records.specs.Records.{RecordValue, new_record, with_closed}
 use Rattle.call_records.specs.Book.{Book, Slot}
 use Rattle.net_events.specs.OneLine.{LineState}
-use Rattle.node_laws.specs.Sending.{HasSaid}
+use Rattle.node_laws.specs.Pads.Sending.{HasSaid}
 use Rattle.network_laws.specs.PadRun.{dialled_occasions, standing_occasions}
 use Rattle.network_laws.specs.PadRun.{Act, first, dialled_run, standing_run, dialled_pad, dialled_host, standing_pad, standing_host, shown, first_text, second_text, after, after_act, greeted, begun, ended}
 use Rattle.network_laws.specs.PadRun.{question, connecting, typing, reading, answering, resetting, holding, ending, breaking, hearing, commanding, clearing, packet, all_sent, all_taken, called, greeting, before_reset, behind_reset, interrupt, with_epochs, with_typed}

@@ -7,15 +7,15 @@ use Rattle.packet_layer.specs.Layer.{channel_of}
 use Rattle.packet_end.specs.PacketEnd.{PacketEnd}
 use Rattle.call_records.specs.Records.{RecordValue}
 use Rattle.call_records.specs.Book.{Book, side_of}
-use Rattle.book_laws.specs.Headline.{BookHolds, HaveRecords, has_call}
+use Rattle.record_laws.specs.Books.Headline.{BookHolds, HaveRecords, has_call}
 use Rattle.node_laws.specs.Quiet.{IsQuiet}
-use Rattle.node_laws.specs.Courses.{IsSeenAs}
-use Rattle.register_laws.specs.Law.{IsOfBook, IsAtNoOther}
-use Rattle.register_laws.proofs.Seeing.{present_seen, came_seen}
-use Rattle.register_laws.proofs.Having.{records_seen, callee_seen}
-use Rattle.register_laws.proofs.Promising.{promised, of_one_line, paired_seen}
-use Rattle.line_record_laws.specs.Kept.{end_at}
-use Rattle.line_record_laws.proofs.Keeping as keeping_law
+use Rattle.node_laws.specs.Pads.Courses.{IsSeenAs}
+use Rattle.record_laws.specs.Registers.Law.{IsOfBook, IsAtNoOther}
+use Rattle.record_laws.proofs.Registers.Seeing.{present_seen, came_seen}
+use Rattle.record_laws.proofs.Registers.Having.{records_seen, callee_seen}
+use Rattle.record_laws.proofs.Registers.Promising.{promised, of_one_line, paired_seen}
+use Rattle.node_laws.specs.LineRecords.Kept.{end_at}
+use Rattle.node_laws.proofs.LineRecords.Keeping as keeping_law
 use Rattle.line_nodes.specs.Node.{NodeState, end_of, is_pad}
 use Rattle.memory_line.specs.Lines.{LineService}
 use Rattle.net_events.specs.OneLine.{LineState}
@@ -29,9 +29,9 @@ use Rattle.network_laws.proofs.Made.{book_line, sends_line}
 use Rattle.network_laws.proofs.Networks.{book_there, placed, there_is, line_there}
 use Rattle.network_laws.proofs.Confirming.{says_confirmed}
 use Rattle.network_laws.proofs.Counting.{shows_counts}
-use Rattle.line_record_laws.specs.Confirmed.{SaysConfirmed}
-use Rattle.line_record_laws.specs.Counted.{ShowsCounts, HasItsEpochs}
-use Rattle.line_record_laws.proofs.Counting.{counts_kept, all_sent, all_taken, its_epochs_alike}
+use Rattle.node_laws.specs.LineRecords.Confirmed.{SaysConfirmed}
+use Rattle.node_laws.specs.LineRecords.Counted.{ShowsCounts, HasItsEpochs}
+use Rattle.node_laws.proofs.LineRecords.Counting.{counts_kept, all_sent, all_taken, its_epochs_alike}
 
 -- ---- each line's book holds
 

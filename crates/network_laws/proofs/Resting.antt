@@ -3,9 +3,9 @@ use Rattle.std.proofs.Common.{◌≡◌, ℕ, Some, sym, ap, ◌∙◌}
 use Rattle.std.specs.Prelude.{slice_get}
 use Rattle.packet_layer.specs.Layer.{confirmed}
 use Rattle.call_records.specs.Book.{Book}
-use Rattle.book_laws.specs.Rest.{NothingMissing}
-use Rattle.register_laws.proofs.Missing.{rest_seen}
-use Rattle.line_record_laws.proofs.Missing.{rest_kept}
+use Rattle.record_laws.specs.Books.Rest.{NothingMissing}
+use Rattle.record_laws.proofs.Registers.Missing.{rest_seen}
+use Rattle.node_laws.proofs.LineRecords.Missing.{rest_kept}
 use Rattle.line_nodes.specs.Node.{end_of}
 use Rattle.memory_line.specs.Lines.{LineService}
 use Rattle.net_events.specs.OneLine.{LineState}

@@ -5,7 +5,7 @@ use Rattle.std.specs.Prelude.{slice_get}
 use Rattle.std.proofs.lemmas.Option.{same_Some, none-some}
 use Rattle.link_timers.specs.declared.role.Role.{Role}
 use Rattle.link_timers.specs.declared.role.Role.TheVariants.{Dte, Dce}
-use Rattle.packet_layer.specs.Flow.{modulo_8}
+use Rattle.packet_channel.specs.Flow.{modulo_8}
 use Rattle.packet_end.specs.declared.params.EndParams.{EndParams}
 use Rattle.packet_end.specs.Params.{AreParams}
 use Rattle.packet_end.specs.PacketEnd.{finished, all_offered}
@@ -14,13 +14,15 @@ use Rattle.x3_params.specs.declared.profile.Profile.TheVariants.{Simple}
 use Rattle.line_nodes.specs.Node.{frames_of}
 use Rattle.memory_line.specs.declared.line.Direction.TheVariants.{FromDte}
 use Rattle.memory_line.specs.Lines.{Flights, no_flights, memory_service, ArePut}
-use Rattle.net_events.specs.Opening.{NewDte, NewPad, NewHost, new_dte, new_dce, AreSent}
+use Rattle.net_config.specs.NetPlan.{NewDte, NewPad, NewHost}
+use Rattle.net_events.specs.Opening.{new_dte, new_dce, AreSent}
 use Rattle.net_events.specs.NodeEvents.{NodeEvent}
 use Rattle.net_events.specs.NodeEvents.NodeEvent.{Restarts, AtTerminal}
 use Rattle.line_nodes.specs.declared.terminal.TerminalEvent.TheVariants.{Key}
 use Rattle.net_events.specs.Network.{User, NetLine, Network, net_turn, with_turn_at, HappenedAt}
 use Rattle.network_laws.specs.IsNetwork.{IsNetwork}
-use Rattle.net_events.specs.Opening.{NewNode, Planned, PlannedUser, PlannedSwitch, NewLine, NetPlan, IsLinePlan, IsNodePlan, IsPlan, AreUsers, placed_new, line_plan, new_at, NodeIsMade, LineIsMade, IsMade}
+use Rattle.net_config.specs.NetPlan.{NewNode, Planned, PlannedUser, PlannedSwitch, NewLine, NetPlan, IsLinePlan, IsNodePlan, IsPlan, AreUsers}
+use Rattle.net_events.specs.Opening.{placed_new, line_plan, new_at, NodeIsMade, LineIsMade, IsMade}
 use Rattle.net_events.proofs.Users.{same_planned}
 use Rattle.network_laws.proofs.Networks.{happened_network}
 use Rattle.network_laws.proofs.Opened.{made_network}

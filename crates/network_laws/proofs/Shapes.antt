@@ -4,12 +4,12 @@ use Rattle.std.proofs.lemmas.List.{length-set}
 use Rattle.link_timers.specs.declared.role.Role.{Role}
 use Rattle.link_timers.specs.declared.role.Role.TheVariants.{Dte, Dce}
 use Rattle.link_timers.specs.Role.{other_of}
-use Rattle.packet_layer.specs.Packets.{CallParts, Datum, Note}
-use Rattle.packet_layer.specs.Packets.Note.{Incoming, Connected, Closed, WasReset, InterruptConfirmed, Covered}
-use Rattle.packet_layer.specs.Traffic.{Taken}
-use Rattle.packet_layer.specs.Traffic.Taken.{TakenInterrupt, TakenPacket}
-use Rattle.packet_layer.specs.Channel.{Refusal, Request}
-use Rattle.packet_layer.specs.Channel.Request.{Accept, Clearing, Resetting, Sending, Interrupting, Stopping, Taking, Releasing, Confirming}
+use Rattle.packet_channel.specs.Packets.{CallParts, Datum, Note}
+use Rattle.packet_channel.specs.Packets.Note.{Incoming, Connected, Closed, WasReset, InterruptConfirmed, Covered}
+use Rattle.packet_channel.specs.Traffic.{Taken}
+use Rattle.packet_channel.specs.Traffic.Taken.{TakenInterrupt, TakenPacket}
+use Rattle.packet_channel.specs.Channel.{Refusal, Request}
+use Rattle.packet_channel.specs.Channel.Request.{Accept, Clearing, Resetting, Sending, Interrupting, Stopping, Taking, Releasing, Confirming}
 use Rattle.call_records.specs.Records.{RecordValue, PairValue, new_record, with_closed, with_epoch, with_sent, with_step, with_covered, with_taken, with_interrupt_taken, with_interrupt_sent, with_released}
 use Rattle.call_records.specs.Book.{Book, Side, Slot, side_of, slot_at, with_nth, with_slot, with_change, changed, with_record, address_of, calling_from, with_pair, closes, sends, takes, packet_of, told, all_told}
 use Rattle.call_records.specs.Closing.{closes_if, closes_present, closed_from}

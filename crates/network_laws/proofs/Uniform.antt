@@ -3,7 +3,7 @@
 use Rattle.std.proofs.Common.{◌≡◌, ℕ, Bool, true, false, List, [], ◌∷◌, Option, Some, None, refl}
 use Rattle.std.specs.Prelude.{cond}
 use Rattle.link_timers.specs.declared.role.Role.{Role}
-use Rattle.packet_layer.specs.Traffic.{Taken}
+use Rattle.packet_channel.specs.Traffic.{Taken}
 use Rattle.packet_channel.specs.Cutting.{cut}
 use Rattle.packet_layer.specs.Layer.{request_refusal, front_on, channel_given}
 use Rattle.packet_end.specs.PacketEnd.{PacketEnd}
@@ -15,8 +15,8 @@ use Rattle.call_records.specs.Writes.{Write, all_written}
 use Rattle.call_records.specs.Writes.Write.{Told, Placed, Asked, Said, Took, Cleared, AllClosed}
 use Rattle.x25_pad.specs.Notes.{ChannelNote}
 use Rattle.x25_pad.specs.Notes as pad
-use Rattle.pad_records.specs.Writing.{write_of, writes_of}
-use Rattle.register_laws.specs.Giving.{GivesNone, AllGiveNone}
+use Rattle.line_nodes.specs.PadWriting.{write_of, writes_of}
+use Rattle.record_laws.specs.Registers.Giving.{GivesNone, AllGiveNone}
 use Rattle.line_nodes.specs.Node.{NodeState, Pad, Host, end_of}
 use Rattle.line_nodes.specs.NodeEvents.{heard, node_runs, expired, relinked}
 use Rattle.line_nodes.specs.Turn.{Turn, told, unchanged}

@@ -2,10 +2,10 @@
 use Rattle.std.specs.Prelude.{◌≡◌, ◌≢◌, false}
 use Rattle.link_timers.specs.declared.role.Role.{Role}
 use Rattle.link_timers.specs.declared.role.Role.TheVariants.{Dte}
-use Rattle.line_laws.specs.Line.{Line}
-use Rattle.line_record_laws.specs.Kept.{Setting, Kept}
+use Rattle.node_laws.specs.Lines.Line.{Line}
+use Rattle.node_laws.specs.LineRecords.Kept.{Setting, Kept}
 use Rattle.node_laws.specs.Quiet.{IsQuiet}
-use Rattle.node_laws.specs.Courses.{PadHolds}
+use Rattle.node_laws.specs.Pads.Courses.{PadHolds}
 use Rattle.call_records.specs.Book.{Book}
 use Rattle.line_nodes.specs.Node.{NodeState, Pad, Host, end_of, is_pad}
 use Rattle.memory_line.specs.Lines.{LineService}

@@ -1,11 +1,4 @@
-pub use Rattle.line_nodes.specs.Node
-pub use Rattle.line_nodes.specs.Turn
-pub use Rattle.net_events.specs.NodeEvents
-pub use Rattle.net_events.specs.Network
-pub use Rattle.net_events.specs.AtSwitch
-pub use Rattle.net_events.specs.OneLine
-pub use Rattle.net_events.specs.Opening
-pub use Rattle.node_laws.specs.Quiet
+pub mod Switched
 pub mod IsLine
 pub mod LineLaw
 pub mod LineCourse

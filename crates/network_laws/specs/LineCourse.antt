@@ -8,18 +8,18 @@ use Rattle.x25_pad.specs.Making.{IsConfig}
 use Rattle.x25_pad.specs.declared.config.PadConfig.{PadConfig}
 use Rattle.call_records.specs.Records.{RecordValue}
 use Rattle.call_records.specs.Writes.{all_written}
-use Rattle.x25_pad_laws.specs.Sending.{HasTyped, HasSaid}
-use Rattle.x25_pad_laws.specs.Holds.{node_at as node_of_end}
-use Rattle.x25_pad_laws.specs.Courses.{Happening, Here, There, Course, happened, beginning, IsCourse}
-use Rattle.x25_pad_laws.specs.Standing.{drained}
-use Rattle.x25_pad_laws.specs.Happening.{PadEvent, HasKey, HasBreak, HasIdleTime, HasPrinting, HasFrame, HasExpiry}
-use Rattle.x25_pad_laws.specs.Happening.{HasRelink, HasRestart, HasTicks}
+use Rattle.node_laws.specs.Pads.Sending.{HasTyped, HasSaid}
+use Rattle.node_laws.specs.Pads.Holds.{node_at as node_of_end}
+use Rattle.node_laws.specs.Pads.Courses.{Happening, Here, There, Course, happened, beginning, IsCourse}
+use Rattle.node_laws.specs.Pads.Standing.{drained}
+use Rattle.node_laws.specs.Pads.Happening.{PadEvent, HasKey, HasBreak, HasIdleTime, HasPrinting, HasFrame, HasExpiry}
+use Rattle.node_laws.specs.Pads.Happening.{HasRelink, HasRestart, HasTicks}
 use Rattle.line_nodes.specs.Node.{Pad}
 use Rattle.line_nodes.specs.declared.terminal.TerminalEvent.TheVariants.{Key, Break, Idle, Print}
 use Rattle.memory_line.specs.Lines.{Flights, LineService}
 use Rattle.net_events.specs.OneLine.{LineState}
 use Rattle.net_events.specs.NodeEvents.{NodeEvent, Hears, Expires, Relinks, Restarts, AtTerminal, Happened, turn_of}
-use Rattle.net_events.specs.Opening.{NewPad}
+use Rattle.net_config.specs.NetPlan.{NewPad}
 use Rattle.network_laws.specs.IsLine.{IsLine}
 use Rattle.network_laws.specs.LineLaw.{made_line, elapsed}
 

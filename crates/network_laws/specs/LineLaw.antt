@@ -5,15 +5,16 @@ use Rattle.link_timers.specs.declared.role.Role.TheVariants.{Dte}
 use Rattle.packet_end.specs.Params.{AreParams}
 use Rattle.packet_end.specs.declared.params.EndParams.{EndParams}
 use Rattle.call_records.specs.Book.{made_book}
-use Rattle.book_laws.specs.Headline.{BookHolds}
+use Rattle.record_laws.specs.Books.Headline.{BookHolds}
 use Rattle.x25_pad.specs.Pad.{PadState}
-use Rattle.node_laws.specs.Courses.{PadSends}
+use Rattle.node_laws.specs.Pads.Courses.{PadSends}
 use Rattle.line_nodes.specs.Node.{Pad, drained, node_elapsed}
 use Rattle.memory_line.specs.declared.line.Direction.{Direction}
 use Rattle.memory_line.specs.Lines.{Flights, without_first, LineService}
 use Rattle.net_events.specs.OneLine.{LineState}
 use Rattle.net_events.specs.NodeEvents.{NodeEvent, Happened}
-use Rattle.net_events.specs.Opening.{NewDte, IsNewDte, new_dte, new_dce, AreSent}
+use Rattle.net_config.specs.NetPlan.{NewDte, IsNewDte}
+use Rattle.net_events.specs.Opening.{new_dte, new_dce, AreSent}
 use Rattle.network_laws.specs.IsLine.{IsLine}
 
 -- ---- the making

@@ -7,7 +7,8 @@ use Rattle.memory_line.specs.Lines.{LineService}
 use Rattle.net_events.specs.NodeEvents.{NodeEvent}
 use Rattle.net_events.specs.Network.{Network, HappenedAt, LostAt, all_elapsed}
 use Rattle.network_laws.specs.IsNetwork.{IsNetwork}
-use Rattle.net_events.specs.Opening.{NetPlan, IsPlan, AreUsers, IsMade}
+use Rattle.net_config.specs.NetPlan.{NetPlan, IsPlan, AreUsers}
+use Rattle.net_events.specs.Opening.{IsMade}
 use Rattle.network_laws.specs.Promise.{NetworkHolds}
 
 abbrev pub MadeLaw : LineService → Type 0

@@ -11,9 +11,9 @@ use Rattle.link_timers.specs.declared.timers.TimerId.TheVariants.{T1}
 use Rattle.epochs.specs.Item.{DataPacket}
 use Rattle.epochs.specs.Epoch.{SentEpoch, TakenEpoch, nothing_sent, nothing_taken}
 use Rattle.pad_editing.specs.Edited.{key}
-use Rattle.packet_layer.specs.Flow.{modulo_8}
-use Rattle.packet_layer.specs.Channel.{Request}
-use Rattle.packet_layer.specs.Channel.Request.{Accept, Resetting}
+use Rattle.packet_channel.specs.Flow.{modulo_8}
+use Rattle.packet_channel.specs.Channel.{Request}
+use Rattle.packet_channel.specs.Channel.Request.{Accept, Resetting}
 use Rattle.packet_end.specs.declared.params.EndParams.{EndParams}
 use Rattle.call_records.specs.Records.{RecordValue, new_record, with_closed}
 use Rattle.memory_line.specs.declared.line.Direction.{Direction}
@@ -25,10 +25,11 @@ use Rattle.line_nodes.specs.declared.terminal.TerminalEvent.TheVariants.{Key, Br
 use Rattle.net_events.specs.OneLine.{LineState, node_at, with_turn, direction_of, direction_to}
 use Rattle.net_events.specs.NodeEvents.{NodeEvent, Happened, turn_of}
 use Rattle.net_events.specs.NodeEvents.NodeEvent.{Hears, Expires, Asks, Says, Takes, AtTerminal}
-use Rattle.net_events.specs.Opening.{NewDte, NewPad, new_dte, new_dce}
+use Rattle.net_config.specs.NetPlan.{NewDte, NewPad}
+use Rattle.net_events.specs.Opening.{new_dte, new_dce}
 use Rattle.pad_terminal.specs.Terminal.{made}
-use Rattle.node_laws.specs.Occasions.{Occasion, TookMessage, HadBreak, HadCommand}
-use Rattle.node_laws.specs.Sending.{HasSaid}
+use Rattle.node_laws.specs.Pads.Occasions.{Occasion, TookMessage, HadBreak, HadCommand}
+use Rattle.node_laws.specs.Pads.Sending.{HasSaid}
 use Rattle.network_laws.specs.IsLine.{IsLine}
 use Rattle.network_laws.specs.LineLaw.{made_line}
 

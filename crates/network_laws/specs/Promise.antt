@@ -2,18 +2,18 @@
 use Rattle.std.specs.Prelude.{◌≡◌, ℕ, true, false, length, slice_get, Some, is_some}
 use Rattle.link_timers.specs.declared.role.Role.{Role}
 use Rattle.link_timers.specs.declared.role.Role.TheVariants.{Dte}
-use Rattle.packet_layer.specs.Channel.{Channel, may_accept, in_transfer}
+use Rattle.packet_channel.specs.Channel.{Channel, may_accept, in_transfer}
 use Rattle.packet_layer.specs.Layer.{channel_of}
 use Rattle.x25_pad.specs.Pad.{PadState}
 use Rattle.call_records.specs.Records.{RecordValue}
 use Rattle.call_records.specs.Book.{Slot, side_of, slot_at}
 use Rattle.call_records.specs.Register.{Register, book_at}
-use Rattle.book_laws.specs.Headline.{has_call, IsPaired, HasCallee}
+use Rattle.record_laws.specs.Books.Headline.{has_call, IsPaired, HasCallee}
 use Rattle.node_laws.specs.Quiet.{IsQuiet}
-use Rattle.node_laws.specs.Courses.{PadSends}
-use Rattle.line_record_laws.specs.Confirmed.{SaysConfirmed}
-use Rattle.line_record_laws.specs.Counted.{ShowsCounts, HasItsEpochs}
-use Rattle.register_laws.specs.Promise.{RegisterHolds, HasRecords}
+use Rattle.node_laws.specs.Pads.Courses.{PadSends}
+use Rattle.node_laws.specs.LineRecords.Confirmed.{SaysConfirmed}
+use Rattle.node_laws.specs.LineRecords.Counted.{ShowsCounts, HasItsEpochs}
+use Rattle.record_laws.specs.Registers.Promise.{RegisterHolds, HasRecords}
 use Rattle.line_nodes.specs.Node.{Pad, end_of}
 use Rattle.net_events.specs.Network.{PlacedNode, User, NetLine, Network, place_at}
 

@@ -3,8 +3,8 @@ use Rattle.std.specs.Prelude.{◌≡◌, ℕ, true, List, slice_get, Some}
 use Rattle.link_timers.specs.declared.role.Role.{Role}
 use Rattle.packet_layer.specs.Layer.{confirmed}
 use Rattle.call_records.specs.Records.{RecordValue}
-use Rattle.book_laws.specs.Rest.{NothingMissing}
-use Rattle.book_laws.specs.Delivery.{IsAllCovered}
+use Rattle.record_laws.specs.Books.Rest.{NothingMissing}
+use Rattle.record_laws.specs.Books.Delivery.{IsAllCovered}
 use Rattle.line_nodes.specs.Node.{end_of, node_rests}
 use Rattle.memory_line.specs.Lines.{LineService}
 use Rattle.net_events.specs.Network.{PlacedNode, NetNode, User, NetLine, Network, place_at}

@@ -1,8 +1,11 @@
-//! The laws of a network: of one line with the nodes at its ends, and of many nodes and lines with one register.
+//! The laws of a network: of one line with the nodes at its ends, of many nodes and lines with one register, and of a
+//! network with switches.
 #![tactic(auto)]
 
+mod any_network;
 mod line;
 mod network;
 
+pub use any_network::{any_network_law, run_law, trunk_run_law};
 pub use line::{line_course_law, one_line_law, pad_run_law};
 pub use network::network_law;

@@ -6,7 +6,7 @@ ghost use Rattle.network_laws.specs.PadRun.{PadRunLaw};
 use memory_line::Line;
 
 /// The law of one line of a network with the two nodes at its ends, over definitions alone: what holds of it holds from
-/// the making on, whatever happens at either node and on the line, refused or not; and where it holds, what one end of
+/// the making on, whatever happens at either node and on the line, refused or not; and if it holds, what one end of
 /// each call took matches what the other one sent, and a PAD's calls carry what its terminal typed (X.25 2.4, 3, 4;
 /// X.3).
 pub fn one_line_law<L: Line>()
@@ -18,7 +18,7 @@ pub fn one_line_law<L: Line>()
     ensures typed { TypedLaw L.service }
 {}
 
-/// The law of the course of events that leads to a PAD on a line, over definitions alone. It begins where the line is
+/// The law of the course of events that leads to a PAD on a line, over definitions alone. It begins when the line is
 /// made. An event at the PAD, with the octets of a frame as they arrive, makes it go on by this event, and one at the
 /// other end by what is written there; time goes on, and a loss is no event of it. Each record of the PAD has sent what
 /// was typed, and of itself what its occasions in this course ask for (X.3; X.28 3.3; X.29 4.4).
@@ -31,8 +31,8 @@ pub fn line_course_law<L: Line>()
 {}
 
 /// Two runs of a PAD and a host on a line, by computation. The law of the line speaks of both from the making on. One
-/// is dialled, connected, typed with a deletion, a parameter read by the host (X.29), reset; the other, on a call that
-/// stands, is a reset while text is held, a frame that is lost and sent again after a poll, a break, the command INT,
+/// is dialled, connected, typed with a deletion, a parameter read by the host (X.29), reset; the other, on a standing
+/// call, is a reset while text is held, a frame that is lost and sent again after a poll, a break, the command INT,
 /// cleared. Records and pair are what was typed, answered and told, with the occasions of what the PAD said of itself.
 /// What the terminal is shown are its echo and the service signals (X.28).
 pub fn pad_run_law()

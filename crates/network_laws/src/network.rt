@@ -9,8 +9,8 @@ use memory_line::Line;
 /// says, with a book of its own that nobody stores, and one register that has what these books have. It holds from the
 /// making on, whatever happens at which node and on which line. Then each pair of the register's records matches both
 /// ways and is of the two ends of one line, no record is in two pairs and each that took anything is in one, a channel
-/// has a present record exactly where its end has a call, a record is open exactly where it is present, each call is in
-/// a pair once it is in data transfer, and a PAD's records have sent what its terminal typed. What is due comes to an
+/// has a present record exactly if its end has a call, a record is open exactly if it is present, each call is in a
+/// pair once it is in data transfer, and a PAD's records have sent what its terminal typed. What is due comes to an
 /// end.
 pub fn network_law<L: Line>()
     ensures made { MadeLaw L.service }

@@ -4,21 +4,21 @@ use Rattle.std.proofs.Common.{refl, sym, subst, arith}
 use Rattle.link_timers.specs.declared.role.Role.{Role}
 use Rattle.packet_codec.specs.Address.{AreDigits}
 use Rattle.packet_channel.specs.Cutting.{cut}
-use Rattle.packet_layer.specs.Packets.{CallParts, Datum}
-use Rattle.packet_layer.specs.Traffic.{Taken}
-use Rattle.packet_layer.specs.Traffic.Taken.{TakenInterrupt, TakenPacket}
+use Rattle.packet_channel.specs.Packets.{CallParts, Datum}
+use Rattle.packet_channel.specs.Traffic.{Taken}
+use Rattle.packet_channel.specs.Traffic.Taken.{TakenInterrupt, TakenPacket}
 use Rattle.packet_layer.specs.Layer.{channel_given, front_on}
 use Rattle.packet_laws.specs.Readable.{CanBePlaced}
 use Rattle.packet_end.specs.PacketEnd.{PacketEnd}
-use Rattle.line_laws.specs.Line.{Line}
+use Rattle.node_laws.specs.Lines.Line.{Line}
 use Rattle.packet_host.specs.Host.{call_parts, after_call, after_request, after_refuse, after_say, after_take}
 use Rattle.packet_host.specs.Saying.{message, say_refusal}
 use Rattle.call_records.specs.Book.{Book, sends, takes, releases}
 use Rattle.call_records.specs.Carried.{unless_refused, placed_on}
-use Rattle.line_record_laws.specs.Kept.{end_at, coming_to}
-use Rattle.line_record_laws.specs.Clauses.{requested_at}
-use Rattle.line_record_laws.specs.Hosts.{IsKeptAfter, sends_all, refuses, takes_any}
-use Rattle.line_record_laws.proofs.Hosting.{call_kept, request_kept, refuse_kept, say_kept, take_kept}
+use Rattle.node_laws.specs.LineRecords.Kept.{end_at, coming_to}
+use Rattle.node_laws.specs.LineRecords.Clauses.{requested_at}
+use Rattle.node_laws.specs.LineRecords.Hosts.{IsKeptAfter, sends_all, refuses, takes_any}
+use Rattle.node_laws.proofs.LineRecords.Hosting.{call_kept, request_kept, refuse_kept, say_kept, take_kept}
 use Rattle.line_nodes.specs.Node.{Host}
 use Rattle.line_nodes.specs.Turn.{all_sent}
 use Rattle.line_nodes.specs.HostTurns.{host_calls, host_asks, host_refuses, host_says, host_takes, taken_turn}

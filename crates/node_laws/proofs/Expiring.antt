@@ -6,7 +6,7 @@ use Rattle.link_timers.specs.declared.timers.TimerId.{TimerId}
 use Rattle.packet_end.specs.PacketEnd.{PacketEnd, begun, runs_at, after_timer, finished}
 use Rattle.x25_pad.specs.Pad as pad
 use Rattle.x25_pad.specs.Pad.{PadState}
-use Rattle.x25_pad_laws.proofs.Expiring as pad_law
+use Rattle.node_laws.proofs.Pads.Expiring as pad_law
 use Rattle.call_records.specs.Book.{Book}
 use Rattle.line_nodes.specs.Node.{NodeState, Pad, Host, drained, node_due}
 use Rattle.line_nodes.specs.Turn.{unchanged, told}
@@ -15,7 +15,7 @@ use Rattle.line_nodes.proofs.Noted.{timer_stays}
 use Rattle.node_laws.specs.Due.{due_count}
 use Rattle.node_laws.specs.Quiet.{IsQuiet}
 use Rattle.node_laws.proofs.QuietTurns.{timers-apart}
-use Rattle.line_record_laws.proofs.DueEnds.{no-more-due, finished-due, IsFewer, due-expires}
+use Rattle.node_laws.proofs.LineRecords.DueEnds.{no-more-due, finished-due, IsFewer, due-expires}
 
 host-expires : (role : Role) (e : PacketEnd) (id : TimerId) (b : Book) → IsFewer e id
     → due_count (drained (expires role (Host e) id b).node) < due_count (Host e)

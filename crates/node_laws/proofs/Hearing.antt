@@ -6,17 +6,17 @@ use Rattle.link_timers.specs.declared.role.Role.TheVariants.{Dte, Dce}
 use Rattle.link_timers.specs.Role.{other_of}
 use Rattle.packet_end.specs.PacketEnd as end
 use Rattle.packet_end.specs.PacketEnd.{PacketEnd, begun, after_timer, finished, runs_at}
-use Rattle.line_laws.specs.Line.{Line}
-use Rattle.line_laws.proofs.Finishing.{none_waits}
+use Rattle.node_laws.specs.Lines.Line.{Line}
+use Rattle.node_laws.proofs.Lines.Finishing.{none_waits}
 use Rattle.packet_host.specs.Host as host
 use Rattle.x25_pad.specs.Pad as pad
 use Rattle.x25_pad.specs.Pad.{PadState}
-use Rattle.x25_pad_laws.specs.Standing as standing
-use Rattle.x25_pad_laws.proofs.Events as pad_law
+use Rattle.node_laws.specs.Pads.Standing as standing
+use Rattle.node_laws.proofs.Pads.Events as pad_law
 use Rattle.call_records.specs.Book.{Book}
-use Rattle.line_record_laws.specs.Kept.{Setting, Kept, end_at, coming_to}
-use Rattle.line_record_laws.specs.Happens.{sent, with_restart}
-use Rattle.line_record_laws.proofs.Happening.{frame_kept, expiry_kept, relink_kept, restarted_kept}
+use Rattle.node_laws.specs.LineRecords.Kept.{Setting, Kept, end_at, coming_to}
+use Rattle.node_laws.specs.LineRecords.Happens.{sent, with_restart}
+use Rattle.node_laws.proofs.LineRecords.Happening.{frame_kept, expiry_kept, relink_kept, restarted_kept}
 use Rattle.line_nodes.specs.Node.{NodeState, Pad, Host, end_of, drained}
 use Rattle.line_nodes.specs.Turn.{unchanged, told}
 use Rattle.line_nodes.specs.Terminals.{after_terminal}

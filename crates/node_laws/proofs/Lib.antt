@@ -1,4 +1,6 @@
-pub use Rattle.x25_pad_laws.proofs.Holding
+pub mod Lines
+pub mod LineRecords
+pub mod Pads
 mod Turning
 pub mod Asking
 pub mod Hearing

@@ -1,8 +1,8 @@
 -- How many notes of a turn open something.
 use Rattle.std.specs.Prelude.{◌≡◌, Bool, true, false, cond, if◌then◌else◌, [], Option, Some, None}
 use Rattle.std.proofs.Common.{refl, ap, ◌∙◌, lit≤}
-use Rattle.packet_layer.specs.Traffic.{Taken}
-use Rattle.packet_layer.specs.Channel.{Request, Refusal}
+use Rattle.packet_channel.specs.Traffic.{Taken}
+use Rattle.packet_channel.specs.Channel.{Request, Refusal}
 use Rattle.packet_layer.specs.Layer.{call_refusal, request_refusal, front_on}
 use Rattle.packet_end.specs.PacketEnd.{PacketEnd, begun, after_timer, finished, asked, called, runs_at}
 use Rattle.packet_host.specs.Host as host
@@ -11,7 +11,7 @@ use Rattle.packet_channel.specs.Cutting.{cut}
 use Rattle.packet_host.specs.Saying.{message, queued, say_refusal}
 use Rattle.x25_pad.specs.Pad as pad
 use Rattle.call_records.specs.Room.{opening_notes}
-use Rattle.line_record_laws.proofs.Opening.{frame_opens, expiry_opens, relink_opens, end_opens, read_kept}
+use Rattle.node_laws.proofs.LineRecords.Opening.{frame_opens, expiry_opens, relink_opens, end_opens, read_kept}
 use Rattle.line_nodes.specs.Node.{Pad, Host}
 use Rattle.line_nodes.specs.Turn.{unchanged, told}
 use Rattle.line_nodes.specs.HostTurns.{taken_turn}

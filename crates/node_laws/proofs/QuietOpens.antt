@@ -4,14 +4,14 @@ use Rattle.std.proofs.Common.{refl, ap, arith}
 use Rattle.link_timers.specs.declared.role.Role.{Role}
 use Rattle.link_timers.specs.declared.timers.TimerId.{TimerId}
 use Rattle.lapb.specs.Machine.{Octets}
-use Rattle.packet_layer.specs.Packets.{CallParts}
-use Rattle.packet_layer.specs.Channel.{Request}
+use Rattle.packet_channel.specs.Packets.{CallParts}
+use Rattle.packet_channel.specs.Channel.{Request}
 use Rattle.packet_end.specs.PacketEnd.{PacketEnd, begun, runs_at, after_timer, finished}
 use Rattle.packet_host.specs.Host as host
 use Rattle.x25_pad.specs.Pad as pad
 use Rattle.call_records.specs.Book.{Book}
 use Rattle.call_records.specs.Room.{opening_notes}
-use Rattle.line_record_laws.proofs.Opening.{expiry_opens}
+use Rattle.node_laws.proofs.LineRecords.Opening.{expiry_opens}
 use Rattle.line_nodes.specs.Node.{NodeState, Pad, Host}
 use Rattle.line_nodes.specs.Turn.{Turn, unchanged, told}
 use Rattle.line_nodes.specs.Terminals.{at_terminal}
@@ -49,12 +49,6 @@ nothing-relinks = relink_opens_none
 -- nothing is one at most
 one_of : (t : Turn) → OpensNothing t → OpensOneAtMost t
 one_of t h = omega arith
-
-pub opens-expires : (role : Role) (n : NodeState) (id : TimerId) (b : Book) → IsQuiet n → OpensOneAtMost (expires role n id b)
-opens-expires role n id b q = one_of (expires role n id b) (nothing-expires role n id b q)
-
-pub opens-relinks : (role : Role) (n : NodeState) (b : Book) → OpensOneAtMost (relinks role n b)
-opens-relinks role n b = one_of (relinks role n b) (nothing-relinks role n b)
 
 pub opens-restarts : (role : Role) (n : NodeState) (b : Book) → OpensNothing (restarts role n b)
 opens-restarts role n b = refl

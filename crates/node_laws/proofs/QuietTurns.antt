@@ -6,9 +6,9 @@ use Rattle.link_timers.specs.declared.role.Role.TheVariants.{Dte}
 use Rattle.link_timers.specs.declared.timers.TimerId.{TimerId}
 use Rattle.link_timers.specs.declared.timers.TimerId.TheVariants.{Idle}
 use Rattle.lapb.specs.Machine.{Octets}
-use Rattle.packet_layer.specs.Packets.{CallParts}
-use Rattle.packet_layer.specs.Traffic.{Taken}
-use Rattle.packet_layer.specs.Channel.{Request}
+use Rattle.packet_channel.specs.Packets.{CallParts}
+use Rattle.packet_channel.specs.Traffic.{Taken}
+use Rattle.packet_channel.specs.Channel.{Request}
 use Rattle.packet_layer.specs.Layer.{front_on}
 use Rattle.packet_end.specs.PacketEnd.{PacketEnd, begun, received, runs_at, after_timer, relinked, restarted, finished, made}
 use Rattle.packet_host.specs.Host as host
@@ -21,7 +21,7 @@ use Rattle.x25_pad.specs.Pad as pad
 use Rattle.x25_pad.specs.Pad.{PadState}
 use Rattle.x25_pad.specs.Making as pad_making
 use Rattle.x25_pad.specs.declared.config.PadConfig.{PadConfig}
-use Rattle.x25_pad_laws.proofs.Expiring.{apart as pad_apart}
+use Rattle.node_laws.proofs.Pads.Expiring.{apart as pad_apart}
 use Rattle.call_records.specs.Book.{Book}
 use Rattle.line_nodes.specs.Node.{NodeState, Pad, Host, end_of, drained, node_elapsed}
 use Rattle.line_nodes.specs.Turn.{Turn, unchanged, told}
@@ -33,9 +33,9 @@ use Rattle.line_nodes.specs.declared.terminal.TerminalEvent.TheVariants as event
 use Rattle.line_nodes.specs.declared.terminal.TerminalEvent.TheVariants.{Key, Break, Print}
 use Rattle.node_laws.specs.Due.{TimersApart, AreApart}
 use Rattle.node_laws.specs.Quiet.{IsQuiet, LeavesQuiet}
-use Rattle.line_record_laws.proofs.DueEnds.{NoMoreDue, stays-apart, same-due, then-due, begun-due, received-due, timer-due, relinked-due, finished-due, calls-due, asks-due, refuses-due, says-due, takes-due, elapsed-apart, made-apart, restarted-apart}
+use Rattle.node_laws.proofs.LineRecords.DueEnds.{NoMoreDue, stays-apart, same-due, then-due, begun-due, received-due, timer-due, relinked-due, finished-due, calls-due, asks-due, refuses-due, says-due, takes-due, elapsed-apart, made-apart, restarted-apart}
 use Rattle.node_laws.proofs.QuietEnds.{IsUnread, received_unread, timer_unread, finished_unread, asked_unread, called_unread, calls_unread, asks_unread, refuses_unread, says_unread, takes_unread}
-use Rattle.line_record_laws.proofs.Relinking.{AsksNone, finished_asks, calls_ask, requests_ask, refuses_ask, says_ask, takes_ask, expiry_asks}
+use Rattle.node_laws.proofs.LineRecords.Relinking.{AsksNone, finished_asks, calls_ask, requests_ask, refuses_ask, says_ask, takes_ask, expiry_asks}
 use Rattle.node_laws.proofs.PadEnds.{key_at, idle_at, breaks_at, print_at, port_at, answered_at}
 
 -- ---- the timers of a node

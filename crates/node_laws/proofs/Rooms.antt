@@ -4,8 +4,8 @@ use Rattle.std.proofs.Common.{ap, arith}
 use Rattle.packet_end.specs.PacketEnd.{PacketEnd, begun, runs_at, after_timer, finished}
 use Rattle.packet_host.specs.Host as host
 use Rattle.call_records.specs.Room.{opening_notes}
-use Rattle.line_record_laws.proofs.Opening.{frame_opens, expiry_opens, relink_opens}
-use Rattle.x25_pad_laws.proofs.Rooms as pad_law
+use Rattle.node_laws.proofs.LineRecords.Opening.{frame_opens, expiry_opens, relink_opens}
+use Rattle.node_laws.proofs.Pads.Rooms as pad_law
 use Rattle.line_nodes.specs.Node.{Pad, Host}
 use Rattle.line_nodes.specs.declared.terminal.TerminalEvent.TheVariants.{Key, Break, Idle, Print}
 use Rattle.node_laws.specs.Rooms.{NeedsTwoAtMost, HearingRoom, ExpiryRoom, RelinkRoom, RestartRoom, TerminalRoom}

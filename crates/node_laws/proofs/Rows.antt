@@ -6,21 +6,21 @@ use Rattle.link_timers.specs.declared.role.Role.{Role}
 use Rattle.link_timers.specs.declared.role.Role.TheVariants.{Dte, Dce}
 use Rattle.lapb.specs.Machine.{Octets}
 use Rattle.epochs.specs.Epoch.{nothing_sent, nothing_taken}
-use Rattle.packet_layer.specs.Flow.{modulo_8}
-use Rattle.packet_layer.specs.Packets.{Datum}
-use Rattle.packet_layer.specs.Channel.Request.{Accept}
+use Rattle.packet_channel.specs.Flow.{modulo_8}
+use Rattle.packet_channel.specs.Packets.{Datum}
+use Rattle.packet_channel.specs.Channel.Request.{Accept}
 use Rattle.packet_end.specs.PacketEnd as end
 use Rattle.packet_end.specs.PacketEnd.{PacketEnd, finished, all_offered}
 use Rattle.packet_end.specs.declared.params.EndParams.{EndParams}
 use Rattle.packet_end.specs.Params.{AreParams}
-use Rattle.line_laws.specs.Line.{Line}
+use Rattle.node_laws.specs.Lines.Line.{Line}
 use Rattle.packet_host.specs.Host.{call_parts}
 use Rattle.call_records.specs.Records.{RecordValue}
 use Rattle.call_records.specs.Book.{Book, packet_of, made_book}
-use Rattle.line_record_laws.specs.Headline.{BookHolds}
-use Rattle.line_record_laws.specs.Kept.{Setting, IsSetting, Kept, end_at, coming_to}
-use Rattle.line_record_laws.specs.Happens.{with_event}
-use Rattle.line_record_laws.proofs.Keeping.{holds_kept}
+use Rattle.record_laws.specs.Books.Headline.{BookHolds}
+use Rattle.node_laws.specs.LineRecords.Kept.{Setting, IsSetting, Kept, end_at, coming_to}
+use Rattle.node_laws.specs.LineRecords.Happens.{with_event}
+use Rattle.node_laws.proofs.LineRecords.Keeping.{holds_kept}
 use Rattle.line_nodes.specs.Node.{NodeState, Host, end_of, drained}
 use Rattle.line_nodes.specs.Turn.{Turn}
 use Rattle.line_nodes.specs.LineTurns.{hears}

@@ -6,15 +6,15 @@ use Rattle.link_timers.specs.declared.role.Role.TheVariants.{Dte, Dce}
 use Rattle.link_timers.specs.Role.{other_of}
 use Rattle.lapb.specs.Machine.{Octets}
 use Rattle.packet_end.specs.PacketEnd.{PacketEnd}
-use Rattle.line_laws.specs.Line.{Line, Sends}
+use Rattle.node_laws.specs.Lines.Line.{Line, Sends}
 use Rattle.call_records.specs.Book.{Book, all_told}
-use Rattle.line_record_laws.specs.Kept.{Setting, Kept, end_at, coming_to}
-use Rattle.line_record_laws.specs.Happens.{with_event}
-use Rattle.line_record_laws.proofs.Keeping.{silent_kept, like_kept}
+use Rattle.node_laws.specs.LineRecords.Kept.{Setting, Kept, end_at, coming_to}
+use Rattle.node_laws.specs.LineRecords.Happens.{with_event}
+use Rattle.node_laws.proofs.LineRecords.Keeping.{silent_kept, like_kept}
 use Rattle.line_nodes.specs.Node.{NodeState, Pad, Host, end_of, drained, all_read, without_notes}
 use Rattle.line_nodes.specs.Turn.{unchanged, told}
 use Rattle.x25_pad.specs.Pad.{PadState}
-use Rattle.x25_pad_laws.specs.Standing as pad
+use Rattle.node_laws.specs.Pads.Standing as pad
 use Rattle.node_laws.specs.Nodes.{IsNode, StandsAt, KeepsWith, KeepsBy}
 
 -- ---- nodes

@@ -6,18 +6,18 @@ use Rattle.link_timers.specs.declared.timers.TimerId.{TimerId}
 use Rattle.lapb.specs.Machine.{Octets}
 use Rattle.lapb.specs.Line.{chosen}
 use Rattle.packet_codec.specs.Address.{AreDigits}
-use Rattle.packet_layer.specs.Channel.{Request}
+use Rattle.packet_channel.specs.Channel.{Request}
 use Rattle.packet_end.specs.PacketEnd as end
 use Rattle.packet_end.specs.PacketEnd.{PacketEnd}
-use Rattle.line_laws.specs.Line.{Line}
+use Rattle.node_laws.specs.Lines.Line.{Line}
 use Rattle.packet_host.specs.Host.{call_parts}
 use Rattle.packet_host.specs.Making as host
 use Rattle.packet_host.specs.declared.config.HostConfig.{HostConfig}
 use Rattle.x25_pad.specs.Making as pad
 use Rattle.x25_pad.specs.declared.config.PadConfig.{PadConfig}
 use Rattle.call_records.specs.Book.{Book, made_book}
-use Rattle.line_record_laws.specs.Kept.{Setting, IsSetting, Kept, coming_to}
-use Rattle.line_record_laws.specs.Happens.{sent, with_restart}
+use Rattle.node_laws.specs.LineRecords.Kept.{Setting, IsSetting, Kept, coming_to}
+use Rattle.node_laws.specs.LineRecords.Happens.{sent, with_restart}
 use Rattle.line_nodes.specs.Node.{NodeState, Pad, Host, end_of, drained, node_elapsed}
 use Rattle.line_nodes.specs.LineTurns.{hears, expires, relinks, restarts}
 use Rattle.line_nodes.specs.HostTurns.{host_calls, host_asks, host_refuses, host_says, host_takes}

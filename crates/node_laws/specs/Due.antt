@@ -1,8 +1,8 @@
 -- The timers of a node: which of them may run, and how many are due.
 use Rattle.std.specs.Prelude.{ℕ}
-pub use Rattle.line_record_laws.specs.Due.{RunsOnly, TimersApart}
-use Rattle.line_record_laws.specs.Due as end
-use Rattle.x25_pad_laws.specs.Expiry as pad
+pub use Rattle.node_laws.specs.LineRecords.Due.{RunsOnly, TimersApart}
+use Rattle.node_laws.specs.LineRecords.Due as end
+use Rattle.node_laws.specs.Pads.Expiry as pad
 use Rattle.line_nodes.specs.Node.{NodeState, Pad, Host, end_of}
 
 -- at the link T1 runs and no other timer, and at the packet layer none but its own

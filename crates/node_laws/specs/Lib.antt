@@ -1,9 +1,6 @@
-pub use Rattle.line_nodes.specs.Node
-pub use Rattle.x25_pad_laws.specs.Occasions
-pub use Rattle.x25_pad_laws.specs.Sending
-pub use Rattle.x25_pad_laws.specs.Holds
-pub use Rattle.x25_pad_laws.specs.Courses
-pub use Rattle.x25_pad_laws.specs.RecordClauses
+pub mod Lines
+pub mod LineRecords
+pub mod Pads
 pub mod Nodes
 pub mod Clauses
 pub mod Opening

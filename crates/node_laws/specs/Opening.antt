@@ -4,13 +4,13 @@ use Rattle.std.specs.Prelude.{◌≡◌, ℕ, ◌≤◌, Bool, List}
 use Rattle.link_timers.specs.declared.role.Role.{Role}
 use Rattle.link_timers.specs.declared.timers.TimerId.{TimerId}
 use Rattle.lapb.specs.Machine.{Octets}
-use Rattle.packet_layer.specs.Packets.{CallParts}
-use Rattle.packet_layer.specs.Channel.{Request}
+use Rattle.packet_channel.specs.Packets.{CallParts}
+use Rattle.packet_channel.specs.Channel.{Request}
 use Rattle.packet_end.specs.PacketEnd.{PacketEnd}
-use Rattle.line_laws.specs.Line.{Line}
+use Rattle.node_laws.specs.Lines.Line.{Line}
 use Rattle.call_records.specs.Book.{Book}
 use Rattle.call_records.specs.Room.{opening_notes}
-use Rattle.line_record_laws.specs.Kept.{Setting, Kept}
+use Rattle.node_laws.specs.LineRecords.Kept.{Setting, Kept}
 use Rattle.line_nodes.specs.Node.{NodeState, Host}
 use Rattle.line_nodes.specs.Turn.{Turn}
 use Rattle.line_nodes.specs.LineTurns.{hears, expires, relinks}

@@ -1,7 +1,11 @@
-//! Each event at a PAD or a host keeps what is kept of its line and of the book of the line's calls.
+//! The laws of nodes: of a line between two ends, of a line with the book of its calls, of a PAD, and of each node.
+//! Each event at a PAD or a host keeps what is kept of its line and of that book.
 #![tactic(auto)]
 
 mod expiry;
+mod line;
+mod line_record;
+mod pad;
 mod quiet;
 
 ghost use Rattle.node_laws.specs.Clauses.{HearsLaw, ExpiresLaw, RelinksLaw, RestartsLaw, CallsLaw, AsksLaw, RefusesLaw};
@@ -11,6 +15,11 @@ ghost use Rattle.node_laws.specs.Opening.{SayingOpens, TakingOpens};
 ghost use Rattle.node_laws.specs.Rooms.{HearingRoom, ExpiryRoom, RelinkRoom, RestartRoom, TerminalRoom};
 
 pub use expiry::expiry_law;
+pub use line::{line_ends_law, rest_law};
+pub use line_record::{event_law, host_law, line_record_law, opening_law};
+pub use pad::{
+    occasion_law, own_text_law, pad_expiry_law, pad_line_law, pad_records_law, pad_room_law,
+};
 pub use quiet::quiet_law;
 
 /// The law of the nodes of a line, over definitions alone. From the making on, whatever comes to a node and whatever
@@ -39,7 +48,8 @@ pub fn node_law()
     ensures nodes { NodesLaw }
 {}
 
-/// A turn opens at most one record or epoch in the book, and does so only by a frame that arrives.
+/// The notes of a turn open at most one record or epoch in the book, and only if a frame arrives. What a user asks is
+/// no note.
 pub fn turn_opening_law()
     ensures hearing { HearingOpens }
     ensures expiry { ExpiryOpens }

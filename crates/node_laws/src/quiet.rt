@@ -5,8 +5,8 @@ ghost use Rattle.node_laws.specs.Quiet.{QuietAskingLaw, QuietRefusalLaw, QuietSa
 ghost use Rattle.node_laws.specs.Quiet.{QuietTerminalLaw, QuietTimeLaw, QuietMakingLaw};
 
 /// The law of a node between two events, over definitions alone. From the making on, and whatever arrives, also what no
-/// node of this kind would send: each turn leaves nothing unread and less than a block held, opens at most one record
-/// or epoch in the book, and does so only by a frame that arrives (X.25 3, 4; X.3).
+/// node of this kind would send: each turn leaves nothing unread and less than a block held. Its notes open at most one
+/// record or epoch in the book, and only if a frame arrives (X.25 3, 4; X.3).
 pub fn quiet_law()
     // What comes from the line.
     ensures hears { QuietHearingLaw }

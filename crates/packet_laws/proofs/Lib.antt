@@ -1,3 +1,5 @@
+pub mod Layers
+pub mod Tables
 pub mod Numbers
 pub mod Line
 pub mod Owed

@@ -1,6 +1,6 @@
 -- Every packet of a layer reads back at the other end: so it is from the making on, whatever comes and whatever the user asks.
 use Rattle.std.specs.Prelude.{◌≡◌, ℕ, zero, suc, ◌+◌, ◌<◌, ◌≤◌, Bool, true, false, cond, not, ◌&&◌, ◌||◌, ◌==◌, nat_lt, nat_le, List, [], ◌∷◌, ◌++◌, length, map, set, replicate, slice_get, Option, Some, None}
-use Rattle.std.proofs.Common.{refl, ap, subst, arith}
+use Rattle.std.proofs.Common.{refl, subst, arith}
 use Rattle.std.proofs.lemmas.List.{length-append, length-replicate, length-map, length-set}
 use Rattle.std.proofs.lemmas.Option.{slice_get_within}
 use Rattle.link_timers.specs.declared.role.Role.{Role}
@@ -11,19 +11,19 @@ use Rattle.packet_codec.proofs.Cases.{cond_by}
 use Rattle.packet_codec.proofs.Blocks.{length-packed}
 use Rattle.packet_codec.proofs.Spellings.{reading-spelling}
 use Rattle.packet_codec.specs.declared.packet.Numbering.{Numbering}
-use Rattle.packet_layer.specs.Flow.{modulus, shown, ahead_shown}
+use Rattle.packet_channel.specs.Flow.{modulus, shown, ahead_shown}
 use Rattle.packet_channel.specs.declared.flow.Flow.{Flow}
-use Rattle.packet_layer.specs.Packets.{CallParts, Datum, Body, Packet, Received}
-use Rattle.packet_layer.specs.Packets.Body.{Call, Accepted, Clear, ClearConfirmation, Data, Interrupt, InterruptConfirmation, ReceiveReady, ReceiveNotReady, Reset, ResetConfirmation, Restart, RestartConfirmation}
-use Rattle.packet_layer.specs.Traffic.{Traffic, Said, Heard, fresh, in_flight, window_open, flow_told, interrupted, unreleased, ready_or_not, may_release, releasing, confirming, taking_of, covers, keeps, arrives, partner_says, hears, says, says_interrupt, says_data, says_flow}
-use Rattle.packet_layer.specs.Traffic.Heard.{Keeps, Confirms, Wrong}
-use Rattle.packet_layer.specs.Channel.{CallState, Channel, Step, Request, Refusal, closed_channel, clear_error, reset_error, far_cleared, after_heard, in_flow_ready, in_own_reset, in_ready, in_own_waiting, in_far_waiting, in_collision, in_own_clear, received_in, received, unreadable_in, unreadable, in_transfer, has_flow, refused_if, refusal, carried_out, unless, requested}
-use Rattle.packet_layer.specs.Channel.CallState.{Ready, OwnWaiting, FarWaiting, Transfer, Collision, OwnClear}
-use Rattle.packet_layer.specs.Channel.Request.{Accept, Clearing, Resetting, Sending, Interrupting, Stopping, Taking, Releasing, Confirming}
-use Rattle.packet_layer.specs.Layer.{Layer, Phase, Timer, Next, ChannelNext, channel_of, nth_channel, with_nth, standing_channels, made, is_full, with_owed, owing, unread, link_up, link_down, restart_packet, on_found, on_channel, on_received, on_packet, runs, expired, on_timer, next_owed, next_of, next_number, served, serve_found, serve, next_restart, next_in, next_packet, placing, placed_on, channel_given, call, request}
+use Rattle.packet_channel.specs.Packets.{CallParts, Datum, Body, Packet, Received}
+use Rattle.packet_channel.specs.Packets.Body.{Call, Accepted, Clear, ClearConfirmation, Data, Interrupt, InterruptConfirmation, ReceiveReady, ReceiveNotReady, Reset, ResetConfirmation, Restart, RestartConfirmation}
+use Rattle.packet_channel.specs.Traffic.{Traffic, Said, Heard, fresh, in_flight, window_open, flow_told, interrupted, unreleased, ready_or_not, may_release, releasing, confirming, taking_of, covers, keeps, arrives, partner_says, hears, says, says_interrupt, says_data, says_flow}
+use Rattle.packet_channel.specs.Traffic.Heard.{Keeps, Confirms, Wrong}
+use Rattle.packet_channel.specs.Channel.{CallState, Channel, Step, Request, Refusal, closed_channel, clear_error, reset_error, far_cleared, after_heard, in_flow_ready, in_own_reset, in_ready, in_own_waiting, in_far_waiting, in_collision, in_own_clear, received_in, received, unreadable_in, unreadable, in_transfer, has_flow, refused_if, refusal, carried_out, unless, requested}
+use Rattle.packet_channel.specs.Channel.CallState.{Ready, OwnWaiting, FarWaiting, Transfer, Collision, OwnClear}
+use Rattle.packet_channel.specs.Channel.Request.{Accept, Clearing, Resetting, Sending, Interrupting, Stopping, Taking, Releasing, Confirming}
+use Rattle.packet_layer.specs.Layer.{Layer, Phase, Timer, Next, ChannelNext, channel_of, nth_channel, with_nth, standing_channels, made, is_full, with_owed, owing, unread, link_up, link_down, restart_packet, on_found, on_channel, on_received, runs, expired, on_timer, next_owed, next_of, next_number, served, serve_found, serve, next_restart, next_in, next_packet, placing, placed_on, channel_given, call, request}
 use Rattle.packet_layer.specs.Layer.Phase.{NoSession, OwnRestart, PacketReady}
 use Rattle.packet_layer.specs.Layer.Timer.{RestartTimer, CallTimer, ResetTimer, ClearTimer}
-use Rattle.packet_layer.specs.Octets.{content_of, heard}
+use Rattle.packet_channel.specs.Octets.{content_of, heard}
 use Rattle.packet_layer.specs.Events.{on_octets, after_hearing, written_packet}
 use Rattle.packet_laws.specs.Readable.{Every, IfAny, value_of, FitsChannels, FitsRestarts, FitsLine, IsShortDatum, IsInterrupt, TrafficReads, ChannelReads, AllRead, IsReadable, CanBePlaced}
 use Rattle.packet_layer.proofs.Serving.{heard_of_reading}
@@ -340,9 +340,6 @@ readable_made role channels flow standing few = record {
   owed_read = tt;
 }
 
-pub readable_unread : (l : Layer) → IsReadable l → IsReadable (unread l)
-readable_unread l r = r
-
 pub readable_link_up : (l : Layer) → IsReadable l → IsReadable (link_up l)
 readable_link_up l r = owes-reads l.flow.size _ [] (Restart _ 0) (λ numbering size. refl) (without_owed l.flow.size _ l.owed (closed l.flow.size l.channels l.owed r))
 
@@ -361,9 +358,6 @@ readable_received l (Received.Unknown c) i =
     on_channel-reads l.phase l c (λ ch. unreadable l.role c true ch) (λ ch s. unreadable_in-reads l.flow.size ch.state l.role c true ch s) i
 readable_received l (Received.Faulty c) i =
     on_channel-reads l.phase l c (λ ch. unreadable l.role c false ch) (λ ch s. unreadable_in-reads l.flow.size ch.state l.role c false ch s) i
-
-pub readable_on_packet : (l : Layer) (r : Received) → IsReadable l → IsReadable (on_packet l r)
-readable_on_packet l r i = readable_received (unread l) r i
 
 pub readable_on_octets : (l : Layer) (octets : List ℕ) → IsReadable l → IsReadable (on_octets l octets)
 readable_on_octets l octets i = after (heard l.flow octets)
@@ -531,7 +525,3 @@ next_heard l r p e = heard_of_reading l.flow (Some p) (written_packet l.flow (So
 pub next_short : (info : ℕ) (l : Layer) → 145 ≤ info → l.flow.size + 4 ≤ info → IsReadable l → (p : Packet) → (next_packet l).packet ≡ Some p
     → length (written_packet l.flow (Some p) []) ≤ info
 next_short info l any data_ r p e = spelling-short info l.flow p any data_ (next_goes l r p e)
-
--- octets of a packet are that packet
-pub octets_heard : (l : Layer) (octets : List ℕ) (p : Packet) → heard l.flow octets ≡ Some (Received.Whole p) → on_octets l octets ≡ on_packet l (Received.Whole p)
-octets_heard l octets p e = ap (λ o. after_hearing (unread l) o) e

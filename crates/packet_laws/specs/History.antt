@@ -3,15 +3,15 @@ use Rattle.std.specs.Prelude.{ℕ, ◌+◌, Bool, true, false, if◌then◌else�
 use Rattle.std.specs.Prelude.{None}
 use Rattle.link_timers.specs.declared.role.Role.{Role}
 use Rattle.packet_channel.specs.declared.flow.Flow.{Flow}
-use Rattle.packet_layer.specs.Packets.{CallParts, Datum, Body, Packet}
-use Rattle.packet_layer.specs.Packets.Body.{Clear, ClearConfirmation, Reset, ResetConfirmation, Restart}
-use Rattle.packet_layer.specs.Packets.Body.{RestartConfirmation}
-use Rattle.packet_layer.specs.Traffic.{Traffic, Taken, Heard, front, may_release, hears}
-use Rattle.packet_layer.specs.Traffic.Taken.{TakenInterrupt, TakenPacket}
-use Rattle.packet_layer.specs.Traffic.Heard.{Keeps, Wrong}
-use Rattle.packet_layer.specs.Channel.{CallState, Channel, Request, Refusal, received, requested, refusal}
-use Rattle.packet_layer.specs.Channel.CallState.{Transfer}
-use Rattle.packet_layer.specs.Channel.Request.{Accept, Sending, Interrupting, Taking, Releasing}
+use Rattle.packet_channel.specs.Packets.{CallParts, Datum, Body, Packet}
+use Rattle.packet_channel.specs.Packets.Body.{Clear, ClearConfirmation, Reset, ResetConfirmation, Restart}
+use Rattle.packet_channel.specs.Packets.Body.{RestartConfirmation}
+use Rattle.packet_channel.specs.Traffic.{Traffic, Taken, Heard, front, may_release, hears}
+use Rattle.packet_channel.specs.Traffic.Taken.{TakenInterrupt, TakenPacket}
+use Rattle.packet_channel.specs.Traffic.Heard.{Keeps, Wrong}
+use Rattle.packet_channel.specs.Channel.{CallState, Channel, Request, Refusal, received, requested, refusal}
+use Rattle.packet_channel.specs.Channel.CallState.{Transfer}
+use Rattle.packet_channel.specs.Channel.Request.{Accept, Sending, Interrupting, Taking, Releasing}
 use Rattle.packet_layer.specs.Layer.{Phase, Layer, Timer, channel_of, runs}
 use Rattle.packet_layer.specs.Layer.Phase.{PacketReady}
 use Rattle.packet_layer.specs.Layer.Timer.{RestartTimer, CallTimer, ResetTimer, ClearTimer}

@@ -4,12 +4,12 @@ use Rattle.std.specs.Prelude.{length}
 use Rattle.std.specs.Prelude.{Option, Some, None, is_some, ◌<◌}
 use Rattle.link_timers.specs.declared.role.Role.{Role}
 use Rattle.link_timers.specs.declared.role.Role.TheVariants.{Dte}
-use Rattle.packet_layer.specs.Flow.{modulus}
+use Rattle.packet_channel.specs.Flow.{modulus}
 use Rattle.packet_channel.specs.declared.flow.Flow.{Flow}
-use Rattle.packet_layer.specs.Packets.{Body, Packet, CallParts}
-use Rattle.packet_layer.specs.Packets.Body.{Clear, Reset, RestartConfirmation, Call}
-use Rattle.packet_layer.specs.Channel.{CallState, Channel, received}
-use Rattle.packet_layer.specs.Channel.CallState.{Ready, OwnWaiting, FarWaiting, Transfer, Collision}
+use Rattle.packet_channel.specs.Packets.{Body, Packet, CallParts}
+use Rattle.packet_channel.specs.Packets.Body.{Clear, Reset, RestartConfirmation, Call}
+use Rattle.packet_channel.specs.Channel.{CallState, Channel, received}
+use Rattle.packet_channel.specs.Channel.CallState.{Ready, OwnWaiting, FarWaiting, Transfer, Collision}
 use Rattle.packet_layer.specs.Layer.{Phase, Layer, channel_of}
 use Rattle.packet_layer.specs.Layer.Phase.{PacketReady}
 use Rattle.packet_laws.specs.History.{Epoch, History, empty_epoch, with_call}

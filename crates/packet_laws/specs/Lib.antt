@@ -1,3 +1,5 @@
+pub mod Layers
+pub mod Tables
 pub mod History
 pub mod Counts
 pub mod Counted

@@ -20,16 +20,16 @@ pub fn counts_law()
 
 /// How much is owed between two ends of a line, over the definitions of the layer alone: whatever is called at its two
 /// ends, whatever timers expire and however its link's sessions begin and end, an end owes at most 2 restart packets,
-/// and on each channel at most 4 control packets: 3 in a call, 1 where it placed a call that is not answered. So the
-/// limit of 4 is never passed, and of all events only an expiry of the restart timer makes an end ask for a relink: a
-/// fifth owed packet is for strangers.
+/// and on each channel at most 4 control packets: 3 in a call, 1 if it placed a call that is not answered. So the limit
+/// of 4 is never passed, and of all events only an expiry of the restart timer makes an end ask for a relink: a fifth
+/// owed packet is for strangers.
 pub fn owed_law()
     ensures { OwedLaw }
 {}
 
 /// On a line the numbers of each channel in data transfer name the counts of the present epochs of which `line_law`
-/// speaks, at both its ends: so nothing is still to be covered exactly where all packets of the present epoch that have
-/// D = 1 are covered (X.25 4.3.3, 4.4.1).
+/// speaks, at both its ends: so nothing is still to be covered exactly if each packet of the present epoch with D = 1
+/// is covered (X.25 4.3.3, 4.4.1).
 pub fn line_counts_law()
     ensures { LineCountsLaw }
 {}

@@ -21,7 +21,7 @@ use Rattle.net_turns.specs.Sends.{ArePutsOf}
 use Rattle.net_nodes.specs.Turns.{AtEnd}
 use Rattle.net_nodes.specs.Steps.{AtNode}
 use Rattle.network_laws.proofs.Networks.{book_there}
-use Rattle.switch_network_laws.specs.IsSwitched.{IsAny, of_users, with_switches}
+use Rattle.network_laws.specs.Switched.IsSwitched.{IsAny, of_users, with_switches}
 use Rattle.line_sim.specs.Between.{IsBetweenEvents}
 use Rattle.run_laws.specs.Determined.{IsSameAnswer}
 use Rattle.run_laws.proofs.Puts.{puts_once, listed_once}

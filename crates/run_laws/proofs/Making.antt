@@ -11,8 +11,9 @@ use Rattle.memory_line.specs.Lines.{Flights, no_flights, flying, memory_service,
 use Rattle.line_nodes.specs.Node.{NodeState, frames_of}
 use Rattle.net_events.specs.Network.{Network}
 use Rattle.net_events.specs.OneLine.{direction_of}
-use Rattle.net_events.specs.Opening.{Planned, PlannedUser, PlannedSwitch, NewLine, NetPlan, IsPlan}
-use Rattle.net_events.specs.Opening.{NodeIsMade, LineIsMade, AreSent, IsMade, IsNodePlan, new_at, end_of_two}
+use Rattle.net_config.specs.NetPlan.{Planned, PlannedUser, PlannedSwitch, NewLine, NetPlan, IsPlan}
+use Rattle.net_config.specs.NetPlan.{IsNodePlan}
+use Rattle.net_events.specs.Opening.{NodeIsMade, LineIsMade, AreSent, IsMade, new_at, end_of_two}
 use Rattle.run_laws.specs.Determined.{MakingLaw}
 use Rattle.run_laws.proofs.Puts.{puts_alike, dte_stays, dce_stays}
 use Rattle.run_laws.proofs.Switches.{same_lists}

@@ -12,8 +12,10 @@ use Rattle.net_config.specs.declared.config.Config.{Config}
 use Rattle.net_events.specs.declared.answer.Answer.{Answer}
 use Rattle.net_events.specs.declared.answer.Outcome.TheVariants.{Done}
 use Rattle.net_events.specs.Network.{User}
-use Rattle.net_events.specs.Opening.{NewNode, NewHost, Planned, PlannedUser, PlannedSwitch, NewLine, NetPlan, new_dte, new_dce, new_at, placed_new}
-use Rattle.net_events.specs.Opening.{IsLinePlan, IsNodePlan, IsPlan, AreSent, NodeIsMade, LineIsMade, IsMade}
+use Rattle.net_config.specs.NetPlan.{NewNode, NewHost, Planned, PlannedUser, PlannedSwitch, NewLine, NetPlan}
+use Rattle.net_events.specs.Opening.{new_dte, new_dce, new_at, placed_new}
+use Rattle.net_config.specs.NetPlan.{IsLinePlan, IsNodePlan, IsPlan}
+use Rattle.net_events.specs.Opening.{AreSent, NodeIsMade, LineIsMade, IsMade}
 use Rattle.net_events.proofs.Users.{same_planned}
 use Rattle.net_nodes.specs.Steps.{LoseStep}
 use Rattle.run_laws.specs.Run.{two_hosts, parameters, host, new_line, line_with, network, first_frames, RunExample}

@@ -1,7 +1,7 @@
 -- A list of events leads to one network.
 use Rattle.std.proofs.Common.{◌≡◌, List, [], ◌∷◌, Option, Some, None, sym, ◌∙◌, subst}
 use Rattle.memory_line.specs.Lines.{memory_service}
-use Rattle.net_plans.specs.Plan.{plan_of}
+use Rattle.net_config.specs.Plan.{plan_of}
 use Rattle.net_events.specs.declared.event.Event.{Event}
 use Rattle.net_events.specs.declared.event.StepFault.{StepFault}
 use Rattle.net_events.specs.Network.{Network}

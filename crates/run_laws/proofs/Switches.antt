@@ -2,7 +2,7 @@
 use Rattle.std.proofs.Common.{◌≡◌, ℕ, suc, List, [], ◌∷◌, set, Some, refl, sym, ap, ◌∙◌, subst, inl, inr}
 use Rattle.std.specs.Prelude.{◌⊎◌, slice_get}
 use Rattle.std.proofs.lemmas.Option.{same_Some, none-some}
-use Rattle.book_laws.proofs.Basics.{number_is}
+use Rattle.record_laws.proofs.Books.Basics.{number_is}
 use Rattle.link_timers.specs.declared.role.Role.{Role}
 use Rattle.memory_line.specs.Lines.{Flights, memory_service}
 use Rattle.net_events.specs.AtSwitch.{SwitchEvent, Hears, Expires, Relinks, Restarts, LeftOn, OwnLineServed, LinesServed}
@@ -15,8 +15,8 @@ use Rattle.net_events.proofs.Users.{not_both}
 use Rattle.net_nodes.specs.Turns.{AtEnd}
 use Rattle.switch_turns.specs.Switching.{all_puts}
 use Rattle.net_nodes.specs.Steps.{AtSwitch, OnOwnLine, AtSwitchEnd}
-use Rattle.switch_network_laws.proofs.Standing.{same_switch}
-use Rattle.switch_network_laws.proofs.OwnLines.{own_or_none}
+use Rattle.network_laws.proofs.Switched.Standing.{same_switch}
+use Rattle.network_laws.proofs.Switched.OwnLines.{own_or_none}
 use Rattle.line_sim.specs.Between.{IsBetweenEvents}
 use Rattle.line_sim.proofs.Standing.{standing}
 use Rattle.run_laws.specs.Determined.{IsSameAnswer}

@@ -2,18 +2,19 @@
 use Rattle.std.specs.Prelude.{◌≡◌, ℕ, true, false, List, [], ◌∷◌, drop}
 use Rattle.link_timers.specs.declared.role.Role.{Role}
 use Rattle.link_timers.specs.declared.role.Role.TheVariants.{Dte, Dce}
-use Rattle.packet_layer.specs.Flow.{modulo_8}
+use Rattle.packet_channel.specs.Flow.{modulo_8}
 use Rattle.packet_end.specs.declared.params.EndParams.{EndParams}
 use Rattle.call_records.specs.Register.{made_register}
 use Rattle.line_nodes.specs.Node.{frames_of}
 use Rattle.memory_line.specs.declared.line.Direction.TheVariants.{FromDte}
 use Rattle.net_config.specs.declared.config.Config.{Config}
 use Rattle.net_config.specs.Served.{is_served}
-use Rattle.net_plans.specs.Plan.{plan_of}
+use Rattle.net_config.specs.Plan.{plan_of}
 use Rattle.net_events.specs.declared.event.Event.{Event}
 use Rattle.net_events.specs.declared.event.Event.TheVariants.{Lose}
 use Rattle.net_events.specs.Network.{User, NetLine, Network}
-use Rattle.net_events.specs.Opening.{NewNode, NewHost, NewLine, NetPlan, PlannedUser, new_dte, new_dce, placed_new}
+use Rattle.net_config.specs.NetPlan.{NewNode, NewHost, NewLine, NetPlan, PlannedUser}
+use Rattle.net_events.specs.Opening.{new_dte, new_dce, placed_new}
 use Rattle.net_events.specs.Opening.{line_plan}
 use Rattle.line_sim.specs.Runs.{HasRun}
 

@@ -14,7 +14,7 @@ use Rattle.lapb.specs.Machine.{Octets, Link, params_anew}
 use Rattle.lapb.specs.Octets as link_octets
 use Rattle.line_end.proofs.Calls.{made_queue}
 use Rattle.line_end.proofs.Steps.{Keeps, sends_on_octets, sends_relink, sends_on_t1, settles, offer_fits}
-use Rattle.packet_end.specs.End as line
+use Rattle.line_end.specs.End as line
 use Rattle.packet_end.specs.Params.{link_params}
 use Rattle.packet_layer.specs.Layer.{next_packet}
 use Rattle.packet_layer.specs.Events.{written_packet}

@@ -1,8 +1,8 @@
 -- What the switch does at the two legs of one join leaves all other joins as they were.
 use Rattle.std.proofs.Common.{◌≡◌, ℕ, ◌⊎◌, inl, inr, Bool, true, false, not, List, [], ◌∷◌, ◌++◌, Option, Some, None, is_some, refl, sym, ap, subst, ◌∙◌, true≢false}
 use Rattle.std.proofs.lemmas.Option.{none-some, same_Some}
-use Rattle.packet_layer.specs.Packets.{Note}
-use Rattle.packet_layer.specs.Channel.{Request}
+use Rattle.packet_channel.specs.Packets.{Note}
+use Rattle.packet_channel.specs.Channel.{Request}
 use Rattle.packet_layer.specs.Layer.{Layer}
 use Rattle.packet_laws.specs.Readable.{Every}
 use Rattle.switch_joins.specs.Direction.{Direction}
@@ -77,9 +77,6 @@ touches_then p q ls ms ks w v u a b = record {
 
 pub touches_turned : {acts : List Act} (p q : SwitchChannel) (ls ms : List SwitchLine) (w v : World) → Touches acts p q ls w ms v → Touches acts q p ls w ms v
 touches_turned p q ls ms w v t = record { reached = t.reached; joined = λ x e f. t.joined x f e; legs = λ x e f. t.legs x f e; places = t.places }
-
-pub asked_world : SwitchChannel → Request → List SwitchLine → World → World
-asked_world p r ls w = world_after (Asks p r) (layers_of ls) w
 
 pub touches_asked : (p q : SwitchChannel) (r : Request) (ls : List SwitchLine) (w : World) → MayAsk r → Touches (Asks p r ∷ []) p q ls w (ask p r ls) (world_after (Asks p r) (layers_of ls) w)
 touches_asked p q r ls w m = record {

@@ -19,13 +19,13 @@ use Rattle.lapb.specs.Octets as link_octets
 use Rattle.lapb.specs.Out.{with_frames}
 use Rattle.line_end.proofs.Frames.{with_frames-fit}
 use Rattle.line_end.proofs.Steps.{settles}
-use Rattle.packet_end.specs.End as line
-use Rattle.packet_end.specs.End.{End}
-use Rattle.packet_layer.specs.Packets.{CallParts}
-use Rattle.packet_layer.specs.Traffic.{Taken}
-use Rattle.packet_layer.specs.Channel as channel
-use Rattle.packet_layer.specs.Channel.{Channel, Request, closed_channel, quiet, requested}
-use Rattle.packet_layer.specs.Channel.Request.{Accept, Clearing, Resetting, Sending, Interrupting, Stopping, Taking, Releasing, Confirming}
+use Rattle.line_end.specs.End as line
+use Rattle.line_end.specs.End.{End}
+use Rattle.packet_channel.specs.Packets.{CallParts}
+use Rattle.packet_channel.specs.Traffic.{Taken}
+use Rattle.packet_channel.specs.Channel as channel
+use Rattle.packet_channel.specs.Channel.{Channel, Request, closed_channel, quiet, requested}
+use Rattle.packet_channel.specs.Channel.Request.{Accept, Clearing, Resetting, Sending, Interrupting, Stopping, Taking, Releasing, Confirming}
 use Rattle.packet_layer.specs.Layer.{Layer, Phase, channel_of, nth_channel, with_nth, channel_given, after_step, on_found, placed_on, link_down, unread}
 use Rattle.packet_layer.specs.Layer.Phase.{NoSession, OwnRestart, PacketReady}
 use Rattle.packet_laws.specs.Readable.{Every}
@@ -482,11 +482,6 @@ relinks_send (suc most) (Some k) routes ls w m t i room =
 
 abbrev frames_of : List SwitchLine → List (List Octets)
 frames_of ls = map (λ l. l.end.line.frames) ls
-
-frames_get : (ls : List SwitchLine) (m : ℕ) (fs : List Octets) → slice_get (frames_of ls) m ≡ Some fs → waits ls m ≡ fs
-frames_get [] m fs e = absurd (none-some fs e)
-frames_get (l ∷ ls) zero fs e = same_Some l.end.line.frames fs e
-frames_get (l ∷ ls) (suc m) fs e = frames_get ls m fs e
 
 all_waits : (ls ms : List SwitchLine) (m : ℕ) → frames_of ms ≡ frames_of ls → waits ms m ≡ waits ls m
 all_waits ls ms m e = at_frames ms m ∙ (ap (λ (xs : List (List Octets)). of_frames (slice_get xs m)) e ∙ sym (at_frames ls m))

@@ -2,14 +2,14 @@
 use Rattle.std.proofs.Common.{◌≡◌, ℕ, ◌+◌, Bool, true, false, cond, ◌==◌, List, [], ◌∷◌, Option, None, refl, sym, ap, subst, ◌∙◌, true≢false, is_some, ◌||◌, arith}
 use Rattle.std.proofs.lemmas.Bool.{eqb-true}
 use Rattle.packet_channel.proofs.Windows.{window_below}
-use Rattle.packet_layer.specs.Packets.{Body}
-use Rattle.packet_layer.specs.Packets.Note.{Covered}
-use Rattle.packet_layer.specs.Packets.Body.{Clear, Data, Interrupt, InterruptConfirmation, ReceiveReady, ReceiveNotReady, Reset, ResetConfirmation}
-use Rattle.packet_layer.specs.Traffic.{Traffic, Heard, hears as hears_in, confirming}
-use Rattle.packet_layer.specs.Traffic.Heard.{Keeps, Confirms, Wrong}
-use Rattle.packet_layer.specs.Channel.{CallState, received, unreadable, in_transfer, after_heard, moved as with_traffic}
-use Rattle.packet_layer.specs.Channel.CallState.{Transfer}
-use Rattle.packet_layer.specs.Channel.Request.{Confirming}
+use Rattle.packet_channel.specs.Packets.{Body}
+use Rattle.packet_channel.specs.Packets.Note.{Covered}
+use Rattle.packet_channel.specs.Packets.Body.{Clear, Data, Interrupt, InterruptConfirmation, ReceiveReady, ReceiveNotReady, Reset, ResetConfirmation}
+use Rattle.packet_channel.specs.Traffic.{Traffic, Heard, hears as hears_in, confirming}
+use Rattle.packet_channel.specs.Traffic.Heard.{Keeps, Confirms, Wrong}
+use Rattle.packet_channel.specs.Channel.{CallState, received, unreadable, in_transfer, after_heard, moved as with_traffic}
+use Rattle.packet_channel.specs.Channel.CallState.{Transfer}
+use Rattle.packet_channel.specs.Channel.Request.{Confirming}
 use Rattle.packet_laws.specs.History.{logged_heard}
 use Rattle.packet_laws.specs.Counts.{NamesAfter, NamesCounts}
 use Rattle.packet_laws.proofs.Naming.{counts_hold}

@@ -5,15 +5,15 @@ use Rattle.std.specs.List.{list_any}
 use Rattle.std.proofs.lemmas.Bool.{cases_lt, lt-leb, leb-false}
 use Rattle.std.proofs.lemmas.Option.{none-some, same_Some, slice_get_within}
 use Rattle.lapb.specs.Machine.{Link, can_offer}
-use Rattle.packet_layer.specs.Packets.{Body}
-use Rattle.packet_layer.specs.Traffic.{Taken}
-use Rattle.packet_layer.specs.Channel.{Channel, Request, requested}
-use Rattle.packet_layer.specs.Channel.Request.{Taking, Releasing}
+use Rattle.packet_channel.specs.Packets.{Body}
+use Rattle.packet_channel.specs.Traffic.{Taken}
+use Rattle.packet_channel.specs.Channel.{Channel, Request, requested}
+use Rattle.packet_channel.specs.Channel.Request.{Taking, Releasing}
 use Rattle.packet_layer.specs.Layer.{Layer, Phase, Next, ChannelNext, channel_of, with_nth, next_of, next_number, serve, serve_found, packet_of, next_restart, next_in, next_packet}
 use Rattle.packet_layer.specs.Layer.Phase.{NoSession, OwnRestart, PacketReady}
 use Rattle.packet_layer.proofs.Round.{or_else, whole_round}
 use Rattle.packet_laws.proofs.Line.Lines.{nth_other}
-use Rattle.packet_end.specs.End.{End}
+use Rattle.line_end.specs.End.{End}
 use Rattle.packet_end.specs.PacketEnd.{PacketEnd, offered, with_next, HasOfferedAll}
 use Rattle.packet_end.proofs.Offering.{no_room}
 use Rattle.switch_joins.specs.Direction.{releasable, released}

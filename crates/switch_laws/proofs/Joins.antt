@@ -2,11 +2,11 @@
 use Rattle.std.proofs.Common.{◌≡◌, ℕ, Bool, true, false, List, Option, None, refl, sym, ap, ap₂, subst, ◌∙◌, not}
 use Rattle.link_timers.specs.declared.role.Role.{Role}
 use Rattle.packet_channel.specs.declared.flow.Flow.{Flow}
-use Rattle.packet_layer.specs.Flow.{IsFlow}
-use Rattle.packet_layer.specs.Packets.{Body}
-use Rattle.packet_layer.specs.Traffic.{Traffic, fresh, interrupt_pending}
-use Rattle.packet_layer.specs.Channel.{CallState, Refusal, refusal, refused_if, in_transfer}
-use Rattle.packet_layer.specs.Channel.Request.{Resetting}
+use Rattle.packet_channel.specs.Flow.{IsFlow}
+use Rattle.packet_channel.specs.Packets.{Body}
+use Rattle.packet_channel.specs.Traffic.{Traffic, fresh, interrupt_pending}
+use Rattle.packet_channel.specs.Channel.{CallState, Refusal, refusal, refused_if, in_transfer}
+use Rattle.packet_channel.specs.Channel.Request.{Resetting}
 use Rattle.packet_laws.specs.History.{Epoch, empty_epoch}
 use Rattle.switch_joins.specs.Turning.{Sizes, items_gathered}
 use Rattle.switch_joins.specs.Direction.{new_direction}

@@ -5,12 +5,12 @@ use Rattle.std.specs.List.{list_any}
 use Rattle.std.proofs.lemmas.Option.{none-some, same_Some}
 use Rattle.packet_codec.specs.ClearCause as cause_of
 use Rattle.packet_codec.specs.Diagnostic.{no_information}
-use Rattle.packet_layer.specs.Packets.{CallParts, Note, Reason}
-use Rattle.packet_layer.specs.Packets.Reason.{LinkLost}
-use Rattle.packet_layer.specs.Packets.Note.{Incoming, Connected, Closed, WasReset, InterruptConfirmed, Covered}
-use Rattle.packet_layer.specs.Traffic.{Taken}
-use Rattle.packet_layer.specs.Channel.{Channel, Request, had_call}
-use Rattle.packet_layer.specs.Channel.Request.{Accept, Clearing, Resetting, Taking, Releasing, Confirming}
+use Rattle.packet_channel.specs.Packets.{CallParts, Note, Reason}
+use Rattle.packet_channel.specs.Packets.Reason.{LinkLost}
+use Rattle.packet_channel.specs.Packets.Note.{Incoming, Connected, Closed, WasReset, InterruptConfirmed, Covered}
+use Rattle.packet_channel.specs.Traffic.{Taken}
+use Rattle.packet_channel.specs.Channel.{Channel, Request, had_call}
+use Rattle.packet_channel.specs.Channel.Request.{Accept, Clearing, Resetting, Taking, Releasing, Confirming}
 use Rattle.packet_layer.specs.Layer.{closing_notes}
 use Rattle.packet_end.specs.PacketEnd.{PacketEnd, relinked, all_offered, settled, begun}
 use Rattle.address_routes.specs.Routes.{RouteMap}

@@ -4,11 +4,11 @@ use Rattle.std.proofs.Common.{◌≡◌, ℕ, zero, suc, ◌+◌, Bool, true, fa
 use Rattle.std.specs.Prelude.{◌%◌, ◌&&◌}
 use Rattle.std.proofs.lemmas.Bool.{and_parts}
 use Rattle.link_timers.specs.declared.role.Role.TheVariants.{Dce}
-use Rattle.packet_layer.specs.Flow.{IsFlow, modulo_128}
-use Rattle.packet_layer.specs.Packets.{Datum, Body}
-use Rattle.packet_layer.specs.Packets.Body.{Data, ReceiveReady}
-use Rattle.packet_layer.specs.Channel.{CallState, received, next_of, in_transfer}
-use Rattle.packet_layer.specs.Channel.CallState.{Transfer}
+use Rattle.packet_channel.specs.Flow.{IsFlow, modulo_128}
+use Rattle.packet_channel.specs.Packets.{Datum, Body}
+use Rattle.packet_channel.specs.Packets.Body.{Data, ReceiveReady}
+use Rattle.packet_channel.specs.Channel.{CallState, received, next_of, in_transfer}
+use Rattle.packet_channel.specs.Channel.CallState.{Transfer}
 use Rattle.switch_joins.specs.Direction.{new_direction}
 use Rattle.switch_laws.specs.Leg.{connected}
 use Rattle.switch_laws.specs.Join.{Join, IsJoin, turned, relayed_both, hears, gives}

@@ -12,11 +12,11 @@ use Rattle.lapb.specs.declared.phase.Phase.TheVariants as phase
 use Rattle.lapb.specs.Machine.{Octets, Link, can_offer, is_up, sendable, send_all, settle_in}
 use Rattle.lapb.specs.Unsent.{HasSentAll}
 use Rattle.lapb.specs.Octets as link_octets
-use Rattle.packet_end.specs.End as line
-use Rattle.packet_end.specs.End.{End}
-use Rattle.packet_layer.specs.Packets.{CallParts, Note}
-use Rattle.packet_layer.specs.Packets.Note.{Incoming, Connected, Closed, WasReset, InterruptConfirmed, Covered}
-use Rattle.packet_layer.specs.Channel.Request.{Accept, Clearing, Resetting, Releasing, Confirming}
+use Rattle.line_end.specs.End as line
+use Rattle.line_end.specs.End.{End}
+use Rattle.packet_channel.specs.Packets.{CallParts, Note}
+use Rattle.packet_channel.specs.Packets.Note.{Incoming, Connected, Closed, WasReset, InterruptConfirmed, Covered}
+use Rattle.packet_channel.specs.Channel.Request.{Accept, Clearing, Resetting, Releasing, Confirming}
 use Rattle.packet_layer.specs.Layer.{next_packet}
 use Rattle.packet_end.specs.PacketEnd.{PacketEnd, received, heeded, after_packet, after_timer, expired, runs_at, relinked, settled, HasOfferedAll, KeepsNothingBack}
 use Rattle.packet_end.proofs.Offering.{silent_all_offered, settled_all_offered}

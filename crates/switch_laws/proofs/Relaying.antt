@@ -4,12 +4,12 @@ use Rattle.std.specs.Prelude.{slice_get}
 use Rattle.std.proofs.lemmas.Option.{none-some, same_Some}
 use Rattle.link_timers.specs.declared.role.Role.{Role}
 use Rattle.link_timers.specs.declared.role.Role.TheVariants.{Dte, Dce}
-use Rattle.packet_layer.specs.Packets.{Datum}
-use Rattle.packet_layer.specs.Traffic.{Taken, Traffic, front}
-use Rattle.packet_layer.specs.Traffic.Taken.{TakenInterrupt, TakenPacket}
-use Rattle.packet_layer.specs.Channel.{CallState, Request, in_transfer, waits_for_call}
-use Rattle.packet_layer.specs.Channel.CallState.{Ready, OwnWaiting, FarWaiting, Transfer, Collision, OwnClear}
-use Rattle.packet_layer.specs.Channel.Request.{Sending, Taking, Releasing}
+use Rattle.packet_channel.specs.Packets.{Datum}
+use Rattle.packet_channel.specs.Traffic.{Taken, Traffic, front}
+use Rattle.packet_channel.specs.Traffic.Taken.{TakenInterrupt, TakenPacket}
+use Rattle.packet_channel.specs.Channel.{CallState, Request, in_transfer, waits_for_call}
+use Rattle.packet_channel.specs.Channel.CallState.{Ready, OwnWaiting, FarWaiting, Transfer, Collision, OwnClear}
+use Rattle.packet_channel.specs.Channel.Request.{Sending, Taking, Releasing}
 use Rattle.switch_joins.specs.Turning.{Sizes, Gathered, turned}
 use Rattle.switch_joins.specs.Direction.{Direction, releasable, released}
 use Rattle.switch_joins.specs.declared.channels.SwitchChannel.{SwitchChannel}

@@ -6,11 +6,11 @@ use Rattle.std.proofs.lemmas.Bool.{eqb-true, eq-eqb}
 use Rattle.link_timers.specs.declared.role.Role.{Role}
 use Rattle.link_timers.specs.declared.role.Role.TheVariants.{Dte, Dce}
 use Rattle.packet_codec.specs.Diagnostic.{no_information}
-use Rattle.packet_layer.specs.Packets.{CallParts}
-use Rattle.packet_layer.specs.Packets.Note.{Incoming}
-use Rattle.packet_layer.specs.Channel.{CallState, Channel, may_accept, waits_for_call, had_call, is_ready, is_free, placing}
-use Rattle.packet_layer.specs.Channel.CallState.{Ready, OwnWaiting, FarWaiting, Transfer, Collision, OwnClear}
-use Rattle.packet_layer.specs.Channel.Request.{Clearing}
+use Rattle.packet_channel.specs.Packets.{CallParts}
+use Rattle.packet_channel.specs.Packets.Note.{Incoming}
+use Rattle.packet_channel.specs.Channel.{CallState, Channel, may_accept, waits_for_call, had_call, is_ready, is_free, placing}
+use Rattle.packet_channel.specs.Channel.CallState.{Ready, OwnWaiting, FarWaiting, Transfer, Collision, OwnClear}
+use Rattle.packet_channel.specs.Channel.Request.{Clearing}
 use Rattle.packet_layer.specs.Layer.{Layer, Phase, channel_of, channel_given}
 use Rattle.packet_laws.proofs.Call.Saying.{and_parts}
 use Rattle.packet_laws.proofs.Line.Outcomes.{free_is, given_ready}

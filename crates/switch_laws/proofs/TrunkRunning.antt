@@ -7,8 +7,8 @@ use Rattle.std.proofs.lemmas.Cmp.{nat_list_cmp_total}
 use Rattle.link_timers.specs.declared.timers.TimerId.TheVariants.{T21}
 use Rattle.lapb.specs.Machine.{Octets}
 use Rattle.packet_codec.specs.ClearCause.{invalid_facility}
-use Rattle.packet_layer.specs.Packets.{CallParts, Note}
-use Rattle.packet_layer.specs.Packets.Note.{Incoming}
+use Rattle.packet_channel.specs.Packets.{CallParts, Note}
+use Rattle.packet_channel.specs.Packets.Note.{Incoming}
 use Rattle.packet_end.specs.PacketEnd as offers
 use Rattle.packet_end.specs.Timing as timing
 use Rattle.packet_end.specs.PacketEnd.{received}

@@ -6,13 +6,13 @@ use Rattle.link_timers.specs.declared.role.Role.{Role}
 use Rattle.epochs.specs.Item.{all_items}
 use Rattle.packet_channel.specs.declared.flow.Flow.{Flow}
 use Rattle.packet_channel.proofs.Windows.{window_small}
-use Rattle.packet_layer.specs.Flow.{is_size}
-use Rattle.packet_layer.specs.Packets.{Datum}
-use Rattle.packet_layer.specs.Traffic.{Taken, front, front_of, may_release, releasing, interrupt_pending}
-use Rattle.packet_layer.specs.Traffic.Taken.{TakenInterrupt, TakenPacket}
-use Rattle.packet_layer.specs.Channel.{CallState, Channel, Request, Refusal, refusal, refused_if, in_transfer, carried_out, owing, unless, moved as with_traffic}
-use Rattle.packet_layer.specs.Channel.CallState.{Transfer}
-use Rattle.packet_layer.specs.Channel.Request.{Sending, Interrupting, Taking, Releasing}
+use Rattle.packet_channel.specs.Flow.{is_size}
+use Rattle.packet_channel.specs.Packets.{Datum}
+use Rattle.packet_channel.specs.Traffic.{Taken, front, front_of, may_release, releasing, interrupt_pending}
+use Rattle.packet_channel.specs.Traffic.Taken.{TakenInterrupt, TakenPacket}
+use Rattle.packet_channel.specs.Channel.{CallState, Channel, Request, Refusal, refusal, refused_if, in_transfer, carried_out, owing, unless, moved as with_traffic}
+use Rattle.packet_channel.specs.Channel.CallState.{Transfer}
+use Rattle.packet_channel.specs.Channel.Request.{Sending, Interrupting, Taking, Releasing}
 use Rattle.packet_laws.specs.History.{Epoch}
 use Rattle.packet_laws.proofs.Numbers.{gone_is}
 use Rattle.switch_joins.specs.Turning.{Sizes, Gathered, Turn, IsGathered, turned, items_gathered}

@@ -1,6 +1,6 @@
 -- A channel that has a call is joined.
 use Rattle.std.specs.Prelude.{◌≡◌, true, List, Some, is_some}
-use Rattle.packet_layer.specs.Channel.{had_call}
+use Rattle.packet_channel.specs.Channel.{had_call}
 use Rattle.switch_joins.specs.declared.channels.SwitchChannel.{SwitchChannel}
 use Rattle.switch_lines.specs.Lines.{SwitchLine, joined_at}
 use Rattle.switch_laws.specs.World.{Shown, shown_at, layers_of}

@@ -1,10 +1,10 @@
 -- A join: two legs and what the switch keeps of both directions. What happens on a leg is said of the leg b; of the leg
 -- a it is the same, with the join turned.
 use Rattle.std.specs.Prelude.{ℕ, List, [], ◌∷◌}
-use Rattle.packet_layer.specs.Packets.{Body, Note}
-use Rattle.packet_layer.specs.Packets.Note.{WasReset, InterruptConfirmed, Covered}
-use Rattle.packet_layer.specs.Channel.{received, unreadable}
-use Rattle.packet_layer.specs.Channel.Request.{Resetting}
+use Rattle.packet_channel.specs.Packets.{Body, Note}
+use Rattle.packet_channel.specs.Packets.Note.{WasReset, InterruptConfirmed, Covered}
+use Rattle.packet_channel.specs.Channel.{received, unreadable}
+use Rattle.packet_channel.specs.Channel.Request.{Resetting}
 use Rattle.std.specs.Prelude.{Bool}
 use Rattle.switch_joins.specs.Direction.{Direction, new_direction}
 use Rattle.switch_lines.specs.Causes.{reset_cause, far_diagnostic}

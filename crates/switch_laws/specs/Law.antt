@@ -4,10 +4,10 @@ use Rattle.link_timers.specs.declared.role.Role.{Role}
 use Rattle.link_timers.specs.declared.timers.TimerId.{TimerId}
 use Rattle.epochs.specs.Item.{all_items}
 use Rattle.packet_channel.specs.declared.flow.Flow.{Flow}
-use Rattle.packet_layer.specs.Flow.{IsFlow}
-use Rattle.packet_layer.specs.Packets.{Body, CallParts, Datum}
-use Rattle.packet_layer.specs.Channel.{received, unreadable}
-use Rattle.packet_layer.specs.Channel.CallState.{Transfer}
+use Rattle.packet_channel.specs.Flow.{IsFlow}
+use Rattle.packet_channel.specs.Packets.{Body, CallParts, Datum}
+use Rattle.packet_channel.specs.Channel.{received, unreadable}
+use Rattle.packet_channel.specs.Channel.CallState.{Transfer}
 use Rattle.packet_layer.specs.Layer.{Layer}
 use Rattle.address_routes.specs.Routes.{RouteMap, line_for}
 use Rattle.switch_joins.specs.Turning.{nothing_gathered, turned, items_gathered}

@@ -1,14 +1,14 @@
 -- A leg of a join: a logical channel of a line together with what was done on it, epoch by epoch.
 use Rattle.std.specs.Prelude.{◌≡◌, ℕ, Bool, true, false, List, [], ◌∷◌, Option, Some, None}
 use Rattle.link_timers.specs.declared.role.Role.{Role}
-use Rattle.packet_layer.specs.Flow.{IsFlow}
+use Rattle.packet_channel.specs.Flow.{IsFlow}
 use Rattle.packet_channel.specs.declared.flow.Flow.{Flow}
-use Rattle.packet_layer.specs.Packets.{Body}
-use Rattle.packet_layer.specs.Packets.Body.{Reset, ResetConfirmation, Clear, ClearConfirmation}
-use Rattle.packet_layer.specs.Traffic.{fresh, Heard, hears}
-use Rattle.packet_layer.specs.Channel.{CallState, Channel, Step, Request, Refusal, received, unreadable, refusal}
-use Rattle.packet_layer.specs.Channel.{carried_out, owing, next_of}
-use Rattle.packet_layer.specs.Channel.CallState.{Transfer}
+use Rattle.packet_channel.specs.Packets.{Body}
+use Rattle.packet_channel.specs.Packets.Body.{Reset, ResetConfirmation, Clear, ClearConfirmation}
+use Rattle.packet_channel.specs.Traffic.{fresh, Heard, hears}
+use Rattle.packet_channel.specs.Channel.{CallState, Channel, Step, Request, Refusal, received, unreadable, refusal}
+use Rattle.packet_channel.specs.Channel.{carried_out, owing, next_of}
+use Rattle.packet_channel.specs.Channel.CallState.{Transfer}
 use Rattle.packet_laws.specs.History.{Epoch, empty_epoch, logged, logged_heard}
 use Rattle.packet_laws.specs.Counts.{NamesCounts}
 

@@ -2,8 +2,8 @@
 use Rattle.std.specs.Prelude.{◌≡◌, ℕ, true, false, if◌then◌else◌, ◌⊎◌, List, [], ◌∷◌, slice_get, Some, None}
 use Rattle.link_timers.specs.declared.timers.TimerId.{TimerId}
 use Rattle.packet_codec.specs.ClearCause.{invalid_facility, not_obtainable, out_of_order, number_busy}
-use Rattle.packet_layer.specs.Packets.{CallParts, Note}
-use Rattle.packet_layer.specs.Packets.Note.{Incoming}
+use Rattle.packet_channel.specs.Packets.{CallParts, Note}
+use Rattle.packet_channel.specs.Packets.Note.{Incoming}
 use Rattle.packet_layer.specs.Layer.{free_channel}
 use Rattle.packet_layer.specs.Layer.Phase.{PacketReady}
 use Rattle.packet_end.specs.PacketEnd as end
@@ -82,9 +82,9 @@ noted_in n f s = notes_of (slice_get (changed n (with_end (λ e. f (quieted e)))
 -- has no route, or one to a line that is not there, or one back over the trunk that it came on (13), else where the
 -- packet layer there is not in r1 (9), else where no channel is free there (1); else it goes on to the lowest free
 -- channel of the line of its route, at a DTE's end the highest one, and so does each call by which an event makes a
--- join; a link that is set up anew makes none. From a trunk it goes on with its own calling address, from any other line with that of the line. And while
--- there is a join both its channels have a call; a channel has a call only while it is joined: both legs begin and end
--- together
+-- join; a link that is set up anew makes none. From a trunk it goes on with its own calling address, from any other
+-- line with that of the line. And while there is a join both its channels have a call; a channel has a call only while
+-- it is joined: both legs begin and end together
 pub record PairLaw : Type 0 where
   pub facility : (routes : RouteMap) (ls : List SwitchLine) (m : ℕ) (parts : CallParts)
       → has_any parts.facilities ≡ true → answer routes ls m parts ≡ Clears invalid_facility

@@ -4,9 +4,9 @@ use Rattle.std.specs.Prelude.{◌≡◌, true, false, [], ◌∷◌, ◌++◌, l
 use Rattle.link_timers.specs.declared.role.Role.TheVariants.{Dce}
 use Rattle.packet_codec.specs.declared.packet.Numbering.TheVariants.{Modulo8}
 use Rattle.packet_channel.specs.declared.flow.Flow.{Flow}
-use Rattle.packet_layer.specs.Flow.{modulo_8}
-use Rattle.packet_layer.specs.Packets.{Datum}
-use Rattle.packet_layer.specs.Packets.Body.{Data, ReceiveReady, Reset, ResetConfirmation}
+use Rattle.packet_channel.specs.Flow.{modulo_8}
+use Rattle.packet_channel.specs.Packets.{Datum}
+use Rattle.packet_channel.specs.Packets.Body.{Data, ReceiveReady, Reset, ResetConfirmation}
 use Rattle.switch_joins.specs.Turning.{Gathered, nothing_gathered}
 use Rattle.switch_joins.specs.Direction.{new_direction}
 use Rattle.switch_laws.specs.Leg.{connected}

@@ -9,9 +9,9 @@ use Rattle.lapb.specs.declared.note.Note.TheVariants.{Nothing, Up, Down}
 use Rattle.lapb.specs.Machine.{Octets, on_t1, can_offer}
 use Rattle.lapb.specs.Octets.{on_octets}
 use Rattle.packet_channel.specs.declared.flow.Flow.{Flow}
-use Rattle.packet_layer.specs.Packets.{CallParts, Received}
-use Rattle.packet_layer.specs.Octets.{heard}
-use Rattle.packet_layer.specs.Channel.{Request}
+use Rattle.packet_channel.specs.Packets.{CallParts, Received}
+use Rattle.packet_channel.specs.Octets.{heard}
+use Rattle.packet_channel.specs.Channel.{Request}
 use Rattle.packet_layer.specs.Layer.{Timer, next_packet}
 use Rattle.packet_layer.specs.Events.{timer_named}
 use Rattle.packet_end.specs.PacketEnd as end

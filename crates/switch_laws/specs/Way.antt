@@ -1,9 +1,9 @@
 -- One direction of a join: from its near leg to its far leg.
 use Rattle.std.specs.Prelude.{◌≡◌, ℕ, zero, suc, Bool, true, false, List, Option, Some, None}
-use Rattle.packet_layer.specs.Traffic.{Taken, front, interrupt_pending}
-use Rattle.packet_layer.specs.Channel.{Request}
-use Rattle.packet_layer.specs.Channel.Request.{Taking, Releasing, Confirming}
-use Rattle.packet_layer.specs.Channel.CallState.{Transfer}
+use Rattle.packet_channel.specs.Traffic.{Taken, front, interrupt_pending}
+use Rattle.packet_channel.specs.Channel.{Request}
+use Rattle.packet_channel.specs.Channel.Request.{Taking, Releasing, Confirming}
+use Rattle.packet_channel.specs.Channel.CallState.{Transfer}
 use Rattle.switch_joins.specs.Direction.{Direction, releasable, released, covered_by}
 use Rattle.switch_joins.specs.Turning.{Sizes, IsGathered}
 use Rattle.switch_lines.specs.Lines.{takes_all}

@@ -4,12 +4,12 @@ use Rattle.std.specs.Prelude.{Some, None}
 use Rattle.link_timers.specs.declared.role.Role.{Role}
 use Rattle.packet_codec.specs.Diagnostic.{no_information}
 use Rattle.packet_channel.specs.declared.flow.Flow.{Flow}
-use Rattle.packet_layer.specs.Packets.{CallParts, Body, Packet, Received}
-use Rattle.packet_layer.specs.Packets.Body.{Restart, RestartConfirmation}
-use Rattle.packet_layer.specs.Packets.Received.{Whole, Unknown, Faulty}
-use Rattle.packet_layer.specs.Traffic.{fresh}
-use Rattle.packet_layer.specs.Channel.{Channel, Request, closed_channel, clear_error, in_transfer, placing}
-use Rattle.packet_layer.specs.Channel.Request.{Stopping}
+use Rattle.packet_channel.specs.Packets.{CallParts, Body, Packet, Received}
+use Rattle.packet_channel.specs.Packets.Body.{Restart, RestartConfirmation}
+use Rattle.packet_channel.specs.Packets.Received.{Whole, Unknown, Faulty}
+use Rattle.packet_channel.specs.Traffic.{fresh}
+use Rattle.packet_channel.specs.Channel.{Channel, Request, closed_channel, clear_error, in_transfer, placing}
+use Rattle.packet_channel.specs.Channel.Request.{Stopping}
 use Rattle.packet_layer.specs.Layer.{Layer, Phase, Timer, channel_of, channel_given, next_packet, on_received, on_timer}
 use Rattle.packet_layer.specs.Layer.{unread, runs, link_up, link_down, request, call}
 use Rattle.packet_layer.specs.Layer.Phase.{PacketReady}

@@ -10,7 +10,7 @@ ghost use Rattle.switch_laws.specs.SizesRun.{SizesRunLaw};
 ghost use Rattle.switch_laws.specs.TrunkRun.{TrunkRunLaw};
 
 /// One direction of a join, over the definitions of the layer and of the switch alone. What the switch sends on the far
-/// leg, with what it gathers behind it, is what it takes on the near leg, item by item, and packet by packet between
+/// leg, with what it gathers after that, is what it takes on the near leg, item by item, and packet by packet between
 /// lines of one size. A packet with D = 1 is released only when the far leg's P(R) covers all that it made due. What
 /// ends a sequence of packets leaves nothing gathered. After 33 moves nothing waits on the near leg that the far leg
 /// takes (X.25 4.3.3, 4.3.4).
@@ -20,7 +20,7 @@ pub fn relay_law()
 
 /// Both directions of a join: the clause holds from the connection on, over each relay, over all that comes on a leg
 /// and leaves it in data transfer, whatever was sent there, and over all that goes to its line; a reset of one leg
-/// begins new epochs of both, also where both are reset at once (X.25 4.4.3).
+/// begins new epochs of both, also if both are reset at once (X.25 4.4.3).
 pub fn join_law()
     ensures { JoinLaw }
 {}
@@ -38,34 +38,35 @@ pub fn pair_law()
     ensures { PairLaw }
 {}
 
-/// Whole events of a switch, whatever octets come on its lines, and where it sets a link up anew: all joins hold after
+/// Whole events of a switch, whatever octets come on its lines, also when it sets a link up again: all joins hold after
 /// each of them, and nothing waits on a leg that the other leg takes.
 pub fn turn_law()
     ensures { TurnLaw }
 {}
 
-/// Which joins an event has to relay: those with a leg on its line or on one whose link is set up anew in it. Where
+/// Which joins an event has to relay: those with a leg on its line or on one whose link is set up again in it. If
 /// nothing waited before that could go on, the relay on all joins is the relay on these.
 pub fn concern_law()
     ensures { ConcernLaw }
 {}
 
-/// What happens on one line of a switch leaves each join of two other lines untouched, with what the switch keeps for it
-/// and the channels of both its legs; or one of the two lines was set up anew in the event, and there a fifth packet
-/// came to be owed.
+/// What happens on one line of a switch leaves each join of two other lines untouched, with what the switch keeps for
+/// it and the channels of both its legs; or one of the two lines was set up again in the event, and there a fifth
+/// packet came to be owed.
 pub fn isolation_law()
     ensures { IsolationLaw }
 {}
 
 /// What waits to go out on each line after an event is the frames of the event's steps, all of them and in order: the
-/// answer to what happened there, what is sent if the link is set up anew, and what goes at the end. They are nine at
-/// most, for at its end no link is set up anew twice.
+/// answer to what happened there, what is sent if the link is set up again, and what goes at the end. They are nine at
+/// most, since no link is set up twice at the end of an event.
 pub fn sent_law()
     ensures { SentLaw }
 {}
 
 /// A switch from its making on, whatever comes to it and in whatever order: it stays one of which the laws above speak,
-/// and its legs move as its packet layers do. Who owns a switch keeps so, from event to event, what the laws ask for.
+/// and its legs move as its packet layers do. So the owner of a switch keeps, from event to event, what the laws ask
+/// for.
 pub fn switch_events_law()
     ensures { EventLaw }
 {}

@@ -3,10 +3,10 @@ use Rattle.std.proofs.Common.{◌≡◌, ℕ, suc, ◌+◌, ◌%◌, ◌≤◌, 
 use Rattle.std.proofs.lemmas.Bool.{leb-true}
 use Rattle.packet_channel.specs.declared.flow.Flow.{Flow}
 use Rattle.packet_channel.proofs.Windows.{below_small}
-use Rattle.packet_layer.specs.Packets.{Datum, Body}
-use Rattle.packet_layer.specs.Traffic.{taking_of, front_of, may_release, releasing, confirming, unreleased}
-use Rattle.packet_layer.specs.Channel.{Request}
-use Rattle.packet_layer.specs.Channel.Request.{Sending, Interrupting, Stopping, Taking, Releasing, Confirming}
+use Rattle.packet_channel.specs.Packets.{Datum, Body}
+use Rattle.packet_channel.specs.Traffic.{taking_of, front_of, may_release, releasing, confirming, unreleased}
+use Rattle.packet_channel.specs.Channel.{Request}
+use Rattle.packet_channel.specs.Channel.Request.{Sending, Interrupting, Stopping, Taking, Releasing, Confirming}
 use Rattle.packet_laws.specs.History.{with_taken}
 use Rattle.packet_laws.proofs.Handshakes.Handshake.{Two}
 use Rattle.packet_laws.proofs.Call.OneEpoch.{Inner, datas, interrupts, Numbers, one, Epochs_agree, inner_after, Askable}

@@ -5,11 +5,11 @@ use Rattle.link_timers.specs.declared.role.Role.{Role}
 use Rattle.link_timers.specs.declared.role.Role.TheVariants.{Dte}
 use Rattle.link_timers.specs.Role.{other_of}
 use Rattle.packet_channel.specs.declared.flow.Flow.{Flow}
-use Rattle.packet_layer.specs.Packets.{CallParts, Datum, Body}
-use Rattle.packet_layer.specs.Packets.Body.{Call, Accepted, Clear, ClearConfirmation, Data, Interrupt, InterruptConfirmation, ReceiveReady, ReceiveNotReady, Reset, ResetConfirmation, Restart, RestartConfirmation}
-use Rattle.packet_layer.specs.Traffic.{Traffic, Said, says, says_interrupt, says_data, says_flow, ready_or_not, window_open, flow_told}
-use Rattle.packet_layer.specs.Flow.{shown}
-use Rattle.packet_layer.specs.Channel as channel
+use Rattle.packet_channel.specs.Packets.{CallParts, Datum, Body}
+use Rattle.packet_channel.specs.Packets.Body.{Call, Accepted, Clear, ClearConfirmation, Data, Interrupt, InterruptConfirmation, ReceiveReady, ReceiveNotReady, Reset, ResetConfirmation, Restart, RestartConfirmation}
+use Rattle.packet_channel.specs.Traffic.{Traffic, Said, says, says_interrupt, says_data, says_flow, ready_or_not, window_open, flow_told}
+use Rattle.packet_channel.specs.Flow.{shown}
+use Rattle.packet_channel.specs.Channel as channel
 use Rattle.packet_laws.proofs.Handshakes.Handshake.{Kind, Side, Two, Did, said, does, started, acted, advanced, side_hears, side_ok, Inv, AllPayload, SaysPayload, turned_two}
 use Rattle.packet_laws.proofs.Handshakes.Handshake.Kind.{Payload, Request, Confirmation}
 use Rattle.packet_laws.proofs.Handshakes.Keeping.{keeps_acts, keeps_begins, keeps_learns, keeps_hears, keeps_turned}

@@ -1,12 +1,12 @@
 -- What an end says in a call, by the rules of what goes to the link, keeps the two ends of the epoch in agreement.
 use Rattle.std.proofs.Common.{◌≡◌, ℕ, ◌+◌, ◌%◌, ◌<◌, ◌≤◌, Bool, true, false, cond, not, ◌&&◌, nat_lt, List, [], ◌∷◌, ◌++◌, length, Option, Some, None, refl, sym, ap, subst, ◌∙◌, append-nil, append_assoc, length-append, arith, true≢false}
 use Rattle.std.proofs.lemmas.Bool.{ltb-true}
-use Rattle.packet_layer.specs.Flow.{shown}
+use Rattle.packet_channel.specs.Flow.{shown}
 use Rattle.packet_channel.specs.declared.flow.Flow.{Flow}
 use Rattle.packet_channel.proofs.Windows.{below_small}
-use Rattle.packet_layer.specs.Packets.{Datum, Body}
-use Rattle.packet_layer.specs.Packets.Body.{Data, Interrupt, InterruptConfirmation, ReceiveReady, ReceiveNotReady}
-use Rattle.packet_layer.specs.Traffic.{Said, in_flight, window_open, flow_told, ready_or_not, says_interrupt, says_data, says_flow}
+use Rattle.packet_channel.specs.Packets.{Datum, Body}
+use Rattle.packet_channel.specs.Packets.Body.{Data, Interrupt, InterruptConfirmation, ReceiveReady, ReceiveNotReady}
+use Rattle.packet_channel.specs.Traffic.{Said, in_flight, window_open, flow_told, ready_or_not, says_interrupt, says_data, says_flow}
 use Rattle.packet_laws.proofs.Handshakes.Handshake.{said}
 use Rattle.packet_laws.proofs.Call.OneEpoch.{Inner, datas, interrupts, confirmations, NumberOf, one, Waits, Way, Epochs_agree, inner_says}
 use Rattle.packet_laws.specs.Law.{listed}
@@ -50,9 +50,6 @@ quiet_forth flow x y o b t dq iq nq i =
 
 abbrev After : Flow → Inner → Inner → List Body → List Body → Said → Type 0
 After flow x y o b s = Epochs_agree flow (pair_of (record x { traffic = s.traffic }) y (said s.body o) b)
-
-same_acks : (f j : ℕ) → j ≤ f → j ≤ f
-same_acks f j le = le
 
 says_confirmation : (flow : Flow) (x y : Inner) (o b : List Body) → x.traffic.confirmation_due ≡ true → Epochs_agree flow (pair_of x y o b)
     → After flow x y o b (record { traffic = record x.traffic { confirmation_due = false }; body = Some InterruptConfirmation })

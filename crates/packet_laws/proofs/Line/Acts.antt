@@ -3,12 +3,12 @@ use Rattle.std.proofs.Common.{◌≡◌, ℕ, Bool, true, false, cond, ◌==◌,
 use Rattle.link_timers.specs.declared.role.Role.{Role}
 use Rattle.link_timers.specs.declared.role.Role.TheVariants.{Dte, Dce}
 use Rattle.packet_channel.specs.declared.flow.Flow.{Flow}
-use Rattle.packet_layer.specs.Packets.{CallParts, Body}
-use Rattle.packet_layer.specs.Packets.Body.{Call, Accepted, Clear, Reset}
-use Rattle.packet_layer.specs.Traffic.{says}
-use Rattle.packet_layer.specs.Channel.{Channel, Step, Request, Refusal, requested, refusal, refused_if, carried_out, unless, ended, entered}
-use Rattle.packet_layer.specs.Channel.CallState.{Transfer, OwnClear}
-use Rattle.packet_layer.specs.Channel.Request.{Accept, Clearing, Resetting, Sending, Interrupting, Stopping, Taking, Releasing, Confirming}
+use Rattle.packet_channel.specs.Packets.{CallParts, Body}
+use Rattle.packet_channel.specs.Packets.Body.{Call, Accepted, Clear, Reset}
+use Rattle.packet_channel.specs.Traffic.{says}
+use Rattle.packet_channel.specs.Channel.{Channel, Step, Request, Refusal, requested, refusal, refused_if, carried_out, unless, ended, entered}
+use Rattle.packet_channel.specs.Channel.CallState.{Transfer, OwnClear}
+use Rattle.packet_channel.specs.Channel.Request.{Accept, Clearing, Resetting, Sending, Interrupting, Stopping, Taking, Releasing, Confirming}
 use Rattle.packet_layer.specs.Layer.{placing}
 use Rattle.packet_laws.specs.History.{Epoch, History, requested_history, grown, grown_unless, opened, logged, next_use_of, next_epoch_of, placed, with_call, with_answer, call_accepted}
 use Rattle.packet_laws.proofs.Handshakes.Handshake.{Did, said, at, advanced, SaysPayload}

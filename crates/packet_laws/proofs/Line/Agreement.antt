@@ -3,12 +3,12 @@ use Rattle.std.proofs.Common.{◌≡◌, ℕ, ◌+◌, Bool, true, false, not, �
 use Rattle.link_timers.specs.declared.role.Role.{Role}
 use Rattle.link_timers.specs.declared.role.Role.TheVariants.{Dte, Dce}
 use Rattle.packet_channel.specs.declared.flow.Flow.{Flow}
-use Rattle.packet_layer.specs.Packets.{Body}
-use Rattle.packet_layer.specs.Packets.Body.{Call, Accepted, Clear, ClearConfirmation, Data, Interrupt, InterruptConfirmation, ReceiveReady, ReceiveNotReady, Reset, ResetConfirmation, Restart, RestartConfirmation}
-use Rattle.packet_layer.specs.Traffic.{Heard, hears}
-use Rattle.packet_layer.specs.Traffic.Heard.{Keeps, Confirms, Wrong}
-use Rattle.packet_layer.specs.Channel.{Channel, Step, received, after_heard}
-use Rattle.packet_layer.specs.Channel.CallState.{Transfer}
+use Rattle.packet_channel.specs.Packets.{Body}
+use Rattle.packet_channel.specs.Packets.Body.{Call, Accepted, Clear, ClearConfirmation, Data, Interrupt, InterruptConfirmation, ReceiveReady, ReceiveNotReady, Reset, ResetConfirmation, Restart, RestartConfirmation}
+use Rattle.packet_channel.specs.Traffic.{Heard, hears}
+use Rattle.packet_channel.specs.Traffic.Heard.{Keeps, Confirms, Wrong}
+use Rattle.packet_channel.specs.Channel.{Channel, Step, received, after_heard}
+use Rattle.packet_channel.specs.Channel.CallState.{Transfer}
 use Rattle.packet_laws.specs.History.{History, received_history, logged_heard, heard_history, opened, grown}
 use Rattle.packet_laws.specs.Law.{is_request}
 use Rattle.packet_laws.proofs.Handshakes.Handshake.{Kind, Did, at, advanced, reacted}

@@ -2,10 +2,10 @@
 use Rattle.std.proofs.Common.{◌≡◌, ℕ, Bool, true, false, ◌&&◌, ◌||◌, List, is_some, refl, sym, ap, subst, ◌∙◌}
 use Rattle.link_timers.specs.declared.role.Role.{Role}
 use Rattle.packet_channel.specs.declared.flow.Flow.{Flow}
-use Rattle.packet_layer.specs.Packets.{Body}
+use Rattle.packet_channel.specs.Packets.{Body}
 use Rattle.packet_laws.specs.History.{Epoch, History}
-use Rattle.packet_layer.specs.Channel.{Channel}
-use Rattle.packet_layer.specs.Channel.CallState.{Transfer}
+use Rattle.packet_channel.specs.Channel.{Channel}
+use Rattle.packet_channel.specs.Channel.CallState.{Transfer}
 use Rattle.packet_laws.specs.Line.{Line}
 use Rattle.packet_laws.specs.Law.{HasNoLogs, OneAnswers, IsAccepted}
 use Rattle.packet_laws.proofs.Handshakes.Handshake.{at, inner}

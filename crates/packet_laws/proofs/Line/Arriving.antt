@@ -5,9 +5,9 @@ use Rattle.std.proofs.lemmas.Option.{slice_get_within}
 use Rattle.link_timers.specs.declared.role.Role.{Role}
 use Rattle.link_timers.specs.Role.{other_of}
 use Rattle.packet_channel.specs.declared.flow.Flow.{Flow}
-use Rattle.packet_layer.specs.Packets.{Body, Packet, Received, Reason}
-use Rattle.packet_layer.specs.Packets.Body.{Restart, RestartConfirmation}
-use Rattle.packet_layer.specs.Channel.{Channel, Step, received, closed_channel}
+use Rattle.packet_channel.specs.Packets.{Body, Packet, Received, Reason}
+use Rattle.packet_channel.specs.Packets.Body.{Restart, RestartConfirmation}
+use Rattle.packet_channel.specs.Channel.{Channel, Step, received, closed_channel}
 use Rattle.packet_layer.specs.Layer.{Phase, Layer, channel_of, owing, on_found, on_channel, restart_packet, on_packet, unread, with_owed, passes_limit, owes_restart, all_closed}
 use Rattle.packet_layer.specs.Layer.Phase.{NoSession, OwnRestart, PacketReady}
 use Rattle.packet_laws.specs.History.{History, packet_history, restart_history, channel_history, received_history, found_history, next_restart_of}

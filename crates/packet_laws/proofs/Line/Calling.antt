@@ -3,9 +3,9 @@ use Rattle.std.proofs.Common.{◌≡◌, ℕ, suc, ◌<◌, ◌≤◌, Bool, tru
 use Rattle.std.proofs.lemmas.Bool.{eq-eqb, ne_eqb, cases_eq}
 use Rattle.link_timers.specs.declared.role.Role.{Role}
 use Rattle.packet_channel.specs.declared.flow.Flow.{Flow}
-use Rattle.packet_layer.specs.Packets.{CallParts, Body, Packet}
-use Rattle.packet_layer.specs.Packets.Body.{Call}
-use Rattle.packet_layer.specs.Channel.{Channel}
+use Rattle.packet_channel.specs.Packets.{CallParts, Body, Packet}
+use Rattle.packet_channel.specs.Packets.Body.{Call}
+use Rattle.packet_channel.specs.Channel.{Channel}
 use Rattle.packet_laws.specs.History.{Epoch, History}
 use Rattle.packet_laws.specs.Line.{Line}
 use Rattle.packet_laws.specs.Law.{CallArrives, CallKnown, TakesCall}

@@ -2,9 +2,9 @@
 use Rattle.std.proofs.Common.{◌≡◌, ℕ, suc, ◌+◌, ◌≤◌, Bool, true, false, cond, ◌||◌, ◌==◌, List, ◌∷◌, ◌++◌, drop, Option, Some, refl, sym, ap, subst, ◌∙◌, arith}
 use Rattle.std.proofs.lemmas.Bool.{eq-eqb}
 use Rattle.link_timers.specs.declared.role.Role.{Role}
-use Rattle.packet_layer.specs.Packets.{Body, Packet}
-use Rattle.packet_layer.specs.Packets.Body.{RestartConfirmation}
-use Rattle.packet_layer.specs.Channel.{Channel, received}
+use Rattle.packet_channel.specs.Packets.{Body, Packet}
+use Rattle.packet_channel.specs.Packets.Body.{RestartConfirmation}
+use Rattle.packet_channel.specs.Channel.{Channel, received}
 use Rattle.packet_layer.specs.Layer.{Phase, Layer, channel_of}
 use Rattle.packet_laws.specs.History.{Epoch, History}
 use Rattle.packet_laws.specs.Line.{Line, next_of_session, turned}

@@ -5,8 +5,8 @@ use Rattle.link_timers.specs.declared.role.Role.{Role}
 use Rattle.link_timers.specs.declared.role.Role.TheVariants.{Dte, Dce}
 use Rattle.link_timers.specs.Role.{other_of}
 use Rattle.packet_channel.specs.declared.flow.Flow.{Flow}
-use Rattle.packet_layer.specs.Packets.{Packet}
-use Rattle.packet_layer.specs.Channel.{Channel, closed_channel, requested}
+use Rattle.packet_channel.specs.Packets.{Packet}
+use Rattle.packet_channel.specs.Channel.{Channel, closed_channel, requested}
 use Rattle.packet_layer.specs.Layer.Phase.{NoSession, OwnRestart, PacketReady}
 use Rattle.packet_layer.specs.Layer.{Phase, Layer, nth_channel, channel_of, channel_given, standing_channels}
 use Rattle.packet_laws.specs.Line.{End, Line, Event, Happening, turned, happens, after_one, after, start_line, may_begin, begun, offers, accepts, arrives_in, next_of_session}

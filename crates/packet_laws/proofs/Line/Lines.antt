@@ -5,9 +5,9 @@ use Rattle.std.proofs.lemmas.Bool.{eq-eqb, cases_eq}
 use Rattle.link_timers.specs.declared.role.Role.{Role}
 use Rattle.link_timers.specs.Role.{other_of}
 use Rattle.packet_channel.specs.declared.flow.Flow.{Flow}
-use Rattle.packet_layer.specs.Packets.{Body, Packet}
-use Rattle.packet_layer.specs.Packets.Body.{Restart, RestartConfirmation}
-use Rattle.packet_layer.specs.Channel.{Channel}
+use Rattle.packet_channel.specs.Packets.{Body, Packet}
+use Rattle.packet_channel.specs.Packets.Body.{Restart, RestartConfirmation}
+use Rattle.packet_channel.specs.Channel.{Channel}
 use Rattle.packet_layer.specs.Layer.{Layer, nth_channel, channel_of, with_nth, with_owed, passes_limit, is_full, set_if}
 use Rattle.packet_laws.specs.History.{History}
 use Rattle.packet_laws.specs.Line.{End, Line}
@@ -83,9 +83,6 @@ pub record Tied (flow : Flow) (role : Role) (w : Line) (s c : ℕ) : Type 0 wher
   pub yours : EndTie flow (other_of role) w.you (w.me.accepted s) s c y b
 
 -- ---- channels by number
-
-some_channel : Channel → Option Channel
-some_channel ch = Some ch
 
 set_same : (chs : List Channel) (i : ℕ) (ch ch' : Channel) → slice_get chs i ≡ Some ch → slice_get (set chs i ch') i ≡ Some ch'
 set_same [] i ch ch' e = absurd cc

@@ -4,9 +4,9 @@ use Rattle.std.proofs.lemmas.Bool.{eq-eqb, ne_eqb, eqb-true, cases_eq}
 use Rattle.link_timers.specs.declared.role.Role.{Role}
 use Rattle.link_timers.specs.Role.{other_of}
 use Rattle.packet_channel.specs.declared.flow.Flow.{Flow}
-use Rattle.packet_layer.specs.Packets.{CallParts, Body, Packet}
-use Rattle.packet_layer.specs.Packets.Body.{Restart}
-use Rattle.packet_layer.specs.Channel.{Channel, Step, Request, closed_channel, requested, clear_error}
+use Rattle.packet_channel.specs.Packets.{CallParts, Body, Packet}
+use Rattle.packet_channel.specs.Packets.Body.{Restart}
+use Rattle.packet_channel.specs.Channel.{Channel, Step, Request, closed_channel, requested, clear_error}
 use Rattle.packet_layer.specs.Layer as layer
 use Rattle.packet_layer.specs.Layer.{Layer, Timer, channel_of, with_nth, on_found, call, placed_on, channel_given, request, on_timer, expired, unread, runs, link_down, start_cause}
 use Rattle.packet_layer.specs.Layer.Timer.{RestartTimer, CallTimer, ResetTimer, ClearTimer}

@@ -4,9 +4,9 @@ use Rattle.std.proofs.lemmas.Bool.{ne_eqb, cases_eq}
 use Rattle.std.proofs.lemmas.List.{drop-append-le}
 use Rattle.link_timers.specs.declared.role.Role.{Role}
 use Rattle.packet_channel.specs.declared.flow.Flow.{Flow}
-use Rattle.packet_layer.specs.Packets.{Body, Packet}
-use Rattle.packet_layer.specs.Traffic.{says}
-use Rattle.packet_layer.specs.Channel.{Channel, has_flow, moved}
+use Rattle.packet_channel.specs.Packets.{Body, Packet}
+use Rattle.packet_channel.specs.Traffic.{says}
+use Rattle.packet_channel.specs.Channel.{Channel, has_flow, moved}
 use Rattle.packet_layer.specs.Layer.{Phase, Layer, Next, ChannelNext, channel_of, with_nth, next_packet, next_in, next_restart, serve, serve_found, next_of, next_owed, next_number, packet_of}
 use Rattle.packet_layer.specs.Layer.Phase.{NoSession, OwnRestart, PacketReady}
 use Rattle.packet_laws.specs.Line.{Line, happens, handed_over, offers}
@@ -193,9 +193,6 @@ says_any flow role false false (Open m) true n e owed = absurd (true≢false (sy
 says_any flow role false false _ rs n e owed = absurd (true≢false (sym e))
 says_any flow role false true s rs n e owed = absurd (true≢false (sym e))
 says_any flow role true own s rs n e owed = absurd (true≢false (sym e))
-
-some_body : (a b : Body) → Some a ≡ Some b → a ≡ b
-some_body a b e = cc
 
 flow_or_none : (b : Bool) (x y : ChannelNext) (q : Body) → y.body ≡ None → (cond b x y).body ≡ Some q → (b ≡ true) × (cond b x y ≡ x)
 flow_or_none true x y q n e = (refl, refl)

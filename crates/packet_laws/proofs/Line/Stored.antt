@@ -3,13 +3,13 @@
 use Rattle.std.proofs.Common.{◌≡◌, ℕ, suc, ◌+◌, ◌<◌, Bool, true, false, cond, ◌&&◌, ◌==◌, List, refl, sym, ap, subst, ◌∙◌, arith, Option, Some, None}
 use Rattle.link_timers.specs.declared.role.Role.{Role}
 use Rattle.packet_channel.specs.declared.flow.Flow.{Flow}
-use Rattle.packet_layer.specs.Packets.{CallParts, Body}
-use Rattle.packet_layer.specs.Traffic.{Traffic, Taken, Heard, fresh, front, may_release}
-use Rattle.packet_layer.specs.Channel.{CallState, Channel, Request}
-use Rattle.packet_layer.specs.Channel.CallState.{Ready, OwnWaiting, FarWaiting, Transfer, Collision, OwnClear}
+use Rattle.packet_channel.specs.Packets.{CallParts, Body}
+use Rattle.packet_channel.specs.Traffic.{Traffic, Taken, Heard, fresh, front, may_release}
+use Rattle.packet_channel.specs.Channel.{CallState, Channel, Request}
+use Rattle.packet_channel.specs.Channel.CallState.{Ready, OwnWaiting, FarWaiting, Transfer, Collision, OwnClear}
 use Rattle.packet_layer.specs.Layer.{Phase}
 use Rattle.packet_layer.specs.Layer.Phase.{OwnRestart, PacketReady}
-use Rattle.packet_laws.specs.History.{Epoch, History, is_now, grown, next_restart_of, next_use_of, next_epoch_of, in_whole_use, is_use, with_taken, logged, logged_heard}
+use Rattle.packet_laws.specs.History.{Epoch, History, is_now, grown, next_restart_of, next_epoch_of, in_whole_use, is_use, with_taken, logged, logged_heard}
 use Rattle.packet_laws.proofs.Handshakes.Handshake.{at, inner, advanced}
 use Rattle.packet_laws.proofs.Handshakes.Keeping.{same, at_next}
 use Rattle.packet_laws.proofs.Call.SetUp.{Stage, Idle, answers}
@@ -188,18 +188,6 @@ restart_history_tie own n st l t = record {
 
 pub use_epochs : (own : Bool) (n : Whole) → Laters n → (u g : ℕ) → look (at (advanced first_call own n.now) u) g ≡ look (at n.now u) g
 use_epochs own n l u g = ap (λ (v : CallUse). look v g) (at_next CallUse first_call own n.now u l.later_uses)
-
-pub use_history_tie : (own : Bool) (n n' : Whole) (st : History) → n'.number ≡ n.number → n'.now ≡ advanced first_call own n.now → n'.past ≡ n.past → Laters n → HistoryTie n st → HistoryTie n' (next_use_of st)
-use_history_tie own n n' st a b p l t = record {
-  restart_is = t.restart_is ∙ sym a;
-  use_is = (let e = t.use_is in let z : st.use_ + 1 ≡ suc n.now.number = omega arith in z) ∙ sym (ap (λ (s : Uses). s.number) b);
-  epoch_is = sym (ap (λ (s : Uses). s.now.call.number) b);
-  epochs_are = λ r u g. t.epochs_are r u g
-      ∙ sym (through_whole (r == n.number) n.now (advanced first_call own n.now) (n.past r) u g (use_epochs own n l u g))
-      ∙ ap (λ (s : Uses). look (at (cond (r == n.number) s (n.past r)) u) g) (sym b)
-      ∙ ap (λ (q : ℕ → Uses). look (at (cond (r == n.number) n'.now (q r)) u) g) (sym p)
-      ∙ ap (λ (k : ℕ). look (at (cond (r == k) n'.now (n'.past r)) u) g) (sym a);
-}
 
 pub next_epoch_tie : (n n' : Whole) (st : History) → n'.number ≡ n.number → n'.now.number ≡ n.now.number → n'.now.now.call.number ≡ suc n.now.now.call.number
     → ((r u g : ℕ) → epoch_in n' r u g ≡ epoch_in n r u g) → HistoryTie n st → HistoryTie n' (next_epoch_of st)

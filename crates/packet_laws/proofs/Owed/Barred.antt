@@ -4,10 +4,10 @@ use Rattle.link_timers.specs.declared.role.Role.{Role}
 use Rattle.link_timers.specs.declared.role.Role.TheVariants.{Dte, Dce}
 use Rattle.link_timers.specs.Role.{other_of}
 use Rattle.packet_channel.specs.declared.flow.Flow.{Flow}
-use Rattle.packet_layer.specs.Packets.{CallParts, Body}
-use Rattle.packet_layer.specs.Packets.Body.{Call, Accepted, Clear, ClearConfirmation, Data, Interrupt, InterruptConfirmation, ReceiveReady, ReceiveNotReady, Reset, ResetConfirmation, Restart, RestartConfirmation}
-use Rattle.packet_layer.specs.Channel.{CallState}
-use Rattle.packet_layer.specs.Channel.CallState.{Transfer}
+use Rattle.packet_channel.specs.Packets.{CallParts, Body}
+use Rattle.packet_channel.specs.Packets.Body.{Call, Accepted, Clear, ClearConfirmation, Data, Interrupt, InterruptConfirmation, ReceiveReady, ReceiveNotReady, Reset, ResetConfirmation, Restart, RestartConfirmation}
+use Rattle.packet_channel.specs.Channel.{CallState}
+use Rattle.packet_channel.specs.Channel.CallState.{Transfer}
 use Rattle.packet_laws.proofs.Handshakes.Handshake.{Kind, AllPayload}
 use Rattle.packet_laws.proofs.Handshakes.Handshake.Kind.{Payload, Request, Confirmation}
 use Rattle.packet_laws.proofs.Call.SetUp.{Stage, Sort, sort, Pair, Passes, Path, Idle, flows}

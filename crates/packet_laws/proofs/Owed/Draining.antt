@@ -3,10 +3,10 @@
 use Rattle.std.proofs.Common.{◌≡◌, ℕ, Bool, true, false, not, List, [], ◌∷◌, ◌++◌, Option, Some, None, refl, sym, subst, append-nil, arith}
 use Rattle.link_timers.specs.declared.role.Role.{Role}
 use Rattle.packet_channel.specs.declared.flow.Flow.{Flow}
-use Rattle.packet_layer.specs.Packets.{Body}
-use Rattle.packet_layer.specs.Packets.Body.{Restart, RestartConfirmation}
-use Rattle.packet_layer.specs.Channel.{CallState, Channel, Step, received}
-use Rattle.packet_layer.specs.Channel.CallState.{Ready}
+use Rattle.packet_channel.specs.Packets.{Body}
+use Rattle.packet_channel.specs.Packets.Body.{Restart, RestartConfirmation}
+use Rattle.packet_channel.specs.Channel.{CallState, Channel, Step, received}
+use Rattle.packet_channel.specs.Channel.CallState.{Ready}
 use Rattle.packet_laws.proofs.Handshakes.Handshake.{said, advanced, confirmed_side, AllPayload, SaysPayload}
 use Rattle.packet_laws.proofs.Handshakes.Handshake.Kind.{Payload}
 use Rattle.packet_laws.proofs.Call.Levels.{restart_kind, Uses, Whole, first_use, GoodWhole, whole_hears, whole_heard, whole_learns}

@@ -3,10 +3,10 @@ use Rattle.std.proofs.Common.{◌≡◌, ℕ, ◌≤◌, Bool, true, false, cond
 use Rattle.std.proofs.lemmas.Bool.{ne_eqb, cases_eq}
 use Rattle.link_timers.specs.declared.role.Role.{Role}
 use Rattle.packet_channel.specs.declared.flow.Flow.{Flow}
-use Rattle.packet_layer.specs.Packets.{Body, Packet}
-use Rattle.packet_layer.specs.Traffic.{says}
-use Rattle.packet_layer.specs.Channel.{CallState, Channel, has_flow, moved}
-use Rattle.packet_layer.specs.Channel.CallState.{Ready, OwnWaiting, FarWaiting, Transfer, Collision, OwnClear}
+use Rattle.packet_channel.specs.Packets.{Body, Packet}
+use Rattle.packet_channel.specs.Traffic.{says}
+use Rattle.packet_channel.specs.Channel.{CallState, Channel, has_flow, moved}
+use Rattle.packet_channel.specs.Channel.CallState.{Ready, OwnWaiting, FarWaiting, Transfer, Collision, OwnClear}
 use Rattle.packet_layer.specs.Layer.{Layer, Next, ChannelNext, channel_of, with_nth, next_packet, next_of, next_owed, packet_of}
 use Rattle.packet_laws.proofs.Handshakes.Handshake.{Kind}
 use Rattle.packet_laws.proofs.Handshakes.Handshake.Kind.{Payload, Request, Confirmation}

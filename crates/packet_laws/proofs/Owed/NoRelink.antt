@@ -3,10 +3,10 @@ use Rattle.std.proofs.Common.{◌≡◌, ℕ, ◌≤◌, Bool, true, false, cond
 use Rattle.link_timers.specs.declared.role.Role.{Role}
 use Rattle.link_timers.specs.Role.{other_of}
 use Rattle.packet_channel.specs.declared.flow.Flow.{Flow}
-use Rattle.packet_layer.specs.Packets.{Body}
-use Rattle.packet_layer.specs.Packets.Body.{Restart, RestartConfirmation}
-use Rattle.packet_layer.specs.Channel.{CallState, Channel}
-use Rattle.packet_layer.specs.Channel.CallState.{Ready}
+use Rattle.packet_channel.specs.Packets.{Body}
+use Rattle.packet_channel.specs.Packets.Body.{Restart, RestartConfirmation}
+use Rattle.packet_channel.specs.Channel.{CallState, Channel}
+use Rattle.packet_channel.specs.Channel.CallState.{Ready}
 use Rattle.packet_layer.specs.Layer.{Phase, channel_of}
 use Rattle.packet_layer.specs.Layer.Phase.{NoSession}
 use Rattle.packet_laws.specs.Line.{End, Line, turned, is_session}

@@ -3,12 +3,12 @@ use Rattle.std.proofs.Common.{◌≡◌, ℕ, ◌+◌, ◌≤◌, ◌⊎◌, Boo
 use Rattle.link_timers.specs.declared.role.Role.{Role}
 use Rattle.link_timers.specs.declared.role.Role.TheVariants.{Dte, Dce}
 use Rattle.packet_channel.specs.declared.flow.Flow.{Flow}
-use Rattle.packet_layer.specs.Packets.{CallParts, Body}
-use Rattle.packet_layer.specs.Packets.Body.{Call, Accepted, Clear, Reset}
-use Rattle.packet_layer.specs.Traffic.{Traffic}
-use Rattle.packet_layer.specs.Channel.{CallState, Step, Request, Refusal, requested, refusal, unless, quiet, moved, clear_error}
-use Rattle.packet_layer.specs.Channel.CallState.{Ready, OwnWaiting, FarWaiting, Transfer, Collision, OwnClear}
-use Rattle.packet_layer.specs.Channel.Request.{Accept, Clearing, Resetting, Sending, Interrupting, Stopping, Taking, Releasing, Confirming}
+use Rattle.packet_channel.specs.Packets.{CallParts, Body}
+use Rattle.packet_channel.specs.Packets.Body.{Call, Accepted, Clear, Reset}
+use Rattle.packet_channel.specs.Traffic.{Traffic}
+use Rattle.packet_channel.specs.Channel.{CallState, Step, Request, Refusal, requested, refusal, unless, quiet, moved, clear_error}
+use Rattle.packet_channel.specs.Channel.CallState.{Ready, OwnWaiting, FarWaiting, Transfer, Collision, OwnClear}
+use Rattle.packet_channel.specs.Channel.Request.{Accept, Clearing, Resetting, Sending, Interrupting, Stopping, Taking, Releasing, Confirming}
 use Rattle.packet_layer.specs.Layer.{placing}
 use Rattle.packet_laws.proofs.Handshakes.Handshake.{said}
 use Rattle.packet_laws.proofs.Owed.MayCome.{resets, AllCome, Placing, Fits, few_three, longer_by, none_in, resets_push}

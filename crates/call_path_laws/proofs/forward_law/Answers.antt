@@ -1,5 +1,0 @@
-use Rattle.call_path_laws.proofs.Forwarding.{made_handed_on, stays_handed_on, relayed_joins}
-use Rattle.call_path_laws.proofs.forward_law.Goals as goal
-
-pub returns : goal.returns
-returns c = record { made = made_handed_on; events = stays_handed_on; joins = relayed_joins }

@@ -1,5 +1,0 @@
-use Rattle.call_path_laws.proofs.OwnAddresses.{made_owns, written_owns, handed_owns, own_run}
-use Rattle.call_path_laws.proofs.own_address_law.Goals as goal
-
-pub returns : goal.returns
-returns c = record { made = made_owns; writes = written_owns; handed_on = handed_owns; run = own_run }

@@ -1,5 +1,0 @@
-pub mod Channels
-mod Saying
-mod Growing
-pub mod Layers
-pub mod Runs

@@ -1,5 +1,0 @@
-use Rattle.line_laws.proofs.Holding.{act_steps, loses_joint, line_ends_hold}
-use Rattle.line_laws.proofs.line_ends_law.Goals as goal
-
-pub returns : goal.returns
-returns c = record { law = line_ends_hold; acts = act_steps; losses = loses_joint }

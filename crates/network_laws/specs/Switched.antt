@@ -1,0 +1,9 @@
+pub mod Plans
+pub mod IsSwitched
+pub mod Histories
+pub mod Promise
+pub mod Rest
+pub mod Laws
+pub mod Run
+pub mod TrunkRun
+pub mod Idle

@@ -1,0 +1,5 @@
+pub mod Channels
+pub mod Saying
+pub mod Growing
+pub mod Layers
+pub mod Runs

@@ -1,0 +1,6 @@
+pub mod Channels
+pub mod Calls
+pub mod Resets
+pub mod Acts
+pub mod Restarts
+pub mod Holds

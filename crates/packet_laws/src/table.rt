@@ -1,0 +1,26 @@
+//! The law of the packet layer and the state tables.
+ghost use Rattle.packet_laws.specs.Tables.Clauses.{EachPacket, CallPackets, DataPackets, CallsPlaced, CallActs, ResetPackets};
+ghost use Rattle.packet_laws.specs.Tables.Clauses.{ResetActs, RestartPackets, RestartUnreadable};
+
+/// The machine of a packet layer, which knows own and far states, does what the state tables say, whose states go by
+/// role: in each state and for each packet and act of the user for which a table has a row it comes to the state of the
+/// row, owes its packet and tells what its note says (X.25 Annex C, tables C-2 to C-4).
+pub fn tables_law()
+    // Each packet on a channel meets a row of the call table.
+    ensures each_packet { EachPacket }
+
+    // In data transfer the row of the reset table is followed; where there is none, that of the call table; and where
+    // this says so, numbers and interrupts decide.
+    ensures reset_packets { ResetPackets }
+    ensures call_packets { CallPackets }
+    ensures data_packets { DataPackets }
+
+    // What the user does.
+    ensures calls_placed { CallsPlaced }
+    ensures call_acts { CallActs }
+    ensures reset_acts { ResetActs }
+
+    // While the own restart is not confirmed, what cannot be read is discarded too.
+    ensures restart_packets { RestartPackets }
+    ensures restart_unreadable { RestartUnreadable }
+{}

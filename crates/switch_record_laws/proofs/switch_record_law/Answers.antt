@@ -1,5 +1,0 @@
-use Rattle.switch_record_laws.proofs.Turning.{frame_goes, timer_goes, relink_goes, elapse_goes, restarts}
-use Rattle.switch_record_laws.proofs.switch_record_law.Goals as goal
-
-pub returns : goal.returns
-returns c = record { frames = frame_goes; timers = timer_goes; relinks = relink_goes; elapses = elapse_goes; restarts = restarts }

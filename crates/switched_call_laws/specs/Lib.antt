@@ -1,0 +1,4 @@
+pub mod SwitchRecords
+pub mod JoinedCalls
+pub mod QuietSwitches
+pub mod SwitchPaths

@@ -1,0 +1,12 @@
+pub mod Records
+pub mod Written
+pub mod Turned
+pub mod Relayed
+pub mod Rests
+pub mod Joined
+pub mod Opened
+pub mod Kept
+pub mod Tied
+pub mod DueTimers
+pub mod Law
+pub mod Run

@@ -1,6 +1,0 @@
-mod Channels
-mod Calls
-mod Resets
-mod Acts
-mod Restarts
-mod Holds

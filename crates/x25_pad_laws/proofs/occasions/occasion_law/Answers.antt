@@ -1,6 +1,0 @@
--- The law of what a PAD says of itself.
-use Rattle.x25_pad_laws.proofs.Holding.{occasions_grow, course_is, told_of_pad}
-use Rattle.x25_pad_laws.proofs.occasions.occasion_law.Goals as goal
-
-pub returns : goal.returns
-returns c = record { event = occasions_grow; course = course_is; of_pad = told_of_pad }

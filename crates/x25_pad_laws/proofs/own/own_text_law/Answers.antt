@@ -1,7 +1,0 @@
--- The law of what a terminal shows.
-use Rattle.x25_pad_laws.proofs.Owning.{own_packet, own_text, others_stay, learns_own}
-use Rattle.x25_pad_laws.proofs.Noting.{own_notes}
-use Rattle.x25_pad_laws.proofs.own.own_text_law.Goals as goal
-
-pub returns : goal.returns
-returns c = record { packets = own_packet; texts = own_text; others = others_stay; learns = learns_own; notes = own_notes }
