@@ -29,8 +29,8 @@ pub fn prints_nothing(event: &Event, outcome: &Outcome) -> bool
     }
 }
 
-/// Adds the text of an answer, by the names of the network's nodes: the lines of its frames, if they are traced, of what
-/// a host noted, and of its outcome.
+/// Adds the text of an answer, by the names of the network's nodes: the lines of its frames, if they are traced, of
+/// what a host noted, and of its outcome. For want of memory it is refused; some of the text may then have been added.
 pub fn add_answer(
     text: &mut Vec<u8>,
     names: &[String],

@@ -12,7 +12,7 @@ use std::alloc::{AllocError, Global};
 /// Reads the words of a command line, without the program's name: none for the built-in network with the script on
 /// standard input, or `sim` or `run` with `--net FILE` and `--script FILE`, in either order.
 ///
-/// `BadWords` where the words are anything else, a call for help among them; `OutOfMemory` where no memory was left.
+/// `BadWords` if the words are anything else, a call for help among them; `OutOfMemory` if no memory was left.
 pub fn read_words<'a>(
     alloc: Global,
     words: &'a [String],

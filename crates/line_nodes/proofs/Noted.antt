@@ -5,11 +5,11 @@ use Rattle.link_timers.specs.declared.role.Role.{Role}
 use Rattle.link_timers.specs.declared.timers.TimerId.{TimerId}
 use Rattle.link_timers.specs.declared.timers.TimerId.TheVariants as timer
 use Rattle.packet_end.specs.PacketEnd.{PacketEnd, begun, finished, after_timer, runs_at}
-use Rattle.pad_records.specs.Notes.{ChannelNote}
-use Rattle.pad_records.specs.Pad as pad
-use Rattle.pad_records.specs.Pad.{PadState}
+use Rattle.x25_pad.specs.Notes.{ChannelNote}
+use Rattle.x25_pad.specs.Pad as pad
+use Rattle.x25_pad.specs.Pad.{PadState}
 use Rattle.call_records.specs.Book.{Book}
-use Rattle.pad_records.specs.Writing as records
+use Rattle.line_nodes.specs.PadWriting as records
 use Rattle.line_nodes.specs.Node.{NodeState, Pad, Host, end_of, pad_notes}
 use Rattle.line_nodes.specs.NodeEvents.{expired}
 use Rattle.line_nodes.specs.Turn.{told, unchanged}

@@ -1,15 +1,9 @@
 -- Notes that are read one by one: what each opens, and what is listed of it.
-use Rattle.std.proofs.Common.{◌≡◌, ◌≤◌, ℕ, List, [], ◌∷◌, drop, ap, refl, arith}
-use Rattle.std.specs.Prelude.{Some, None, IsTrue, slice_get}
-use Rattle.packet_layer.specs.Packets.{Note}
-use Rattle.packet_layer.specs.Packets.Note.{Incoming, Connected, Closed, WasReset, InterruptConfirmed, Covered}
+use Rattle.std.proofs.Common.{◌≡◌, ◌≤◌, ℕ, List, [], ◌∷◌, refl, arith}
+use Rattle.std.specs.Prelude.{None, IsTrue, slice_get}
+use Rattle.packet_channel.specs.Packets.{Note}
+use Rattle.packet_channel.specs.Packets.Note.{Incoming, Connected, Closed, WasReset, InterruptConfirmed, Covered}
 use Rattle.call_records.specs.Room.{opens, room_after, opening_notes}
-
-pub first_read : (notes : List Note) (n : Note) → Some n ≡ slice_get notes 0 → notes ≡ n ∷ drop 1 notes
-first_read [] n at = absurd (cc)
-first_read (x ∷ xs) n at =
-    let same : x ≡ n = cc in
-    ap (λ (z : Note). z ∷ xs) same
 
 pub none_read : (notes : List Note) → None ≡ slice_get notes 0 → notes ≡ []
 none_read [] at = refl

@@ -4,10 +4,6 @@ use Rattle.packet_channel.specs.Flow.{is_size}
 use Rattle.packet_channel.proofs.Pieces.{by_size}
 use Rattle.call_records.specs.Packets.{places_of}
 
--- a packet takes no more than the octets of which it is the first part
-pub front_places : (size : ℕ) (octets : List ℕ) (room : ℕ) → places_of octets ≤ room → places_of (take size octets) ≤ room
-front_places size octets room fits = omega (arith, fits, length-take size octets)
-
 -- and leaves room for the others
 pub places_left : (size : ℕ) (octets : List ℕ) (room : ℕ) → is_size size ≡ true → size < length octets →
     places_of octets ≤ room → places_of (drop size octets) ≤ room - places_of (take size octets)

@@ -7,3 +7,5 @@ pub mod Writing
 pub mod HostTurns
 pub mod Terminals
 pub mod LineTurns
+pub mod PadWriting
+pub mod PadRoom

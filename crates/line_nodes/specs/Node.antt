@@ -2,13 +2,13 @@
 use Rattle.std.specs.Prelude.{ℕ, Bool, true, false, List, [], Option}
 use Rattle.link_timers.specs.declared.timers.TimerId.{TimerId}
 use Rattle.packet_layer.specs.Layer.{confirmed}
-use Rattle.packet_end.specs.End.{without_frames}
+use Rattle.line_end.specs.End.{without_frames}
 use Rattle.packet_end.specs.PacketEnd as end
 use Rattle.packet_end.specs.PacketEnd.{Octets, PacketEnd, at_rest}
-use Rattle.pad_records.specs.Notes.{ChannelNote}
-use Rattle.pad_records.specs.Pad as pad
-use Rattle.pad_records.specs.Pad.{PadState}
-use Rattle.pad_records.specs.Writing as records
+use Rattle.x25_pad.specs.Notes.{ChannelNote}
+use Rattle.x25_pad.specs.Pad as pad
+use Rattle.x25_pad.specs.Pad.{PadState}
+use Rattle.line_nodes.specs.PadWriting as records
 
 pub data NodeState : Type 0 where
   Pad : PadState → NodeState

@@ -3,7 +3,7 @@ use Rattle.std.specs.Prelude.{ℕ, Bool, List}
 use Rattle.link_timers.specs.declared.timers.TimerId.{TimerId}
 use Rattle.packet_end.specs.PacketEnd as end
 use Rattle.packet_host.specs.Host as host
-use Rattle.pad_records.specs.Pad as pad
+use Rattle.x25_pad.specs.Pad as pad
 use Rattle.line_nodes.specs.Node.{NodeState, Pad, Host}
 
 -- a frame arrives

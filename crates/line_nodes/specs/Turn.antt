@@ -1,11 +1,11 @@
 -- What an event makes of a node and of the book of its line.
 use Rattle.std.specs.Prelude.{List, []}
 use Rattle.link_timers.specs.declared.role.Role.{Role}
-use Rattle.packet_layer.specs.Packets.{Note}
+use Rattle.packet_channel.specs.Packets.{Note}
 use Rattle.call_records.specs.Book.{Book, all_told}
 use Rattle.call_records.specs.Writes.{all_written}
 pub use Rattle.call_records.specs.Writes.{all_sent}
-use Rattle.pad_records.specs.Writing.{writes_of}
+use Rattle.line_nodes.specs.PadWriting.{writes_of}
 use Rattle.line_nodes.specs.Node.{NodeState, Pad, Host, without_notes}
 
 -- the node with the frames that wait and with all notes read, the book with all that was written, and the notes that

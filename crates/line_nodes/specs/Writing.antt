@@ -8,7 +8,7 @@ use Rattle.packet_host.specs.declared.request.HostRequest.TheVariants.{Answer, R
 use Rattle.packet_host.specs.declared.request.HostRequest.TheVariants.{Stop, Go}
 use Rattle.call_records.specs.Book.{Book, answers, closes, renews, interrupts}
 use Rattle.call_records.specs.Room.{opening_notes}
-use Rattle.pad_records.specs.Room.{HaveRoom}
+use Rattle.line_nodes.specs.PadRoom.{HaveRoom}
 use Rattle.line_nodes.specs.Node.{NodeState, Pad, Host}
 use Rattle.line_nodes.specs.Turn.{all_sent}
 

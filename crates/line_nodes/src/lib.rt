@@ -5,6 +5,7 @@ mod attachment;
 mod fault;
 mod node;
 mod note;
+mod pad_notes;
 mod terminal;
 mod writing;
 
@@ -12,6 +13,6 @@ pub use attachment::Attachment;
 pub use fault::NodeFault;
 pub use node::Node;
 pub use note::{HostNote, NoteKind};
-pub use pad_records::write_taken;
+pub use pad_notes::{write_pad_note, write_pad_notes, write_taken};
 pub use terminal::TerminalEvent;
 pub use writing::{write_notes, write_request};

@@ -10,7 +10,7 @@ ghost use Rattle.line_nodes.specs.NodeEvents.{heard, node_runs, expired, relinke
 use link_timers::TimerId;
 use packet_end::{FrameBuf, MOST_FRAMES};
 use packet_host::Host;
-use pad_records::Pad;
+use x25_pad::Pad;
 
 /// A node at an end of a line. Frames that were not taken by `out`, and notes that were not read, are gone when the
 /// next event begins.
@@ -31,8 +31,8 @@ impl Node {
         }
     }
 
-    /// Takes an expiry of a timer of the line, or at a PAD of a terminal's idle timer, and answers whether it ran.
-    /// Where it did not nothing happens.
+    /// Takes an expiry of a timer of the line, or at a PAD of a terminal's idle timer, and answers whether it ran. If
+    /// it did not, nothing happens.
     pub fn on_timer(&mut self, id: TimerId) -> bool
         ensures ran { result ≡ node_runs (node_of self.old) id }
         ensures node { node_of self.new ≡ expired (node_of self.old) id }
@@ -53,7 +53,7 @@ impl Node {
         }
     }
 
-    /// Begins anew: its calls are over for it, and nobody is told.
+    /// Restarts: its calls are over for it, and nobody is told.
     pub fn restart(&mut self)
         ensures { node_of self.new ≡ restarted (node_of self.old) }
     {
@@ -63,7 +63,7 @@ impl Node {
         }
     }
 
-    /// Takes the next frame that goes out, if there is one. Where there is none `frame` stays.
+    /// Takes the next frame that goes out, if there is one. If there is none, `frame` stays as it is.
     pub fn out(&mut self, frame: &mut FrameBuf) -> bool
         ensures frame { OnTrue result (frames_of (node_of self.old) ≡ frame.new ∷ frames_of (node_of self.new)) }
         ensures nothing { OnFalse result (frames_of (node_of self.old) ≡ []) }

@@ -1,6 +1,6 @@
 //! What a host is told of its calls.
 ghost use Rattle.std.specs.Prelude.{◌≡◌, ◌<◌, ◌++◌, vec_len, vec_capacity};
-ghost use Rattle.packet_layer.specs.NoteView.{note_of};
+ghost use Rattle.packet_channel.specs.NoteView.{note_of};
 ghost use Rattle.line_nodes.specs.Notes.{host_note};
 
 use call_records::calling_of;

@@ -7,7 +7,7 @@ pub enum TerminalEvent {
     Key(u8),
     /// A break (X.3 3.7).
     Break,
-    /// The end of the idle time (X.3 3.4). Where the idle timer does not run nothing happens.
+    /// The end of the idle time (X.3 3.4). If the idle timer does not run, nothing happens.
     Idle,
     /// What waits at the terminal is shown, and then what comes next on its call.
     Print,

@@ -14,6 +14,7 @@ ghost use Rattle.line_nodes.specs.Writing.{request_written, IsShort, IsRoomFor};
 use crate::attachment::Attachment;
 use crate::node::Node;
 use crate::note::{HostNote, list_note};
+use crate::pad_notes::write_pad_notes;
 use call_records::{Book, Packet};
 use link_timers::Role;
 use packet_channel::full_packets;
@@ -62,7 +63,7 @@ pub fn write_notes(node: &mut Node, at: Attachment, book: &mut Book, notes: &mut
     ensures notes { notes.new.items ≡ host_notes at.node (told at.role (node_of node.old) book.old.book).notes }
 {
     match node {
-        Node::Pad(pad) => pad_records::write_notes(pad, at.role, book),
+        Node::Pad(pad) => write_pad_notes(pad, at.role, book),
         Node::Host(host) => {
             if host.waiting_notes() > 0 {
                 write_host_notes(host, at, book, notes);

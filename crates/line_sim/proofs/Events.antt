@@ -10,7 +10,8 @@ use Rattle.net_events.specs.AtSwitch as switch_event
 use Rattle.net_events.specs.NodeEvents.{NodeEvent, Hears, Expires, Relinks, Restarts, Calls, Takes}
 use Rattle.net_events.specs.NodeEvents as node_event
 use Rattle.net_events.specs.Network.{Network, HappenedAt, LostAt, all_elapsed}
-use Rattle.net_events.specs.Opening.{NetPlan, IsPlan, IsMade}
+use Rattle.net_config.specs.NetPlan.{NetPlan, IsPlan}
+use Rattle.net_events.specs.Opening.{IsMade}
 use Rattle.net_events.specs.EventView.{request_event}
 use Rattle.net_events.specs.declared.answer.Answer.{Answer}
 use Rattle.net_events.specs.declared.event.Event.{Event}
@@ -20,9 +21,9 @@ use Rattle.net_events.specs.declared.event.Event.TheVariants.{Restart}
 use Rattle.net_events.specs.declared.event.StepFault.{StepFault}
 use Rattle.net_nodes.specs.Steps.{AtNode, DeliverStep, ExpireStep, RelinkStep, RestartStep, StepOf, hearer}
 use Rattle.net_nodes.specs.Happening.{Happens}
-use Rattle.switch_network_laws.proofs.UsersAny.{event_any, loss_any, time_any}
-use Rattle.switch_network_laws.proofs.SwitchEvents.{switch_event_holds}
-use Rattle.switch_network_laws.proofs.MadeHeld.{made_any}
+use Rattle.network_laws.proofs.Switched.UsersAny.{event_any, loss_any, time_any}
+use Rattle.network_laws.proofs.Switched.SwitchEvents.{switch_event_holds}
+use Rattle.network_laws.proofs.Switched.MadeHeld.{made_any}
 use Rattle.line_sim.specs.Between.{IsBetweenEvents}
 use Rattle.line_sim.proofs.Registered.{made_registered, happened_registered, lost_registered, switched_registered}
 

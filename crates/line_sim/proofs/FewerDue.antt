@@ -15,7 +15,7 @@ use Rattle.switch_lines.specs.Switch.{due_on}
 use Rattle.net_events.specs.Network.{PlacedNode, PlacedSwitch, NetNode, User, Switching, Network, StandsAtLines}
 use Rattle.net_events.proofs.Users.{same_user, not_both}
 use Rattle.net_events.specs.NextDue.{DueTimer, first_on, due_on_lines, due_at, due_of, due_from, next_due}
-use Rattle.switch_network_laws.specs.DueCount.{all_due}
+use Rattle.network_laws.specs.DueCount.{all_due}
 use Rattle.net_events.specs.declared.answer.Answer.{Answer}
 use Rattle.net_events.specs.declared.event.Event.{Event}
 use Rattle.net_events.specs.declared.event.Event.TheVariants.{Expire}
@@ -23,11 +23,11 @@ use Rattle.net_events.specs.declared.event.StepFault.{StepFault}
 use Rattle.net_events.specs.declared.event.StepFault.TheVariants.{OutOfMemory}
 use Rattle.net_nodes.specs.Due.{expiry_of, net_due}
 use Rattle.net_nodes.specs.Faults.{step_fault, has_line, stands_at, where_there_is, MayWant}
-use Rattle.net_plans.specs.Plan.{is_line}
+use Rattle.net_config.specs.Plan.{is_line}
 use Rattle.net_nodes.specs.Steps.{ExpireStep}
 use Rattle.net_nodes.specs.Happening.{Happens}
-use Rattle.switch_network_laws.proofs.FewerAny.{fewer_any, fewer_at_switch}
-use Rattle.switch_network_laws.proofs.Standing.{same_switch}
+use Rattle.network_laws.proofs.Switched.FewerAny.{fewer_any, fewer_at_switch}
+use Rattle.network_laws.proofs.Switched.Standing.{same_switch}
 use Rattle.line_sim.specs.Between.{IsBetweenEvents}
 use Rattle.line_sim.specs.Expiries.{FewerDue}
 use Rattle.line_sim.proofs.Standing.{standing}

@@ -20,13 +20,13 @@ use Rattle.net_events.specs.declared.answer.Answer.{Answer}
 use Rattle.net_events.specs.declared.event.Event.{Event}
 use Rattle.net_events.specs.declared.event.Event.TheVariants.{Expire}
 use Rattle.net_events.specs.declared.event.StepFault.{StepFault}
-use Rattle.net_nodes.specs.Quiet.{IsQuiet}
+use Rattle.node_laws.specs.Quiet.{IsQuiet}
 use Rattle.net_nodes.specs.Places.{EndStands, IsStanding}
 use Rattle.net_nodes.specs.Steps.{ExpireStep}
 use Rattle.net_nodes.specs.Happening.{Happens}
-use Rattle.switch_network_laws.specs.Idle.{IsAsBefore}
-use Rattle.switch_network_laws.proofs.IdleExpiry.{idle_expiry}
-use Rattle.switch_network_laws.proofs.Standing.{same_switch}
+use Rattle.network_laws.specs.Switched.Idle.{IsAsBefore}
+use Rattle.network_laws.proofs.Switched.IdleExpiry.{idle_expiry}
+use Rattle.network_laws.proofs.Switched.Standing.{same_switch}
 use Rattle.line_sim.specs.Between.{IsBetweenEvents}
 use Rattle.line_sim.specs.Expiries.{DoesNotRun, IdleExpiry}
 use Rattle.line_sim.proofs.Standing.{standing}

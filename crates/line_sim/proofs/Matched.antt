@@ -5,9 +5,9 @@ use Rattle.call_records.specs.Records.{PairValue}
 use Rattle.epoch_matching.specs.Pairs.{AllMatch}
 use Rattle.memory_line.specs.Lines.{LineService}
 use Rattle.net_events.specs.Network.{Network}
-use Rattle.switch_network_laws.specs.IsSwitched.{IsAny}
-use Rattle.switch_network_laws.specs.Promise.{NetworkPromise}
-use Rattle.switch_network_laws.proofs.PromiseAny.{promise_any}
+use Rattle.network_laws.specs.Switched.IsSwitched.{IsAny}
+use Rattle.network_laws.specs.Switched.Promise.{NetworkPromise}
+use Rattle.network_laws.proofs.Switched.PromiseAny.{promise_any}
 
 at_place : (pairs : List PairValue) (k : ℕ) (d : PairValue) → k < length pairs → slice_get pairs k ≡ Some (get_or pairs k d)
 at_place [] k d within = absurd (omega arith)

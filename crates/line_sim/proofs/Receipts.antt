@@ -5,21 +5,21 @@ use Rattle.std.proofs.lemmas.Option.{same_Some, none-some}
 use Rattle.epochs.specs.Epoch.{SentEpoch}
 use Rattle.epochs.specs.Confirmed.{Confirmed, Has, Confirms, sent_confirmed}
 use Rattle.epochs.specs.Confirmed.Confirms.{nothing, drop_empty, join, skip}
-use Rattle.book_laws.specs.Delivery.{IsAllCovered}
-use Rattle.book_laws.specs.Headline.{all_taken_by, sent_by}
-use Rattle.book_laws.proofs.Delivery.{delivery_whole}
+use Rattle.record_laws.specs.Books.Delivery.{IsAllCovered}
+use Rattle.record_laws.specs.Books.Headline.{all_taken_by, sent_by}
+use Rattle.record_laws.proofs.Books.Delivery.{delivery_whole}
 use Rattle.call_records.specs.Records.{RecordValue, PairValue}
 use Rattle.call_records.specs.Register.{Register}
-use Rattle.call_path_laws.specs.World.{Plan}
-use Rattle.call_path_laws.specs.Promise.{PathHolds}
+use Rattle.record_laws.specs.CallPaths.World.{Plan}
+use Rattle.record_laws.specs.CallPaths.Promise.{PathHolds}
 use Rattle.memory_line.specs.Lines.{LineService}
 use Rattle.net_events.specs.Network.{Network}
 use Rattle.net_nodes.specs.Questions.{net_confirmed}
 use Rattle.line_sim.specs.Receipts.{to_be_confirmed, HasTaken, AreInPair, IsTakenBeyond}
 use Rattle.line_sim.proofs.Resting.{delivered}
-use Rattle.switch_network_laws.specs.IsSwitched.{IsAny}
-use Rattle.switch_network_laws.specs.Promise.{NetworkPromise}
-use Rattle.switch_network_laws.proofs.PromiseAny.{promise_any}
+use Rattle.network_laws.specs.Switched.IsSwitched.{IsAny}
+use Rattle.network_laws.specs.Switched.Promise.{NetworkPromise}
+use Rattle.network_laws.proofs.Switched.PromiseAny.{promise_any}
 
 -- ---- in a matching each sent epoch of which anything is confirmed is joined with one that has it
 

@@ -9,14 +9,15 @@ use Rattle.memory_line.specs.declared.line.Direction.{Direction}
 use Rattle.memory_line.specs.Lines.{LineService}
 use Rattle.call_records.specs.Writes.Write.{Placed}
 use Rattle.call_records.specs.Register.{Register, LinePlan, free_ends, all_written_at, handed_on, no_parts}
-use Rattle.switch_network_laws.proofs.Addressed.{lines_handed}
+use Rattle.network_laws.proofs.Switched.Addressed.{lines_handed}
 use Rattle.call_records.specs.Register.{with_standing_call, with_free_line, with_line, with_lines, made_register}
 use Rattle.call_records.specs.Register.{empty_register}
 use Rattle.switch_joins.specs.declared.channels.NewJoin.{NewJoin}
 use Rattle.net_events.specs.NodeEvents.{NodeEvent}
 use Rattle.net_events.specs.AtSwitch.{SwitchEvent, SwitchHappened, joins_of, all_handed, far_end, own_end}
 use Rattle.net_events.specs.Network.{Network, HappenedAt, LostAt, own_role}
-use Rattle.net_events.specs.Opening.{NetPlan, IsMade, line_plan}
+use Rattle.net_config.specs.NetPlan.{NetPlan}
+use Rattle.net_events.specs.Opening.{IsMade, line_plan}
 
 -- the register has each line
 abbrev pub IsRegistered : Network → Type 0

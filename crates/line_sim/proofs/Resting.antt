@@ -10,12 +10,12 @@ use Rattle.memory_line.specs.Lines.{LineService}
 use Rattle.net_events.specs.Network.{NetNode, User, Switching, Network}
 use Rattle.net_nodes.specs.Places.{user_in}
 use Rattle.net_nodes.specs.Faults.{is_channel_at}
-use Rattle.net_nodes.specs.Node.{rests}
+use Rattle.placed_nodes.specs.Node.{rests}
 use Rattle.net_nodes.specs.Questions.{confirmed_at, net_confirmed, is_empty, net_rests}
-use Rattle.switch_network_laws.specs.Rest.{MissesNothing, IsDelivered, AreAllAtRest}
-use Rattle.switch_network_laws.specs.IsSwitched.{IsAny}
-use Rattle.switch_network_laws.proofs.PromiseAny.{delivered_any}
-use Rattle.switch_network_laws.proofs.RestAny.{rest_any}
+use Rattle.network_laws.specs.Switched.Rest.{MissesNothing, IsDelivered, AreAllAtRest}
+use Rattle.network_laws.specs.Switched.IsSwitched.{IsAny}
+use Rattle.network_laws.proofs.Switched.PromiseAny.{delivered_any}
+use Rattle.network_laws.proofs.Switched.RestAny.{rest_any}
 
 both : (a b : Bool) → (a && b) ≡ true → (a ≡ true) × (b ≡ true)
 both true b h = (refl, h)

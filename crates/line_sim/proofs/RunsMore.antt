@@ -9,7 +9,7 @@ use Rattle.net_events.specs.Network.{PlacedNode, Network}
 use Rattle.net_config.specs.declared.config.Config.{Config}
 use Rattle.net_events.specs.declared.answer.Answer.{Answer}
 use Rattle.net_events.specs.EventView.{request_event}
-use Rattle.net_nodes.specs.Outcomes.{event_fault}
+use Rattle.net_turns.specs.Outcomes.{event_fault}
 use Rattle.net_events.specs.declared.event.Event.{Event}
 use Rattle.net_events.specs.declared.event.Event.TheVariants.{AtTerminal, Call, Ask, Take, Deliver, Lose, Expire, Relink, Restart}
 use Rattle.net_events.specs.declared.event.StepFault.{StepFault}

@@ -6,12 +6,12 @@ use Rattle.link_timers.specs.declared.role.Role.{Role}
 use Rattle.link_timers.specs.declared.role.Role.TheVariants.{Dte, Dce}
 use Rattle.call_records.specs.Book.{Book}
 use Rattle.memory_line.specs.Lines.{LineService}
-use Rattle.net_nodes.specs.Quiet.{IsQuiet}
+use Rattle.node_laws.specs.Quiet.{IsQuiet}
 use Rattle.line_nodes.specs.Node.{NodeState}
 use Rattle.net_events.specs.Network.{NetNode, User, Switching, NetLine, Network, Stands, StandsAtLines, place_at, own_role}
-use Rattle.switch_network_laws.specs.IsNetwork.{LineHolds, IsUserAt, IsNetwork}
-use Rattle.switch_network_laws.proofs.Networks.{book_there}
-use Rattle.switch_network_laws.specs.IsSwitched.{IsEndOf, IsSwitched, IsAny, of_users, with_switches}
+use Rattle.network_laws.specs.IsNetwork.{LineHolds, IsUserAt, IsNetwork}
+use Rattle.network_laws.proofs.Networks.{book_there}
+use Rattle.network_laws.specs.Switched.IsSwitched.{IsEndOf, IsSwitched, IsAny, of_users, with_switches}
 use Rattle.net_nodes.specs.Places.{UserStands, EndStands, IsStanding}
 use Rattle.line_sim.specs.Between.{IsBetweenEvents}
 

@@ -7,7 +7,7 @@ use Rattle.net_events.specs.declared.event.Event.{Event}
 use Rattle.net_events.specs.declared.event.StepFault.{StepFault}
 use Rattle.net_events.specs.Network.{Network}
 use Rattle.net_nodes.specs.Happening.{Happens}
-use Rattle.switch_network_laws.proofs.PromiseAny.{promise_any}
+use Rattle.network_laws.proofs.Switched.PromiseAny.{promise_any}
 use Rattle.line_sim.specs.Between.{IsBetweenEvents}
 use Rattle.line_sim.specs.Stepping.{HasStepped}
 use Rattle.line_sim.proofs.Events.{happens}

@@ -2,7 +2,7 @@
 use Rattle.std.specs.Prelude.{◌≡◌, length}
 use Rattle.memory_line.specs.Lines.{LineService}
 use Rattle.net_events.specs.Network.{Network}
-use Rattle.switch_network_laws.specs.IsSwitched.{IsAny}
+use Rattle.network_laws.specs.Switched.IsSwitched.{IsAny}
 
 -- all that the laws of networks keep, and the register has each line
 pub record IsBetweenEvents (L : LineService) (s : Network) : Type 0 where

@@ -11,8 +11,8 @@ use Rattle.net_events.specs.declared.event.StepFault.TheVariants.{OutOfMemory}
 use Rattle.net_events.specs.Network.{NetNode, User, Switching, Network}
 use Rattle.net_nodes.specs.Due.{net_due}
 use Rattle.switch_lines.specs.Switch.{timer_runs}
-use Rattle.switch_network_laws.specs.DueCount.{all_due}
-use Rattle.switch_network_laws.specs.Idle.{IsAsBefore}
+use Rattle.network_laws.specs.DueCount.{all_due}
+use Rattle.network_laws.specs.Switched.Idle.{IsAsBefore}
 
 -- where the event is the expiry of the timer that is due, fewer are due after it, unless it is refused for want of
 -- memory

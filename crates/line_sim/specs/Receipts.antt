@@ -4,9 +4,9 @@ use Rattle.link_timers.specs.declared.role.Role.{Role}
 use Rattle.epochs.specs.Epoch.{SentEpoch, sent_epoch}
 use Rattle.epochs.specs.Confirmed.{Confirmed, Has, confirmed_from}
 use Rattle.call_records.specs.Records.{RecordValue, PairValue}
-use Rattle.book_laws.specs.Headline.{all_taken_by}
+use Rattle.record_laws.specs.Books.Headline.{all_taken_by}
 use Rattle.net_events.specs.Network.{NetLine, Network, place_at}
-use Rattle.switch_network_laws.specs.Promise.{its_slot}
+use Rattle.network_laws.specs.Switched.Promise.{its_slot}
 
 -- what was sent since the last reset, up to the end of the last packet with D = 1
 abbrev pub to_be_confirmed : SentEpoch → Confirmed

@@ -2,10 +2,11 @@
 use Rattle.std.specs.Prelude.{◌≡◌, ℕ, true, false, List, [], ◌∷◌, take, slice_get, Option, Some, None}
 use Rattle.memory_line.specs.Lines.{LineService, memory_service}
 use Rattle.net_events.specs.Network.{Network}
-use Rattle.net_events.specs.Opening.{IsPlan, IsMade}
+use Rattle.net_config.specs.NetPlan.{IsPlan}
+use Rattle.net_events.specs.Opening.{IsMade}
 use Rattle.net_config.specs.declared.config.Config.{Config}
 use Rattle.net_config.specs.declared.fault.MakeFault.TheVariants.{BadConfig, OutOfMemory}
-use Rattle.net_plans.specs.Plan.{plan_of}
+use Rattle.net_config.specs.Plan.{plan_of}
 use Rattle.net_config.specs.Served.{is_served}
 use Rattle.net_events.specs.declared.event.Event.{Event}
 use Rattle.net_events.specs.declared.event.StepFault.{StepFault}

@@ -7,7 +7,7 @@ use Rattle.net_events.specs.declared.event.Event.{Event}
 use Rattle.net_events.specs.declared.event.StepFault.{StepFault}
 use Rattle.net_events.specs.Network.{Network}
 use Rattle.net_nodes.specs.Happening.{Happens}
-use Rattle.switch_network_laws.specs.Promise.{NetworkPromise}
+use Rattle.network_laws.specs.Switched.Promise.{NetworkPromise}
 use Rattle.line_sim.specs.Expiries.{FewerDue, IdleExpiry}
 
 -- the answer that is lent

@@ -4,7 +4,7 @@
 mod net;
 mod running;
 
-pub use call_records::{EditStep, Epoch, Pair, Passed, Record};
+pub use call_records::{EditStep, Epoch, Hop, Interrupt, Packet, Pair, Passed, Record};
 pub use epoch_matching::matches;
 pub use line_nodes::{HostNote, NodeFault, NoteKind, TerminalEvent};
 pub use memory_line::{Direction, FRAMES_IN_FLIGHT, Line, MemLine, mem_lines};

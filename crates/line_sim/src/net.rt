@@ -1,16 +1,16 @@
 //! The network, and what it promises.
-ghost use Rattle.std.specs.Prelude.{◌≡◌, ◌≢◌, ◌↔◌, true, false, map, Err, IsTrue, IsOkUnless, IfOk, vec_len};
+ghost use Rattle.std.specs.Prelude.{◌≡◌, ◌≢◌, ◌≤◌, ◌↔◌, true, false, map, Err, IsTrue, IsOkUnless, IfOk, vec_len};
 ghost use Rattle.std.specs.Bool.{OnTrue};
 ghost use Rattle.call_records.specs.RecordView.{shown, pair_of};
 ghost use Rattle.epoch_matching.specs.Pairs.{AllMatch};
 ghost use Rattle.net_events.specs.Network.{all_elapsed};
-ghost use Rattle.switch_network_laws.specs.Promise.{NetworkPromise};
-ghost use Rattle.switch_network_laws.specs.Rest.{MissesNothing, IsDelivered};
+ghost use Rattle.network_laws.specs.Switched.Promise.{NetworkPromise};
+ghost use Rattle.network_laws.specs.Switched.Rest.{MissesNothing, IsDelivered};
 ghost use Rattle.net_config.specs.declared.fault.MakeFault.TheVariants as make_fault_is;
 ghost use Rattle.net_config.specs.Served.{is_served};
 ghost use Rattle.net_events.specs.declared.event.StepFault.TheVariants as step_fault_is;
 ghost use Rattle.net_nodes.specs.Faults.{step_fault, takes_memory};
-ghost use Rattle.net_nodes.specs.Happening.{IsRefusedSo, FindsNoFrame};
+ghost use Rattle.net_nodes.specs.Happening.{IsRefusedSo, FindsNoFrame, FindNoFrames};
 ghost use Rattle.net_nodes.specs.Due.{net_due};
 ghost use Rattle.line_sim.specs.Receipts.{IsTakenBeyond};
 ghost use Rattle.net_nodes.specs.Questions.{net_confirmed, net_rests};
@@ -20,10 +20,9 @@ use call_records::{Pair, Record};
 use epoch_matching::all_match;
 use frame_codec::FrameBuf;
 use memory_line::{Direction, Line};
-use net_config::{Config, MakeFault};
+use net_config::{Config, MakeFault, plan_of};
 use net_events::{Answer, Event, Outcome, Puts, StepFault};
 use net_nodes::Nodes;
-use net_plans::plan_of;
 use std::alloc::Global;
 use std::marker::Model;
 
@@ -70,9 +69,11 @@ impl<L: Line> Net<L> {
     ghost use Rattle.line_sim.specs.contracts.net.Net.{the_row};
     ghost use Rattle.line_sim.specs.Stepping.{lent, HasStepped};
 
-    /// Makes a network on these lines, each of which is emptied first; where no call stands both ends of a line send a
-    /// frame to begin with. It is refused where the configuration is outside its limits or of a kind that is not
-    /// served; then for want of memory.
+    /// Makes a network on these lines, each of which is emptied first. Both ends of a line that is not standing send a
+    /// first frame.
+    ///
+    /// `BadConfig` comes if the configuration is outside its limits or of a kind that is not served, and then
+    /// `OutOfMemory` for want of memory.
     pub fn new(alloc: Global, config: &Config, lines: Vec<L>) -> Result<Self, MakeFault>
         requires { vec_len lines ≡ vec_len config.now.lines }
         ensures bad { is_served config.now ≡ false → result ≡ Err make_fault_is.BadConfig }
@@ -111,10 +112,10 @@ impl<L: Line> Net<L> {
         all_match(self.nodes.records(), self.nodes.pairs())
     }
 
-    /// Whether nothing is in flight, unacknowledged, owed, gathered, or waits to be sent, carried on or taken. What
-    /// waits at a terminal does not count; what is in flight is what the lines say. Then, on faithful lines, nothing
-    /// is missing:
-    /// of each call that is open at both ends each end took all that the other one sent since the last reset.
+    /// Whether nothing is in flight, unacknowledged, owed or gathered, and nothing waits to be sent, passed on or
+    /// taken. What waits at a terminal does not count, and what is in flight is what the lines say. If so, nothing is
+    /// missing on faithful lines: in each call that is open at both ends, each end took all that the other one sent
+    /// since the last reset.
     pub fn at_rest(&self) -> bool
         ensures exact { result ≡ net_rests self.now }
         ensures nothing_missing { L.service.faithful → result ≡ true → MissesNothing self.now }
@@ -123,8 +124,9 @@ impl<L: Line> Net<L> {
     }
 
     /// Whether the host of this place has a call on the channel in which each packet with D = 1 since the last reset
-    /// was covered (X.25 4.3.3). At another node it is not so. On faithful lines the record of that call has them all
-    /// as covered, and the other end of the call took all that was sent up to the last of them.
+    /// was covered (X.25 4.3.3). At any other node the answer is no. If it is yes, on faithful lines, the record of
+    /// that call has all these packets as covered, and the other end of the call took all that was sent up to the last
+    /// of them.
     pub fn confirmed(&self, node: usize, channel: u16) -> bool
         ensures exact { result ≡ net_confirmed node channel self.now }
         ensures delivered { L.service.faithful → result ≡ true → IsDelivered node channel self.now }
@@ -157,11 +159,22 @@ impl<L: Line> Net<L> {
         self.nodes.finds_none(line, direction)
     }
 
-    /// Handles an event, and lends the answer, which stands in the network until the next event. Refusals come in the
-    /// order of [`StepFault`]: where no node or line has the number, the line is not the node's or the node is of
-    /// another kind, then where the PAD has no such terminal, then where the channel is 0 or beyond those of the line.
-    /// Want of memory comes after these and before the node is called, which may refuse what it is asked; the loss of a
-    /// frame takes no memory. A refused event changes nothing, nor does an expiry of a timer that does not run.
+    /// The first line from this number on of which it is not certain that deliveries in both directions find no frame. If
+    /// there is none, no line has the number that is given.
+    pub fn next_with_frames(&self, from: usize) -> usize
+        ensures onward { from ≤ result }
+        ensures none { FindNoFrames L.service from result self.now }
+    {
+        self.nodes.next_with_frames(from)
+    }
+
+    /// Handles an event, and lends the answer, which the network keeps until the next event. A refused event changes
+    /// nothing, nor does an expiry of a timer that does not run.
+    ///
+    /// `NoSuchNode` comes if no node or line has the number, the line is not the node's or the node is of another kind.
+    /// Then comes `NoSuchTerminal` if the PAD has no such terminal, and `NoSuchCall` if the channel is 0 or beyond
+    /// those of the line. `OutOfMemory` comes after these, before the node is called; the loss of a frame takes no
+    /// memory. Last, `Refused` comes if the node refuses what it is asked.
     #[inline(always)]
     pub fn step(&mut self, event: &Event) -> Result<&Answer, StepFault>
         ensures faults { IsRefusedSo (step_fault event.now self.old) (lent result) }

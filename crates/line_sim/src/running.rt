@@ -2,7 +2,7 @@
 ghost use Rattle.std.specs.Prelude.{◌≡◌, true, false, Err, IfOk, IfErr, IsOkUnless};
 ghost use Rattle.std.specs.Bool.{OnTrue, OnFalse};
 ghost use Rattle.memory_line.specs.Lines.{memory_service};
-ghost use Rattle.switch_network_laws.specs.Promise.{NetworkPromise};
+ghost use Rattle.network_laws.specs.Switched.Promise.{NetworkPromise};
 ghost use Rattle.net_config.specs.declared.fault.MakeFault.TheVariants.{BadConfig, OutOfMemory};
 ghost use Rattle.net_config.specs.Served.{is_served};
 ghost use Rattle.net_nodes.specs.Faults.{step_fault, MayWant};
@@ -28,8 +28,8 @@ pub enum RunFault {
 }
 
 impl Net<MemLine> {
-    /// Makes a network over memory lines. It is refused where the configuration is outside its limits or of a kind that
-    /// is not served; then for want of memory.
+    /// Makes a network over memory lines. `BadConfig` comes if the configuration is outside its limits or of a kind
+    /// that is not served, and then `OutOfMemory` for want of memory.
     pub fn on_memory_lines(alloc: Global, config: &Config) -> Result<Self, MakeFault>
         ensures bad { is_served config.now ≡ false → result ≡ Err BadConfig }
         ensures served { is_served config.now ≡ true → IsOkUnless result OutOfMemory }
@@ -45,8 +45,8 @@ impl Net<MemLine> {
 }
 
 /// Makes a network over memory lines and runs the events, each after the one before. An event that is refused for
-/// another reason than want of memory is answered so, and the run goes on. It ends early, in this order, where the
-/// network is not made, or with the index of the event at which memory ended.
+/// another reason than want of memory is answered so, and the run goes on. It ends early with `Made` if the network is
+/// not made, and with `Stopped` and the index of the event at which memory ended.
 pub fn run(alloc: Global, config: &Config, events: &[Event]) -> Result<Net<MemLine>, RunFault>
     ensures ran { IfOk result (HasRun config.now events.now) }
     ensures headline { IfOk result NetworkPromise }

@@ -8,7 +8,7 @@ use std::alloc::{AllocError, Global};
 use std::marker::Model;
 
 /// The frames on their way in one direction, in order, up to 64. Each is written into a place that was made once, and
-/// stays there until it is taken.
+/// stays there until it is taken. If all were taken, the next one comes into the first place.
 #[derive(Drop)]
 pub(crate) struct Flying {
     taken: usize,
@@ -17,7 +17,7 @@ pub(crate) struct Flying {
 }
 
 impl Model for Flying {
-    ghost use Rattle.std.specs.Prelude.{◌≡◌, ◌≤◌, ℕ, List, length, take, drop};
+    ghost use Rattle.std.specs.Prelude.{◌≡◌, ◌≤◌, ◌-◌, ℕ, List, length, take, drop};
     ghost use Rattle.std.specs.Coded.{coded_list, coded_ℕ};
 
     ghost Value = { List (List ℕ) };
@@ -26,7 +26,7 @@ impl Model for Flying {
 
     ghost view = { λ f. drop f.taken (take f.end f.places.items) };
 
-    ghost invariant = { λ f. (f.taken ≤ f.end) × (f.end ≤ 64) × (length f.places.items ≡ 64) };
+    ghost invariant = { λ f. (f.taken ≤ f.end - 1) × (f.end ≤ 64) × (length f.places.items ≡ 64) };
 }
 
 impl Flying {
@@ -57,7 +57,7 @@ impl Flying {
     pub(crate) fn is_empty(&self) -> bool
         ensures { result ≡ (length self.now == 0) }
     {
-        self.taken == self.end
+        self.end == 0
     }
 
     /// Adds a frame behind the others, if there are fewer than 64.
@@ -84,14 +84,15 @@ impl Flying {
         ensures same { OnFalse result (frame.new ≡ frame.old) }
         ensures others { self.new ≡ drop 1 self.old }
     {
-        if self.taken == self.end {
+        if self.end == 0 {
             return false;
         }
         frame.clear();
         frame.extend(self.places[self.taken].as_slice());
-        self.taken += 1;
-        if self.taken == self.end {
+        if self.taken + 1 == self.end {
             self.clear();
+        } else {
+            self.taken += 1;
         }
         true
     }
@@ -101,11 +102,11 @@ impl Flying {
 #[cold]
 #[inline(never)]
 fn make_room(places: &mut [FrameBuf], taken: &mut usize, end: &mut usize)
-    requires taken { taken.old ≤ end.old }
+    requires taken { taken.old < end.old }
     requires end { end.old ≤ 64 }
     requires places { length places.old ≡ 64 }
     ensures frames { drop taken.new (take end.new places.new) ≡ drop taken.old (take end.old places.old) }
-    ensures taken { taken.new ≤ end.new }
+    ensures taken { taken.new < end.new }
     ensures end { end.new ≤ 64 }
     ensures places { length places.new ≡ 64 }
     ensures full { end.new ≡ 64 → taken.new ≡ 0 }

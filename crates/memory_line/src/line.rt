@@ -20,18 +20,18 @@ pub enum Direction {
     FromDce,
 }
 
-/// A line between two nodes. It is faithful where it hands over, for each direction, the frames that were put, in their
-/// order, without those that it lost, and nothing else; and it loses a frame that is put only where it may.
+/// A line between two nodes. It is faithful if two things hold. For each direction it hands over the frames that were
+/// put, in their order, without those that it lost, and nothing else. And it loses a frame that is put only if it may.
 pub trait Line: Drop {
     ghost flights: { Self → Flights };
 
     ghost service: { LineService };
 
-    /// Sends a frame: it comes behind those in flight, or is lost where the line may lose it.
+    /// Sends a frame: it comes after those in flight, or is lost if the line may lose it.
     fn put(&mut self, direction: Direction, frame: &FrameBuf)
         ensures { service.faithful → IsPut service direction frame.now (flights self.old) (flights self.new) };
 
-    /// Takes the first frame in flight, if there is one. Where there is none `frame` stays.
+    /// Takes the first frame in flight, if there is one. If there is none, `frame` stays as it is.
     fn take(&mut self, direction: Direction, frame: &mut FrameBuf) -> bool
         ensures taken { service.faithful
             → OnTrue result (slice_get (flying direction (flights self.old)) 0 ≡ Some frame.new) }
@@ -72,7 +72,7 @@ impl Model for MemLine {
 }
 
 impl MemLine {
-    /// An empty line.
+    /// An empty line. `AllocError` comes for want of memory.
     pub fn new(alloc: Global) -> Result<Self, AllocError>
         ensures { IfOk result (λ line. line ≡ no_flights) }
     {
@@ -137,7 +137,7 @@ impl Line for MemLine {
     }
 }
 
-/// Makes `n` empty lines in memory.
+/// Makes `n` empty lines in memory. `AllocError` comes for want of memory.
 pub fn mem_lines(alloc: Global, n: usize) -> Result<Vec<MemLine>, AllocError>
     ensures { IfOk result (λ lines. lines.items ≡ replicate n no_flights) }
 {

@@ -1,1 +1,5 @@
 pub mod Served
+pub mod NetPlan
+pub mod Plan
+pub mod PlanView
+pub mod PlannedView

@@ -41,9 +41,9 @@ pub struct Setting {
     pub value: u8,
 }
 
-/// A line: the names of the nodes at its ends, the DTE's address (its digits, none where it is empty), how many logical
-/// channels it has, the modulus of its packets' numbers, how many octets of user data a packet may have, the window size,
-/// the link's k and n2, and whether a call stands on it from the making.
+/// A line: the names of the nodes at its ends, the DTE's address (its digits, none if it is empty), how many logical
+/// channels it has, the modulus of its packets' numbers, how many octets of user data a packet may have, the window
+/// size, the link's k and n2, and whether it is standing: with a call from the start.
 #[derive(Drop)]
 pub struct LineConfig {
     pub dte: String,

@@ -1,10 +1,14 @@
-//! How a network is configured, and whether it is served.
+//! How a network is configured, whether it is served, and what a network that is served is made with.
 #![tactic(auto)]
 
 mod config;
 mod fault;
+mod parts;
+mod plan;
 mod served;
 
 pub use config::{Config, LineConfig, NodeConfig, NodeKind, RouteConfig, Setting, TerminalsConfig};
 pub use fault::MakeFault;
+pub use parts::{NewKind, NewLine, NewNode, NewRoute, NewSwitch};
+pub use plan::{NetPlan, Planned, PlannedKind, find_own, plan_of};
 pub use served::{has_dte, has_end, is_named, is_route_of, is_served, place_of};

@@ -48,7 +48,7 @@ fn find_node(nodes: &[NodeConfig], name: &str) -> Option<usize>
     nodes.iter().position(|node| is_named(name, node))
 }
 
-/// The place of the node of this name, 0 where there is none.
+/// The place of the node of this name, 0 if there is none.
 pub fn place_of(nodes: &[NodeConfig], name: &str) -> usize
     ensures { result ≡ place_of (is_named name.now) nodes.now }
 {
@@ -354,7 +354,7 @@ fn count_switches(nodes: &[NodeConfig]) -> usize
 
 /// Whether the network is served: PADs and hosts, each at one end of one line, and up to 16 switches, each with its
 /// routes and at an end of up to 64; trunks between the switches make trees of them; all values in their limits. One
-/// that is not is refused as BadConfig where it is planned.
+/// that is not served is refused as `BadConfig` when it is planned.
 pub fn is_served(config: &Config) -> bool
     ensures { result ≡ is_served config.now }
 {

@@ -5,8 +5,8 @@ use Rattle.std.proofs.lemmas.Option.{same_Some}
 use Rattle.link_timers.specs.declared.role.Role.TheVariants.{Dte, Dce}
 use Rattle.packet_end.specs.Params.{AreParams}
 use Rattle.net_events.specs.Network.{PlacedNode, PlacedSwitch, NetNode, User, Switching}
-use Rattle.net_events.specs.Opening.{NewNode, Planned, PlannedUser, PlannedSwitch, NewLine, NetPlan, IsNewDte, IsEndPlan}
-use Rattle.net_events.specs.Opening.{IsKindOfLine, IsPlan, AreUsers}
+use Rattle.net_config.specs.NetPlan.{NewNode, Planned, PlannedUser, PlannedSwitch, NewLine, NetPlan, IsNewDte, IsEndPlan}
+use Rattle.net_config.specs.NetPlan.{IsKindOfLine, IsPlan, AreUsers}
 
 pub record UserLine (nodes : List Planned) (line : ℕ) (l : NewLine) : Type 0 where
   pub dte : NewNode

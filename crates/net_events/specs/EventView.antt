@@ -3,7 +3,7 @@ use Rattle.std.specs.Prelude.{ℕ, true, false}
 use Rattle.packet_codec.specs.ClearCause as clear_cause
 use Rattle.packet_codec.specs.ResetCause as reset_cause
 use Rattle.packet_codec.specs.Diagnostic.{no_information}
-use Rattle.packet_layer.specs.Channel.{Request as ask}
+use Rattle.packet_channel.specs.Channel.{Request as ask}
 use Rattle.packet_host.specs.declared.request.HostRequest.{HostRequest}
 use Rattle.packet_host.specs.declared.request.HostRequest.TheVariants.{Answer, Refuse, Say, Interrupt, Reset, Clear}
 use Rattle.packet_host.specs.declared.request.HostRequest.TheVariants.{Stop, Go}

@@ -3,7 +3,7 @@ use Rattle.std.specs.Prelude.{◌≡◌, ℕ, ◌≤◌, Bool, false, List, leng
 use Rattle.link_timers.specs.declared.role.Role.{Role}
 use Rattle.link_timers.specs.declared.timers.TimerId.{TimerId}
 use Rattle.packet_codec.specs.Address.{AreDigits}
-use Rattle.packet_layer.specs.Channel.{Request}
+use Rattle.packet_channel.specs.Channel.{Request}
 use Rattle.packet_host.specs.Host.{call_parts}
 use Rattle.memory_line.specs.Lines.{Flights, no_flights, flying, without_first, LineService, ArePut}
 use Rattle.call_records.specs.Book.{Book}

@@ -45,7 +45,7 @@ pub enum Event {
         line: usize,
         direction: Direction,
     },
-    /// A timer of a node's end of a line, or the idle timer of a terminal of a PAD, expires. Where it does not run
+    /// A timer of a node's end of a line, or the idle timer of a terminal of a PAD, expires. If it does not run,
     /// nothing happens.
     Expire {
         node: usize,
@@ -56,13 +56,14 @@ pub enum Event {
     Relink {
         line: usize,
     },
-    /// A node begins anew, and its lines lose all frames in flight.
+    /// A node restarts, and its lines lose all frames in flight.
     Restart {
         node: usize,
     },
 }
 
-/// Why an event is refused, in the order in which the faults are tested. A refused event changes nothing.
+/// Why an event is refused. The first three are tested in this order, then memory is asked for, and last the node may
+/// refuse. A refused event changes nothing.
 #[derive(Clone, Copy, Debug, PartialEq, Eq, Error)]
 pub enum StepFault {
     /// No node or line has the number, or the node is of another kind.

@@ -40,7 +40,7 @@ impl Puts {
         }
     }
 
-    /// No frames, and room for so many.
+    /// No frames, and room for so many. `AllocError` comes for want of memory.
     pub fn with_room(alloc: Global, frames: usize) -> Result<Self, AllocError>
         ensures items { IfOk result (λ puts. puts.items ≡ []) }
         ensures room { IfOk result (λ puts. frames ≤ puts.room) }
@@ -50,7 +50,7 @@ impl Puts {
         Ok(puts)
     }
 
-    /// Makes room where it lacks, so that there is some for so many frames.
+    /// Makes room for so many frames, if there is less. Without the memory the frames are as before.
     #[inline(always)]
     pub fn reserve(&mut self, frames: usize) -> Result<(), AllocError>
         ensures items { self.new.items ≡ self.old.items }
@@ -62,12 +62,14 @@ impl Puts {
         Ok(())
     }
 
-    // Makes places up to so many.
+    // Makes places up to so many, in a list that moves once at most.
     #[inline(never)]
     fn grow(&mut self, frames: usize) -> Result<(), AllocError>
         ensures items { self.new.items ≡ self.old.items }
         ensures room { OnOk result (frames ≤ self.new.room) }
     {
+        self.places
+            .reserve(frames.saturating_sub(self.places.len()))?;
         for made in self.places.len()..frames {
             self.places.push(Put {
                 line: 0,

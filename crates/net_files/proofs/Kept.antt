@@ -1,8 +1,8 @@
 -- The commands of a script as they are kept: read back, one more, and those behind the first.
-use Rattle.std.proofs.Common.{◌≡◌, ℕ, suc, ◌-◌, ◌≤◌, Bool, List, [], ◌∷◌, ◌++◌, Option, Some, None, option_map, length, take, drop, map, refl, sym, ap, ◌∙◌, subst, arith}
+use Rattle.std.proofs.Common.{◌≡◌, ℕ, suc, ◌-◌, List, [], ◌∷◌, ◌++◌, Option, Some, None, option_map, length, take, drop, map, refl, sym, ap, ◌∙◌, subst, arith}
 use Rattle.std.specs.List.{flat_map}
 use Rattle.std.proofs.lemmas.Grind.{flat_map-append}
-use Rattle.std.proofs.lemmas.List.{append-nil, length-append, length-take}
+use Rattle.std.proofs.lemmas.List.{append-nil, length-append}
 use Rattle.std.proofs.lemmas.Option.{same_Some}
 use Rattle.net_events.specs.declared.event.Event.{Event as NetEvent}
 use Rattle.net_files.specs.declared.commands.Entry.{Entry}
@@ -84,72 +84,6 @@ count_kept es vs os kept = ap (λ (xs : List Entry). length xs) kept.in_place �
 
 tail : {X : Type 0} → List X → List X
 tail xs = drop 1 xs
-
-keys_fit : (node terminal count : ℕ) (es : List Entry) (vs : List NetEvent) (os : List ℕ)
-    → AreKept (entry.Keys node terminal count ∷ es) vs os → count ≡ length (take count os)
-keys_fit node terminal count es vs os kept = cc kept.in_place
-
--- the octets of the first keys are there
-pub keys_there : (node terminal count : ℕ) (es : List Entry) (vs : List NetEvent) (os : List ℕ)
-    → AreKept (entry.Keys node terminal count ∷ es) vs os → count ≤ length os
-keys_there node terminal count es vs os kept =
-    omega (arith, keys_fit node terminal count es vs os kept, length-take count os)
-
-pub behind_keys : (node terminal count : ℕ) (es : List Entry) (vs : List NetEvent) (os : List ℕ)
-    → AreKept (entry.Keys node terminal count ∷ es) vs os → AreKept es vs (drop count os)
-behind_keys node terminal count es vs os kept =
-    let rest = read_commands es vs (drop count os) in
-    let fit = keys_fit node terminal count es vs os kept in
-    record {
-      in_place = ap (λ (xs : List Entry). drop 1 xs) kept.in_place;
-      with_events = kept.with_events;
-      with_octets =
-          ap (λ (xs : List ℕ). drop count xs) kept.with_octets
-          ∙ ap (λ n. drop n (take count os ++ flat_map octets_of rest)) fit
-          ∙ drop_front (take count os) (flat_map octets_of rest);
-    }
-
--- an event is there
-pub behind_event : (es : List Entry) (e : NetEvent) (vs : List NetEvent) (os : List ℕ)
-    → AreKept (entry.Event ∷ es) (e ∷ vs) os → AreKept es vs os
-behind_event es e vs os kept = record {
-  in_place = ap (λ (xs : List Entry). drop 1 xs) kept.in_place;
-  with_events = ap (λ (xs : List NetEvent). drop 1 xs) kept.with_events;
-  with_octets = kept.with_octets;
-}
-
-pub no_event : (es : List Entry) (os : List ℕ) → AreKept (entry.Event ∷ es) [] os → ⊥
-no_event es os kept = cc kept.in_place
-
-pub behind_flow : (es : List Entry) (vs : List NetEvent) (os : List ℕ) → AreKept (entry.Flow ∷ es) vs os → AreKept es vs os
-behind_flow es vs os kept = record {
-  in_place = ap (λ (xs : List Entry). drop 1 xs) kept.in_place;
-  with_events = kept.with_events;
-  with_octets = kept.with_octets;
-}
-
-pub behind_tick : (ticks : ℕ) (es : List Entry) (vs : List NetEvent) (os : List ℕ)
-    → AreKept (entry.Tick ticks ∷ es) vs os → AreKept es vs os
-behind_tick ticks es vs os kept = record {
-  in_place = ap (λ (xs : List Entry). drop 1 xs) kept.in_place;
-  with_events = kept.with_events;
-  with_octets = kept.with_octets;
-}
-
-pub behind_trace : (traces : Bool) (es : List Entry) (vs : List NetEvent) (os : List ℕ)
-    → AreKept (entry.Trace traces ∷ es) vs os → AreKept es vs os
-behind_trace traces es vs os kept = record {
-  in_place = ap (λ (xs : List Entry). drop 1 xs) kept.in_place;
-  with_events = kept.with_events;
-  with_octets = kept.with_octets;
-}
-
-pub behind_check : (es : List Entry) (vs : List NetEvent) (os : List ℕ) → AreKept (entry.Check ∷ es) vs os → AreKept es vs os
-behind_check es vs os kept = record {
-  in_place = ap (λ (xs : List Entry). drop 1 xs) kept.in_place;
-  with_events = kept.with_events;
-  with_octets = kept.with_octets;
-}
 
 -- ---- one more of each kind
 

@@ -1,4 +1,4 @@
-//! What stands at the keys of a table of a network's document.
+//! What is at the keys of a table of a network's document.
 ghost use Rattle.std.specs.Prelude.{◌≡◌, Some, None, map, option_map, string_bytes};
 ghost use Rattle.std.specs.List.{list_all};
 ghost use Rattle.std.specs.Char.{is_ascii_alphanumeric};

@@ -20,7 +20,7 @@ use std::alloc::Global;
 use toml::{Table, Value};
 use x3_params::Profile;
 
-/// The built-in network: a PAD and a host, and a call that stands between them on the one channel of their line.
+/// The built-in network: a PAD and a host, and a standing call on the one channel of their line.
 pub const FIRST: &str = r#"
 [[node]]
 name = "pad"
@@ -43,9 +43,9 @@ const BYTE_ORDER_MARK: &str = "\u{FEFF}";
 
 /// Reads a network: the tables `node`, `line` and `route`, in order.
 ///
-/// `NetText` where the text is no TOML document or begins with a byte order mark, where a key is unknown, missing or of
-/// the wrong type, where a number is not 0 to 65,535, and where a name, address, kind, profile or list of parameters
-/// has another form. What the values mean is tested when the network is made.
+/// `NetText` comes if the text is no TOML document or begins with a byte order mark, a key is unknown, missing or of
+/// the wrong type, a number is not 0 to 65,535, or a name, address, kind, profile or list of parameters has another
+/// form. `OutOfMemory` comes for want of memory. What the values mean is tested when the network is made.
 pub fn read_net(alloc: Global, text: &str) -> Result<Config, ProgFault>
     ensures spelled { Makes (Spells text.now) result }
     ensures marked { begins_with_mark text.now ≡ true → IsErrOf result ProgFault.NetText }

@@ -33,12 +33,12 @@ pub struct Script {
     pub commands: Commands,
 }
 
-/// Reads a script for a network: a command a line, of words that one space parts. Empty lines are skipped.
+/// Reads a script for a network: a command a line, of words with one space between them. Empty lines are skipped.
 ///
-/// `Script` with the number of the first line that is no command, counted from 1: the word is unknown, words are
-/// missing or too many, a node has no such name, a number is not 0 to 65,535, an address is not 1 to 15 digits, a text
-/// has a backslash that begins no octet, or the user data of a call is more than 16 octets. What a number means, as of
-/// a terminal or a channel, is tested when the event comes.
+/// `OutOfMemory` comes for want of memory. `Script` has the number of the first line that is no command, counted from
+/// 1: the word is unknown, words are missing or too many, a node has no such name, a number is not 0 to 65,535, an
+/// address is not 1 to 15 digits, a text has a backslash that begins no octet, or the user data of a call is more than
+/// 16 octets. What a number means, as of a terminal or a channel, is tested when the event comes.
 pub fn read_script(alloc: Global, text: &[u8], config: &Config) -> Result<Script, ProgFault>
     ensures script { IfOk result (IsScript config.now text.now) }
     ensures fault { IfErr result (IsScriptFault config.now text.now) }

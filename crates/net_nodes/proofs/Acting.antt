@@ -13,7 +13,7 @@ use Rattle.call_records.specs.Register.{LineEnds, book_at}
 use Rattle.call_records.specs.Book.{Book}
 use Rattle.call_records.specs.RegisterView.{ends_of, lines_of, ends_in, register_with, register_of, IsOpen}
 use Rattle.call_records.specs.declared.register.Register.{Register}
-use Rattle.net_turns.specs.Quiet.{IsQuiet}
+use Rattle.node_laws.specs.Quiet.{IsQuiet}
 use Rattle.line_nodes.specs.Node.{NodeState, Pad, Host, drained}
 use Rattle.line_nodes.specs.Notes.{host_notes}
 use Rattle.memory_line.specs.declared.line.Direction.{Direction}

@@ -4,5 +4,6 @@ mod SwitchTurns
 mod Acting
 mod Happening
 mod Empties
+mod Passing
 mod Making
 pub mod Made

@@ -4,7 +4,7 @@ use Rattle.std.specs.Prelude.{◌⊎◌, ◌==◌, slice_get, option_map, unwrap
 use Rattle.std.proofs.lemmas.Option.{same_Some, slice_get-map}
 use Rattle.std.proofs.lemmas.Bool.{cases_eq, lt-ltb, eq-eqb, ne_eqb}
 use Rattle.std.proofs.lemmas.List.{length-map}
-use Rattle.book_laws.proofs.Basics.{set_here, set_elsewhere, length_set}
+use Rattle.record_laws.proofs.Books.Basics.{set_here, set_elsewhere, length_set}
 use Rattle.lapb.specs.Machine.{Octets}
 use Rattle.link_timers.specs.declared.role.Role.{Role}
 use Rattle.link_timers.specs.declared.role.Role.TheVariants.{Dte, Dce}
@@ -20,8 +20,9 @@ use Rattle.switch_lines.specs.Switch.{frames_on}
 use Rattle.net_events.specs.AtSwitch.{waiting_on}
 use Rattle.net_events.specs.Network.{PlacedNode, PlacedSwitch, NetNode, User, Switching, NetLine, own_role}
 use Rattle.net_events.specs.OneLine.{direction_of}
-use Rattle.net_events.specs.Opening.{NewNode, NewSwitch, Planned, PlannedUser, PlannedSwitch, NewLine, NetPlan, IsEndPlan}
-use Rattle.net_events.specs.Opening.{IsKindOfLine, IsLinePlan, HasEndAt, IsSwitchPlan, IsPlan, NodeIsMade, LineIsMade, AreSent}
+use Rattle.net_config.specs.NetPlan.{NewNode, NewSwitch, Planned, PlannedUser, PlannedSwitch, NewLine, NetPlan, IsEndPlan}
+use Rattle.net_config.specs.NetPlan.{IsKindOfLine, IsLinePlan, HasEndAt, IsSwitchPlan, IsPlan}
+use Rattle.net_events.specs.Opening.{NodeIsMade, LineIsMade, AreSent}
 use Rattle.net_events.specs.Opening.{new_at, end_of_two, placed_new, placed_switch, role_on_line, own_configs, line_plan}
 use Rattle.placed_nodes.specs.Making.{waiting_switch, AreNew}
 use Rattle.placed_nodes.proofs.Lists.{within, at_index}

@@ -7,13 +7,14 @@ use Rattle.lapb.specs.Machine.{Octets}
 use Rattle.link_timers.specs.declared.role.Role.{Role}
 use Rattle.link_timers.specs.declared.role.Role.TheVariants.{Dte, Dce}
 use Rattle.packet_end.specs.declared.params.EndParams.{EndParams}
-use Rattle.book_laws.proofs.Basics.{set_here, set_elsewhere, length_set, length_pushed, get_before, get_last}
+use Rattle.record_laws.proofs.Books.Basics.{set_here, set_elsewhere, length_set, length_pushed, get_before, get_last}
 use Rattle.line_nodes.specs.Node.{frames_of}
 use Rattle.memory_line.specs.declared.line.Direction.TheVariants.{FromDte, FromDce}
 use Rattle.memory_line.specs.Lines.{Flights, no_flights, LineService, ArePut}
 use Rattle.net_events.specs.Network.{NetNode, User, Switching, NetLine}
-use Rattle.net_events.specs.Opening.{NewNode, NewSwitch, Planned, PlannedUser, PlannedSwitch, NewLine, NetPlan, IsEndPlan}
-use Rattle.net_events.specs.Opening.{IsKindOfLine, IsLinePlan, HasEndAt, IsPlan, new_at, new_end, placed_new}
+use Rattle.net_config.specs.NetPlan.{NewNode, NewSwitch, Planned, PlannedUser, PlannedSwitch, NewLine, NetPlan, IsEndPlan}
+use Rattle.net_config.specs.NetPlan.{IsKindOfLine, IsLinePlan, HasEndAt, IsPlan}
+use Rattle.net_events.specs.Opening.{new_at, new_end, placed_new}
 use Rattle.placed_nodes.specs.Making.{waiting, waiting_switch, begun_to, AreNew}
 use Rattle.placed_nodes.proofs.Lists.{within}
 use Rattle.placed_nodes.proofs.NewNodes.{not_before, waits, has_begun}

@@ -1,6 +1,6 @@
 -- Where nodes stand, and what is at a place of a list.
 use Rattle.std.proofs.Common.{◌≡◌, ◌≢◌, ℕ, ◌<◌, zero, suc, List, [], ◌∷◌, length, Some, None, refl, sym, ap, ◌∙◌, subst, arith}
-use Rattle.std.specs.Prelude.{slice_get, map, option_map, ◌⊎◌, Result, Ok, Err, OnErr}
+use Rattle.std.specs.Prelude.{slice_get, map, option_map, ◌⊎◌}
 use Rattle.std.proofs.Common.{inl, inr}
 use Rattle.std.proofs.lemmas.Option.{same_Some, none-some, slice_get-map}
 use Rattle.link_timers.specs.declared.role.Role.{Role}
@@ -37,10 +37,6 @@ as_dce s place n l st node line not_dte = record {
     by : (l.dte ≡ place) ⊎ (l.dce ≡ place) → l.dce ≡ place
     by (inl e) = absurd (not_dte e)
     by (inr e) = e
-
-pub mapped_err : {A B X Y : Type 0} (r : Result A B) → (X → Y) → OnErr r X → OnErr r Y
-mapped_err (Ok a) f x = tt
-mapped_err (Err e) f x = f x
 
 pub at_line : (place line : ℕ) (role : Role) (s : Network) {k : ℕ} → k ≡ line → IsPlaceOf place (record { line = k; role = role }) s
     → IsPlaceOf place (record { line = line; role = role }) s

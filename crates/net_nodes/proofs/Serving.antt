@@ -16,7 +16,7 @@ use Rattle.net_events.specs.declared.answer.Answer.{Answer}
 use Rattle.net_events.specs.declared.event.StepFault.{StepFault}
 use Rattle.net_events.specs.declared.node_event.LineEvent.{LineEvent}
 use Rattle.net_events.specs.declared.node_event.LineEvent.TheVariants.{Hears, Expires, Relinks, Restarts}
-use Rattle.net_turns.specs.Quiet.{IsQuiet}
+use Rattle.node_laws.specs.Quiet.{IsQuiet}
 use Rattle.net_turns.specs.Outcomes.{IsOutcome, text_of}
 use Rattle.net_turns.specs.Served.{Served}
 use Rattle.net_turns.specs.Users.{IsRefusedWith, IsServed, AtLine}

@@ -22,7 +22,7 @@ use Rattle.net_events.specs.declared.answer.Answer.{Answer}
 use Rattle.net_events.specs.declared.answer.Put.{Put}
 use Rattle.switch_laws.specs.Turn.{AreOctets}
 use Rattle.net_nodes.specs.Places.{UserStands, IsStanding, IsOwnLine, own_line_in, own_line_at, is_switch, is_switch_at}
-use Rattle.net_plans.specs.Plan.{is_line}
+use Rattle.net_config.specs.Plan.{is_line}
 use Rattle.net_nodes.specs.Faults.{step_fault, where_there_is, stands_at}
 use Rattle.net_nodes.specs.Happening.{Happens}
 use Rattle.net_events.specs.declared.event.Event.TheVariants.{Deliver, Expire, Relink, Restart}

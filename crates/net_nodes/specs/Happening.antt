@@ -1,6 +1,7 @@
 -- What an event does, refused or not.
-use Rattle.std.specs.Prelude.{◌≡◌, ◌⊎◌, ℕ, false, [], Option, Some, None, Result, Ok, Err, IsOkUnless}
+use Rattle.std.specs.Prelude.{◌≡◌, ◌⊎◌, ◌≤◌, ◌<◌, ℕ, false, [], Option, Some, None, Result, Ok, Err, IsOkUnless}
 use Rattle.memory_line.specs.declared.line.Direction.{Direction}
+use Rattle.memory_line.specs.declared.line.Direction.TheVariants.{FromDte, FromDce}
 use Rattle.memory_line.specs.Lines.{LineService}
 use Rattle.net_events.specs.declared.event.Event.{Event}
 use Rattle.net_events.specs.declared.event.Event.TheVariants.{Deliver}
@@ -37,3 +38,8 @@ pub record FindsNoFrame (L : LineService) (line : ℕ) (d : Direction) (s : Netw
   pub answer : Answer
   pub says : SaysNoneArrived answer
   pub happens : Happens L (Deliver line d) s (Ok answer) s
+
+-- so are the deliveries in both directions on each line from one number on up to another one
+abbrev pub FindNoFrames : (L : LineService) → (from to : ℕ) → Network → Type 0
+FindNoFrames L from to s =
+    (line : ℕ) → from ≤ line → line < to → FindsNoFrame L line FromDte s × FindsNoFrame L line FromDce s

@@ -1,6 +1,3 @@
-pub use Rattle.net_turns.specs.Outcomes
-pub use Rattle.net_turns.specs.Quiet
-pub use Rattle.placed_nodes.specs.Node
 pub mod Places
 pub mod Faults
 pub mod Turns

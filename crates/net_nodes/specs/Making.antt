@@ -14,7 +14,8 @@ use Rattle.memory_line.specs.Lines.{Flights, no_flights, LineService, ArePut}
 use Rattle.net_events.specs.AtSwitch.{switch_drained}
 use Rattle.net_events.specs.Network.{PlacedNode, PlacedSwitch, NetNode, User, Switching, NetLine}
 use Rattle.net_events.specs.OneLine.{direction_of}
-use Rattle.net_events.specs.Opening.{NewNode, NewSwitch, Planned, PlannedUser, PlannedSwitch, NewLine, NetPlan, IsMade}
+use Rattle.net_config.specs.NetPlan.{NewNode, NewSwitch, Planned, PlannedUser, PlannedSwitch, NewLine, NetPlan}
+use Rattle.net_events.specs.Opening.{IsMade}
 use Rattle.net_events.specs.Opening.{new_at, placed_new, placed_switch, line_plan}
 use Rattle.placed_nodes.specs.Making.{waiting_switch}
 use Rattle.switch_turns.specs.Switching.{LinesPut}

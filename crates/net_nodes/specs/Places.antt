@@ -1,7 +1,7 @@
 -- Where the nodes of a network stand.
 use Rattle.std.specs.Prelude.{◌≡◌, ℕ, ◌<◌, ◌⊎◌, Bool, false, length, slice_get, Option, Some, None, is_none}
 use Rattle.link_timers.specs.declared.role.Role.{Role}
-use Rattle.net_turns.specs.Quiet.{IsQuiet}
+use Rattle.node_laws.specs.Quiet.{IsQuiet}
 use Rattle.net_events.specs.Network.{PlacedNode, PlacedSwitch, NetNode, User, Switching, NetLine, Network, place_at}
 use Rattle.net_events.specs.Network.{Stands, own_role}
 use Rattle.net_nodes.specs.declared.nodes.LineSide.{LineSide}

@@ -6,7 +6,7 @@ use Rattle.call_records.specs.Register as spec
 use Rattle.call_records.specs.Register.{book_at, with_book}
 use Rattle.call_records.specs.RegisterView.{IsOpen}
 use Rattle.call_records.specs.declared.register.Register.{Register}
-use Rattle.net_turns.specs.Quiet.{IsQuiet}
+use Rattle.node_laws.specs.Quiet.{IsQuiet}
 use Rattle.line_nodes.specs.Node.{NodeState, drained, frames_of}
 use Rattle.line_nodes.specs.Turn.{Turn}
 use Rattle.line_nodes.specs.Notes.{host_notes}

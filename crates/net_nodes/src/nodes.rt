@@ -103,8 +103,8 @@ impl<L: Line> Nodes<L> {
         Ok(channel as u8)
     }
 
-    /// Handles an event, and writes the answer; what stood there before is gone. Where the event is refused the answer
-    /// says nothing. A frame that arrives or is lost is taken into the place that is lent.
+    /// Handles an event, and writes the answer in place of the last one. If the event is refused, the answer says
+    /// nothing: [`StepFault`] has the refusals. A frame that arrives or is lost is taken into the place that is lent.
     #[inline(always)]
     pub fn happen(
         &mut self,

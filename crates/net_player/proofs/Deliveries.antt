@@ -1,12 +1,12 @@
 -- Deliveries in a flow, and passes over the lines.
-use Rattle.std.proofs.Common.{Bool, ◌≡◌, ℕ, zero, suc, ◌+◌, ◌-◌, ◌<◌, List, [], ◌∷◌, ◌++◌, true, false, Option, Ok, refl, sym, ap, ◌∙◌, subst, append_assoc, arith}
+use Rattle.std.proofs.Common.{Bool, ◌≡◌, ℕ, zero, suc, ◌+◌, ◌-◌, ◌≤◌, ◌<◌, List, [], ◌∷◌, ◌++◌, true, false, Option, Ok, refl, sym, ap, ◌∙◌, subst, append_assoc, arith}
 use Rattle.memory_line.specs.declared.line.Direction.{Direction}
 use Rattle.memory_line.specs.declared.line.Direction.TheVariants.{FromDte, FromDce}
 use Rattle.memory_line.specs.Lines.{LineService}
 use Rattle.net_events.specs.declared.event.Event.{Event}
 use Rattle.net_events.specs.declared.event.Event.TheVariants.{Deliver}
-use Rattle.line_sim.specs.Network.{Network}
-use Rattle.line_sim.specs.Happening.{FindsNoFrame}
+use Rattle.net_events.specs.Network.{Network}
+use Rattle.net_nodes.specs.Happening.{FindsNoFrame, FindNoFrames}
 use Rattle.net_player.specs.InTurn.{InTurn, Writes}
 use Rattle.answer_texts.specs.Answers.{Names, frames_text}
 use Rattle.net_player.specs.Playing.{Tells, Flowing, Delivers, has_arrived, deliveries_from, Passes, Flows}
@@ -17,7 +17,7 @@ use Rattle.net_player.specs.InTurn.StopsInTurn.{here}
 use Rattle.net_player.specs.Stopping.{DeliveryStops, PassStops, FlowStops}
 use Rattle.net_player.specs.Stopping.FlowStops.{behind}
 use Rattle.net_files.specs.declared.fault.ProgFault.{ProgFault}
-use Rattle.net_player.proofs.Turns.{in_turn_append, in_turn_one, writes_append}
+use Rattle.net_player.proofs.Turns.{in_turn_append, in_turn_one, writes_append, writes_nothing}
 use Rattle.net_player.proofs.Parts.{stops_behind}
 
 -- no more may be delivered
@@ -106,6 +106,32 @@ pass_more {L} {names} {traces} {s} {m} {n} {t} line a b c d passed from_dte from
     joined x y h =
         let P : List Event → Type 0 = λ es. InTurn Event Flowing (Delivers L names traces) es s (x ++ y) t in
         subst P (sym more) h
+
+-- lines on which it is known that there is none are passed
+pass_some : {L : LineService} {names : Names} {traces : Bool} {s : Flowing} (left : ℕ) (net : Network) (from more : ℕ) (a b : Option (List ℕ))
+    → FindNoFrames L from (from + more) net
+    → Writes a b (λ text. Passes L names traces from s text (record { left = left; net = net }))
+    → Writes a b (λ text. Passes L names traces (from + more) s text (record { left = left; net = net }))
+pass_some {L} {names} {traces} {s} left net from zero a b none passed =
+    let P : ℕ → Type 0 = λ n. Writes a b (λ text. Passes L names traces n s text (record { left = left; net = net })) in
+    let same : from ≡ from + 0 = omega arith in
+    subst P same passed
+pass_some {L} {names} {traces} {s} left net from (suc more) a b none passed =
+    let P : ℕ → Type 0 = λ n. Writes a b (λ text. Passes L names traces n s text (record { left = left; net = net })) in
+    let before = pass_some left net from more a b (λ line after within. none line after (omega arith)) passed in
+    let here = none (from + more) (omega arith) (omega arith) in
+    let next : (from + more) + 1 ≡ from + suc more = omega arith in
+    subst P next (pass_more (from + more) a b b b before
+    (writes_nothing b (delivers_nothing left here.0)) (writes_nothing b (delivers_nothing left here.1)))
+
+pub pass_to : {L : LineService} {names : Names} {traces : Bool} {s : Flowing} (left : ℕ) (net : Network) (from to end : ℕ) (a b : Option (List ℕ))
+    → from ≤ to → to ≤ end → FindNoFrames L from end net
+    → Writes a b (λ text. Passes L names traces from s text (record { left = left; net = net }))
+    → Writes a b (λ text. Passes L names traces to s text (record { left = left; net = net }))
+pass_to {L} {names} {traces} {s} left net from to end a b onward within none passed =
+    let P : ℕ → Type 0 = λ n. Writes a b (λ text. Passes L names traces n s text (record { left = left; net = net })) in
+    let whole : from + (to - from) ≡ to = omega arith in
+    subst P whole (pass_some left net from (to - from) a b (λ line after before. none line after (omega arith)) passed)
 
 -- what a pass writes, and what the passes after it will write, is what the flow from before it writes
 pub flow_onward : {L : LineService} {names : Names} {traces : Bool} {lines : ℕ} {start s m : Flowing} (told first : List ℕ)

@@ -3,8 +3,8 @@ use Rattle.std.proofs.Common.{Bool, ◌≡◌, ℕ, List, [], ◌++◌, Some, No
 use Rattle.std.proofs.lemmas.List.{append-nil}
 use Rattle.memory_line.specs.Lines.{LineService}
 use Rattle.net_events.specs.declared.event.Event.{Event}
-use Rattle.line_sim.specs.Network.{Network, all_elapsed}
-use Rattle.line_sim.specs.Due.{net_due}
+use Rattle.net_events.specs.Network.{Network, all_elapsed}
+use Rattle.net_nodes.specs.Due.{net_due}
 use Rattle.answer_texts.specs.Answers.{Names}
 use Rattle.net_player.specs.Playing.{TellsEvent, Expires, Ticks}
 use Rattle.net_player.specs.Playing.Expires.{none, next}

@@ -79,11 +79,6 @@ writes_behind {Rest} {Whole} {a} {b} {c} first whole appended rest = record {
   kind = whole rest.text rest.kind;
 }
 
--- the fault that came is known
-pub part_for : {whole part : List ℕ} {fault : ProgFault} → fault ≡ fault_is.OutOfMemory
-    → IsPartOf whole fault_is.OutOfMemory part → IsPartOf whole fault part
-part_for {whole} {part} is told = subst (λ f. IsPartOf whole f part) (sym is) told
-
 -- what is said of an error, or where there is none, says this too
 pub if_err_as : {T E : Type 0} (result : Result T E) {P Q : E → Type 0} → ((e : E) → P e → Q e) → IfErr result P → IfErr result Q
 if_err_as (Ok x) is said = tt

@@ -1,5 +1,5 @@
 -- One thing more is done behind others, and one text more is written behind others.
-use Rattle.std.proofs.Common.{◌≡◌, ℕ, List, [], ◌∷◌, ◌++◌, ◌+◌, ◌<◌, ◌≤◌, take, take_all, get_or, length, Option, Some, None, sym, ap, ◌∙◌, subst, append_assoc}
+use Rattle.std.proofs.Common.{◌≡◌, ℕ, List, [], ◌∷◌, ◌++◌, ◌+◌, ◌<◌, take, get_or, length, Option, Some, None, sym, ap, ◌∙◌, subst, append_assoc}
 use Rattle.std.proofs.lemmas.List.{append-nil, take_more}
 use Rattle.std.specs.Io.KnownBytes.{Appends}
 use Rattle.net_player.specs.InTurn.{InTurn, Writes}
@@ -36,14 +36,6 @@ pub in_turn_next : {X S : Type 0} {Does : X → S → List ℕ → S → Type 0}
 in_turn_next {X} {S} {Does} {s} {mid} {t} {first} {text} xs i x within there done does =
     let P : X → Type 0 = λ y. Does y mid text t in
     in_turn_more xs i x within done (subst P there does)
-
--- all of a list are done
-pub in_turn_all : {X S : Type 0} {Does : X → S → List ℕ → S → Type 0} {s t : S} {text : List ℕ}
-    (xs : List X) (i : ℕ) → length xs ≤ i
-    → InTurn X S Does (take i xs) s text t → InTurn X S Does xs s text t
-in_turn_all {X} {S} {Does} {s} {t} {text} xs i ended done =
-    let P : List X → Type 0 = λ ys. InTurn X S Does ys s text t in
-    subst P (take_all i xs ended) done
 
 pub appends_nothing : (known : Option (List ℕ)) → Appends known known []
 appends_nothing None = tt

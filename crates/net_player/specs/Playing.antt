@@ -11,11 +11,11 @@ use Rattle.net_events.specs.declared.answer.Outcome.TheVariants.{Delivered}
 use Rattle.net_events.specs.declared.answer.Answer.{Answer}
 use Rattle.net_events.specs.declared.event.StepFault.{StepFault}
 use Rattle.net_events.specs.declared.event.StepFault.TheVariants.{OutOfMemory}
-use Rattle.line_sim.specs.Network.{Network, all_elapsed}
-use Rattle.line_sim.specs.Questions.{net_rests}
-use Rattle.line_sim.specs.Due.{net_due}
-use Rattle.line_sim.specs.Pairs.{AllMatch}
-use Rattle.line_sim.specs.Happening.{Happens}
+use Rattle.net_events.specs.Network.{Network, all_elapsed}
+use Rattle.net_nodes.specs.Questions.{net_rests}
+use Rattle.net_nodes.specs.Due.{net_due}
+use Rattle.epoch_matching.specs.Pairs.{AllMatch}
+use Rattle.net_nodes.specs.Happening.{Happens}
 use Rattle.net_files.specs.Commands.{CommandView}
 use Rattle.net_files.specs.Commands.{CommandView as command}
 use Rattle.net_files.specs.declared.script.Script.{Script}

@@ -11,7 +11,7 @@ use Rattle.net_config.specs.declared.config.Config.{Config}
 use Rattle.net_config.specs.declared.fault.MakeFault.{MakeFault}
 use Rattle.net_config.specs.declared.fault.MakeFault.TheVariants as make_fault_is
 use Rattle.net_config.specs.Served.{is_served}
-use Rattle.line_sim.specs.Network.{Network}
+use Rattle.net_events.specs.Network.{Network}
 use Rattle.line_sim.specs.Runs.{IsMadeBy}
 use Rattle.net_files.specs.declared.network.TheConstants.{FIRST}
 use Rattle.net_files.specs.declared.fault.ProgFault.{ProgFault}

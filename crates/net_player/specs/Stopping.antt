@@ -5,10 +5,10 @@ use Rattle.net_events.specs.declared.event.Event.{Event}
 use Rattle.net_events.specs.declared.answer.Answer.{Answer}
 use Rattle.net_events.specs.declared.event.StepFault.{StepFault}
 use Rattle.net_events.specs.declared.event.StepFault.TheVariants as refused_for
-use Rattle.line_sim.specs.Network.{Network, all_elapsed}
-use Rattle.line_sim.specs.Questions.{net_rests}
-use Rattle.line_sim.specs.Due.{net_due}
-use Rattle.line_sim.specs.Happening.{Happens}
+use Rattle.net_events.specs.Network.{Network, all_elapsed}
+use Rattle.net_nodes.specs.Questions.{net_rests}
+use Rattle.net_nodes.specs.Due.{net_due}
+use Rattle.net_nodes.specs.Happening.{Happens}
 use Rattle.net_files.specs.declared.fault.ProgFault.{ProgFault}
 use Rattle.net_files.specs.declared.fault.ProgFault.TheVariants.{OutOfMemory, Write}
 use Rattle.net_files.specs.Commands.{CommandView}

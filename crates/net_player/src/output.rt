@@ -1,4 +1,4 @@
-//! The output: texts that are written whole, or in part where the writer refuses the rest.
+//! The output: texts that are written whole, or in part if the writer refuses the rest.
 ghost use Rattle.std.specs.Prelude.{◌≡◌, OnOk, IfErr};
 ghost use Rattle.std.specs.Io.{WritesAtMost};
 ghost use Rattle.std.specs.Io.KnownBytes.{Appends, WriteAppends};

@@ -5,11 +5,9 @@ ghost use Rattle.std.specs.Io.KnownBytes.{Appends};
 ghost use Rattle.answer_texts.specs.Answers.{answer_text};
 ghost use Rattle.net_events.specs.declared.event.Event.{Event};
 ghost use Rattle.net_events.specs.declared.event.Event.TheVariants.{Deliver};
-ghost use Rattle.line_sim.specs.Network.{Network, all_elapsed};
-ghost use Rattle.line_sim.specs.DueCount.{all_due};
-ghost use Rattle.line_sim.specs.Due.{net_due};
-ghost use Rattle.line_sim.specs.Happening.{FindsNoFrame};
-ghost use Rattle.memory_line.specs.declared.line.Direction.TheVariants.{FromDte, FromDce};
+ghost use Rattle.net_events.specs.Network.{Network, all_elapsed};
+ghost use Rattle.network_laws.specs.DueCount.{all_due};
+ghost use Rattle.net_nodes.specs.Due.{net_due};
 ghost use Rattle.net_player.specs.InTurn.{InTurn, StopsInTurn, Writes};
 ghost use Rattle.net_player.specs.Playing.{has_arrived, key_events, Tells, TellsEvent, Delivers, Passes, Flows};
 ghost use Rattle.net_player.specs.Playing.{Ticks};
@@ -31,9 +29,9 @@ const FLOW_LIMIT: u32 = 100_000;
 
 /// Plays a script on a network, and prints the answer to each event, and at the end whether the network is at rest.
 ///
-/// It stops early with `OutOfMemory` where memory is wanted and with `Write` where the output refuses a part of a text.
-/// What it printed then is the text of the events before, and a front of that of the next. Of the network nothing is
-/// said then.
+/// It stops early with `OutOfMemory` for want of memory, and with `Write` if the output refuses a part of a text. What
+/// it printed then is the text of the events before, and a front of that of the next. Nothing is said of the network
+/// then.
 pub fn play<L: Line, W: Write>(
     alloc: Global,
     net: &mut Net<L>,
@@ -188,14 +186,16 @@ impl Player<'_> {
         ensures faults { IfErr result IsPlayFault }
     {
         let mut still_left = left;
-        for line in 0..self.lines {
-            if is_empty(net, line) {
-                continue;
+        let mut passed = 0;
+        loop {
+            let line = net.next_with_frames(passed);
+            if line >= self.lines {
+                return Ok(still_left);
             }
             still_left = self.deliver(net, line, Direction::FromDte, still_left, text, out)?;
             still_left = self.deliver(net, line, Direction::FromDce, still_left, text, out)?;
+            passed = line + 1;
         }
-        Ok(still_left)
     }
 
     /// Delivers a frame where there is one and it may still be delivered, and gives how many may then still be.
@@ -354,14 +354,6 @@ impl Player<'_> {
         add_answer(text, self.names, self.traces, event, answer)?;
         write_octets(out, text.as_slice())
     }
-}
-
-/// Whether it is certain that a delivery on a line finds no frame, in either direction.
-fn is_empty<L: Line>(net: &Net<L>, line: usize) -> bool
-    ensures from_dte { OnTrue result (FindsNoFrame L.service line FromDte net.now) }
-    ensures from_dce { OnTrue result (FindsNoFrame L.service line FromDce net.now) }
-{
-    net.finds_none(line, Direction::FromDte) && net.finds_none(line, Direction::FromDce)
 }
 
 /// Whether a frame arrived.

@@ -11,8 +11,7 @@ ghost use Rattle.net_player.specs.Programs.{IsFrontOf, making_fault};
 
 use crate::output::write;
 use crate::player::play;
-use bounded_read::read_all;
-use command_words::{Invocation, Mode, WordsFault, read_words};
+use command_words::{Invocation, Mode, WordsFault, read_all, read_words};
 use itoa::Buffer;
 use line_sim::{Config, MakeFault, Net};
 use net_files::{FIRST, ProgFault, Script, read_net, read_script};
@@ -37,9 +36,9 @@ const BAD_WORDS: u8 = 2;
 /// has on the built-in network; with `sim --net FILE --script FILE` that of a file on the network of another, over
 /// lines in memory; with `run` and the same words over pairs of sockets.
 ///
-/// Gives the status to end with: 0 at the end of the script, 1 where a fault ended the run, which is told on `err`, and
-/// 2 where the words are others, which is told there too. Faults are looked for in this order: the words, the network
-/// file, its text, the script file or the input, its lines, the sockets, the network's values, the writing.
+/// Gives the status to end with: 0 at the end of the script, 1 if a fault ended the run, which is told on `err`, and 2
+/// if the words are others, which is told there too. Faults are looked for in this order: the words, the network file,
+/// its text, the script file or the input, its lines, the sockets, the network's values, the writing.
 pub fn perform<S: Files + net::Net, R: Read, W: Write, E: Write>(
     system: &S,
     alloc: Global,
@@ -96,8 +95,8 @@ fn run<S: Files + net::Net, R: Read, W: Write>(
     }
 }
 
-/// What the program does where it cannot read its command words or has no room for its output: want of memory is a
-/// fault, and all else is bad words; either is told on `err`.
+/// What the program does if it cannot read its command words or has no room for its output: want of memory is a fault,
+/// and all else is bad words; either is told on `err`.
 pub fn refuse_words<E: Write>(error: &io::Error, err: &mut E) -> u8
     ensures memory { error_kind error.now ≡ ErrorKind.OutOfMemory → (result ≡ FAULT)
         × Writes (E.contents err.old) (E.contents err.new) (IsFrontOf (fault_line ProgFault.OutOfMemory)) }
@@ -110,8 +109,8 @@ pub fn refuse_words<E: Write>(error: &io::Error, err: &mut E) -> u8
     }
 }
 
-/// The status to end with once the output was flushed: where this failed behind a run that went to its end, that of the
-/// fault `Write`, which is told on `err`; else that of the run, and nothing is told.
+/// The status to end with, after the output was flushed. If that failed after a run that went to its end, it is that of
+/// the fault `Write`, which is told on `err`. Otherwise it is that of the run, and nothing is told.
 pub fn finish<E: Write>(status: u8, flushed: &io::Result<()>, err: &mut E) -> u8
     ensures flushed { IsOk flushed.now → (result ≡ status) × (E.contents err.new ≡ E.contents err.old) }
     ensures refused { IsErr flushed.now → status ≡ DONE → (result ≡ FAULT)

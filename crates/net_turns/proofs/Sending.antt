@@ -17,14 +17,6 @@ pub record Putting (L : LineService) (d : Direction) (line : ℕ) (start : List 
   pub listed : ArePutsOf d line done puts
   pub put : L.faithful → ArePut L d done before now
 
-pub putting-begins : (L : LineService) (d : Direction) (line : ℕ) (start : List Octets) (before : Flights) (puts : List Put) → puts ≡ [] → Putting L d line start before puts start before
-putting-begins L d line start before puts e = record {
-  done = [];
-  split = refl;
-  listed = (let P : List Put → Type 0 = λ ps. ArePutsOf d line [] ps in subst P (sym e) tt);
-  put = λ f. refl;
-}
-
 listed-more : (d : Direction) (line : ℕ) (done : List Octets) (puts : List Put) (x : Octets) (p : Put) → ArePutsOf d line done puts → IsPutOf d line x p → ArePutsOf d line (done ++ x ∷ []) (puts ++ p ∷ [])
 listed-more d line [] [] x p l i = (i, tt)
 listed-more d line [] (q ∷ puts) x p l i = absurd l
@@ -64,10 +56,6 @@ none-left (x ∷ frames) e = absurd (omega (arith, e))
 -- a node with these frames left
 abbrev pub with_frames : List Octets → NodeState → NodeState
 with_frames fs n = with_end (record (end_of n) { line = record (end_of n).line { frames = fs } }) n
-
-pub frames-begin : (n : NodeState) → n ≡ with_frames (frames_of n) n
-frames-begin (Pad p) = refl
-frames-begin (Host e) = refl
 
 -- the first one was taken
 one-less : (n : NodeState) (fs : List Octets) → with_end (without_first_frame (end_of (with_frames fs n))) (with_frames fs n) ≡ with_frames (drop 1 fs) n

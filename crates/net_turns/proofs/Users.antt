@@ -42,9 +42,6 @@ pub host_answers : (channels : ℕ) (event : HostEvent) (e : PacketEnd) → is_o
     → host_fault channels event e ≡ refused (event_fault (host_event_of event) (Host e))
 host_answers channels event e on = λ i. if on i then refused (event_fault (host_event_of event) (Host e)) else Some NoSuchCall
 
-pub off_line : (channels : ℕ) (event : HostEvent) (e : PacketEnd) → is_on_line event channels ≡ false → host_fault channels event e ≡ Some NoSuchCall
-off_line channels event e on = λ i. if on i then refused (event_fault (host_event_of event) (Host e)) else Some NoSuchCall
-
 -- ---- what is called
 
 pub ready_with : (a b : Answer) → a.frames ≡ b.frames → a.notes ≡ b.notes → IsReady a → IsReady b

@@ -3,8 +3,8 @@ use Rattle.std.proofs.Common.{◌≡◌, ◌≤◌, ◌∙◌, ℕ, true, false,
 use Rattle.std.specs.Prelude.{Option, Some, None}
 use Rattle.link_timers.specs.declared.role.Role.{Role}
 use Rattle.link_timers.specs.declared.timers.TimerId.{TimerId}
-use Rattle.packet_layer.specs.Traffic.{Taken}
-use Rattle.packet_layer.specs.Channel.{Refusal, Request as ask}
+use Rattle.packet_channel.specs.Traffic.{Taken}
+use Rattle.packet_channel.specs.Channel.{Refusal, Request as ask}
 use Rattle.packet_layer.specs.Layer.{front_on, channel_given, request_refusal}
 use Rattle.packet_end.specs.PacketEnd.{PacketEnd}
 use Rattle.packet_host.specs.Host.{call_parts, after_call, after_request, after_refuse, after_say, after_take, taken_as, refuse_refusal}
@@ -16,11 +16,10 @@ use Rattle.packet_host.specs.declared.request.HostRequest.TheVariants.{Answer, R
 use Rattle.x25_pad.specs.Pad.{PadState}
 use Rattle.call_records.specs.Book.{Book, places, closes}
 use Rattle.call_records.specs.Carried.{carried, unless_refused, placed_on}
-use Rattle.call_records.specs.Closing.{all_closed}
 use Rattle.call_records.specs.Room.{BookState, opening_notes}
 use Rattle.line_nodes.specs.Node.{NodeState, Pad, Host, is_pad}
-use Rattle.line_nodes.specs.NodeEvents.{heard, expired, relinked, restarted}
-use Rattle.line_nodes.specs.Turn.{told, unchanged, all_sent}
+use Rattle.line_nodes.specs.NodeEvents.{heard, expired, relinked}
+use Rattle.line_nodes.specs.Turn.{told, all_sent}
 use Rattle.line_nodes.specs.Terminals.{after_terminal}
 use Rattle.line_nodes.specs.declared.terminal.TerminalEvent.{TerminalEvent}
 use Rattle.line_nodes.specs.HostTurns.{taken_turn}
@@ -29,7 +28,7 @@ use Rattle.line_nodes.proofs.Noted.{expires_told}
 use Rattle.node_laws.specs.Quiet.{IsQuiet}
 use Rattle.node_laws.proofs.QuietOpens.{opens-calls, opens-asks, opens-refuses, opens-says, opens-takes}
 use Rattle.node_laws.proofs.Rooms.{hearing_room, expiry_room, relink_room, terminal_room}
-use Rattle.net_events.specs.NodeEvents.{turn_of, Hears, Expires, Relinks, Restarts, Calls, Takes, AtTerminal}
+use Rattle.net_events.specs.NodeEvents.{turn_of, Hears, Expires, Relinks, Calls, Takes, AtTerminal}
 use Rattle.line_nodes.specs.declared.fault.NodeFault.TheVariants as node_fault
 use Rattle.packet_channel.specs.declared.fault.ChannelFault.{ChannelFault}
 use Rattle.packet_channel.specs.declared.fault.ChannelFault.TheVariants as channel_fault
@@ -53,10 +52,6 @@ kind_relinked : (n : NodeState) → is_pad (relinked n) ≡ is_pad n
 kind_relinked (Pad p) = refl
 kind_relinked (Host e) = refl
 
-kind_restarted : (n : NodeState) → is_pad (restarted n) ≡ is_pad n
-kind_restarted (Pad p) = refl
-kind_restarted (Host e) = refl
-
 pub called_hears : (role : Role) (n : NodeState) (octets : List ℕ) (s : BookState) → IsQuiet n → 8 ≤ s.room → 1 ≤ s.pairs
     → IsCalled (Hears octets) role n s.book (heard n octets) s
 called_hears role n octets s q many some = record {
@@ -79,22 +74,6 @@ called_relinks role n s q many some = record {
   reads_so = refl;
   room_for = relink_room n q s.room s.pairs (omega (arith, many)) some;
   kind = kind_relinked n;
-}
-
-restarted_told : (role : Role) (n : NodeState) (b : Book) → told role (restarted n) b ≡ unchanged (restarted n) b
-restarted_told role (Pad p) b = refl
-restarted_told role (Host e) b = refl
-
-restarted_fits : (n : NodeState) (room pairs : ℕ) → IsRoomFor (restarted n) room pairs
-restarted_fits (Pad p) room pairs = tt
-restarted_fits (Host e) room pairs = (omega arith, omega arith)
-
-pub called_restarts : (role : Role) (n : NodeState) (b : Book) (room pairs : ℕ)
-    → IsCalled Restarts role n b (restarted n) (record { book = all_closed role b; room = room; pairs = pairs })
-called_restarts role n b room pairs = record {
-  reads_so = restarted_told role n (all_closed role b);
-  room_for = restarted_fits n room pairs;
-  kind = kind_restarted n;
 }
 
 pub called_terminal : (role : Role) (p : PadState) (terminal : ℕ) (event : TerminalEvent) (s : BookState) → IsQuiet (Pad p) → 8 ≤ s.room → 1 ≤ s.pairs

@@ -1,4 +1,3 @@
-pub use Rattle.node_laws.specs.Quiet
 pub mod Outcomes
 pub mod Sends
 pub mod Served

@@ -7,8 +7,8 @@ use net_events::{Answer, Outcome};
 use packet_end::MOST_NOTES;
 use std::alloc::AllocError;
 
-/// Empties an answer's lists, and makes room where it lacks: for the frames and notes of one event of a node, and for
-/// so many octets of text.
+/// Empties an answer's lists, and makes room if there is too little: for the frames and notes of one event of a node,
+/// and for so many octets of text.
 #[inline(always)]
 pub fn make_room(answer: &mut Answer, octets: usize) -> Result<(), AllocError>
     ensures empty { OnOk result (IsEmpty answer.new) }
@@ -25,7 +25,7 @@ pub fn make_room(answer: &mut Answer, octets: usize) -> Result<(), AllocError>
     Ok(())
 }
 
-/// Empties an answer's lists, and makes room where it lacks for so many frames.
+/// Empties an answer's lists, and makes room for so many frames, if there is less.
 pub fn make_frame_room(answer: &mut Answer, frames: usize) -> Result<(), AllocError>
     ensures frames { answer.new.frames.items ≡ [] }
     ensures notes { answer.new.notes.items ≡ [] }

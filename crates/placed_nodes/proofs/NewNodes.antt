@@ -4,11 +4,12 @@ use Rattle.std.specs.Prelude.{◌⊎◌, slice_get, if◌then◌else◌, nat_lt}
 use Rattle.std.proofs.lemmas.Option.{same_Some, none-some}
 use Rattle.std.proofs.lemmas.Bool.{cases_eq, lt-ltb, ltb-true}
 use Rattle.packet_end.specs.declared.params.EndParams.{EndParams}
-use Rattle.book_laws.proofs.Basics.{length_pushed, get_before, get_last}
+use Rattle.record_laws.proofs.Books.Basics.{length_pushed, get_before, get_last}
 use Rattle.call_records.specs.Register.{Register, with_line, with_lines, with_free_line, with_standing_call}
-use Rattle.net_plans.specs.Plan.{StandsAlone}
+use Rattle.net_config.specs.Plan.{StandsAlone}
 use Rattle.net_events.specs.Network.{NetNode, User}
-use Rattle.net_events.specs.Opening.{NewNode, Planned, PlannedUser, PlannedSwitch, NewLine, NetPlan, placed_new, line_plan}
+use Rattle.net_config.specs.NetPlan.{NewNode, Planned, PlannedUser, PlannedSwitch, NewLine, NetPlan}
+use Rattle.net_events.specs.Opening.{placed_new, line_plan}
 use Rattle.placed_nodes.specs.Making.{waiting, begun_to, IsNewNode, AreNew, AreFree, stands}
 use Rattle.placed_nodes.proofs.Lists.{within}
 

@@ -4,7 +4,7 @@ use Rattle.std.specs.Prelude.{if◌then◌else◌, nat_lt}
 use Rattle.packet_end.specs.declared.params.EndParams.{EndParams}
 use Rattle.switch_lines.specs.Making.{made, IsConfig}
 use Rattle.net_events.specs.Network.{PlacedNode, PlacedSwitch, NetNode, User, Switching}
-use Rattle.net_events.specs.Opening.{NewNode, NewSwitch, Planned, PlannedUser, PlannedSwitch, NewLine, NetPlan}
+use Rattle.net_config.specs.NetPlan.{NewNode, NewSwitch, Planned, PlannedUser, PlannedSwitch, NewLine, NetPlan}
 use Rattle.net_events.specs.Opening.{new_node, placed_new, own_configs}
 
 -- a node that was made, whose first frames wait

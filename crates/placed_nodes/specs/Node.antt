@@ -2,7 +2,7 @@
 use Rattle.std.specs.Prelude.{ℕ, Bool, false, not, length, Option, Some, None}
 use Rattle.std.specs.List.{position}
 use Rattle.line_nodes.specs.Node.{NodeState, Pad, Host, is_pad}
-use Rattle.net_plans.specs.Plan.{is_line}
+use Rattle.net_config.specs.Plan.{is_line}
 use Rattle.net_events.specs.Network.{PlacedNode, NetNode, User, Switching}
 use Rattle.line_nodes.specs.Node.{node_rests, node_confirmed}
 use Rattle.switch_lines.specs.Switch.{switch_rests}

@@ -8,24 +8,26 @@ ghost use Rattle.call_records.specs.RegisterView.{register_of};
 ghost use Rattle.line_nodes.specs.Node.{Host as host_node, Pad as pad_node};
 ghost use Rattle.line_nodes.specs.NodeView.{node_of};
 ghost use Rattle.net_events.specs.Network as network;
-ghost use Rattle.net_events.specs.Opening as opening;
-ghost use Rattle.net_events.specs.Opening.{IsPlan, IsNewDte, PlannedUser, line_plan, new_node};
+ghost use Rattle.net_config.specs.NetPlan as planned;
+ghost use Rattle.net_config.specs.NetPlan.{IsPlan, IsNewDte, PlannedUser};
+ghost use Rattle.net_events.specs.Opening.{line_plan, new_node};
 ghost use Rattle.net_events.specs.Opening.{role_on_line, line_config, own_configs};
 ghost use Rattle.link_timers.specs.declared.role.Role.TheVariants as role_is;
 ghost use Rattle.net_config.specs.declared.fault.MakeFault.TheVariants as make_fault_is;
-ghost use Rattle.net_plans.specs.Plan.{StandsAlone};
+ghost use Rattle.net_config.specs.Plan.{StandsAlone};
 ghost use Rattle.placed_nodes.specs.Making.{AreNew, waiting, waiting_switch, IsNewNode, IsOfPlan, CanMakeLines};
 ghost use Rattle.placed_nodes.specs.Making.{AreFree, stands};
 ghost use Rattle.placed_nodes.specs.NodeView.{kind_of};
-ghost use Rattle.net_plans.specs.PlanView.{add_route, routes_value};
+ghost use Rattle.net_config.specs.PlanView.{add_route, routes_value};
 
 use crate::node::{Equipment, NetNode, network_line};
 use address_routes::{RouteFault, Routes};
 use call_records::Register;
 use line_nodes::Node;
 use link_timers::Role;
-use net_config::MakeFault;
-use net_plans::{NetPlan, NewKind, NewLine, NewNode, NewRoute, NewSwitch, Planned, PlannedKind};
+use net_config::{
+    MakeFault, NetPlan, NewKind, NewLine, NewNode, NewRoute, NewSwitch, Planned, PlannedKind,
+};
 use packet_end::{EndFault, EndParams};
 use packet_host::{Host, HostConfig};
 use std::alloc::Global;
@@ -86,7 +88,7 @@ fn new_node(alloc: Global, node: &NewNode, line: EndParams) -> Result<Node, Make
 fn new_user(alloc: Global, plan: &NetPlan, node: &NewNode) -> Result<Equipment, MakeFault>
     requires plan { IsPlan plan.now }
     requires there { IsOfPlan plan.now (PlannedUser node.now) }
-    ensures ok { IfOk result (λ kind. (line : opening.NewLine) → slice_get plan.now.lines node.now.line ≡ Some line
+    ensures ok { IfOk result (λ kind. (line : planned.NewLine) → slice_get plan.now.lines node.now.line ≡ Some line
         → kind_of kind ≡ network.User (waiting node.now line.params)) }
     ensures err { IfErr result (λ fault. fault ≡ make_fault_is.OutOfMemory) }
 {
@@ -246,8 +248,8 @@ fn free_register(alloc: Global, lines: &[NewLine]) -> Result<Register, MakeFault
     Ok(register)
 }
 
-/// The register of a network as it begins. Where a call stands, the network has that line alone. It is refused for want
-/// of memory.
+/// The register of a network as it begins. A network with a standing line has no other. It is refused for want of
+/// memory.
 pub fn new_register(alloc: Global, plan: &NetPlan) -> Result<Register, MakeFault>
     requires plan { IsPlan plan.now }
     requires alone { StandsAlone plan.now }

@@ -9,7 +9,7 @@ ghost use Rattle.placed_nodes.specs.Node.{user_of, own_line, rests, confirmed_by
 
 use line_nodes::Node;
 use link_timers::TimerId;
-use net_plans::find_own;
+use net_config::find_own;
 use std::marker::Model;
 use x25_switch::Switch;
 
@@ -41,7 +41,7 @@ impl Model for NetNode {
 }
 
 impl NetNode {
-    /// Lets ticks pass.
+    /// Lets ticks pass, each a twentieth of a second.
     pub fn elapse(&mut self, ticks: u16)
         ensures { self.new ≡ elapsed_node ticks self.old }
     {
@@ -51,6 +51,7 @@ impl NetNode {
         }
     }
 
+    /// Whether the node is at rest, a switch on all its lines.
     pub fn is_at_rest(&self) -> bool
         ensures { result ≡ rests self.now }
     {
@@ -93,6 +94,7 @@ impl NetNode {
         }
     }
 
+    /// Whether the node is a switch.
     pub fn is_switch(&self) -> bool
         ensures { result ≡ is_none (user_of self.now) }
     {

@@ -6,7 +6,7 @@ use Rattle.std.proofs.lemmas.Option.{same_Some}
 use Rattle.std.proofs.lemmas.Bool.{cases_eq}
 use Rattle.lapb.specs.Machine.{Octets}
 use Rattle.link_timers.specs.declared.timers.TimerId.{TimerId}
-use Rattle.book_laws.proofs.Basics.{set_here, set_elsewhere, length_set}
+use Rattle.record_laws.proofs.Books.Basics.{set_here, set_elsewhere, length_set}
 use Rattle.link_timers.specs.declared.role.Role.{Role}
 use Rattle.link_timers.specs.declared.role.Role.TheVariants.{Dce}
 use Rattle.memory_line.specs.declared.line.Direction.{Direction}

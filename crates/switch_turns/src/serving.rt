@@ -70,7 +70,7 @@ fn is_anew(event: &SwitchEvent<'_>) -> bool
     matches!(event, SwitchEvent::Restarts)
 }
 
-/// Serves an event at a switch, and lists the frames that it puts.
+/// Serves an event at a switch, and lists the frames that it puts. `NoSuchNode` comes if the node is no switch.
 pub fn serve_switch<L: Line>(
     node: &mut NetNode,
     lines: &mut Vec<NetLine<L>>,

@@ -25,11 +25,11 @@ pub struct TracedFrame<'a> {
 #[derive(Clone, Copy, PartialEq, Eq, Drop)]
 pub struct NotAFrame;
 
-/// Reads a line of a trace: the frame that it has, and none where it is of something else, as it begins with no number
-/// before a space.
+/// Reads a line of a trace: the frame that it has, or `None` if it does not begin with a number and a space.
 ///
-/// `NotAFrame` where it goes on in another way: the number has more than 5 digits, no sign of a direction follows, or
-/// what follows that is not octets, each of two hexadecimal digits behind a space, or is longer than a frame may be.
+/// `NotAFrame` comes if it begins so and is no frame: the number has more than 5 digits, no sign of a direction
+/// follows, or what follows that is not octets, each a space and two hexadecimal digits, or is longer than a frame may
+/// be.
 pub fn read_line(line: &[u8]) -> Result<Option<TracedFrame<'_>>, NotAFrame>
     ensures frame { IfOk result (λ frame. IfSome frame (λ f. line.now ≡ frame_line f.line.now f.direction f.octets)) }
     ensures fits { IfOk result (λ frame. IfSome frame (λ f. length f.line.now ≤ 5)) }

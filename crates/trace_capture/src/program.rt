@@ -4,7 +4,7 @@ ghost use Rattle.trace_capture.specs.Capture.{Converts};
 
 use crate::blocks::capture;
 use crate::fault::TraceFault;
-use bounded_read::read_all;
+use command_words::read_all;
 use std::alloc::Global;
 use std::io::{ErrorKind, Read, Write};
 
@@ -17,8 +17,7 @@ const DONE: u8 = 0;
 const FAULT: u8 = 1;
 
 /// Reads what a run has printed with its frames traced, and writes the capture of the frames; gives the status to end
-/// with. A fault is told on `err`, and then nothing was written but for what could be of a capture whose writing
-/// failed.
+/// with. A fault is told on `err`. Then nothing was written, or a front of the capture if its writing failed.
 pub fn convert<R: Read, W: Write, E: Write>(
     alloc: Global,
     input: &mut R,

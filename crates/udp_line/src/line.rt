@@ -30,7 +30,7 @@ impl UdpLine<UdpSocket> {
     /// A line over two sockets on 127.0.0.1 that know each other alone and do not wait, which receives into 1,031
     /// octets, one more than the longest frame has.
     ///
-    /// `OutOfMemory` comes for want of memory and `Socket` where the system gives no such sockets.
+    /// `OutOfMemory` comes for want of memory and `Socket` if the system gives no such sockets.
     pub fn pair<N: Net>(net: &N, alloc: Global) -> Result<Self, SocketFault>
         ensures { IfOk result (λ line. length line.received.items ≡ 1031) }
     {

@@ -1,18 +1,18 @@
 //! How the lines of a network begin, whose nodes are made.
 ghost use Rattle.std.specs.Prelude.{◌≡◌, ◌≤◌, [], Some, IfOk, IfErr, OnOk, length, slice_get, vec_len};
 ghost use Rattle.net_events.specs.Network as network;
-ghost use Rattle.net_events.specs.Opening.{IsPlan, IsMade};
+ghost use Rattle.net_config.specs.NetPlan.{IsPlan};
+ghost use Rattle.net_events.specs.Opening.{IsMade};
 ghost use Rattle.net_config.specs.declared.fault.MakeFault.TheVariants as make_fault_is;
-ghost use Rattle.net_plans.specs.Plan.{StandsAlone};
+ghost use Rattle.net_config.specs.Plan.{StandsAlone};
 ghost use Rattle.net_nodes.specs.Making.{HaveBegun, HasEnds, PutsFirst, Begins, CanBegin, SwitchBegins, IsMadeOf};
 ghost use Rattle.placed_nodes.specs.Making.{AreNew};
 
 use crate::nodes::Nodes;
 use line_end::MOST_FRAMES;
 use memory_line::{Direction, Line};
-use net_config::MakeFault;
+use net_config::{MakeFault, NetPlan, NewLine};
 use net_events::Puts;
-use net_plans::{NetPlan, NewLine};
 use net_turns::put_frames;
 use placed_nodes::{Equipment, NetNode, new_nodes, new_register};
 use std::alloc::{AllocError, Global};
@@ -146,8 +146,8 @@ fn begin_switches<L: Line>(
 }
 
 impl<L: Line> Nodes<L> {
-    /// Makes the nodes of a plan on these lines, each of which is emptied first; where no call stands both ends of a
-    /// line send a frame to begin with. It is refused for want of memory.
+    /// Makes the nodes of a plan on these lines, each of which is emptied first. Both ends of a line that is not
+    /// standing send a first frame. It is refused for want of memory.
     pub fn new(alloc: Global, plan: &NetPlan, lines: Vec<L>) -> Result<Self, MakeFault>
         requires plan { IsPlan plan.now }
         requires alone { StandsAlone plan.now }

@@ -1,11 +1,12 @@
 //! What is asked of the nodes, and time.
-ghost use Rattle.std.specs.Prelude.{◌≡◌, map};
+ghost use Rattle.std.specs.Prelude.{◌≡◌, ◌≤◌, map};
 ghost use Rattle.std.specs.Bool.{OnTrue};
 ghost use Rattle.std.specs.List.{list_all};
+ghost use Rattle.memory_line.specs.declared.line.Direction.TheVariants.{FromDte, FromDce};
 ghost use Rattle.call_records.specs.RecordView.{shown, pair_of};
 ghost use Rattle.net_events.specs.Network.{all_elapsed};
 ghost use Rattle.net_nodes.specs.Due.{net_due};
-ghost use Rattle.net_nodes.specs.Happening.{FindsNoFrame};
+ghost use Rattle.net_nodes.specs.Happening.{FindsNoFrame, FindNoFrames};
 ghost use Rattle.net_nodes.specs.Questions.{net_confirmed, net_rests, is_empty};
 ghost use Rattle.placed_nodes.specs.Node.{rests};
 
@@ -25,12 +26,14 @@ fn is_empty<L: Line>(net_line: &NetLine<L>) -> bool
 }
 
 impl<L: Line> Nodes<L> {
+    /// The records of all calls, in the order of making.
     pub fn records(&self) -> &[Record]
         ensures { map shown result.now ≡ self.now.register.records }
     {
         self.register.book.records()
     }
 
+    /// The pairs of records, in the order of acceptance.
     pub fn pairs(&self) -> &[Pair]
         ensures { map pair_of result.now ≡ self.now.register.pairs }
     {
@@ -52,6 +55,28 @@ impl<L: Line> Nodes<L> {
         line < self.lines.len() && self.lines[line].line.is_certainly_empty(direction)
     }
 
+    /// The first line from this number on of which it is not certain that deliveries in both directions find no frame. If
+    /// there is none, no line has the number that is given.
+    pub fn next_with_frames(&self, from: usize) -> usize
+        ensures onward { from ≤ result }
+        ensures none { FindNoFrames L.service from result self.now }
+    {
+        for line in from..self.lines.len() {
+            if !self.find_none(line) {
+                return line;
+            }
+        }
+        from.max(self.lines.len())
+    }
+
+    /// Whether it is certain that deliveries in both directions on a line find no frame.
+    fn find_none(&self, line: usize) -> bool
+        ensures from_dte { OnTrue result (FindsNoFrame L.service line FromDte self.now) }
+        ensures from_dce { OnTrue result (FindsNoFrame L.service line FromDce self.now) }
+    {
+        self.finds_none(line, Direction::FromDte) && self.finds_none(line, Direction::FromDce)
+    }
+
     fn are_nodes_at_rest(&self) -> bool
         ensures { result ≡ list_all rests self.now.nodes }
     {
@@ -66,7 +91,8 @@ impl<L: Line> Nodes<L> {
         self.are_lines_empty() && self.are_nodes_at_rest()
     }
 
-    /// What a host answers on confirmed delivery.
+    /// Whether the node of this place is a host with a call on the channel in which each packet with D = 1 since the
+    /// last reset was covered (X.25 4.3.3).
     pub fn confirmed(&self, node: usize, channel: u16) -> bool
         ensures { result ≡ net_confirmed node channel self.now }
     {
@@ -83,7 +109,7 @@ impl<L: Line> Nodes<L> {
         node.confirmed(channel)
     }
 
-    /// Lets ticks pass.
+    /// Lets ticks pass, each a twentieth of a second.
     pub fn elapse(&mut self, ticks: u16)
         ensures { self.new ≡ all_elapsed ticks self.old }
     {

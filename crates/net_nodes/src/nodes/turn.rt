@@ -4,7 +4,7 @@ ghost use Rattle.std.specs.Result.{result_and};
 ghost use Rattle.call_records.specs.RegisterView.{register_of};
 ghost use Rattle.net_events.specs.EventView.{line_event_of, user_event_of};
 ghost use Rattle.net_events.specs.Network as network;
-ghost use Rattle.net_turns.specs.Quiet.{IsQuiet};
+ghost use Rattle.node_laws.specs.Quiet.{IsQuiet};
 ghost use Rattle.net_turns.specs.Served.{IsEmpty};
 ghost use Rattle.net_turns.specs.Users.{IsWhole, IsRefusedWith, user_fault};
 ghost use Rattle.net_nodes.specs.Turns.{LineServed, UserServed, CanServe, CanServeUser, HadTurn, CanAct, LeavesLine};

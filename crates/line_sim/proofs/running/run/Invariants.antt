@@ -1,5 +1,5 @@
 use Rattle.std.proofs.Common.{take}
-use Rattle.switch_network_laws.specs.Promise.{NetworkPromise}
+use Rattle.network_laws.specs.Switched.Promise.{NetworkPromise}
 use Rattle.line_sim.specs.Runs.{HasRun}
 use Rattle.line_sim.proofs.running.run.Given as goal
 

@@ -3,7 +3,8 @@ use Rattle.std.proofs.lemmas.Option.{slice_get_read}
 use Rattle.lapb.proofs.Frames.{drop-slice_get}
 use Rattle.call_records.specs.Register.{with_lines, with_free_line}
 use Rattle.call_records.specs.RegisterView.{register_of}
-use Rattle.net_events.specs.Opening.{NewLine, line_plan}
+use Rattle.net_config.specs.NetPlan.{NewLine}
+use Rattle.net_events.specs.Opening.{line_plan}
 use Rattle.placed_nodes.proofs.NewNodes.{free_line, none_left}
 use Rattle.placed_nodes.proofs.making.free_register.Goals as goal
 

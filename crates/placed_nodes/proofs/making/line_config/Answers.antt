@@ -1,8 +1,8 @@
 use Rattle.std.proofs.Common.{◌≡◌, ℕ, ◌≤◌, length, List, [], ◌∷◌, Option, Some, None, refl, ap, ◌∙◌, arith}
 use Rattle.packet_codec.specs.Digits.{digits_or_none}
 use Rattle.call_records.specs.Book.{address_of}
-use Rattle.net_events.specs.Opening.{NewLine}
-use Rattle.net_plans.specs.PlanView.{HasDigits}
+use Rattle.net_config.specs.NetPlan.{NewLine}
+use Rattle.net_config.specs.PlanView.{HasDigits}
 use Rattle.placed_nodes.proofs.making.line_config.Goals as goal
 
 with_digits : (digits : List ℕ) → 1 ≤ length digits → Some digits ≡ address_of digits

@@ -1,5 +1,5 @@
 use Rattle.std.proofs.Common.{Some, sym, ap, ◌∙◌}
-use Rattle.net_plans.specs.PlannedView.{planned_value}
+use Rattle.net_config.specs.PlannedView.{planned_value}
 use Rattle.placed_nodes.proofs.Plans.{can_make}
 use Rattle.placed_nodes.proofs.making.new_kind.Goals as goal
 

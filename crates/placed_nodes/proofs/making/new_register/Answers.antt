@@ -1,6 +1,7 @@
 use Rattle.std.proofs.Common.{◌≡◌, true, true≢false, inl, inr, [], ◌∷◌, map, slice_get, sym, ap, ◌∙◌, subst, arith}
 use Rattle.call_records.specs.Register.{made_register}
-use Rattle.net_events.specs.Opening.{NewLine, NetPlan, line_plan}
+use Rattle.net_config.specs.NetPlan.{NewLine, NetPlan}
+use Rattle.net_events.specs.Opening.{line_plan}
 use Rattle.placed_nodes.specs.Making.{AreFree, stands}
 use Rattle.placed_nodes.proofs.Lists.{there}
 use Rattle.placed_nodes.proofs.NewNodes.{are_free, one_stands, some_line}

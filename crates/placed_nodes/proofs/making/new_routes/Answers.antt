@@ -3,8 +3,8 @@ use Rattle.std.specs.FinMap.{empty}
 use Rattle.std.proofs.lemmas.List.{take_all}
 use Rattle.std.proofs.lemmas.List.Sums.{fold_more}
 use Rattle.address_routes.specs.Routes.{RouteMap}
-use Rattle.net_plans.specs.PlanView.{add_route, routes_value}
-use Rattle.net_plans.specs.declared.parts.NewRoute.{NewRoute}
+use Rattle.net_config.specs.PlanView.{add_route, routes_value}
+use Rattle.net_config.specs.declared.parts.NewRoute.{NewRoute}
 use Rattle.placed_nodes.proofs.making.new_routes.Goals as goal
 
 pub loop-route-preserved : goal.loop-route-preserved

@@ -1,6 +1,6 @@
 -- The routes so far are added.
 use Rattle.std.proofs.Common.{◌≡◌, take}
-use Rattle.net_plans.specs.PlanView.{routes_value}
+use Rattle.net_config.specs.PlanView.{routes_value}
 use Rattle.placed_nodes.proofs.making.new_routes.Given as goal
 
 abbrev pub invariant-loop-route : goal.invariant-loop-route

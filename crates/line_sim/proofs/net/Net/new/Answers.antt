@@ -1,4 +1,4 @@
-use Rattle.switch_network_laws.proofs.PromiseAny.{promise_any}
+use Rattle.network_laws.proofs.Switched.PromiseAny.{promise_any}
 use Rattle.line_sim.proofs.Events.{made}
 use Rattle.line_sim.proofs.net.Net.new.Goals as goal
 

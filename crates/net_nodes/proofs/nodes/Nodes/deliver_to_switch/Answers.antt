@@ -1,7 +1,7 @@
 use Rattle.std.proofs.Common.{◌<◌, length, Some, slice_get, refl, sym, ap, ◌∙◌, inl, subst, arith}
 use Rattle.std.specs.Prelude.{is_some}
 use Rattle.std.proofs.lemmas.Bool.{OnTrue_at, OnFalse_at}
-use Rattle.book_laws.proofs.Basics.{length_set}
+use Rattle.record_laws.proofs.Books.Basics.{length_set}
 use Rattle.call_records.specs.RegisterView.{register_of}
 use Rattle.net_events.specs.Network.{Network}
 use Rattle.net_nodes.specs.Faults.{where_there_is}

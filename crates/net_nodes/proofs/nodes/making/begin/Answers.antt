@@ -2,8 +2,8 @@ use Rattle.std.proofs.Common.{◌≡◌, ◌≢◌, set, slice_get, sym, ap, ◌
 use Rattle.memory_line.specs.declared.line.Direction.TheVariants.{FromDte, FromDce}
 use Rattle.memory_line.specs.Lines.{Flights, no_flights, ArePut}
 use Rattle.net_events.specs.Network.{NetNode}
-use Rattle.net_events.specs.Opening.{NewLine}
-use Rattle.book_laws.proofs.Basics.{set_elsewhere}
+use Rattle.net_config.specs.NetPlan.{NewLine}
+use Rattle.record_laws.proofs.Books.Basics.{set_elsewhere}
 use Rattle.placed_nodes.proofs.Lists.{found, within}
 use Rattle.net_nodes.specs.Making.{begun_node, users_frames}
 use Rattle.net_nodes.proofs.nodes.making.begin.Goals as goal

@@ -1,7 +1,7 @@
 use Rattle.std.proofs.Common.{◌≡◌, ℕ, ◌<◌, suc, ◌++◌, [], ◌∷◌, List, length, vec_len, slice_get, sym, ap, ◌∙◌, subst, arith}
 use Rattle.link_timers.specs.declared.role.Role.TheVariants.{Dte, Dce}
 use Rattle.net_events.specs.Network.{NetLine}
-use Rattle.net_events.specs.Opening.{NewLine, NetPlan}
+use Rattle.net_config.specs.NetPlan.{NewLine, NetPlan}
 use Rattle.net_nodes.specs.Making.{HaveBegun}
 use Rattle.placed_nodes.specs.Making.{AreNew}
 use Rattle.placed_nodes.proofs.Lists.{there, at_index}

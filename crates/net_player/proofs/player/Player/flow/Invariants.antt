@@ -1,5 +1,5 @@
 use Rattle.std.proofs.Common.{◌++◌, List, ℕ}
-use Rattle.line_sim.specs.Network.{Network}
+use Rattle.net_events.specs.Network.{Network}
 use Rattle.net_files.specs.declared.fault.ProgFault.{ProgFault}
 use Rattle.net_player.specs.InTurn.{Writes}
 use Rattle.net_player.specs.Playing.{Flows}

@@ -1,6 +1,6 @@
 use Rattle.std.proofs.Common.{take, List, ℕ}
 use Rattle.net_events.specs.declared.event.Event.{Event}
-use Rattle.line_sim.specs.Network.{Network}
+use Rattle.net_events.specs.Network.{Network}
 use Rattle.net_player.specs.InTurn.{InTurn, Writes}
 use Rattle.net_player.specs.Playing.{key_events, TellsEvent}
 use Rattle.net_player.proofs.player.Player.play_keys.Given as goal

@@ -1,5 +1,5 @@
 use Rattle.std.proofs.Common.{List, ℕ}
-use Rattle.line_sim.specs.DueCount.{all_due}
+use Rattle.network_laws.specs.DueCount.{all_due}
 use Rattle.net_player.specs.InTurn.{Writes}
 use Rattle.net_player.proofs.Expiries.{Onward, StopsOnward}
 use Rattle.net_player.proofs.player.Player.tick.Given as goal

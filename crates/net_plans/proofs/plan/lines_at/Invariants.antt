@@ -1,6 +1,0 @@
-use Rattle.std.proofs.Common.{◌≡◌, take}
-use Rattle.net_plans.specs.Plan.{lines_from}
-use Rattle.net_plans.proofs.plan.lines_at.Given as goal
-
-abbrev pub invariant-loop-number : goal.invariant-loop-number
-invariant-loop-number l = l.own.items ≡ lines_from 0 l.fn.name (take l.number l.fn.lines)

@@ -1,7 +1,0 @@
-use Rattle.std.proofs.Common.{◌≡◌, map, take}
-use Rattle.net_plans.specs.Plan.{new_line}
-use Rattle.net_plans.proofs.plan.new_lines.Given as goal
-
-abbrev pub invariant-loop-line : goal.invariant-loop-line
-invariant-loop-line l =
-    l.lines.items ≡ map (new_line l.fn.config.nodes.items) (take l.line-index l.line-items)

@@ -1,3 +1,0 @@
-pub mod Plan
-pub mod PlanView
-pub mod PlannedView
