@@ -4,13 +4,13 @@ ghost use Rattle.std.specs.Prelude.{◌≤◌, length};
 use crate::lines::{STANDING, incoming};
 use crate::pad_steps::new_pad;
 use call_records::{Book, EditStep, Pair, Record};
+use line_nodes::{write_pad_note, write_pad_notes};
 use link_timers::Role;
+use node_laws::pad_room_law;
 use packet_codec::Address;
-use pad_records::{write_note, write_notes};
 use std::alloc::{AllocError, Global};
 use x3_params::{Params, Profile};
 use x25_pad::{ChannelNote, Pad, PadData};
-use x25_pad_laws::pad_room_law;
 
 /// The nodes of the two ends.
 const PAD_NODE: usize = 3;
@@ -35,7 +35,7 @@ fn accepts_at_once(book: &mut Book) -> bool {
     match book.reserve(1) {
         Ok(()) => {
             book.tell(Role::Dte, &incoming(1, Address::new(&CALLED)));
-            write_note(book, Role::Dte, &ChannelNote::Accepted(1));
+            write_pad_note(book, Role::Dte, &ChannelNote::Accepted(1));
             true
         }
         Err(_) => false,
@@ -54,7 +54,7 @@ fn is_accepted(book: &Book) -> bool {
 fn note_all(book: &mut Book) -> Result<(), AllocError> {
     let params = Params::profile(Profile::Simple, 14);
     book.reserve(8)?;
-    write_note(
+    write_pad_note(
         book,
         Role::Dte,
         &ChannelNote::Edited {
@@ -63,9 +63,9 @@ fn note_all(book: &mut Book) -> Result<(), AllocError> {
             params,
         },
     );
-    write_note(book, Role::Dte, &ChannelNote::Paused { channel: 1, params });
+    write_pad_note(book, Role::Dte, &ChannelNote::Paused { channel: 1, params });
     let user_data = PadData::new(b"A", false, false, false);
-    write_note(
+    write_pad_note(
         book,
         Role::Dte,
         &ChannelNote::Sent {
@@ -73,7 +73,7 @@ fn note_all(book: &mut Book) -> Result<(), AllocError> {
             user_data,
         },
     );
-    write_note(
+    write_pad_note(
         book,
         Role::Dte,
         &ChannelNote::Interrupted {
@@ -81,8 +81,8 @@ fn note_all(book: &mut Book) -> Result<(), AllocError> {
             octet: 1,
         },
     );
-    write_note(book, Role::Dte, &ChannelNote::Reset(1));
-    write_note(book, Role::Dte, &ChannelNote::Cleared(1));
+    write_pad_note(book, Role::Dte, &ChannelNote::Reset(1));
+    write_pad_note(book, Role::Dte, &ChannelNote::Cleared(1));
     Ok(())
 }
 
@@ -125,7 +125,7 @@ fn type_key(pad: &mut Pad, octet: u8, book: &mut Book)
 {
     pad_room_law();
     let _ = pad.on_key(0, octet);
-    write_notes(pad, Role::Dte, book);
+    write_pad_notes(pad, Role::Dte, book);
 }
 
 // Types at the first terminal. Whether there was room for all.

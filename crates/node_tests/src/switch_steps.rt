@@ -5,7 +5,7 @@ use address_routes::{LineNo, Routes};
 use arrayvec::ArrayVec;
 use frame_codec::FrameBuf;
 use lapb::LinkParams;
-use link_tests::Terminus;
+use layer_tests::Terminus;
 use link_timers::{Role, TimerId};
 use packet_codec::PacketBuf;
 use packet_end::EndParams;

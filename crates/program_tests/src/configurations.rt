@@ -1,9 +1,9 @@
 //! A network of two lines that is served, and networks like it that are not; networks with a switch, and of two switches
 //! and a trunk, that are served, and such that are not.
 use net_config::{
-    Config, LineConfig, MakeFault, NodeConfig, NodeKind, RouteConfig, TerminalsConfig, is_served,
+    Config, LineConfig, MakeFault, NetPlan, NodeConfig, NodeKind, PlannedKind, RouteConfig,
+    TerminalsConfig, is_served, plan_of,
 };
-use net_plans::{NetPlan, PlannedKind, plan_of};
 use std::alloc::{AllocError, Global};
 use std::process::Abort;
 use x3_params::Profile;

@@ -30,19 +30,31 @@ fn config(alloc: Global) -> Result<Config, Came> {
 /// first one, and a restart of the switch.
 fn events(alloc: Global) -> Result<Vec<Event>, Came> {
     let mut events = Vec::new(alloc);
-    push_flow(&mut events)?;
-    push_keys(&mut events, b"2001\r")?;
-    push_flow(&mut events)?;
-    push_request(&mut events, HostRequest::Answer)?;
-    push_flow(&mut events)?;
-    push_keys(&mut events, b"HELLO\r")?;
-    push_flow(&mut events)?;
+    push_call(&mut events)?;
+    push_data(alloc, &mut events)?;
+    push_end(&mut events)?;
+    Ok(events)
+}
+
+/// Adds the events up to the first packet.
+fn push_call(events: &mut Vec<Event>) -> Result<(), Came> {
+    push_flow(events)?;
+    push_keys(events, b"2001\r")?;
+    push_flow(events)?;
+    push_request(events, HostRequest::Answer)?;
+    push_flow(events)?;
+    push_keys(events, b"HELLO\r")?;
+    push_flow(events)
+}
+
+/// Adds what is taken, said and printed.
+fn push_data(alloc: Global, events: &mut Vec<Event>) -> Result<(), Came> {
     events.push(Event::Take {
         node: HOST,
         channel: CHANNEL,
     })?;
     push_request(
-        &mut events,
+        events,
         HostRequest::Say {
             octets: b"BACK".to_vec(alloc)?,
             qualified: false,
@@ -50,17 +62,16 @@ fn events(alloc: Global) -> Result<Vec<Event>, Came> {
         },
     )?;
     push_request(
-        &mut events,
+        events,
         HostRequest::Interrupt {
             octets: b"\x01".to_vec(alloc)?,
         },
     )?;
-    push_flow(&mut events)?;
+    push_flow(events)?;
     for _ in 0..3 {
-        push_at_terminal(&mut events, TerminalEvent::Print)?;
+        push_at_terminal(events, TerminalEvent::Print)?;
     }
-    push_end(&mut events)?;
-    Ok(events)
+    Ok(())
 }
 
 /// Adds the events from the reset on.
@@ -159,12 +170,16 @@ fn digest_of(alloc: Global, config: &Config, events: &[Event]) -> Result<Digest,
 
 pub(crate) fn net_new(alloc: Global, blocks: u32) -> Result<Came, Came> {
     let config = config(alloc)?;
+    net_of(alloc, blocks, &config)
+}
+
+fn net_of(alloc: Global, blocks: u32, config: &Config) -> Result<Came, Came> {
     let lines = mem_lines(alloc, config.lines.len())?;
-    spend(alloc, blocks)?;
     if lines.len() != config.lines.len() {
         return Err(Came::Wrong);
     }
-    match Net::new(alloc, &config, lines) {
+    spend(alloc, blocks)?;
+    match Net::new(alloc, config, lines) {
         Ok(_) => Ok(Came::Answered),
         Err(MakeFault::OutOfMemory) => Ok(Came::Refused),
         Err(_) => Ok(Came::Wrong),
@@ -174,12 +189,30 @@ pub(crate) fn net_new(alloc: Global, blocks: u32) -> Result<Came, Came> {
 /// After a refused event the same event answers as if it had come first, and nothing of the whole run is lost.
 pub(crate) fn step(alloc: Global, blocks: u32) -> Result<Came, Came> {
     let config = config(alloc)?;
+    step_with(alloc, blocks, &config)
+}
+
+fn step_with(alloc: Global, blocks: u32, config: &Config) -> Result<Came, Came> {
     let events = events(alloc)?;
-    let whole = digest_of(alloc, &config, events.as_slice())?;
-    let mut net = Net::on_memory_lines(alloc, &config).map_err(|_| Came::Wrong)?;
+    step_on(alloc, blocks, config, events.as_slice())
+}
+
+fn step_on(alloc: Global, blocks: u32, config: &Config, events: &[Event]) -> Result<Came, Came> {
+    let whole = digest_of(alloc, config, events)?;
+    let mut net = Net::on_memory_lines(alloc, config).map_err(|_| Came::Wrong)?;
+    step_in_turn(alloc, blocks, &mut net, events, whole)
+}
+
+fn step_in_turn<L: Line>(
+    alloc: Global,
+    blocks: u32,
+    net: &mut Net<L>,
+    events: &[Event],
+    whole: Digest,
+) -> Result<Came, Came> {
     let mut digest = Digest::new();
     spend(alloc, blocks)?;
-    let was_refused = play(&mut net, events.as_slice(), &mut digest)?;
+    let was_refused = play(net, events, &mut digest)?;
     if digest != whole {
         Ok(Came::Wrong)
     } else if was_refused {
@@ -191,22 +224,29 @@ pub(crate) fn step(alloc: Global, blocks: u32) -> Result<Came, Came> {
 
 pub(crate) fn run(alloc: Global, blocks: u32) -> Result<Came, Came> {
     let config = config(alloc)?;
+    run_with(alloc, blocks, &config)
+}
+
+fn run_with(alloc: Global, blocks: u32, config: &Config) -> Result<Came, Came> {
     let events = events(alloc)?;
-    let whole = line_sim::run(alloc, &config, events.as_slice()).map_err(|_| Came::Wrong)?;
+    run_on(alloc, blocks, config, events.as_slice())
+}
+
+fn run_on(alloc: Global, blocks: u32, config: &Config, events: &[Event]) -> Result<Came, Came> {
+    let whole = digest_of_run(alloc, config, events).map_err(|_| Came::Wrong)?;
     spend(alloc, blocks)?;
-    match line_sim::run(alloc, &config, events.as_slice()) {
-        Ok(net) => {
-            let mut digests = [Digest::new(); 2];
-            digests[0].calls(whole.records(), whole.pairs());
-            digests[1].calls(net.records(), net.pairs());
-            if digests[0] == digests[1] {
-                Ok(Came::Answered)
-            } else {
-                Ok(Came::Wrong)
-            }
-        }
+    match digest_of_run(alloc, config, events) {
+        Ok(digest) if digest == whole => Ok(Came::Answered),
         Err(RunFault::Made(MakeFault::OutOfMemory)) => Ok(Came::Refused),
         Err(RunFault::Stopped(index)) if index < events.len() => Ok(Came::Refused),
-        Err(_) => Ok(Came::Wrong),
+        _ => Ok(Came::Wrong),
     }
+}
+
+/// The digest of what a run of the events leaves.
+fn digest_of_run(alloc: Global, config: &Config, events: &[Event]) -> Result<Digest, RunFault> {
+    let net = line_sim::run(alloc, config, events)?;
+    let mut digest = Digest::new();
+    digest.calls(net.records(), net.pairs());
+    Ok(digest)
 }

@@ -62,22 +62,27 @@ pub(crate) fn routes_new(alloc: Global, blocks: u32) -> Result<Came, Came> {
 
 /// A refused route is not found, and is added once there is memory.
 pub(crate) fn routes_add(alloc: Global, blocks: u32) -> Result<Came, Came> {
-    let mut routes = small_routes(alloc)?;
     let prefix = address(b"30")?;
+    let mut routes = small_routes(alloc)?;
     spend(alloc, blocks)?;
-    match routes.add(&prefix, LineNo(3)) {
-        Ok(()) if finds(&routes) => Ok(Came::Answered),
+    Ok(added(&mut routes, &prefix))
+}
+
+/// What came of adding a third route.
+fn added(routes: &mut Routes, prefix: &Address) -> Came {
+    match routes.add(prefix, LineNo(3)) {
+        Ok(()) if finds(routes) => Came::Answered,
         Err(RouteFault::OutOfMemory) => {
-            if routes.find(&prefix).is_none()
-                && routes.add(&prefix, LineNo(3)).is_ok()
-                && finds(&routes)
+            if routes.find(prefix).is_none()
+                && routes.add(prefix, LineNo(3)).is_ok()
+                && finds(routes)
             {
-                Ok(Came::Refused)
+                Came::Refused
             } else {
-                Ok(Came::Wrong)
+                Came::Wrong
             }
         }
-        _ => Ok(Came::Wrong),
+        _ => Came::Wrong,
     }
 }
 
@@ -91,12 +96,17 @@ fn finds(routes: &Routes) -> bool {
 /// The routes of a switch of two lines.
 fn small_routes(alloc: Global) -> Result<Routes, Came> {
     let mut routes = Routes::new(alloc).map_err(|_| Came::Wrong)?;
+    add_two(&mut routes)?;
+    Ok(routes)
+}
+
+fn add_two(routes: &mut Routes) -> Result<(), Came> {
     for (digits, line) in [(b"1001", 0), (b"2001", 1)] {
         if routes.add(&address(digits)?, LineNo(line)).is_err() {
             return Err(Came::Wrong);
         }
     }
-    Ok(routes)
+    Ok(())
 }
 
 /// What came of making a node.
@@ -109,25 +119,23 @@ fn made<T: Drop>(node: Result<T, EndFault>) -> Came {
 }
 
 pub(crate) fn switch_new(alloc: Global, blocks: u32) -> Result<Came, Came> {
+    let lines = [switch_line(b"1001")?, switch_line(b"2001")?];
     let routes = small_routes(alloc)?;
-    let lines = [
-        SwitchLineConfig {
-            params: LINE,
-            role: Role::Dce,
-            address: Some(address(b"1001")?),
-        },
-        SwitchLineConfig {
-            params: LINE,
-            role: Role::Dce,
-            address: Some(address(b"2001")?),
-        },
-    ];
     let config = SwitchConfig {
         lines: &lines,
         routes,
     };
     spend(alloc, blocks)?;
     Ok(made(Switch::new(alloc, config)))
+}
+
+/// A line of the switch, with an address of these digits.
+fn switch_line(digits: &[u8]) -> Result<SwitchLineConfig, Came> {
+    Ok(SwitchLineConfig {
+        params: LINE,
+        role: Role::Dce,
+        address: Some(address(digits)?),
+    })
 }
 
 pub(crate) fn pad_new(alloc: Global, blocks: u32) -> Result<Came, Came> {

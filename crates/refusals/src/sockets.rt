@@ -33,9 +33,9 @@ pub(crate) fn perform<S: Files + Net>(
     alloc: Global,
     blocks: u32,
 ) -> Result<Came, Came> {
-    let words = words(alloc, "run")?;
     fs::write(system, "network.toml", NETWORK).map_err(|_| Came::Wrong)?;
     fs::write(system, "script", SCRIPT).map_err(|_| Came::Wrong)?;
+    let words = words(alloc, "run")?;
     let mut input: &[u8] = b"";
     let mut out = Page::new();
     let mut err = Page::new();

@@ -3,8 +3,8 @@ ghost use Rattle.std.specs.Prelude.{◌≤◌};
 
 use crate::came::{Came, spend};
 use command_words::{Mode, WordsFault};
-use net_files::ProgFault;
-use net_player::Net;
+use line_sim::{Config, Line, Net};
+use net_files::{ProgFault, Script};
 use std::alloc::{AllocError, Global};
 use std::io::{self, Write};
 
@@ -169,11 +169,24 @@ pub(crate) fn read_script(alloc: Global, blocks: u32) -> Result<Came, Came> {
 /// What a refused play printed before is a front of the whole.
 pub(crate) fn play(alloc: Global, blocks: u32) -> Result<Came, Came> {
     let config = net_files::read_net(alloc, NETWORK)?;
-    let script = net_files::read_script(alloc, SCRIPT.as_bytes(), &config)?;
-    let mut net = Net::on_memory_lines(alloc, &config).map_err(|_| Came::Wrong)?;
+    play_on(alloc, blocks, &config)
+}
+
+fn play_on(alloc: Global, blocks: u32, config: &Config) -> Result<Came, Came> {
+    let script = net_files::read_script(alloc, SCRIPT.as_bytes(), config)?;
+    let mut net = Net::on_memory_lines(alloc, config).map_err(|_| Came::Wrong)?;
+    play_script(alloc, blocks, &mut net, &script)
+}
+
+fn play_script<L: Line>(
+    alloc: Global,
+    blocks: u32,
+    net: &mut Net<L>,
+    script: &Script,
+) -> Result<Came, Came> {
     let mut out = Page::new();
     spend(alloc, blocks)?;
-    match net_player::play(alloc, &mut net, &script, &mut out) {
+    match net_player::play(alloc, net, script, &mut out) {
         Ok(()) if out.text() == PRINTED => Ok(Came::Answered),
         Err(ProgFault::OutOfMemory) if PRINTED.starts_with(out.text()) => Ok(Came::Refused),
         _ => Ok(Came::Wrong),

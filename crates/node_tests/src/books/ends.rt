@@ -1,5 +1,5 @@
 //! What an end takes, and keys that a PAD edits, written into a book.
-ghost use Rattle.packet_layer.specs.TakenView.{HasFewOctets};
+ghost use Rattle.packet_channel.specs.TakenView.{HasFewOctets};
 
 use crate::books::{INTERRUPT, NOTHING, Passage, Shown, Step, fit, new_book};
 use crate::lines::STANDING;

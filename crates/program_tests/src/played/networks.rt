@@ -482,6 +482,7 @@ const FOUND: [(&[u8], [bool; 2]); 3] = [
 fn find_none(net: &Net<MemLine>, [from_dte, from_dce]: [bool; 2]) -> bool {
     net.finds_none(0, Direction::FromDte) == from_dte
         && net.finds_none(0, Direction::FromDce) == from_dce
+        && net.next_with_frames(0) == usize::from(from_dte && from_dce)
 }
 
 /// Whether deliveries find none so, each time that something was played.
@@ -490,7 +491,7 @@ fn find_none_in_turn(alloc: Global, net: &mut Net<MemLine>, config: &Config) -> 
     for (script, found) in &FOUND {
         same = same && plays(alloc, net, config, script) && find_none(net, *found);
     }
-    same && !net.finds_none(1, Direction::FromDte)
+    same && !net.finds_none(1, Direction::FromDte) && net.next_with_frames(3) == 3
 }
 
 #[test]

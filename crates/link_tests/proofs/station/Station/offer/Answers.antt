@@ -1,6 +1,0 @@
-use Rattle.link_tests.proofs.Stations.{has_room}
-use Rattle.link_tests.proofs.station.Station.offer.Goals as goal
-
-pub offer-requires-clause-room : goal.offer-requires-clause-room
-offer-requires-clause-room c =
-    has_room c.self.inside.pool c.self.inside.link c.self.invariant.pool c.self.invariant.queue

@@ -1,6 +1,0 @@
-use Rattle.link_tests.proofs.Stations.{still_terminus}
-use Rattle.link_tests.proofs.terminus.Terminus.on_frame.Goals as goal
-
-pub invariant_of-self : goal.invariant_of-self
-invariant_of-self c = still_terminus c.self.inside c.on_frame.new.self c.on_frame.new.pool c.self.invariant c.on_frame.ensures.pool c.on_frame.ensures.most c.on_frame.ensures.k
-    c.on_frame.ensures.info

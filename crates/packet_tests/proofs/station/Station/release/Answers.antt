@@ -1,7 +1,0 @@
-use Rattle.packet_layer.specs.Channel.Request.{Releasing}
-use Rattle.packet_tests.proofs.Stations.{kept}
-use Rattle.packet_tests.proofs.station.Station.release.Goals as goal
-
-pub invariant_of-self : goal.invariant_of-self
-invariant_of-self c =
-    kept c.self.inside c.release.new.self c.args.channel (Releasing c.args.count) c.self.invariant c.release.ensures.layer c.release.ensures.most c.release.ensures.held

@@ -1,5 +1,0 @@
-use Rattle.packet_tests.proofs.Stations.{has_room}
-use Rattle.packet_tests.proofs.station.Station.send.Goals as goal
-
-pub send-requires-clause-room : goal.send-requires-clause-room
-send-requires-clause-room c = has_room c.self.inside c.self.invariant
