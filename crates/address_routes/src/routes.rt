@@ -17,8 +17,8 @@ pub const MAX_ROUTES: usize = 256;
 
 /// The routes of a switch, at most 256, each prefix with one line (X.121).
 ///
-/// They stand in a tree of digits, so that a look-up looks at one node a digit. The tree has at most 3,841 nodes: the
-/// root and fifteen for each route.
+/// They are kept in a tree of digits, so that a look-up looks at one node a digit. The tree has at most 3,841 nodes:
+/// the root and fifteen for each route.
 #[derive(Drop)]
 pub struct Routes {
     tree: Tree,
@@ -43,7 +43,7 @@ impl Model for Routes {
 }
 
 impl Routes {
-    /// No routes. `OutOfMemory` where there is no memory for the root of the tree.
+    /// No routes. `OutOfMemory` if there is no memory for the root of the tree.
     pub fn new(alloc: Global) -> Result<Self, AllocError>
         ensures { IfOk result (λ routes. routes ≡ map.empty) }
     {
@@ -53,8 +53,8 @@ impl Routes {
         })
     }
 
-    /// Adds a route to the line for the calls to addresses that begin with the prefix. `Duplicate` where the prefix has
-    /// a route, then `Full` where there are 256 routes, then `OutOfMemory`; refused, it changes nothing.
+    /// Adds a route to the line for the calls to addresses that begin with the prefix. `Duplicate` if the prefix has a
+    /// route, then `Full` if there are 256 routes, then `OutOfMemory`. A route that is refused changes nothing.
     pub fn add(&mut self, prefix: &Address, line: LineNo) -> Result<(), RouteFault>
         ensures faults { MatchOption (add_fault prefix.now self.old) (IsOkUnless result route_fault_is.OutOfMemory)
             (λ fault. result ≡ Err fault) }

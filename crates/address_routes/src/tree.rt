@@ -1,4 +1,4 @@
-//! The tree of digits that the routes stand in.
+//! The tree of digits in which the routes are kept.
 ghost use Rattle.std.specs.Prelude.{◌≡◌, ◌+◌, ◌^◌, ◌<◌, ◌≤◌, [], ◌∷◌, Some, None, IfOk, OnOk, OnErr, IsTrue};
 ghost use Rattle.std.specs.Prelude.{length, take, slice_index, vec_len, vec_capacity};
 ghost use Rattle.std.specs.Option.{option_map};

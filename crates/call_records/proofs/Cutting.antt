@@ -49,11 +49,6 @@ one_more from (end ∷ ends) here h = (h.0, one_more end ends here h.1)
 
 -- ---- the first epoch
 
-pub in_order_first : (ends : List EpochEnd) (p i : ℕ) → ends ≡ [] → AreInOrder outset ends p i
-in_order_first ends p i e =
-    let P : List EpochEnd → Type 0 = λ es. AreInOrder outset es p i in
-    subst P (sym e) (record { packets = omega arith; interrupts = omega arith })
-
 abbrev epochs : List Part → Part → Epochs
 epochs before last = record { before = before; last = last }
 

@@ -8,7 +8,7 @@ use Rattle.link_timers.specs.declared.role.Role.{Role}
 use Rattle.link_timers.specs.declared.role.Role.TheVariants.{Dte, Dce}
 use Rattle.call_records.specs.Records.{RecordValue, HopValue, PairValue, changed_at, with_hop}
 use Rattle.call_records.specs.Book.{Book, side_of, with_change, made_book}
-use Rattle.call_records.specs.Register.{Register, LineEnds, ChannelEnd, found_ends, book_at, with_book, holds, holder_at, goes_on, handed_on, made_register}
+use Rattle.call_records.specs.Register.{Register, LineEnds, ChannelEnd, found_ends, with_book, holds, holder_at, goes_on, handed_on, made_register}
 use Rattle.call_records.specs.BookView.{book_with}
 use Rattle.call_records.specs.RegisterView.{ends_of, lines_of, ends_in, with_ends, register_with}
 use Rattle.call_records.specs.declared.ends.Ends.{Ends}
@@ -34,9 +34,6 @@ pub none_beyond : {X : Type 0} (xs : List X) (n : ℕ) → (n < length xs → �
 none_beyond [] n h = refl
 none_beyond (x ∷ xs) zero h = absurd (h (omega arith))
 none_beyond (x ∷ xs) (suc n) h = none_beyond xs n (λ k. h (omega (arith, k)))
-
-pub some_within : (lines : List Ends) (line : ℕ) (e : Ends) (b : Book) → slice_get lines line ≡ Some e → record b { dte = e.dte; dce = e.dce } ≡ with_ends (slice_get (lines_of lines) line) b
-some_within lines line e b at = ap (λ o. with_ends o b) (sym (slice_get-map ends_of lines line ∙ ap (λ o. option_map ends_of o) at))
 
 -- a line that is not there has no ends
 pub no_ends : (lines : List Ends) (line : ℕ) (b : Book) → (line < length lines → ⊥) → b ≡ with_ends (slice_get (lines_of lines) line) b
@@ -68,21 +65,6 @@ pub opened : (line : ℕ) (b b1 : Book) (lines lines1 : List LineEnds) → b1 �
 opened line b b1 lines lines1 p q =
     ap (λ (x : Book). register_with (Some line) x lines1) p ∙ ap (λ (ls : List LineEnds). register_with (Some line) (with_ends (slice_get lines line) b) ls) q
     ∙ opened_so line b lines (slice_get lines line) refl
-
-book_so : (line : ℕ) (b : Book) (lines : List LineEnds) (ends : LineEnds) → slice_get lines line ≡ Some ends
-    → with_ends (slice_get lines line) b ≡ book_at line (register_with None b lines)
-book_so line b lines ends e = ap (λ o. with_ends o b) e ∙ ap (λ (x : LineEnds). record b { dte = x.dte; dce = x.dce }) refl
-    ∙ ap (λ o. record b { dte = (Rattle.call_records.specs.Register.found_ends o).dte; dce = (Rattle.call_records.specs.Register.found_ends o).dce }) (sym e)
-
-pub opened_book : (line : ℕ) (b b1 : Book) (lines : List LineEnds) → line < length lines → b1 ≡ with_ends (slice_get lines line) b
-    → b1 ≡ book_at line (register_with None b lines)
-opened_book line b b1 lines h p = let e = within lines line h in p ∙ book_so line b lines e.0 e.1
-
--- ---- what is written then
-
--- the book was written, at the line at which it is open
-pub written_open : (line : ℕ) (b c : Book) (lines : List LineEnds) → register_with (Some line) c lines ≡ with_book line c (register_with (Some line) b lines)
-written_open line b c lines = ap (λ (ls : List LineEnds). record { records = c.records; pairs = c.pairs; lines = ls }) (sym (set-set lines line (ends_in b) (ends_in c)))
 
 -- ---- a line on which a call stands
 

@@ -2,9 +2,9 @@
 ghost use Rattle.std.specs.Prelude.{◌≡◌, ◌≤◌, ◌+◌, ◌-◌, ℕ, List, [], ◌∷◌, IfOk, OnOk, OnErr, IsTrue, Some, map, length, vec_len};
 ghost use Rattle.std.specs.Prelude.{◌<◌, ◌++◌, vec_capacity};
 ghost use Rattle.std.specs.Option.{option_to_list};
-ghost use Rattle.packet_layer.specs.NoteView.{note_of};
-ghost use Rattle.packet_layer.specs.TakenView.{taken_with, HasFewOctets};
-ghost use Rattle.packet_layer.specs.Octets.{parts_of};
+ghost use Rattle.packet_channel.specs.NoteView.{note_of};
+ghost use Rattle.packet_channel.specs.TakenView.{taken_with, HasFewOctets};
+ghost use Rattle.packet_channel.specs.Octets.{parts_of};
 ghost use Rattle.call_records.specs.Book.{made_book, slot_at, address_of, with_change, changed, places, comes};
 ghost use Rattle.call_records.specs.Book.{answers, closes, renews, sends, interrupts, takes, releases, covers, edits, told};
 ghost use Rattle.packet_codec.specs.Digits.{digits_or_none};
@@ -67,8 +67,8 @@ impl Model for Book {
 }
 
 impl Book {
-    /// The book of a line without an address between two nodes, with channels from 1 on. On a standing line a call
-    /// stands on channel 1, which counts as placed by the DTE. It is refused for want of memory. There is no room yet.
+    /// The book of a line without an address between two nodes, with channels from 1 on. On a standing line channel 1
+    /// has a call, which counts as placed by the DTE. It is refused for want of memory. There is no room yet.
     pub fn new(
         alloc: Global,
         dte_node: usize,
@@ -196,7 +196,7 @@ impl Book {
         self.ends.of(role).slot(channel).present
     }
 
-    /// For how many writes there is room. Where there is none, one pair may still have room.
+    /// For how many writes there is room. If there is none, one pair may still have room.
     pub fn room(&self) -> usize
         ensures { result ≡ self.now.room }
     {
@@ -395,14 +395,14 @@ impl Book {
         );
     }
 
-    /// So many more of the packets taken are released, if so many are not yet (X.25 4.4.1.3).
+    /// Counts so many more of the packets taken as released, if so many are not yet (X.25 4.4.1.3).
     pub fn release(&mut self, role: Role, channel: u8, count: usize)
         ensures { self.new ≡ record self.old { book = releases role channel count self.old.book } }
     {
         self.grow(role, channel, Growth::Released(count));
     }
 
-    /// So many more of the packets sent are covered, if so many are not yet (X.25 4.4.1.3).
+    /// Counts so many more of the packets sent as covered, if so many are not yet (X.25 4.4.1.3).
     pub fn cover(&mut self, role: Role, channel: u8, count: usize)
         ensures { self.new ≡ record self.old { book = covers role channel count self.old.book } }
     {

@@ -134,7 +134,7 @@ impl Packets {
     }
 }
 
-/// Goes over packets, behind which others may be written.
+/// Goes over packets, after which others may be written.
 #[derive(Drop)]
 pub struct PacketsIter<'a> {
     written: &'a [u8],

@@ -24,7 +24,7 @@ struct EpochEnd {
 }
 
 /// What passed in one direction in one epoch: the packets and the interrupts, and how many of the packets counted. A
-/// packet that was sent counts where a received P(R) covered it, one that was taken where it was released.
+/// packet that was sent counts if a received P(R) covered it, one that was taken if it was released.
 #[derive(Drop)]
 pub struct Epoch<'a> {
     pub packets: PacketsIter<'a>,

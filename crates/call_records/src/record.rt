@@ -46,7 +46,7 @@ pub struct Record {
     pub own: Option<Address>,
     /// The address of the far end.
     pub far: Option<Address>,
-    /// Where the call came in, the number of the record with which the other end placed it.
+    /// If the call came in, the number of the record with which the other end placed it.
     pub(crate) caller: Option<usize>,
     /// Of a caller, the hops over which the call goes on from its own line.
     pub path: ArrayVec<Hop, MOST_HOPS>,

@@ -44,8 +44,8 @@ impl Register {
         })
     }
 
-    /// The register of one line without an address, on whose first channel a call stands, which counts as placed by the
-    /// DTE. It is refused for want of memory.
+    /// The register of one line without an address, whose first channel has a call, which counts as placed by the DTE.
+    /// It is refused for want of memory.
     pub fn standing(
         alloc: Global,
         dte_node: usize,

@@ -60,7 +60,7 @@ pub struct CallStep {
     pub owed: Option<PacketType>,
     /// What the user is told.
     pub note: CallNote,
-    /// The diagnostic, where the event is a procedure error.
+    /// The diagnostic, if the event is a procedure error.
     pub error: Option<u8>,
 }
 

@@ -11,9 +11,6 @@ append-nil A (x ∷ xs) = ap (λ ys. x ∷ ys) (append-nil A xs)
 pub whole-list : (A : Type 0) (xs : List A) → IsListPrefix A xs xs
 whole-list A xs = record { rest = []; whole = append-nil A xs }
 
-pub longer-list : (A : Type 0) (xs ys : List A) → IsListPrefix A xs (xs ++ ys)
-longer-list A xs ys = record { rest = ys; whole = refl }
-
 pub list-prefix-trans : {A : Type 0} {xs ys zs : List A} → IsListPrefix A xs ys → IsListPrefix A ys zs → IsListPrefix A xs zs
 list-prefix-trans {A} {xs} p q = record {
   rest = p.rest ++ q.rest;

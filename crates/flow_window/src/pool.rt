@@ -45,7 +45,7 @@ impl Model for Pool {
 }
 
 impl Pool {
-    /// So many buffers, each for up to `size` octets, of which none is in use.
+    /// A pool of so many buffers, each for up to `size` octets. None is in use.
     ///
     /// `AllocError` comes for want of memory. Nothing else of a pool takes any.
     pub fn new(alloc: Global, buffers: usize, size: usize) -> Result<Self, AllocError>
@@ -61,7 +61,7 @@ impl Pool {
         Ok(Pool { size, slots, spare })
     }
 
-    /// Puts octets into a buffer that is not in use, and gives its number; `None` where every buffer is in use.
+    /// Puts octets into a buffer that is not in use, and gives its number; `None` if every buffer is in use.
     pub fn put(&mut self, octets: &[u8]) -> Option<BufNo>
         requires { length octets.now ≤ self.old.size }
 

@@ -66,7 +66,7 @@ impl<M: Modulus> RecvWindow<M> {
         self.expected.number()
     }
 
-    /// Begins anew at 0.
+    /// Starts again at 0.
     pub fn clear(&mut self)
         ensures { self.new ≡ 0 }
     {

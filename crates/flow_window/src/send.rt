@@ -35,7 +35,7 @@ impl<M: Modulus> Model for SendWindow<M> {
 }
 
 impl<M: Modulus> SendWindow<M> {
-    /// A window in which nothing was sent.
+    /// A window in which nothing was sent. At most `size` numbers may be unacknowledged.
     pub fn new(size: u8) -> Self
         requires least { 1 ≤ size }
         requires most { size < M.modulus }
@@ -135,7 +135,7 @@ impl<M: Modulus> SendWindow<M> {
         self.next = (nr + modulus - self.oldest.number()) % modulus;
     }
 
-    /// Begins anew at 0.
+    /// Starts again at 0.
     pub fn clear(&mut self)
         ensures window { self.new ≡ empty_window self.old.size }
         ensures counts { Shows M.modulus self.new 0 0 0 }

@@ -36,7 +36,7 @@ impl<M: Modulus> Seq<M> {
         }
     }
 
-    /// The sequence number that is `number`, or none where it is not below the modulus.
+    /// The sequence number that is `number`, or `None` if it is not below the modulus.
     pub fn new(number: u8) -> Option<Self>
         ensures { MatchOption result (M.modulus ≤ number) (λ s. (number < M.modulus) × (s ≡ number)) }
     {

@@ -430,11 +430,6 @@ reading_fault fault at info bytes octets first = go (reading at info bytes) (rea
     go (Ok f) form = absurd (fault_no_form fault at info bytes f first.has form)
     go (Err other) second = ap (λ e. Err e) (first_is_one other fault at info bytes second first)
 
--- a text is a form of at most one frame
-pub form_unique : (at : Role) (info : ℕ) (bytes : List ℕ) (f g : FrameValue) → FrameForm at info bytes f → FrameForm at info bytes g → f
-    ≡ g
-form_unique at info bytes f g p q = let a = reading_form at info bytes f p in let b = reading_form at info bytes g q in cc
-
 -- what is written is a form of what was meant, at the other end
 field_of_form : (info : ℕ) (content : Content) → FitsField info content → FieldForm info content (field_of content)
 field_of_form info (I ns nr information) fits = (refl, fits)

@@ -13,7 +13,7 @@ pub enum FrameFault {
     /// The control octet is no frame's, or of a frame that does not go in this direction.
     #[error("unknown control octet")]
     UnknownControl,
-    /// There is an information field where the frame has none, or a Frame Reject without exactly three octets.
+    /// There is an information field and the frame has none, or a Frame Reject without exactly three octets.
     #[error("information not allowed")]
     InfoNotAllowed,
     /// The information field of an I frame is longer than the line admits.

@@ -1,6 +1,6 @@
 -- Cases of tests and phases, and facts of each frame of a list.
-use Rattle.std.specs.Prelude.{◌≡◌, ℕ, zero, suc, ◌≤◌, Bool, true, false, List, [], ◌∷◌, ◌++◌, length, Some, slice_get}
-use Rattle.std.proofs.Common.{refl, arith}
+use Rattle.std.specs.Prelude.{◌≡◌, ℕ, zero, suc, Bool, true, false, List, [], ◌∷◌, ◌++◌, length, Some, slice_get}
+use Rattle.std.proofs.Common.{refl}
 use Rattle.frame_codec.specs.Frame.{FrameValue}
 use Rattle.lapb.specs.declared.phase.Phase.{Phase}
 use Rattle.lapb.specs.Machine.{Octets}
@@ -69,11 +69,3 @@ prefix-next (z ∷ xs) (y ∷ ys) x p e =
     let more : IsPrefix (xs ++ x ∷ []) ys = prefix-next xs ys x tail e in
     let head : z ≡ y = cc (p.1) in
     (more.0, cc (more.1, head))
-
-pub prefix-empty : (xs : List Octets) → IsPrefix xs [] → xs ≡ []
-prefix-empty [] p = refl
-prefix-empty (x ∷ xs) p = absurd (cc (p.1))
-
-pub length-zero : (xs : List Octets) → length xs ≤ 0 → xs ≡ []
-length-zero [] l = refl
-length-zero (x ∷ xs) l = absurd (omega arith)

@@ -1,6 +1,6 @@
 -- What the calls of the nodes, losses and restarts make of a line: each is an event of two links, and the line stands
 -- on.
-use Rattle.std.specs.Prelude.{◌≡◌, ℕ, ◌≤◌, Bool, true, false, List, [], ◌∷◌, ◌++◌, length, drop, map}
+use Rattle.std.specs.Prelude.{◌≡◌, ℕ, ◌≤◌, Bool, true, false, List, [], ◌∷◌, ◌++◌, length, map}
 use Rattle.std.proofs.Common.{refl, sym, ap, ◌∙◌, subst}
 use Rattle.link_timers.specs.declared.role.Role.{Role}
 use Rattle.link_timers.specs.declared.role.Role.TheVariants.{Dte, Dce}
@@ -26,23 +26,6 @@ map-kept f (true ∷ kept) [] = refl
 map-kept f (false ∷ kept) [] = refl
 map-kept f (true ∷ kept) (x ∷ frames) = ap (λ (xs : List Octets). f x ∷ xs) (map-kept f kept frames)
 map-kept f (false ∷ kept) (x ∷ frames) = map-kept f kept frames
-
--- frames that are put one list after the other
-pub chosen-append : (kept : List Bool) (xs ys : List Octets) → chosen kept (xs ++ ys) ≡ chosen kept xs ++ chosen
-    (drop (length xs) kept) ys
-chosen-append [] [] ys = refl
-chosen-append (b ∷ kept) [] ys = alone (b ∷ kept) ys
-  where
-    alone : (kept : List Bool) (ys : List Octets) → chosen kept ys ≡ chosen kept [] ++ chosen kept ys
-    alone [] ys = refl
-    alone (true ∷ kept) ys = refl
-    alone (false ∷ kept) ys = refl
-chosen-append [] (x ∷ xs) ys = ap (λ (zs : List Octets). x ∷ (xs ++ zs)) (all (length xs) ys)
-  where
-    all : (n : ℕ) (ys : List Octets) → ys ≡ chosen (drop (length (x ∷ xs)) []) ys
-    all n ys = refl
-chosen-append (true ∷ kept) (x ∷ xs) ys = ap (λ (zs : List Octets). x ∷ zs) (chosen-append kept xs ys)
-chosen-append (false ∷ kept) (x ∷ xs) ys = chosen-append kept xs ys
 
 put : (from : Role) (flow : List Sent) (octets : List Octets) (t : ℕ) (kept : List Bool) (frames : List FrameValue) →
     octets_of from flow ≡ octets →

@@ -3,8 +3,7 @@
 use Rattle.std.specs.Prelude.{◌≡◌, ℕ, suc, ◌+◌, ◌-◌, ◌%◌, ◌<◌, ◌≤◌, Bool, true, false, not, ◌&&◌, ◌||◌, ◌⊎◌, List, []}
 use Rattle.std.specs.Prelude.{◌∷◌, ◌++◌, length, drop, Option, if◌then◌else◌, nat_le}
 use Rattle.std.proofs.Common.{refl, sym, ap, ◌∙◌, subst, inl, inr, arith, length-append, length-drop, drop-drop}
-use Rattle.std.proofs.Common.{le-leb, leb-true, leb-false}
-use Rattle.std.proofs.lemmas.List.{drop-append-le}
+use Rattle.std.proofs.Common.{le-leb, leb-true}
 use Rattle.link_timers.specs.declared.role.Role.{Role}
 use Rattle.link_timers.specs.declared.role.Role.TheVariants.{Dte, Dce}
 use Rattle.frame_codec.specs.Frame.{FrameValue, Content, Report}
@@ -16,10 +15,10 @@ use Rattle.lapb.specs.Machine.{set_up, disconnect, relink, come_up, take_sabm, t
 use Rattle.lapb.specs.Machine.{reject_number, defect_report, is_valid, acknowledged, on_supervisory}
 use Rattle.lapb.specs.Machine.{accept, discard}
 use Rattle.lapb.specs.Machine.{on_content, on_frame, on_defect, on_t1, poll}
-use Rattle.lapb.specs.Machine.{send_all, settle, offer, can_offer, is_full}
+use Rattle.lapb.specs.Machine.{send_all, settle}
 use Rattle.lapb.specs.Named.{Session, begun, Counts, Agrees, IsNamed, AreNamed, with_packet, newly, session_after}
-use Rattle.lapb.specs.Named.{after_offer, IsInRange, Keeps, NamesAfter}
-use Rattle.lapb.proofs.Cases.{cond_by, Each}
+use Rattle.lapb.specs.Named.{IsInRange, Keeps, NamesAfter}
+use Rattle.lapb.proofs.Cases.{Each}
 use Rattle.lapb.proofs.Rules.{Numbers, of_i, of_rr, of_rnr, of_rej, UpRules, OutRules, not_setting, by_up, by_content}
 use Rattle.lapb.proofs.Rules.{by_relink, by_t1, by_settle, by_defect}
 use Rattle.lapb.proofs.Halves.{drop-first}
@@ -393,43 +392,3 @@ keeps-send_all l (packet ∷ packets) which up s c =
 
 pub named_settle : (l : Link) → Keeps l (settle l)
 named_settle l = by_settle l (Keeps l) (keeps-still l) (λ up packets which. keeps-send_all l packets which up)
-
--- ---- an offer
-
-pub named_offer : (l : Link) (packet : Octets) (s : Session) → l.k ≤ 7 → Agrees l s → Agrees (offer l packet)
-    (after_offer l packet s)
-named_offer l packet s few c up =
-    let d = c up in
-    cond_by (λ b. (b ≡ true → length l.queue ≤ 6) →
-    Counts (record l { queue = if b then l.queue ++ packet ∷ [] else l.queue })
-    (record s { offered = if b then s.offered ++ packet ∷ [] else s.offered })) (can_offer l)
-    (λ _ room.
-    let short : length l.queue ≤ 6 = room refl in
-    let longer : length (l.queue ++ packet ∷ []) ≡ length l.queue + 1 = length-append l.queue (packet ∷ []) in
-    let grown : length (s.offered ++ packet ∷ []) ≡ length s.offered + 1 = length-append s.offered (packet ∷ []) in
-    record {
-      oldest = d.oldest;
-      queue = ap (λ (q : List Octets). q ++ packet ∷ []) d.queue ∙ sym (drop-append-le s.taken s.offered (packet ∷ [])
-          d.taken);
-      taken = omega (arith, grown, d.taken);
-      next = d.next;
-      top = omega (arith, longer, d.top);
-      window = omega (arith, longer, short);
-      expected = d.expected;
-    })
-    (λ _ _. d) (λ e. has_room l few up e)
-  where
-    has_room : (l : Link) → l.k ≤ 7 → l.phase ≡ Phase.Up → can_offer l ≡ true → length l.queue ≤ 6
-    has_room l few up e =
-        cond_by (λ b. is_full l ≡ b → can_offer l ≡ true → length l.queue ≤ 6) (is_full l)
-        (λ _ full e. absurd (contradiction l full e))
-        (λ _ free e. let less = leb-false l.k (length l.queue) free in omega arith) refl e
-      where
-        contradiction : (l : Link) → is_full l ≡ true → can_offer l ≡ true → ⊥
-        contradiction l full e = go (Rattle.lapb.specs.Machine.is_up l.phase) (is_full l) full e
-          where
-            go : (a b : Bool) → b ≡ true → a && not b ≡ true → ⊥
-            go true true e f = cc
-            go true false e f = cc
-            go false true e f = cc
-            go false false e f = cc

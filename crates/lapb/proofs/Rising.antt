@@ -476,23 +476,3 @@ later_at_dte w dte dce up down bytes s up_note = go w.down refl s.fit.down s.dow
         sym (octets_taken s.fit.info w.dte Dce x.frame (reached_inv w s.reached).dte_role s.fit.dte all.0) ∙ ap (on_octets w.dte) head ∙ ap
         (λ l. on_octets l bytes) s.dte_is in
         (reached_rise w s.reached).at_dte x flow is (ap (λ (t : Step). t.note) step ∙ up_note)
-
--- the session that the DCE begins by octets is one of the DTE's acts, so not the one of the making
-pub of_act_at_dce : (w : World) (dte dce : Link) (up down : List Octets) (bytes : Octets) (kept : List Bool) →
-    StandsIn w dte dce (bytes ∷ up) down → (on_octets dce bytes).note ≡ Note.Up →
-    1 ≤ (happens w (Deliver Dce kept)).session
-of_act_at_dce w dte dce up down bytes kept s up_note = go w.up refl s.fit.up s.up_is
-  where
-    go : (flow : List Sent) → w.up ≡ flow → AllSpelt s.fit.info flow → octets_of Dte flow ≡ bytes ∷ up →
-        1 ≤ (to_dce w kept flow).session
-    go [] is all e = absurd (cc)
-    go (x ∷ flow) is all e =
-        let rise = reached_rise w s.reached in
-        let head : spelling Dte x.frame ≡ bytes = cc in
-        let step : on_frame w.dce x.frame ≡ on_octets dce bytes =
-        sym (octets_taken s.fit.info w.dce Dte x.frame (reached_inv w s.reached).dce_role s.fit.dce all.0) ∙ ap (on_octets w.dce) head ∙ ap
-        (λ l. on_octets l bytes) s.dce_is in
-        let set : is_sabm x.frame.content ≡ true =
-        sym (rise.at_dce x flow is) ∙ ap (λ (t : Step). is_up_note t.note) step ∙ ap is_up_note up_note in
-        let asked : AsksInOrder w (x ∷ flow) = subst (λ (f : List Sent). AsksInOrder w f) is rise.asked in
-        subst (λ b. 1 ≤ (if b then x.act else w.session)) (sym set) (asked.0 set).0

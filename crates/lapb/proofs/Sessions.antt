@@ -9,12 +9,11 @@ use Rattle.lapb.specs.declared.phase.Phase.{Phase}
 use Rattle.lapb.specs.declared.note.Note.{Note}
 use Rattle.lapb.specs.Machine.{Octets, Link, Step}
 use Rattle.lapb.specs.Machine.{on_content, on_frame}
-use Rattle.lapb.specs.World.{Sent, World, Deliver, logged, emptied, is_sabm, is_up_note, to_dte, to_dce, happens}
+use Rattle.lapb.specs.World.{Sent, World, Deliver, logged, emptied, is_sabm, is_up_note, to_dte, happens}
 use Rattle.lapb.specs.Octets.{on_octets}
 use Rattle.lapb.specs.Fits.{AllSpelt, octets_of}
 use Rattle.lapb.specs.Line.{StandsIn}
 use Rattle.lapb.proofs.Notes.{begins_by}
-use Rattle.lapb.proofs.Inv.{Inv}
 use Rattle.lapb.proofs.Reach.{reached_inv, reached_begins_fresh}
 use Rattle.lapb.proofs.Fitting.{octets_taken}
 
@@ -95,34 +94,3 @@ taken_at_dte w dte dce up down bytes kept s = go w.down refl s.fit.down s.down_i
           dce_offered = refl;
           fresh = λ n. (reached_begins_fresh w s.reached).dte x flow is (ap (λ (t : Step). t.note) step ∙ n);
         }
-
-pub taken_at_dce : (w : World) (dte dce : Link) (up down : List Octets) (bytes : Octets) (kept : List Bool) →
-    StandsIn w dte dce (bytes ∷ up) down → (t : ℕ) × TakenAtDce w (happens w (Deliver Dce kept)) (on_octets dce bytes) t
-taken_at_dce w dte dce up down bytes kept s = go w.up refl s.fit.up s.up_is
-  where
-    go : (flow : List Sent) → w.up ≡ flow → AllSpelt s.fit.info flow → octets_of Dte flow ≡ bytes ∷ up →
-        (t : ℕ) × TakenAtDce w (to_dce w kept flow) (on_octets dce bytes) t
-    go [] is all e = absurd (cc)
-    go (x ∷ flow) is all e =
-        let i : Inv w = reached_inv w s.reached in
-        let head : spelling Dte x.frame ≡ bytes = cc in
-        let step : on_frame w.dce x.frame ≡ on_octets dce bytes =
-        sym (octets_taken s.fit.info w.dce Dte x.frame i.dce_role s.fit.dce all.0) ∙ ap (on_octets w.dce) head ∙ ap
-        (λ l. on_octets l bytes) s.dce_is in
-        let set : is_sabm x.frame.content ≡ is_up_note (on_octets dce bytes).note =
-        sym (dce_begins w.dce x.frame i.dce_role i.dce_set) ∙ ap (λ (t : Step). is_up_note t.note) step in (
-          x.act,
-          record {
-            own = refl;
-            session = ap (λ b. if b then x.act else w.session) set;
-            accepted = ap (λ b. logged (emptied b w.dce_accepted x.act)
-                (if is_sabm x.frame.content then x.act else w.session)
-                (on_frame w.dce x.frame).accepted) set ∙
-                ap (λ (t : Step). logged (emptied (is_up_note (on_octets dce bytes).note) w.dce_accepted x.act)
-                (if is_sabm x.frame.content then x.act else w.session) t.accepted) step;
-            offered = ap (λ b. emptied b w.dce_offered x.act) set;
-            dte_accepted = refl;
-            dte_offered = refl;
-            fresh = λ n. (reached_begins_fresh w s.reached).dce x flow is (set ∙ ap is_up_note n);
-          },
-        )

@@ -40,12 +40,12 @@ pub struct LinkParams {
     /// The most octets of information of an I frame, up to 1,028 ([`MAX_INFORMATION`]). Longer I frames are received as
     /// faulty (X.25 2.4.7.3).
     pub info: u16,
-    /// Whether the line stands from the beginning on: the link is up.
+    /// Whether the line is standing: its link is up from the start.
     pub standing: bool,
 }
 
 impl LinkParams {
-    /// `BadParams` comes where `k` is not from 1 to 7, `n2` not from 1 to 20, or `info` more than [`MAX_INFORMATION`].
+    /// `BadParams` comes if `k` is not from 1 to 7, `n2` not from 1 to 20, or `info` more than [`MAX_INFORMATION`].
     pub fn check(&self) -> Result<(), BadParams>
         ensures { MatchResult result
             (λ _. AreParams self.now)
@@ -115,7 +115,7 @@ impl Model for Link {
 impl Link {
     /// A link that was never set up, or on a standing line one that is up.
     ///
-    /// `BadParams` comes where `k` is not from 1 to 7, `n2` not from 1 to 20, or `info` more than [`MAX_INFORMATION`].
+    /// `BadParams` comes if `k` is not from 1 to 7, `n2` not from 1 to 20, or `info` more than [`MAX_INFORMATION`].
     pub fn new(role: Role, params: LinkParams) -> Result<Link, BadParams>
         ensures { MatchResult result
             (λ link. AreParams params × (link ≡ record { link = machine.new role params; held = [] }))

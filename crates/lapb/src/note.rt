@@ -2,9 +2,9 @@
 /// What a call tells the packet layer of the link.
 #[derive(Clone, Copy, PartialEq, Eq)]
 pub enum Note {
-    /// The link stands where it stood.
+    /// The call tells nothing of the link.
     Nothing,
-    /// A new session has begun, also where the link was up before.
+    /// A new session has begun, even if the link was up before.
     Up,
     /// The link has left the information transfer phase.
     Down,

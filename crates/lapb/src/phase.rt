@@ -1,5 +1,5 @@
 //! The phases of a link.
-/// Where a link stands (X.25 2.4.4).
+/// The phase of a link (X.25 2.4.4).
 #[derive(Clone, Copy, PartialEq, Eq)]
 pub enum Phase {
     /// The disconnected phase: no packet can be offered.

@@ -1,9 +1,9 @@
 -- Of the timers of a link T1 alone runs.
-use Rattle.std.proofs.Common.{◌≡◌, ◌≢◌, ℕ, zero, suc, ◌+◌, Bool, true, false, List, [], ◌∷◌, map, replicate, refl, sym, ap, ◌∙◌}
+use Rattle.std.proofs.Common.{◌≡◌, ◌≢◌, ℕ, zero, suc, ◌+◌, false, [], ◌∷◌, map, replicate, refl, sym, ap, ◌∙◌}
 use Rattle.std.specs.Prelude.{Option, Some, None, is_some, if◌then◌else◌}
 use Rattle.link_timers.specs.declared.timers.TimerId.{TimerId}
 use Rattle.link_timers.specs.declared.timers.TimerId.TheVariants.{T1}
-use Rattle.link_timers.specs.Timers.{Places, left_of, lowered, after_ticks, is_due, due_from, due_timers, first_of, none_running}
+use Rattle.link_timers.specs.Timers.{Places, left_of, lowered, due_from, none_running}
 use Rattle.link_timers.proofs.PlaceLaws.{others_left, none_left}
 use Rattle.line_end.specs.End.{End, expired, after_timer, expiry_note, timer_note}
 use Rattle.line_end.specs.T1.{t1_alone}
@@ -26,17 +26,6 @@ lowered_none : (count ticks : ℕ) → map (lowered ticks) (replicate count (let
 lowered_none zero ticks = refl
 lowered_none (suc count) ticks = ap (λ (t : Places). None ∷ t) (lowered_none count ticks)
 
-pub t1_lowered : (left : Option ℕ) (ticks : ℕ) → after_ticks (t1_alone left) ticks ≡ t1_alone (lowered ticks left)
-t1_lowered left ticks = ap (λ (t : Places). lowered ticks left ∷ t) (lowered_none 210 ticks)
-
 none_due : (place count : ℕ) → due_from place (replicate count (let none : Option ℕ = None in none)) ≡ []
 none_due place zero = refl
 none_due place (suc count) = none_due (place + 1) count
-
-pub t1_due : (left : Option ℕ) → first_of (due_timers (t1_alone left)) ≡ (if is_due left then Some T1 else None)
-t1_due left =
-    ap (λ (ids : List TimerId). first_of (if is_due left then T1 ∷ ids else ids)) (none_due 1 210) ∙ by (is_due left)
-  where
-    by : (due : Bool) → first_of (if due then T1 ∷ [] else []) ≡ (if due then Some T1 else None)
-    by true = refl
-    by false = refl

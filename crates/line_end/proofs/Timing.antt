@@ -1,16 +1,12 @@
 -- T1 runs exactly where the link says so.
-use Rattle.std.specs.Prelude.{◌≡◌, ◌≢◌, Bool, true, false, not, ◌||◌, if◌then◌else◌, nat_le}
+use Rattle.std.specs.Prelude.{◌≡◌, Bool, true, false, not, ◌||◌, if◌then◌else◌, nat_le}
 use Rattle.std.proofs.Common.{refl, ap, ◌∙◌}
 use Rattle.link_timers.specs.declared.role.Role.{Role}
 use Rattle.link_timers.specs.declared.role.Role.TheVariants.{Dte, Dce}
-use Rattle.link_timers.specs.declared.timers.TimerId.{TimerId}
-use Rattle.link_timers.specs.declared.timers.TimerId.TheVariants.{T1, T10, T20, T11, T12, T13, T21, T22, T23, Idle}
-use Rattle.link_timers.specs.Timers.{stopped}
 use Rattle.lapb.specs.declared.phase.Phase.{Phase}
-use Rattle.lapb.specs.declared.note.Note.{Note}
 use Rattle.lapb.specs.declared.note.Timing.{Timing as Change}
 use Rattle.lapb.specs.Machine.{Link, Step, still, relink, relink_as, poll, runs, expire_in, on_t1, timing, timing_after}
-use Rattle.line_end.specs.End.{End, expired, expiry_note, runs_then}
+use Rattle.line_end.specs.End.{runs_then}
 
 -- what one call makes of T1
 pub timing_after-keep : (change : Change) → timing_after Change.Keep change ≡ change
@@ -60,28 +56,3 @@ by_anew ran true false e = absurd (cc)
 -- the same after an expiry, by which it stopped
 pub runs_after_expiry : (l : Link) → runs l ≡ true → runs_then (timing l (on_t1 l)) false ≡ runs (on_t1 l).link
 runs_after_expiry l ran = by_anew (runs l) (runs (on_t1 l).link) (on_t1 l).anew (on_t1-anew l ran)
-
--- a timer other than T1 is nothing to the link
-pub expired-other : (id : TimerId) (e : End) → id ≢ T1 → expired id e ≡ record e { timers = stopped e.timers id }
-expired-other T1 e other = absurd (other refl)
-expired-other T10 e other = refl
-expired-other T20 e other = refl
-expired-other (T11 channel) e other = refl
-expired-other (T12 channel) e other = refl
-expired-other (T13 channel) e other = refl
-expired-other (T21 channel) e other = refl
-expired-other (T22 channel) e other = refl
-expired-other (T23 channel) e other = refl
-expired-other (Idle terminal) e other = refl
-
-pub expiry_note-other : (id : TimerId) (l : Link) → id ≢ T1 → expiry_note id l ≡ Note.Nothing
-expiry_note-other T1 l other = absurd (other refl)
-expiry_note-other T10 l other = refl
-expiry_note-other T20 l other = refl
-expiry_note-other (T11 channel) l other = refl
-expiry_note-other (T12 channel) l other = refl
-expiry_note-other (T13 channel) l other = refl
-expiry_note-other (T21 channel) l other = refl
-expiry_note-other (T22 channel) l other = refl
-expiry_note-other (T23 channel) l other = refl
-expiry_note-other (Idle terminal) l other = refl

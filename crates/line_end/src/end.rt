@@ -88,10 +88,10 @@ impl Model for LineEnd {
 }
 
 impl LineEnd {
-    /// The end of this role of a line. Where the line stands the link is up; else it is started: a DTE sends SABM, a
-    /// DCE asks for it by DM (X.25 2.4.4.1).
+    /// The end of this role of a line. On a standing line the link is up. On any other it is started: a DTE sends SABM,
+    /// a DCE asks for it by DM (X.25 2.4.4.1).
     ///
-    /// `BadParams` comes where `k` is not from 1 to 7, `n2` not from 1 to 20, or `info` more than 1,028.
+    /// `BadParams` comes if `k` is not from 1 to 7, `n2` not from 1 to 20, or `info` more than 1,028.
     pub fn new(role: Role, params: LinkParams, pool: &mut Pool) -> Result<LineEnd, BadParams>
         ensures end { MatchResult result
             (λ end. AreParams params × (end ≡ record { end = made role params; held = [] }))
@@ -141,7 +141,7 @@ impl LineEnd {
         }
     }
 
-    /// Takes an expiry of a timer: what it tells of the link, or `None` where the timer does not run, which changes
+    /// Takes an expiry of a timer: what it tells of the link, or `None` if the timer does not run, which changes
     /// nothing.
     pub fn on_timer(&mut self, id: TimerId, pool: &mut Pool) -> Option<Note>
         requires { Holds pool.old self.old.held }
@@ -186,8 +186,8 @@ impl LineEnd {
         self.out.note()
     }
 
-    /// Begins anew after a restart of the node, as on a line that does not stand. What went before is forgotten, also
-    /// the frames that were not taken.
+    /// Restarts with the node, as on a line that is not standing. What went before is forgotten, also the frames that
+    /// were not taken.
     pub fn restart(&mut self, pool: &mut Pool)
         requires { Holds pool.old self.old.held }
         ensures end { self.new.end ≡ restarted self.old.end }
@@ -205,8 +205,8 @@ impl LineEnd {
 
     /// Offers a packet of at most `info` octets to the link. It goes out in an I frame by a later `settle`.
     ///
-    /// `Down` comes where the link is not up, `Full` where k packets are unacknowledged. A packet that is refused
-    /// changes nothing.
+    /// `Down` comes if the link is not up, `Full` if k packets are unacknowledged. A packet that is refused changes
+    /// nothing.
     pub fn offer(&mut self, packet: &[u8], pool: &mut Pool) -> Result<(), OfferFault>
         requires packet { length packet.now ≤ self.old.end.link.info }
         requires holds { Holds pool.old self.old.held }
@@ -224,8 +224,8 @@ impl LineEnd {
         self.link.offer(packet, pool)
     }
 
-    /// Ends an event of the node: the I frames that may go go out, in order; where none goes, RR if an acknowledgement
-    /// is owed.
+    /// Ends an event of the node: the I frames that may go go out, in order. If none goes, RR goes if an
+    /// acknowledgement is owed.
     pub fn settle(&mut self, pool: &mut Pool)
         requires holds { Holds pool.old self.old.held }
         requires size { pool.old.size ≤ most_information }
@@ -246,7 +246,7 @@ impl LineEnd {
         set_timer(&mut self.t1, self.out.take_timer());
     }
 
-    /// Takes the next frame that goes out, if there is one. Where there is none `frame` stays.
+    /// Takes the next frame that goes out, if there is one. If there is none, `frame` stays as it is.
     pub fn out(&mut self, frame: &mut FrameBuf) -> bool
         ensures frame { OnTrue result (self.old.end.frames ≡ frame.new ∷ self.new.end.frames) }
         ensures nothing { OnFalse result (self.old.end.frames ≡ []) }

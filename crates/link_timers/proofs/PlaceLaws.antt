@@ -27,7 +27,7 @@ use Rattle.std.proofs.Common.{
   arith,
 }
 use Rattle.std.specs.Prelude.{◌⊎◌, Option, None, nat_le}
-use Rattle.std.proofs.Common.{inl, inr, get_or-set_other, get_or-set_same}
+use Rattle.std.proofs.Common.{inl, inr, get_or-set_other}
 use borrow.Author.Tests.{lt-ltb, le-ltb, le-leb, leb-true}
 use Rattle.link_timers.specs.declared.timers.TimerId.{TimerId}
 use Rattle.link_timers.specs.declared.timers.TimerId.TheVariants.{T1, T10, T20, T11, T12, T13, T21, T22, T23, Idle}
@@ -230,26 +230,6 @@ others_left timers id other left whole apart = go (timer_or_none id) (timer_or_n
         let ne : place_of other ≢ place_of id = λ e. apart (one_place other id is_other is_id e) in
         rw get_or-set_other refl
 
--- the timer itself has these
-pub own_left : (timers : Places) (id : TimerId) (left : Option ℕ) → length timers ≡ 211 → IsTimer id → left_of (set
-    timers (place_of id) left) id ≡ left
-own_left timers id left whole is =
-    let lt : place_of id < length timers = omega (arith, (has_place id is).below) in
-    rw get_or-set_same refl
-
--- none, where it does not run
-pub own_none : (timers : Places) (id : TimerId) → length timers ≡ 211 → left_of (set timers (place_of id) None) id
-    ≡ None
-own_none timers id whole = go (timer_or_none id)
-  where
-    go : (place_of id ≡ 211) ⊎ IsTimer id → left_of (set timers (place_of id) None) id ≡ None
-    go (inl none) = past_end (set timers (place_of id) None) (place_of id) (omega (
-      arith,
-      length_set timers
-          (place_of id) None,
-    ))
-    go (inr is) = own_left timers id None whole is
-
 -- ticks pass for each
 pub lowered_at : (timers : Places) (place ticks : ℕ) → get_or (map (lowered ticks) timers) place None ≡ lowered ticks
     (get_or timers place None)
@@ -268,21 +248,6 @@ none_at (suc count) (suc place) = none_at count place
 
 pub none_left : (id : TimerId) → left_of (replicate 211 None) id ≡ None
 none_left id = none_at 211 (place_of id)
-
--- the same of the places that a call leaves
-pub set_own : (old new : Places) (id : TimerId) (left : Option ℕ) → new ≡ set old (place_of id) left → length old ≡
-    211 → IsTimer id → left_of new id ≡ left
-set_own old new id left is whole timer = subst (λ timers. left_of timers id ≡ left) (sym is) (own_left old id left
-    whole timer)
-
-pub set_none : (old new : Places) (id : TimerId) → new ≡ set old (place_of id) None → length old ≡ 211 → left_of
-    new id ≡ None
-set_none old new id is whole = subst (λ timers. left_of timers id ≡ None) (sym is) (own_none old id whole)
-
-pub set_others : (old new : Places) (id : TimerId) (left : Option ℕ) → new ≡ set old (place_of id) left → length
-    old ≡ 211 → (other : TimerId) → other ≢ id → left_of new other ≡ left_of old other
-set_others old new id left is whole other apart = subst (λ timers. left_of timers other ≡ left_of old other) (sym
-    is) (others_left old id other left whole apart)
 
 pub ticked : (old new : Places) (ticks : ℕ) → new ≡ after_ticks old ticks → (id : TimerId) → left_of new id ≡
     lowered ticks (left_of old id)

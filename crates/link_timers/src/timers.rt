@@ -122,7 +122,7 @@ impl Timers {
         }
     }
 
-    /// Starts a timer, or starts it anew, with this many ticks left.
+    /// Starts a timer, or restarts it, with this many ticks left.
     pub fn start(&mut self, id: TimerId, ticks: u16)
         requires timer { IsTimer id }
         requires ticks { 1 ≤ ticks }

@@ -7,7 +7,7 @@ use Rattle.std.specs.Int.{bit_at, w64, trailing_zeros, bit_not}
 use Rattle.std.proofs.lemmas.Bool.{eqb-false, eq-eqb, ne_eqb, cases_eq, cases_lt, lt-ltb, le-ltb}
 use Rattle.std.proofs.lemmas.Nat.{one_shl, pow_pos}
 use Rattle.std.proofs.Math.Nat.{pow-le-pow_right}
-use Rattle.std.proofs.lemmas.Nat.Bits.{bit_at-lt, bit_at-zero, bit_at-pow_same, bit_at-pow_other, bit_at_or, bit_at_xor}
+use Rattle.std.proofs.lemmas.Nat.Bits.{bit_at-lt, bit_at-pow_same, bit_at-pow_other, bit_at_or, bit_at_xor}
 use Rattle.std.proofs.lemmas.Nat.Bits.{bit_at-trailing_zeros, and_pow, bit_at_and, bit_at_above}
 use Rattle.std.proofs.lemmas.Nat.Bits.{bit_at_clear_same, bit_at_clear_other, bit_at_mask_inside, bit_at_mask_below}
 use Rattle.std.proofs.lemmas.Nat.Bits.{bit_at_mask_above}
@@ -88,9 +88,6 @@ fewer a some fits =
     let pos = pow_pos k in
     let is = ap (λ (m : ℕ). bit_xor a m) (shifted a some fits) in
     omega (arith, both, sum, pos, is)
-
-pub none_at_all : (n : ℕ) → bit 0 n ≡ false
-none_at_all n = ap (λ (x : ℕ). x == 1) (bit_at-zero n)
 
 -- those so far and one more
 pub one_more : (a k n : ℕ) → (bit a n ≡ nat_lt n k) → (bit a n || n == k) ≡ nat_lt n (k + 1)

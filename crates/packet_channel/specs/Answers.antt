@@ -4,6 +4,7 @@ use Rattle.flow_window.specs.Pool.{Buffer}
 use Rattle.link_timers.specs.declared.role.Role.{Role}
 use Rattle.packet_channel.specs.declared.flow.Flow.{Flow}
 use Rattle.packet_channel.specs.Channel.{Channel, Request, refusal, carried_out, owing, passes_limit}
+use Rattle.packet_channel.specs.Channel.Request.{Sending}
 use Rattle.packet_channel.specs.Held.{Kept, datum_in}
 use Rattle.packet_channel.specs.RequestView.{refusal_of}
 use Rattle.packet_channel.specs.declared.fault.ChannelFault.{ChannelFault}
@@ -17,6 +18,11 @@ pub record CarriedOut (role : Role) (flow : Flow) (old : Channel) (r : Request) 
 pub record Refused (role : Role) (flow : Flow) (old : Channel) (r : Request) (fault : ChannelFault) (new : Channel) : Type 0 where
   pub first : refusal role flow old r ≡ Some (refusal_of fault)
   pub same : new ≡ old
+
+-- what is asked of a pool is asked for a packet that is to go; nothing else that a user asks puts anything into it
+abbrev pub WhenSending : Request → Type 0 → Type 0
+WhenSending (Sending d) P = P
+WhenSending r P = Unit {0}
 
 abbrev pub Answers : Role → Flow → Channel → Request → Result Bool ChannelFault → Channel → Type 0
 Answers role flow old r (Ok relink) new = CarriedOut role flow old r relink new

@@ -57,7 +57,7 @@ impl Channel {
     ghost use Rattle.packet_channel.specs.Traffic as traffic;
     ghost use Rattle.packet_channel.specs.TakenView.{maybe_taken_in, maybe_buffers_in, maybe_front};
 
-    /// A channel without a call.
+    /// A channel without a call. `AllocError` comes for want of memory.
     pub fn new(alloc: Global) -> Result<Self, AllocError>
         ensures { IfOk result (λ c. c ≡ record { channel = machine.closed_channel; held = [] }) }
     {
@@ -70,7 +70,7 @@ impl Channel {
         })
     }
 
-    /// Enters the state of a call that stands.
+    /// Enters the state of a standing call.
     pub fn stand(&mut self)
         ensures { self.new ≡ record self.old {
           channel = machine.entered machine.CallState.Transfer self.old.channel;

@@ -35,7 +35,7 @@ impl<const PLACES: usize> Model for NoteQueue<PLACES> {
 impl<const PLACES: usize> NoteQueue<PLACES> {
     ghost use Rattle.packet_channel.specs.NoteView.{note_of, maybe_note};
 
-    /// No notes.
+    /// No notes. `AllocError` comes for want of memory.
     pub fn new(alloc: Global) -> Result<Self, AllocError>
         ensures { IfOk result (λ n. n ≡ []) }
     {

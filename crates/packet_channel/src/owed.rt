@@ -23,6 +23,7 @@ impl<P> Model for Owed<P> {
 }
 
 impl<P: Default + Drop> Owed<P> {
+    /// No packets.
     pub fn new() -> Self
         ensures { result ≡ [] }
     {
@@ -31,12 +32,14 @@ impl<P: Default + Drop> Owed<P> {
         }
     }
 
+    /// Whether no packet is owed.
     pub fn is_empty(&self) -> bool
         ensures { result ≡ (length self.now == 0) }
     {
         self.packets.is_empty()
     }
 
+    /// Drops all packets.
     pub fn clear(&mut self)
         ensures { self.new ≡ [] }
     {

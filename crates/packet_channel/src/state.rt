@@ -1,4 +1,4 @@
-//! Where a logical channel stands in call set-up and clearing (X.25 tables C-1 and C-2), seen from one end.
+//! The state of a logical channel in call set-up and clearing (X.25 tables C-1 and C-2), seen from one end.
 ghost use Rattle.std.specs.Prelude.{◌≡◌, ◌≤◌};
 ghost use Rattle.packet_channel.specs.Channel as machine;
 ghost use Rattle.packet_channel.specs.StateView.{state_of};
@@ -69,6 +69,7 @@ impl CallState {
         }
     }
 
+    /// Whether the call is in data transfer, in p4.
     pub fn in_transfer(self) -> bool
         ensures { result ≡ machine.in_transfer (state_of self) }
     {

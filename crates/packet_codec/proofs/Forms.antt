@@ -436,12 +436,6 @@ abbrev value_of : PacketValue → Result PacketValue PacketFault → PacketValue
 value_of p (Ok q) = q
 value_of p (Err fault) = p
 
--- octets have one value at most
-pub one_value : (n : Numbering) (size : ℕ) (bytes : List ℕ) (p q : PacketValue) → PacketForm n size bytes p
-    → PacketForm n size bytes q → p ≡ q
-one_value n size bytes p q a b =
-    ap (value_of p) (sym (reading-form n size bytes p a) ∙ reading-form n size bytes q b)
-
 pub found_answer : (n : Numbering) (size : ℕ) (bytes : List ℕ) (answer : Result Packet PacketFault)
     → answer_view answer ≡ reading n size bytes → Found n size bytes (reading n size bytes)
     → IfOk answer (λ p. PacketForm n size bytes (view p))

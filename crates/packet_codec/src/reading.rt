@@ -55,7 +55,7 @@ fn read(bytes: &[u8], numbering: Numbering, size: u16) -> Result<Packet<'_>, Pac
     }
 }
 
-/// The logical channel that the octets name, also where they are no packet: none for fewer than two octets.
+/// The logical channel that the octets name, even if they are no packet: `None` for fewer than two octets.
 pub fn logical_channel(bytes: &[u8]) -> Option<u16>
     ensures { result ≡ named_channel bytes.now }
 {

@@ -8,3 +8,4 @@ pub mod Ended
 pub mod Sending
 pub mod Sizes
 pub mod Short
+pub mod Restarting

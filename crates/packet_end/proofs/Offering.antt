@@ -4,9 +4,8 @@ use borrow.Author.Tests.{le-leb, lt-ltb}
 use Rattle.std.specs.Prelude.{Option, Some, None, is_some, ◌&&◌, nat_lt}
 use Rattle.lapb.specs.declared.phase.Phase.{Phase}
 use Rattle.lapb.specs.Machine.{Octets, Link, can_offer, is_up, settle_in, send_all, sendable, offer}
-use Rattle.packet_channel.specs.declared.flow.Flow.{Flow}
-use Rattle.packet_layer.specs.Packets.{Body, Packet}
-use Rattle.packet_layer.specs.Channel.{Channel}
+use Rattle.packet_channel.specs.Packets.{Body, Packet}
+use Rattle.packet_channel.specs.Channel.{Channel}
 use Rattle.packet_layer.specs.Layer.{Layer, Next, channel_of, next_of, next_number, serve, serve_found, served, next_restart, next_in, next_packet}
 use Rattle.packet_layer.specs.Layer as machine
 use Rattle.packet_layer.specs.Events.{written_packet}
@@ -76,11 +75,6 @@ in_relink machine.Phase.PacketReady true l = refl
 in_relink machine.Phase.PacketReady false l = restart_relink l.owed l
 
 -- ---- one packet more
-
-pub written_same : (flow : Flow) (packet : Option Packet) (old : Octets) → is_some packet ≡ true →
-    written_packet flow packet old ≡ written_packet flow packet []
-written_same flow None old says = absurd (cc)
-written_same flow (Some packet) old says = refl
 
 cond_same : (b : Bool) (e : PacketEnd) → cond b e e ≡ e
 cond_same true e = refl

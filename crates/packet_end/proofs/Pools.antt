@@ -9,7 +9,7 @@ use Rattle.packet_channel.specs.declared.flow.Flow.{Flow}
 use Rattle.lapb.specs.declared.link.LinkParams.{LinkParams}
 use Rattle.line_end.specs.End as line
 use Rattle.line_end.specs.Held.{LineEnd}
-use Rattle.packet_layer.specs.Channel.{closed_channel}
+use Rattle.packet_channel.specs.Channel.{closed_channel}
 use Rattle.packet_layer.specs.Layer as machine
 use Rattle.packet_layer.specs.Layer.{standing_channels}
 use Rattle.packet_layer.specs.Held.{Loses, Takes, Layer, most_held, HasRoom}

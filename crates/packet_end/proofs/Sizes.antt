@@ -9,8 +9,8 @@ use Rattle.lapb.specs.declared.note.Note as link_note
 use Rattle.lapb.specs.declared.note.Note.TheVariants.{Nothing, Up, Down}
 use Rattle.line_end.specs.End as line
 use Rattle.packet_channel.specs.declared.flow.Flow.{Flow}
-use Rattle.packet_layer.specs.Packets.{CallParts}
-use Rattle.packet_layer.specs.Channel.{Request}
+use Rattle.packet_channel.specs.Packets.{CallParts}
+use Rattle.packet_channel.specs.Channel.{Request}
 use Rattle.packet_layer.specs.Layer.{next_packet}
 use Rattle.packet_end.specs.PacketEnd.{Octets, PacketEnd, heeded, after_packet, received, runs_at, expired, after_timer}
 use Rattle.packet_end.specs.PacketEnd.{relinked, relinked_if_due, with_next, offered, all_offered, finished, asked, called}

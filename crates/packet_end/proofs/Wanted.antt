@@ -64,18 +64,6 @@ reaches_further l old new count before stays own id is within = go (same_or (cha
     go (inl same) = own id is same
     go (inr apart) = stays id (is_timer id is) (before id is (omega (arith, within, apart)))
 
-pub within_line : (id : TimerId) → IsPacketTimer id → channel_number id ≤ 32
-within_line T1 is = absurd is
-within_line T10 is = omega arith
-within_line T20 is = omega arith
-within_line (T11 channel) is = is.1
-within_line (T12 channel) is = is.1
-within_line (T13 channel) is = is.1
-within_line (T21 channel) is = is.1
-within_line (T22 channel) is = is.1
-within_line (T23 channel) is = is.1
-within_line (Idle terminal) is = absurd is
-
 -- the six timers of a channel are its timers
 pub of_channel : (l : Layer) (timers : Places) (channel : ℕ) → RunsAsWanted l timers (T11 channel) →
     RunsAsWanted l timers (T12 channel) → RunsAsWanted l timers (T13 channel) → RunsAsWanted l timers (T21 channel) →

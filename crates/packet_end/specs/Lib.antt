@@ -1,4 +1,3 @@
-pub use Rattle.line_end.specs.End
 pub mod PacketEnd
 pub mod Timing
 pub mod Touched

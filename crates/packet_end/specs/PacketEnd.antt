@@ -15,8 +15,8 @@ use Rattle.lapb.specs.Octets as link_octets
 use Rattle.lapb.specs.Unsent.{HasSentAll}
 use Rattle.line_end.specs.End.{End}
 use Rattle.line_end.specs.End as line
-use Rattle.packet_layer.specs.Packets.{CallParts, Note}
-use Rattle.packet_layer.specs.Channel.{Request}
+use Rattle.packet_channel.specs.Packets.{CallParts, Note}
+use Rattle.packet_channel.specs.Channel.{Request}
 use Rattle.packet_layer.specs.Layer.{Layer, Next, unread, next_packet}
 use Rattle.packet_layer.specs.Layer as machine
 use Rattle.packet_layer.specs.Events.{on_octets, on_named, timer_named, written_packet}

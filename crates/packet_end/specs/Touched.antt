@@ -2,8 +2,8 @@
 use Rattle.std.specs.Prelude.{◌≡◌, ◌≢◌, ℕ, ◌≤◌, Bool, true, false, ◌==◌, Option, Some, None}
 use Rattle.link_timers.specs.declared.timers.TimerId.{TimerId}
 use Rattle.link_timers.specs.Timers.{Places}
-use Rattle.packet_layer.specs.Channel.{Request}
-use Rattle.packet_layer.specs.Channel.Request.{Accept, Clearing, Resetting}
+use Rattle.packet_channel.specs.Channel.{Request}
+use Rattle.packet_channel.specs.Channel.Request.{Accept, Clearing, Resetting}
 use Rattle.packet_layer.specs.Layer.{Layer}
 use Rattle.packet_end.specs.Timing.{RunsAsWanted, IsPacketTimer, channel_number}
 use Rattle.packet_end.specs.declared.touched.Touched.{Touched}

@@ -4,13 +4,13 @@ ghost use Rattle.std.specs.Prelude.{IfSome, vec_capacity};
 ghost use Rattle.std.specs.Bool.{OnTrue, OnFalse};
 ghost use Rattle.packet_codec.specs.Packet.{IsCallValue};
 ghost use Rattle.packet_codec.specs.View.{call_view};
-ghost use Rattle.packet_layer.specs.Channel.{Request as ask};
+ghost use Rattle.packet_channel.specs.Channel.{Request as ask};
 ghost use Rattle.packet_layer.specs.Layer as machine;
-ghost use Rattle.packet_layer.specs.Octets.{parts_of};
-ghost use Rattle.packet_layer.specs.Packets.{Datum};
+ghost use Rattle.packet_channel.specs.Octets.{parts_of};
+ghost use Rattle.packet_channel.specs.Packets.{Datum};
 ghost use Rattle.packet_layer.specs.RequestView.{request_of, refusal_of, call_refusal_of};
-ghost use Rattle.packet_layer.specs.TakenView.{maybe_taken, maybe_front, taken_octets, HasFewOctets};
-ghost use Rattle.packet_layer.specs.Traffic.Taken.{TakenPacket};
+ghost use Rattle.packet_channel.specs.TakenView.{maybe_taken, maybe_front, taken_octets, HasFewOctets};
+ghost use Rattle.packet_channel.specs.Traffic.Taken.{TakenPacket};
 ghost use Rattle.packet_end.specs.Params.{AreParams, MadeNot};
 ghost use Rattle.packet_end.specs.Timing.{TimersAgree};
 ghost use Rattle.packet_end.specs.PacketEnd.{made, begun, received, after_timer, relinked, restarted};
@@ -65,12 +65,12 @@ impl Deref for PacketEnd {
 }
 
 impl PacketEnd {
-    ghost use Rattle.packet_layer.specs.NoteView.{maybe_note};
+    ghost use Rattle.packet_channel.specs.NoteView.{maybe_note};
 
     /// The end of this role of a line: its link is as `LineEnd::new` makes it, its packet layer as `Layer::new`. It
     /// takes all the memory that it ever uses.
     ///
-    /// `BadConfig` comes where a parameter is out of its range, and then `OutOfMemory` for want of memory.
+    /// `BadConfig` comes if a parameter is out of its range, and then `OutOfMemory` for want of memory.
     pub fn new(alloc: Global, role: Role, params: EndParams) -> Result<PacketEnd, EndFault>
         ensures { MatchResult result
             (λ end. AreParams params × (end ≡ made role params))
@@ -98,7 +98,7 @@ impl PacketEnd {
         self.end.on_frame(octets, &mut self.pool);
     }
 
-    /// Takes an expiry of a timer. Where the timer does not run nothing happens.
+    /// Takes an expiry of a timer. If the timer does not run, nothing happens.
     pub fn on_timer(&mut self, id: TimerId)
         requires { self.old.notes ≡ [] }
         ensures end { self.new ≡ after_timer self.old id }
@@ -116,15 +116,16 @@ impl PacketEnd {
         self.end.relink(&mut self.pool);
     }
 
-    /// Restarts the end of the line with its node, as on a line that does not stand. All that went before is forgotten,
-    /// frames and notes too.
+    /// Restarts the end of the line with its node, as on a line that is not standing. All that went before is
+    /// forgotten, frames and notes too.
     pub fn restart(&mut self)
-        ensures { self.new ≡ restarted self.old }
+        ensures end { self.new ≡ restarted self.old }
+        ensures nothing_kept_back { KeepsNothingBack self.new }
     {
         self.end.restart(&mut self.pool);
     }
 
-    /// Ends an event: a relink where it is due, all packets that may go, the timers as the packet layer wants them, and
+    /// Ends an event: a relink if it is due, all packets that may go, the timers as the packet layer wants them, and
     /// the frames that the link may send. No frame of the event is lost.
     pub fn finish(&mut self)
         requires { length self.old.notes ≤ 64 }
@@ -137,7 +138,7 @@ impl PacketEnd {
         self.end.finish(&mut self.pool);
     }
 
-    /// Takes the next frame that goes out, if there is one. Where there is none `frame` stays.
+    /// Takes the next frame that goes out, if there is one. If there is none, `frame` stays as it is.
     pub fn out(&mut self, frame: &mut FrameBuf) -> bool
         ensures frame { OnTrue result (self.old.line.frames ≡ frame.new ∷ self.new.line.frames) }
         ensures nothing { OnFalse result (self.old.line.frames ≡ []) }
@@ -165,8 +166,8 @@ impl PacketEnd {
     /// Places a call on a free channel, a DTE on the highest one and a DCE on the lowest (X.25 4.1.2), and answers the
     /// channel. The facilities have at most 109 octets and the user data at most 16.
     ///
-    /// `NotReady` comes where the restart procedure is not done, then `NoChannel` where no channel is free. A call that
-    /// is refused changes nothing.
+    /// `NotReady` comes if the restart procedure is not done, then `NoChannel` if no channel is free. A call that is
+    /// refused changes nothing.
     pub fn call(&mut self, call: &CallData<'_>) -> Result<u8, CallFault>
         requires { IsCallValue (call_view call.now) }
         ensures answer { MatchResult result

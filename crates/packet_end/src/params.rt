@@ -26,12 +26,12 @@ pub struct EndParams {
     pub channels: u8,
     /// The window, the numbering and the packet size (X.25 4.4.1).
     pub flow: Flow,
-    /// Whether the line stands from the beginning on: the link is up, and a call stands on channel 1.
+    /// Whether the line is standing: from the start its link is up, and channel 1 has a call in data transfer.
     pub standing: bool,
 }
 
 impl EndParams {
-    /// `BadConfig` comes where a parameter is out of its range.
+    /// `BadConfig` comes if a parameter is out of its range.
     pub fn check(&self) -> Result<(), EndFault>
         ensures { MatchResult result
             (λ _. AreParams self.now)

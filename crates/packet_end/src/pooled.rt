@@ -67,7 +67,7 @@ impl Deref for PooledEnd {
 }
 
 impl PooledEnd {
-    ghost use Rattle.packet_layer.specs.NoteView.{maybe_note, note_of};
+    ghost use Rattle.packet_channel.specs.NoteView.{maybe_note, note_of};
 
     /// The end of this role of a line, as `PacketEnd::new` makes it. It takes all the memory that it ever uses, but for
     /// the pool. `OutOfMemory` comes for want of memory.
@@ -147,7 +147,7 @@ impl PooledEnd {
         }
     }
 
-    /// Takes an expiry of a timer. Where the timer does not run nothing happens.
+    /// Takes an expiry of a timer. If the timer does not run, nothing happens.
     pub fn on_timer(&mut self, id: TimerId, pool: &mut Pool)
         requires notes { self.old.end.notes ≡ [] }
         requires pool { Serves pool.old self.old.held self.old.share self.old.info }
@@ -182,8 +182,8 @@ impl PooledEnd {
         self.heed(Note::Down, pool);
     }
 
-    /// Restarts the end of the line with its node, as on a line that does not stand. All that went before is forgotten,
-    /// frames and notes too.
+    /// Restarts the end of the line with its node, as on a line that is not standing. All that went before is
+    /// forgotten, frames and notes too.
     pub fn restart(&mut self, pool: &mut Pool)
         requires { Serves pool.old self.old.held self.old.share self.old.info }
         ensures end { self.new ≡ record self.old { end = restarted self.old.end; held = self.new.held } }
@@ -197,7 +197,7 @@ impl PooledEnd {
         self.notes.clear();
     }
 
-    /// Takes the next frame that goes out, if there is one. Where there is none `frame` stays.
+    /// Takes the next frame that goes out, if there is one. If there is none, `frame` stays as it is.
     pub fn out(&mut self, frame: &mut FrameBuf) -> bool
         ensures frame { OnTrue result (self.old.end.line.frames ≡ frame.new ∷ self.new.end.line.frames) }
         ensures nothing { OnFalse result (self.old.end.line.frames ≡ []) }

@@ -6,15 +6,15 @@ use Rattle.std.proofs.lemmas.Option.{none-some}
 use Rattle.link_timers.specs.declared.role.Role.{Role}
 use Rattle.link_timers.specs.declared.role.Role.TheVariants.{Dte, Dce}
 use Rattle.packet_channel.specs.declared.flow.Flow.{Flow}
-use Rattle.packet_layer.specs.Packets.{CallParts, Datum}
-use Rattle.packet_layer.specs.Traffic.{Taken, Traffic, front_of, taking_of}
-use Rattle.packet_layer.specs.Channel.{CallState, Channel, Request, Refusal, Step, unless, quiet, refusal, requested, carried_out, may_accept, may_clear, refused_if}
-use Rattle.packet_layer.specs.Layer.{Layer, Phase, nth_channel, with_nth, channel_of, on_found, after_step, request_refusal, refusal_at, call_refusal, free_channel, placed_on, can_accept, can_accept_at, front_on, front_at}
+use Rattle.packet_channel.specs.Packets.{Datum}
+use Rattle.packet_channel.specs.Traffic.{Taken, Traffic, front_of, taking_of}
+use Rattle.packet_channel.specs.Channel.{CallState, Channel, Request, Refusal, Step, unless, quiet, refusal, requested, carried_out, may_accept, may_clear, refused_if}
+use Rattle.packet_layer.specs.Layer.{Layer, Phase, nth_channel, with_nth, channel_of, on_found, after_step, request_refusal, refusal_at, call_refusal, free_channel, can_accept, can_accept_at, front_on, front_at}
 use Rattle.packet_layer.specs.Layer as machine
-use Rattle.packet_layer.specs.TakenView.{maybe_front, shown_front}
+use Rattle.packet_channel.specs.TakenView.{maybe_front, shown_front}
 use Rattle.packet_layer.proofs.Places.{set_same}
-use Rattle.packet_end.specs.PacketEnd.{PacketEnd, asked, called}
-use Rattle.packet_host.specs.Host.{ended, unless_refused, after_request, after_call, after_refuse, after_take, taken_as}
+use Rattle.packet_end.specs.PacketEnd.{PacketEnd, asked}
+use Rattle.packet_host.specs.Host.{ended, unless_refused, after_request, after_take, taken_as}
 
 with_same : (chs : List Channel) (c : ℕ) (ch : Channel) → nth_channel chs c ≡ Some ch → with_nth chs c ch ≡ chs
 with_same chs zero ch at = refl
@@ -44,18 +44,6 @@ went_not e new c r x is done =
     done ∙ (λ i. record e { layer = refused_same e.layer c r x is i })
     ∙ ap (λ (o : Option Refusal). unless_refused o (ended (asked e c r)) e) (sym is)
 
--- the same of a call
-not_placed : (l : Layer) (parts : CallParts) (x : Refusal) (given : Option ℕ) → cond (is_some given) None (Some Refusal.NoChannel) ≡ Some x →
-    placed_on l parts given ≡ l
-not_placed l parts x None is = refl
-not_placed l parts x (Some c) is = absurd (cc)
-
-not_called : (l : Layer) (parts : CallParts) (x : Refusal) (phase : Phase) → call_refusal l phase ≡ Some x →
-    placed_on l parts (machine.channel_given l phase) ≡ l
-not_called l parts x Phase.NoSession is = refl
-not_called l parts x Phase.OwnRestart is = refl
-not_called l parts x Phase.PacketReady is = not_placed l parts x (free_channel l.role l.channels) is
-
 given_of : (l : Layer) (c : ℕ) (given : Option ℕ) → given ≡ Some c → cond (is_some given) None (Some Refusal.NoChannel) ≡ None
 given_of l c None is = absurd (cc)
 given_of l c (Some n) is = refl
@@ -64,17 +52,6 @@ given_none : (l : Layer) (c : ℕ) (phase : Phase) → machine.channel_given l p
 given_none l c Phase.NoSession is = absurd (cc)
 given_none l c Phase.OwnRestart is = absurd (cc)
 given_none l c Phase.PacketReady is = given_of l c (free_channel l.role l.channels) is
-
-pub call_went : (e new : PacketEnd) (parts : CallParts) (c : ℕ) → machine.channel_given e.layer e.layer.phase ≡ Some c →
-    new ≡ ended (called e parts) → new ≡ after_call e parts
-call_went e new parts c is done =
-    done ∙ ap (λ (o : Option Refusal). unless_refused o (ended (called e parts)) e) (sym (given_none e.layer c e.layer.phase is))
-
-pub call_went_not : (e new : PacketEnd) (parts : CallParts) (x : Refusal) → call_refusal e.layer e.layer.phase ≡ Some x →
-    new ≡ called e parts → new ≡ after_call e parts
-call_went_not e new parts x is done =
-    done ∙ (λ i. record e { layer = not_called e.layer parts x e.layer.phase is i })
-    ∙ ap (λ (o : Option Refusal). unless_refused o (ended (called e parts)) e) (sym is)
 
 -- a call that can be accepted can be cleared
 state_clears : (role : Role) (s : CallState) → may_accept role s ≡ true → may_clear s ≡ true
@@ -96,13 +73,6 @@ found_clears role flow (Some ch) h =
 
 pub accepted_clears : (l : Layer) (c : ℕ) → can_accept l c ≡ true → request_refusal l c (Request.Clearing 0 0) ≡ None
 accepted_clears l c h = found_clears l.role l.flow (channel_of l c) h
-
-pub refuse_went : (e new : PacketEnd) (c : ℕ) → can_accept e.layer c ≡ true → new ≡ after_request e c (Request.Clearing 0 0) →
-    new ≡ after_refuse e c
-refuse_went e new c h done =
-    done
-    ∙ ap (λ (o : Option Refusal). unless_refused o (ended (asked e c (Request.Clearing 0 0))) e) (accepted_clears e.layer c h)
-    ∙ ap (λ (b : Bool). unless_refused (refused_if (not b) Refusal.NoCall None) (ended (asked e c (Request.Clearing 0 0))) e) (sym h)
 
 -- where nothing waits, taking changes nothing
 taking_none : (i : Option (List ℕ)) (ds : List Datum) (t : Traffic) → front_of i ds ≡ None → taking_of i ds t ≡ t

@@ -1,11 +1,11 @@
 //! The host and its calls.
 ghost use Rattle.std.specs.Prelude.{◌≡◌, ◌≤◌, [], true, false, Some, None, length, MatchResult, OnOk, OnErr};
 ghost use Rattle.std.specs.Prelude.{OnSome, MatchOption, slice_get, IfSome, vec_capacity};
-ghost use Rattle.packet_layer.specs.Channel.{Request as ask};
+ghost use Rattle.packet_channel.specs.Channel.{Request as ask};
 ghost use Rattle.packet_layer.specs.Layer as machine;
-ghost use Rattle.packet_layer.specs.NoteView.{maybe_note, note_of};
+ghost use Rattle.packet_channel.specs.NoteView.{maybe_note, note_of};
 ghost use Rattle.packet_layer.specs.RequestView.{request_of, refusal_of, call_refusal_of};
-ghost use Rattle.packet_layer.specs.TakenView.{taken_of, maybe_taken, maybe_front, taken_octets, taken_with, HasFewOctets};
+ghost use Rattle.packet_channel.specs.TakenView.{taken_of, maybe_taken, maybe_front, taken_octets, taken_with, HasFewOctets};
 ghost use Rattle.packet_end.specs.Params.{AreParams, MadeNot};
 ghost use Rattle.packet_end.specs.PacketEnd as end;
 ghost use Rattle.packet_end.specs.Timing.{TimersAgree};
@@ -43,10 +43,10 @@ impl Model for Host {
 }
 
 impl Host {
-    /// The host at its line, which is new: the link is started, or stands where the line does. It takes all the memory
-    /// that it ever uses.
+    /// The host at its line, which is new: the link is started, or up on a standing line. It takes all the memory that
+    /// it ever uses.
     ///
-    /// `BadConfig` comes where a parameter is out of its range, and then `OutOfMemory` for want of memory.
+    /// `BadConfig` comes if a parameter is out of its range, and then `OutOfMemory` for want of memory.
     pub fn new(alloc: Global, config: HostConfig) -> Result<Host, EndFault>
         ensures { MatchResult result
             (λ host. AreParams config.line × (host ≡ made config))
@@ -59,7 +59,7 @@ impl Host {
     /// Calls an address with at most 16 octets of call user data (X.25 4.1.2), and answers the channel: the highest
     /// free one of a DTE, the lowest of a DCE.
     ///
-    /// `NotReady` comes where the restart procedure is not done, then `NoChannel` where no channel is free.
+    /// `NotReady` comes if the restart procedure is not done, then `NoChannel` if no channel is free.
     pub fn call(&mut self, address: Address, user_data: &[u8]) -> Result<u8, CallFault>
         requires { length user_data.now ≤ 16 }
         ensures answer { MatchResult result
@@ -83,7 +83,7 @@ impl Host {
 
     /// Accepts the call that came in on the channel (X.25 4.1.4).
     ///
-    /// `NoCall` comes where none waits for it: no call came in, or a DTE's own call collided with it.
+    /// `NoCall` comes if none waits for it: no call came in, or a DTE's own call collided with it.
     pub fn answer(&mut self, channel: u8) -> Result<(), ChannelFault>
         ensures answer { MatchResult result
             (λ _. machine.request_refusal self.old.layer channel ask.Accept ≡ None)
@@ -97,7 +97,7 @@ impl Host {
 
     /// Clears the call that came in on the channel and is not answered, with cause 0 and diagnostic 0 (X.25 4.1.7).
     ///
-    /// `NoCall` comes where there is none.
+    /// `NoCall` comes if there is none.
     pub fn refuse(&mut self, channel: u8) -> Result<(), ChannelFault>
         ensures answer { MatchResult result
             (λ _. refuse_refusal self.old channel ≡ None)
@@ -115,7 +115,7 @@ impl Host {
 
     /// Clears the call on the channel, also one that is being set up, with cause 0 and diagnostic 0 (X.25 4.1.7).
     ///
-    /// `NoCall` comes where there is none.
+    /// `NoCall` comes if there is none.
     pub fn clear(&mut self, channel: u8) -> Result<(), ChannelFault>
         ensures answer { MatchResult result
             (λ _. machine.request_refusal self.old.layer channel (ask.Clearing 0 0) ≡ None)
@@ -134,7 +134,7 @@ impl Host {
     /// Resets the call on the channel with cause 0 and diagnostic 0: what waits in both directions is dropped (X.25
     /// 4.4.3).
     ///
-    /// `NoCall` comes where no call is in data transfer, `Resetting` while the last own reset is not confirmed.
+    /// `NoCall` comes if no call is in data transfer, `Resetting` while the last own reset is not confirmed.
     pub fn reset(&mut self, channel: u8) -> Result<(), ChannelFault>
         ensures answer { MatchResult result
             (λ _. machine.request_refusal self.old.layer channel (ask.Resetting 0 0) ≡ None)
@@ -152,8 +152,8 @@ impl Host {
 
     /// Sends an interrupt of 1 to 32 octets on the channel (X.25 4.3.7).
     ///
-    /// `NoCall` comes where no call is in data transfer, then `Resetting` while the own reset is not confirmed,
-    /// `TooLong` for no octets or more than 32, `InterruptPending` while the last interrupt is not confirmed.
+    /// `NoCall` comes if no call is in data transfer, then `Resetting` while the own reset is not confirmed, `TooLong`
+    /// for no octets or more than 32, `InterruptPending` while the last interrupt is not confirmed.
     pub fn interrupt(&mut self, channel: u8, octets: &[u8]) -> Result<(), ChannelFault>
         ensures answer { MatchResult result
             (λ _. machine.request_refusal self.old.layer channel (ask.Interrupting octets.now) ≡ None)
@@ -168,7 +168,7 @@ impl Host {
 
     /// Asks the far end by RNR to send no more data on the channel (X.25 4.4.1.5).
     ///
-    /// `NoCall` comes where no call is in data transfer.
+    /// `NoCall` comes if no call is in data transfer.
     pub fn stop(&mut self, channel: u8) -> Result<(), ChannelFault>
         ensures answer { MatchResult result
             (λ _. machine.request_refusal self.old.layer channel (ask.Stopping true) ≡ None)
@@ -182,7 +182,7 @@ impl Host {
 
     /// Ends by RR what `stop` asked (X.25 4.4.1.4).
     ///
-    /// `NoCall` comes where no call is in data transfer.
+    /// `NoCall` comes if no call is in data transfer.
     pub fn go(&mut self, channel: u8) -> Result<(), ChannelFault>
         ensures answer { MatchResult result
             (λ _. machine.request_refusal self.old.layer channel (ask.Stopping false) ≡ None)

@@ -2,7 +2,7 @@
 use Rattle.std.proofs.Common.{◌≡◌, ℕ, ◌+◌, ◌<◌, Bool, length, set, get_or, Some, None, sym, ap, ◌∙◌}
 use Rattle.std.specs.Prelude.{slice_get, Result, Ok, Err, MatchResult}
 use Rattle.std.specs.Result.{IsErrAnd}
-use Rattle.packet_channel.specs.Answers.{CarriedOut, Refused}
+use Rattle.packet_channel.specs.Answers.{CarriedOut, Refused, WhenSending}
 use Rattle.packet_channel.specs.Channel.{Request}
 use Rattle.packet_channel.specs.Held.{Channel as Holder}
 use Rattle.packet_channel.specs.RequestView.{refusal_of}
@@ -73,3 +73,27 @@ pub same_held : (a : Inside) (x : Held) (c place : ℕ) (old new : Holder) → I
     new.held ≡ old.held → buffers (set a.channels.items place new) ≡ x.held
 same_held a x c place old new at same =
     buffers_same a.channels.items place old new at.there same ∙ ap (λ (x : Held). x.held) at.view
+
+-- ---- what a packet that is to go asks of the pool
+
+pub when_sending : {P Q : Type 0} (r : Request) → (P → Q) → WhenSending r P → WhenSending r Q
+when_sending Request.Accept f p = p
+when_sending (Request.Clearing cause diagnostic) f p = p
+when_sending (Request.Resetting cause diagnostic) f p = p
+when_sending (Request.Sending d) f p = f p
+when_sending (Request.Interrupting octets) f p = p
+when_sending (Request.Stopping stopped) f p = p
+when_sending Request.Taking f p = p
+when_sending (Request.Releasing count) f p = p
+when_sending Request.Confirming f p = p
+
+pub if_sending : {P : Type 0} (r : Request) → P → WhenSending r P
+if_sending Request.Accept p = tt
+if_sending (Request.Clearing cause diagnostic) p = tt
+if_sending (Request.Resetting cause diagnostic) p = tt
+if_sending (Request.Sending d) p = p
+if_sending (Request.Interrupting octets) p = tt
+if_sending (Request.Stopping stopped) p = tt
+if_sending Request.Taking p = tt
+if_sending (Request.Releasing count) p = tt
+if_sending Request.Confirming p = tt

@@ -80,9 +80,6 @@ request_refused l c place ch new r fault e h refused =
 pub refused_at : (l : Layer) (c place : ℕ) (ch : Channel) (r : Request) → place + 1 ≡ c → slice_get l.channels place ≡ Some ch → machine.request_refusal l c r ≡ refusal l.role l.flow ch r
 refused_at l c place ch r e h = rw (channel_at l.channels c place e, h) refl
 
-pub request_nowhere : (l : Layer) (c : ℕ) (r : Request) → channel_of l c ≡ None → machine.request l c r ≡ l
-request_nowhere l c r e = rw e refl
-
 -- an element of a list, by its place
 pub at_place : {X : Type 0} (xs : List X) (i : ℕ) (x : X) → i < length xs → x ≡ get_or xs i x → slice_get xs i ≡ Some x
 at_place [] i x h e = absurd (omega arith)
@@ -135,10 +132,6 @@ taking_done l c place ch new e h is_new =
     let facts = step_of_taking l.role l.flow ch in
     sym (step_at l c place ch (λ x. requested l.role l.flow x Taking) e h
     ∙ rw (is_new, facts.0, facts.1.0, append-nil l.notes) refl)
-
--- an element that the code borrows
-pub item_at : (xs : List Channel) (i : ℕ) (x : Channel) → i < length xs → x ≡ get_or xs i x → slice_get xs i ≡ Some x
-item_at xs i x h e = at_place xs i x h e
 
 ready_of : (s : CallState) (b : Bool) → is_ready s && b ≡ true → s ≡ Ready
 ready_of Ready b h = refl

@@ -1,9 +1,8 @@
 -- Channels that have nothing for the link, and those that may have something.
 use Rattle.std.proofs.Common.{◌≡◌, ℕ, zero, suc, ◌+◌, Bool, true, false, List, [], ◌∷◌, ◌||◌, ◌&&◌, ◌==◌, ◌⊎◌, inl, inr}
-use Rattle.std.proofs.Common.{not, set, map, take, drop, ◌++◌, refl, sym, ap, subst, ◌∙◌, length, arith}
+use Rattle.std.proofs.Common.{not, set, map, refl, sym, ap, subst, ◌∙◌, arith}
 use Rattle.std.specs.Prelude.{Option, Some, None, is_some, slice_get, replicate}
-use Rattle.std.specs.Prelude.{Vec}
-use Rattle.std.specs.Vec.{with_item, with_items}
+use Rattle.std.specs.Vec.{with_item}
 use Rattle.std.proofs.lemmas.List.{length-set}
 use Rattle.std.proofs.lemmas.Bool.{eq-eqb, ne_eqb, cases_eq}
 use Rattle.number_set.specs.NumberSet.{has}
@@ -200,14 +199,3 @@ silent_there l s p others out = go (slice_get l.channels p) refl
     go None e = nowhere l (p + 1) (channel_at l.channels (p + 1) p refl ∙ e)
     go (Some ch) e = ap (λ (n : Next). is_some n.packet)
         (silent_at l (p + 1) p ch refl e (others.silent p ch e out))
-
--- what is written over all the elements of a vector
-over_all : {X : Type 0} (n : ℕ) (ws ys : List X) → n ≡ length ws → take n (ws ++ ys) ≡ ws
-over_all zero [] ys e = refl
-over_all zero (w ∷ ws) ys e = absurd (omega arith)
-over_all (suc n) [] ys e = absurd (omega arith)
-over_all (suc n) (w ∷ ws) ys e = ap (λ zs. w ∷ zs) (over_all n ws ys (omega arith))
-
-pub written_over : {X Z : Type 0} (v : Vec X Z) (ws : List X) → length ws ≡ length v.items →
-    (with_items v ws).items ≡ ws
-written_over v ws same = over_all v.len ws (drop (length ws) v.items) (v.ok.0 ∙ sym same)

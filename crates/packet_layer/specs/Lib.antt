@@ -1,12 +1,3 @@
-pub use Rattle.packet_channel.specs.Flow
-pub use Rattle.packet_channel.specs.Packets
-pub use Rattle.packet_channel.specs.Traffic
-pub use Rattle.packet_channel.specs.Channel
-pub use Rattle.packet_channel.specs.Octets
-pub use Rattle.packet_channel.specs.Answers
-pub use Rattle.packet_channel.specs.TakenView
-pub use Rattle.packet_channel.specs.ControlView
-pub use Rattle.packet_channel.specs.NoteView
 pub mod Layer
 pub mod Held
 pub mod RequestView

@@ -67,8 +67,8 @@ impl Layer {
     /// A packet layer without a session of the link, or on a standing line one in data transfer on channel 1. It
     /// takes all the memory that it ever uses.
     ///
-    /// `BadParams` comes where the channels are not 1 to 32 or the flow control parameters none that a line may
-    /// have, and then `OutOfMemory` for want of memory.
+    /// `BadParams` comes if the channels are not 1 to 32 or the flow control parameters none that a line may have, and
+    /// then `OutOfMemory` for want of memory.
     pub fn new(alloc: Global, role: Role, params: LayerParams) -> Result<Layer, MakeFault>
         ensures { MatchResult result
             (λ layer. AreParams params.channels params.flow

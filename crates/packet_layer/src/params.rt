@@ -13,13 +13,13 @@ pub struct LayerParams {
     pub channels: u8,
     /// The window, the numbering and the packet size (X.25 4.4.1).
     pub flow: Flow,
-    /// Whether the line stands from the beginning on: the restart procedure is done, and a call stands on channel 1.
+    /// Whether the line is standing: from the start the restart procedure is done, and channel 1 has a call in data
+    /// transfer.
     pub standing: bool,
 }
 
 impl LayerParams {
-    /// `BadParams` comes where the channels are not 1 to 32 or the flow control parameters none that a line
-    /// may have.
+    /// `BadParams` comes if the channels are not 1 to 32 or the flow control parameters none that a line may have.
     pub fn check(&self) -> Result<(), MakeFault>
         ensures { MatchResult result
             (λ _. AreParams self.now.channels self.now.flow)

@@ -20,10 +20,10 @@ impl Display {
     /// 3.13,
     /// 3.14).
     ///
-    /// A graphic character at the column of parameter 10 goes to a new line. A carriage return and a line feed have
-    /// the NULs of parameters 9 and 14 after them, and a carriage return a line feed where parameter 13 asks for it,
-    /// in output or in echo. The column counts graphic characters since the carriage return, up to 65,535; a
-    /// backspace takes one back.
+    /// A graphic character at the column of parameter 10 goes to a new line. A carriage return and a line feed have the
+    /// NULs of parameters 9 and 14 after them, and a carriage return a line feed if parameter 13 asks for it, in output
+    /// or in echo. The column counts graphic characters since the carriage return, up to 65,535; a backspace takes one
+    /// back.
     pub fn text<const N: usize>(
         octets: &[u8],
         echo: bool,
@@ -43,8 +43,8 @@ impl Display {
         at
     }
 
-    /// Whether an octet is shown as it stands, and takes the next column: it is a graphic character, and not at the end
-    /// of a line (X.3 3.10).
+    /// Whether an octet is shown unchanged, and takes the next column: it is a graphic character, and not at the end of
+    /// a line (X.3 3.10).
     pub fn is_plain(octet: u8, params: &Params, column: u16) -> bool
         ensures exact { result ≡ spec.is_plain octet params.now column }
         ensures shown { OnTrue result ((echo : Bool) → spec.shown (octet ∷ []) echo params.now column

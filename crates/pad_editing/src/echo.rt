@@ -47,8 +47,8 @@ impl Echo {
 
     /// The echo of a character that edits a text, as the text was before (X.3 3.16 to 3.18).
     ///
-    /// A character delete shows backspace, space, backspace; a line delete `XXX` and a new line; neither shows
-    /// anything where there is no text. A line display shows the text on a new line.
+    /// A character delete shows backspace, space, backspace; a line delete `XXX` and a new line; neither shows anything
+    /// if there is no text. A line display shows the text on a new line.
     pub fn of_function(function: EditingFunction, text: &[u8]) -> Echo
         requires { length text.now ≤ SHOWN_LIMIT }
         ensures { result ≡ function_echo function text.now }

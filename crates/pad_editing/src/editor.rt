@@ -64,9 +64,9 @@ impl Editor {
     /// Takes a key (X.3 3.3, 3.13, 3.15 to 3.18).
     ///
     /// With parameter 15 the characters of 16, 17 and 18 take the last octet away, empty the text, and show it. Any
-    /// other key is added to the text, a carriage return with a line feed where parameter 13 asks for it. A data
-    /// forwarding character ends a block, and is its last octet but for such a line feed; 128 octets end one too.
-    /// A carriage return that fills the 128 ends its block, and its line feed begins the next text.
+    /// other key is added to the text, a carriage return with a line feed if parameter 13 asks for it. A data
+    /// forwarding character ends a block, and is its last octet but for such a line feed; 128 octets end one too. A
+    /// carriage return that fills the 128 ends its block, and its line feed begins the next text.
     #[tactic(auto, unfolding(crate::specs::Edited::after_key))]
     pub fn key(&mut self, octet: u8, params: &Params) -> KeyOut
         ensures held { self.new ≡ (after_key params.now octet self.old).held }
@@ -89,10 +89,10 @@ impl Editor {
         KeyOut { echo, block }
     }
 
-    /// Takes a key as `key` does, where it only adds its octet to the text: it edits nothing, no line feed follows it,
-    /// and it ends no block (X.3 3.3, 3.13, 3.15). Whether it was such a key: any other changes nothing.
+    /// Takes a key as `key` does, if it only adds its octet to the text: it edits nothing, no line feed follows it, and
+    /// it ends no block (X.3 3.3, 3.13, 3.15). Answers whether it was such a key; any other changes nothing.
     ///
-    /// The echo of such a key is its octet, where echo is on (X.3 3.2).
+    /// The echo of such a key is its octet, if echo is on (X.3 3.2).
     #[tactic(auto, unfolding(crate::specs::Edited::after_key, crate::specs::Echoes::echo_of))]
     pub fn add(&mut self, octet: u8, params: &Params) -> bool
         ensures exact { result ≡ only_adds params.now octet self.old }
@@ -121,8 +121,8 @@ impl Editor {
         self.ends_block(octet, params)
     }
 
-    /// Takes the end of the idle time (X.3 3.4): the text, if any, is a block, where parameter 4 is not 0 and text is
-    /// not edited.
+    /// Takes the end of the idle time (X.3 3.4): the text, if there is any, is a block when parameter 4 is not 0 and
+    /// text is not edited.
     #[tactic(auto, unfolding(crate::specs::Edited::after_idle))]
     pub fn idle(&mut self, params: &Params) -> Option<Block>
         ensures held { self.new ≡ (after_idle params.now self.old).held }

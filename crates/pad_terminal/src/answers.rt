@@ -18,8 +18,8 @@ pub struct CallCondition {
 /// What a terminal asks of its PAD.
 #[derive(Drop)]
 pub enum Request {
-    /// A call to the selected address. The terminal is then setting up the call: where it cannot be placed the PAD says
-    /// so by `on_cleared`.
+    /// A call to the selected address. The terminal is then setting up the call: if it cannot be placed the PAD says so
+    /// by `on_cleared`.
     Call(Selection),
     /// The end of its call, which the terminal has left already.
     Clear,

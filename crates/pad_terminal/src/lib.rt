@@ -1,4 +1,4 @@
-//! A terminal of a PAD (X.3, X.28, X.29), without the packet layer that its call stands on.
+//! A terminal of a PAD (X.3, X.28, X.29), without the packet layer of its call.
 //!
 //! A `Terminal` has the parameters, the command line, the text that is held to be forwarded and the text that waits to
 //! be shown. The PAD hands it keys, breaks, idle times, messages and what becomes of its call, with what it must know

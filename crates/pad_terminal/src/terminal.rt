@@ -51,8 +51,8 @@ impl Model for Terminal {
 }
 
 impl Terminal {
-    /// A terminal with these initial parameters, in data transfer of a call that stands or without one. It takes all
-    /// the memory that it ever uses.
+    /// A terminal with these initial parameters, in data transfer on a standing call, or without a call. It takes all
+    /// the memory that it ever uses. `AllocError` comes for want of memory.
     pub fn new(alloc: Global, params: Params, standing: bool) -> Result<Terminal, AllocError>
         ensures { IfOk result (λ terminal. terminal ≡ spec.made params standing) }
     {
@@ -71,7 +71,7 @@ impl Terminal {
         })
     }
 
-    /// Begins anew, without a call and with the initial parameters, as after a restart of the PAD.
+    /// Restarts with the PAD: without a call, and with the initial parameters.
     pub fn restart(&mut self)
         ensures { self.new ≡ spec.made self.old.settings.initial false }
     {
@@ -85,7 +85,7 @@ impl Terminal {
 
     // ---- questions
 
-    /// Whether there is a call, and where its keys go.
+    /// Whether there is a call, and where the terminal's keys go.
     pub fn mode(&self) -> Mode
         ensures { result ≡ self.now.mode }
     {
@@ -107,7 +107,7 @@ impl Terminal {
         self.mode.is_data_transfer() && !self.settings.output_stopped
     }
 
-    /// The time of the idle timer, in ticks of a twentieth of a second, where that timer runs (X.3 3.4).
+    /// The time of the idle timer, in ticks of a twentieth of a second, if that timer runs (X.3 3.4).
     pub fn idle_time(&self) -> Option<u8>
         ensures { result ≡ spec.idle_time self.now }
     {
@@ -140,7 +140,7 @@ impl Terminal {
     }
 
     /// Learns that its call was cleared, with this cause, or could not be placed. Held text is dropped. The prompt is
-    /// shown where the call was in data transfer (X.28 3.5).
+    /// shown if the call was in data transfer (X.28 3.5).
     pub fn on_cleared(&mut self, cause: u8)
         ensures { self.new ≡ calls.cleared cause self.old }
     {
@@ -187,7 +187,7 @@ impl Terminal {
         self.device_stopped
     }
 
-    /// Ends an event: a terminal that was told to stop by DC3 is told by DC1 to go on, where the send queue has room or
+    /// Ends an event: a terminal that was told to stop by DC3 is told by DC1 to go on, if the send queue has room or
     /// there is no call (X.3 3.5).
     pub fn resume_device(&mut self, queue_full: bool)
         ensures { self.new ≡ calls.resumed queue_full self.old }
@@ -210,8 +210,8 @@ impl Terminal {
         self.output.take(out);
     }
 
-    /// Shows user octets of the far end: adds them to `out` as they are laid out for the terminal, or nothing where
-    /// output is discarded (X.3 3.8).
+    /// Shows user octets of the far end: adds them to `out` as they are laid out for the terminal, or nothing if output
+    /// is discarded (X.3 3.8).
     pub fn display<const N: usize>(&mut self, octets: &[u8], out: &mut ArrayVec<u8, N>)
         requires { array_vec_len out.old + OCTET_LIMIT * length octets.now ≤ N }
         ensures terminal { self.new ≡ calls.displayed octets.now self.old }

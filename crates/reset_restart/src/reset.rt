@@ -49,7 +49,7 @@ pub struct ResetStep {
     pub owed: Option<PacketType>,
     /// What the user is told.
     pub note: ResetNote,
-    /// The diagnostic, where the event is a procedure error.
+    /// The diagnostic, if the event is a procedure error.
     pub error: Option<u8>,
 }
 

@@ -38,7 +38,7 @@ pub struct RestartStep {
     pub owed: Option<PacketType>,
     /// What the users are told.
     pub note: RestartNote,
-    /// The diagnostic, where the packet is a procedure error.
+    /// The diagnostic, if the packet is a procedure error.
     pub error: Option<u8>,
 }
 

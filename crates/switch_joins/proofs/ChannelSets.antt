@@ -52,40 +52,6 @@ inserted sets x p new within line channel adds = by_line (cases_eq p.line x.line
         ap (λ (s : NumberSet). numbers.has s p.channel) (get_or-set_other sets x.line p.line new empty apart)
         ∙ sym (ap (λ (b : Bool). at sets p || (is_small x && (b && (p.channel == x.channel)))) (ne_eqb p.line x.line apart) ∙ or_and_no (at sets p) (is_small x))
 
--- a channel is taken out
-pub removed : (sets : List NumberSet) (x p : SwitchChannel) (new : NumberSet) → x.line < length sets → x.line < 64 → x.channel < 63
-    → ((n : ℕ) → numbers.has new n ≡ (numbers.has (get_or sets x.line empty) n && not (n == x.channel)))
-    → at (set sets x.line new) p ≡ (at sets p && not (is_small x && same_place p x))
-removed sets x p new within line channel takes = by_line (cases_eq p.line x.line)
-  where
-    by_line : (p.line ≡ x.line) ⊎ (p.line ≡ x.line → ⊥) → at (set sets x.line new) p ≡ (at sets p && not (is_small x && same_place p x))
-    by_line (inl same) =
-        ap (λ (s : NumberSet). numbers.has s p.channel) (ap (λ (n : ℕ). get_or (set sets x.line new) n empty) same ∙ get_or-set_same sets x.line new empty within)
-        ∙ takes p.channel
-        ∙ ap₂ (λ (n : ℕ) (b : Bool). numbers.has (get_or sets n empty) p.channel && not (b && (p.channel == x.channel))) (sym same) (sym (eq-eqb p.line x.line same))
-        ∙ ap (λ (b : Bool). at sets p && not (b && same_place p x)) (sym (is_so_small x line channel))
-    by_line (inr apart) =
-        ap (λ (s : NumberSet). numbers.has s p.channel) (get_or-set_other sets x.line p.line new empty apart)
-        ∙ sym (ap (λ (b : Bool). at sets p && not (is_small x && (b && (p.channel == x.channel)))) (ne_eqb p.line x.line apart) ∙ and_not_no (at sets p) (is_small x))
-
--- a channel that cannot be in a set is neither added nor taken out
-pub none_inserted : (p x : SwitchChannel) (b : Bool) → is_small x ≡ false → b ≡ (b || (is_small x && same_place p x))
-none_inserted p x b out = sym (ap (λ (c : Bool). b || (c && same_place p x)) out ∙ or_no b)
-
-pub none_removed : (p x : SwitchChannel) (b : Bool) → is_small x ≡ false → b ≡ (b && not (is_small x && same_place p x))
-none_removed p x b out = sym (ap (λ (c : Bool). b && not (c && same_place p x)) out ∙ and_yes b)
-
--- two channels are added
-or_more : (a b c : Bool) → (a || b || c) ≡ (a || (b || c))
-or_more true b c = refl
-or_more false b c = refl
-
-pub both_added : (s t u : ChannelSet) (x y p : SwitchChannel) → ((q : SwitchChannel) → has t q ≡ (has s q || (is_small x && same_place q x)))
-    → ((q : SwitchChannel) → has u q ≡ (has t q || (is_small y && same_place q y)))
-    → has u p ≡ (has s p || is_of_join p x (Some y))
-both_added s t u x y p adds more =
-    more p ∙ ap (λ (b : Bool). b || is_small y && same_place p y) (adds p) ∙ or_more (has s p) (is_small x && same_place p x) (is_small y && same_place p y)
-
 -- a channel is neither this one nor the one that it is joined to
 abbrev pub IsApart : (p place : SwitchChannel) → (other : Option SwitchChannel) → Type 0
 IsApart p place None = Unit {0}

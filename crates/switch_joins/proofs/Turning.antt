@@ -8,12 +8,11 @@ use Rattle.std.proofs.Common.{length-append}
 use Rattle.std.proofs.Math.Nat.{div-lt_iff_lt-mul}
 use Rattle.epochs.specs.Item.{Item, DataPacket, items_of, all_items}
 use Rattle.epochs.proofs.Prefixes.{all_items-append}
-use Rattle.packet_channel.specs.Held.{are_short}
 use Rattle.packet_channel.specs.Cutting.{full_packets, cut}
 use Rattle.switch_joins.specs.Turning.{Sizes, Gathered, nothing_gathered, Turn, all_made, going_on, flushed, same_bit, is_full, joined, turned}
 use Rattle.switch_joins.specs.Turning.{items_gathered, IsGathered}
 use Rattle.switch_joins.proofs.Apart.{and_both}
-use Rattle.switch_joins.proofs.Cut.{items_joined, cut_items, cut_ends, cut_count, cut_short, short_first}
+use Rattle.switch_joins.proofs.Cut.{items_joined, cut_items, cut_ends, cut_count}
 
 -- ---- the cases
 
@@ -182,39 +181,6 @@ turned_left s g d =
     (λ long. omega arith)
     (λ fits bit. joined_left s [] (g.octets ++ d.octets) d)
     (λ fits. joined_left s (flushed g) d.octets d)
-
--- ---- lengths
-
-flushed_short : (size : ℕ) (g : Gathered) (ds : List DataPacket) → length g.octets ≤ size → are_short size ds ≡ true → are_short size (flushed g ++ ds) ≡ true
-flushed_short size g ds le short = by_length (length g.octets == 0)
-  where
-    by_length : (b : Bool) → are_short size ((if b then [] else going_on g ∷ []) ++ ds) ≡ true
-    by_length true = short
-    by_length false = short_first size (going_on g) ds le short
-
-joined_short : (s : Sizes) (before : List DataPacket) (octets : List ℕ) (d : DataPacket) →
-    ((ds : List DataPacket) → are_short s.far ds ≡ true → are_short s.far (before ++ ds) ≡ true) → are_short s.far before ≡ true →
-    length octets ≤ s.far → are_short s.far (joined s before octets d).made ≡ true
-joined_short s before octets d then_short before_short le =
-    joined_by (λ (t : Turn). are_short s.far t.made ≡ true) s before octets d
-    (λ more delivery fits. before_short)
-    (then_short (record d { octets = octets } ∷ []) (short_first s.far (record d { octets = octets }) [] le refl))
-
--- each packet that is made fits the far line
-pub turned_short : (s : Sizes) (g : Gathered) (d : DataPacket) → 1 ≤ s.far → length g.octets ≤ s.far → length d.octets ≤ s.near →
-    are_short s.far (turned s g d).made ≡ true
-turned_short s g d some left le =
-    turned_by (λ (t : Turn). are_short s.far t.made ≡ true) s g d
-    (λ sizes empty. short_first s.far d [] (omega (arith, le, sizes)) refl)
-    (λ long. flushed_short s.far g (cut s.far d) left (cut_short s.far d some))
-    (λ fits bit. joined_short s [] (g.octets ++ d.octets) d (λ ds short. short) refl fits)
-    (λ fits. joined_short s (flushed g) d.octets d (λ ds short. flushed_short s.far g ds left short)
-    (flushed_alone s.far g left)
-    (omega (arith, fits, length-append g.octets d.octets)))
-  where
-    flushed_alone : (size : ℕ) (g : Gathered) → length g.octets ≤ size → are_short size (flushed g) ≡ true
-    flushed_alone size g le =
-        subst (λ ds. are_short size ds ≡ true) (append-nil (flushed g)) (flushed_short size g [] le refl)
 
 -- ---- how many
 

@@ -50,7 +50,7 @@ fn all_gather_nothing(places: &[ChannelJoin]) -> bool
 }
 
 impl Joins {
-    /// So many channels without a join.
+    /// The joins of so many channels, none of which is joined. `AllocError` comes for want of memory.
     pub fn new(alloc: Global, channels: u8) -> Result<Joins, AllocError>
         requires { channels ≤ 32 }
         ensures { IfOk result (λ joins. joins ≡ record { joined = replicate channels None; held = [] }) }
@@ -91,7 +91,7 @@ impl Joins {
         }
     }
 
-    /// The direction from a channel begins anew, as after a reset, if the channel is joined. What is gathered from it is
+    /// Restarts the direction from a channel, as after a reset, if the channel is joined. What is gathered from it is
     /// dropped.
     pub fn renew(&mut self, channel: u8, pool: &mut Pool)
         requires { Holds pool.old self.old.held }
@@ -135,7 +135,7 @@ impl Joins {
         }
     }
 
-    /// How many packets a packet from a channel makes due; `None` where one of them is longer than the size of the line
+    /// How many packets a packet from a channel makes due; `None` if one of them is longer than the size of the line
     /// that they go to.
     pub fn due(&self, channel: u8, sizes: Sizes, packet: Outline, pool: &Pool) -> Option<usize>
         requires { Holds pool.now self.now.held }

@@ -1,5 +1,5 @@
 //! Joins of the channels of a switch's lines: what a channel is joined to, what is kept of each direction, what becomes
-//! of a packet where the packet sizes differ, and sets of channels.
+//! of a packet if the packet sizes differ, and sets of channels.
 #![tactic(auto)]
 
 mod channel_set;

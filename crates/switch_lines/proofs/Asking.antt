@@ -2,7 +2,7 @@
 use Rattle.std.proofs.Common.{◌≡◌, ℕ, zero, suc, ◌+◌, List, [], ◌∷◌, drop, refl, sym, ap, ◌∙◌, arith, Some}
 use Rattle.std.specs.Prelude.{slice_get}
 use Rattle.std.proofs.lemmas.Option.{none-some, same_Some}
-use Rattle.packet_layer.specs.Channel.{Request}
+use Rattle.packet_channel.specs.Channel.{Request}
 use Rattle.packet_end.specs.PacketEnd.{asked}
 use Rattle.switch_lines.specs.Lines.{SwitchChannel, SwitchLine, changed, ask, ask_all}
 use Rattle.switch_lines.specs.OfLine.{asked_on}

@@ -24,17 +24,17 @@ use Rattle.packet_codec.specs.Diagnostic.{no_information}
 use Rattle.packet_codec.specs.Reading.{reading, typed, named_channel, named_type, format_of}
 use Rattle.packet_codec.specs.Reading as codec
 use Rattle.packet_channel.specs.declared.flow.Flow.{Flow}
-use Rattle.packet_layer.specs.Packets.{CallParts, Datum, Packet, Body}
-use Rattle.packet_layer.specs.Packets.Body.{Restart, RestartConfirmation}
-use Rattle.packet_layer.specs.Channel.{Channel, Step, Request, Refusal, closed_channel, refused_if, refusal, requested, unless, carried_out, owing, in_transfer, has_flow, moved, next_of, next_owed, ChannelNext, placing, clear_error, received, unreadable}
-use Rattle.packet_layer.specs.Channel.Request.{Taking, Releasing}
+use Rattle.packet_channel.specs.Packets.{CallParts, Datum, Packet, Body}
+use Rattle.packet_channel.specs.Packets.Body.{Restart, RestartConfirmation}
+use Rattle.packet_channel.specs.Channel.{Channel, Step, Request, Refusal, closed_channel, refused_if, refusal, requested, unless, carried_out, owing, in_transfer, has_flow, moved, next_of, next_owed, ChannelNext, placing, clear_error, received, unreadable}
+use Rattle.packet_channel.specs.Channel.Request.{Taking, Releasing}
 use Rattle.packet_layer.specs.Layer.{Layer, Phase, Next, nth_channel, channel_of, with_nth, unread, on_found, on_channel, packet_in, restart_packet, served, serve, serve_found, next_number, next_restart, next_in, next_packet, placed_on, call, front_at, front_on}
 use Rattle.packet_layer.specs.Layer as machine
 use Rattle.packet_layer.specs.Layer.Phase.{NoSession, OwnRestart, PacketReady}
 use Rattle.packet_layer.specs.Events.{after_hearing, on_octets, timer_named, on_named}
-use Rattle.packet_layer.specs.Octets.{heard_by, body_of, unreadable_as}
-use Rattle.packet_layer.specs.Traffic.{Traffic, Taken, front, taking, taking_of, says, says_data, says_flow, says_interrupt, Said, flow_told, window_open, may_release, releasing, interrupt_pending, queue, queue_interrupt}
-use Rattle.packet_end.specs.PacketEnd.{PacketEnd, gathered, heeded, after_packet, runs_at, expired, after_timer, relinked, offered, all_offered, with_next}
+use Rattle.packet_channel.specs.Octets.{heard_by, body_of, unreadable_as}
+use Rattle.packet_channel.specs.Traffic.{Traffic, Taken, front, taking, taking_of, says, says_data, says_flow, says_interrupt, Said, flow_told, window_open, may_release, releasing, interrupt_pending, queue, queue_interrupt}
+use Rattle.packet_end.specs.PacketEnd.{PacketEnd, heeded, after_packet, runs_at, expired, after_timer, relinked, offered, all_offered, with_next}
 use Rattle.packet_end.specs.PacketEnd as end
 use Rattle.switch_lines.specs.Lines.{takes_all, takes_on_channel}
 use Rattle.switch_lines.specs.Switch.{quieted}
@@ -180,9 +180,6 @@ if_calm false old new c i = same_layer old c
 named_calm : (o : Option machine.Timer) (l : Layer) (c : ℕ) → IsCalm l (on_named l o) c
 named_calm None l c = same_layer l c
 named_calm (Some t) l c = if_calm (machine.runs l t) l (machine.expired (unread l) t) c (timer_calm t l c)
-
-gathered_calm : (l : Layer) (e : PacketEnd) (c : ℕ) → IsCalm l e.layer c → IsCalm l (gathered e).layer c
-gathered_calm l e c i = record { role = i.role; flow = i.flow; channel = i.channel }
 
 expired_calm : (id : TimerId) (e : PacketEnd) (c : ℕ) → IsCalm e.layer (expired id e).layer c
 expired_calm T1 e c = heeded_calm (link.on_t1 e.line.link).note _ c

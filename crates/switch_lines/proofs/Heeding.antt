@@ -1,25 +1,24 @@
 -- Heeding a note does not look at the notes that are left.
-use Rattle.std.proofs.Common.{◌≡◌, ℕ, zero, suc, ◌==◌, ◌&&◌, Bool, true, false, if◌then◌else◌, List, [], ◌∷◌, ◌++◌, ◌<◌, get_or, length, drop, refl, sym, ap, ap₂, ◌∙◌, arith, Option, Some, None}
+use Rattle.std.proofs.Common.{◌≡◌, ℕ, zero, suc, ◌==◌, ◌&&◌, Bool, true, false, if◌then◌else◌, List, [], ◌∷◌, ◌++◌, length, drop, refl, sym, ap, ap₂, ◌∙◌, arith, Option, Some, None}
 use Rattle.std.specs.Option.{option_or, option_to_list}
 use Rattle.std.specs.Prelude.{slice_get, unwrap_or}
 use Rattle.std.proofs.lemmas.Option.{none-some, same_Some}
 use Rattle.packet_codec.specs.ClearCause.{invalid_facility}
 use Rattle.packet_codec.specs.Diagnostic.{no_information}
-use Rattle.packet_layer.specs.Packets.{CallParts, Note}
-use Rattle.packet_layer.specs.Packets.Note.{Incoming, Connected, Closed, WasReset, InterruptConfirmed, Covered}
-use Rattle.packet_layer.specs.Channel.{Request}
-use Rattle.packet_layer.specs.Channel.Request.{Accept, Clearing, Resetting, Confirming, Releasing}
+use Rattle.packet_channel.specs.Packets.{CallParts, Note}
+use Rattle.packet_channel.specs.Packets.Note.{Incoming, Connected, Closed, WasReset, InterruptConfirmed, Covered}
+use Rattle.packet_channel.specs.Channel.{Request}
+use Rattle.packet_channel.specs.Channel.Request.{Accept, Clearing, Resetting, Confirming, Releasing}
 use Rattle.packet_end.specs.PacketEnd.{PacketEnd, without_first_note}
 use Rattle.address_routes.specs.Routes.{RouteMap, line_for}
 use Rattle.switch_joins.specs.Direction.{Direction, new_direction, releasable, released, covered_by}
 use Rattle.switch_lines.specs.Causes.{reset_cause, clear_cause, far_diagnostic}
 use Rattle.switch_lines.specs.Lines.{SwitchChannel, Joined, SwitchLine, is_trunk, changed, joined_at, with_joined, ask}
 use Rattle.switch_lines.specs.Relay.{told_joined, told_of, with_kept, freed, kept_anew, covered_on}
-use Rattle.switch_lines.specs.Switch.{Answer, answer, answer_by, answer_on, has_any, route_from, forwarded, address_of, place_call, with_join, answered, heed, heed_all, with_end, without_notes, notes_of, notes_heeded, acted, all_begun, quieted}
+use Rattle.switch_lines.specs.Switch.{Answer, answer, answer_by, answer_on, has_any, route_from, forwarded, address_of, place_call, with_join, answered, heed, heed_all, with_end, without_notes, notes_heeded, acted, all_begun, quieted}
 use Rattle.switch_lines.specs.Switch.Answer.{Clears, Joins}
 use Rattle.switch_lines.specs.NewJoins.{NewJoin, join_of, joins_of_note, joins_of_notes, joins_heeded}
 use Rattle.switch_lines.specs.OfLine.{notes_on, AreRead}
-use Rattle.switch_lines.proofs.Changing.{there}
 use Rattle.switch_lines.proofs.Places.{fused, same_there, joined_after}
 
 -- no notes are left on a line
@@ -254,11 +253,6 @@ begun_read [] n = refl
 begun_read (l ∷ ls) zero = refl
 begun_read (l ∷ ls) (suc n) = begun_read ls n
 
--- a line of which no notes are left
-pub line_read : (ls items : List SwitchLine) (n : ℕ) (l : SwitchLine) → AreRead ls → items ≡ ls → n < length items → l ≡ get_or items n l → l.end.notes ≡ []
-line_read ls items n l read e within is =
-    sym (ap (λ (o : Option SwitchLine). notes_of o) (there items n l within is)) ∙ ap (λ (xs : List SwitchLine). notes_on xs n) e ∙ read n
-
 pub no_first : (notes : List Note) → None ≡ slice_get notes 0 → length notes ≡ 0
 no_first [] e = refl
 no_first (x ∷ xs) e = absurd (none-some x e)
@@ -266,15 +260,6 @@ no_first (x ∷ xs) e = absurd (none-some x e)
 pub empty_notes : (notes : List Note) → length notes ≡ 0 → notes ≡ []
 empty_notes [] e = refl
 empty_notes (x ∷ xs) e = absurd (omega (arith, e))
-
-heeded_length : (routes : RouteMap) (k : ℕ) (xs : List Note) (ls : List SwitchLine) → length (heed_all routes k xs ls) ≡ length ls
-heeded_length routes k [] ls = refl
-heeded_length routes k (x ∷ xs) ls = heeded_length routes k xs (heed routes k x ls) ∙ (calm_heed routes k x).lengths ls
-
-pub acted_length : (routes : RouteMap) (k : ℕ) (f : PacketEnd → PacketEnd) (ls : List SwitchLine) → length (acted routes k f ls) ≡ length ls
-acted_length routes k f ls =
-    let ms = changed k (with_end (λ e. f (quieted e))) ls in
-    heeded_length routes k (notes_on ms k) (unnoted k ms) ∙ length_changed k (with_end without_notes) ms ∙ length_changed k (with_end (λ e. f (quieted e))) ls
 
 -- ---- the calls that the notes join
 

@@ -1,9 +1,8 @@
 -- The relay on the joins of some lines, one channel after the other: what is joined to what stays as it is.
 use Rattle.std.proofs.Common.{◌≡◌, ℕ, zero, suc, ◌+◌, ◌-◌, ◌<◌, ◌≤◌, ◌⊎◌, inl, inr, Bool, true, false, List, [], ◌∷◌, ◌++◌, length, drop, get_or, refl, sym, ap, ap₂, ◌∙◌, arith, option_map, Option, Some, None}
 use Rattle.std.specs.Prelude.{slice_get}
-use Rattle.std.proofs.lemmas.Option.{none-some, same_Some}
-use Rattle.packet_layer.specs.Traffic.{Taken}
-use Rattle.packet_layer.specs.Channel.Request.{Taking, Releasing}
+use Rattle.packet_channel.specs.Traffic.{Taken}
+use Rattle.packet_channel.specs.Channel.Request.{Taking, Releasing}
 use Rattle.switch_joins.specs.Direction.{released, releasable}
 use Rattle.switch_lines.specs.Lines.{SwitchChannel, Joined, SwitchLine, same_place, joined_at, with_joined, ask, ask_all, front_at, sizes_at, takes_at}
 use Rattle.switch_lines.specs.Relay.{carried_by, due_at, moved, moved_joined, moved_front, moved_if, relayed, relayed_from, places_of, both_legs, legs_at, legs_of, most_moves}
@@ -85,16 +84,6 @@ lines_stay [] qs ls = refl
 lines_stay (n ∷ ns) qs ls =
     ap₂ (λ (xs ys : List SwitchChannel). xs ++ ys)
     (ap (λ (ps : List SwitchChannel). legs_at ps (relayed_from qs ls)) (places_stay n qs ls) ∙ legs_stay (places_of n (slice_get ls n)) qs ls) (lines_stay ns qs ls)
-
--- ---- one join
-
-pub join_relayed : (o : Option Joined) (p q : SwitchChannel) (ls : List SwitchLine) → Some q ≡ option_map (λ (j : Joined). j.other) o → relayed most_moves q (relayed most_moves p ls) ≡ relayed_from (both_legs o p) ls
-join_relayed None p q ls e = absurd (none-some q (sym e))
-join_relayed (Some j) p q ls e = ap (λ (x : SwitchChannel). relayed most_moves x (relayed most_moves p ls)) (same_Some q j.other e)
-
-pub none_relayed : (o : Option Joined) (p : SwitchChannel) (ls : List SwitchLine) → None ≡ option_map (λ (j : Joined). j.other) o → ls ≡ relayed_from (both_legs o p) ls
-none_relayed None p ls e = refl
-none_relayed (Some j) p ls e = absurd (none-some j.other e)
 
 -- ---- one channel more
 

@@ -3,8 +3,8 @@ use Rattle.std.proofs.Common.{◌≡◌, ◌≢◌, ℕ, suc, ◌<◌, ◌≤◌
 use Rattle.std.specs.Prelude.{slice_get, replicate}
 use Rattle.std.proofs.lemmas.Bool.{ltb-true}
 use Rattle.std.proofs.lemmas.Option.{none-some}
-use Rattle.packet_layer.specs.TakenView.{maybe_front}
-use Rattle.packet_layer.specs.Traffic.{Taken}
+use Rattle.packet_channel.specs.TakenView.{maybe_front}
+use Rattle.packet_channel.specs.Traffic.{Taken}
 use Rattle.packet_channel.specs.declared.taken.Front.{Front}
 use Rattle.switch_joins.specs.ChannelSet.{has, is_small}
 use Rattle.switch_joins.specs.declared.channel_set.ChannelSet.{ChannelSet}
@@ -31,9 +31,6 @@ other_on js c = option_map (λ (j : Joined). j.other) (nth_joined js c)
 
 pub small_channel : (x : SwitchChannel) → is_small x ≡ true → x.channel < 63
 small_channel x e = ltb-true x.channel 63 (and_both (nat_lt x.line 64) (nat_lt x.channel 63) e).1
-
-pub small_line : (x : SwitchChannel) → is_small x ≡ true → x.line < 64
-small_line x e = ltb-true x.line 64 (and_both (nat_lt x.line 64) (nat_lt x.channel 63) e).0
 
 -- ---- one line changes
 

@@ -1,10 +1,10 @@
 -- Requests by which something goes on to the other leg of a join: to send a packet, or an interrupt.
 use Rattle.std.proofs.Common.{List, [], ◌∷◌, map, ℕ}
-use Rattle.packet_layer.specs.Packets.{Datum}
-use Rattle.packet_layer.specs.Traffic.{Taken}
-use Rattle.packet_layer.specs.Traffic.Taken.{TakenInterrupt, TakenPacket}
-use Rattle.packet_layer.specs.Channel.{Request}
-use Rattle.packet_layer.specs.Channel.Request.{Sending, Interrupting}
+use Rattle.packet_channel.specs.Packets.{Datum}
+use Rattle.packet_channel.specs.Traffic.{Taken}
+use Rattle.packet_channel.specs.Traffic.Taken.{TakenInterrupt, TakenPacket}
+use Rattle.packet_channel.specs.Channel.{Request}
+use Rattle.packet_channel.specs.Channel.Request.{Sending, Interrupting}
 use Rattle.switch_joins.specs.Turning.{Sizes, Gathered, turned}
 use Rattle.switch_lines.specs.Relay.{requests_for}
 

@@ -3,9 +3,9 @@ use Rattle.std.proofs.Common.{◌≡◌, ℕ, zero, suc, ◌⊎◌, inl, inr, fa
 use Rattle.std.specs.Prelude.{slice_get}
 use Rattle.std.proofs.lemmas.Option.{none-some}
 use Rattle.packet_channel.specs.declared.flow.Flow.{Flow}
-use Rattle.packet_layer.specs.Channel.{Channel, Request, requested}
+use Rattle.packet_channel.specs.Channel.{Channel, Request, requested}
 use Rattle.packet_layer.specs.Layer.{Layer, channel_of, on_found, request}
-use Rattle.packet_layer.specs.Channel.Request.{Releasing}
+use Rattle.packet_channel.specs.Channel.Request.{Releasing}
 use Rattle.packet_end.specs.PacketEnd.{asked}
 use Rattle.switch_joins.specs.Direction.{Direction, releasable, released}
 use Rattle.switch_joins.proofs.Apart.{apart_by}

@@ -8,15 +8,15 @@ use Rattle.std.proofs.Math.Dec.{eqb-suc-zero, leb-zero, leb-suc-zero, leb-suc-su
 use Rattle.link_timers.specs.declared.role.Role.{Role}
 use Rattle.packet_channel.specs.declared.flow.Flow.{Flow}
 use Rattle.packet_channel.specs.Held.{are_short}
-use Rattle.packet_layer.specs.Packets.{Datum}
-use Rattle.packet_layer.specs.Traffic.{Taken, interrupt_pending, queue}
-use Rattle.packet_layer.specs.Traffic.Taken.{TakenInterrupt, TakenPacket}
-use Rattle.packet_layer.specs.Channel.{Channel, Request, Refusal, refused_if, in_transfer, has_flow, owing, unless, carried_out}
-use Rattle.packet_layer.specs.Channel as channel
-use Rattle.packet_layer.specs.Channel.Request.{Sending, Interrupting, Taking}
+use Rattle.packet_channel.specs.Packets.{Datum}
+use Rattle.packet_channel.specs.Traffic.{Taken, interrupt_pending, queue}
+use Rattle.packet_channel.specs.Traffic.Taken.{TakenInterrupt, TakenPacket}
+use Rattle.packet_channel.specs.Channel.{Channel, Request, Refusal, refused_if, in_transfer, has_flow, owing, unless, carried_out}
+use Rattle.packet_channel.specs.Channel as channel
+use Rattle.packet_channel.specs.Channel.Request.{Sending, Interrupting, Taking}
 use Rattle.packet_layer.specs.Layer.{channel_of, room_at, room}
 use Rattle.packet_layer.specs.Interrupting.{may_interrupt_at, may_interrupt}
-use Rattle.packet_layer.specs.TakenView.{shown_front, maybe_front}
+use Rattle.packet_channel.specs.TakenView.{shown_front, maybe_front}
 use Rattle.packet_channel.specs.declared.taken.Front.{Front}
 use Rattle.packet_channel.specs.declared.taken.Front.TheVariants as front
 use Rattle.switch_joins.specs.declared.plan.Outline.{Outline}
@@ -151,20 +151,6 @@ joined_by (Some j) q e = (j, refl, sym (same_Some q j.other e))
 pub not_joined : (o : Option Joined) → None ≡ option_map (λ j. j.other) o → o ≡ None
 not_joined None e = refl
 not_joined (Some j) e = absurd (none-some j.other e)
-
-nothing_shown : (o : Option Taken) → None ≡ maybe_front o → o ≡ None
-nothing_shown None e = refl
-nothing_shown (Some t) e = absurd (none-some (shown_front t) e)
-
-pub moves_unjoined : (ls : List SwitchLine) (p : SwitchChannel) → None ≡ option_map (λ j. j.other) (joined_at ls p) → ls ≡ moved p ls
-moves_unjoined ls p none = sym (ap (λ o. moved_joined o p ls) (not_joined (joined_at ls p) none))
-
-empty_joined : (o : Option Joined) (p : SwitchChannel) (ls : List SwitchLine) → front_at ls p ≡ None → moved_joined o p ls ≡ ls
-empty_joined None p ls e = refl
-empty_joined (Some j) p ls e = ap (λ o. moved_front o p j ls) e
-
-pub moves_nothing : (ls : List SwitchLine) (p : SwitchChannel) → None ≡ maybe_front (front_at ls p) → ls ≡ moved p ls
-moves_nothing ls p none = sym (empty_joined (joined_at ls p) p ls (nothing_shown (front_at ls p) none))
 
 -- ---- whether what waits first goes on, by what is shown of it
 

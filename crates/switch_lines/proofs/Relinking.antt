@@ -8,13 +8,13 @@ use Rattle.link_timers.specs.declared.role.Role.{Role}
 use Rattle.link_timers.specs.declared.role.Role.TheVariants.{Dte, Dce}
 use Rattle.packet_channel.specs.declared.flow.Flow.{Flow}
 use Rattle.lapb.specs.Machine.{can_offer}
-use Rattle.packet_layer.specs.Packets.{Body, CallParts, Note}
-use Rattle.packet_layer.specs.Packets.Note.{Incoming, Connected, Closed, WasReset, InterruptConfirmed, Covered}
-use Rattle.packet_layer.specs.Traffic.{Taken}
-use Rattle.packet_layer.specs.Channel.{Channel, Step, Request, Refusal, closed_channel, refusal, requested, unless}
-use Rattle.packet_layer.specs.Channel.{carried_out, quiet, passes_limit}
-use Rattle.packet_layer.specs.Channel.Request.{Accept, Clearing, Resetting, Sending, Interrupting, Stopping, Taking}
-use Rattle.packet_layer.specs.Channel.Request.{Releasing, Confirming}
+use Rattle.packet_channel.specs.Packets.{Body, CallParts, Note}
+use Rattle.packet_channel.specs.Packets.Note.{Incoming, Connected, Closed, WasReset, InterruptConfirmed, Covered}
+use Rattle.packet_channel.specs.Traffic.{Taken}
+use Rattle.packet_channel.specs.Channel.{Channel, Step, Request, Refusal, closed_channel, refusal, requested, unless}
+use Rattle.packet_channel.specs.Channel.{carried_out, quiet, passes_limit}
+use Rattle.packet_channel.specs.Channel.Request.{Accept, Clearing, Resetting, Sending, Interrupting, Stopping, Taking}
+use Rattle.packet_channel.specs.Channel.Request.{Releasing, Confirming}
 use Rattle.packet_layer.specs.Layer.{Layer, Phase, Next, channel_of, nth_channel, with_nth, after_step, set_if}
 use Rattle.packet_layer.specs.Layer.{on_found, request, call, placed_on, channel_given, next_of, next_number, serve}
 use Rattle.packet_layer.specs.Layer.{serve_found, served, next_restart, next_in, next_packet}

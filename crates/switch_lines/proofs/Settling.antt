@@ -13,8 +13,8 @@ use Rattle.lapb.specs.declared.note.Timing.{Timing as Change}
 use Rattle.lapb.specs.Machine.{Octets, Link, Step, can_offer, runs, response, sendable, send_all, settle, settle_in}
 use Rattle.lapb.specs.Machine.{timing}
 use Rattle.lapb.specs.Out.{with_frames}
-use Rattle.packet_end.specs.End.{End, timed}
-use Rattle.packet_end.specs.End as line
+use Rattle.line_end.specs.End.{End, timed}
+use Rattle.line_end.specs.End as line
 use Rattle.packet_layer.specs.Layer.{Layer, next_packet}
 use Rattle.packet_layer.specs.Events.{timer_named, runs_named}
 use Rattle.packet_end.specs.Timing.{packet_ticks, brought_as, brought_one, brought_channel, brought_channels, brought}
@@ -41,10 +41,6 @@ one_stays l id timers agree = go (runs_named l (timer_named l.role id)) agree
     go : (runs : Bool) → is_some (left_of timers id) ≡ runs → brought_as runs id timers ≡ timers
     go true e = ap (λ (b : Bool). if b then timers else started timers id packet_ticks) e
     go false e = none_put timers (place_of id) (is_none (left_of timers id) e)
-
--- one after the other
-then_stays : (f g : Places → Places) (timers : Places) → f timers ≡ timers → g timers ≡ timers → g (f timers) ≡ timers
-then_stays f g timers first second = ap g first ∙ second
 
 channel_stays : (l : Layer) (channel : ℕ) (timers : Places) → 1 ≤ channel → channel ≤ 32 → TimersAgree l timers →
     brought_channel l channel timers ≡ timers

@@ -1,9 +1,9 @@
 -- What the other leg of a join is told.
 use Rattle.std.proofs.Common.{◌≡◌, ℕ, ◌⊎◌, inl, inr, true, false, List, refl, sym, ap, ◌∙◌, Option, Some, None, option_map}
 use Rattle.std.specs.Prelude.{slice_get}
-use Rattle.packet_layer.specs.Packets.{Note, Reason}
-use Rattle.packet_layer.specs.Packets.Note.{Connected, Closed, WasReset, InterruptConfirmed, Covered}
-use Rattle.packet_layer.specs.Channel.Request.{Accept, Clearing, Resetting, Confirming}
+use Rattle.packet_channel.specs.Packets.{Note, Reason}
+use Rattle.packet_channel.specs.Packets.Note.{Connected, Closed, WasReset, InterruptConfirmed, Covered}
+use Rattle.packet_channel.specs.Channel.Request.{Accept, Clearing, Resetting, Confirming}
 use Rattle.switch_joins.specs.Direction.{new_direction, covered_by}
 use Rattle.switch_lines.specs.Causes.{reset_cause, clear_cause, far_diagnostic}
 use Rattle.switch_lines.specs.Lines.{SwitchChannel, Joined, SwitchLine, is_trunk, same_place, joined_at, with_joined, ask}

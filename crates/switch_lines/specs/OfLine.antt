@@ -1,11 +1,11 @@
 -- What becomes of one line where something of a joined channel changes.
 use Rattle.std.specs.Prelude.{◌≡◌, ℕ, zero, suc, ◌≤◌, Bool, true, false, List, [], ◌∷◌, length, map}
 use Rattle.std.specs.Prelude.{slice_get, Option, Some, None}
-use Rattle.packet_layer.specs.Packets.{Note}
-use Rattle.packet_layer.specs.Traffic.{Taken}
-use Rattle.packet_layer.specs.Traffic.Taken.{TakenInterrupt, TakenPacket}
-use Rattle.packet_layer.specs.Channel.{Request}
-use Rattle.packet_layer.specs.Channel.Request.{Releasing, Interrupting, Sending, Taking}
+use Rattle.packet_channel.specs.Packets.{Note}
+use Rattle.packet_channel.specs.Traffic.{Taken}
+use Rattle.packet_channel.specs.Traffic.Taken.{TakenInterrupt, TakenPacket}
+use Rattle.packet_channel.specs.Channel.{Request}
+use Rattle.packet_channel.specs.Channel.Request.{Releasing, Interrupting, Sending, Taking}
 use Rattle.packet_end.specs.PacketEnd.{asked}
 use Rattle.switch_joins.specs.Turning.{Sizes, Gathered, turned}
 use Rattle.switch_joins.specs.Direction.{Direction, releasable, released, carried}

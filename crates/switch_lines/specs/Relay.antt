@@ -1,12 +1,12 @@
 -- What a switch relays between the two legs of a join, and what it is told of a leg.
 use Rattle.std.specs.Prelude.{ℕ, zero, suc, Bool, true, false, List, [], ◌∷◌, ◌++◌, map, slice_get, Option, Some, None}
-use Rattle.packet_layer.specs.Packets.{Note}
-use Rattle.packet_layer.specs.Packets.Note.{Connected, Closed, WasReset, InterruptConfirmed, Covered}
-use Rattle.packet_layer.specs.Traffic.{Taken}
-use Rattle.packet_layer.specs.Traffic.Taken.{TakenInterrupt, TakenPacket}
-use Rattle.packet_layer.specs.Channel.{Request}
-use Rattle.packet_layer.specs.Channel.Request.{Accept, Clearing, Resetting, Taking, Releasing, Confirming}
-use Rattle.packet_layer.specs.Channel.Request.{Sending, Interrupting}
+use Rattle.packet_channel.specs.Packets.{Note}
+use Rattle.packet_channel.specs.Packets.Note.{Connected, Closed, WasReset, InterruptConfirmed, Covered}
+use Rattle.packet_channel.specs.Traffic.{Taken}
+use Rattle.packet_channel.specs.Traffic.Taken.{TakenInterrupt, TakenPacket}
+use Rattle.packet_channel.specs.Channel.{Request}
+use Rattle.packet_channel.specs.Channel.Request.{Accept, Clearing, Resetting, Taking, Releasing, Confirming}
+use Rattle.packet_channel.specs.Channel.Request.{Sending, Interrupting}
 use Rattle.switch_joins.specs.Turning.{Sizes, Gathered, turned}
 use Rattle.switch_joins.specs.Direction.{Direction, new_direction, releasable, released, covered_by, carried}
 use Rattle.switch_lines.specs.Causes.{reset_cause, clear_cause, far_diagnostic}

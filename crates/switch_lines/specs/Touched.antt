@@ -5,7 +5,7 @@ use Rattle.std.specs.Prelude.{Option, Some, None}
 use Rattle.link_timers.specs.declared.timers.TimerId.TheVariants.{T1}
 use Rattle.link_timers.specs.Timers.{left_of}
 use Rattle.lapb.specs.Machine.{settle, runs}
-use Rattle.packet_end.specs.End.{End}
+use Rattle.line_end.specs.End.{End}
 use Rattle.packet_end.specs.Timing.{TimersAgree}
 use Rattle.number_set.specs.NumberSet.{has}
 use Rattle.number_set.specs.declared.NumberSet.{NumberSet}

@@ -1,6 +1,6 @@
 //! The causes with which a switch resets and clears a far leg (X.25 tables 5-7 and 5-8).
 ghost use Rattle.std.specs.Prelude.{◌≡◌};
-ghost use Rattle.packet_layer.specs.NoteView.{reason_of};
+ghost use Rattle.packet_channel.specs.NoteView.{reason_of};
 ghost use Rattle.switch_lines.specs.Causes as spec;
 
 use packet_codec::{clear_cause, diagnostic, reset_cause};

@@ -12,7 +12,7 @@ use switch_joins::MOST_LINES;
 /// How a line of a switch is to be made.
 #[derive(Clone, Copy, PartialEq, Eq)]
 pub struct SwitchLineConfig {
-    /// The parameters of the line, which does not stand.
+    /// The parameters of the line, which is not standing.
     pub params: EndParams,
     /// The switch's role on the line.
     pub role: Role,
@@ -55,7 +55,7 @@ impl SwitchLineConfig {
     }
 }
 
-/// `BadConfig` comes where there is no line or more than 64, or one stands or has a parameter out of its range.
+/// `BadConfig` comes if there is no line or more than 64, or one is standing or has a parameter out of its range.
 pub fn check_lines(lines: &[SwitchLineConfig]) -> Result<(), EndFault>
     ensures { MatchResult result
         (λ _. IsConfig lines.now)

@@ -6,7 +6,7 @@ use borrow.Author.Tests.{eqb-false}
 use Rattle.link_timers.specs.declared.role.Role.{Role}
 use Rattle.packet_channel.specs.declared.flow.Flow.{Flow}
 use Rattle.pad_editing.specs.Edited.{after_key}
-use Rattle.packet_layer.specs.Channel.{Channel, Request, Refusal, refused_if, in_transfer}
+use Rattle.packet_channel.specs.Channel.{Channel, Request, Refusal, refused_if, in_transfer}
 use Rattle.packet_layer.specs.Layer.{room_at, channel_of, refusal_at, request_refusal}
 use Rattle.pad_terminal.specs.Terminal.{TerminalState, is_data_transfer, runs_idle_timer}
 use Rattle.pad_terminal.specs.Keys.{Input, after_octet, after_data_key, after_command_key, after_ended}

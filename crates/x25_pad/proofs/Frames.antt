@@ -7,14 +7,13 @@ use Rattle.link_timers.specs.declared.timers.TimerId.TheVariants.{Idle}
 use Rattle.packet_end.specs.PacketEnd.{Octets, PacketEnd, runs_at}
 use Rattle.packet_end.specs.Sending.{EndsWhole, answer_frames, expiry_frames, relink_frames, ending_frames}
 use Rattle.packet_end.proofs.Sending.{answered, answer_few, timed_out, expiry_few, set_up_anew, relink_few}
-use Rattle.packet_layer.specs.Traffic.{Taken}
-use Rattle.packet_layer.specs.Traffic.Taken.{TakenInterrupt, TakenPacket}
-use Rattle.packet_layer.specs.Packets.{Datum}
-use Rattle.packet_layer.specs.Channel.{Request as LayerRequest}
-use Rattle.pad_editing.specs.Edited.{Step, key, idle}
+use Rattle.packet_channel.specs.Traffic.{Taken}
+use Rattle.packet_channel.specs.Traffic.Taken.{TakenInterrupt, TakenPacket}
+use Rattle.packet_channel.specs.Packets.{Datum}
+use Rattle.packet_channel.specs.Channel.{Request as LayerRequest}
+use Rattle.pad_editing.specs.Edited.{Step, key}
 use Rattle.x29_messages.specs.declared.message.Message.{Message}
 use Rattle.pad_terminal.specs.Breaks as breaks
-use Rattle.pad_terminal.specs.Calls as calls
 use Rattle.pad_terminal.specs.Messages as messages
 use Rattle.pad_terminal.specs.declared.answers.BreakAnswer.{BreakAnswer}
 use Rattle.pad_terminal.specs.declared.answers.BreakAnswer.TheVariants as break_answer
@@ -66,10 +65,6 @@ tells_same : (o : Option Message) (a : AtLine) → SameAt a (port.tells o a)
 tells_same None a = refl
 tells_same (Some m) a = on_call_same _ a.port.call a (λ call. refl)
 
-block_same : (block : Option (List ℕ)) (call : ℕ) (a : AtLine) → SameAt a (port.block_sent block call a)
-block_same None call a = refl
-block_same (Some block) call a = refl
-
 edits_same : (step : Step) (block : Option (List ℕ)) (call : ℕ) (a : AtLine) → SameAt a (port.edits step block call a)
 edits_same step None call a = refl
 edits_same step (Some block) call a = refl
@@ -83,11 +78,6 @@ pub key_same : (octet : ℕ) (a : AtLine) → SameAt a (port.after_key octet a)
 key_same octet a =
     handles_same (port.key_input octet a).answer (key octet a.port.terminal.settings.params)
     (record a { port = record a.port { terminal = (port.key_input octet a).terminal; idle_left = None } })
-
-pub idle_same : (a : AtLine) → SameAt a (port.after_idle a)
-idle_same a =
-    handles_same (port.idle_input a).answer (idle a.port.terminal.settings.params)
-    (record a { port = record a.port { terminal = (port.idle_input a).terminal; idle_left = None } })
 
 answers_same : (answer : BreakAnswer) (a : AtLine) → SameAt a (port.answers_break answer a)
 answers_same break_answer.Dropped a = refl
@@ -118,9 +108,6 @@ next_same : (o : Option ℕ) (taken : Option Taken) (p : PortState) (l : PadLine
 next_same o None p l = refl
 next_same None (Some taken) p l = refl
 next_same (Some call) (Some taken) p l = taking_same taken call (record { port = record p { call = Some call }; line = l })
-
-pub print_same : (a : AtLine) → SameAt a (port.after_print a)
-print_same a = next_same a.port.call (port.taken_of a) (port.with_terminal (calls.without_text a.port.terminal) a.port) a.line
 
 at_port_same : (number : ℕ) (act : AtLine → AtLine) → ((a : AtLine) → SameAt a (act a)) → (p : PadState) → SameFrames p.line.end (at_port number act p).line.end
 at_port_same number act same p = by (slice_get p.ports number)

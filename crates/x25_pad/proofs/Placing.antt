@@ -1,7 +1,7 @@
 -- A call that is refused is given no channel.
 use Rattle.std.proofs.Common.{◌≡◌, ℕ, cond, Option, Some, None, refl}
 use Rattle.std.specs.Prelude.{is_some}
-use Rattle.packet_layer.specs.Channel.{Refusal}
+use Rattle.packet_channel.specs.Channel.{Refusal}
 use Rattle.packet_layer.specs.Layer.{Layer, Phase, free_channel, channel_given, call_refusal}
 use Rattle.packet_layer.specs.Layer.Phase.{NoSession, OwnRestart, PacketReady}
 

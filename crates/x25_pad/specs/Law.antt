@@ -1,6 +1,6 @@
 -- What the editor and the packet layer of a PAD have in step: each block that is ended is taken to be sent.
 use Rattle.std.specs.Prelude.{◌≡◌, ℕ, ◌≤◌, false, List, length, Some, None}
-use Rattle.packet_layer.specs.Channel.{Request}
+use Rattle.packet_channel.specs.Channel.{Request}
 use Rattle.packet_layer.specs.Layer.{request_refusal}
 use Rattle.pad_terminal.specs.declared.answers.InputAnswer.{InputAnswer}
 use Rattle.pad_terminal.specs.declared.answers.InputAnswer.TheVariants.{Edited}

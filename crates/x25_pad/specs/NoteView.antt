@@ -1,7 +1,7 @@
 -- Notes of a PAD, as the code has them.
 use Rattle.std.specs.Prelude.{◌≡◌, ℕ, ◌∷◌, [], List, map, Option, Some, None}
 use Rattle.pad_editing.specs.Edited.Step.{key, idle}
-use Rattle.packet_layer.specs.NoteView.{note_of}
+use Rattle.packet_channel.specs.NoteView.{note_of}
 use Rattle.x25_pad.specs.Notes as spec
 use Rattle.x25_pad.specs.TakenView.{taken_of}
 use Rattle.x25_pad.specs.declared.note.ChannelNote.{ChannelNote}

@@ -1,6 +1,6 @@
 -- What a terminal takes, as the code has it.
 use Rattle.std.specs.Prelude.{Option, Some, None}
-use Rattle.packet_layer.specs.Traffic as spec
+use Rattle.packet_channel.specs.Traffic as spec
 use Rattle.x25_pad.specs.declared.taken.PadTaken.{PadTaken}
 use Rattle.x25_pad.specs.declared.taken.PadTaken.TheVariants.{Interrupt, «Data»}
 

@@ -52,11 +52,11 @@ impl Model for Pad {
 }
 
 impl Pad {
-    /// The PAD at its line, which is new: the link is started, or stands where the line does, and with it the call of
-    /// terminal 0 on channel 1. It takes all the memory that it ever uses.
+    /// The PAD at its line, which is new: the link is started. On a standing line the link is up, and terminal 0 has
+    /// the call on channel 1. It takes all the memory that it ever uses.
     ///
-    /// `BadConfig` comes where a parameter of the line or the number of terminals is out of its range, or the packet
-    /// size of the line is not 128, and then `OutOfMemory` for want of memory.
+    /// `BadConfig` comes if a parameter of the line or the number of terminals is out of its range, or the packet size
+    /// of the line is not 128, and then `OutOfMemory` for want of memory.
     pub fn new(alloc: Global, config: PadConfig) -> Result<Pad, EndFault>
         ensures { MatchResult result
             (λ pad. IsConfig config × (pad ≡ made config))
@@ -104,7 +104,7 @@ impl Pad {
         Some(PadNote { terminal, note })
     }
 
-    /// The next note of the event, if there is one. It stays where it is.
+    /// The next note of the event, if there is one. It is not taken.
     pub fn first_note(&self) -> Option<&ChannelNote>
         ensures { maybe_pad_note (option_copied result) ≡ slice_get self.now.line.notes 0 }
     {

@@ -1,13 +1,14 @@
 -- What always holds of a switch holds after each event, in which its own joins alone are relayed.
-use Rattle.std.proofs.Common.{◌≡◌, ℕ, suc, ◌<◌, List, [], ◌∷◌, ap, subst, sym, refl, inl, ◌∙◌, arith}
-use Rattle.std.proofs.lemmas.Option.{none-some}
+use Rattle.std.proofs.Common.{◌≡◌, ℕ, suc, map, ◌<◌, List, [], ◌∷◌, ap, subst, sym, refl, inl, ◌∙◌, arith}
+use Rattle.std.proofs.lemmas.Option.{none-some, same_Some}
 use Rattle.std.specs.Prelude.{Bool, true, false, if◌then◌else◌, slice_get, Some, zero, length}
 use Rattle.link_timers.specs.declared.role.Role.{Role}
 use Rattle.link_timers.specs.declared.timers.TimerId.{TimerId}
-use Rattle.packet_end.specs.PacketEnd.{PacketEnd, received, after_timer, relinked}
+use Rattle.packet_end.specs.PacketEnd.{PacketEnd, received, after_timer, relinked, KeepsNothingBack}
+use Rattle.packet_end.proofs.Restarting.{restart_keeps}
 use Rattle.address_routes.specs.Routes.{RouteMap}
 use Rattle.switch_lines.specs.Lines.{SwitchLine, role_on}
-use Rattle.switch_lines.specs.Switch.{Switch, acted, all_begun, on_frame, timer_runs, on_expiry, on_timer, relink}
+use Rattle.switch_lines.specs.Switch.{Switch, acted, all_begun, on_frame, timer_runs, on_expiry, on_timer, relink, restart, without_joins}
 use Rattle.switch_lines.specs.Alone.{finished_alone}
 use Rattle.switch_laws.specs.World.{World}
 use Rattle.switch_laws.specs.Events.{Event, after_event, SwitchHolds, GoesOn, KeepsLegs}
@@ -40,6 +41,15 @@ pub goes_on : (event : Event) (s t : Switch) → t ≡ after_event event s → K
 goes_on event s t e w h =
     let a = events_hold.stays event s w h in
     subst (λ (x : Switch). GoesOn event s w x) (sym e) (record { world = a.world; moved = a.moved; holds = a.holds })
+
+-- after a restart no link is up
+map_keeps : (ls : List SwitchLine) → EndsKeepNothingBack (map without_joins ls)
+map_keeps [] n l at = absurd (cc)
+map_keeps (x ∷ ls) zero l at = subst (λ (y : SwitchLine). KeepsNothingBack y.end) (same_Some (without_joins x) l at) (restart_keeps x.end)
+map_keeps (x ∷ ls) (suc n) l at = map_keeps ls n l at
+
+pub restart_kept : (s t : Switch) → t ≡ restart s → EndsKeepNothingBack t.lines
+restart_kept s t e = subst (λ (x : Switch). EndsKeepNothingBack x.lines) (sym e) (map_keeps s.lines)
 
 pub record FrameKept (n : ℕ) (xs : List ℕ) (s t : Switch) : Type 0 where
   pub others : LeavesOthers n (Brings xs) s t

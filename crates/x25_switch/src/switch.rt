@@ -11,7 +11,7 @@ ghost use Rattle.switch_lines.specs.Switch.{without_frame, frames_on, due_on, sw
 ghost use Rattle.switch_lines.specs.Touched.{AreThere, HasAllFrames};
 ghost use Rattle.packet_end.specs.PacketEnd.{received, after_timer};
 ghost use Rattle.switch_laws.specs.Events.{KeepsLegs};
-ghost use Rattle.switch_laws.specs.Events.Event.{Arrives, Expires, SetsUp};
+ghost use Rattle.switch_laws.specs.Events.Event.{Arrives, Expires, SetsUp, Restarts, Elapses, Departs};
 ghost use Rattle.switch_laws.specs.Isolated.{LeavesOthers};
 ghost use Rattle.switch_laws.specs.Joined.{HasRelayedAll};
 ghost use Rattle.switch_laws.specs.Offers.{EndsKeepNothingBack};
@@ -63,8 +63,8 @@ impl Switch {
     /// The switch at its lines, which are new: each link is started, and there is no call. It takes all the memory that
     /// it ever uses.
     ///
-    /// `BadConfig` comes where there is no line or more than 64, or one stands or has a parameter out of its range, and
-    /// then `OutOfMemory` for want of memory.
+    /// `BadConfig` comes if there is no line or more than 64, or one is standing or has a parameter out of its range,
+    /// and then `OutOfMemory` for want of memory.
     pub fn new(alloc: Global, config: SwitchConfig<'_>) -> Result<Switch, EndFault>
         ensures { MatchResult result
             (λ switch. IsConfig config.entry.lines.now × (switch ≡ made config.entry.routes config.entry.lines.now))
@@ -95,10 +95,10 @@ impl Switch {
     /// Takes the octets of a frame that a line brings, and answers the call that it joined, if it did. A frame joins no
     /// more than one.
     ///
-    /// Each join of two other lines is as it was, unless one of the two was set up anew, since a fifth packet came to
-    /// be owed there. After it nothing waits that the other leg or the link takes, each new join is by its route, and a
-    /// packet with D = 1 was released only if all that it made due was covered there. On each line all frames of the event
-    /// wait.
+    /// Each join of two other lines is as it was, unless one of the two was set up again, since a fifth packet came to
+    /// be owed there. After the event nothing waits that the other leg or the link takes, each new join is by its
+    /// route, and a packet with D = 1 was released only if all that it made due was covered there. On each line all
+    /// frames of the event wait.
     pub fn on_frame(&mut self, line: usize, octets: &[u8]) -> Option<NewJoin>
         requires { line < length self.old.lines }
         ensures join { option_to_list result ≡ new_joins line octets.now self.old }
@@ -141,12 +141,12 @@ impl Switch {
         true
     }
 
-    /// Sets the link of a line up anew on which the switch is the DTE (X.25 2.4.4): the calls of the line end, and none
-    /// is joined. While the link is being set up it goes on as it is.
+    /// Sets up again the link of a line on which the switch is the DTE (X.25 2.4.4): the calls of the line end, and
+    /// none is joined. While the link is being set up it goes on as it is.
     ///
-    /// Each join of two other lines is as it was, unless one of the two was set up anew, since a fifth packet came to
-    /// be owed there. After it nothing waits that the other leg or the link takes. On each line all frames of the event
-    /// wait.
+    /// Each join of two other lines is as it was, unless one of the two was set up again, since a fifth packet came to
+    /// be owed there. After the event nothing waits that the other leg or the link takes. On each line all frames of
+    /// the event wait.
     pub fn relink(&mut self, line: usize)
         requires { role_on (slice_get self.old.lines line) ≡ Some Dte }
         ensures switch { self.new ≡ relink line self.old }
@@ -162,14 +162,16 @@ impl Switch {
         self.lines.finish(&self.routes, line);
     }
 
-    /// Begins anew after a restart of the switch: no link is up, and no call is left.
+    /// Restarts the switch: no link is up, and no call is left.
     pub fn restart(&mut self)
-        ensures { self.new ≡ restart self.old }
+        ensures switch { self.new ≡ restart self.old }
+        ensures nothing_kept_back { EndsKeepNothingBack self.new.lines }
+        ensures legs { KeepsLegs Restarts self.old self.new }
     {
         self.lines.restart();
     }
 
-    /// Takes the next frame that goes out on a line, if there is one. Where there is none `frame` stays.
+    /// Takes the next frame that goes out on a line, if there is one. If there is none, `frame` stays as it is.
     pub fn out(&mut self, line: usize, frame: &mut FrameBuf) -> bool
         requires { line < length self.old.lines }
         ensures frame { OnTrue result (frames_on (slice_get self.old.lines line)
@@ -177,6 +179,7 @@ impl Switch {
         ensures nothing { OnFalse result (frames_on (slice_get self.old.lines line) ≡ []) }
         ensures same { OnFalse result (frame.new ≡ frame.old) }
         ensures switch { self.new ≡ without_frame line self.old }
+        ensures legs { KeepsLegs (Departs line) self.old self.new }
     {
         self.lines.out(line, frame)
     }
@@ -200,7 +203,8 @@ impl Switch {
 
     /// Lets ticks pass, each a twentieth of a second: each timer that runs has so many less, not below 0.
     pub fn elapse(&mut self, ticks: u16)
-        ensures { self.new ≡ elapse ticks self.old }
+        ensures switch { self.new ≡ elapse ticks self.old }
+        ensures legs { KeepsLegs (Elapses ticks) self.old self.new }
     {
         self.lines.elapse(ticks);
     }

@@ -19,7 +19,7 @@ pub enum Keyword {
 }
 
 impl Keyword {
-    /// The keyword that a word spells, in either case.
+    /// The keyword that a word spells, in capital or small letters, if it spells one.
     pub fn named(word: &[u8]) -> Option<Keyword>
         ensures { result ≡ keyword_named word.now }
     {

@@ -13,7 +13,7 @@ use arrayvec::ArrayVec;
 /// More than the octets of a list, and so more than its entries: 18 pairs of two numbers of three digits have 143.
 pub const TEXT_LIMIT: usize = 144;
 
-/// What stands in a list.
+/// An entry of a list.
 pub trait Entry: Copy + Default {
     /// What a text says, if anything.
     ghost said: { List ℕ → Option Self };
@@ -38,7 +38,7 @@ impl Entry for (u8, u8) {
     }
 }
 
-/// The entries that a text says, with a comma between each and the next.
+/// The entries that a text says, with a comma between each and the next. `None` if a part says none.
 pub fn entries<E: Entry>(text: &[u8]) -> Option<ArrayVec<E, TEXT_LIMIT>>
     requires { length text.now < TEXT_LIMIT }
     ensures { Gives result (entries E.said text.now) }
@@ -88,7 +88,7 @@ fn pair_of(text: &[u8]) -> Option<(u8, u8)>
     Some((number, value))
 }
 
-/// The number that a text says.
+/// The number that a text says: 1 to 3 digits, at most 255. `None` for any other text.
 #[tactic(auto, unfolding(crate::specs::Numbers::number_of))]
 pub fn number_of(text: &[u8]) -> Option<u8>
     ensures { result ≡ number_of text.now }

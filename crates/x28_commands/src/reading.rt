@@ -109,8 +109,8 @@ fn numbers_in(text: &[u8]) -> Result<ArrayVec<u8, ENTRY_LIMIT>, CommandFault>
     }
 }
 
-/// Reads pairs as they stand after `SET`, without spaces about them. A pair that is wrong or missing is `BadNumber`,
-/// more than 18 are `TooLong`. (18 pairs have at most 143 octets.)
+/// Reads pairs as they follow `SET`, without spaces about them. A pair that is wrong or missing is `BadNumber`, more
+/// than 18 are `TooLong`. (18 pairs have at most 143 octets.)
 pub fn read_pairs(text: &[u8]) -> Result<ArrayVec<(u8, u8), ENTRY_LIMIT>, CommandFault>
     requires { length text.now ≤ 143 }
     ensures { result ≡ pairs_in text.now }

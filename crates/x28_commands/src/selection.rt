@@ -12,7 +12,9 @@ use crate::words::{after_spaces, are_graphic, is_blank};
 use arrayvec::ArrayVec;
 use packet_codec::Address;
 
-/// The selection that a text says, which begins with a digit.
+/// The selection that a text says, which begins with a digit (X.28 3.2). `BadAddress` comes if it has no address of 1
+/// to 15 digits, or something else after it than `D` or `P` and graphic characters. `TooLong` comes for more than 12
+/// octets of user data.
 #[tactic(auto, unfolding(crate::specs::Selection::selection_of))]
 pub fn read_selection(text: &[u8]) -> Result<Selection, CommandFault>
     ensures { result ≡ selection_of text.now }

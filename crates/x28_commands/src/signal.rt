@@ -2,7 +2,7 @@
 use crate::command::ENTRY_LIMIT;
 use arrayvec::ArrayVec;
 
-/// A parameter's number and its value, or none where it was refused.
+/// A parameter's number and its value, or none if it was refused.
 #[derive(Clone, Copy, Default, PartialEq, Eq)]
 pub struct ParameterValue {
     pub number: u8,

@@ -74,8 +74,8 @@ impl Params {
 
     /// Sets a parameter.
     ///
-    /// It is refused where no parameter has the number, then where the parameter has no such value, then where it is
-    /// read only, as the speed. A refused call changes nothing.
+    /// `NoSuchParameter` comes if no parameter has the number, then `BadValue` if the parameter has no such value, then
+    /// `ReadOnly` if it is the speed. A refused call changes nothing.
     pub fn set(&mut self, number: u8, value: u8) -> Result<(), ParamFault>
         ensures exact { MatchOption (fault_of number value) (IsOk result) (λ fault. result ≡ Err fault) }
         ensures ok { OnOk result (self.new ≡ with_value self.old number value) }

@@ -13,7 +13,7 @@ pub enum Profile {
 impl Profile {
     ghost use Rattle.x3_params.specs.Table.{profile_numbered};
 
-    /// The profile that a number names, as in the command `PROF`.
+    /// The profile that a number names, as in the command `PROF`, if it names one.
     pub fn numbered(number: u8) -> Option<Profile>
         ensures { result ≡ profile_numbered number }
     {

@@ -17,8 +17,8 @@ use flow_window::pool::Pool;
 use frame_codec::FrameKind;
 
 impl Link {
-    /// Sets the link up: a DTE sends SABM, a DCE asks for it by DM (X.25 2.4.4.1). Where a DTE is setting the link up
-    /// already nothing happens.
+    /// Sets the link up: a DTE sends SABM, a DCE asks for it by DM (X.25 2.4.4.1). If a DTE is already setting the link
+    /// up, nothing happens.
     pub fn start(&mut self, out: &mut LinkOut, pool: &mut Pool)
         requires { Holds pool.old self.old.held }
         ensures link { self.new.link ≡ (machine.relink self.old.link).link }
@@ -52,7 +52,7 @@ impl Link {
         self.finish(ran, anew, out, pool);
     }
 
-    /// Begins anew after a restart of the node, as a link that was never set up. What went before is forgotten.
+    /// Restarts with the node, as a link that was never set up. What went before is forgotten.
     pub fn restart(&mut self, pool: &mut Pool)
         requires { Holds pool.old self.old.held }
         ensures link { self.new.link ≡ machine.remade self.old.link }
@@ -87,7 +87,7 @@ impl Link {
         self.give_back(pool);
     }
 
-    /// Takes an expiry of T1 (X.25 2.4.8.1). Where T1 does not run nothing happens.
+    /// Takes an expiry of T1 (X.25 2.4.8.1). If T1 does not run, nothing happens.
     pub fn on_t1(&mut self, out: &mut LinkOut, pool: &mut Pool)
         requires { Holds pool.old self.old.held }
         ensures link { self.new.link ≡ (machine.on_t1 self.old.link).link }
@@ -190,8 +190,8 @@ impl Link {
 
     /// Takes a packet of at most `info` octets, to be sent by `settle` when it may go.
     ///
-    /// `Down` comes where the link is not up, `Full` where as many packets are unacknowledged as may be. A packet that
-    /// is refused changes nothing.
+    /// `Down` comes if the link is not up, `Full` if as many packets are unacknowledged as may be. A packet that is
+    /// refused changes nothing.
     pub fn offer(&mut self, packet: &[u8], pool: &mut Pool) -> Result<(), OfferFault>
         requires packet { length packet.now ≤ self.old.link.info }
         requires holds { Holds pool.old self.old.held }
@@ -263,7 +263,7 @@ impl Link {
         self.phase != Phase::Down || self.repeats
     }
 
-    /// Where the link stands.
+    /// The phase of the link (X.25 2.4.4).
     pub fn phase(&self) -> Phase
         ensures { result ≡ self.now.link.phase }
     {

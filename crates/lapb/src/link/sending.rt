@@ -18,7 +18,8 @@ use frame_codec::{Frame, FrameKind};
 use link_timers::Role;
 
 impl Link {
-    /// Ends a node's event: all I frames that may go are sent in order. Where there are none, an RR is, if it is owed.
+    /// Ends a node's event: all I frames that may go are sent in order. If none goes, RR goes if an acknowledgement is
+    /// owed.
     pub fn settle(&mut self, out: &mut LinkOut, pool: &mut Pool)
         requires holds { Holds pool.old self.old.held }
         requires size { pool.old.size ≤ most_information }

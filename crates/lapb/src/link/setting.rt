@@ -1,4 +1,4 @@
-//! Setting the link up and giving it up (X.25 2.4.4, 2.4.7). A rule answers whether T1 starts anew.
+//! Setting the link up and giving it up (X.25 2.4.4, 2.4.7). A rule answers whether T1 restarts.
 ghost use Rattle.std.specs.Prelude.{◌≡◌, [], ◌∷◌};
 ghost use Rattle.frame_codec.specs.Views.{report_of, value_of};
 ghost use Rattle.frame_codec.specs.Spelling.{spelling, most_information, HasSpelling};

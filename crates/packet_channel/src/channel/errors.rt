@@ -148,8 +148,8 @@ impl Channel {
         self.owe(Control::ClearConfirmation)
     }
 
-    /// Takes octets that are no packet: they count as a packet that the state does not allow; where their fault is
-    /// not an unknown type, with diagnostic 0. Answers whether one control packet too many is owed.
+    /// Takes octets that are no packet: they count as a packet that the state does not allow, and with diagnostic 0 if
+    /// their fault is not an unknown type. Answers whether one control packet too many is owed.
     pub fn take_unreadable(
         &mut self,
         end: End,

@@ -3,7 +3,7 @@ ghost use Rattle.std.specs.Prelude.{◌≡◌, ◌≤◌, ◌<◌, ℕ, length, 
 ghost use Rattle.flow_window.specs.Pool.{IsIn, Holds, Balances, in_use};
 ghost use Rattle.link_timers.specs.declared.role.Role.{Role as RoleValue};
 ghost use Rattle.packet_channel.specs.Channel as machine;
-ghost use Rattle.packet_channel.specs.Answers.{Answers, BufAnswers, handed_back};
+ghost use Rattle.packet_channel.specs.Answers.{Answers, BufAnswers, WhenSending, handed_back};
 ghost use Rattle.packet_channel.specs.Held.{Fits, Takes};
 ghost use Rattle.packet_channel.specs.Packets.{Datum};
 ghost use Rattle.packet_channel.specs.declared.flow.Flow.{Flow as FlowValue};
@@ -25,41 +25,41 @@ use packet_codec::MAX_INTERRUPT;
 /// refused changes nothing.
 #[derive(Clone, Copy)]
 pub enum Request<'a> {
-    /// The call that came in is accepted (X.25 4.1.4). `NoCall` comes where none waits for it: no call came in, or a
-    /// DTE's own call collided with it.
+    /// The call that came in is accepted (X.25 4.1.4). `NoCall` comes if none waits for it: no call came in, or a DTE's
+    /// own call collided with it.
     Accept,
-    /// The call is cleared, also one that is being set up (X.25 4.1.7). `NoCall` comes where there is none.
+    /// The call is cleared, also one that is being set up (X.25 4.1.7). `NoCall` comes if there is none.
     Clear {
         cause: u8,
         diagnostic: u8,
     },
-    /// The call is reset: what waits in both directions is dropped (X.25 4.4.3). `NoCall` comes where no call is in
-    /// data transfer, then `Resetting` while the last own reset is not confirmed.
+    /// The call is reset: what waits in both directions is dropped (X.25 4.4.3). `NoCall` comes if no call is in data
+    /// transfer, then `Resetting` while the last own reset is not confirmed.
     Reset {
         cause: u8,
         diagnostic: u8,
     },
-    /// A Data packet with its bits M, Q and D goes into the send queue (X.25 4.3). `NoCall` comes where no call is in
-    /// data transfer, then `Resetting` while the own reset is not confirmed, `QueueFull` where 8 packets wait,
-    /// `TooLong` for more octets than a packet of the line may have.
+    /// A Data packet with its bits M, Q and D goes into the send queue (X.25 4.3). `NoCall` comes if no call is in data
+    /// transfer, then `Resetting` while the own reset is not confirmed, `QueueFull` if 8 packets wait, `TooLong` for
+    /// more octets than a packet of the line may have.
     Send {
         octets: &'a [u8],
         more: bool,
         qualified: bool,
         delivery: bool,
     },
-    /// An interrupt of 1 to 32 octets goes (X.25 4.3.7). `NoCall` comes where no call is in data transfer, then
+    /// An interrupt of 1 to 32 octets goes (X.25 4.3.7). `NoCall` comes if no call is in data transfer, then
     /// `Resetting` while the own reset is not confirmed, `TooLong` for no octets or more than 32, `InterruptPending`
     /// while the last interrupt is not confirmed.
     Interrupt(&'a [u8]),
     /// The far end is asked by RNR to send no more data, or by RR to send again (X.25 4.4.1.4, 4.4.1.5). `NoCall` comes
-    /// where no call is in data transfer.
+    /// if no call is in data transfer.
     Stop(bool),
-    /// P(R) may pass so many more of the packets that were taken (X.25 4.4.1.3). Nothing happens where fewer are taken
-    /// and not released. `NoCall` comes where no call is in data transfer.
+    /// P(R) may pass so many more of the packets that were taken (X.25 4.4.1.3). Nothing happens if fewer are taken and
+    /// not released. `NoCall` comes if no call is in data transfer.
     Release(u8),
-    /// The confirmation of the interrupt that was taken is owed (X.25 4.3.7). Nothing happens where none is
-    /// unconfirmed. `NoCall` comes where no call is in data transfer.
+    /// The confirmation of the interrupt that was taken is owed (X.25 4.3.7). Nothing happens if none is unconfirmed.
+    /// `NoCall` comes if no call is in data transfer.
     ConfirmInterrupt,
 }
 
@@ -84,8 +84,8 @@ impl Channel {
     ) -> Result<bool, ChannelFault>
         requires most { flow.size ≤ 1024 }
         requires holds { Holds pool.old self.old.held }
-        requires size { flow.size ≤ pool.old.size }
-        requires room { in_use pool.old < length pool.old.places }
+        requires size { WhenSending (request_of request.now) (flow.size ≤ pool.old.size) }
+        requires room { WhenSending (request_of request.now) (in_use pool.old < length pool.old.places) }
         ensures answer { Answers role flow self.old.channel (request_of request.now) result self.new.channel }
         ensures pool { Balances pool.old self.old.held pool.new self.new.held }
         ensures fits { Fits flow self.old → Fits flow self.new }

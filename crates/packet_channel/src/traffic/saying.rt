@@ -1,5 +1,5 @@
-//! What goes to the link in data transfer: the interrupt confirmation, the interrupt, data within the window, RR or
-//! RNR where the partner does not know the present P(R) or whether this end is stopped (X.25 4.3, 4.4).
+//! What goes to the link in data transfer: the interrupt confirmation, the interrupt, data within the window, RR or RNR
+//! if the partner does not know the present P(R) or whether this end is stopped (X.25 4.3, 4.4).
 ghost use Rattle.std.specs.Bool.{OnFalse};
 ghost use Rattle.std.specs.Prelude.{◌≡◌, ℕ, ◌<◌, ◌≤◌, ◌+◌, true, length, is_some};
 ghost use Rattle.flow_window.specs.Pool.{Holds, Balances};

@@ -3,15 +3,15 @@ ghost use Rattle.std.specs.Prelude.{◌≡◌, ◌<◌, ◌≤◌, length, Some,
 ghost use Rattle.flow_window.specs.Pool.{IsIn, Holds, Balances};
 ghost use Rattle.packet_codec.specs.Packet.{IsCallValue};
 ghost use Rattle.packet_codec.specs.View.{call_view};
-ghost use Rattle.packet_layer.specs.Answers.{handed_back};
+ghost use Rattle.packet_channel.specs.Answers.{handed_back};
 ghost use Rattle.packet_layer.specs.Held.{Loses, Takes};
-ghost use Rattle.packet_layer.specs.Channel.{Request as ask};
+ghost use Rattle.packet_channel.specs.Channel.{Request as ask};
 ghost use Rattle.packet_layer.specs.Layer as machine;
-ghost use Rattle.packet_layer.specs.Octets.{parts_of};
-ghost use Rattle.packet_layer.specs.Packets.{Datum};
+ghost use Rattle.packet_channel.specs.Octets.{parts_of};
+ghost use Rattle.packet_channel.specs.Packets.{Datum};
 ghost use Rattle.packet_layer.specs.RequestView.{request_of, refusal_of, call_refusal_of};
-ghost use Rattle.packet_layer.specs.TakenView.{maybe_taken_in, maybe_buffers_in, maybe_front};
-ghost use Rattle.packet_layer.specs.Traffic.Taken.{TakenPacket};
+ghost use Rattle.packet_channel.specs.TakenView.{maybe_taken_in, maybe_buffers_in, maybe_front};
+ghost use Rattle.packet_channel.specs.Traffic.Taken.{TakenPacket};
 ghost use Rattle.packet_end.specs.PacketEnd.{asked, called};
 ghost use Rattle.packet_end.specs.Pooled.{Serves};
 
@@ -24,8 +24,8 @@ impl PooledEnd {
     /// Places a call on a free channel, a DTE on the highest one and a DCE on the lowest (X.25 4.1.2), and answers the
     /// channel. The facilities have at most 109 octets and the user data at most 16.
     ///
-    /// `NotReady` comes where the restart procedure is not done, then `NoChannel` where no channel is free. A call that
-    /// is refused changes nothing.
+    /// `NotReady` comes if the restart procedure is not done, then `NoChannel` if no channel is free. A call that is
+    /// refused changes nothing.
     pub fn call(&mut self, call: &CallData<'_>) -> Result<u8, CallFault>
         requires { IsCallValue (call_view call.now) }
         ensures answer { MatchResult result

@@ -79,8 +79,8 @@ impl PooledEnd {
         self.line.settle(pool);
     }
 
-    /// Ends an event of a node with one line: a relink where it is due, all packets that may go, and `settle`. No frame
-    /// of the event is lost.
+    /// Ends an event of a node with one line: a relink if it is due, all packets that may go, and `settle`. No frame of
+    /// the event is lost.
     pub fn finish(&mut self, pool: &mut Pool)
         requires notes { length self.old.end.notes ≤ 64 }
         requires pool { Serves pool.old self.old.held self.old.share self.old.info }

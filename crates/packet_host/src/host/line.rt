@@ -25,7 +25,7 @@ impl Host {
         self.end.finish();
     }
 
-    /// Takes an expiry of a timer, and answers whether it ran. Where it did not nothing happens.
+    /// Takes an expiry of a timer, and answers whether it ran. If it did not, nothing happens.
     pub fn on_timer(&mut self, id: TimerId) -> bool
         ensures ran { result ≡ end.runs_at self.old id }
         ensures host { self.new ≡ after_expiry self.old id }
@@ -55,14 +55,15 @@ impl Host {
         self.end.finish();
     }
 
-    /// Begins anew after a restart of the host. What went before is forgotten, also frames and notes.
+    /// Restarts the host. What went before is forgotten, also frames and notes.
     pub fn restart(&mut self)
-        ensures { self.new ≡ end.restarted self.old }
+        ensures host { self.new ≡ end.restarted self.old }
+        ensures nothing_kept_back { end.KeepsNothingBack self.new }
     {
         self.end.restart();
     }
 
-    /// Takes the next frame that goes out, if there is one. Where there is none `frame` stays.
+    /// Takes the next frame that goes out, if there is one. If there is none, `frame` stays as it is.
     pub fn out(&mut self, frame: &mut FrameBuf) -> bool
         ensures frame { OnTrue result (self.old.line.frames ≡ frame.new ∷ self.new.line.frames) }
         ensures nothing { OnFalse result (self.old.line.frames ≡ []) }

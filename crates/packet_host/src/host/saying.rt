@@ -24,9 +24,9 @@ impl Host {
     /// for, D; no octets are one empty packet. Q is on all of them (X.25 4.3.3 to 4.3.6). At most 1,024 octets, with Q
     /// 128.
     ///
-    /// `NoCall` comes where no call is in data transfer, then `Resetting` while the own reset is not confirmed,
-    /// `QueueFull` where the send queue has fewer places than the packets need (never more than 8, and with Q one);
-    /// then `TooLong`.
+    /// `NoCall` comes if no call is in data transfer, then `Resetting` while the own reset is not confirmed,
+    /// `QueueFull` if the send queue has fewer places than the packets need (never more than 8, and with Q one); then
+    /// `TooLong`.
     pub fn say(
         &mut self,
         channel: u8,

@@ -1,7 +1,7 @@
 //! What a user asks of the calls of a line (X.25 4.1 to 4.4).
 ghost use Rattle.std.specs.Prelude.{◌≤◌, ◌≡◌, ◌<◌, ◌+◌, true, false, Some, None, MatchResult, MatchOption, length};
 ghost use Rattle.flow_window.specs.Pool.{IsIn, Holds, Balances};
-ghost use Rattle.packet_channel.specs.Answers.{handed_back};
+ghost use Rattle.packet_channel.specs.Answers.{WhenSending, handed_back};
 ghost use Rattle.packet_channel.specs.Held.{Loses, Takes};
 ghost use Rattle.packet_layer.specs.Held.{HasRoom, most_held, plain};
 ghost use Rattle.packet_codec.specs.Packet.{IsCallValue};
@@ -54,8 +54,8 @@ impl Layer {
     /// Places a call on a free channel, a DTE on the highest one and a DCE on the lowest (X.25 4.1.2), and answers
     /// the channel. The facilities have at most 109 octets and the user data at most 16.
     ///
-    /// `NotReady` comes where the restart procedure is not done, then `NoChannel` where no channel is free. A call
-    /// that is refused changes nothing.
+    /// `NotReady` comes if the restart procedure is not done, then `NoChannel` if no channel is free. A call that is
+    /// refused changes nothing.
     pub fn call(&mut self, call: &CallData<'_>) -> Result<u8, CallFault>
         requires { IsCallValue (call_view call.now) }
         ensures answer { MatchResult result
@@ -93,7 +93,8 @@ impl Layer {
     }
 
     /// Asks something of the call on the channel: [`Request`] has each refusal. A channel that the line does not have
-    /// has no call. What is refused changes nothing.
+    /// has no call. What is refused changes nothing. The pool needs room for a packet that is to go, and for nothing
+    /// else.
     #[tactic(auto, using(crate::proofs::Placed::own_few))]
     pub fn ask(
         &mut self,
@@ -102,8 +103,9 @@ impl Layer {
         pool: &mut Pool,
     ) -> Result<(), ChannelFault>
         requires holds { Holds pool.old self.old.held }
-        requires size { self.old.layer.flow.size ≤ pool.old.size }
-        requires room { HasRoom pool.old self.old.held (most_held self.old.layer + 1) }
+        requires size { WhenSending (request_of request.now) (self.old.layer.flow.size ≤ pool.old.size) }
+        requires room { WhenSending (request_of request.now)
+            (HasRoom pool.old self.old.held (most_held self.old.layer + 1)) }
         ensures answer { MatchResult result
             (λ _. machine.request_refusal self.old.layer channel (request_of request.now) ≡ None)
             (λ fault. machine.request_refusal self.old.layer channel (request_of request.now)
@@ -148,7 +150,7 @@ impl Layer {
 
     /// Accepts the call that came in on the channel (X.25 4.1.4).
     ///
-    /// `NoCall` comes where none waits for it: no call came in, or a DTE's own call collided with it.
+    /// `NoCall` comes if none waits for it: no call came in, or a DTE's own call collided with it.
     pub fn accept(&mut self, channel: u8) -> Result<(), ChannelFault>
         ensures answer { MatchResult result
             (λ _. machine.request_refusal self.old.layer channel asked.Accept ≡ None)
@@ -162,7 +164,7 @@ impl Layer {
 
     /// Clears the call on the channel, also one that is being set up, with a cause and a diagnostic (X.25 4.1.7).
     ///
-    /// `NoCall` comes where there is none.
+    /// `NoCall` comes if there is none.
     pub fn clear(
         &mut self,
         channel: u8,
@@ -171,8 +173,6 @@ impl Layer {
         pool: &mut Pool,
     ) -> Result<(), ChannelFault>
         requires holds { Holds pool.old self.old.held }
-        requires size { self.old.layer.flow.size ≤ pool.old.size }
-        requires room { HasRoom pool.old self.old.held (most_held self.old.layer + 1) }
         ensures answer { MatchResult result
             (λ _. machine.request_refusal self.old.layer channel (asked.Clearing cause diagnostic) ≡ None)
             (λ fault. machine.request_refusal self.old.layer channel (asked.Clearing cause diagnostic)
@@ -187,7 +187,7 @@ impl Layer {
     /// Resets the call on the channel with a cause and a diagnostic: what waits in both directions is dropped (X.25
     /// 4.4.3).
     ///
-    /// `NoCall` comes where no call is in data transfer, `Resetting` while the last own reset is not confirmed.
+    /// `NoCall` comes if no call is in data transfer, `Resetting` while the last own reset is not confirmed.
     pub fn reset(
         &mut self,
         channel: u8,
@@ -196,8 +196,6 @@ impl Layer {
         pool: &mut Pool,
     ) -> Result<(), ChannelFault>
         requires holds { Holds pool.old self.old.held }
-        requires size { self.old.layer.flow.size ≤ pool.old.size }
-        requires room { HasRoom pool.old self.old.held (most_held self.old.layer + 1) }
         ensures answer { MatchResult result
             (λ _. machine.request_refusal self.old.layer channel (asked.Resetting cause diagnostic) ≡ None)
             (λ fault. machine.request_refusal self.old.layer channel (asked.Resetting cause diagnostic)
@@ -211,9 +209,9 @@ impl Layer {
 
     /// Puts a Data packet with its bits M, Q and D into the send queue of the channel (X.25 4.3).
     ///
-    /// `NoCall` comes where no call is in data transfer, then `Resetting` while the own reset is not confirmed,
-    /// `QueueFull` where 8 packets wait, `TooLong` for more octets than a packet of the line may have. A packet that
-    /// is refused changes nothing.
+    /// `NoCall` comes if no call is in data transfer, then `Resetting` while the own reset is not confirmed,
+    /// `QueueFull` if 8 packets wait, `TooLong` for more octets than a packet of the line may have. A packet that is
+    /// refused changes nothing.
     pub fn send(
         &mut self,
         channel: u8,
@@ -288,8 +286,8 @@ impl Layer {
 
     /// Sends an interrupt of 1 to 32 octets on the channel (X.25 4.3.7).
     ///
-    /// `NoCall` comes where no call is in data transfer, then `Resetting` while the own reset is not confirmed,
-    /// `TooLong` for no octets or more than 32, `InterruptPending` while the last interrupt is not confirmed.
+    /// `NoCall` comes if no call is in data transfer, then `Resetting` while the own reset is not confirmed, `TooLong`
+    /// for no octets or more than 32, `InterruptPending` while the last interrupt is not confirmed.
     pub fn interrupt(&mut self, channel: u8, octets: &[u8]) -> Result<(), ChannelFault>
         ensures answer { MatchResult result
             (λ _. machine.request_refusal self.old.layer channel (asked.Interrupting octets.now) ≡ None)
@@ -304,7 +302,7 @@ impl Layer {
 
     /// Asks the far end by RNR to send no more data on the channel (X.25 4.4.1.5).
     ///
-    /// `NoCall` comes where no call is in data transfer.
+    /// `NoCall` comes if no call is in data transfer.
     pub fn stop(&mut self, channel: u8) -> Result<(), ChannelFault>
         ensures answer { MatchResult result
             (λ _. machine.request_refusal self.old.layer channel (asked.Stopping true) ≡ None)
@@ -318,7 +316,7 @@ impl Layer {
 
     /// Ends by RR what `stop` asked (X.25 4.4.1.4).
     ///
-    /// `NoCall` comes where no call is in data transfer.
+    /// `NoCall` comes if no call is in data transfer.
     pub fn go(&mut self, channel: u8) -> Result<(), ChannelFault>
         ensures answer { MatchResult result
             (λ _. machine.request_refusal self.old.layer channel (asked.Stopping false) ≡ None)
@@ -362,8 +360,8 @@ impl Layer {
         channel.take_buf()
     }
 
-    /// Lets P(R) pass `count` more of the packets that were taken on the channel (X.25 4.4.1.3). Nothing happens
-    /// where fewer are taken and not released.
+    /// Lets P(R) pass `count` more of the packets that were taken on the channel (X.25 4.4.1.3). Nothing happens if
+    /// fewer are taken and not released.
     pub fn release(&mut self, channel: u8, count: u8)
         ensures layer { self.new.layer ≡ machine.request self.old.layer channel (asked.Releasing count) }
         ensures held { self.new.held ≡ self.old.held }
@@ -372,7 +370,7 @@ impl Layer {
         let _ = self.ask_bare(channel, &BareRequest::Release(count));
     }
 
-    /// Owes the confirmation of the interrupt that was taken on the channel (X.25 4.3.7). Nothing happens where none is
+    /// Owes the confirmation of the interrupt that was taken on the channel (X.25 4.3.7). Nothing happens if none is
     /// unconfirmed.
     pub fn confirm_interrupt(&mut self, channel: u8)
         ensures layer { self.new.layer ≡ machine.request self.old.layer channel asked.Confirming }

@@ -32,7 +32,7 @@ impl Layer {
         }
     }
 
-    /// Whether data may be queued on the channel, however much waits there: `NoCall` comes where no call is in data
+    /// Whether data may be queued on the channel, however much waits there: `NoCall` comes if no call is in data
     /// transfer, then `Resetting` while the own reset is not confirmed.
     pub fn may_send(&self, channel: u8) -> Result<(), ChannelFault>
         ensures { MatchResult result
@@ -51,7 +51,7 @@ impl Layer {
         Ok(())
     }
 
-    /// How many packets `send` would take on the channel, 0 to 8: none where it would answer `NoCall` or `Resetting`.
+    /// How many packets `send` would take on the channel, 0 to 8: none if it would answer `NoCall` or `Resetting`.
     pub fn room(&self, channel: u8) -> u8
         ensures { result ≡ machine.room self.now.layer channel }
     {
@@ -82,8 +82,7 @@ impl Layer {
         channel.front(pool)
     }
 
-    /// Whether a call stands on the channel in which every packet with D = 1 since the last reset was covered (X.25
-    /// 4.3.3).
+    /// Whether the channel has a call in which every packet with D = 1 since the last reset was covered (X.25 4.3.3).
     pub fn confirmed(&self, channel: u8) -> bool
         ensures { result ≡ machine.confirmed self.now.layer channel }
     {
@@ -93,14 +92,14 @@ impl Layer {
         }
     }
 
-    /// Its role, which it keeps: of two layers on a line one is the DTE, the other one the DCE (X.25 3).
+    /// The layer's role, which it keeps: of two layers on a line one is the DTE, the other one the DCE (X.25 3).
     pub fn role(&self) -> Role
         ensures { result ≡ self.now.layer.role }
     {
         self.role
     }
 
-    /// The flow control parameters of its line, which it keeps.
+    /// The flow control parameters of the layer's line, which it keeps.
     pub fn flow(&self) -> Flow
         ensures flow { result ≡ self.now.layer.flow }
         ensures allowed { IsFlow result }
@@ -108,7 +107,7 @@ impl Layer {
         self.flow
     }
 
-    /// Whether the link has to be set up anew: from when a rule asks for it until `link_down` or `link_up`.
+    /// Whether the link has to be set up again: from when a rule asks for it until `link_down` or `link_up`.
     pub fn must_relink(&self) -> bool
         ensures { result ≡ self.now.layer.relink }
     {

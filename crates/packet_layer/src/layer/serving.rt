@@ -12,9 +12,9 @@ use packet_codec::PacketBuf;
 
 impl Layer {
     /// Writes the packet that goes to the link next in place of what the buffer has, if there is one: restart packets
-    /// first, and then what the channels have, round from the one after that which was served last. Of a channel go
-    /// the control packets that it owes, the interrupt confirmation, the interrupt, data within the window, and RR or
-    /// RNR where the partner does not know the present P(R) or whether this end is stopped.
+    /// first, and then what the channels have, round from the one after the one served last. Of a channel go the
+    /// control packets that it owes, the interrupt confirmation, the interrupt, data within the window, and RR or RNR
+    /// if the partner does not know the present P(R) or whether this end is stopped.
     pub fn next_packet(&mut self, buf: &mut PacketBuf, pool: &mut Pool) -> bool
         requires holds { Holds pool.old self.old.held }
         ensures layer { self.new.layer ≡ (machine.next_packet self.old.layer).layer }

@@ -91,7 +91,7 @@ impl Layer {
     }
 
     /// Takes an expiry of a timer: that of a call or a reset clears the call, that of a clear restarts the packet
-    /// layer, and that of a restart asks for a relink. Where the timer does not run nothing happens.
+    /// layer, and that of a restart asks for a relink. If the timer does not run, nothing happens.
     #[tactic(auto, using(crate::proofs::Placed::own_few, crate::proofs::Placed::few))]
     pub fn on_timer(&mut self, id: TimerId, pool: &mut Pool)
         requires holds { Holds pool.old self.old.held }

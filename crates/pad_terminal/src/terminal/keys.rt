@@ -17,11 +17,11 @@ use x3_params::Params;
 impl Terminal {
     /// Takes a key.
     ///
-    /// In data transfer DC1 and DC3 let output go on and stop it, where parameter 12 is 1; the character of parameter 1
-    /// recalls the PAD; any other key goes to the editor. `Dropped` comes where the key would end a block and the send
-    /// queue is full: then it changes nothing, but that the terminal is told once by DC3 to stop, where parameter 5 is
-    /// 1 (X.3 3.1, 3.5, 3.12). In all other modes a key goes to the command line, and no key is dropped; the line that
-    /// it ends is carried out (X.28 3.2).
+    /// In data transfer DC1 and DC3 let output go on and stop it, if parameter 12 is 1; the character of parameter 1
+    /// recalls the PAD; any other key goes to the editor. `Dropped` comes if the key would end a block and the send
+    /// queue is full: then it changes nothing, but that the terminal is told once by DC3 to stop, if parameter 5 is 1
+    /// (X.3 3.1, 3.5, 3.12). In all other modes a key goes to the command line, and no key is dropped; the line that it
+    /// ends is carried out (X.28 3.2).
     pub fn on_key(&mut self, octet: u8, call: CallCondition) -> InputAnswer
         ensures terminal { self.new ≡ (spec.after_octet octet call self.old).terminal }
         ensures answer { result ≡ (spec.after_octet octet call self.old).answer }
@@ -35,7 +35,7 @@ impl Terminal {
 
     /// Takes the end of the idle time (X.3 3.4).
     ///
-    /// Where the timer runs the held text is a block. `Dropped` comes where the timer runs and the send queue is full.
+    /// If the timer runs, the held text is a block. `Dropped` comes if the timer runs and the send queue is full.
     pub fn on_idle(&mut self, queue_full: bool) -> InputAnswer
         ensures terminal { self.new ≡ (spec.after_idle_time queue_full self.old).terminal }
         ensures answer { result ≡ (spec.after_idle_time queue_full self.old).answer }
@@ -50,7 +50,7 @@ impl Terminal {
     }
 
     /// Takes a key as `on_key` does, if it is only added to the text that is held, whatever the condition of the call
-    /// (X.3 3.3). Gives whether it was such a key: any other changes nothing.
+    /// (X.3 3.3). Answers whether it was such a key; any other changes nothing.
     pub fn add_key(&mut self, octet: u8) -> bool
         ensures exact { result ≡ spec.only_adds_key octet self.old }
         ensures added { OnTrue result ((call : CallCondition) → spec.after_octet octet call self.old

@@ -76,7 +76,7 @@ impl Lines {
         let _ = self.heed_line(routes, line);
     }
 
-    /// Sets the link of a line up anew, and heeds what that tells.
+    /// Sets the link of a line up again, and heeds what that tells.
     pub fn relink(&mut self, routes: &Routes, line: usize)
         requires there { line < length self.old }
         requires read { AreRead self.old }
@@ -87,8 +87,8 @@ impl Lines {
         let _ = self.heed_line(routes, line);
     }
 
-    /// Ends an event of a line: links that have to be set up anew are, what may go on is relayed on the joins of this
-    /// line and of those, and offered to the links, and each line settles.
+    /// Ends an event of a line. Links that have to be set up again are set up. What may go on is relayed on the joins
+    /// of this line and of those lines, and offered to the links. Each line settles.
     pub fn finish(&mut self, routes: &Routes, line: usize)
         requires read { AreRead self.old }
         ensures { self.new ≡ finished_alone routes.now line self.old }
@@ -171,7 +171,7 @@ impl Lines {
         offer_lines(&mut self.lines, self.touched, &mut self.pool)
     }
 
-    /// Begins anew on all lines.
+    /// Restarts on all lines.
     pub fn restart(&mut self)
         ensures { self.new ≡ map without_joins self.old }
     {
@@ -179,7 +179,7 @@ impl Lines {
         self.touched = NumberSet::first(self.lines.len());
     }
 
-    /// Lets ticks pass on all lines.
+    /// Lets ticks pass on all lines, each a twentieth of a second.
     pub fn elapse(&mut self, ticks: u16)
         ensures { self.new ≡ map (with_end (λ e. end.elapsed e ticks)) self.old }
     {

@@ -2,7 +2,7 @@
 ghost use Rattle.std.specs.Prelude.{◌≡◌, length, slice_get};
 ghost use Rattle.std.specs.Option.{option_to_list};
 ghost use Rattle.packet_end.specs.PacketEnd.{without_first_note};
-ghost use Rattle.packet_layer.specs.NoteView.{note_of, maybe_note};
+ghost use Rattle.packet_channel.specs.NoteView.{note_of, maybe_note};
 ghost use Rattle.switch_lines.specs.Lines.{changed};
 ghost use Rattle.switch_lines.specs.NewJoins.{joins_of_note, joins_heeded};
 ghost use Rattle.switch_lines.specs.OfLine.{notes_on};

@@ -1,10 +1,10 @@
-//! What is taken on one leg of a join goes on to the other one, where the packet sizes of their lines may differ (X.25
+//! What is taken on one leg of a join goes on to the other one, also if the packet sizes of their lines differ (X.25
 //! 4.3.4).
 ghost use Rattle.std.specs.Prelude.{◌≡◌, ◌<◌, ◌≤◌, [], ◌∷◌, Some, length, map, slice_get};
 ghost use Rattle.std.specs.Bool.{OnTrue};
-ghost use Rattle.packet_layer.specs.Channel.{Request as ask_for};
-ghost use Rattle.packet_layer.specs.Packets.{Datum};
-ghost use Rattle.packet_layer.specs.TakenView.{maybe_front, maybe_taken};
+ghost use Rattle.packet_channel.specs.Channel.{Request as ask_for};
+ghost use Rattle.packet_channel.specs.Packets.{Datum};
+ghost use Rattle.packet_channel.specs.TakenView.{maybe_front, maybe_taken};
 ghost use Rattle.switch_joins.specs.Direction.{carried};
 ghost use Rattle.switch_joins.specs.Joins.{gathered_by};
 ghost use Rattle.switch_joins.specs.Turning.{nothing_gathered, all_made, turned};

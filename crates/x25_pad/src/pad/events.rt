@@ -1,6 +1,6 @@
 //! What the packet layer tells, and the end of an event.
 ghost use Rattle.std.specs.Prelude.{◌≡◌, ◌≤◌, ◌+◌, ◌<◌, [], ◌∷◌, ◌++◌, None, length, drop, IfSome};
-ghost use Rattle.packet_layer.specs.NoteView.{note_of};
+ghost use Rattle.packet_channel.specs.NoteView.{note_of};
 ghost use Rattle.packet_end.specs.PacketEnd as end;
 ghost use Rattle.packet_end.specs.Sending.{EndsWhole, ending_frames};
 ghost use Rattle.packet_end.specs.Timing.{TimersAgree};

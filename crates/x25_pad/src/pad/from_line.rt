@@ -38,7 +38,7 @@ impl Pad {
         self.end_line_event();
     }
 
-    /// Takes the next frame that goes out, if there is one. Where there is none `frame` stays.
+    /// Takes the next frame that goes out, if there is one. If there is none, `frame` stays as it is.
     pub fn out(&mut self, frame: &mut FrameBuf) -> bool
         ensures frame { OnTrue result (self.old.line.end.line.frames ≡ frame.new ∷ self.new.line.end.line.frames) }
         ensures nothing { OnFalse result (self.old.line.end.line.frames ≡ []) }

@@ -19,10 +19,10 @@ use arrayvec::ArrayVec;
 use link_timers::TimerId;
 
 impl Pad {
-    /// Takes a key of a terminal.
+    /// Takes a key of a terminal (X.3 3; X.28 3.2).
     ///
-    /// `Dropped` comes where the key would end a block and the send queue takes no packet: eight wait, or the own reset
-    /// is not confirmed.
+    /// `Dropped` comes if the key would end a block and the send queue takes no packet: eight wait, or the own reset is
+    /// not confirmed.
     pub fn on_key(&mut self, terminal: u8, octet: u8) -> PadAnswer
         requires { terminal < length self.old.ports }
         ensures pad { self.new ≡ spec.terminal_event terminal (port.after_key octet) self.old }
@@ -41,7 +41,7 @@ impl Pad {
 
     /// Takes a break of a terminal (X.3 3.7).
     ///
-    /// `Dropped` comes where it would send an indication of break and the send queue takes no packet: then nothing
+    /// `Dropped` comes if it would send an indication of break and the send queue takes no packet: then nothing
     /// happens.
     pub fn on_break(&mut self, terminal: u8) -> PadAnswer
         requires { terminal < length self.old.ports }
@@ -90,9 +90,9 @@ impl Pad {
         taken
     }
 
-    /// Takes the end of the idle time of a terminal (X.3 3.4). Where its idle timer does not run nothing happens.
+    /// Takes the end of the idle time of a terminal (X.3 3.4). If its idle timer does not run, nothing happens.
     ///
-    /// `Dropped` comes where the timer runs and the send queue takes no packet: the timer then begins anew.
+    /// `Dropped` comes if the timer runs and the send queue takes no packet: the timer then restarts.
     pub fn on_idle(&mut self, terminal: u8) -> PadAnswer
         requires { terminal < length self.old.ports }
         ensures pad { self.new ≡ spec.after_idle terminal self.old }
@@ -180,8 +180,8 @@ impl Pad {
         taken
     }
 
-    /// Takes an expiry of a timer of the line or of a terminal's idle timer, and answers whether it ran. Where it did
-    /// not nothing happens.
+    /// Takes an expiry of a timer of the line or of a terminal's idle timer, and answers whether it ran. If it did not,
+    /// nothing happens.
     pub fn on_timer(&mut self, id: TimerId) -> bool
         ensures ran { result ≡ spec.runs_at self.old id }
         ensures pad { self.new ≡ spec.after_timer self.old id }
@@ -263,10 +263,11 @@ impl Pad {
         self.ports.iter().position(|port| port.is_due())
     }
 
-    /// Begins anew after a restart of the PAD: without calls, and each terminal with its initial parameters. What went
-    /// before is forgotten, also text, frames and notes.
+    /// Restarts the PAD: it has no calls then, and each terminal has its initial parameters. What went before is
+    /// forgotten, also text, frames and notes.
     pub fn restart(&mut self)
-        ensures { self.new ≡ spec.restarted self.old }
+        ensures pad { self.new ≡ spec.restarted self.old }
+        ensures nothing_kept_back { end.KeepsNothingBack self.new.line.end }
     {
         self.line.end.restart();
         self.line.notes.clear();

@@ -1,8 +1,9 @@
 use Rattle.std.proofs.Common.{inl, ap, sym, ◌∙◌}
 use Rattle.packet_layer.specs.RequestView.{request_of}
 use Rattle.packet_layer.proofs.Flows.{flow_request}
+use Rattle.packet_layer.proofs.Asked.{if_sending}
 use Rattle.packet_end.specs.Params.{info_of}
-use Rattle.packet_end.proofs.Pools.{served, layer_holds, layer_size, layer_balanced}
+use Rattle.packet_end.proofs.Pools.{served, layer_holds, layer_size, layer_room, layer_balanced}
 use Rattle.packet_end.proofs.Waits.{others_agree, request_apart_or_alike}
 use Rattle.packet_end.proofs.pooled.PooledEnd.ask.Goals as goal
 
@@ -13,8 +14,15 @@ ask-requires-clause-holds c =
 
 pub ask-requires-clause-size : goal.ask-requires-clause-size
 ask-requires-clause-size c =
-    layer_size c.args.pool.now c.self.inside.line c.self.inside.layer
-    (served c.self.inside c.args.self.now c.args.pool.now c.self.view_is c.requires) c.self.invariant.info
+    if_sending (request_of c.args.request.now)
+    (layer_size c.args.pool.now c.self.inside.line c.self.inside.layer
+    (served c.self.inside c.args.self.now c.args.pool.now c.self.view_is c.requires) c.self.invariant.info)
+
+pub ask-requires-clause-room : goal.ask-requires-clause-room
+ask-requires-clause-room c =
+    if_sending (request_of c.args.request.now)
+    (layer_room c.args.pool.now c.self.inside.line c.self.inside.layer
+    (served c.self.inside c.args.self.now c.args.pool.now c.self.view_is c.requires) c.self.invariant.line)
 
 pub invariant_of-self : goal.invariant_of-self
 invariant_of-self c =

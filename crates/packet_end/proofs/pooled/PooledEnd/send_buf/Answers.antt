@@ -1,6 +1,6 @@
 use Rattle.std.proofs.Common.{refl, sym, ap, ◌∙◌, inl}
-use Rattle.packet_layer.specs.Answers.{handed_back}
-use Rattle.packet_layer.specs.Channel.Request.{Sending}
+use Rattle.packet_channel.specs.Answers.{handed_back}
+use Rattle.packet_channel.specs.Channel.Request.{Sending}
 use Rattle.packet_layer.proofs.Flows.{flow_request}
 use Rattle.packet_end.specs.Params.{info_of}
 use Rattle.packet_end.proofs.Pools.{layer_takes}

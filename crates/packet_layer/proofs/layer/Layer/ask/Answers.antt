@@ -2,7 +2,7 @@ use Rattle.std.proofs.Common.{◌∙◌, ◌≤◌, ap, sym, subst, length}
 use Rattle.flow_window.specs.Pool.{Balances}
 use Rattle.packet_layer.specs.Held.{Layer as Held, most_held}
 use Rattle.packet_layer.specs.RequestView.{request_of}
-use Rattle.packet_layer.proofs.Asked.{IsAt, is_at, done, allowed, refused, told}
+use Rattle.packet_layer.proofs.Asked.{IsAt, is_at, done, allowed, refused, told, when_sending}
 use Rattle.packet_layer.proofs.Placed.{own_held, own_room, own_balance, few_after}
 use Rattle.packet_layer.proofs.Silence.{layer_touched}
 use Rattle.packet_layer.proofs.layer.Layer.ask.Goals as goal
@@ -63,7 +63,8 @@ request-requires-clause-holds c =
 
 pub request-requires-clause-room : goal.request-requires-clause-room
 request-requires-clause-room c =
-    own_room c.self.inside c.args.self.now c.args.pool.now c.self.invariant c.self.view_is c.requires.room
+    when_sending (request_of c.args.request.now)
+    (own_room c.self.inside c.args.self.now c.args.pool.now c.self.invariant c.self.view_is) c.requires.room
 
 pub returns-in_err-relink-clause-pool : goal.returns-in_err-relink-clause-pool
 returns-in_err-relink-clause-pool c =

@@ -1,5 +1,5 @@
 use Rattle.std.proofs.Common.{◌≡◌, List, [], ap, ap₂, ◌∙◌}
-use Rattle.packet_layer.specs.Packets.{Note}
+use Rattle.packet_channel.specs.Packets.{Note}
 use Rattle.packet_end.specs.PacketEnd.{PacketEnd, received}
 use Rattle.packet_end.specs.Pooled.{PooledEnd}
 use Rattle.switch_lines.specs.Lines.{SwitchLine}

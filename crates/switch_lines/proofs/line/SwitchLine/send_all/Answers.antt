@@ -1,7 +1,7 @@
 use Rattle.std.proofs.Common.{◌∙◌, ap, sym, refl, arith, List, map}
 use Rattle.std.proofs.lemmas.List.{drop_all, length-map}
 use Rattle.flow_window.proofs.Weights.{balances_same, balances_then}
-use Rattle.packet_layer.specs.Channel.{Request}
+use Rattle.packet_channel.specs.Channel.{Request}
 use Rattle.packet_end.proofs.Pools.{serves_after}
 use Rattle.switch_lines.specs.OfLine.{asked_on}
 use Rattle.switch_lines.specs.Pooled.{Claim}

@@ -1,7 +1,7 @@
 -- What is left to ask makes the same line as all of it did at the beginning.
 use Rattle.std.proofs.Common.{◌≡◌, ◌<◌, map, drop, length}
 use Rattle.flow_window.specs.Pool.{Balances}
-use Rattle.packet_layer.specs.Channel.{Request}
+use Rattle.packet_channel.specs.Channel.{Request}
 use Rattle.packet_end.specs.Pooled.{Serves}
 use Rattle.switch_lines.specs.OfLine.{asked_on}
 use Rattle.switch_lines.proofs.line.SwitchLine.send_all.Given as goal

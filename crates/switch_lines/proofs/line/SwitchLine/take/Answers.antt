@@ -1,7 +1,7 @@
 use Rattle.std.proofs.Common.{[]}
 use Rattle.switch_lines.proofs.Sharing.{out_holds, handed_back}
 use Rattle.flow_window.proofs.Weights.{balances_same}
-use Rattle.packet_layer.specs.TakenView.{buffers_in}
+use Rattle.packet_channel.specs.TakenView.{buffers_in}
 use Rattle.switch_lines.proofs.line.SwitchLine.take.Goals as goal
 
 pub take_out-requires : goal.take_out-requires

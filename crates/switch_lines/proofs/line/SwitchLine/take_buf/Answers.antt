@@ -1,5 +1,5 @@
 use Rattle.switch_lines.proofs.Sharing.{end_loses}
-use Rattle.packet_layer.specs.TakenView.{maybe_buffers_in}
+use Rattle.packet_channel.specs.TakenView.{maybe_buffers_in}
 use Rattle.switch_lines.proofs.line.SwitchLine.take_buf.Goals as goal
 
 pub returns-clause-held : goal.returns-clause-held

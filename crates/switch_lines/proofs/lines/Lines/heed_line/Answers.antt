@@ -1,8 +1,8 @@
 use Rattle.std.proofs.Common.{◌≡◌, ap, ap₂, ◌∙◌, sym, arith, length, length-drop, List, Option}
 use Rattle.std.specs.Prelude.{slice_get}
 use Rattle.std.specs.Option.{option_or}
-use Rattle.packet_layer.specs.Packets.{Note}
-use Rattle.packet_layer.specs.NoteView.{note_of}
+use Rattle.packet_channel.specs.Packets.{Note}
+use Rattle.packet_channel.specs.NoteView.{note_of}
 use Rattle.packet_end.specs.PacketEnd.{without_first_note}
 use Rattle.switch_lines.specs.Lines.{SwitchLine, changed}
 use Rattle.switch_lines.specs.NewJoins.{NewJoin, joins_of_note, joins_heeded}

@@ -1,5 +1,5 @@
 use Rattle.std.proofs.Common.{ap, ◌∙◌, refl, Option}
-use Rattle.packet_layer.specs.Channel.Request.{Taking}
+use Rattle.packet_channel.specs.Channel.Request.{Taking}
 use Rattle.packet_end.specs.PacketEnd as end
 use Rattle.switch_joins.proofs.ChannelSets.{not_of_join}
 use Rattle.switch_lines.specs.Lines.{SwitchLine, front_of_line}

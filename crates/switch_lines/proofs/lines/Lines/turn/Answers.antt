@@ -1,6 +1,6 @@
 use Rattle.std.proofs.Common.{◌<◌, List, length, map, set, ap, ap₂, refl, arith, ◌∙◌, Option, Bool}
 use Rattle.std.specs.Prelude.{slice_get}
-use Rattle.packet_layer.specs.Channel.Request.{Sending}
+use Rattle.packet_channel.specs.Channel.Request.{Sending}
 use Rattle.switch_joins.specs.Direction.{carried}
 use Rattle.switch_joins.specs.Joins.{gathered_by, nth_joined}
 use Rattle.switch_joins.specs.Turning.{Sizes, Gathered, Turn, turned}

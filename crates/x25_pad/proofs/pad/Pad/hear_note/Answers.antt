@@ -1,6 +1,6 @@
 -- One note is told.
 use Rattle.std.proofs.Common.{sym}
-use Rattle.packet_layer.specs.NoteView.{note_of}
+use Rattle.packet_channel.specs.NoteView.{note_of}
 use Rattle.x25_pad.specs.PadView.{pad_of}
 use Rattle.x25_pad.proofs.Hearing.{told_first}
 use Rattle.x25_pad.proofs.pad.Pad.hear_note.Goals as goal

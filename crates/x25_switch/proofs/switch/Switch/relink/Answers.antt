@@ -9,7 +9,7 @@ use Rattle.switch_lines.specs.Switch.{Switch, with_end, relink}
 use Rattle.switch_lines.proofs.Heeding.{begun_read, acted_read}
 use Rattle.switch_laws.specs.Events.Event.{SetsUp}
 use Rattle.x25_switch.specs.SwitchView.{switch_of}
-use Rattle.x25_switch.proofs.Holding.{of_lines, holds_after, relink_is, relink_kept, role_within}
+use Rattle.x25_switch.proofs.Holding.{of_lines, holds_after, relink_is, relink_kept, RelinkKept, role_within}
 use Rattle.x25_switch.proofs.switch.Switch.relink.Goals as goal
 
 pub relink-requires-clause-there : goal.relink-requires-clause-there
@@ -45,38 +45,27 @@ returns-clause-switch c =
     c.begin.ensures c.relink.ensures c.finish.ensures
     ∙ ap (λ (s : Switch). relink c.args.line s) c.self.view_is
 
-pub returns-clause-others : goal.returns-clause-others
-returns-clause-others c =
-    (relink_kept c.args.line (switch_of c.self.inside) (of_lines c.self.inside.routes c.finish.new.self) _ c.self.invariant.legs c.self.invariant.holds
+-- what is promised of the event, once
+kept : (c : goal.After-finish) → RelinkKept c.args.line c.args.self.now (of_lines c.self.inside.routes c.finish.new.self)
+kept c =
+    relink_kept c.args.line (switch_of c.self.inside) (of_lines c.self.inside.routes c.finish.new.self) _ c.self.invariant.legs c.self.invariant.holds
     (relink_is c.args.line c.self.inside.routes c.self.inside.lines c.begin.new.self c.relink.new.self c.finish.new.self c.self.invariant.legs c.self.invariant.holds
-    c.begin.ensures c.relink.ensures c.finish.ensures) c.self.view_is).others
+    c.begin.ensures c.relink.ensures c.finish.ensures) c.self.view_is
+
+pub returns-clause-others : goal.returns-clause-others
+returns-clause-others c = (kept c).others
 
 pub returns-clause-relayed : goal.returns-clause-relayed
-returns-clause-relayed c =
-    (relink_kept c.args.line (switch_of c.self.inside) (of_lines c.self.inside.routes c.finish.new.self) _ c.self.invariant.legs c.self.invariant.holds
-    (relink_is c.args.line c.self.inside.routes c.self.inside.lines c.begin.new.self c.relink.new.self c.finish.new.self c.self.invariant.legs c.self.invariant.holds
-    c.begin.ensures c.relink.ensures c.finish.ensures) c.self.view_is).relayed
+returns-clause-relayed c = (kept c).relayed
 
 pub returns-clause-nothing_kept_back : goal.returns-clause-nothing_kept_back
-returns-clause-nothing_kept_back c =
-    (relink_kept c.args.line (switch_of c.self.inside) (of_lines c.self.inside.routes c.finish.new.self) _ c.self.invariant.legs c.self.invariant.holds
-    (relink_is c.args.line c.self.inside.routes c.self.inside.lines c.begin.new.self c.relink.new.self c.finish.new.self c.self.invariant.legs c.self.invariant.holds
-    c.begin.ensures c.relink.ensures c.finish.ensures) c.self.view_is).nothing_kept_back
+returns-clause-nothing_kept_back c = (kept c).nothing_kept_back
 
 pub returns-clause-routes : goal.returns-clause-routes
-returns-clause-routes c =
-    (relink_kept c.args.line (switch_of c.self.inside) (of_lines c.self.inside.routes c.finish.new.self) _ c.self.invariant.legs c.self.invariant.holds
-    (relink_is c.args.line c.self.inside.routes c.self.inside.lines c.begin.new.self c.relink.new.self c.finish.new.self c.self.invariant.legs c.self.invariant.holds
-    c.begin.ensures c.relink.ensures c.finish.ensures) c.self.view_is).routes
+returns-clause-routes c = (kept c).routes
 
 pub returns-clause-legs : goal.returns-clause-legs
-returns-clause-legs c =
-    (relink_kept c.args.line (switch_of c.self.inside) (of_lines c.self.inside.routes c.finish.new.self) _ c.self.invariant.legs c.self.invariant.holds
-    (relink_is c.args.line c.self.inside.routes c.self.inside.lines c.begin.new.self c.relink.new.self c.finish.new.self c.self.invariant.legs c.self.invariant.holds
-    c.begin.ensures c.relink.ensures c.finish.ensures) c.self.view_is).legs
+returns-clause-legs c = (kept c).legs
 
 pub returns-clause-frames : goal.returns-clause-frames
-returns-clause-frames c =
-    (relink_kept c.args.line (switch_of c.self.inside) (of_lines c.self.inside.routes c.finish.new.self) _ c.self.invariant.legs c.self.invariant.holds
-    (relink_is c.args.line c.self.inside.routes c.self.inside.lines c.begin.new.self c.relink.new.self c.finish.new.self c.self.invariant.legs c.self.invariant.holds
-    c.begin.ensures c.relink.ensures c.finish.ensures) c.self.view_is).frames
+returns-clause-frames c = (kept c).frames
