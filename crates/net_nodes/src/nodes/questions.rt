@@ -1,5 +1,5 @@
 //! What is asked of the nodes, and time.
-ghost use Rattle.std.specs.Prelude.{◌≡◌, ◌≤◌, map};
+ghost use Rattle.std.specs.Prelude.{◌≡◌, ◌≤◌, ◌<◌, length, map};
 ghost use Rattle.std.specs.Bool.{OnTrue};
 ghost use Rattle.std.specs.List.{list_all};
 ghost use Rattle.memory_line.specs.declared.line.Direction.TheVariants.{FromDte, FromDce};
@@ -52,7 +52,15 @@ impl<L: Line> Nodes<L> {
     pub fn finds_none(&self, line: usize, direction: Direction) -> bool
         ensures { OnTrue result (FindsNoFrame L.service line direction self.now) }
     {
-        line < self.lines.len() && self.lines[line].line.is_certainly_empty(direction)
+        line < self.lines.len() && self.is_certainly_empty(line, direction)
+    }
+
+    /// The same of a line that is there.
+    fn is_certainly_empty(&self, line: usize, direction: Direction) -> bool
+        requires { line < length self.now.lines }
+        ensures { OnTrue result (FindsNoFrame L.service line direction self.now) }
+    {
+        self.lines[line].line.is_certainly_empty(direction)
     }
 
     /// The first line from this number on of which it is not certain that deliveries in both directions find no frame. If
@@ -69,12 +77,14 @@ impl<L: Line> Nodes<L> {
         from.max(self.lines.len())
     }
 
-    /// Whether it is certain that deliveries in both directions on a line find no frame.
+    /// Whether it is certain that deliveries in both directions on a line that is there find no frame.
     fn find_none(&self, line: usize) -> bool
+        requires { line < length self.now.lines }
         ensures from_dte { OnTrue result (FindsNoFrame L.service line FromDte self.now) }
         ensures from_dce { OnTrue result (FindsNoFrame L.service line FromDce self.now) }
     {
-        self.finds_none(line, Direction::FromDte) && self.finds_none(line, Direction::FromDce)
+        self.is_certainly_empty(line, Direction::FromDte)
+            && self.is_certainly_empty(line, Direction::FromDce)
     }
 
     fn are_nodes_at_rest(&self) -> bool

@@ -1,17 +1,18 @@
-use Rattle.std.proofs.Common.{◌<◌, length, slice_get, sym, ap, ◌∙◌, arith, refl}
+use Rattle.std.proofs.Common.{◌<◌, length, slice_get, sym, ap, subst, ◌∙◌, refl}
 use Rattle.std.proofs.lemmas.Bool.{OnTrue_from}
 use Rattle.memory_line.specs.Lines.{flying}
 use Rattle.net_events.specs.Network.{Network, NetLine}
 use Rattle.placed_nodes.proofs.Lists.{there}
 use Rattle.net_nodes.proofs.Empties.{none_arrived}
 use Rattle.net_nodes.proofs.Happening.{nothing_arrives}
-use Rattle.net_nodes.proofs.nodes.Nodes.finds_none.Goals as goal
+use Rattle.net_nodes.proofs.nodes.Nodes.is_certainly_empty.Goals as goal
 
-pub returns-then-line-len : goal.returns-then-line-len
-returns-then-line-len g c =
+pub returns : goal.returns
+returns g c =
     OnTrue_from c.is_certainly_empty.result _ (λ none.
     let lines = c.self.inside.lines.items in
-    let h : c.args.line < length lines = omega arith in
+    let h : c.args.line < length lines =
+    subst (λ (s : Network). c.args.line < length s.lines) (sym c.self.view_is) c.requires in
     let here = ap (λ (s : Network). slice_get s.lines c.args.line) (sym c.self.view_is) ∙ there lines c.args.line _ c.index.result.now h c.index.ensures in
     let answer = none_arrived c.self.inside.nodes in record {
       answer = answer;
