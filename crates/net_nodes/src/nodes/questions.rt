@@ -55,7 +55,7 @@ impl<L: Line> Nodes<L> {
         line < self.lines.len() && self.is_certainly_empty(line, direction)
     }
 
-    /// The same of a line that is there.
+    /// Whether it is certain that a delivery in this direction finds no frame, on a line that is there.
     fn is_certainly_empty(&self, line: usize, direction: Direction) -> bool
         requires { line < length self.now.lines }
         ensures { OnTrue result (FindsNoFrame L.service line direction self.now) }
