@@ -6,9 +6,9 @@ ghost use Rattle.answer_texts.specs.Answers.{Names, quoted, shown, is_plain, hex
 ghost use Rattle.answer_texts.specs.Answers.{name_of, outcome_text, refusal_text, node_refusal_text, way_of, spaced};
 ghost use Rattle.answer_texts.specs.Answers.{frame_text, note_text, happening, answer_text, check_line};
 
+use frame_lines::Direction;
 use itoa::Buffer;
 use line_nodes::{HostNote, NodeFault, NoteKind};
-use memory_line::Direction;
 use net_events::{Answer, Event, Outcome, Put, StepFault};
 use packet_layer::{CallFault, ChannelFault, Front};
 use std::alloc::AllocError;

@@ -8,3 +8,7 @@ pub mod Opening
 pub mod Written
 pub mod Cutting
 pub mod Blank
+pub mod OnePass
+pub mod ListPrefixes
+pub mod EpochLists
+pub mod PairsThere

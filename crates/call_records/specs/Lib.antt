@@ -12,3 +12,4 @@ pub mod Register
 pub mod RecordView
 pub mod BookView
 pub mod RegisterView
+pub mod Matching

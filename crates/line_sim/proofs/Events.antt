@@ -3,8 +3,8 @@ use Rattle.std.proofs.Common.{ℕ, Result, Ok, Err, sym, subst, inl, inr}
 use Rattle.link_timers.specs.declared.role.Role.{Role}
 use Rattle.link_timers.specs.declared.role.Role.TheVariants.{Dte}
 use Rattle.link_timers.specs.declared.timers.TimerId.{TimerId}
-use Rattle.memory_line.specs.declared.line.Direction.{Direction}
-use Rattle.memory_line.specs.Lines.{LineService}
+use Rattle.frame_lines.specs.declared.line.Direction.{Direction}
+use Rattle.frame_lines.specs.Lines.{LineService}
 use Rattle.net_events.specs.AtSwitch.{SwitchEvent, SwitchHappened}
 use Rattle.net_events.specs.AtSwitch as switch_event
 use Rattle.net_events.specs.NodeEvents.{NodeEvent, Hears, Expires, Relinks, Restarts, Calls, Takes}

@@ -10,7 +10,7 @@ use Rattle.call_records.specs.Register.{LineEnds, Register, found_ends, book_at,
 use Rattle.line_nodes.specs.Node.{NodeState, Pad, Host, frames_of, drained}
 use Rattle.line_nodes.specs.NodeEvents.{node_runs, expired}
 use Rattle.line_nodes.specs.Turn.{Turn, unchanged, told}
-use Rattle.memory_line.specs.Lines.{Flights, LineService, ArePut}
+use Rattle.frame_lines.specs.Lines.{Flights, LineService, ArePut}
 use Rattle.net_events.specs.NodeEvents.{Expires, turn_of}
 use Rattle.net_events.specs.OneLine.{direction_of}
 use Rattle.net_events.specs.Network.{PlacedNode, PlacedSwitch, NetNode, User, Switching, NetLine, Network, place_at}

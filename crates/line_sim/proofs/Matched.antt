@@ -2,8 +2,8 @@
 use Rattle.std.proofs.Common.{◌≡◌, ◌<◌, ℕ, zero, suc, List, [], ◌∷◌, length, get_or, Some, refl, arith}
 use Rattle.std.specs.Prelude.{slice_get}
 use Rattle.call_records.specs.Records.{PairValue}
-use Rattle.epoch_matching.specs.Pairs.{AllMatch}
-use Rattle.memory_line.specs.Lines.{LineService}
+use Rattle.call_records.specs.Matching.Pairs.{AllMatch}
+use Rattle.frame_lines.specs.Lines.{LineService}
 use Rattle.net_events.specs.Network.{Network}
 use Rattle.network_laws.specs.Switched.IsSwitched.{IsAny}
 use Rattle.network_laws.specs.Switched.Promise.{NetworkPromise}

@@ -12,7 +12,7 @@ use Rattle.call_records.specs.Records.{RecordValue, PairValue}
 use Rattle.call_records.specs.Register.{Register}
 use Rattle.record_laws.specs.CallPaths.World.{Plan}
 use Rattle.record_laws.specs.CallPaths.Promise.{PathHolds}
-use Rattle.memory_line.specs.Lines.{LineService}
+use Rattle.frame_lines.specs.Lines.{LineService}
 use Rattle.net_events.specs.Network.{Network}
 use Rattle.net_nodes.specs.Questions.{net_confirmed}
 use Rattle.line_sim.specs.Receipts.{to_be_confirmed, HasTaken, AreInPair, IsTakenBeyond}

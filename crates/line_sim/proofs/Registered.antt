@@ -5,8 +5,8 @@ use Rattle.std.specs.Prelude.{if◌then◌else◌}
 use Rattle.std.proofs.lemmas.List.{length-set, length-map, length-append}
 use Rattle.link_timers.specs.declared.role.Role.{Role}
 use Rattle.link_timers.specs.declared.role.Role.TheVariants.{Dte}
-use Rattle.memory_line.specs.declared.line.Direction.{Direction}
-use Rattle.memory_line.specs.Lines.{LineService}
+use Rattle.frame_lines.specs.declared.line.Direction.{Direction}
+use Rattle.frame_lines.specs.Lines.{LineService}
 use Rattle.call_records.specs.Writes.Write.{Placed}
 use Rattle.call_records.specs.Register.{Register, LinePlan, free_ends, all_written_at, handed_on, no_parts}
 use Rattle.network_laws.proofs.Switched.Addressed.{lines_handed}

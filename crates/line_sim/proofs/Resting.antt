@@ -6,7 +6,7 @@ use Rattle.std.specs.List.{list_all}
 use Rattle.std.proofs.lemmas.Option.{same_Some, none-some}
 use Rattle.packet_layer.specs.Layer.{confirmed}
 use Rattle.line_nodes.specs.Node.{NodeState, Pad, Host, end_of, node_confirmed}
-use Rattle.memory_line.specs.Lines.{LineService}
+use Rattle.frame_lines.specs.Lines.{LineService}
 use Rattle.net_events.specs.Network.{NetNode, User, Switching, Network}
 use Rattle.net_nodes.specs.Places.{user_in}
 use Rattle.net_nodes.specs.Faults.{is_channel_at}

@@ -3,7 +3,7 @@ use Rattle.std.proofs.Common.{◌≡◌, Bool, ℕ, zero, suc, ◌+◌, ◌<◌,
 use Rattle.std.specs.Prelude.{nat_lt, true, false, is_some, slice_get, if◌then◌else◌}
 use Rattle.std.proofs.lemmas.Option.{slice_get-get_or}
 use Rattle.line_nodes.specs.declared.fault.NodeFault.{NodeFault}
-use Rattle.memory_line.specs.Lines.{LineService, memory_service}
+use Rattle.frame_lines.specs.Lines.{LineService, memory_service}
 use Rattle.net_events.specs.NodeEvents.{Calls}
 use Rattle.net_events.specs.Network.{PlacedNode, Network}
 use Rattle.net_config.specs.declared.config.Config.{Config}

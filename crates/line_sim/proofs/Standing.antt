@@ -5,7 +5,7 @@ use Rattle.std.proofs.lemmas.Option.{same_Some}
 use Rattle.link_timers.specs.declared.role.Role.{Role}
 use Rattle.link_timers.specs.declared.role.Role.TheVariants.{Dte, Dce}
 use Rattle.call_records.specs.Book.{Book}
-use Rattle.memory_line.specs.Lines.{LineService}
+use Rattle.frame_lines.specs.Lines.{LineService}
 use Rattle.node_laws.specs.Quiet.{IsQuiet}
 use Rattle.line_nodes.specs.Node.{NodeState}
 use Rattle.net_events.specs.Network.{NetNode, User, Switching, NetLine, Network, Stands, StandsAtLines, place_at, own_role}

@@ -1,6 +1,6 @@
 -- What holds of a network between events.
 use Rattle.std.specs.Prelude.{◌≡◌, length}
-use Rattle.memory_line.specs.Lines.{LineService}
+use Rattle.frame_lines.specs.Lines.{LineService}
 use Rattle.net_events.specs.Network.{Network}
 use Rattle.network_laws.specs.Switched.IsSwitched.{IsAny}
 

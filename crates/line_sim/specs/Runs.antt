@@ -1,6 +1,6 @@
 -- How a network is made by a configuration, and what a list of events does.
 use Rattle.std.specs.Prelude.{◌≡◌, ℕ, true, false, List, [], ◌∷◌, take, slice_get, Option, Some, None}
-use Rattle.memory_line.specs.Lines.{LineService, memory_service}
+use Rattle.frame_lines.specs.Lines.{LineService, memory_service}
 use Rattle.net_events.specs.Network.{Network}
 use Rattle.net_config.specs.NetPlan.{IsPlan}
 use Rattle.net_events.specs.Opening.{IsMade}

@@ -1,7 +1,7 @@
 -- What an event is answered, and what it makes of the network.
 use Rattle.std.specs.Prelude.{◌≡◌, OnErr, Result, Ok, Err}
 use Rattle.std.specs.Borrow.{Bor}
-use Rattle.memory_line.specs.Lines.{LineService}
+use Rattle.frame_lines.specs.Lines.{LineService}
 use Rattle.net_events.specs.declared.answer.Answer.{Answer}
 use Rattle.net_events.specs.declared.event.Event.{Event}
 use Rattle.net_events.specs.declared.event.StepFault.{StepFault}

@@ -4,10 +4,9 @@
 mod net;
 mod running;
 
-pub use call_records::{EditStep, Epoch, Hop, Interrupt, Packet, Pair, Passed, Record};
-pub use epoch_matching::matches;
+pub use call_records::{EditStep, Epoch, Hop, Interrupt, Packet, Pair, Passed, Record, matches};
+pub use frame_lines::{Direction, FRAMES_IN_FLIGHT, Line, MemLine, mem_lines};
 pub use line_nodes::{HostNote, NodeFault, NoteKind, TerminalEvent};
-pub use memory_line::{Direction, FRAMES_IN_FLIGHT, Line, MemLine, mem_lines};
 pub use net::Net;
 pub use net_config::{
     Config, LineConfig, MakeFault, NodeConfig, NodeKind, RouteConfig, Setting, TerminalsConfig,

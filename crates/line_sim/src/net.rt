@@ -2,7 +2,7 @@
 ghost use Rattle.std.specs.Prelude.{◌≡◌, ◌≢◌, ◌≤◌, ◌↔◌, true, false, map, Err, IsTrue, IsOkUnless, IfOk, vec_len};
 ghost use Rattle.std.specs.Bool.{OnTrue};
 ghost use Rattle.call_records.specs.RecordView.{shown, pair_of};
-ghost use Rattle.epoch_matching.specs.Pairs.{AllMatch};
+ghost use Rattle.call_records.specs.Matching.Pairs.{AllMatch};
 ghost use Rattle.net_events.specs.Network.{all_elapsed};
 ghost use Rattle.network_laws.specs.Switched.Promise.{NetworkPromise};
 ghost use Rattle.network_laws.specs.Switched.Rest.{MissesNothing, IsDelivered};
@@ -16,10 +16,9 @@ ghost use Rattle.line_sim.specs.Receipts.{IsTakenBeyond};
 ghost use Rattle.net_nodes.specs.Questions.{net_confirmed, net_rests};
 ghost use Rattle.line_sim.specs.Runs.{IsMadeBy};
 
-use call_records::{Pair, Record};
-use epoch_matching::all_match;
+use call_records::{Pair, Record, all_match};
 use frame_codec::FrameBuf;
-use memory_line::{Direction, Line};
+use frame_lines::{Direction, Line};
 use net_config::{Config, MakeFault, plan_of};
 use net_events::{Answer, Event, Outcome, Puts, StepFault};
 use net_nodes::Nodes;

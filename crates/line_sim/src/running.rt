@@ -1,7 +1,7 @@
 //! A network over memory lines, and a list of events.
 ghost use Rattle.std.specs.Prelude.{◌≡◌, true, false, Err, IfOk, IfErr, IsOkUnless};
 ghost use Rattle.std.specs.Bool.{OnTrue, OnFalse};
-ghost use Rattle.memory_line.specs.Lines.{memory_service};
+ghost use Rattle.frame_lines.specs.Lines.{memory_service};
 ghost use Rattle.network_laws.specs.Switched.Promise.{NetworkPromise};
 ghost use Rattle.net_config.specs.declared.fault.MakeFault.TheVariants.{BadConfig, OutOfMemory};
 ghost use Rattle.net_config.specs.Served.{is_served};
@@ -10,7 +10,7 @@ ghost use Rattle.line_sim.specs.declared.running.RunFault.TheVariants.{Made};
 ghost use Rattle.line_sim.specs.Runs.{IsHandled, IsMadeBy, HasRun, IsRunFault};
 
 use crate::net::Net;
-use memory_line::{MemLine, mem_lines};
+use frame_lines::{MemLine, mem_lines};
 use net_config::{Config, MakeFault, is_served};
 use net_events::{Event, StepFault};
 use std::alloc::Global;

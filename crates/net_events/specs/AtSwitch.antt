@@ -6,7 +6,7 @@ use Rattle.link_timers.specs.declared.timers.TimerId.{TimerId}
 use Rattle.call_records.specs.Register.{Register, ChannelEnd, handed_on}
 use Rattle.line_nodes.specs.Node.{sent_out}
 use Rattle.link_timers.specs.Role.{other_of}
-use Rattle.memory_line.specs.Lines.{Flights, no_flights, flying, without_first, LineService, ArePut}
+use Rattle.frame_lines.specs.Lines.{Flights, no_flights, flying, without_first, LineService, ArePut}
 use Rattle.switch_lines.specs.Lines.{SwitchLine, role_on}
 use Rattle.switch_lines.specs.NewJoins.{new_joins}
 use Rattle.switch_joins.specs.declared.channels.NewJoin.{NewJoin}

@@ -5,7 +5,7 @@ use Rattle.link_timers.specs.declared.timers.TimerId.{TimerId}
 use Rattle.packet_codec.specs.Address.{AreDigits}
 use Rattle.packet_channel.specs.Channel.{Request}
 use Rattle.packet_host.specs.Host.{call_parts}
-use Rattle.memory_line.specs.Lines.{Flights, no_flights, flying, without_first, LineService, ArePut}
+use Rattle.frame_lines.specs.Lines.{Flights, no_flights, flying, without_first, LineService, ArePut}
 use Rattle.call_records.specs.Book.{Book}
 use Rattle.line_nodes.specs.Node.{NodeState, end_of, is_pad, frames_of}
 use Rattle.line_nodes.specs.Turn.{Turn}

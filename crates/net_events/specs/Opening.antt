@@ -10,7 +10,7 @@ use Rattle.call_records.specs.Register.{LinePlan, made_register}
 use Rattle.packet_host.specs.Making as host
 use Rattle.x25_pad.specs.Making as pad
 use Rattle.line_nodes.specs.Node.{NodeState, Pad, Host, frames_of, drained}
-use Rattle.memory_line.specs.Lines.{Flights, no_flights, LineService, ArePut}
+use Rattle.frame_lines.specs.Lines.{Flights, no_flights, LineService, ArePut}
 use Rattle.switch_lines.specs.Making.{made}
 use Rattle.switch_lines.specs.declared.config.SwitchLineConfig.{SwitchLineConfig}
 use Rattle.net_config.specs.NetPlan.{NewDte, NewPad, NewHost, NewNode, NewSwitch, NewLine, NetPlan, Planned, PlannedUser, PlannedSwitch}

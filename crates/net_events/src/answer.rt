@@ -1,8 +1,8 @@
 //! What answers an event of a network.
 use crate::puts::Puts;
 use frame_codec::FrameBuf;
+use frame_lines::Direction;
 use line_nodes::HostNote;
-use memory_line::Direction;
 use packet_layer::Front;
 use x25_pad::PadAnswer;
 

@@ -1,8 +1,8 @@
 //! The events of a network, and why they are refused.
 use arrayvec::ArrayVec;
+use frame_lines::Direction;
 use line_nodes::{NodeFault, TerminalEvent};
 use link_timers::TimerId;
-use memory_line::Direction;
 use packet_codec::Address;
 use packet_host::HostRequest;
 use std::alloc::AllocError;

@@ -6,7 +6,7 @@ ghost use Rattle.net_events.specs.contracts.puts.Puts.{the_row};
 
 use crate::answer::Put;
 use frame_codec::FrameBuf;
-use memory_line::Direction;
+use frame_lines::Direction;
 use std::alloc::{AllocError, Global};
 use std::marker::Model;
 

@@ -7,7 +7,7 @@ use borrow.Author.Tests.{le-leb}
 use Rattle.link_timers.specs.declared.timers.TimerId.{TimerId}
 use Rattle.packet_codec.specs.Address.{address_of, digit_values}
 use Rattle.packet_codec.specs.declared.address.AddressFault.TheVariants.{Empty, TooLong, NotADigit}
-use Rattle.memory_line.specs.declared.line.Direction.{Direction}
+use Rattle.frame_lines.specs.declared.line.Direction.{Direction}
 use Rattle.line_nodes.specs.declared.terminal.TerminalEvent.{TerminalEvent}
 use Rattle.line_nodes.specs.declared.terminal.TerminalEvent.TheVariants.{Key}
 use Rattle.net_files.specs.declared.keywords.CommandWord.{CommandWord}

@@ -1,7 +1,7 @@
 -- What commands say, as plain values: the lists in them are lists of octets.
 use Rattle.std.specs.Prelude.{ℕ, Bool, List, [], ◌∷◌, map}
 use Rattle.link_timers.specs.declared.timers.TimerId.{TimerId}
-use Rattle.memory_line.specs.declared.line.Direction.{Direction}
+use Rattle.frame_lines.specs.declared.line.Direction.{Direction}
 use Rattle.packet_host.specs.declared.request.HostRequest.{HostRequest}
 use Rattle.packet_host.specs.declared.request.HostRequest.TheVariants as host
 use Rattle.line_nodes.specs.declared.terminal.TerminalEvent.{TerminalEvent}

@@ -3,8 +3,8 @@ ghost use Rattle.std.specs.Prelude.{◌≡◌, bytes_eq};
 ghost use Rattle.net_files.specs.Reading.{command_word, event_word, request_word};
 ghost use Rattle.net_files.specs.Reading.{switch_of, direction_of, flags_of, lone_timer, numbered_timer};
 
+use frame_lines::Direction;
 use link_timers::TimerId;
-use memory_line::Direction;
 
 /// The first word of a line.
 #[derive(Clone, Copy)]

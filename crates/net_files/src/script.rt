@@ -17,9 +17,9 @@ use crate::keywords::{
 };
 use crate::words::{LineFault, Words, cut, read_text};
 use arrayvec::ArrayVec;
+use frame_lines::Direction;
 use line_nodes::TerminalEvent;
 use link_timers::TimerId;
-use memory_line::Direction;
 use net_config::Config;
 use net_events::Event;
 use packet_host::HostRequest;

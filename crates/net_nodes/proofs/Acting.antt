@@ -16,9 +16,9 @@ use Rattle.call_records.specs.declared.register.Register.{Register}
 use Rattle.node_laws.specs.Quiet.{IsQuiet}
 use Rattle.line_nodes.specs.Node.{NodeState, Pad, Host, drained}
 use Rattle.line_nodes.specs.Notes.{host_notes}
-use Rattle.memory_line.specs.declared.line.Direction.{Direction}
-use Rattle.memory_line.specs.declared.line.Direction.TheVariants.{FromDte, FromDce}
-use Rattle.memory_line.specs.Lines.{Flights, LineService, flying, without_first}
+use Rattle.frame_lines.specs.declared.line.Direction.{Direction}
+use Rattle.frame_lines.specs.declared.line.Direction.TheVariants.{FromDte, FromDce}
+use Rattle.frame_lines.specs.Lines.{Flights, LineService, flying, without_first}
 use Rattle.net_nodes.specs.Steps.{hearer}
 use Rattle.net_events.specs.NodeEvents.{NodeEvent, IsFor, LeftBy, Hears}
 use Rattle.net_events.specs.EventView.{line_event_of, user_event_of, request_event}

@@ -4,12 +4,12 @@ use Rattle.std.specs.Prelude.{slice_get, ◌⊎◌, if◌then◌else◌, is_some
 use Rattle.std.proofs.lemmas.Option.{same_Some}
 use Rattle.link_timers.specs.declared.role.Role.{Role}
 use Rattle.link_timers.specs.declared.role.Role.TheVariants.{Dte}
-use Rattle.memory_line.specs.declared.line.Direction.{Direction}
+use Rattle.frame_lines.specs.declared.line.Direction.{Direction}
 use Rattle.node_laws.specs.Quiet.{IsQuiet}
 use Rattle.line_nodes.specs.Node.{NodeState, Pad, Host, is_pad}
 use Rattle.line_nodes.specs.declared.terminal.TerminalEvent.{TerminalEvent}
-use Rattle.memory_line.specs.declared.line.Direction.TheVariants.{FromDte, FromDce}
-use Rattle.memory_line.specs.Lines.{LineService, Flights, flying, without_first}
+use Rattle.frame_lines.specs.declared.line.Direction.TheVariants.{FromDte, FromDce}
+use Rattle.frame_lines.specs.Lines.{LineService, Flights, flying, without_first}
 use Rattle.net_events.specs.declared.answer.Outcome.TheVariants.{Delivered}
 use Rattle.net_events.specs.NodeEvents.{NodeEvent, Hears, Relinks, Restarts}
 use Rattle.net_events.specs.EventView.{host_event_of, user_event_of}

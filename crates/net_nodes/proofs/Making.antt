@@ -9,8 +9,8 @@ use Rattle.link_timers.specs.declared.role.Role.TheVariants.{Dte, Dce}
 use Rattle.packet_end.specs.declared.params.EndParams.{EndParams}
 use Rattle.record_laws.proofs.Books.Basics.{set_here, set_elsewhere, length_set, length_pushed, get_before, get_last}
 use Rattle.line_nodes.specs.Node.{frames_of}
-use Rattle.memory_line.specs.declared.line.Direction.TheVariants.{FromDte, FromDce}
-use Rattle.memory_line.specs.Lines.{Flights, no_flights, LineService, ArePut}
+use Rattle.frame_lines.specs.declared.line.Direction.TheVariants.{FromDte, FromDce}
+use Rattle.frame_lines.specs.Lines.{Flights, no_flights, LineService, ArePut}
 use Rattle.net_events.specs.Network.{NetNode, User, Switching, NetLine}
 use Rattle.net_config.specs.NetPlan.{NewNode, NewSwitch, Planned, PlannedUser, PlannedSwitch, NewLine, NetPlan, IsEndPlan}
 use Rattle.net_config.specs.NetPlan.{IsKindOfLine, IsLinePlan, HasEndAt, IsPlan}

@@ -1,8 +1,8 @@
 -- Lines on which deliveries find no frame, one after the other.
 use Rattle.std.proofs.Common.{◌≡◌, ℕ, ◌+◌, ◌≤◌, ◌<◌, inl, inr, subst, arith}
 use Rattle.std.proofs.lemmas.Bool.{cases_lt}
-use Rattle.memory_line.specs.declared.line.Direction.TheVariants.{FromDte, FromDce}
-use Rattle.memory_line.specs.Lines.{LineService}
+use Rattle.frame_lines.specs.declared.line.Direction.TheVariants.{FromDte, FromDce}
+use Rattle.frame_lines.specs.Lines.{LineService}
 use Rattle.net_events.specs.Network.{Network}
 use Rattle.net_nodes.specs.Happening.{FindsNoFrame, FindNoFrames}
 

@@ -8,7 +8,7 @@ use Rattle.call_records.specs.RegisterView.{register_with, register_of, lines_of
 use Rattle.call_records.specs.declared.register.Register.{Register}
 use Rattle.line_nodes.specs.Node.{NodeState}
 use Rattle.line_nodes.specs.declared.attachment.Attachment.{Attachment}
-use Rattle.memory_line.specs.Lines.{Flights, LineService}
+use Rattle.frame_lines.specs.Lines.{Flights, LineService}
 use Rattle.net_events.specs.NodeEvents.{NodeEvent, turn_of}
 use Rattle.net_events.specs.EventView.{line_event_of}
 use Rattle.net_events.specs.Network.{PlacedNode, NetNode, User, NetLine, place_at}

@@ -1,8 +1,8 @@
 -- What an event does, refused or not.
 use Rattle.std.specs.Prelude.{◌≡◌, ◌⊎◌, ◌≤◌, ◌<◌, ℕ, false, [], Option, Some, None, Result, Ok, Err, IsOkUnless}
-use Rattle.memory_line.specs.declared.line.Direction.{Direction}
-use Rattle.memory_line.specs.declared.line.Direction.TheVariants.{FromDte, FromDce}
-use Rattle.memory_line.specs.Lines.{LineService}
+use Rattle.frame_lines.specs.declared.line.Direction.{Direction}
+use Rattle.frame_lines.specs.declared.line.Direction.TheVariants.{FromDte, FromDce}
+use Rattle.frame_lines.specs.Lines.{LineService}
 use Rattle.net_events.specs.declared.event.Event.{Event}
 use Rattle.net_events.specs.declared.event.Event.TheVariants.{Deliver}
 use Rattle.net_events.specs.declared.event.StepFault.{StepFault}

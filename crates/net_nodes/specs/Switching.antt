@@ -1,6 +1,6 @@
 -- What an event at a switch does in the network.
 use Rattle.std.specs.Prelude.{◌≡◌, ℕ, List, [], set, slice_get, Some}
-use Rattle.memory_line.specs.Lines.{LineService}
+use Rattle.frame_lines.specs.Lines.{LineService}
 use Rattle.net_events.specs.AtSwitch.{SwitchEvent, HasOwnLine, switched, joins_of, switch_drained, all_handed}
 use Rattle.net_events.specs.Network.{PlacedSwitch, Switching, Network, own_role}
 use Rattle.net_events.specs.declared.answer.Answer.{Answer}

@@ -11,7 +11,7 @@ use Rattle.line_nodes.specs.Node.{NodeState, drained, frames_of}
 use Rattle.line_nodes.specs.Turn.{Turn}
 use Rattle.line_nodes.specs.Notes.{host_notes}
 use Rattle.line_nodes.specs.declared.attachment.Attachment.{Attachment}
-use Rattle.memory_line.specs.Lines.{Flights, LineService}
+use Rattle.frame_lines.specs.Lines.{Flights, LineService}
 use Rattle.net_events.specs.OneLine.{direction_of}
 use Rattle.net_events.specs.NodeEvents.{NodeEvent, turn_of}
 use Rattle.net_events.specs.EventView.{user_event_of}

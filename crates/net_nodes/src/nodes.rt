@@ -15,8 +15,8 @@ mod turn;
 
 use call_records::Register;
 use frame_codec::FrameBuf;
+use frame_lines::Line;
 use link_timers::Role;
-use memory_line::Line;
 use net_events::{Answer, Event, StepFault};
 use placed_nodes::NetNode;
 use std::marker::Model;

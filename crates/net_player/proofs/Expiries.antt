@@ -1,7 +1,7 @@
 -- Expiries after ticks.
 use Rattle.std.proofs.Common.{Bool, ◌≡◌, ℕ, List, [], ◌++◌, Some, None, subst, append_assoc}
 use Rattle.std.proofs.lemmas.List.{append-nil}
-use Rattle.memory_line.specs.Lines.{LineService}
+use Rattle.frame_lines.specs.Lines.{LineService}
 use Rattle.net_events.specs.declared.event.Event.{Event}
 use Rattle.net_events.specs.Network.{Network, all_elapsed}
 use Rattle.net_nodes.specs.Due.{net_due}

@@ -1,8 +1,8 @@
 -- What a script makes of a network, and what is printed.
 use Rattle.std.specs.Prelude.{◌≡◌, ◌≢◌, ◌↔◌, ℕ, zero, suc, ◌+◌, ◌<◌, Bool, true, false, List, [], ◌∷◌, ◌++◌, map}
 use Rattle.std.specs.Prelude.{Some, None, Result, Ok, Err, IsTrue, codes}
-use Rattle.memory_line.specs.declared.line.Direction.TheVariants.{FromDte, FromDce}
-use Rattle.memory_line.specs.Lines.{LineService}
+use Rattle.frame_lines.specs.declared.line.Direction.TheVariants.{FromDte, FromDce}
+use Rattle.frame_lines.specs.Lines.{LineService}
 use Rattle.line_nodes.specs.declared.terminal.TerminalEvent.TheVariants.{Key}
 use Rattle.net_events.specs.declared.event.Event.{Event}
 use Rattle.net_events.specs.declared.event.Event.TheVariants.{AtTerminal, Deliver}
@@ -14,7 +14,7 @@ use Rattle.net_events.specs.declared.event.StepFault.TheVariants.{OutOfMemory}
 use Rattle.net_events.specs.Network.{Network, all_elapsed}
 use Rattle.net_nodes.specs.Questions.{net_rests}
 use Rattle.net_nodes.specs.Due.{net_due}
-use Rattle.epoch_matching.specs.Pairs.{AllMatch}
+use Rattle.call_records.specs.Matching.Pairs.{AllMatch}
 use Rattle.net_nodes.specs.Happening.{Happens}
 use Rattle.net_files.specs.Commands.{CommandView}
 use Rattle.net_files.specs.Commands.{CommandView as command}

@@ -1,8 +1,8 @@
 -- What the program does on its words and its input.
 use Rattle.std.specs.Prelude.{◌≡◌, ◌≤◌, ◌<◌, ◌⊎◌, ℕ, false, List, length, [], ◌∷◌, ◌++◌, Option, Some, None}
 use Rattle.std.specs.Prelude.{IfSome, IsUtf8, codes, decimal}
-use Rattle.memory_line.specs.Lines.{LineService, memory_service}
-use Rattle.udp_line.specs.Sockets.{socket_service}
+use Rattle.frame_lines.specs.Lines.{LineService, memory_service}
+use Rattle.frame_lines.specs.Sockets.{socket_service}
 use Rattle.command_words.specs.declared.invocation.Mode.{Mode}
 use Rattle.command_words.specs.declared.invocation.Mode.TheVariants.{Sim, Run}
 use Rattle.command_words.specs.declared.invocation.Invocation.{Invocation}

@@ -12,6 +12,7 @@ ghost use Rattle.net_player.specs.Programs.{IsFrontOf, making_fault};
 use crate::output::write;
 use crate::player::play;
 use command_words::{Invocation, Mode, WordsFault, read_all, read_words};
+use frame_lines::{SocketFault, UdpLine};
 use itoa::Buffer;
 use line_sim::{Config, MakeFault, Net};
 use net_files::{FIRST, ProgFault, Script, read_net, read_script};
@@ -20,7 +21,6 @@ use std::fs::{File, Files};
 use std::io::{ErrorKind, Read, Write};
 use std::net::UdpSocket;
 use std::{io, net, str};
-use udp_line::{SocketFault, UdpLine};
 
 /// How many octets a network file or a script has at most.
 const TEXT_OCTETS: u64 = 1_048_576;

@@ -5,9 +5,9 @@ use Rattle.std.proofs.lemmas.List.{append-nil}
 use Rattle.lapb.specs.Machine.{Octets}
 use Rattle.packet_end.specs.PacketEnd.{without_first_frame}
 use Rattle.line_nodes.specs.Node.{NodeState, Pad, Host, end_of, with_end, frames_of, drained}
-use Rattle.memory_line.specs.declared.line.Direction.{Direction}
+use Rattle.frame_lines.specs.declared.line.Direction.{Direction}
 use Rattle.net_events.specs.declared.answer.Put.{Put}
-use Rattle.memory_line.specs.Lines.{Flights, IsPut, LineService, ArePut}
+use Rattle.frame_lines.specs.Lines.{Flights, IsPut, LineService, ArePut}
 use Rattle.net_turns.specs.Sends.{IsPutOf, ArePutsOf, Sends}
 
 -- frames that are being put: these are, those are left

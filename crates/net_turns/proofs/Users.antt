@@ -10,7 +10,7 @@ use Rattle.call_records.specs.declared.register.Register.{Register}
 use Rattle.line_nodes.specs.Node.{NodeState, Host}
 use Rattle.line_nodes.specs.Turn.{Turn, told}
 use Rattle.line_nodes.specs.declared.attachment.Attachment.{Attachment}
-use Rattle.memory_line.specs.Lines.{Flights, LineService}
+use Rattle.frame_lines.specs.Lines.{Flights, LineService}
 use Rattle.net_events.specs.NodeEvents.{NodeEvent}
 use Rattle.net_events.specs.EventView.{host_event_of}
 use Rattle.net_events.specs.declared.answer.Answer.{Answer}

@@ -1,7 +1,7 @@
 -- What a node sends at the end of an event: all frames that it has to send, in order, each put on its line.
 use Rattle.std.specs.Prelude.{◌≡◌, ℕ, List, [], ◌∷◌}
-use Rattle.memory_line.specs.declared.line.Direction.{Direction}
-use Rattle.memory_line.specs.Lines.{Flights, LineService, ArePut}
+use Rattle.frame_lines.specs.declared.line.Direction.{Direction}
+use Rattle.frame_lines.specs.Lines.{Flights, LineService, ArePut}
 use Rattle.net_events.specs.declared.answer.Put.{Put}
 
 -- a frame that was put: on the line of this number, in this direction, with these octets

@@ -11,7 +11,7 @@ use Rattle.line_nodes.specs.HostTurns.{let_go}
 use Rattle.line_nodes.specs.Notes.{host_notes}
 use Rattle.line_nodes.specs.Writing.{IsRoomFor}
 use Rattle.line_nodes.specs.declared.note.HostNote.{HostNote}
-use Rattle.memory_line.specs.Lines.{Flights, LineService}
+use Rattle.frame_lines.specs.Lines.{Flights, LineService}
 use Rattle.net_events.specs.OneLine.{direction_of}
 use Rattle.net_events.specs.NodeEvents.{NodeEvent, turn_of}
 use Rattle.net_events.specs.declared.answer.Answer.{Answer}

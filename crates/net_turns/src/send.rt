@@ -4,9 +4,9 @@ ghost use Rattle.line_nodes.specs.Node.{drained, frames_of};
 ghost use Rattle.line_nodes.specs.NodeView.{node_of};
 ghost use Rattle.net_turns.specs.Sends.{Sends};
 
+use frame_lines::{Direction, Line};
 use line_end::MOST_FRAMES;
 use line_nodes::Node;
-use memory_line::{Direction, Line};
 use net_events::Puts;
 
 /// Puts all frames that wait at a node on its line, which is that of this number, and lists them.

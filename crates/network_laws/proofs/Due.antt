@@ -9,7 +9,7 @@ use Rattle.call_records.specs.Register.{book_at}
 use Rattle.line_nodes.specs.Node.{drained, node_due}
 use Rattle.node_laws.specs.Quiet.{IsQuiet}
 use Rattle.node_laws.proofs.Expiring as expiry_law
-use Rattle.memory_line.specs.Lines.{LineService}
+use Rattle.frame_lines.specs.Lines.{LineService}
 use Rattle.net_events.specs.NodeEvents.NodeEvent.{Expires}
 use Rattle.net_events.specs.Network.{PlacedNode, NetNode, User, NetLine, Network, place_at, net_turn, HappenedAt}
 use Rattle.network_laws.specs.IsNetwork.{LineHolds, IsNetwork}

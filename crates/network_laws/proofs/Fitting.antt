@@ -11,7 +11,7 @@ use Rattle.node_laws.specs.Nodes.{StandsAt}
 use Rattle.node_laws.specs.Quiet.{IsQuiet}
 use Rattle.line_nodes.specs.Node.{NodeState, Pad, Host, end_of, is_pad, drained, frames_of}
 use Rattle.line_nodes.specs.Turn.{Turn}
-use Rattle.memory_line.specs.Lines.{Flights, flying, LineService, ArePut}
+use Rattle.frame_lines.specs.Lines.{Flights, flying, LineService, ArePut}
 use Rattle.net_events.specs.OneLine.{LineState, node_at, with_turn, direction_of, direction_to}
 use Rattle.network_laws.specs.IsLine.{NodeHolds, line_of, IsKept, AreQuiet, IsLine}
 use Rattle.network_laws.proofs.Flying.{Landed, landed}

@@ -14,8 +14,8 @@ use Rattle.line_nodes.specs.Node.{NodeState, Pad, Host, end_of, drained, frames_
 use Rattle.line_nodes.specs.Turn.{Turn}
 use Rattle.line_nodes.specs.LineTurns.{restarts}
 use Rattle.line_nodes.specs.NodeEvents.{restarted}
-use Rattle.memory_line.specs.declared.line.Direction.TheVariants.{FromDte, FromDce}
-use Rattle.memory_line.specs.Lines.{Flights, no_flights, flying, LineService, ArePut}
+use Rattle.frame_lines.specs.declared.line.Direction.TheVariants.{FromDte, FromDce}
+use Rattle.frame_lines.specs.Lines.{Flights, no_flights, flying, LineService, ArePut}
 use Rattle.net_events.specs.OneLine.{LineState, node_at, with_turn, direction_of, direction_to}
 use Rattle.net_events.specs.NodeEvents.{NodeEvent, IsFor, turn_of, LeftBy}
 use Rattle.net_events.specs.NodeEvents.NodeEvent.{Hears, Expires, Relinks, Restarts, Calls, Asks, Refuses, Says}
@@ -38,7 +38,7 @@ abbrev rest_to : Role → LineState → List Octets
 rest_to role s = drop 1 (coming_to role (line_of s))
 
 comes-less : (role : Role) (s : LineState) (mid : Flights)
-    → mid ≡ Rattle.memory_line.specs.Lines.without_first (direction_to role) s.flights → Comes role s mid (rest_to role s)
+    → mid ≡ Rattle.frame_lines.specs.Lines.without_first (direction_to role) s.flights → Comes role s mid (rest_to role s)
 comes-less Dte s mid is = record { own = ap (λ (x : Flights). x.from_dte) is; other = ap (λ (x : Flights). x.from_dce) is }
 comes-less Dce s mid is = record { own = ap (λ (x : Flights). x.from_dce) is; other = ap (λ (x : Flights). x.from_dte) is }
 

@@ -28,7 +28,7 @@ use Rattle.net_events.specs.OneLine.{LineState, node_at}
 use Rattle.net_events.specs.NodeEvents.{NodeEvent, IsFor, turn_of}
 use Rattle.net_events.specs.NodeEvents.NodeEvent.{Hears, Expires, Relinks, Restarts, Calls, Asks, Refuses, Says}
 use Rattle.net_events.specs.NodeEvents.NodeEvent.{Takes, AtTerminal}
-use Rattle.memory_line.specs.Lines.{LineService}
+use Rattle.frame_lines.specs.Lines.{LineService}
 use Rattle.network_laws.specs.IsLine.{NodeHolds, line_of, AreQuiet, IsLine}
 use Rattle.network_laws.proofs.Channels.{ends_after}
 use Rattle.network_laws.proofs.Fitting.{Leaves, stands}

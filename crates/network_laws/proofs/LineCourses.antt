@@ -24,7 +24,7 @@ use Rattle.line_nodes.specs.Turn.{Turn, told}
 use Rattle.line_nodes.specs.LineTurns.{expires}
 use Rattle.line_nodes.specs.declared.terminal.TerminalEvent.TheVariants.{Key, Break, Idle, Print}
 use Rattle.line_nodes.proofs.Noted.{expires_told}
-use Rattle.memory_line.specs.Lines.{LineService}
+use Rattle.frame_lines.specs.Lines.{LineService}
 use Rattle.net_events.specs.OneLine.{LineState}
 use Rattle.net_events.specs.NodeEvents.{NodeEvent, Hears, Expires, Relinks, Restarts, Calls, Asks, Refuses, Says, Takes, AtTerminal, IsFor, Happened, turn_of}
 use Rattle.network_laws.specs.IsLine.{IsLine}

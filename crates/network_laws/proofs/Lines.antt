@@ -7,9 +7,9 @@ use Rattle.call_records.specs.Book.{Book}
 use Rattle.node_laws.specs.LineRecords.Kept.{Kept}
 use Rattle.node_laws.specs.Clauses.{elapsed_line}
 use Rattle.line_nodes.specs.Node.{NodeState, Pad, Host, end_of, is_pad, node_elapsed}
-use Rattle.memory_line.specs.declared.line.Direction.{Direction}
-use Rattle.memory_line.specs.declared.line.Direction.TheVariants.{FromDte, FromDce}
-use Rattle.memory_line.specs.Lines.{Flights, without_first, LineService}
+use Rattle.frame_lines.specs.declared.line.Direction.{Direction}
+use Rattle.frame_lines.specs.declared.line.Direction.TheVariants.{FromDte, FromDce}
+use Rattle.frame_lines.specs.Lines.{Flights, without_first, LineService}
 use Rattle.net_events.specs.OneLine.{LineState, node_at}
 use Rattle.net_events.specs.NodeEvents.{NodeEvent, turn_of, Happened}
 use Rattle.network_laws.specs.IsLine.{NodeHolds, line_of, IsKept, IsLine}

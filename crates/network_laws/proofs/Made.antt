@@ -15,7 +15,7 @@ use Rattle.node_laws.specs.Clauses.{first_line}
 use Rattle.x25_pad.specs.Pad.{PadState}
 use Rattle.node_laws.specs.Pads.Courses.{IsRecordOf, PadSends}
 use Rattle.line_nodes.specs.Node.{NodeState, Pad, end_of, drained, frames_of}
-use Rattle.memory_line.specs.Lines.{Flights, LineService}
+use Rattle.frame_lines.specs.Lines.{Flights, LineService}
 use Rattle.net_events.specs.OneLine.{LineState}
 use Rattle.network_laws.specs.IsLine.{NodeHolds, line_of, IsLine}
 use Rattle.net_config.specs.NetPlan.{NewDte, NewPad, NewHost, IsNewDte}

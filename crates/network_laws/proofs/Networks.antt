@@ -14,8 +14,8 @@ use Rattle.record_laws.proofs.Registers.Seeing.{writes_seen}
 use Rattle.record_laws.proofs.Books.Basics.{get_set, set_here, set_elsewhere, length_set, get_there}
 use Rattle.line_nodes.specs.Node.{NodeState, drained, frames_of}
 use Rattle.line_nodes.specs.Turn.{Turn}
-use Rattle.memory_line.specs.declared.line.Direction.{Direction}
-use Rattle.memory_line.specs.Lines.{Flights, LineService, ArePut}
+use Rattle.frame_lines.specs.declared.line.Direction.{Direction}
+use Rattle.frame_lines.specs.Lines.{Flights, LineService, ArePut}
 use Rattle.net_events.specs.OneLine.{LineState, node_at, direction_of}
 use Rattle.net_events.specs.OneLine as one
 use Rattle.net_events.specs.NodeEvents.{NodeEvent, IsFor, turn_of, LeftBy}

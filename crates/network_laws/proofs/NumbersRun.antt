@@ -13,8 +13,8 @@ use Rattle.packet_end.specs.PacketEnd.{finished, all_offered}
 use Rattle.call_records.specs.Records.{RecordValue}
 use Rattle.call_records.specs.Register.{Register, book_at, with_book, made_register}
 use Rattle.line_nodes.specs.Node.{NodeState, is_pad, drained, frames_of}
-use Rattle.memory_line.specs.declared.line.Direction.TheVariants.{FromDte, FromDce}
-use Rattle.memory_line.specs.Lines.{Flights, no_flights, flying, without_first, lossless_service}
+use Rattle.frame_lines.specs.declared.line.Direction.TheVariants.{FromDte, FromDce}
+use Rattle.frame_lines.specs.Lines.{Flights, no_flights, flying, without_first, lossless_service}
 use Rattle.net_events.specs.OneLine.{direction_of, direction_to}
 use Rattle.net_events.specs.NodeEvents.{NodeEvent, IsFor, LeftBy, turn_of}
 use Rattle.net_events.specs.NodeEvents.NodeEvent.{Hears, Says, Takes}

@@ -13,7 +13,7 @@ use Rattle.record_laws.specs.Registers.Seen.{Seen}
 use Rattle.record_laws.specs.Registers.Law.{HaveChannels, HaveNoAddress}
 use Rattle.record_laws.proofs.Registers.Making.{made_seen}
 use Rattle.record_laws.proofs.Books.Basics.{get_there}
-use Rattle.memory_line.specs.Lines.{LineService}
+use Rattle.frame_lines.specs.Lines.{LineService}
 use Rattle.line_nodes.specs.Node.{node_elapsed}
 use Rattle.net_events.specs.Network.{NetNode, User, Switching, NetLine, Network, elapsed_node, all_elapsed}
 use Rattle.network_laws.specs.IsNetwork.{line_state, LineHolds, IsUserAt, IsNetwork}

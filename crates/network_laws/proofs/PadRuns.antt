@@ -14,9 +14,9 @@ use Rattle.x25_pad.specs.Ports as port
 use Rattle.x25_pad.specs.Ports.{PortState, AtLine}
 use Rattle.x25_pad.specs.Line as line
 use Rattle.call_records.specs.Book.{Book}
-use Rattle.memory_line.specs.declared.line.Direction.{Direction}
-use Rattle.memory_line.specs.declared.line.Direction.TheVariants.{FromDte, FromDce}
-use Rattle.memory_line.specs.Lines.{Flights, no_flights, flying, with_flying, without_first, lossless_service, ArePut}
+use Rattle.frame_lines.specs.declared.line.Direction.{Direction}
+use Rattle.frame_lines.specs.declared.line.Direction.TheVariants.{FromDte, FromDce}
+use Rattle.frame_lines.specs.Lines.{Flights, no_flights, flying, with_flying, without_first, lossless_service, ArePut}
 use Rattle.line_nodes.specs.Node.{NodeState, Pad, Host, is_pad, frames_of, end_of, drained}
 use Rattle.line_nodes.specs.Terminals.{after_terminal, HasTerminal}
 use Rattle.line_nodes.specs.declared.terminal.TerminalEvent.{TerminalEvent}

@@ -17,7 +17,7 @@ use Rattle.record_laws.proofs.Registers.Promising.{promised, of_one_line, paired
 use Rattle.node_laws.specs.LineRecords.Kept.{end_at}
 use Rattle.node_laws.proofs.LineRecords.Keeping as keeping_law
 use Rattle.line_nodes.specs.Node.{NodeState, end_of, is_pad}
-use Rattle.memory_line.specs.Lines.{LineService}
+use Rattle.frame_lines.specs.Lines.{LineService}
 use Rattle.net_events.specs.OneLine.{LineState}
 use Rattle.network_laws.specs.IsLine.{line_of, IsLine, IsKept}
 use Rattle.net_events.specs.Network.{PlacedNode, NetNode, User, NetLine, Network, place_at, StandsAtLine}

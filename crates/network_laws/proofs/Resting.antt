@@ -7,7 +7,7 @@ use Rattle.record_laws.specs.Books.Rest.{NothingMissing}
 use Rattle.record_laws.proofs.Registers.Missing.{rest_seen}
 use Rattle.node_laws.proofs.LineRecords.Missing.{rest_kept}
 use Rattle.line_nodes.specs.Node.{end_of}
-use Rattle.memory_line.specs.Lines.{LineService}
+use Rattle.frame_lines.specs.Lines.{LineService}
 use Rattle.net_events.specs.OneLine.{LineState}
 use Rattle.net_events.specs.Network.{PlacedNode, Network}
 use Rattle.net_events.proofs.Users.{same_user}

@@ -12,8 +12,8 @@ use Rattle.packet_end.specs.PacketEnd.{finished, all_offered}
 use Rattle.x3_params.specs.Table.{profile_values}
 use Rattle.x3_params.specs.declared.profile.Profile.TheVariants.{Simple}
 use Rattle.line_nodes.specs.Node.{frames_of}
-use Rattle.memory_line.specs.declared.line.Direction.TheVariants.{FromDte}
-use Rattle.memory_line.specs.Lines.{Flights, no_flights, memory_service, ArePut}
+use Rattle.frame_lines.specs.declared.line.Direction.TheVariants.{FromDte}
+use Rattle.frame_lines.specs.Lines.{Flights, no_flights, memory_service, ArePut}
 use Rattle.net_config.specs.NetPlan.{NewDte, NewPad, NewHost}
 use Rattle.net_events.specs.Opening.{new_dte, new_dce, AreSent}
 use Rattle.net_events.specs.NodeEvents.{NodeEvent}

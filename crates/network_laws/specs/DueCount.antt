@@ -4,7 +4,7 @@ use Rattle.link_timers.specs.declared.role.Role.{Role}
 use Rattle.link_timers.specs.declared.timers.TimerId.{TimerId}
 use Rattle.line_nodes.specs.Node.{node_due}
 use Rattle.node_laws.specs.Due.{due_count}
-use Rattle.memory_line.specs.Lines.{LineService}
+use Rattle.frame_lines.specs.Lines.{LineService}
 use Rattle.switched_call_laws.specs.SwitchRecords.DueTimers.{all_due_on}
 use Rattle.net_events.specs.NodeEvents.NodeEvent.{Expires}
 use Rattle.net_events.specs.Network.{NetNode, User, Switching, Network, HappenedAt}

@@ -8,7 +8,7 @@ use Rattle.node_laws.specs.Quiet.{IsQuiet}
 use Rattle.node_laws.specs.Pads.Courses.{PadHolds}
 use Rattle.call_records.specs.Book.{Book}
 use Rattle.line_nodes.specs.Node.{NodeState, Pad, Host, end_of, is_pad}
-use Rattle.memory_line.specs.Lines.{LineService}
+use Rattle.frame_lines.specs.Lines.{LineService}
 use Rattle.net_events.specs.OneLine.{LineState}
 
 -- on each of its calls a PAD has sent what its terminals typed, and what it had occasion to say of itself in one course

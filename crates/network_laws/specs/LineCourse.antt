@@ -16,7 +16,7 @@ use Rattle.node_laws.specs.Pads.Happening.{PadEvent, HasKey, HasBreak, HasIdleTi
 use Rattle.node_laws.specs.Pads.Happening.{HasRelink, HasRestart, HasTicks}
 use Rattle.line_nodes.specs.Node.{Pad}
 use Rattle.line_nodes.specs.declared.terminal.TerminalEvent.TheVariants.{Key, Break, Idle, Print}
-use Rattle.memory_line.specs.Lines.{Flights, LineService}
+use Rattle.frame_lines.specs.Lines.{Flights, LineService}
 use Rattle.net_events.specs.OneLine.{LineState}
 use Rattle.net_events.specs.NodeEvents.{NodeEvent, Hears, Expires, Relinks, Restarts, AtTerminal, Happened, turn_of}
 use Rattle.net_config.specs.NetPlan.{NewPad}

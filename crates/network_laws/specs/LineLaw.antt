@@ -9,8 +9,8 @@ use Rattle.record_laws.specs.Books.Headline.{BookHolds}
 use Rattle.x25_pad.specs.Pad.{PadState}
 use Rattle.node_laws.specs.Pads.Courses.{PadSends}
 use Rattle.line_nodes.specs.Node.{Pad, drained, node_elapsed}
-use Rattle.memory_line.specs.declared.line.Direction.{Direction}
-use Rattle.memory_line.specs.Lines.{Flights, without_first, LineService}
+use Rattle.frame_lines.specs.declared.line.Direction.{Direction}
+use Rattle.frame_lines.specs.Lines.{Flights, without_first, LineService}
 use Rattle.net_events.specs.OneLine.{LineState}
 use Rattle.net_events.specs.NodeEvents.{NodeEvent, Happened}
 use Rattle.net_config.specs.NetPlan.{NewDte, IsNewDte}

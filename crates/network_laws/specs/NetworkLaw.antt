@@ -2,8 +2,8 @@
 -- lines.
 use Rattle.std.specs.Prelude.{ℕ}
 use Rattle.link_timers.specs.declared.role.Role.{Role}
-use Rattle.memory_line.specs.declared.line.Direction.{Direction}
-use Rattle.memory_line.specs.Lines.{LineService}
+use Rattle.frame_lines.specs.declared.line.Direction.{Direction}
+use Rattle.frame_lines.specs.Lines.{LineService}
 use Rattle.net_events.specs.NodeEvents.{NodeEvent}
 use Rattle.net_events.specs.Network.{Network, HappenedAt, LostAt, all_elapsed}
 use Rattle.network_laws.specs.IsNetwork.{IsNetwork}

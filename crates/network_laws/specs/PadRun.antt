@@ -16,8 +16,8 @@ use Rattle.packet_channel.specs.Channel.{Request}
 use Rattle.packet_channel.specs.Channel.Request.{Accept, Resetting}
 use Rattle.packet_end.specs.declared.params.EndParams.{EndParams}
 use Rattle.call_records.specs.Records.{RecordValue, new_record, with_closed}
-use Rattle.memory_line.specs.declared.line.Direction.{Direction}
-use Rattle.memory_line.specs.Lines.{Flights, no_flights, flying, with_flying, without_first, LineService, lossless_service}
+use Rattle.frame_lines.specs.declared.line.Direction.{Direction}
+use Rattle.frame_lines.specs.Lines.{Flights, no_flights, flying, with_flying, without_first, LineService, lossless_service}
 use Rattle.line_nodes.specs.Node.{NodeState, Pad, Host, frames_of}
 use Rattle.line_nodes.specs.Terminals.{text_shown}
 use Rattle.line_nodes.specs.declared.terminal.TerminalEvent.{TerminalEvent}

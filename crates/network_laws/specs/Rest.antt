@@ -6,7 +6,7 @@ use Rattle.call_records.specs.Records.{RecordValue}
 use Rattle.record_laws.specs.Books.Rest.{NothingMissing}
 use Rattle.record_laws.specs.Books.Delivery.{IsAllCovered}
 use Rattle.line_nodes.specs.Node.{end_of, node_rests}
-use Rattle.memory_line.specs.Lines.{LineService}
+use Rattle.frame_lines.specs.Lines.{LineService}
 use Rattle.net_events.specs.Network.{PlacedNode, NetNode, User, NetLine, Network, place_at}
 use Rattle.network_laws.specs.IsNetwork.{IsNetwork}
 use Rattle.network_laws.specs.Promise.{its_slot}

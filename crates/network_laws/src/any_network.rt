@@ -5,7 +5,7 @@ ghost use Rattle.network_laws.specs.Switched.Laws.{FewerLaw, SwitchFewerLaw, Res
 ghost use Rattle.network_laws.specs.Switched.Run.{RunLaw};
 ghost use Rattle.network_laws.specs.Switched.TrunkRun.{TrunkRunLaw};
 
-use memory_line::Line;
+use frame_lines::Line;
 
 /// The law of a network of nodes with users, with a tree of switches or without one, over definitions alone. It holds
 /// from the making on, whatever happens at which node, at which switch and on which line. Then each pair of the

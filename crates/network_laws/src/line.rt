@@ -3,7 +3,7 @@ ghost use Rattle.network_laws.specs.LineLaw.{MadeLaw, EventLaw, LossLaw, TimeLaw
 ghost use Rattle.network_laws.specs.LineCourse.{MadeCourse, EventCourse, LossCourse, TimeCourse, SentCourse};
 ghost use Rattle.network_laws.specs.PadRun.{PadRunLaw};
 
-use memory_line::Line;
+use frame_lines::Line;
 
 /// The law of one line of a network with the two nodes at its ends, over definitions alone: what holds of it holds from
 /// the making on, whatever happens at either node and on the line, refused or not; and if it holds, what one end of

@@ -3,7 +3,7 @@ ghost use Rattle.network_laws.specs.NetworkLaw.{MadeLaw, EventLaw, LossLaw, Time
 ghost use Rattle.network_laws.specs.DueCount.{FewerLaw};
 ghost use Rattle.network_laws.specs.Rest.{RestLaw, DeliveredLaw};
 
-use memory_line::Line;
+use frame_lines::Line;
 
 /// The law of a network of any number of nodes and lines, over definitions alone: of each line what `one_line_law`
 /// says, with a book of its own that nobody stores, and one register that has what these books have. It holds from the

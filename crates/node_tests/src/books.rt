@@ -3,8 +3,9 @@ ghost use Rattle.std.specs.Prelude.{◌≤◌};
 
 use crate::lines::incoming;
 use crate::nodes::is_packet;
-use call_records::{Book, Epoch, Interrupt, Packet, PacketsIter, Pair, Passed, Record};
-use epoch_matching::{all_match, matches};
+use call_records::{
+    Book, Epoch, Interrupt, Packet, PacketsIter, Pair, Passed, Record, all_match, matches,
+};
 use link_timers::Role;
 use packet_codec::Address;
 use packet_layer::{LayerNote, Reason};

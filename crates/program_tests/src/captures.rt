@@ -1,5 +1,5 @@
 //! What a capture is, by octets that Wireshark read, and lines that are none of a trace.
-use memory_line::Direction;
+use frame_lines::Direction;
 use std::alloc::{AllocError, Global};
 use trace_capture::{TraceFault, capture, read_line};
 

@@ -1,10 +1,9 @@
 //! What no clause says of a line over sockets: which datagrams are frames, and that a pair carries them.
 use frame_codec::FrameBuf;
-use memory_line::{Direction, Line};
+use frame_lines::{Datagrams, Direction, Line, UdpLine};
 use std::alloc::Global;
 use std::io;
 use std::test::Fail;
-use udp_line::{Datagrams, UdpLine};
 
 /// A partner that can send nothing, and whose one datagram has so many octets; where it has none to give it fails.
 #[derive(Drop)]

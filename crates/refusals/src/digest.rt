@@ -1,7 +1,7 @@
 //! Digests of what a network gave and keeps: two runs that are alike have the same.
 use call_records::{Epoch, Pair, Passed, Record};
+use frame_lines::Direction;
 use line_nodes::{HostNote, NoteKind};
-use memory_line::Direction;
 use net_events::{Answer, Outcome, StepFault};
 use packet_codec::Address;
 use packet_layer::Front;

@@ -4,9 +4,9 @@ use crate::digest::Digest;
 use crate::making::address;
 use crate::texts::NETWORK;
 use arrayvec::ArrayVec;
+use frame_lines::mem_lines;
 use line_nodes::TerminalEvent;
 use line_sim::{Config, Direction, Event, HostRequest, Line, MakeFault, Net, RunFault, StepFault};
-use memory_line::mem_lines;
 use std::alloc::Global;
 
 /// The places of the PAD, the switch and the host in the network, and the host's channel.

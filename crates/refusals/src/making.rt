@@ -159,7 +159,7 @@ pub(crate) fn host_new(alloc: Global, blocks: u32) -> Result<Came, Came> {
 
 pub(crate) fn mem_lines(alloc: Global, blocks: u32) -> Result<Came, Came> {
     spend(alloc, blocks)?;
-    match memory_line::mem_lines(alloc, 3) {
+    match frame_lines::mem_lines(alloc, 3) {
         Ok(lines) if lines.len() == 3 => Ok(Came::Answered),
         Ok(_) => Ok(Came::Wrong),
         Err(_) => Ok(Came::Refused),

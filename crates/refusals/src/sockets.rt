@@ -1,10 +1,10 @@
 //! The calls over sockets, and the program.
 use crate::came::{Came, spend};
 use crate::texts::{NETWORK, PRINTED, Page, SCRIPT, words};
+use frame_lines::{SocketFault, UdpLine};
 use std::alloc::Global;
 use std::fs::{self, Files};
 use std::net::{Ipv4Addr, Net, UdpSocket};
-use udp_line::{SocketFault, UdpLine};
 
 /// What came of making a line.
 fn made(line: Result<UdpLine<UdpSocket>, SocketFault>) -> Came {

@@ -6,7 +6,7 @@ use Rattle.link_timers.specs.declared.role.Role.{Role}
 use Rattle.link_timers.specs.declared.role.Role.TheVariants.{Dte, Dce}
 use Rattle.line_nodes.specs.Node.{NodeState, Pad, Host, frames_of}
 use Rattle.line_nodes.specs.Notes.{host_notes}
-use Rattle.memory_line.specs.Lines.{Flights, memory_service, ArePut}
+use Rattle.frame_lines.specs.Lines.{Flights, memory_service, ArePut}
 use Rattle.net_events.specs.OneLine.{direction_of}
 use Rattle.net_events.specs.NodeEvents.{NodeEvent, Hears, Expires, Relinks, Restarts, Calls, Asks, Refuses, Says}
 use Rattle.net_events.specs.NodeEvents.{Takes, AtTerminal, LeftBy}

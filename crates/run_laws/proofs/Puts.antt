@@ -1,8 +1,8 @@
 -- Frames are put on a line in memory in one way only, and listed in one way.
 use Rattle.std.proofs.Common.{◌≡◌, ℕ, ◌≤◌, ◌<◌, List, [], ◌∷◌, ◌++◌, length, refl, ap, sym, ◌∙◌, subst, inl, inr, arith}
-use Rattle.memory_line.specs.declared.line.Direction.{Direction}
-use Rattle.memory_line.specs.declared.line.Direction.TheVariants.{FromDte, FromDce}
-use Rattle.memory_line.specs.Lines.{Flights, memory_service, flying, with_flying, IsPut, ArePut}
+use Rattle.frame_lines.specs.declared.line.Direction.{Direction}
+use Rattle.frame_lines.specs.declared.line.Direction.TheVariants.{FromDte, FromDce}
+use Rattle.frame_lines.specs.Lines.{Flights, memory_service, flying, with_flying, IsPut, ArePut}
 use Rattle.net_events.specs.declared.answer.Put.{Put}
 use Rattle.net_turns.specs.Sends.{IsPutOf, ArePutsOf}
 

@@ -6,8 +6,8 @@ use Rattle.std.proofs.lemmas.Option.{same_Some, none-some}
 use Rattle.link_timers.specs.declared.role.Role.TheVariants.{Dte, Dce}
 use Rattle.packet_end.specs.declared.params.EndParams.{EndParams}
 use Rattle.packet_end.specs.Params.{AreParams}
-use Rattle.memory_line.specs.declared.line.Direction.TheVariants.{FromDte}
-use Rattle.memory_line.specs.Lines.{memory_service}
+use Rattle.frame_lines.specs.declared.line.Direction.TheVariants.{FromDte}
+use Rattle.frame_lines.specs.Lines.{memory_service}
 use Rattle.net_config.specs.declared.config.Config.{Config}
 use Rattle.net_events.specs.declared.answer.Answer.{Answer}
 use Rattle.net_events.specs.declared.answer.Outcome.TheVariants.{Done}

@@ -1,6 +1,6 @@
 -- A list of events leads to one network.
 use Rattle.std.proofs.Common.{◌≡◌, List, [], ◌∷◌, Option, Some, None, sym, ◌∙◌, subst}
-use Rattle.memory_line.specs.Lines.{memory_service}
+use Rattle.frame_lines.specs.Lines.{memory_service}
 use Rattle.net_config.specs.Plan.{plan_of}
 use Rattle.net_events.specs.declared.event.Event.{Event}
 use Rattle.net_events.specs.declared.event.StepFault.{StepFault}

@@ -4,7 +4,7 @@ use Rattle.std.specs.Prelude.{◌⊎◌, slice_get}
 use Rattle.std.proofs.lemmas.Option.{same_Some, none-some}
 use Rattle.record_laws.proofs.Books.Basics.{number_is}
 use Rattle.link_timers.specs.declared.role.Role.{Role}
-use Rattle.memory_line.specs.Lines.{Flights, memory_service}
+use Rattle.frame_lines.specs.Lines.{Flights, memory_service}
 use Rattle.net_events.specs.AtSwitch.{SwitchEvent, Hears, Expires, Relinks, Restarts, LeftOn, OwnLineServed, LinesServed}
 use Rattle.net_events.specs.AtSwitch.{SwitchHappened, switched, switch_drained, joins_of, waiting_on, all_handed}
 use Rattle.net_events.specs.OneLine.{direction_of}

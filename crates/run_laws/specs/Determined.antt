@@ -1,6 +1,6 @@
 -- On lines in memory a configuration and a list of events lead to one network, and each event has one answer.
 use Rattle.std.specs.Prelude.{◌≡◌, List}
-use Rattle.memory_line.specs.Lines.{memory_service}
+use Rattle.frame_lines.specs.Lines.{memory_service}
 use Rattle.net_config.specs.declared.config.Config.{Config}
 use Rattle.net_events.specs.declared.answer.Answer.{Answer}
 use Rattle.net_events.specs.declared.event.Event.{Event}

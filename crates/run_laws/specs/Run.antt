@@ -6,7 +6,7 @@ use Rattle.packet_channel.specs.Flow.{modulo_8}
 use Rattle.packet_end.specs.declared.params.EndParams.{EndParams}
 use Rattle.call_records.specs.Register.{made_register}
 use Rattle.line_nodes.specs.Node.{frames_of}
-use Rattle.memory_line.specs.declared.line.Direction.TheVariants.{FromDte}
+use Rattle.frame_lines.specs.declared.line.Direction.TheVariants.{FromDte}
 use Rattle.net_config.specs.declared.config.Config.{Config}
 use Rattle.net_config.specs.Served.{is_served}
 use Rattle.net_config.specs.Plan.{plan_of}

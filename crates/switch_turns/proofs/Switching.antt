@@ -9,8 +9,8 @@ use Rattle.link_timers.specs.declared.timers.TimerId.{TimerId}
 use Rattle.record_laws.proofs.Books.Basics.{set_here, set_elsewhere, length_set}
 use Rattle.link_timers.specs.declared.role.Role.{Role}
 use Rattle.link_timers.specs.declared.role.Role.TheVariants.{Dce}
-use Rattle.memory_line.specs.declared.line.Direction.{Direction}
-use Rattle.memory_line.specs.Lines.{Flights, LineService, ArePut, flying, without_first}
+use Rattle.frame_lines.specs.declared.line.Direction.{Direction}
+use Rattle.frame_lines.specs.Lines.{Flights, LineService, ArePut, flying, without_first}
 use Rattle.switch_lines.specs.Lines.{SwitchLine, changed, role_on}
 use Rattle.switch_lines.specs.Switch.{Switch, frames_on}
 use Rattle.net_events.specs.OneLine.{direction_of, direction_to}

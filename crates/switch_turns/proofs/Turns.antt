@@ -1,7 +1,7 @@
 -- What serving an event at a switch does.
 use Rattle.std.proofs.Common.{◌≡◌, ℕ, Bool, List, length, sym, ap, ◌∙◌, subst}
 use Rattle.call_records.specs.Register.{Register}
-use Rattle.memory_line.specs.Lines.{LineService}
+use Rattle.frame_lines.specs.Lines.{LineService}
 use Rattle.switch_lines.specs.Switch.{Switch}
 use Rattle.switch_joins.specs.declared.channels.NewJoin.{NewJoin}
 use Rattle.net_events.specs.AtSwitch.{SwitchEvent, switched, joins_of, switch_drained, all_handed}

@@ -5,7 +5,7 @@ use Rattle.std.proofs.lemmas.List.{append-nil}
 use Rattle.std.proofs.lemmas.Bool.{cases_eq, cases_lt, ne_eqb, eq-eqb}
 use Rattle.number_set.specs.declared.NumberSet.{NumberSet}
 use Rattle.number_set.specs.NumberSet.{has, IsFirstOf}
-use Rattle.memory_line.specs.Lines.{LineService, ArePut}
+use Rattle.frame_lines.specs.Lines.{LineService, ArePut}
 use Rattle.switch_lines.specs.Lines.{SwitchLine}
 use Rattle.switch_lines.specs.Switch.{Switch, frames_on}
 use Rattle.switch_lines.specs.Touched.{AreThere, HasAllFrames}

@@ -4,8 +4,8 @@ use Rattle.std.specs.Prelude.{slice_get, Some}
 use Rattle.lapb.specs.Machine.{Octets}
 use Rattle.call_records.specs.Register.{Register}
 use Rattle.link_timers.specs.declared.role.Role.{Role}
-use Rattle.memory_line.specs.declared.line.Direction.{Direction}
-use Rattle.memory_line.specs.Lines.{Flights, no_flights, LineService, ArePut}
+use Rattle.frame_lines.specs.declared.line.Direction.{Direction}
+use Rattle.frame_lines.specs.Lines.{Flights, no_flights, LineService, ArePut}
 use Rattle.switch_lines.specs.Lines.{SwitchLine}
 use Rattle.switch_lines.specs.Switch.{Switch}
 use Rattle.net_events.specs.AtSwitch.{SwitchEvent, Restarts, HasOwnLine, switched, joins_of, waiting_on, switch_drained}

@@ -1,5 +1,5 @@
 //! A line of a network.
-use memory_line::Line;
+use frame_lines::Line;
 use std::marker::Model;
 
 /// A line between two nodes, which go by their places.

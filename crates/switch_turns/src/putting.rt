@@ -1,6 +1,6 @@
 //! The frames that a switch has to send at the end of an event go onto its lines, one line after the other.
 ghost use Rattle.std.specs.Prelude.{◌≡◌, ◌≤◌, ◌<◌, ◌+◌, ◌++◌, true, false, length};
-ghost use Rattle.memory_line.specs.Lines.{ArePut};
+ghost use Rattle.frame_lines.specs.Lines.{ArePut};
 ghost use Rattle.switch_lines.specs.Lines.{changed};
 ghost use Rattle.net_events.specs.AtSwitch.{switch_drained, waiting_on, line_drained};
 ghost use Rattle.net_events.specs.Network.{own_role};
@@ -9,8 +9,8 @@ ghost use Rattle.switch_turns.specs.Switching.{CanPut, LinesPut, puts_on, all_pu
 
 use crate::net_line::NetLine;
 use crate::roles::role_of;
+use frame_lines::Line;
 use line_end::MOST_FRAMES;
-use memory_line::Line;
 use net_events::Puts;
 use net_turns::direction_of;
 use placed_nodes::network_line;

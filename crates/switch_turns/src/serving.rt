@@ -12,7 +12,7 @@ use crate::net_line::NetLine;
 use crate::putting::put_lines;
 use crate::roles::role_of;
 use call_records::{ChannelEnd, Register};
-use memory_line::Line;
+use frame_lines::Line;
 use net_events::{Puts, StepFault, SwitchEvent};
 use placed_nodes::{Equipment, NetNode, network_line};
 use x25_switch::{NewJoin, Switch};

@@ -5,7 +5,7 @@ use Rattle.std.specs.List.{flat_map, position_or_len, slice_get}
 use Rattle.std.specs.Char.{is_ascii_digit}
 use Rattle.std.proofs.Common.{arith, get_or, take, drop, ap, sym, subst, ◌∙◌, take_all, refl, length-append}
 use Rattle.std.proofs.Math.Seq.{drop-append_seam}
-use Rattle.memory_line.specs.declared.line.Direction.{Direction}
+use Rattle.frame_lines.specs.declared.line.Direction.{Direction}
 use Rattle.trace_capture.specs.Trace.{spaced, sign_of, frame_line, number_end, is_traced, AreOctets, IsNumber, IsFrameLine}
 use Rattle.trace_capture.proofs.Octets.{behind_first}
 

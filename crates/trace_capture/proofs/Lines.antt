@@ -3,7 +3,7 @@ use Rattle.std.specs.Prelude.{◌≡◌, ℕ, List, [], ◌∷◌, ◌++◌, ◌
 use Rattle.std.proofs.lemmas.List.{append_assoc, append-nil}
 use Rattle.std.proofs.Math.Nat.{mod-add-div, add-mul-mod_self_left}
 use Rattle.std.proofs.Common.{◌∙◌, sym, ap, subst, refl, arith, length-append}
-use Rattle.memory_line.specs.declared.line.Direction.{Direction}
+use Rattle.frame_lines.specs.declared.line.Direction.{Direction}
 use Rattle.trace_capture.specs.Trace.{is_traced, frame_line, IsFrameLine}
 use Rattle.trace_capture.specs.declared.fault.TraceFault.TheVariants.{Line}
 use Rattle.trace_capture.specs.Capture.{IsTraceFault}

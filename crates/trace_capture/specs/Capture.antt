@@ -3,8 +3,8 @@ use Rattle.std.specs.Prelude.{◌≡◌, ℕ, ◌+◌, ◌-◌, ◌%◌, List, [
 use Rattle.std.specs.Prelude.{true, Option, IfSome}
 use Rattle.std.specs.Io.KnownBytes.{Appends}
 use Rattle.std.specs.Int.{to_le_bytes, w16, w32}
-use Rattle.memory_line.specs.declared.line.Direction.{Direction}
-use Rattle.memory_line.specs.declared.line.Direction.TheVariants.{FromDte, FromDce}
+use Rattle.frame_lines.specs.declared.line.Direction.{Direction}
+use Rattle.frame_lines.specs.declared.line.Direction.TheVariants.{FromDte, FromDce}
 use Rattle.trace_capture.specs.declared.fault.TraceFault.{TraceFault}
 use Rattle.trace_capture.specs.declared.fault.TraceFault.TheVariants.{Line, OutOfMemory}
 use Rattle.trace_capture.specs.Trace.{is_traced, frame_line, IsFrameLine}

@@ -7,7 +7,7 @@ ghost use Rattle.trace_capture.specs.Capture.{IsTraceFault};
 
 use crate::fault::TraceFault;
 use crate::frame::{TracedFrame, read_line};
-use memory_line::Direction;
+use frame_lines::Direction;
 use std::alloc::{AllocError, Global};
 
 /// The kinds of blocks.

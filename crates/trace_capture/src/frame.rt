@@ -3,12 +3,12 @@ ghost use Rattle.std.specs.Prelude.{◌≡◌, ◌≢◌, ◌/◌, ◌%◌, ◌�
 ghost use Rattle.std.specs.Prelude.{IfOk, IfSome, OnErr, IsOkAnd, IsSome};
 ghost use Rattle.std.specs.Char.{is_ascii_digit};
 ghost use Rattle.std.specs.List.{flat_map, position};
-ghost use Rattle.memory_line.specs.declared.line.Direction.{Direction};
+ghost use Rattle.frame_lines.specs.declared.line.Direction.{Direction};
 ghost use Rattle.trace_capture.specs.Trace.{number_end, is_traced, hex_digit, spaced, sign_of, frame_line};
 ghost use Rattle.trace_capture.specs.Trace.{AreOctets, IsFrameLine};
 
 use frame_codec::{FrameBuf, MAX_FRAME};
-use memory_line::Direction;
+use frame_lines::Direction;
 
 /// The most digits of a line's number.
 const MOST_DIGITS: usize = 5;

@@ -7,8 +7,8 @@ ghost use Rattle.net_nodes.specs.Happening.{Happens};
 
 use crate::nodes::Nodes;
 use arrayvec::ArrayVec;
+use frame_lines::Line;
 use line_nodes::TerminalEvent;
-use memory_line::Line;
 use net_events::{Answer, HostEvent, StepFault, UserEvent};
 use packet_codec::Address;
 use packet_host::HostRequest;

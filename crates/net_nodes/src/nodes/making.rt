@@ -9,8 +9,8 @@ ghost use Rattle.net_nodes.specs.Making.{HaveBegun, HasEnds, PutsFirst, Begins, 
 ghost use Rattle.placed_nodes.specs.Making.{AreNew};
 
 use crate::nodes::Nodes;
+use frame_lines::{Direction, Line};
 use line_end::MOST_FRAMES;
-use memory_line::{Direction, Line};
 use net_config::{MakeFault, NetPlan, NewLine};
 use net_events::Puts;
 use net_turns::put_frames;

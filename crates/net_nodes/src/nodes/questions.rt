@@ -2,7 +2,7 @@
 ghost use Rattle.std.specs.Prelude.{◌≡◌, ◌≤◌, ◌<◌, length, map};
 ghost use Rattle.std.specs.Bool.{OnTrue};
 ghost use Rattle.std.specs.List.{list_all};
-ghost use Rattle.memory_line.specs.declared.line.Direction.TheVariants.{FromDte, FromDce};
+ghost use Rattle.frame_lines.specs.declared.line.Direction.TheVariants.{FromDte, FromDce};
 ghost use Rattle.call_records.specs.RecordView.{shown, pair_of};
 ghost use Rattle.net_events.specs.Network.{all_elapsed};
 ghost use Rattle.net_nodes.specs.Due.{net_due};
@@ -12,7 +12,7 @@ ghost use Rattle.placed_nodes.specs.Node.{rests};
 
 use crate::nodes::Nodes;
 use call_records::{Pair, Record};
-use memory_line::{Direction, Line};
+use frame_lines::{Direction, Line};
 use net_events::Event;
 use placed_nodes::first_node_due;
 use switch_turns::NetLine;

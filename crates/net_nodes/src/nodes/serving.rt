@@ -12,8 +12,8 @@ ghost use Rattle.net_nodes.specs.Steps.{hearer};
 use crate::nodes::turn::{place_at, serve_at};
 use crate::nodes::{LineSide, Nodes};
 use frame_codec::FrameBuf;
+use frame_lines::{Direction, Line};
 use link_timers::{Role, TimerId};
-use memory_line::{Direction, Line};
 use net_events::{Answer, LineEvent, Outcome, StepFault, SwitchEvent};
 use net_turns::{MOST_WRITES, make_bare, make_room};
 

@@ -8,8 +8,8 @@ ghost use Rattle.net_nodes.specs.Steps.{switch_outcome};
 ghost use Rattle.net_nodes.specs.Switching.{CanSwitch, SwitchActed};
 
 use crate::nodes::Nodes;
+use frame_lines::Line;
 use line_end::MOST_FRAMES;
-use memory_line::Line;
 use net_events::{Answer, Outcome, StepFault, SwitchEvent};
 use net_turns::make_frame_room;
 use std::alloc::AllocError;

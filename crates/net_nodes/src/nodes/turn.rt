@@ -12,9 +12,9 @@ ghost use Rattle.net_nodes.specs.Turns.{Acts, UserActs};
 
 use crate::nodes::{LineSide, Nodes};
 use call_records::{Book, Register};
+use frame_lines::Line;
 use line_nodes::Attachment;
 use link_timers::Role;
-use memory_line::Line;
 use net_events::{Answer, LineEvent, StepFault, UserEvent};
 use net_turns::{MOST_WRITES, make_room, serve_line, serve_user};
 use placed_nodes::{Equipment, NetNode};

@@ -5,8 +5,8 @@ use Rattle.std.proofs.lemmas.List.{length-set, length-map, length-append}
 use Rattle.std.proofs.lemmas.Option.{slice_get_within}
 use Rattle.link_timers.specs.declared.role.Role.{Role}
 use Rattle.link_timers.specs.declared.role.Role.TheVariants.{Dte}
-use Rattle.memory_line.specs.declared.line.Direction.{Direction}
-use Rattle.memory_line.specs.Lines.{LineService}
+use Rattle.frame_lines.specs.declared.line.Direction.{Direction}
+use Rattle.frame_lines.specs.Lines.{LineService}
 use Rattle.call_records.specs.Book.{Book}
 use Rattle.call_records.specs.Writes.Write.{Placed}
 use Rattle.call_records.specs.Register.{Register, LinePlan, ChannelEnd, free_ends, book_at, with_book, written_at, all_written_at, holder_at, goes_on, handed_on, no_parts}

@@ -7,7 +7,7 @@ use Rattle.call_records.specs.Register.{book_at}
 use Rattle.line_nodes.specs.Node.{drained, node_due}
 use Rattle.node_laws.specs.Quiet.{IsQuiet}
 use Rattle.node_laws.proofs.Expiring as expiry_law
-use Rattle.memory_line.specs.Lines.{LineService}
+use Rattle.frame_lines.specs.Lines.{LineService}
 use Rattle.switch_lines.specs.Switch.{on_timer}
 use Rattle.switched_call_laws.specs.QuietSwitches.Quiet.{IsQuietSwitch}
 use Rattle.switched_call_laws.proofs.QuietSwitches.Fewer as switch_law

@@ -4,7 +4,7 @@ use Rattle.std.specs.Prelude.{slice_get}
 use Rattle.std.proofs.lemmas.Option.{none-some, same_Some}
 use Rattle.link_timers.specs.declared.timers.TimerId.{TimerId}
 use Rattle.lapb.specs.Machine.{Octets}
-use Rattle.memory_line.specs.Lines.{Flights, LineService, ArePut}
+use Rattle.frame_lines.specs.Lines.{Flights, LineService, ArePut}
 use Rattle.net_events.specs.OneLine.{direction_of}
 use Rattle.switch_lines.specs.Lines.{SwitchLine}
 use Rattle.switch_lines.specs.Switch.{Switch, frames_on, timer_runs, on_expiry}

@@ -17,7 +17,7 @@ use Rattle.node_laws.specs.Lines.Line.{Line, made as made_ends}
 use Rattle.node_laws.specs.LineRecords.Kept.{Setting, Kept, end_at}
 use Rattle.node_laws.specs.LineRecords.Happens.{sent}
 use Rattle.line_nodes.specs.Node.{NodeState}
-use Rattle.memory_line.specs.Lines.{Flights, LineService}
+use Rattle.frame_lines.specs.Lines.{Flights, LineService}
 use Rattle.switched_call_laws.specs.SwitchPaths.Sight.{Switched, Switches, OwnLines, Lines, Standing, network_line}
 use Rattle.switched_call_laws.specs.SwitchPaths.Network.{IsAtSwitch, IsNetwork}
 use Rattle.switched_call_laws.specs.SwitchPaths.Law.{IsMadeAt, IsMade as ArePathsMade}

@@ -3,7 +3,7 @@ use Rattle.std.proofs.Common.{◌≡◌, ℕ, sym, ap, ◌∙◌}
 use Rattle.std.specs.Prelude.{slice_get}
 use Rattle.packet_layer.specs.Layer.{confirmed}
 use Rattle.line_nodes.specs.Node.{end_of}
-use Rattle.memory_line.specs.Lines.{LineService}
+use Rattle.frame_lines.specs.Lines.{LineService}
 use Rattle.net_events.specs.Network.{PlacedNode}
 use Rattle.net_events.proofs.Users.{same_user}
 use Rattle.network_laws.specs.Promise.{EndHolds}

@@ -26,7 +26,7 @@ use Rattle.record_laws.proofs.CallPaths.Ending.{ends_seen, users_own, open_seen}
 use Rattle.switched_call_laws.specs.SwitchPaths.Law as paths
 use Rattle.switched_call_laws.proofs.SwitchPaths.Begins.{network_holds}
 use Rattle.line_nodes.specs.Node.{NodeState, end_of, is_pad}
-use Rattle.memory_line.specs.Lines.{LineService}
+use Rattle.frame_lines.specs.Lines.{LineService}
 use Rattle.net_events.specs.OneLine.{LineState}
 use Rattle.net_events.specs.Network.{PlacedNode, NetNode, User, Switching, NetLine, Network, place_at, StandsAtLine}
 use Rattle.network_laws.specs.IsLine.{line_of, IsLine, IsKept}

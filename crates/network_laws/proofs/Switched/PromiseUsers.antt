@@ -25,7 +25,7 @@ use Rattle.record_laws.specs.CallPaths.Lines.{writes_of}
 use Rattle.record_laws.specs.CallPaths.Promise.{PathIsRight, PathHolds, PathsHold, IsPlacedAt, by_caller}
 use Rattle.record_laws.proofs.CallPaths.Hopping.{HaveNoHops, writes_none}
 use Rattle.record_laws.proofs.CallPaths.Moves.{written_so}
-use Rattle.memory_line.specs.Lines.{LineService}
+use Rattle.frame_lines.specs.Lines.{LineService}
 use Rattle.packet_end.specs.PacketEnd.{PacketEnd}
 use Rattle.line_nodes.specs.Node.{end_of}
 use Rattle.net_events.specs.OneLine.{LineState}

@@ -14,7 +14,7 @@ use Rattle.call_records.specs.Register.{Register}
 use Rattle.record_laws.specs.Books.Rest.{NothingMissing}
 use Rattle.node_laws.proofs.LineRecords.Missing.{rest_kept}
 use Rattle.line_nodes.specs.Node.{NodeState, node_rests}
-use Rattle.memory_line.specs.Lines.{LineService}
+use Rattle.frame_lines.specs.Lines.{LineService}
 use Rattle.packet_end.specs.PacketEnd.{at_rest}
 use Rattle.switch_joins.specs.Joins.{gathers_nothing}
 use Rattle.switch_lines.specs.Switch.{line_rests}

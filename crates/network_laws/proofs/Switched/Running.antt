@@ -5,8 +5,8 @@ use Rattle.std.proofs.lemmas.Option.{none-some, same_Some}
 use Rattle.std.proofs.lemmas.Bool.{and_parts}
 use Rattle.link_timers.specs.declared.role.Role.TheVariants.{Dte, Dce}
 use Rattle.line_nodes.specs.Node.{end_of, frames_of, node_rests}
-use Rattle.memory_line.specs.declared.line.Direction.TheVariants.{FromDte, FromDce}
-use Rattle.memory_line.specs.Lines.{Flights, lossless_service, without_first}
+use Rattle.frame_lines.specs.declared.line.Direction.TheVariants.{FromDte, FromDce}
+use Rattle.frame_lines.specs.Lines.{Flights, lossless_service, without_first}
 use Rattle.net_events.specs.NodeEvents.{NodeEvent, Hears, IsFor, LeftBy}
 use Rattle.net_events.specs.Network.{PlacedSwitch, User, Switching, HappenedAt, LostAt}
 use Rattle.net_events.specs.AtSwitch.{SwitchEvent, SwitchHappened, HasOwnLine, switched, joins_of, waiting_on}

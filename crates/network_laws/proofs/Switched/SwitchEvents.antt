@@ -2,7 +2,7 @@
 use Rattle.std.proofs.Common.{◌≡◌, ◌≢◌, ℕ, Some, sym, subst, inl, inr}
 use Rattle.std.specs.Prelude.{◌⊎◌, slice_get}
 use Rattle.record_laws.proofs.Books.Basics.{get_set, set_here}
-use Rattle.memory_line.specs.Lines.{LineService}
+use Rattle.frame_lines.specs.Lines.{LineService}
 use Rattle.switched_call_laws.specs.QuietSwitches.Quiet.{IsQuietSwitch}
 use Rattle.net_events.specs.AtSwitch.{SwitchEvent, switched, switch_drained, SwitchHappened}
 use Rattle.net_events.specs.Network.{NetNode, Switching, Network, StandsAtLines, Stands}

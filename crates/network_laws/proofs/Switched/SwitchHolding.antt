@@ -12,7 +12,7 @@ use Rattle.call_records.specs.Writes.{Write, all_written}
 use Rattle.call_records.specs.Register.{Register, book_at}
 use Rattle.node_laws.specs.LineRecords.Kept.{Kept}
 use Rattle.line_nodes.specs.Node.{NodeState, Pad, Host, end_of}
-use Rattle.memory_line.specs.Lines.{LineService}
+use Rattle.frame_lines.specs.Lines.{LineService}
 use Rattle.node_laws.proofs.Pads.Holding as pad_law
 use Rattle.switch_lines.specs.Lines.{SwitchLine}
 use Rattle.switched_call_laws.specs.SwitchRecords.Turned.{sight}

@@ -13,7 +13,7 @@ use Rattle.packet_end.specs.PacketEnd.{PacketEnd}
 use Rattle.node_laws.specs.Lines.Line.{Line, other_after}
 use Rattle.node_laws.specs.Lines.Line as line_law
 use Rattle.line_nodes.specs.Node.{NodeState, end_of}
-use Rattle.memory_line.specs.Lines.{Flights, no_flights, LineService, ArePut, flying, with_flying, without_first}
+use Rattle.frame_lines.specs.Lines.{Flights, no_flights, LineService, ArePut, flying, with_flying, without_first}
 use Rattle.switch_lines.specs.Lines.{SwitchLine}
 use Rattle.switch_lines.specs.Switch.{frames_on}
 use Rattle.switched_call_laws.specs.SwitchRecords.Kept.{Partner, Partners, line_of_ends, line_with, sent_on}

@@ -9,7 +9,7 @@ use Rattle.packet_end.specs.PacketEnd.{PacketEnd}
 use Rattle.record_laws.proofs.Books.Basics.{get_there, number_is, get_set, set_here, set_elsewhere}
 use Rattle.node_laws.specs.Quiet.{IsQuiet}
 use Rattle.line_nodes.specs.Node.{NodeState, Host, is_pad}
-use Rattle.memory_line.specs.Lines.{LineService}
+use Rattle.frame_lines.specs.Lines.{LineService}
 use Rattle.switch_lines.specs.Lines.{SwitchLine, role_on}
 use Rattle.switch_lines.specs.Switch.{Switch, timer_runs, on_expiry, relink, without_joins}
 use Rattle.switch_laws.specs.Steps.Happening.{Brings, RunsOut, Relinks as RelinksLine}

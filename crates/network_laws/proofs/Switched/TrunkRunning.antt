@@ -9,8 +9,8 @@ use Rattle.packet_end.specs.Params.{AreParams}
 use Rattle.packet_channel.specs.Packets.{CallParts}
 use Rattle.packet_channel.specs.Packets.Note.{Incoming}
 use Rattle.line_nodes.specs.Node.{frames_of, node_rests}
-use Rattle.memory_line.specs.declared.line.Direction.TheVariants.{FromDte, FromDce}
-use Rattle.memory_line.specs.Lines.{Flights, lossless_service, no_flights, without_first}
+use Rattle.frame_lines.specs.declared.line.Direction.TheVariants.{FromDte, FromDce}
+use Rattle.frame_lines.specs.Lines.{Flights, lossless_service, no_flights, without_first}
 use Rattle.net_events.specs.NodeEvents.{NodeEvent, Hears, IsFor, LeftBy}
 use Rattle.net_events.specs.Network.{PlacedSwitch, User, Switching, HappenedAt}
 use Rattle.net_events.specs.AtSwitch.{SwitchEvent, SwitchHappened, HasOwnLine, switched, joins_of, waiting_on}

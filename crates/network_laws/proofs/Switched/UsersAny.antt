@@ -1,5 +1,5 @@
 -- What holds of any network that is served holds after an event at a node with users, after a loss, and when ticks pass.
-use Rattle.memory_line.specs.Lines.{LineService}
+use Rattle.frame_lines.specs.Lines.{LineService}
 use Rattle.network_laws.proofs.Networks.{happened_network, lost_network}
 use Rattle.network_laws.proofs.Opened.{elapsed_network}
 use Rattle.network_laws.specs.Switched.IsSwitched.{of_users, with_switches}

@@ -13,8 +13,8 @@ use Rattle.node_laws.specs.Lines.Line.{Line}
 use Rattle.node_laws.specs.LineRecords.Kept.{end_at}
 use Rattle.node_laws.specs.Quiet.{IsQuiet}
 use Rattle.line_nodes.specs.Node.{NodeState, drained}
-use Rattle.memory_line.specs.declared.line.Direction.{Direction}
-use Rattle.memory_line.specs.Lines.{Flights, LineService}
+use Rattle.frame_lines.specs.declared.line.Direction.{Direction}
+use Rattle.frame_lines.specs.Lines.{Flights, LineService}
 use Rattle.record_laws.specs.CallPaths.World.{all_traced, after_event}
 use Rattle.record_laws.specs.CallPaths.World.Event.{Writes}
 use Rattle.switched_call_laws.specs.SwitchPaths.Sight.{Standing}

@@ -9,7 +9,7 @@ use Rattle.call_records.specs.Book.{Book, side_of}
 use Rattle.call_records.specs.Register.{Register, book_at}
 use Rattle.record_laws.proofs.Books.Basics.{get_set, length_set}
 use Rattle.node_laws.specs.LineRecords.Kept.{Setting}
-use Rattle.memory_line.specs.Lines.{Flights, LineService}
+use Rattle.frame_lines.specs.Lines.{Flights, LineService}
 use Rattle.record_laws.specs.CallPaths.World.{Origin, World, Plan}
 use Rattle.switched_call_laws.specs.SwitchPaths.Sight.{Switched, Switches, OwnLines, Lines, Standing, seen_then, all_seen}
 use Rattle.switched_call_laws.specs.SwitchPaths.Network.{PlacedCall}

@@ -8,8 +8,8 @@ use Rattle.record_laws.proofs.Books.Basics.{set_here, set_elsewhere}
 use Rattle.node_laws.specs.Quiet.{IsQuiet}
 use Rattle.line_nodes.specs.Node.{NodeState, drained, frames_of, is_pad}
 use Rattle.line_nodes.specs.Turn.{Turn}
-use Rattle.memory_line.specs.declared.line.Direction.TheVariants.{FromDte, FromDce}
-use Rattle.memory_line.specs.Lines.{Flights, LineService, ArePut}
+use Rattle.frame_lines.specs.declared.line.Direction.TheVariants.{FromDte, FromDce}
+use Rattle.frame_lines.specs.Lines.{Flights, LineService, ArePut}
 use Rattle.net_events.specs.OneLine.{LineState, direction_of}
 use Rattle.net_events.specs.OneLine as one
 use Rattle.net_events.specs.NodeEvents.{NodeEvent, IsFor, turn_of, LeftBy}

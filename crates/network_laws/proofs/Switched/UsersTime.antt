@@ -14,7 +14,7 @@ use Rattle.node_laws.specs.Lines.Line.{Line}
 use Rattle.node_laws.specs.LineRecords.Kept.{end_at}
 use Rattle.node_laws.proofs.QuietTurns as quiet_law
 use Rattle.line_nodes.specs.Node.{NodeState, Pad, Host, end_of, is_pad, node_elapsed}
-use Rattle.memory_line.specs.Lines.{LineService}
+use Rattle.frame_lines.specs.Lines.{LineService}
 use Rattle.switch_lines.specs.Lines.{SwitchLine, role_on}
 use Rattle.switch_lines.specs.Switch.{elapse, with_end}
 use Rattle.switched_call_laws.specs.SwitchRecords.Kept.{Partner}

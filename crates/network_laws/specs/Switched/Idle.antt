@@ -1,7 +1,7 @@
 -- An expiry at a switch of a timer that does not run leaves the network as it was.
 use Rattle.std.specs.Prelude.{◌≡◌, ℕ, false, slice_get}
 use Rattle.link_timers.specs.declared.timers.TimerId.{TimerId}
-use Rattle.memory_line.specs.Lines.{LineService}
+use Rattle.frame_lines.specs.Lines.{LineService}
 use Rattle.switch_lines.specs.Switch.{timer_runs}
 use Rattle.net_events.specs.AtSwitch.{SwitchHappened, Expires}
 use Rattle.net_events.specs.Network.{Network}

@@ -6,7 +6,7 @@ use Rattle.call_records.specs.Book.{Book, side_of}
 use Rattle.node_laws.specs.Lines.Line.{Line}
 use Rattle.node_laws.specs.Quiet.{IsQuiet}
 use Rattle.line_nodes.specs.Node.{NodeState, Host, end_of, is_pad}
-use Rattle.memory_line.specs.Lines.{LineService}
+use Rattle.frame_lines.specs.Lines.{LineService}
 use Rattle.switch_lines.specs.Lines.{SwitchLine}
 use Rattle.switched_call_laws.specs.SwitchRecords.Tied.{Histories}
 use Rattle.switched_call_laws.specs.SwitchPaths.Sight.{Switched, Switches, OwnLines, Lines}

@@ -4,8 +4,8 @@ use Rattle.link_timers.specs.declared.role.Role.{Role}
 use Rattle.link_timers.specs.declared.timers.TimerId.{TimerId}
 use Rattle.packet_layer.specs.Layer.{confirmed}
 use Rattle.line_nodes.specs.Node.{end_of, node_due}
-use Rattle.memory_line.specs.declared.line.Direction.{Direction}
-use Rattle.memory_line.specs.Lines.{LineService}
+use Rattle.frame_lines.specs.declared.line.Direction.{Direction}
+use Rattle.frame_lines.specs.Lines.{LineService}
 use Rattle.switch_lines.specs.Switch.{due_on}
 use Rattle.net_events.specs.NodeEvents.{NodeEvent}
 use Rattle.net_events.specs.NodeEvents.NodeEvent.{Expires}

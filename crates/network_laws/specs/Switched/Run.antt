@@ -20,9 +20,9 @@ use Rattle.call_records.specs.Records.{RecordValue, PairValue}
 use Rattle.call_records.specs.Register.{Register, book_at, with_book, made_register}
 use Rattle.line_nodes.specs.Node.{NodeState, Host, is_pad, end_of, drained, frames_of, node_rests}
 use Rattle.line_nodes.specs.Turn.{Turn}
-use Rattle.memory_line.specs.declared.line.Direction.{Direction}
-use Rattle.memory_line.specs.declared.line.Direction.TheVariants.{FromDte, FromDce}
-use Rattle.memory_line.specs.Lines.{Flights, lossless_service, no_flights, flying, with_flying, without_first}
+use Rattle.frame_lines.specs.declared.line.Direction.{Direction}
+use Rattle.frame_lines.specs.declared.line.Direction.TheVariants.{FromDte, FromDce}
+use Rattle.frame_lines.specs.Lines.{Flights, lossless_service, no_flights, flying, with_flying, without_first}
 use Rattle.address_routes.specs.Routes.{RouteMap}
 use Rattle.switch_lines.specs.Lines.{SwitchLine}
 use Rattle.switch_lines.specs.Making.{made as made_switch}

@@ -15,8 +15,8 @@ use Rattle.call_records.specs.Records.{RecordValue, HopValue}
 use Rattle.call_records.specs.Register.{Register, book_at, with_book, made_register}
 use Rattle.line_nodes.specs.Node.{NodeState, Host, end_of, drained, frames_of, node_rests}
 use Rattle.line_nodes.specs.Turn.{Turn}
-use Rattle.memory_line.specs.declared.line.Direction.TheVariants.{FromDte, FromDce}
-use Rattle.memory_line.specs.Lines.{Flights, lossless_service, no_flights, without_first}
+use Rattle.frame_lines.specs.declared.line.Direction.TheVariants.{FromDte, FromDce}
+use Rattle.frame_lines.specs.Lines.{Flights, lossless_service, no_flights, without_first}
 use Rattle.address_routes.specs.Routes.{RouteMap}
 use Rattle.switch_lines.specs.Making.{made as made_switch}
 use Rattle.switch_lines.specs.Switch.{Switch, switch_rests}

@@ -1,7 +1,7 @@
 //! A call that comes from a partner of another make, which gives its address.
 use crate::played::programs::prints_over;
+use frame_lines::{Datagrams, UdpLine};
 use std::io;
-use udp_line::{Datagrams, UdpLine};
 
 /// A PAD and a host on a line of two channels, on the first of which a call stands.
 const STANDING: &str = r#"

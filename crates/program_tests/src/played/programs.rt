@@ -1,4 +1,5 @@
 //! Tests of the program: its command words, its input and what it prints.
+use frame_lines::UdpLine;
 use net_files::{FIRST, ProgFault, read_net, read_script};
 use net_player::{Config, Line, MakeFault, Net, perform, play};
 use std::alloc::{AllocError, Global};
@@ -6,7 +7,6 @@ use std::fs::Files;
 use std::io::{Read, Write};
 use std::process::Abort;
 use std::{io, net};
-use udp_line::UdpLine;
 
 /// A script of the input, what is printed for it, and what is told of a fault.
 type Run = (&'static [u8], &'static [u8], &'static [u8]);

@@ -1,12 +1,12 @@
 //! Partners of a line that fail at a call: what they do not carry is lost.
 use crate::played::programs::prints_over;
+use frame_lines::{Datagrams, SocketFault, UdpLine};
 use net_files::FIRST;
 use net_player::Direction;
 use std::alloc::Global;
 use std::io;
 use std::net::{Ipv4Addr, Net, UdpSocket};
 use std::test::Fail;
-use udp_line::{Datagrams, SocketFault, UdpLine};
 
 /// How a partner fails at a call.
 #[derive(Clone, Copy, Debug, PartialEq, Eq)]

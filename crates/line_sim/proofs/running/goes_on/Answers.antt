@@ -1,5 +1,5 @@
 use Rattle.line_sim.proofs.RunsMore.{lent_answered}
-use Rattle.memory_line.specs.Lines.{memory_service}
+use Rattle.frame_lines.specs.Lines.{memory_service}
 use Rattle.line_sim.proofs.running.goes_on.Goals as goal
 
 pub returns-in-Ok-clause-handled : goal.returns-in-Ok-clause-handled

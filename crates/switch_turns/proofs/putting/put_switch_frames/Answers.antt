@@ -2,7 +2,7 @@ use Rattle.std.proofs.Common.{◌≡◌, ◌<◌, [], length, refl, ap, ◌∙�
 use Rattle.std.proofs.lemmas.List.{length_push}
 use Rattle.switch_lines.specs.Switch.{Switch, with_end}
 use Rattle.packet_end.specs.PacketEnd.{without_first_frame}
-use Rattle.memory_line.specs.declared.line.Direction.{Direction}
+use Rattle.frame_lines.specs.declared.line.Direction.{Direction}
 use Rattle.net_events.specs.OneLine.{direction_of}
 use Rattle.net_events.specs.AtSwitch.{waiting_on}
 use Rattle.net_events.specs.Network.{own_role}

@@ -1,5 +1,5 @@
 use Rattle.std.proofs.Common.{◌<◌, length, slice_get, sym, ap, ◌∙◌, arith}
-use Rattle.memory_line.specs.Lines.{flying}
+use Rattle.frame_lines.specs.Lines.{flying}
 use Rattle.net_events.specs.Network.{Network, NetLine, place_at}
 use Rattle.net_nodes.specs.Steps.{hearer}
 use Rattle.placed_nodes.proofs.Lists.{there}

@@ -1,6 +1,6 @@
 use Rattle.std.proofs.Common.{◌<◌, length, slice_get, sym, ap, subst, ◌∙◌, refl}
 use Rattle.std.proofs.lemmas.Bool.{OnTrue_from}
-use Rattle.memory_line.specs.Lines.{flying}
+use Rattle.frame_lines.specs.Lines.{flying}
 use Rattle.net_events.specs.Network.{Network, NetLine}
 use Rattle.placed_nodes.proofs.Lists.{there}
 use Rattle.net_nodes.proofs.Empties.{none_arrived}

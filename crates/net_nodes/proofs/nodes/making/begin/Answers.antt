@@ -1,6 +1,6 @@
 use Rattle.std.proofs.Common.{◌≡◌, ◌≢◌, set, slice_get, sym, ap, ◌∙◌, subst}
-use Rattle.memory_line.specs.declared.line.Direction.TheVariants.{FromDte, FromDce}
-use Rattle.memory_line.specs.Lines.{Flights, no_flights, ArePut}
+use Rattle.frame_lines.specs.declared.line.Direction.TheVariants.{FromDte, FromDce}
+use Rattle.frame_lines.specs.Lines.{Flights, no_flights, ArePut}
 use Rattle.net_events.specs.Network.{NetNode}
 use Rattle.net_config.specs.NetPlan.{NewLine}
 use Rattle.record_laws.proofs.Books.Basics.{set_elsewhere}

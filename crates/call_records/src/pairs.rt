@@ -1,0 +1,39 @@
+//! Whether in each call what each end took matches what the other one sent.
+ghost use Rattle.std.specs.Prelude.{◌↔◌, IsTrue, map};
+ghost use Rattle.epochs.specs.Match.{Match};
+ghost use Rattle.call_records.specs.Records.{taken_epochs, sent_epochs};
+ghost use Rattle.call_records.specs.RecordView.{shown, pair_of};
+ghost use Rattle.call_records.specs.Matching.Pairs.{PairMatches, AllMatch};
+
+use crate::matching::matches;
+use crate::{Pair, Record};
+
+/// Whether the two records of each pair match, both ways.
+pub fn all_match(records: &[Record], pairs: &[Pair]) -> bool
+    ensures { IsTrue result ↔ AllMatch (map shown records.now) (map pair_of pairs.now) }
+{
+    for pair in pairs {
+        if !pair_matches(records, pair) {
+            return false;
+        }
+    }
+    true
+}
+
+/// Whether the two records of a pair are there and match, both ways.
+fn pair_matches(records: &[Record], pair: &Pair) -> bool
+    ensures { IsTrue result ↔ PairMatches (map shown records.now) (pair_of pair.now) }
+{
+    match (records.get(pair.caller), records.get(pair.callee)) {
+        (Some(caller), Some(callee)) => record_matches(callee, caller)
+            && record_matches(caller, callee),
+        _ => false,
+    }
+}
+
+/// Whether what the end of one record took matches what that of the other sent.
+fn record_matches(taker: &Record, sender: &Record) -> bool
+    ensures { IsTrue result ↔ Match (taken_epochs (shown taker.now)) (sent_epochs (shown sender.now)) }
+{
+    matches(&taker.taken, &sender.sent)
+}

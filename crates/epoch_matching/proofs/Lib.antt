@@ -1,4 +1,0 @@
-pub mod Deciding
-pub mod Lists
-pub mod EpochLists
-pub mod PairsThere
