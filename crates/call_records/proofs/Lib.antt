@@ -2,7 +2,7 @@ pub mod Growing
 mod Fitting
 pub mod Sides
 pub mod Rooms
-pub mod Coming
+pub mod NewRecords
 pub mod Ending
 pub mod Opening
 pub mod Written

@@ -2,4 +2,4 @@ pub mod Reading
 pub mod Sending
 pub mod Noted
 pub mod Short
-pub mod Telling
+pub mod FirstNote

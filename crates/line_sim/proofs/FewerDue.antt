@@ -27,10 +27,10 @@ use Rattle.net_config.specs.Plan.{is_line}
 use Rattle.net_nodes.specs.Steps.{ExpireStep}
 use Rattle.net_nodes.specs.Happening.{Happens}
 use Rattle.network_laws.proofs.Switched.FewerAny.{fewer_any, fewer_at_switch}
-use Rattle.network_laws.proofs.Switched.Standing.{same_switch}
+use Rattle.network_laws.proofs.Switched.NodesAtEnds.{same_switch}
 use Rattle.line_sim.specs.Between.{IsBetweenEvents}
 use Rattle.line_sim.specs.Expiries.{FewerDue}
-use Rattle.line_sim.proofs.Standing.{standing}
+use Rattle.line_sim.proofs.CanBeServed.{standing}
 
 -- ---- which timer it is
 

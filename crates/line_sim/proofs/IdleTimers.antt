@@ -26,10 +26,10 @@ use Rattle.net_nodes.specs.Steps.{ExpireStep}
 use Rattle.net_nodes.specs.Happening.{Happens}
 use Rattle.network_laws.specs.Switched.Idle.{IsAsBefore}
 use Rattle.network_laws.proofs.Switched.IdleExpiry.{idle_expiry}
-use Rattle.network_laws.proofs.Switched.Standing.{same_switch}
+use Rattle.network_laws.proofs.Switched.NodesAtEnds.{same_switch}
 use Rattle.line_sim.specs.Between.{IsBetweenEvents}
 use Rattle.line_sim.specs.Expiries.{DoesNotRun, IdleExpiry}
-use Rattle.line_sim.proofs.Standing.{standing}
+use Rattle.line_sim.proofs.CanBeServed.{standing}
 
 -- ---- what the register has of a line, written again
 

@@ -1,5 +1,5 @@
 mod Registered
-pub mod Standing
+pub mod CanBeServed
 pub mod Events
 mod FewerDue
 mod IdleTimers

@@ -1,8 +1,8 @@
 mod Places
 mod Serving
 mod SwitchTurns
-mod Acting
-mod Happening
+mod LineEndEvents
+mod UserNodeEvents
 mod Empties
 mod Passing
 mod Making

@@ -6,7 +6,7 @@ pub mod Channels
 pub mod NodeKinds
 pub mod Fitting
 pub mod Leaving
-mod Keeping
+mod FaithfulLines
 pub mod Answering
 pub mod Lines
 mod LineCourses

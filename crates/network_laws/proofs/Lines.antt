@@ -16,8 +16,8 @@ use Rattle.network_laws.specs.IsLine.{NodeHolds, line_of, IsKept, IsLine}
 use Rattle.network_laws.specs.LineLaw.{elapsed}
 use Rattle.network_laws.proofs.Fitting.{after-turn}
 use Rattle.network_laws.proofs.Leaving.{leaves}
-use Rattle.network_laws.proofs.Keeping.{keeps}
-use Rattle.node_laws.proofs.LineRecords.Keeping as keeping_law
+use Rattle.network_laws.proofs.FaithfulLines.{keeps}
+use Rattle.node_laws.proofs.LineRecords.LineLaw as keeping_law
 use Rattle.node_laws.proofs.Making as making_law
 use Rattle.node_laws.proofs.QuietTurns as quiet_law
 use Rattle.node_laws.proofs.Pads.Holding as pad_law

@@ -23,7 +23,7 @@ use Rattle.net_events.specs.Opening.{new_dte, new_dce, AreSent}
 use Rattle.network_laws.specs.LineLaw.{made_line}
 use Rattle.network_laws.proofs.Flying.{BothLanded, both_landed}
 use Rattle.network_laws.proofs.Fitting.{end-drained}
-use Rattle.node_laws.proofs.LineRecords.Keeping as keeping_law
+use Rattle.node_laws.proofs.LineRecords.LineLaw as keeping_law
 use Rattle.node_laws.proofs.Making as making_law
 use Rattle.node_laws.proofs.QuietTurns as quiet_law
 use Rattle.node_laws.proofs.Pads.Holding as pad_law

@@ -15,7 +15,7 @@ use Rattle.record_laws.proofs.Registers.Seeing.{present_seen, came_seen}
 use Rattle.record_laws.proofs.Registers.Having.{records_seen, callee_seen}
 use Rattle.record_laws.proofs.Registers.Promising.{promised, of_one_line, paired_seen}
 use Rattle.node_laws.specs.LineRecords.Kept.{end_at}
-use Rattle.node_laws.proofs.LineRecords.Keeping as keeping_law
+use Rattle.node_laws.proofs.LineRecords.LineLaw as keeping_law
 use Rattle.line_nodes.specs.Node.{NodeState, end_of, is_pad}
 use Rattle.frame_lines.specs.Lines.{LineService}
 use Rattle.net_events.specs.OneLine.{LineState}

@@ -9,7 +9,7 @@ pub mod PromiseUsers
 pub mod PromiseAny
 pub mod FewerAny
 pub mod RestAny
-pub mod Standing
+pub mod NodesAtEnds
 pub mod OwnLines
 pub mod UsersLine
 pub mod UsersHeld

@@ -16,7 +16,7 @@ use Rattle.node_laws.proofs.Pads.Events as pad_law
 use Rattle.call_records.specs.Book.{Book}
 use Rattle.node_laws.specs.LineRecords.Kept.{Setting, Kept, end_at, coming_to}
 use Rattle.node_laws.specs.LineRecords.Happens.{sent, with_restart}
-use Rattle.node_laws.proofs.LineRecords.Happening.{frame_kept, expiry_kept, relink_kept, restarted_kept}
+use Rattle.node_laws.proofs.LineRecords.WholeEvents.{frame_kept, expiry_kept, relink_kept, restarted_kept}
 use Rattle.line_nodes.specs.Node.{NodeState, Pad, Host, end_of, drained}
 use Rattle.line_nodes.specs.Turn.{unchanged, told}
 use Rattle.line_nodes.specs.Terminals.{after_terminal}

@@ -1,11 +1,11 @@
-pub mod Moving
-pub mod Telling
+pub mod MovesFromOneEnd
+pub mod ActEvents
 pub mod WaitsInTransfer
 pub mod Views
 pub mod Flows
-pub mod Acting
-pub mod Keeping
-pub mod Happening
+pub mod KeptAfterActs
+pub mod LineLaw
+pub mod WholeEvents
 pub mod Opening
 pub mod Rows
 pub mod DueCounts

@@ -3,7 +3,7 @@ pub mod Unread
 pub mod Flows
 pub mod Layers
 pub mod Links
-pub mod Telling
+pub mod LayerEvents
 pub mod Acts
 pub mod Offering
 pub mod Holding

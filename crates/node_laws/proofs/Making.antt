@@ -9,7 +9,7 @@ use Rattle.node_laws.specs.Lines.Line.{At, Sends, Elapses, happens, made}
 use Rattle.call_records.specs.Book.{Book, made_book}
 use Rattle.node_laws.specs.LineRecords.Kept.{Setting, Kept}
 use Rattle.node_laws.specs.LineRecords.Happens.{sent}
-use Rattle.node_laws.proofs.LineRecords.Keeping.{made_kept, silent_kept}
+use Rattle.node_laws.proofs.LineRecords.LineLaw.{made_kept, silent_kept}
 use Rattle.line_nodes.specs.Node.{NodeState, Pad, Host, end_of, drained, node_elapsed}
 use Rattle.node_laws.specs.Nodes.{IsNode, StandsAt}
 use Rattle.node_laws.specs.Clauses.{elapsed_line, ElapsesLaw, first_line, MakingLaw, NodesLaw}

@@ -11,7 +11,7 @@ pub mod Modes
 pub mod Typing
 pub mod Printing
 pub mod Ports
-pub mod Keeping
+pub mod PadBooks
 pub mod Begins
 pub mod Owning
 pub mod Noting
@@ -21,7 +21,7 @@ pub mod Events
 pub mod Rooms
 pub mod Lengths
 pub mod Queues
-pub mod Telling
+pub mod QualifiedPackets
 pub mod Interrupting
 pub mod Saying
 pub mod Spoken

@@ -20,7 +20,7 @@ use Rattle.call_records.specs.Book.{Book, packet_of, made_book}
 use Rattle.record_laws.specs.Books.Headline.{BookHolds}
 use Rattle.node_laws.specs.LineRecords.Kept.{Setting, IsSetting, Kept, end_at, coming_to}
 use Rattle.node_laws.specs.LineRecords.Happens.{with_event}
-use Rattle.node_laws.proofs.LineRecords.Keeping.{holds_kept}
+use Rattle.node_laws.proofs.LineRecords.LineLaw.{holds_kept}
 use Rattle.line_nodes.specs.Node.{NodeState, Host, end_of, drained}
 use Rattle.line_nodes.specs.Turn.{Turn}
 use Rattle.line_nodes.specs.LineTurns.{hears}

@@ -10,7 +10,7 @@ use Rattle.node_laws.specs.Lines.Line.{Line, Sends}
 use Rattle.call_records.specs.Book.{Book, all_told}
 use Rattle.node_laws.specs.LineRecords.Kept.{Setting, Kept, end_at, coming_to}
 use Rattle.node_laws.specs.LineRecords.Happens.{with_event}
-use Rattle.node_laws.proofs.LineRecords.Keeping.{silent_kept, like_kept}
+use Rattle.node_laws.proofs.LineRecords.LineLaw.{silent_kept, like_kept}
 use Rattle.line_nodes.specs.Node.{NodeState, Pad, Host, end_of, drained, all_read, without_notes}
 use Rattle.line_nodes.specs.Turn.{unchanged, told}
 use Rattle.x25_pad.specs.Pad.{PadState}

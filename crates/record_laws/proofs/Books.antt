@@ -14,12 +14,12 @@ pub mod Histories
 pub mod Steps
 pub mod Meetings
 pub mod Outcomes
-pub mod Moving
+pub mod ChannelSteps
 pub mod Layers
 pub mod Ends
 pub mod Events
 pub mod Placing
-pub mod Coming
+pub mod IncomingPackets
 pub mod Lines
 pub mod Starting
 pub mod BookHolds

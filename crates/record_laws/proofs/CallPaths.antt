@@ -8,7 +8,7 @@ pub mod Steps
 pub mod Inducing
 pub mod Writing
 pub mod Joining
-pub mod Happening
+pub mod SeenAfterEvents
 pub mod Making
 pub mod Beginning
 pub mod Showing

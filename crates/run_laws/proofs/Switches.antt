@@ -15,10 +15,10 @@ use Rattle.net_events.proofs.Users.{not_both}
 use Rattle.net_nodes.specs.Turns.{AtEnd}
 use Rattle.switch_turns.specs.Switching.{all_puts}
 use Rattle.net_nodes.specs.Steps.{AtSwitch, OnOwnLine, AtSwitchEnd}
-use Rattle.network_laws.proofs.Switched.Standing.{same_switch}
+use Rattle.network_laws.proofs.Switched.NodesAtEnds.{same_switch}
 use Rattle.network_laws.proofs.Switched.OwnLines.{own_or_none}
 use Rattle.line_sim.specs.Between.{IsBetweenEvents}
-use Rattle.line_sim.proofs.Standing.{standing}
+use Rattle.line_sim.proofs.CanBeServed.{standing}
 use Rattle.run_laws.specs.Determined.{IsSameAnswer}
 use Rattle.run_laws.proofs.Puts.{puts_once}
 

@@ -29,8 +29,8 @@ use Rattle.switch_laws.proofs.Legs.{not_refused, not_false}
 use Rattle.switch_laws.proofs.Lists.{map_changed, same_as}
 use Rattle.switch_laws.proofs.Places.{joined_here, joined_place, place_after, place_joined, layers_asked, some_there, there_after}
 use Rattle.switch_laws.proofs.SettingUp.{accepts_call, IsFreePlace, IsAnswer, answer_by_is, answer_if, layer_there}
-use Rattle.switch_laws.proofs.Staying.{asked_beside, joined_beside, placed_beside, line_beside, differ, free_shown}
-use Rattle.switch_laws.proofs.Coming.{at}
+use Rattle.switch_laws.proofs.JoinsOfOtherLines.{asked_beside, joined_beside, placed_beside, line_beside, differ, free_shown}
+use Rattle.switch_laws.proofs.JoinsAfterNotes.{at}
 use Rattle.switch_laws.proofs.Arriving.{Arrives}
 use Rattle.switch_joins.proofs.Apart.{decided, place_is}
 use Rattle.switch_lines.proofs.Places.{joined_kept, joined_asked, joined_apart}

@@ -31,9 +31,9 @@ use Rattle.switch_lines.proofs.Relaying.{relayed_stays}
 use Rattle.switch_lines.proofs.Places.{sizes_same}
 use Rattle.switch_laws.proofs.Places.{some_there, takes_is, size_is}
 use Rattle.switch_laws.proofs.Relaying.{StuckAt, VisitedBy, visited}
-use Rattle.switch_laws.proofs.Staying.{IsOther, acted_beside}
+use Rattle.switch_laws.proofs.JoinsOfOtherLines.{IsOther, acted_beside}
 use Rattle.switch_laws.proofs.Turning.{relinked_effect, acted_right}
-use Rattle.switch_laws.proofs.Keeping.{layers_on_ends, joined_on_ends}
+use Rattle.switch_laws.proofs.JoinsAtEventEnd.{layers_on_ends, joined_on_ends}
 use Rattle.switch_laws.proofs.Newness.{before_joins}
 use Rattle.switch_laws.proofs.Finishing.{begun_right, happens, none_relinks, relinks_leave, all_relinks, offers_from}
 use Rattle.switch_joins.proofs.Apart.{decided, place_is}

@@ -35,12 +35,12 @@ use Rattle.switch_laws.specs.EventSteps.{heed_steps, heed_all_steps}
 use Rattle.switch_laws.proofs.Leading.{heed_leads}
 use Rattle.switch_laws.proofs.Frame.{Touches, pair_turned, same_pair, frame, reached_none, reached_then, reached_there, reached_world}
 use Rattle.switch_laws.proofs.Hearing.{hears_right, mishears_right}
-use Rattle.switch_laws.proofs.Telling.{closes}
+use Rattle.switch_laws.proofs.NotesOfJoined.{closes}
 use Rattle.switch_laws.proofs.Outcomes.{AreOf, Outcome, received_outcome, received_notes, unreadable_outcome, unreadable_notes}
 use Rattle.switch_laws.proofs.Outcomes.Outcome.{ends}
 use Rattle.switch_laws.proofs.Arriving.{StepCalls, received_calls, unreadable_calls, cleared_calls}
 use Rattle.switch_laws.proofs.SettingUp.{pair_call}
-use Rattle.switch_laws.proofs.Coming.{at, always, Came, comes, becomes_then, becomes_by, Heeded, After}
+use Rattle.switch_laws.proofs.JoinsAfterNotes.{at, always, Came, comes, becomes_then, becomes_by, Heeded, After}
 use Rattle.switch_joins.proofs.Apart.{decided}
 
 -- ---- the effect of an act on its layer

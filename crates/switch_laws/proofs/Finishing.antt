@@ -32,10 +32,10 @@ use Rattle.switch_laws.specs.Law.{TurnLaw}
 use Rattle.switch_laws.proofs.Layers.{all_close}
 use Rattle.switch_lines.specs.Lines.{joined_at}
 use Rattle.switch_laws.specs.Stays.{IsNone, OthersStay, relinked_in}
-use Rattle.switch_laws.proofs.Staying.{acted_stays, stay_rounds}
+use Rattle.switch_laws.proofs.JoinsOfOtherLines.{acted_stays, stay_rounds}
 use Rattle.switch_laws.specs.Calls.{CallsAreJoined, HasCall}
 use Rattle.switch_laws.proofs.Joining.{acted_calls}
-use Rattle.switch_laws.proofs.Keeping.{layers_on_ends, joined_on_ends, ends_keep, finished_calls}
+use Rattle.switch_laws.proofs.JoinsAtEventEnd.{layers_on_ends, joined_on_ends, ends_keep, finished_calls}
 use Rattle.switch_laws.proofs.Offered.{event_offered}
 use Rattle.switch_laws.proofs.Legs.{leg_gave}
 use Rattle.switch_laws.proofs.Joins.{gives_right, turned_join}
@@ -43,7 +43,7 @@ use Rattle.switch_laws.proofs.Places.{place_after, some_there, line_there, shown
 use Rattle.switch_laws.proofs.Frame.{reached_there, reached_world}
 use Rattle.switch_laws.proofs.Relaying.{relayed_first_right, relayed_first_stuck}
 use Rattle.switch_laws.proofs.Leading.{acts_lead, relayed_first_leads, offered_leads, rounds_leads, relinked_leads, all_relinked_leads, acted_leads}
-use Rattle.switch_laws.proofs.Coming.{becomes_same, becomes_then, becomes_by}
+use Rattle.switch_laws.proofs.JoinsAfterNotes.{becomes_same, becomes_then, becomes_by}
 use Rattle.switch_laws.proofs.Effects.{steady, leg_on_line, leg_elsewhere}
 use Rattle.switch_laws.proofs.Turning.{changed_at, changed_none, changed_twice, changed_same, got_changed, layer_got, layers_changed, acted_right, relinked_effect, does_effect}
 use Rattle.switch_joins.proofs.Apart.{decided}

@@ -55,7 +55,7 @@ use Rattle.switch_laws.proofs.Leading.{Leads, acted_leads, all_relinked_leads, r
 use Rattle.switch_laws.proofs.Turning.{relinked_effect, acted_right}
 use Rattle.switch_laws.proofs.Finishing.{happens}
 use Rattle.switch_laws.proofs.Offered.{AreSmall, heed_all_lines, all_relinked_ks, act_ks, begun_ks, small_links, does_k}
-use Rattle.switch_laws.proofs.Happening.{links_small, rounds_ks}
+use Rattle.switch_laws.proofs.SwitchAfterEvents.{links_small, rounds_ks}
 use Rattle.switch_laws.proofs.Owing.{IsMild, AreMild, IsAsking, heed_all_asks, asking_mild, acted_mild, OnLine, on_or_not, asks, relink_asks}
 use Rattle.switch_laws.proofs.Fitting.{fit_list, fit_each, acted_fits, all_relinked_fits, rounds_fit, begun_fits}
 use Rattle.switch_joins.proofs.Apart.{decided}

@@ -27,7 +27,7 @@ use Rattle.switch_laws.specs.Joined.{IsSwitch}
 use Rattle.switch_laws.proofs.Lists.{same_as, map_unchanged}
 use Rattle.switch_laws.proofs.Rounds.{lines_of, first_lines, from_lines, offers_line, offers_all, any_may}
 use Rattle.switch_laws.proofs.Relaying.{StuckAt, visited}
-use Rattle.switch_laws.proofs.Staying.{stay_moved, asked_beside, joined_beside}
+use Rattle.switch_laws.proofs.JoinsOfOtherLines.{stay_moved, asked_beside, joined_beside}
 use Rattle.switch_laws.proofs.Concerning.{SameShown, SameSizes, TakesSame, same_front, same_takes, shown_sizes, shown_takes, stuck_stays, joined_offered}
 use Rattle.switch_laws.proofs.Finishing.{offers_from}
 use Rattle.switch_laws.proofs.Offered.{HaveOfferedAll, none_may}

@@ -25,7 +25,7 @@ use Rattle.switch_laws.proofs.Places.{some_there, place_after}
 use Rattle.switch_laws.proofs.Layers.{opened_shown, seen}
 use Rattle.switch_laws.proofs.Frame.{reached_there, reached_world}
 use Rattle.switch_laws.proofs.Outcomes.{AreOf}
-use Rattle.switch_laws.proofs.Coming.{at}
+use Rattle.switch_laws.proofs.JoinsAfterNotes.{at}
 use Rattle.switch_laws.proofs.Effects.{Effect, Happened, IsStep}
 use Rattle.switch_laws.proofs.Effects.Effect.{nothing, closes_all, on_one}
 use Rattle.switch_laws.proofs.Arriving.{Arrives, EndsArrive}

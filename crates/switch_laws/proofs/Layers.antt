@@ -25,7 +25,7 @@ use Rattle.switch_laws.specs.Leg.{Leg, asked, asked_unless, opened, stepped, hea
 use Rattle.switch_laws.specs.World.{World, Shown, shown_of, shown_as, shown_on, Agrees, IsWorld, Act, MayHappen, MayAsk, after_act, after_acts, world_after, world_after_all, layer_after, leg_after, line_of, closed, restarted, came_in, cleared_if, ran_out, is_channel, placed_if, gave_if}
 use Rattle.switch_laws.specs.World.Act.{Asks, Comes, Expires, GoesUp, GoesDown, Calls, Gives, Reads}
 use Rattle.switch_laws.proofs.Lists.{get_changed, get_map, not_equal}
-use Rattle.switch_laws.proofs.Standing.{start_good, asked_good, heard_good, misheard_good, gave_good}
+use Rattle.switch_laws.proofs.LegsByState.{start_good, asked_good, heard_good, misheard_good, gave_good}
 use Rattle.switch_joins.proofs.Apart.{decided}
 use Rattle.switch_lines.proofs.Places.{get_unchanged}
 

@@ -3,7 +3,7 @@ pub mod Legs
 pub mod Ways
 pub mod Joins
 pub mod Hearing
-pub mod Standing
+pub mod LegsByState
 pub mod Lists
 pub mod Layers
 pub mod Places
@@ -11,11 +11,11 @@ pub mod Frame
 pub mod Relaying
 pub mod Leading
 pub mod Addresses
-pub mod Telling
+pub mod NotesOfJoined
 pub mod Outcomes
 mod Sequences
 pub mod SettingUp
-pub mod Coming
+pub mod JoinsAfterNotes
 pub mod Effects
 pub mod Running
 pub mod SizesRunning
@@ -24,18 +24,18 @@ pub mod Turning
 pub mod Finishing
 pub mod NewJoins
 pub mod Relinking
-pub mod Happening
+pub mod SwitchAfterEvents
 pub mod Newness
 pub mod Pairing
 pub mod Concerning
 pub mod Rounds
 pub mod Links
 pub mod Offered
-pub mod Staying
+pub mod JoinsOfOtherLines
 pub mod Calling
 pub mod Arriving
 pub mod Joining
-pub mod Keeping
+pub mod JoinsAtEventEnd
 pub mod Alone
 pub mod Owing
 pub mod Isolating

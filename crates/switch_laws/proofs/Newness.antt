@@ -34,7 +34,7 @@ use Rattle.switch_laws.specs.EventSteps.{heed_steps}
 use Rattle.switch_laws.proofs.SettingUp.{joins_by_route, not_back}
 use Rattle.switch_laws.proofs.Leading.{heed_leads}
 use Rattle.switch_laws.proofs.Addresses.{addresses, end_addresses, one_addresses, lead_addresses, same_trunk}
-use Rattle.switch_laws.proofs.Keeping.{joined_on_ends}
+use Rattle.switch_laws.proofs.JoinsAtEventEnd.{joined_on_ends}
 use Rattle.switch_lines.proofs.Places.{joined_kept}
 
 from_same : (ls : List SwitchLine) → JoinsNone ls ls

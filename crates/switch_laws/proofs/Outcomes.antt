@@ -11,7 +11,7 @@ use Rattle.packet_channel.specs.Traffic.Heard.{Keeps, Confirms, Wrong}
 use Rattle.packet_channel.specs.Channel.{CallState, Channel, Step, received, unreadable, in_transfer, may_accept, waits_for_call, had_call, after_heard, entered}
 use Rattle.packet_channel.specs.Channel.CallState.{Ready, OwnWaiting, FarWaiting, Transfer, Collision, OwnClear}
 use Rattle.packet_laws.specs.Readable.{Every}
-use Rattle.switch_laws.proofs.Telling.{GoesOn}
+use Rattle.switch_laws.proofs.NotesOfJoined.{GoesOn}
 
 -- all notes are of this channel, and after one of a call that comes in, which can be accepted, comes no other
 abbrev pub AreOf : (channel : ℕ) → Role → CallState → List Note → Type 0

@@ -32,7 +32,7 @@ use Rattle.switch_laws.proofs.Leading.{acts_lead, moved_leads, relayed_leads}
 use Rattle.switch_laws.proofs.Joins.{there_right}
 use Rattle.switch_laws.proofs.Lists.{same_as}
 use Rattle.switch_laws.proofs.Ways.{Near, Open, open_of, Beside, relayed_beside, relayed_stuck, same_takes}
-use Rattle.switch_laws.proofs.Standing.{accepts_before}
+use Rattle.switch_laws.proofs.LegsByState.{accepts_before}
 use Rattle.switch_laws.proofs.Places.{joined_here, joined_place, front_is, takes_is, size_is, some_there, leg_asked, leg_apart}
 use Rattle.switch_laws.proofs.Frame.{Touches, touches_none, touches_then, touches_turned, touches_asked, touches_joined, reached_there, reached_none, reached_then, other_apart, Pairing, pairing, pair_kept, apart_turned}
 use Rattle.switch_joins.proofs.Apart.{decided, place_is}

@@ -19,10 +19,10 @@ use Rattle.switch_laws.specs.World.{Shown, Agrees, shown_at, shown_of, layers_of
 use Rattle.switch_laws.specs.Joined.{IsSwitch, has_place}
 use Rattle.switch_laws.specs.Events.{new_legs}
 use Rattle.switch_laws.specs.Run.{started, letter, carried, covered, interrupted, confirmed, reset, two_lines, no_calls, parameters, config, configs, new_switch, events, RunLaw}
-use Rattle.switch_laws.proofs.Happening.{events_hold}
+use Rattle.switch_laws.proofs.SwitchAfterEvents.{events_hold}
 use Rattle.switch_laws.proofs.Joins.{join_begins, both_right, gives_right, turned_join}
 use Rattle.switch_laws.proofs.Hearing.{hears_right}
-use Rattle.switch_laws.proofs.Standing.{start_good}
+use Rattle.switch_laws.proofs.LegsByState.{start_good}
 
 two : IsFlow (modulo_8 2)
 two = record { window_least = omega arith; window_most = omega arith; size_is = refl }

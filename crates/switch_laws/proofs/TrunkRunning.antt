@@ -22,7 +22,7 @@ use Rattle.switch_lines.specs.Switch.Answer.{Clears}
 use Rattle.switch_laws.specs.Events.{after_events, new_legs}
 use Rattle.switch_laws.specs.Events.Event.{Arrives, Expires, SetsUp, Elapses}
 use Rattle.switch_laws.specs.TrunkRun.{trunk_configs, routes, trunk_switch, set_up, call, call_on, trunk_clear, user_clear, user_restart, accepted, call_back, sent_back, clear_confirmation, call_in, incoming, restart_indication, cleared, sabm_again, called, came_back, came_in, trunk_events, TrunkRunLaw}
-use Rattle.switch_laws.proofs.Happening.{events_hold}
+use Rattle.switch_laws.proofs.SwitchAfterEvents.{events_hold}
 use Rattle.switch_laws.proofs.Running.{parameters_right, config_right}
 
 -- ---- a frame that brings a call

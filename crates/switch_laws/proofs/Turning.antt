@@ -37,7 +37,7 @@ use Rattle.switch_laws.proofs.Places.{place_after}
 use Rattle.switch_laws.proofs.Frame.{acts_then, world_then, every_then}
 use Rattle.switch_laws.proofs.Effects.{Effect, effect, effect_right, steady, leg_on_line, leg_elsewhere}
 use Rattle.switch_laws.proofs.Effects.Effect.{nothing, closes_all, on_one}
-use Rattle.switch_laws.proofs.Coming.{After}
+use Rattle.switch_laws.proofs.JoinsAfterNotes.{After}
 use Rattle.switch_joins.proofs.Apart.{decided}
 use Rattle.switch_lines.proofs.Places.{joined_kept}
 

@@ -20,9 +20,9 @@ use Rattle.switch_laws.specs.Concern.{is_one_of, lines_of_event}
 use Rattle.switch_laws.specs.Events.{SwitchHolds}
 use Rattle.switch_laws.specs.Isolated.{IsUntouched, WasTooMuch, LeavesOthers, IsolationLaw}
 use Rattle.switch_laws.proofs.Lists.{get_map}
-use Rattle.switch_laws.proofs.Staying.{IsOther, acted_beside}
+use Rattle.switch_laws.proofs.JoinsOfOtherLines.{IsOther, acted_beside}
 use Rattle.switch_laws.proofs.Turning.{relinked_effect, acted_right}
-use Rattle.switch_laws.proofs.Keeping.{layers_on_ends, joined_on_ends}
+use Rattle.switch_laws.proofs.JoinsAtEventEnd.{layers_on_ends, joined_on_ends}
 use Rattle.switch_laws.proofs.Finishing.{begun_right, happens, none_relinks, relinks_leave}
 use Rattle.switch_laws.proofs.Offered.{heed_all_lines}
 use Rattle.switch_laws.proofs.Concerning.{relinks_beside, none_of, before_right}

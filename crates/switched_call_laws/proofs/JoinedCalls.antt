@@ -2,9 +2,9 @@ pub mod Steady
 pub mod Walking
 pub mod Following
 pub mod Closing
-pub mod Telling
+pub mod EndedCalls
 pub mod Answering
-pub mod Acting
+pub mod CallsAfterActs
 pub mod NewCalls
 pub mod Outside
-pub mod Eventing
+pub mod CallsAfterEvents

@@ -3,10 +3,10 @@ pub mod Silence
 pub mod Accepting
 pub mod Sighted
 pub mod Seeing
-pub mod Keeping
+pub mod LinesByMoves
 pub mod Elsewhere
-pub mod Moving
-pub mod Happened
+pub mod PartnerMoves
+pub mod SwitchEvents
 pub mod Users
 pub mod Changing
 pub mod Joined

@@ -12,7 +12,7 @@ pub mod Heads
 pub mod Making
 pub mod Turning
 pub mod Chains
-pub mod Happenings
+pub mod LineEndActs
 pub mod Stepping
 pub mod Octets
 pub mod Fitting

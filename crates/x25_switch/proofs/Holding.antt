@@ -19,7 +19,7 @@ use Rattle.switch_laws.specs.Offers.{EndsKeepNothingBack}
 use Rattle.switch_laws.specs.Pairs.{JoinsByRoute, JoinsNone, noted_in}
 use Rattle.switch_laws.specs.Sent.{AreAllSent}
 use Rattle.switch_laws.specs.Steps.Happening.{Brings, RunsOut, Relinks}
-use Rattle.switch_laws.proofs.Happening.{events_hold}
+use Rattle.switch_laws.proofs.SwitchAfterEvents.{events_hold}
 use Rattle.switch_laws.proofs.Alone.{concerns_hold}
 use Rattle.switch_laws.proofs.Pairing.{pairs_hold}
 use Rattle.switch_laws.proofs.Untouched.{others_are_left}

@@ -18,7 +18,7 @@ use Rattle.network_laws.specs.DueCount.{all_due}
 use Rattle.network_laws.proofs.Due.{fewer_of, fewer_due}
 use Rattle.network_laws.specs.Switched.IsSwitched.{LineStands, IsSwitched, of_users, with_switches}
 use Rattle.network_laws.specs.Switched.Laws.{FewerLaw, SwitchFewerLaw}
-use Rattle.network_laws.proofs.Switched.Standing.{user_end}
+use Rattle.network_laws.proofs.Switched.NodesAtEnds.{user_end}
 use Rattle.network_laws.proofs.Switched.SwitchStanding.{switch_quiet}
 
 -- ---- a node with users is quiet

@@ -38,7 +38,7 @@ use Rattle.network_laws.specs.Switched.Plans.{IsPlanOf, has_users, goes_on_at}
 use Rattle.network_laws.specs.Switched.IsSwitched.{ends_state, line_between, LineStands, IsHeld, IsSwitched, of_users, with_switches}
 use Rattle.network_laws.specs.Switched.Laws.{MadeLaw}
 use Rattle.network_laws.proofs.Switched.Addressed.{made_addressed}
-use Rattle.network_laws.proofs.Switched.Standing.{AreApart, same_at, are_apart, same_switch}
+use Rattle.network_laws.proofs.Switched.NodesAtEnds.{AreApart, same_at, are_apart, same_switch}
 use Rattle.network_laws.proofs.Switched.MadePlan.{find_switch, end_place, is_user, end_is_user, line_there, switch_there, goes_on, digits_of, plan_of, are_addressed, is_tree, dce_role, dte_role, are_between}
 use Rattle.network_laws.proofs.Switched.MadeStanding.{MayStand, Stood, all_stand, made_stood}
 use Rattle.network_laws.proofs.Switched.MadeStands.{net_line, line_planned, as_dte, at_dte, at_dce, is_new_dte, stands_made, nodes_made}

@@ -19,7 +19,7 @@ use Rattle.record_laws.proofs.Books.Basics.{get_there}
 use Rattle.node_laws.specs.Lines.Line.{made as made_ends}
 use Rattle.node_laws.specs.LineRecords.Kept.{IsSetting, Kept, end_at}
 use Rattle.node_laws.specs.LineRecords.Happens.{sent}
-use Rattle.node_laws.proofs.LineRecords.Keeping.{made_kept}
+use Rattle.node_laws.proofs.LineRecords.LineLaw.{made_kept}
 use Rattle.switch_lines.specs.declared.config.SwitchLineConfig.{SwitchLineConfig}
 use Rattle.switch_lines.specs.Lines.{SwitchLine}
 use Rattle.switch_lines.specs.Making.{made_line, made}
@@ -38,7 +38,7 @@ use Rattle.switched_call_laws.specs.SwitchPaths.Law.{IsMadeAt}
 use Rattle.switched_call_laws.proofs.SwitchRecords.Making.{made_records}
 use Rattle.switched_call_laws.proofs.SwitchRecords.Tying.{tied_holds}
 use Rattle.switched_call_laws.proofs.SwitchRecords.Turned.{sight_back}
-use Rattle.switched_call_laws.proofs.JoinedCalls.Eventing.{calls_hold}
+use Rattle.switched_call_laws.proofs.JoinedCalls.CallsAfterEvents.{calls_hold}
 use Rattle.record_laws.specs.CallPaths.World.{Plan}
 use Rattle.record_laws.specs.CallPaths.Lines.{free_book}
 use Rattle.net_config.specs.NetPlan.{NewSwitch, Planned, PlannedSwitch, NewLine, NetPlan, IsSwitchPlan, IsPlan}

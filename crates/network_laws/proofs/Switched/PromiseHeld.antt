@@ -14,7 +14,7 @@ use Rattle.record_laws.specs.Registers.Promise.{HasRecords}
 use Rattle.node_laws.specs.LineRecords.Kept.{end_at}
 use Rattle.node_laws.specs.LineRecords.Confirmed.{SaysConfirmed}
 use Rattle.node_laws.specs.LineRecords.Counted.{ShowsCounts}
-use Rattle.node_laws.proofs.LineRecords.Keeping as keeping_law
+use Rattle.node_laws.proofs.LineRecords.LineLaw as keeping_law
 use Rattle.node_laws.proofs.LineRecords.Confirming.{confirmed_kept}
 use Rattle.node_laws.proofs.LineRecords.Counting.{shown_kept}
 use Rattle.node_laws.specs.LineRecords.Histories.{LineHistory}
@@ -39,7 +39,7 @@ use Rattle.network_laws.specs.Switched.Promise.{NetworkPromise}
 use Rattle.network_laws.proofs.Switched.FarAddresses.{AreEnds, far_none}
 use Rattle.network_laws.proofs.Switched.Histories.{LineData, IsLed, IsOwned, PairsAre, histories_hold}
 use Rattle.network_laws.proofs.Switched.PairsHeld.{PairOf, all_owned, held_pairs}
-use Rattle.network_laws.proofs.Switched.Standing.{user_end}
+use Rattle.network_laws.proofs.Switched.NodesAtEnds.{user_end}
 use Rattle.network_laws.proofs.Switched.FewerAny.{quiet_user}
 use Rattle.network_laws.proofs.Switched.PromiseLines.{fellow}
 

@@ -18,7 +18,7 @@ use Rattle.packet_laws.specs.Readable.{AreOctets}
 use Rattle.switched_call_laws.specs.SwitchRecords.Kept.{Partners, partners_after, restarted_partner, BeginWith}
 use Rattle.switched_call_laws.specs.SwitchRecords.Tied.{Histories, IsTied, happened, restarted}
 use Rattle.switched_call_laws.specs.JoinedCalls.Calls.{JoinedCall}
-use Rattle.switched_call_laws.proofs.JoinedCalls.Eventing.{calls_hold}
+use Rattle.switched_call_laws.proofs.JoinedCalls.CallsAfterEvents.{calls_hold}
 use Rattle.record_laws.specs.CallPaths.World.{Origin, Join, World, Plan}
 use Rattle.switched_call_laws.specs.SwitchPaths.Sight.{Switched, Switches, OwnLines, Lines, found_line, network_line, role_at, all_seen, all_after}
 use Rattle.switched_call_laws.specs.SwitchPaths.Network.{IsOther, PlacedCall, placed_at, of_switch, AreJoins}

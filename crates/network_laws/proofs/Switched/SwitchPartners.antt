@@ -24,7 +24,7 @@ use Rattle.net_events.specs.AtSwitch.{SwitchEvent, Hears, Expires, Relinks, Rest
 use Rattle.net_events.specs.Network.{PlacedSwitch, NetNode, Switching, NetLine, StandsAtLines, place_at, own_role}
 use Rattle.network_laws.proofs.Flying.{landed}
 use Rattle.network_laws.specs.Switched.IsSwitched.{line_between, EndStands, LineStands}
-use Rattle.network_laws.proofs.Switched.Standing.{AreApart, same_end, same_place}
+use Rattle.network_laws.proofs.Switched.NodesAtEnds.{AreApart, same_end, same_place}
 use Rattle.network_laws.proofs.Switched.SwitchMoving.{partners_then, MayCome}
 use Rattle.network_laws.proofs.Switched.SwitchStanding.{switch_after, switched_many}
 

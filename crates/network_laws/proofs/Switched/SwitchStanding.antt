@@ -22,7 +22,7 @@ use Rattle.net_events.specs.AtSwitch.{SwitchEvent, Hears, Expires, Relinks, Rest
 use Rattle.net_events.specs.Network.{PlacedNode, PlacedSwitch, NetNode, User, Switching, NetLine, StandsAtLines, IsAtEnd, Stands, place_at, own_role}
 use Rattle.net_events.proofs.Users.{not_switch, not_both}
 use Rattle.network_laws.specs.Switched.IsSwitched.{IsEndOf, EndStands, LineStands}
-use Rattle.network_laws.proofs.Switched.Standing.{same_place}
+use Rattle.network_laws.proofs.Switched.NodesAtEnds.{same_place}
 use Rattle.network_laws.proofs.Switched.OwnLines.{own_or_none}
 
 -- ---- the switch after an event, whose frames went

@@ -29,7 +29,7 @@ use Rattle.network_laws.proofs.NodeKinds.{kind-after}
 use Rattle.network_laws.proofs.Shapes.{writes_stay}
 use Rattle.network_laws.proofs.Uniform.{IsUniform, uniform}
 use Rattle.network_laws.specs.Switched.IsSwitched.{ends_state, line_between, LineStands, IsHeld, IsSwitched}
-use Rattle.network_laws.proofs.Switched.Standing.{ChangesAt, same_nodes, one_set, nodes_after, are_apart, UserEnd, user_end}
+use Rattle.network_laws.proofs.Switched.NodesAtEnds.{ChangesAt, same_nodes, one_set, nodes_after, are_apart, UserEnd, user_end}
 use Rattle.network_laws.proofs.Switched.UsersLine.{with_at, in_flight, here_stands, line_turned}
 use Rattle.network_laws.proofs.Switched.UsersHeld.{net_after, LineChanges, held_after, switched_after}
 

@@ -20,7 +20,7 @@ use Rattle.net_events.specs.Network.{PlacedSwitch, NetNode, User, Switching, Net
 use Rattle.network_laws.specs.IsLine.{IsLine}
 use Rattle.network_laws.specs.Switched.Plans.{IsPlanOf, has_users}
 use Rattle.network_laws.specs.Switched.IsSwitched.{ends_state, line_between, EndStands, LineStands, IsSwitchAt, IsHeld, IsSwitched}
-use Rattle.network_laws.proofs.Switched.Standing.{AreApart, ChangesAt, same_end, same_at, stands_moved, nodes_after}
+use Rattle.network_laws.proofs.Switched.NodesAtEnds.{AreApart, ChangesAt, same_end, same_at, stands_moved, nodes_after}
 
 -- the network then
 abbrev pub net_after : (new : List NetNode) (line : ℕ) → NetLine → Flights → Register → Network → Network

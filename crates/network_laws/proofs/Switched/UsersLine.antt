@@ -18,7 +18,7 @@ use Rattle.network_laws.specs.IsLine.{IsLine}
 use Rattle.network_laws.proofs.Lines.{happened_line}
 use Rattle.network_laws.proofs.Fitting.{pad-drained}
 use Rattle.network_laws.specs.Switched.IsSwitched.{ends_state, EndStands, IsUserThere, LineStands}
-use Rattle.network_laws.proofs.Switched.Standing.{user_end}
+use Rattle.network_laws.proofs.Switched.NodesAtEnds.{user_end}
 
 -- what is at the two ends when this is at the end of a role
 abbrev pub with_at : Role → NodeState → (Role → NodeState) → Role → NodeState

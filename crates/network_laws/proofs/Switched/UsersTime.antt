@@ -33,7 +33,7 @@ use Rattle.network_laws.proofs.Lines.{elapsed_lines}
 use Rattle.network_laws.proofs.Opened.{mapped, unmapped}
 use Rattle.network_laws.specs.Switched.Plans.{IsPlanOf, has_users}
 use Rattle.network_laws.specs.Switched.IsSwitched.{ends_state, line_between, IsEndOf, EndStands, IsUserThere, LineStands, IsSwitchAt, IsHeld, IsSwitched}
-use Rattle.network_laws.proofs.Switched.Standing.{same_switch, AreApart, same_end, same_at, are_apart}
+use Rattle.network_laws.proofs.Switched.NodesAtEnds.{same_switch, AreApart, same_end, same_at, are_apart}
 use Rattle.network_laws.proofs.Switched.UsersHeld.{sighted}
 use Rattle.network_laws.proofs.Switched.UsersEvents.{book_of}
 use Rattle.network_laws.proofs.Switched.OwnLines.{line_named, none_other, own_or_none, same_role, other_role_is, own_of_switch, role_of_own, switch_there, if_here, if_there}

@@ -18,7 +18,7 @@ use Rattle.call_records.specs.Book.{Book}
 use Rattle.record_laws.specs.Books.Told.{World, Move, after_move, after_all}
 use Rattle.record_laws.specs.Books.Told.Move.{Happens, Edits}
 use Rattle.node_laws.specs.LineRecords.Kept.{Setting, Kept, beginning, end_at, coming_to}
-use Rattle.node_laws.proofs.LineRecords.Moving.{world_at}
+use Rattle.node_laws.proofs.LineRecords.MovesFromOneEnd.{world_at}
 use Rattle.node_laws.proofs.LineRecords.Views.{KeptAt, seen}
 
 -- ---- one event at an end

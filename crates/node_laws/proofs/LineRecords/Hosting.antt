@@ -35,9 +35,9 @@ use Rattle.node_laws.specs.LineRecords.Hosts.{sends_all, says, refuses, lets_go,
 use Rattle.node_laws.proofs.LineRecords.WaitsInTransfer.{found_open}
 use Rattle.node_laws.proofs.LineRecords.Views.{KeptAt, seen, kept_waits}
 use Rattle.node_laws.proofs.LineRecords.Flows.{kept_flow}
-use Rattle.node_laws.proofs.LineRecords.Acting.{sends_at, requests_at}
-use Rattle.node_laws.proofs.LineRecords.Keeping.{front_kept}
-use Rattle.node_laws.proofs.LineRecords.Happening.{on_line, asked_on, called_on, expiry_on}
+use Rattle.node_laws.proofs.LineRecords.KeptAfterActs.{sends_at, requests_at}
+use Rattle.node_laws.proofs.LineRecords.LineLaw.{front_kept}
+use Rattle.node_laws.proofs.LineRecords.WholeEvents.{on_line, asked_on, called_on, expiry_on}
 
 -- ---- small things
 

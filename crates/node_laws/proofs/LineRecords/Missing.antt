@@ -24,7 +24,7 @@ use Rattle.record_laws.specs.Books.Rest.{TookAll, NothingMissing}
 use Rattle.record_laws.proofs.Books.OpenPairs.{holds_there, opened}
 use Rattle.node_laws.specs.LineRecords.Kept.{Setting, Kept, beginning, end_at}
 use Rattle.node_laws.specs.LineRecords.Rest.{RestLaw}
-use Rattle.node_laws.proofs.LineRecords.Keeping.{present_kept}
+use Rattle.node_laws.proofs.LineRecords.LineLaw.{present_kept}
 
 -- what the one end sent and the other one took in an epoch, in their records
 took_all : (sender taker : RecordValue) (e f : Epoch) → HasLast sender e → HasLast taker f → HasAll e f → TookAll sender taker

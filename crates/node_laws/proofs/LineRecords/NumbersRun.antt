@@ -15,7 +15,7 @@ use Rattle.call_records.specs.Records.{RecordValue, new_record}
 use Rattle.call_records.specs.Book.{packet_of, made_book}
 use Rattle.record_laws.specs.Books.Headline.{BookHolds}
 use Rattle.node_laws.specs.LineRecords.Kept.{Setting, IsSetting, Kept}
-use Rattle.node_laws.proofs.LineRecords.Keeping.{made_kept, holds_kept}
+use Rattle.node_laws.proofs.LineRecords.LineLaw.{made_kept, holds_kept}
 use Rattle.node_laws.proofs.LineRecords.Rows.{Happening, Starts, Hears, Places, Asks, Net, after, AreFit, all_kept, fit_append, fit_rounds, rounds, digits, can_be_placed}
 
 -- ---- the run

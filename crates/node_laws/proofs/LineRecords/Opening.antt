@@ -29,7 +29,7 @@ use Rattle.packet_end.specs.PacketEnd.{PacketEnd, begun, heeded, after_packet, r
 use Rattle.node_laws.proofs.Lines.Finishing.{finished_is}
 use Rattle.call_records.specs.Room.{opening_notes}
 use Rattle.node_laws.specs.LineRecords.Opening.{FrameOpens, ExpiryOpens, RelinkOpens, EndOpens, ReadLaw}
-use Rattle.node_laws.proofs.LineRecords.Happening.{all_offered_notes}
+use Rattle.node_laws.proofs.LineRecords.WholeEvents.{all_offered_notes}
 
 -- ---- lists of notes
 

@@ -22,8 +22,8 @@ use Rattle.record_laws.specs.Books.Told.{placed_on}
 use Rattle.record_laws.specs.Books.Headline.{BookHolds}
 use Rattle.node_laws.specs.LineRecords.Kept.{Setting, IsSetting, Kept, end_at, coming_to}
 use Rattle.node_laws.specs.LineRecords.Happens.{with_event, asked_all, requested_all}
-use Rattle.node_laws.proofs.LineRecords.Keeping.{made_kept, silent_kept, holds_kept}
-use Rattle.node_laws.proofs.LineRecords.Happening.{frame_kept, called_kept, requested_kept}
+use Rattle.node_laws.proofs.LineRecords.LineLaw.{made_kept, silent_kept, holds_kept}
+use Rattle.node_laws.proofs.LineRecords.WholeEvents.{frame_kept, called_kept, requested_kept}
 
 -- ---- events of nodes, of whose frames none is lost
 

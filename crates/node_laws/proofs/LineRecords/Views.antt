@@ -17,7 +17,7 @@ use Rattle.record_laws.specs.Books.Told.{World, after_all}
 use Rattle.node_laws.specs.LineRecords.Kept.{Setting, IsSetting, Kept, beginning, end_at, coming_to}
 use Rattle.packet_layer.specs.Layer.{Layer}
 use Rattle.node_laws.proofs.LineRecords.WaitsInTransfer.{AllWaitInTransfer, BothWaitInTransfer, moves_waits, start_waits}
-use Rattle.node_laws.proofs.LineRecords.Moving.{Reaches, world_at}
+use Rattle.node_laws.proofs.LineRecords.MovesFromOneEnd.{Reaches, world_at}
 
 pub record KeptAt (s : Setting) (b : Book) (role : Role) (me you : PacketEnd) (going coming : List Octets) : Type 0 where
   pub setting : IsSetting s

@@ -32,7 +32,7 @@ use Rattle.node_laws.specs.Lines.Events.{frame_events, expiry_events, timer_even
 use Rattle.node_laws.specs.Lines.Joint.{Side, side, session_of, coming_session, Follows, JointAt}
 use Rattle.node_laws.specs.Lines.Steps.{session_after, Rise, Step}
 use Rattle.node_laws.proofs.Lines.Links.{Goes, at_link, role_of, goes_thin, goes_none, goes_behind, goes_t1, goes_relink, goes_settle, goes_restart, goes_frame, relink_not_up, settle_as_up, plain_takes}
-use Rattle.node_laws.proofs.Lines.Telling.{Told, told_nothing, told_down, told_note, told_step, told_timer, told_call, told_request}
+use Rattle.node_laws.proofs.Lines.LayerEvents.{Told, told_nothing, told_down, told_note, told_step, told_timer, told_call, told_request}
 
 -- ---- a step of the link, whose frames wait behind those that waited
 

@@ -24,8 +24,8 @@ use Rattle.record_laws.proofs.Books.Layers.{put_here}
 use Rattle.record_laws.proofs.Books.Writing.{written_append}
 use Rattle.node_laws.specs.LineRecords.Kept.{Setting}
 use Rattle.node_laws.proofs.LineRecords.Views.{KeptAt, line_of, unseen}
-use Rattle.node_laws.proofs.LineRecords.Keeping.{front_kept}
-use Rattle.node_laws.proofs.LineRecords.Acting.{requests_at, calls_at, edits_at}
+use Rattle.node_laws.proofs.LineRecords.LineLaw.{front_kept}
+use Rattle.node_laws.proofs.LineRecords.KeptAfterActs.{requests_at, calls_at, edits_at}
 use Rattle.x28_commands.specs.declared.command.Selection.{Selection}
 use Rattle.x25_pad.specs.Notes as notes
 use Rattle.x25_pad.specs.Notes.{ChannelNote}

@@ -16,9 +16,9 @@ use Rattle.call_records.specs.Book.{Book, all_told}
 use Rattle.node_laws.specs.LineRecords.Kept.{Setting, Kept, end_at, coming_to}
 use Rattle.node_laws.specs.LineRecords.Happens.{sent, with_event, with_restart}
 use Rattle.node_laws.proofs.LineRecords.Views.{KeptAt, seen}
-use Rattle.node_laws.proofs.LineRecords.Acting.{begins_at, hears_at, expires_at, relinks_at}
-use Rattle.node_laws.proofs.LineRecords.Keeping.{like_kept, silent_kept, made_kept}
-use Rattle.node_laws.proofs.LineRecords.Happening.{ends_on, restarted_kept}
+use Rattle.node_laws.proofs.LineRecords.KeptAfterActs.{begins_at, hears_at, expires_at, relinks_at}
+use Rattle.node_laws.proofs.LineRecords.LineLaw.{like_kept, silent_kept, made_kept}
+use Rattle.node_laws.proofs.LineRecords.WholeEvents.{ends_on, restarted_kept}
 use Rattle.x25_pad.specs.Notes as notes
 use Rattle.x25_pad.specs.Line.{last_incoming}
 use Rattle.x25_pad.specs.Ports as port

@@ -58,9 +58,9 @@ use Rattle.node_laws.specs.Pads.Happening.{PadEvent, HasKey, HasBreak, HasIdleTi
 use Rattle.node_laws.specs.Pads.Courses.{Happening, Here, There, Course, happened, IsCourse, begins, goes_on, CourseLaw, IsSeenAs, IsRecordOf, HasSentIn, PadHolds}
 use Rattle.node_laws.proofs.Pads.Asking.{noted, noted_append}
 use Rattle.node_laws.proofs.Pads.Begins.{made_types}
-use Rattle.node_laws.proofs.Pads.Keeping.{key_types, break_types, print_types, frame_types, relink_types, timer_types, idle_types, restart_types, time_types, drained_types, far_types}
+use Rattle.node_laws.proofs.Pads.PadBooks.{key_types, break_types, print_types, frame_types, relink_types, timer_types, idle_types, restart_types, time_types, drained_types, far_types}
 use Rattle.node_laws.proofs.Pads.Modes.{ReplyFollows, octets_follow}
-use Rattle.node_laws.proofs.Pads.Telling.{Octets, all_append, message_in, told_in, interrupt_in, all_in, IsKind, messages_kind, told_kind, told_octets}
+use Rattle.node_laws.proofs.Pads.QualifiedPackets.{Octets, all_append, message_in, told_in, interrupt_in, all_in, IsKind, messages_kind, told_kind, told_octets}
 use Rattle.node_laws.proofs.Pads.Interrupting.{interrupts_kind}
 use Rattle.node_laws.proofs.Pads.Saying.{event_messages, event_told, event_interrupts, messages_append, octets_append, interrupts_append}
 use Rattle.node_laws.proofs.Pads.Spoken.{IsPlain, edited_plain, reset_plain, sent_plain, interrupted_plain, took_plain, AreRaw, test_of, plain_list, plain_none, IsMuteNote, mute_list, all_closed_said, far_said}

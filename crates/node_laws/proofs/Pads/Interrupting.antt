@@ -42,7 +42,7 @@ use Rattle.x25_pad.specs.Ports.{AtLine}
 use Rattle.x25_pad.specs.declared.line.PadLine.{PadLine}
 use Rattle.node_laws.specs.Pads.Occasions.{Occasion, HadBreak, HadCommand, indication, asks_interrupt, all_interrupts}
 use Rattle.node_laws.specs.Pads.Happening.{by_key, by_line, by_break, by_taking, by_printing, meets, is_pending, asks_for_interrupt}
-use Rattle.node_laws.proofs.Pads.Telling.{Octets, interrupt_in, all_in, IsKind, IsSaidBy, nothing_noted, either, tells_silent, break_answer_by, one_more, silent_more, placed_says, clears_says, resets_says, edits_say}
+use Rattle.node_laws.proofs.Pads.QualifiedPackets.{Octets, interrupt_in, all_in, IsKind, IsSaidBy, nothing_noted, either, tells_silent, break_answer_by, one_more, silent_more, placed_says, clears_says, resets_says, edits_say}
 
 -- ---- interrupts
 

@@ -14,7 +14,7 @@ use Rattle.x25_pad.specs.Pad as pad
 use Rattle.x25_pad.specs.Pad.{PadState}
 use Rattle.node_laws.specs.Pads.Occasions.{Occasion, TookMessage, HadBreak, HadCommand, messages_taken, told_at, all_told, interrupts_at, all_interrupts}
 use Rattle.node_laws.specs.Pads.Happening.{PadEvent, HasKey, HasBreak, HasIdleTime, HasPrinting, HasFrame, HasExpiry, HasRelink, HasRestart, HasTicks, after_event, occasions_of, by_key, by_break, by_printing}
-use Rattle.node_laws.proofs.Pads.Telling.{Octets, message_in, told_in, interrupt_in, all_in, IsKind, messages_kind, told_kind, nothing_noted, key_says, told_octets, break_messages, break_told, print_told, print_messages, line_says, event_says, silent_says}
+use Rattle.node_laws.proofs.Pads.QualifiedPackets.{Octets, message_in, told_in, interrupt_in, all_in, IsKind, messages_kind, told_kind, nothing_noted, key_says, told_octets, break_messages, break_told, print_told, print_messages, line_says, event_says, silent_says}
 use Rattle.node_laws.proofs.Pads.Interrupting.{interrupts_kind, key_interrupts, idle_interrupts, break_interrupts, print_interrupts}
 
 -- ---- events

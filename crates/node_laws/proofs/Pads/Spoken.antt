@@ -32,7 +32,7 @@ use Rattle.node_laws.proofs.Pads.Asking.{noted}
 use Rattle.node_laws.proofs.Pads.Records.{qualified_append, qualified_more, qualified_user, qualified_qualified, sent_more, same_sent, renewed_sent, interrupts_more, same_interrupts, renewed_interrupts}
 use Rattle.node_laws.proofs.Pads.Books.{side_changed, change_of, change_keeps, slot_records, slot_node, side_record, side_pairs, changed_again, not_ours, far_holds, far_one}
 use Rattle.node_laws.proofs.Pads.Lists.{get_before}
-use Rattle.node_laws.proofs.Pads.Telling.{Octets, message_in, told_in, interrupt_in, all_in}
+use Rattle.node_laws.proofs.Pads.QualifiedPackets.{Octets, message_in, told_in, interrupt_in, all_in}
 
 -- ---- messages that a record took
 

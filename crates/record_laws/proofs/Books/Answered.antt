@@ -20,7 +20,7 @@ use Rattle.record_laws.proofs.Books.Invariant.Kind.{Caller, Callee, Cancelled}
 use Rattle.record_laws.proofs.Books.Carrying.{same_tag}
 use Rattle.record_laws.proofs.Books.EndSteps.{status_of, status_at, view_of, views_of}
 use Rattle.record_laws.proofs.Books.Layers.{in_range}
-use Rattle.record_laws.proofs.Books.Moving.{IsEnd}
+use Rattle.record_laws.proofs.Books.ChannelSteps.{IsEnd}
 use Rattle.record_laws.proofs.Books.Placed.{pair_is, has_callee}
 use Rattle.record_laws.proofs.Books.Lines.{KeptIn, all_kept, start_counts}
 use Rattle.record_laws.proofs.Books.Starting.{start_kept}

@@ -17,7 +17,7 @@ use Rattle.record_laws.proofs.Books.Ending.{Further}
 use Rattle.record_laws.proofs.Books.Writing.{Closes, closes_none, closes_all, closed_all}
 use Rattle.record_laws.proofs.Books.EndSteps.{status_of, status_at, within, has_come, view_of, end_step}
 use Rattle.record_laws.proofs.Books.Steps.{SameHistory}
-use Rattle.record_laws.proofs.Books.Moving.{KeptAt, IsEnd, sized, slot_of, top_of}
+use Rattle.record_laws.proofs.Books.ChannelSteps.{KeptAt, IsEnd, sized, slot_of, top_of}
 use Rattle.record_laws.proofs.Books.Layers.{closed_idle}
 
 -- ---- nothing happens to a call

@@ -22,7 +22,7 @@ use Rattle.record_laws.proofs.Books.Invariant.CallStatus.{Idle, OwnCall, FarCall
 use Rattle.record_laws.proofs.Books.Ending.{IsOver}
 use Rattle.record_laws.proofs.Books.EndSteps.{status_of, status_at, within, has_come, view_of, end_step}
 use Rattle.record_laws.proofs.Books.Steps.{SameHistory, history_refl}
-use Rattle.record_laws.proofs.Books.Moving.{KeptAt, kept_as, IsEnd, Facts, Arrival, channel_step, sized, slot_of, status_number}
+use Rattle.record_laws.proofs.Books.ChannelSteps.{KeptAt, kept_as, IsEnd, Facts, Arrival, channel_step, sized, slot_of, status_number}
 use Rattle.record_laws.proofs.Books.Outcomes.{Outcome, NoCalls, asked}
 use Rattle.record_laws.proofs.Books.Outcomes.Outcome.{stays, ends, ends_none, goes, connects, accepts, comes as call_comes, collides}
 use Rattle.record_laws.proofs.Books.Layers.{put_here, put_else, put_length, in_range, told_here, told_else, either_way}

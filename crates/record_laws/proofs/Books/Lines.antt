@@ -28,12 +28,12 @@ use Rattle.record_laws.proofs.Books.Invariant.{EndView, ChannelUse, IsRight, boo
 use Rattle.record_laws.proofs.Books.Writing.{Closes, size_changed, slot_changed, pairs_changed, count_changed, kept_changed}
 use Rattle.record_laws.proofs.Books.EndSteps.{view_of, views_of, within, has_come, end_step}
 use Rattle.record_laws.proofs.Books.Steps.{history_refl}
-use Rattle.record_laws.proofs.Books.Moving.{KeptAt, Facts, sized, top_of}
+use Rattle.record_laws.proofs.Books.ChannelSteps.{KeptAt, Facts, sized, top_of}
 use Rattle.record_laws.proofs.Books.Layers.{next_same, either_way}
 use Rattle.record_laws.proofs.Books.Ends.{quiet_step}
 use Rattle.record_laws.proofs.Books.Events.{requests_kept, begun_rises, same_rises, same_end_is}
 use Rattle.record_laws.proofs.Books.Placing.{calls_given, timer_runs, down_kept, up_kept}
-use Rattle.record_laws.proofs.Books.Coming.{accepts_kept}
+use Rattle.record_laws.proofs.Books.IncomingPackets.{accepts_kept}
 use Rattle.record_laws.proofs.Books.Concluding.{LineSays, concluded, calls_concluded, callers_are}
 
 -- ---- an event at `me`

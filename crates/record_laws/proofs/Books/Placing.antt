@@ -22,7 +22,7 @@ use Rattle.record_laws.proofs.Books.Ending.{Further}
 use Rattle.record_laws.proofs.Books.Writing.{size_trans, size_record, size_slot, SameSize}
 use Rattle.record_laws.proofs.Books.EndSteps.{status_of, status_at, has_come}
 use Rattle.record_laws.proofs.Books.Steps.{history_refl, place_step}
-use Rattle.record_laws.proofs.Books.Moving.{KeptAt, Facts, begun_now, sized}
+use Rattle.record_laws.proofs.Books.ChannelSteps.{KeptAt, Facts, begun_now, sized}
 use Rattle.record_laws.proofs.Books.Outcomes.{NoCalls, next_use}
 use Rattle.record_laws.proofs.Books.Outcomes.Outcome.{ends}
 use Rattle.record_laws.proofs.Books.Layers.{put_here, put_else, put_length, in_range, closed_length, told_here, told_else, either_way, free_is}

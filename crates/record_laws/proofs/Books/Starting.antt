@@ -23,7 +23,7 @@ use Rattle.record_laws.proofs.Books.Cancelling.{caller_not_callee, caller_not_ca
 use Rattle.record_laws.proofs.Books.Calling.{none_sent, none_taken, callee_number}
 use Rattle.record_laws.proofs.Books.EndSteps.{status_at, view_of, views_of}
 use Rattle.record_laws.proofs.Books.Histories.{in_use_cases, in_use_keeps}
-use Rattle.record_laws.proofs.Books.Moving.{KeptAt, HasSize}
+use Rattle.record_laws.proofs.Books.ChannelSteps.{KeptAt, HasSize}
 use Rattle.record_laws.proofs.Books.Placing.{no_session_not_ready}
 use Rattle.record_laws.proofs.Books.Lines.{KeptIn}
 

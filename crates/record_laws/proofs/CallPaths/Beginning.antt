@@ -7,7 +7,7 @@ use Rattle.record_laws.specs.CallPaths.World.{World, Plan, AreAddressed, AreBetw
 use Rattle.record_laws.specs.CallPaths.World.Event.{Writes, SwitchWrites, Joins}
 use Rattle.record_laws.specs.CallPaths.Seen.{Seen}
 use Rattle.record_laws.specs.CallPaths.Law.{PathLaw, MadeAlikeLaw, WithoutSwitchLaw}
-use Rattle.record_laws.proofs.CallPaths.Happening.{happens}
+use Rattle.record_laws.proofs.CallPaths.SeenAfterEvents.{happens}
 use Rattle.record_laws.proofs.CallPaths.Making.{made_seen}
 use Rattle.record_laws.specs.CallPaths.Tree.{IsTree}
 use Rattle.record_laws.specs.CallPaths.Paths.{ArePaths}

@@ -14,7 +14,7 @@ use Rattle.record_laws.specs.CallPaths.World.Event.{Writes, SwitchWrites, Joins}
 use Rattle.record_laws.specs.CallPaths.Seen.{Seen}
 use Rattle.record_laws.specs.CallPaths.Forwards.{IsForwarded, IsHandedOn, AreHandedOn, MadeForwardLaw, ForwardLaw, RelayedLaw}
 use Rattle.record_laws.proofs.CallPaths.Heading.{IsHeaded, more_headed, same_headed, slot_records, all_headed, all_origins}
-use Rattle.record_laws.proofs.CallPaths.Happening.{book_written}
+use Rattle.record_laws.proofs.CallPaths.SeenAfterEvents.{book_written}
 use Rattle.record_laws.proofs.CallPaths.Joining.{old_or_new}
 
 pub made_handed_on : MadeForwardLaw

@@ -28,7 +28,7 @@ use Rattle.record_laws.proofs.CallPaths.Records.{IsMild}
 use Rattle.record_laws.proofs.CallPaths.Writing.{closing_mild}
 use Rattle.record_laws.proofs.CallPaths.Inducing.{Property, Holds, Each, writes_hold}
 use Rattle.record_laws.proofs.CallPaths.Joining.{with_new, old_or_new}
-use Rattle.record_laws.proofs.CallPaths.Happening.{line_found, joins_go, user_goes, switch_goes}
+use Rattle.record_laws.proofs.CallPaths.SeenAfterEvents.{line_found, joins_go, user_goes, switch_goes}
 use Rattle.record_laws.proofs.CallPaths.Path.{hops_room}
 
 -- ---- no write changes a path

@@ -25,7 +25,7 @@ use Rattle.record_laws.proofs.CallPaths.Records.{KeepsHead, keeps_head, hop_keep
 use Rattle.record_laws.proofs.CallPaths.Writing.{closing_mild}
 use Rattle.record_laws.proofs.CallPaths.Inducing.{Holds, Each, writes_hold}
 use Rattle.record_laws.proofs.CallPaths.Heading.{IsHeaded, change_headed, closes_headed, pair_headed, new_headed}
-use Rattle.record_laws.proofs.CallPaths.Happening.{IsWritten, book_written}
+use Rattle.record_laws.proofs.CallPaths.SeenAfterEvents.{IsWritten, book_written}
 
 -- ---- slots
 

@@ -22,7 +22,7 @@ use Rattle.record_laws.specs.CallPaths.Rest.{HandedAll, HasHandedAll, HaveHanded
 use Rattle.record_laws.proofs.CallPaths.Each.{AllFrom, each, all_from, both, tested}
 use Rattle.record_laws.proofs.CallPaths.Forwarding.{stays_handed_on, relayed_joins}
 use Rattle.record_laws.proofs.CallPaths.Going.{all_next, next_of}
-use Rattle.record_laws.proofs.CallPaths.Happening.{happens}
+use Rattle.record_laws.proofs.CallPaths.SeenAfterEvents.{happens}
 
 either : (a b : Bool) → (a || b) ≡ true → (a ≡ true) ⊎ (b ≡ true)
 either true b h = inl refl

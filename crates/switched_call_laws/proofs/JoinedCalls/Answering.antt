@@ -31,7 +31,7 @@ use Rattle.switch_laws.specs.Joined.{has_place}
 use Rattle.switch_laws.specs.Steps.{Step}
 use Rattle.switch_laws.specs.Steps.Step.{Asks, Places, Keeps}
 use Rattle.switch_laws.specs.EventSteps.{told_steps, answered_steps, heed_steps, heed_all_steps}
-use Rattle.switch_laws.proofs.Coming.{at}
+use Rattle.switch_laws.proofs.JoinsAfterNotes.{at}
 use Rattle.switch_laws.proofs.Outcomes.{AreOf}
 use Rattle.switch_laws.proofs.Places.{joined_here, place_after, place_joined}
 use Rattle.switch_laws.proofs.SettingUp.{IsFreePlace, IsAnswer, layer_there, answer_by_is, answer_if, joins_by_route, not_back, ready_no_call}

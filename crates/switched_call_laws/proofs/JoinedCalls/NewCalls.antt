@@ -36,7 +36,7 @@ use Rattle.switch_laws.specs.Steps.{Happening, Step, does, lines_after, lines_af
 use Rattle.switch_laws.specs.Steps.Happening.{RunsOut, Relinks}
 use Rattle.switch_laws.specs.Steps.Step.{Asks, Keeps, Happens, Settles}
 use Rattle.switch_laws.specs.EventSteps.{told_steps, answered_steps, heed_steps, heed_all_steps, acted_steps, relinked_steps, all_relinked_steps, rounds_steps, finished_steps}
-use Rattle.switch_laws.proofs.Coming.{at}
+use Rattle.switch_laws.proofs.JoinsAfterNotes.{at}
 use Rattle.switch_laws.proofs.Layers.{seen}
 use Rattle.switch_laws.proofs.Leading.{heed_leads, relinked_leads, all_relinked_leads, rounds_leads}
 use Rattle.switch_laws.proofs.Outcomes.{AreOf, Outcome}
@@ -55,9 +55,9 @@ use Rattle.switched_call_laws.proofs.JoinedCalls.Steady.{Paired, Mutual, switch_
 use Rattle.switched_call_laws.proofs.JoinedCalls.Walking.{Beside, beside_step, leads_then, leads_itself}
 use Rattle.switched_call_laws.proofs.JoinedCalls.Following.{WrittenIn, last_written}
 use Rattle.switched_call_laws.proofs.JoinedCalls.Closing.{clear_touches, touched_slot}
-use Rattle.switched_call_laws.proofs.JoinedCalls.Telling.{IsClosing}
+use Rattle.switched_call_laws.proofs.JoinedCalls.EndedCalls.{IsClosing}
 use Rattle.switched_call_laws.proofs.JoinedCalls.Answering.{joins_lead}
-use Rattle.switched_call_laws.proofs.JoinedCalls.Acting.{closing_only, goes_plain, got_layer, here_book, joined_ms, beside_ms, mutual_ms}
+use Rattle.switched_call_laws.proofs.JoinedCalls.CallsAfterActs.{closing_only, goes_plain, got_layer, here_book, joined_ms, beside_ms, mutual_ms}
 use Rattle.switch_lines.proofs.Places.{joined_asked, joined_apart}
 
 -- ---- steps, one list after the other

@@ -32,10 +32,10 @@ use Rattle.switch_laws.specs.World.{World, Act, layers_of, shown_at, line_of, af
 use Rattle.switch_laws.specs.Steps.{Step, lines_after, lines_after_all, acts_of, on_line, offer_acts}
 use Rattle.switch_laws.specs.Steps.Step.{Asks, Places, Keeps, Happens, Offers, Begins, Settles, Elapses}
 use Rattle.switch_laws.specs.EventSteps.{asks_steps, freed_steps, moved_if_steps, moved_front_steps, moved_joined_steps, relayed_steps, relayed_from_steps, relayed_first_steps, anew_steps, covered_steps, told_joined_steps, told_steps, heed_steps, heed_all_steps, offered_steps, rounds_steps}
-use Rattle.switch_laws.proofs.Coming.{at}
+use Rattle.switch_laws.proofs.JoinsAfterNotes.{at}
 use Rattle.switch_laws.proofs.Leading.{Leads, moved_leads, relayed_leads, relayed_first_leads, offered_leads, heed_leads}
 use Rattle.switch_laws.proofs.Places.{joined_here, joined_place}
-use Rattle.switch_laws.proofs.Keeping.{joined_on_ends}
+use Rattle.switch_laws.proofs.JoinsAtEventEnd.{joined_on_ends}
 use Rattle.switched_call_laws.specs.SwitchRecords.Written.{Books, may_release_on, request_writes, writes, writes_at, books_after, books_after_all}
 use Rattle.switched_call_laws.specs.SwitchRecords.Rests.{Rests}
 use Rattle.switched_call_laws.proofs.SwitchRecords.Resting.{acts_rest}

@@ -13,7 +13,7 @@ use Rattle.packet_layer.specs.Layer.{next_packet}
 use Rattle.packet_end.specs.PacketEnd.{PacketEnd, begun, asked, called, relinked, with_next, offered, all_offered, settled}
 use Rattle.node_laws.proofs.LineRecords.DueCounts.{NoMore, no-more-same, stopped-more, started-more, brought-more}
 use Rattle.node_laws.proofs.LineRecords.DueEnds.{NoMoreDue, same-due, then-due, begun-due, either-due, received-due, timer-due, relinked-due, asked-due}
-use Rattle.node_laws.proofs.LineRecords.Happening.{all_offered_notes}
+use Rattle.node_laws.proofs.LineRecords.WholeEvents.{all_offered_notes}
 use Rattle.node_laws.proofs.QuietEnds.{received_unread, timer_unread, asked_unread, called_unread}
 use Rattle.switch_lines.specs.Switch.{quieted, without_notes}
 use Rattle.switch_lines.proofs.Unread.{all_offered_read}

@@ -14,7 +14,7 @@ use Rattle.switched_call_laws.specs.SwitchPaths.Network.{IsPlanned, PlacedCall, 
 use Rattle.switched_call_laws.specs.SwitchPaths.Law.{with_line, StaysKept, ChangeLaw}
 use Rattle.switched_call_laws.proofs.SwitchPaths.Listing.{if_same, if_else}
 use Rattle.switched_call_laws.proofs.SwitchPaths.Elsewhere.{kept_in_sight, LineStays, elsewhere}
-use Rattle.switched_call_laws.proofs.SwitchPaths.Moving.{seen_was}
+use Rattle.switched_call_laws.proofs.SwitchPaths.PartnerMoves.{seen_was}
 
 module _ (plan : Plan) (ats : OwnLines) (xs : Switches) (cs : List PlacedCall) (old : Lines) (books : List Book) (w : World) (traces : List (List Origin)) (line : ℕ) (b : Book) (l : Standing)
     (there : slice_get books line ≡ Some b) (stays_kept : (role : Role) → plan.has_user line role ≡ false → StaysKept role (old line) l b) (i : IsNetwork plan ats xs cs old books w traces) where

@@ -16,7 +16,7 @@ use Rattle.switched_call_laws.specs.SwitchRecords.Run as switch_run
 use Rattle.switched_call_laws.specs.SwitchRecords.Tied.{IsTied}
 use Rattle.switched_call_laws.proofs.SwitchRecords.Running.{run_holds as records_run}
 use Rattle.switched_call_laws.proofs.SwitchRecords.Tying.{tied_holds}
-use Rattle.switched_call_laws.proofs.JoinedCalls.Eventing.{calls_hold}
+use Rattle.switched_call_laws.proofs.JoinedCalls.CallsAfterEvents.{calls_hold}
 use Rattle.record_laws.specs.CallPaths.World.{AreAddressed, AreBetween, made_world}
 use Rattle.record_laws.specs.CallPaths.Tree.{IsTree}
 use Rattle.switched_call_laws.specs.SwitchPaths.Sight.{Switched, role_at, network_line, standing_with, IsInSight}

@@ -51,7 +51,7 @@ use Rattle.record_laws.specs.CallPaths.Tree.{IsTree}
 use Rattle.record_laws.specs.CallPaths.Paths.{ArePaths}
 use Rattle.record_laws.specs.CallPaths.Lines.{LinesSeen}
 use Rattle.record_laws.specs.CallPaths.Forwards.{Forwards, AreHandedOn}
-use Rattle.record_laws.proofs.CallPaths.Happening.{happens}
+use Rattle.record_laws.proofs.CallPaths.SeenAfterEvents.{happens}
 use Rattle.record_laws.proofs.CallPaths.Hopping.{paths_go}
 use Rattle.record_laws.proofs.CallPaths.Lining.{alone_seen}
 use Rattle.record_laws.proofs.CallPaths.Tracing.{traced}

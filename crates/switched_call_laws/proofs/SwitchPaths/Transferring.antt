@@ -22,7 +22,7 @@ use Rattle.record_laws.specs.Books.Open.{layers_at}
 use Rattle.record_laws.proofs.Books.OpenPairs.{holds_there}
 use Rattle.record_laws.proofs.Books.Accepted.{IsInTransfer, accepted}
 use Rattle.node_laws.specs.LineRecords.Kept.{Setting, Kept, beginning, end_at}
-use Rattle.node_laws.proofs.LineRecords.Keeping.{beside}
+use Rattle.node_laws.proofs.LineRecords.LineLaw.{beside}
 
 -- at the end of the role is the record of the call that came in, at the other one that of the call that was placed
 pub record BothInTransfer (b : Book) (l : Line) (pair : PairValue) : Type 0 where

@@ -18,7 +18,7 @@ use Rattle.call_records.specs.Register.{Register, all_written_at}
 use Rattle.call_records.specs.Register as register
 use Rattle.record_laws.proofs.Books.Basics.{get_there}
 use Rattle.node_laws.specs.LineRecords.Kept.{Kept, end_at}
-use Rattle.node_laws.proofs.LineRecords.Happening.{frame_kept, called_kept, requested_kept}
+use Rattle.node_laws.proofs.LineRecords.WholeEvents.{frame_kept, called_kept, requested_kept}
 use Rattle.switch_joins.specs.declared.channels.NewJoin.{NewJoin}
 use Rattle.switch_lines.specs.Lines.{SwitchLine, changed}
 use Rattle.switch_lines.specs.NewJoins.{new_joins}
@@ -28,7 +28,7 @@ use Rattle.switched_call_laws.specs.SwitchRecords.Kept.{Partner, sent_on, restar
 use Rattle.switched_call_laws.specs.SwitchRecords.Tied.{gone_out}
 use Rattle.switched_call_laws.specs.JoinedCalls.Calls.{JoinedCall}
 use Rattle.switched_call_laws.specs.JoinedCalls.Law.{calls_in, join_of_call}
-use Rattle.switched_call_laws.proofs.JoinedCalls.Eventing.{calls_hold}
+use Rattle.switched_call_laws.proofs.JoinedCalls.CallsAfterEvents.{calls_hold}
 use Rattle.record_laws.specs.CallPaths.World.{Origin, World, far_end, after_event, made_world}
 use Rattle.record_laws.specs.CallPaths.World.Event.{Writes}
 use Rattle.switched_call_laws.specs.SwitchPaths.Sight.{Switched, Switches, Lines, Standing, role_at, network_line, standing_with, partner_of, coming_to, seen_then, all_seen, all_after}

@@ -16,7 +16,7 @@ use Rattle.call_records.specs.Book.{address_of, made_book}
 use Rattle.record_laws.proofs.Books.Basics.{number_is}
 use Rattle.node_laws.specs.Lines.Line.{Sends, made as made_ends}
 use Rattle.node_laws.specs.LineRecords.Kept.{IsSetting}
-use Rattle.node_laws.proofs.LineRecords.Keeping.{made_kept, silent_kept}
+use Rattle.node_laws.proofs.LineRecords.LineLaw.{made_kept, silent_kept}
 use Rattle.switch_lines.specs.declared.config.SwitchLineConfig.{SwitchLineConfig}
 use Rattle.switch_lines.specs.Lines.{SwitchLine}
 use Rattle.switch_lines.specs.Making.{IsConfig, IsLineConfig}
@@ -34,7 +34,7 @@ use Rattle.switched_call_laws.specs.SwitchRecords.Run.{trunk_partners, trunk_his
 use Rattle.switched_call_laws.proofs.SwitchRecords.Making.{made_records}
 use Rattle.switched_call_laws.proofs.SwitchRecords.Running.{run_holds as records_run}
 use Rattle.switched_call_laws.proofs.SwitchRecords.Tying.{tied_holds}
-use Rattle.switched_call_laws.proofs.JoinedCalls.Eventing.{calls_hold}
+use Rattle.switched_call_laws.proofs.JoinedCalls.CallsAfterEvents.{calls_hold}
 use Rattle.record_laws.specs.CallPaths.World.{AreAddressed, made_world}
 use Rattle.record_laws.specs.CallPaths.Tree.{IsTree}
 use Rattle.switched_call_laws.specs.SwitchPaths.Sight.{Switched, Standing, only_at, role_at, network_line, standing_with, IsInSight}

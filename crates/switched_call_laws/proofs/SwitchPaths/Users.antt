@@ -18,7 +18,7 @@ use Rattle.switched_call_laws.specs.SwitchPaths.Law.{with_line, StaysKept, UserL
 use Rattle.switched_call_laws.proofs.SwitchPaths.Listing.{if_same, if_else}
 use Rattle.switched_call_laws.proofs.SwitchPaths.Seeing.{written_by_user}
 use Rattle.switched_call_laws.proofs.SwitchPaths.Elsewhere.{kept_in_sight, LineStays, elsewhere}
-use Rattle.switched_call_laws.proofs.SwitchPaths.Moving.{other_role, seen_was}
+use Rattle.switched_call_laws.proofs.SwitchPaths.PartnerMoves.{other_role, seen_was}
 
 module _ (plan : Plan) (ats : OwnLines) (xs : Switches) (cs : List PlacedCall) (old : Lines) (books : List Book) (w : World) (traces : List (List Origin)) (line : ℕ) (role : Role) (ws : List Write) (b : Book) (l : Standing) (user : plan.has_user line role ≡ true)
     (there : slice_get books line ≡ Some b) (stays_kept : plan.has_user line (other_of role) ≡ false → StaysKept (other_of role) (old line) l (all_written role ws b)) (i : IsNetwork plan ats xs cs old books w traces) where

@@ -20,7 +20,7 @@ use Rattle.packet_laws.specs.Readable.{Every}
 use Rattle.packet_end.specs.PacketEnd.{PacketEnd, restarted, runs_at, with_next}
 use Rattle.node_laws.specs.Lines.Line as acts
 use Rattle.node_laws.specs.LineRecords.Kept.{Setting, Kept}
-use Rattle.node_laws.proofs.LineRecords.Keeping.{restart_kept}
+use Rattle.node_laws.proofs.LineRecords.LineLaw.{restart_kept}
 use Rattle.call_records.specs.Book.{Book, all_told}
 use Rattle.call_records.specs.Writes.{Write}
 use Rattle.switch_lines.specs.Lines.{SwitchLine, changed}

@@ -19,7 +19,7 @@ use Rattle.packet_codec.specs.Digits.{digits_or_none}
 use Rattle.packet_end.specs.Params.{AreParams}
 use Rattle.node_laws.specs.Lines.Line.{At, Sends, happens, made as made_ends}
 use Rattle.node_laws.specs.LineRecords.Kept.{Setting, IsSetting, Kept}
-use Rattle.node_laws.proofs.LineRecords.Keeping.{made_kept, silent_kept}
+use Rattle.node_laws.proofs.LineRecords.LineLaw.{made_kept, silent_kept}
 use Rattle.switched_call_laws.proofs.SwitchRecords.Making.{made_records}
 use Rattle.switched_call_laws.proofs.SwitchRecords.Tying.{tied_holds}
 use Rattle.switch_laws.proofs.Running.{configs_right}

@@ -20,7 +20,7 @@ use Rattle.call_records.specs.Carried.{carried, unless_refused, placed_on}
 use Rattle.call_records.specs.Writes.{Write}
 use Rattle.node_laws.specs.LineRecords.Kept.{Setting, Kept, end_at}
 use Rattle.node_laws.specs.LineRecords.Clauses.{requested_at, MayTell, IsSilent, Tells}
-use Rattle.node_laws.proofs.LineRecords.Keeping.{tells_kept, silent_kept, call_kept, request_kept, like_kept}
+use Rattle.node_laws.proofs.LineRecords.LineLaw.{tells_kept, silent_kept, call_kept, request_kept, like_kept}
 use Rattle.node_laws.proofs.LineRecords.Opening.{read_kept}
 use Rattle.switch_lines.specs.Lines.{SwitchLine, changed}
 use Rattle.switch_lines.specs.Switch.{with_end, quieted, without_notes}
@@ -36,7 +36,7 @@ use Rattle.switched_call_laws.specs.SwitchRecords.Kept.{Partner, Partners, line_
 use Rattle.switched_call_laws.proofs.SwitchRecords.Turned.{written_seen}
 use Rattle.switched_call_laws.proofs.SwitchRecords.Chains.{AllOn, chain, chain_writes, layers_chain, layers_none, books_chain, books_apart, books_then, Changed, was_changed}
 use Rattle.switched_call_laws.proofs.SwitchRecords.Chains.Changed.{here, apart}
-use Rattle.switched_call_laws.proofs.SwitchRecords.Happenings.{happening_explains, happening_on, all_offer_layer, offer_writes, offers_on}
+use Rattle.switched_call_laws.proofs.SwitchRecords.LineEndActs.{happening_explains, happening_on, all_offer_layer, offer_writes, offers_on}
 use Rattle.switch_joins.proofs.Apart.{decided}
 
 -- ---- what happens at an end of a line, whichever it is

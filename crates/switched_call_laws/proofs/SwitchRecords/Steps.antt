@@ -25,7 +25,7 @@ use Rattle.call_records.specs.Carried.{unless_refused}
 use Rattle.record_laws.proofs.Books.Writing.{closed_here}
 use Rattle.switch_laws.specs.Leg.{Leg, IsLeg, asked_unless, asked, stepped, heard_epoch}
 use Rattle.switch_laws.specs.World.{IsCallLeg, MayAsk}
-use Rattle.switch_laws.proofs.Standing.{leg_in}
+use Rattle.switch_laws.proofs.LegsByState.{leg_in}
 use Rattle.switch_laws.proofs.Legs.{not_refused, not_false}
 use Rattle.switched_call_laws.specs.SwitchRecords.Records.{sent_of, taken_of, all_sent, all_taken, IsRecordOf, HasRecord, leg_if, Has}
 use Rattle.switched_call_laws.specs.SwitchRecords.Written.{request_writes}

@@ -17,7 +17,7 @@ use Rattle.switch_laws.specs.Steps.Happening.{Brings, RunsOut, Relinks}
 use Rattle.switch_laws.specs.EventSteps.{event_steps, event_acts}
 use Rattle.switch_laws.proofs.Lists.{get_map, map_unchanged}
 use Rattle.switch_laws.proofs.Leading.{event_leads}
-use Rattle.switch_laws.proofs.Happening.{events_hold, expiry_stays, steady_holds}
+use Rattle.switch_laws.proofs.SwitchAfterEvents.{events_hold, expiry_stays, steady_holds}
 use Rattle.switched_call_laws.specs.SwitchRecords.Written.{books_after_all, HaveRecords}
 use Rattle.switched_call_laws.specs.SwitchRecords.Kept.{EventIsKept, HaveAddresses, ReadsOctets, all_frames_out}
 use Rattle.switched_call_laws.specs.SwitchRecords.Tied.{Histories, IsTied, happened, FrameTied, TimerTied, RelinkTied, ElapseTied, RestartTied, OutTied, TiedLaw}

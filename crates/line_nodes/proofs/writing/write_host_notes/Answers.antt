@@ -6,7 +6,7 @@ use Rattle.call_records.specs.Book.{all_told}
 use Rattle.call_records.specs.Room.{BookState, opening_notes}
 use Rattle.line_nodes.specs.Node.{all_read}
 use Rattle.line_nodes.specs.Notes.{host_notes}
-use Rattle.line_nodes.proofs.Telling.{first_is, may_tell, room_left, listed_then, one_less}
+use Rattle.line_nodes.proofs.FirstNote.{first_is, may_tell, room_left, listed_then, one_less}
 use Rattle.line_nodes.proofs.writing.write_host_notes.Goals as goal
 
 pub tell-requires : goal.tell-requires

@@ -1,4 +1,4 @@
-use Rattle.node_laws.proofs.LineRecords.Happening.{frame_kept, expiry_kept, relink_kept, restarted_kept, called_kept, requested_kept}
+use Rattle.node_laws.proofs.LineRecords.WholeEvents.{frame_kept, expiry_kept, relink_kept, restarted_kept, called_kept, requested_kept}
 use Rattle.node_laws.proofs.line_record.event_law.Goals as goal
 
 pub returns : goal.returns

@@ -1,4 +1,4 @@
-use Rattle.node_laws.proofs.LineRecords.Keeping.{made_kept, tells_kept, silent_kept, restart_kept, call_kept, request_kept, loss_kept, edit_kept, like_kept, holds_kept, present_kept, transfer_kept, asked_kept, front_kept, channels_kept, closing_kept}
+use Rattle.node_laws.proofs.LineRecords.LineLaw.{made_kept, tells_kept, silent_kept, restart_kept, call_kept, request_kept, loss_kept, edit_kept, like_kept, holds_kept, present_kept, transfer_kept, asked_kept, front_kept, channels_kept, closing_kept}
 use Rattle.node_laws.proofs.LineRecords.Missing.{rest_kept}
 use Rattle.node_laws.proofs.LineRecords.Relinking.{finished_asks}
 use Rattle.node_laws.proofs.LineRecords.Confirming.{confirmed_kept}

@@ -1,5 +1,5 @@
 use Rattle.record_laws.proofs.CallPaths.Making.{made_seen}
-use Rattle.record_laws.proofs.CallPaths.Happening.{happens}
+use Rattle.record_laws.proofs.CallPaths.SeenAfterEvents.{happens}
 use Rattle.record_laws.proofs.CallPaths.Promising.{promised}
 use Rattle.record_laws.proofs.CallPaths.Beginning.{paths_hold, made_alike, without_switch}
 use Rattle.record_laws.proofs.CallPaths.Showing.{owned, present_shown, came_shown, paired_shown}

@@ -1,4 +1,4 @@
-use Rattle.switch_laws.proofs.Happening.{events_hold}
+use Rattle.switch_laws.proofs.SwitchAfterEvents.{events_hold}
 use Rattle.switch_laws.proofs.relay.switch_events_law.Goals as goal
 
 pub returns : goal.returns

@@ -4,7 +4,7 @@ use Rattle.call_records.specs.RecordView.{shown, pair_of}
 use Rattle.call_records.specs.declared.ends.Ends.{Ends}
 use Rattle.call_records.specs.declared.record.Record.{Record}
 use Rattle.call_records.specs.declared.record.Pair.{Pair}
-use Rattle.call_records.proofs.Coming.{standing_is, free_is, two_shown, one_pair}
+use Rattle.call_records.proofs.NewRecords.{standing_is, free_is, two_shown, one_pair}
 use Rattle.call_records.proofs.book.Book.new.Goals as goal
 use Rattle.call_records.proofs.book.Book.new.Goals.{then-standing, else-standing}
 

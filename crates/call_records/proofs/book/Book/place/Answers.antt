@@ -3,7 +3,7 @@ use Rattle.call_records.specs.Records.{RecordValue}
 use Rattle.call_records.specs.Book.{Book, Side, address_of, places}
 use Rattle.call_records.specs.Room.{BookState}
 use Rattle.call_records.specs.RecordView.{shown, pair_of}
-use Rattle.call_records.proofs.Coming.{places_is, shown_more, shown_length}
+use Rattle.call_records.proofs.NewRecords.{places_is, shown_more, shown_length}
 use Rattle.call_records.proofs.book.Book.place.Goals as goal
 
 -- without room but that for pairs

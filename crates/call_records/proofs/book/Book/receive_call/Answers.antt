@@ -7,7 +7,7 @@ use Rattle.call_records.specs.Book.{Book, Side, Slot, nth_slot, side_of, address
 use Rattle.call_records.specs.Room.{BookState}
 use Rattle.call_records.specs.RecordView.{shown, pair_of}
 use Rattle.call_records.specs.BookView.{book_of}
-use Rattle.call_records.proofs.Coming.{comes_is, some_address, shown_more, shown_length}
+use Rattle.call_records.proofs.NewRecords.{comes_is, some_address, shown_more, shown_length}
 use Rattle.call_records.proofs.book.Book.receive_call.Goals as goal
 
 -- without room but that for pairs

@@ -4,7 +4,7 @@ use Rattle.net_events.specs.declared.answer.Answer.{Answer}
 use Rattle.net_events.specs.declared.event.StepFault.{StepFault}
 use Rattle.net_nodes.specs.Happening.{Happens}
 use Rattle.line_sim.specs.Stepping.{lent}
-use Rattle.line_sim.proofs.Standing.{standing}
+use Rattle.line_sim.proofs.CanBeServed.{standing}
 use Rattle.line_sim.proofs.Events.{happens}
 use Rattle.line_sim.proofs.Refusals.{refusals}
 use Rattle.line_sim.proofs.RunsMore.{has-memory}

@@ -2,7 +2,7 @@ use Rattle.std.proofs.Common.{Ok, refl}
 use Rattle.std.specs.Result.{result_and}
 use Rattle.net_events.specs.declared.event.Event.TheVariants.{AtTerminal}
 use Rattle.net_events.specs.declared.node_event.UserEvent.TheVariants as user_event
-use Rattle.net_nodes.proofs.Happening.{user_acted, can_act, terminal_fault_at}
+use Rattle.net_nodes.proofs.UserNodeEvents.{user_acted, can_act, terminal_fault_at}
 use Rattle.net_nodes.proofs.nodes.Nodes.at_terminal.Goals as goal
 
 pub user_acts-requires-clause-can : goal.user_acts-requires-clause-can

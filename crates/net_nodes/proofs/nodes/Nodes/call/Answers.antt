@@ -9,7 +9,7 @@ use Rattle.net_turns.specs.Outcomes.{event_fault}
 use Rattle.net_nodes.specs.Faults.{at_host, refused}
 use Rattle.net_nodes.specs.Steps.{AtNode}
 use Rattle.net_turns.specs.Users.{user_fault}
-use Rattle.net_nodes.proofs.Happening.{user_acted, can_act, call_fault_at}
+use Rattle.net_nodes.proofs.UserNodeEvents.{user_acted, can_act, call_fault_at}
 use Rattle.net_nodes.proofs.nodes.Nodes.call.Goals as goal
 
 pub user_acts-requires-clause-can : goal.user_acts-requires-clause-can

@@ -12,8 +12,8 @@ use Rattle.net_nodes.specs.Places.{HearsAt}
 use Rattle.net_nodes.specs.Steps.{hearer}
 use Rattle.net_nodes.proofs.Places.{hears_there}
 use Rattle.placed_nodes.proofs.Lists.{there, within}
-use Rattle.net_nodes.proofs.Acting.{can_serve, same_place, acts_anew, turned_from, left_hears}
-use Rattle.net_nodes.proofs.Happening.{delivered}
+use Rattle.net_nodes.proofs.LineEndEvents.{can_serve, same_place, acts_anew, turned_from, left_hears}
+use Rattle.net_nodes.proofs.UserNodeEvents.{delivered}
 use Rattle.net_nodes.proofs.nodes.Nodes.deliver_to_user.Goals as goal
 
 pub returns-then-not-take : goal.returns-then-not-take

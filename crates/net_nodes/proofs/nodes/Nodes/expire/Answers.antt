@@ -5,7 +5,7 @@ use Rattle.net_events.specs.NodeEvents.{Expires}
 use Rattle.net_events.specs.declared.event.Event.TheVariants.{Expire}
 use Rattle.net_nodes.specs.Faults.{where_there_is, stands_at}
 use Rattle.net_nodes.specs.Happening.{Happens}
-use Rattle.net_nodes.proofs.Happening.{acted, can_act}
+use Rattle.net_nodes.proofs.UserNodeEvents.{acted, can_act}
 use Rattle.net_nodes.proofs.SwitchTurns.{own_line_found, own_within, can_switch, expired, answered}
 use Rattle.net_nodes.proofs.nodes.Nodes.expire.Goals as goal
 

@@ -6,7 +6,7 @@ use Rattle.net_events.specs.Network.{Network, NetLine}
 use Rattle.placed_nodes.proofs.Lists.{there}
 use Rattle.net_nodes.specs.Places.{UserStands, IsOwnLine}
 use Rattle.net_nodes.specs.Happening.{Happens}
-use Rattle.net_nodes.proofs.Happening.{can_relink, relinked}
+use Rattle.net_nodes.proofs.UserNodeEvents.{can_relink, relinked}
 use Rattle.net_nodes.proofs.SwitchTurns as at_switch
 use Rattle.net_nodes.proofs.SwitchTurns.{no_own_line, own_line_there, own_dte, can_switch, answered}
 use Rattle.net_nodes.proofs.nodes.Nodes.relink.Goals as goal

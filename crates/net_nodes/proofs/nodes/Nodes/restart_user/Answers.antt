@@ -6,8 +6,8 @@ use Rattle.net_events.specs.declared.node_event.LineEvent.TheVariants as line_ev
 use Rattle.net_events.specs.Network.{NetLine, place_at}
 use Rattle.net_nodes.specs.Places.{IsStanding, IsPlaceOf}
 use Rattle.placed_nodes.proofs.Lists.{found, within}
-use Rattle.net_nodes.proofs.Acting.{can_serve, acts_anew, turned_from, same_place}
-use Rattle.net_nodes.proofs.Happening.{registered_at, quiet_at, at_end_of, began_anew}
+use Rattle.net_nodes.proofs.LineEndEvents.{can_serve, acts_anew, turned_from, same_place}
+use Rattle.net_nodes.proofs.UserNodeEvents.{registered_at, quiet_at, at_end_of, began_anew}
 use Rattle.net_nodes.proofs.nodes.Nodes.restart_user.Goals as goal
 
 pub serve_at-requires : goal.serve_at-requires

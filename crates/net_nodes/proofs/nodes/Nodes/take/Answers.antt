@@ -3,7 +3,7 @@ use Rattle.std.specs.Result.{result_and}
 use Rattle.net_events.specs.declared.event.Event.TheVariants.{Take}
 use Rattle.net_events.specs.declared.node_event.HostEvent.TheVariants as host_event
 use Rattle.net_events.specs.declared.node_event.UserEvent.TheVariants as user_event
-use Rattle.net_nodes.proofs.Happening.{user_acted, can_act, ask_fault_at}
+use Rattle.net_nodes.proofs.UserNodeEvents.{user_acted, can_act, ask_fault_at}
 use Rattle.net_nodes.proofs.nodes.Nodes.take.Goals as goal
 
 pub user_acts-requires-clause-can : goal.user_acts-requires-clause-can

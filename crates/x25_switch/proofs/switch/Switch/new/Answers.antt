@@ -1,7 +1,7 @@
 use Rattle.std.proofs.Common.{subst, sym, List}
 use Rattle.switch_lines.specs.Lines.{SwitchLine}
 use Rattle.switch_laws.specs.Events.{SwitchHolds, new_legs}
-use Rattle.switch_laws.proofs.Happening.{events_hold}
+use Rattle.switch_laws.proofs.SwitchAfterEvents.{events_hold}
 use Rattle.x25_switch.proofs.Holding.{of_lines}
 use Rattle.x25_switch.proofs.switch.Switch.new.Goals as goal
 

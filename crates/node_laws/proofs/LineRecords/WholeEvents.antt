@@ -1,4 +1,4 @@
--- Whole events of a node.
+-- Whole events of a node keep what is kept of its line and of the book.
 use Rattle.std.specs.Prelude.{◌≡◌, ℕ, zero, suc, Bool, true, false, cond, List, [], ◌∷◌, ◌++◌, is_some}
 use Rattle.std.proofs.Common.{refl, sym, ap, subst, ◌∙◌}
 use Rattle.link_timers.specs.declared.role.Role.{Role}
@@ -20,10 +20,10 @@ use Rattle.record_laws.specs.Books.Told.{placed_on}
 use Rattle.node_laws.specs.LineRecords.Kept.{Setting, Kept, end_at, coming_to}
 use Rattle.node_laws.specs.LineRecords.Clauses.{requested_at}
 use Rattle.node_laws.specs.LineRecords.Happens.{sent, with_event, with_restart, FrameLaw, ExpiryLaw, RelinkLaw, RestartedLaw, CalledLaw, asked_all, requested_all, RequestedLaw}
-use Rattle.node_laws.proofs.LineRecords.Telling.{told_append}
+use Rattle.node_laws.proofs.LineRecords.ActEvents.{told_append}
 use Rattle.node_laws.proofs.LineRecords.Views.{KeptAt, seen, unseen}
-use Rattle.node_laws.proofs.LineRecords.Acting.{hears_at, expires_at, relinks_at, relinks_if_due_at, begins_at, settles_at, sends_at, offers_at, restarts_at, calls_at, requests_at}
-use Rattle.node_laws.proofs.LineRecords.Keeping.{closing_kept}
+use Rattle.node_laws.proofs.LineRecords.KeptAfterActs.{hears_at, expires_at, relinks_at, relinks_if_due_at, begins_at, settles_at, sends_at, offers_at, restarts_at, calls_at, requests_at}
+use Rattle.node_laws.proofs.LineRecords.LineLaw.{closing_kept}
 
 -- ---- packets that go to the link tell nothing
 

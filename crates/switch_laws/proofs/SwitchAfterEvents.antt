@@ -45,7 +45,7 @@ use Rattle.switch_laws.specs.Steps.Happening.{Brings, RunsOut, Relinks}
 use Rattle.switch_laws.specs.EventSteps.{event_acts}
 use Rattle.switch_laws.specs.Events.Event.{Arrives, Expires, SetsUp, Restarts, Elapses, Departs}
 use Rattle.switch_laws.specs.Events.HoldsOn.{ended, goes_on}
-use Rattle.switch_laws.proofs.Standing.{start_good}
+use Rattle.switch_laws.proofs.LegsByState.{start_good}
 use Rattle.switch_laws.proofs.Links.{relink_keeps_k}
 use Rattle.switch_laws.proofs.Lists.{map_unchanged}
 use Rattle.switch_laws.proofs.Places.{place_after}
@@ -53,11 +53,11 @@ use Rattle.switch_laws.proofs.Effects.{steady}
 use Rattle.switch_laws.proofs.Rounds.{lines_of, first_lines, grows}
 use Rattle.switch_laws.proofs.Offered.{ks, AreSmall, acted_ks, act_ks, all_relinked_ks, begun_ks, small_links}
 use Rattle.switch_laws.proofs.Offered.{does_k, event_offered}
-use Rattle.switch_laws.proofs.Keeping.{ends_keep, layers_on_ends, joined_on_ends}
+use Rattle.switch_laws.proofs.JoinsAtEventEnd.{ends_keep, layers_on_ends, joined_on_ends}
 use Rattle.switch_lines.proofs.Relinking.{ends_ask, same_asking}
 use Rattle.switch_laws.proofs.Relinking.{finished_end}
 use Rattle.switch_laws.proofs.Concerning.{same_front, same_takes, layers_sizes, layers_take}
-use Rattle.switch_laws.proofs.Coming.{begins_right}
+use Rattle.switch_laws.proofs.JoinsAfterNotes.{begins_right}
 use Rattle.switch_laws.proofs.Finishing.{turns, event_right, event_stuck, event_calls, restarted_joined}
 use Rattle.switch_laws.proofs.Fitting.{fit_list, fit_each, all_fit, same_fit, event_fits, restarted_fit, made_fit}
 use Rattle.switch_lines.proofs.Places.{joined_kept}

@@ -23,7 +23,7 @@ use Rattle.node_laws.proofs.Lines.Layers.{next_silent}
 use Rattle.call_records.specs.Book.{Book, told, all_told}
 use Rattle.record_laws.specs.Books.Told.{written, top_after, InOrder}
 use Rattle.record_laws.specs.Books.Told as told_by
-use Rattle.node_laws.proofs.LineRecords.Moving.{written_all, tops_after, AllInOrder}
+use Rattle.node_laws.proofs.LineRecords.MovesFromOneEnd.{written_all, tops_after, AllInOrder}
 
 -- ---- events that no user asks for, of which a packet arrives at most as the last
 

@@ -34,12 +34,12 @@ use Rattle.switch_laws.specs.Joined.IsPair.{connected, waiting}
 use Rattle.switch_laws.proofs.Directions.{direction_begins}
 use Rattle.switch_laws.proofs.Legs.{asked_as}
 use Rattle.switch_laws.proofs.Joins.{turned_join}
-use Rattle.switch_laws.proofs.Standing.{accepts_before, start_good}
+use Rattle.switch_laws.proofs.LegsByState.{accepts_before, start_good}
 use Rattle.switch_laws.proofs.Relaying.{waits_before, waiting_before}
 use Rattle.switch_laws.proofs.Places.{some_there}
 use Rattle.switch_laws.proofs.Frame.{Touches, touches_none, touches_then, reached_none, reached_then, reached_there, frame, Pairing, pairing, pair_kept, apart_turned, not_not}
 use Rattle.switch_laws.proofs.Leading.{Leads, acts_lead, told_leads, heed_leads}
-use Rattle.switch_laws.proofs.Telling.{told_acts, GoesOn, Stands, Told, tells, Asked, asks_other, Ended, closes, closes_none}
+use Rattle.switch_laws.proofs.NotesOfJoined.{told_acts, GoesOn, Stands, Told, tells, Asked, asks_other, Ended, closes, closes_none}
 use Rattle.switch_laws.proofs.Outcomes.{AreOf, Outcome}
 use Rattle.switch_laws.proofs.Outcomes.Outcome.{ends, connects, waits, goes_on}
 use Rattle.switch_laws.proofs.SettingUp.{incoming_right, pair_call}

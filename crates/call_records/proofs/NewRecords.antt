@@ -1,4 +1,4 @@
--- A call that comes in, and a book that is made.
+-- New records of a book: of a call that comes in, of one that is placed, and those of a book as it is made.
 use Rattle.std.proofs.Common.{◌≡◌, ℕ, suc, ◌≤◌, List, [], ◌∷◌, ◌++◌, map, length, replicate, refl, ap, ◌∙◌, arith}
 use Rattle.std.specs.Prelude.{Option, Some, None}
 use Rattle.link_timers.specs.declared.role.Role.{Role}

@@ -28,8 +28,8 @@ use Rattle.call_records.specs.Book.{Book, edits, all_told}
 use Rattle.record_laws.specs.Books.Told.{carried, unless_refused, placed_on, InOrder}
 use Rattle.node_laws.specs.LineRecords.Kept.{Setting, Kept, beginning, end_at, coming_to}
 use Rattle.node_laws.specs.LineRecords.Clauses.{requested_at}
-use Rattle.node_laws.proofs.LineRecords.Moving.{one_edit, all_events, written_all, tops_after, AllInOrder}
-use Rattle.node_laws.proofs.LineRecords.Telling.{IsPlain, plain_frame, plain_if, plain_expires, plain_offers, in_order, tops_rise, plain_written}
+use Rattle.node_laws.proofs.LineRecords.MovesFromOneEnd.{one_edit, all_events, written_all, tops_after, AllInOrder}
+use Rattle.node_laws.proofs.LineRecords.ActEvents.{IsPlain, plain_frame, plain_if, plain_expires, plain_offers, in_order, tops_rise, plain_written}
 use Rattle.node_laws.proofs.LineRecords.Views.{KeptAt, unseen}
 
 -- ---- small things

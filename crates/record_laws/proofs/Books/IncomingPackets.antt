@@ -20,7 +20,7 @@ use Rattle.record_laws.proofs.Books.Basics.{by_true}
 use Rattle.record_laws.proofs.Books.Ending.{Further}
 use Rattle.record_laws.proofs.Books.EndSteps.{status_at, has_come}
 use Rattle.record_laws.proofs.Books.Steps.{SameHistory, history_refl}
-use Rattle.record_laws.proofs.Books.Moving.{KeptAt, Facts, Arrival}
+use Rattle.record_laws.proofs.Books.ChannelSteps.{KeptAt, Facts, Arrival}
 use Rattle.record_laws.proofs.Books.Outcomes.{received_outcome}
 use Rattle.record_laws.proofs.Books.Layers.{closed_length, told_here, either_way}
 use Rattle.record_laws.proofs.Books.Ends.{restart_step}

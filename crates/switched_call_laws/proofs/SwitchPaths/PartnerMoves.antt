@@ -21,7 +21,7 @@ use Rattle.record_laws.specs.CallPaths.World.{Origin, World, Plan}
 use Rattle.switched_call_laws.specs.SwitchPaths.Sight.{Switched, Switches, OwnLines, Lines, Standing, role_at, network_line, standing_with, StaysInSight, seen_then, all_after}
 use Rattle.switched_call_laws.specs.SwitchPaths.Network.{IsOther, IsPlanned, IsAtSwitch, PlacedCall, placed_at, of_switch, AllSeen, IsNetwork}
 use Rattle.switched_call_laws.specs.SwitchPaths.Law.{NetworkAfter, NetworkStays}
-use Rattle.switched_call_laws.proofs.SwitchPaths.Keeping.{IsOwn, own_or_other}
+use Rattle.switched_call_laws.proofs.SwitchPaths.LinesByMoves.{IsOwn, own_or_other}
 use Rattle.switched_call_laws.proofs.SwitchPaths.Listing.{AreApart, AreAmong, BooksStay, if_same, if_else, own_behind, other_behind}
 use Rattle.switched_call_laws.proofs.SwitchPaths.Elsewhere.{other_end, kept_in_sight, LineStays, elsewhere}
 

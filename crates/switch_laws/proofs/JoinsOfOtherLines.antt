@@ -33,7 +33,7 @@ use Rattle.switch_laws.specs.Stays.{Stay}
 use Rattle.switch_laws.proofs.Lists.{get_map, map_changed}
 use Rattle.switch_laws.proofs.Places.{joined_here, joined_place, place_joined, layers_asked, layers_joined, some_there}
 use Rattle.switch_laws.proofs.SettingUp.{IsFreePlace, IsAnswer, answer_by_is, answer_if, pair_call, layer_there, ready_no_call}
-use Rattle.switch_laws.proofs.Coming.{at}
+use Rattle.switch_laws.proofs.JoinsAfterNotes.{at}
 use Rattle.switch_laws.proofs.Turning.{changed_twice}
 use Rattle.switch_joins.proofs.Apart.{decided, place_is, apart_by}
 use Rattle.switch_lines.proofs.Places.{get_unchanged, joined_kept, joined_asked, joined_asks, joined_apart}

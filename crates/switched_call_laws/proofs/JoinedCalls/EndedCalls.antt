@@ -19,7 +19,7 @@ use Rattle.switch_laws.specs.World.{Act, layers_of, shown_at}
 use Rattle.switch_laws.specs.Joined.{IsOver}
 use Rattle.switch_laws.specs.Steps.Step.{Asks, Keeps}
 use Rattle.switch_laws.specs.EventSteps.{told_steps, heed_steps, heed_all_steps}
-use Rattle.switch_laws.proofs.Coming.{at}
+use Rattle.switch_laws.proofs.JoinsAfterNotes.{at}
 use Rattle.switch_laws.proofs.Lists.{same_as}
 use Rattle.switch_laws.proofs.Places.{joined_here, joined_place, place_joined, place_after}
 use Rattle.switched_call_laws.specs.SwitchRecords.Written.{Books}

@@ -1,4 +1,4 @@
--- Whole events of a switch.
+-- Over whole events of a switch each joined call stands or is over.
 use Rattle.std.specs.Prelude.{◌≡◌, ℕ, zero, suc, ◌*◌, ◌⊎◌, true, List, [], ◌∷◌, ◌++◌, length, map, slice_get, Option, Some, None}
 use Rattle.std.proofs.Common.{inl, inr, refl, sym, ap, subst, ◌∙◌}
 use Rattle.std.proofs.lemmas.Option.{none-some, same_Some}
@@ -20,7 +20,7 @@ use Rattle.switch_laws.specs.EventSteps.{heed_all_steps, acted_steps, relinked_s
 use Rattle.switch_laws.proofs.Leading.{rounds_leads, acted_leads}
 use Rattle.switch_laws.proofs.Finishing.{begun_right}
 use Rattle.switch_laws.proofs.Turning.{EndEffect, acted_right, relinked_effect, got_changed, changed_none}
-use Rattle.switch_laws.proofs.Keeping.{layers_on_ends}
+use Rattle.switch_laws.proofs.JoinsAtEventEnd.{layers_on_ends}
 use Rattle.switched_call_laws.specs.SwitchRecords.Written.{Books, books_after_all, HaveRecords}
 use Rattle.switched_call_laws.proofs.SwitchRecords.Acts.{acts_write}
 use Rattle.std.specs.Prelude.{◌+◌, is_some}
@@ -43,7 +43,7 @@ use Rattle.switch_laws.specs.Joined.{IsPair}
 use Rattle.switch_laws.specs.Events.{new_legs}
 use Rattle.switch_laws.specs.Steps.Step.{Elapses}
 use Rattle.switch_laws.proofs.Finishing.{restarted_joined}
-use Rattle.switch_laws.proofs.Happening.{events_hold}
+use Rattle.switch_laws.proofs.SwitchAfterEvents.{events_hold}
 use Rattle.switch_laws.proofs.SettingUp.{pair_call}
 use Rattle.switch_laws.proofs.Turning.{received_effect, timer_effect}
 use Rattle.switched_call_laws.specs.SwitchRecords.Kept.{all_frames_out}
@@ -59,19 +59,19 @@ use Rattle.switched_call_laws.specs.JoinedCalls.Calls.{present_at, Stands, HasEn
 use Rattle.switched_call_laws.specs.JoinedCalls.Law.{join_of_call, calls_in, BeginCalls, FrameCalls, TimerCalls, RelinkCalls, ElapseCalls, RestartCalls, OutCalls, HasRelayed, RelayedCalls, NewJoinsLaw, CallsLaw}
 use Rattle.switched_call_laws.proofs.JoinedCalls.Steady.{shape, ended_same}
 use Rattle.switched_call_laws.proofs.JoinedCalls.Closing.{SameEpochs, epochs_itself, relayed_same, closed_none, RestsWith, records_at}
-use Rattle.switched_call_laws.proofs.JoinedCalls.Telling.{IsClosing}
+use Rattle.switched_call_laws.proofs.JoinedCalls.EndedCalls.{IsClosing}
 use Rattle.switched_call_laws.proofs.JoinedCalls.Answering.{record_call}
 use Rattle.switched_call_laws.proofs.JoinedCalls.Following.{addresses_led, KeptQuietly, KeptSending, KeptAccepting, KeptJoining, And, step_quiet, steady_keep}
 use Rattle.std.proofs.Common.{append-nil}
 use Rattle.switched_call_laws.specs.SwitchRecords.Kept.{Partners, AreKept, partners_after, partners_after_all, IsFit, AreFit, ReadsOctets}
 use Rattle.switched_call_laws.proofs.SwitchRecords.Stepping.{steps_kept}
 use Rattle.switched_call_laws.proofs.SwitchRecords.Calming.{addresses, Addressed, addressed, addressed_then, calm_fit, heeded_calm}
-use Rattle.switched_call_laws.proofs.JoinedCalls.Acting.{closed_epochs, closing_only}
+use Rattle.switched_call_laws.proofs.JoinedCalls.CallsAfterActs.{closed_epochs, closing_only}
 use Rattle.switched_call_laws.proofs.JoinedCalls.NewCalls.{calls_then, acted_as_said, finished_none, timer_joins_none, relink_joins_none, no_calls}
 use Rattle.switched_call_laws.specs.JoinedCalls.Calls.{JoinedCall, books_by, books_by_all, calls_of_all, AreCalls}
 use Rattle.switched_call_laws.proofs.JoinedCalls.Steady.{Mutual, switch_mutual, IsMildAct, acts_slots, books_rest, every_map, calls_same, AreSteady, steady_same, steady_then, steadies_same, steadies_none, rounds_steady, mutual_both}
 use Rattle.switched_call_laws.proofs.JoinedCalls.Walking.{books_are, leads_first, leads_then, Walked, walked_then, walked_quiet, Beside}
-use Rattle.switched_call_laws.proofs.JoinedCalls.Acting.{heeded_walk}
+use Rattle.switched_call_laws.proofs.JoinedCalls.CallsAfterActs.{heeded_walk}
 use Rattle.switched_call_laws.proofs.JoinedCalls.Outside.{happened_outside, writes_hold}
 use Rattle.switch_lines.proofs.Places.{joined_kept}
 

@@ -37,7 +37,7 @@ use Rattle.node_laws.specs.LineRecords.Kept.{Setting, Kept, IsLike, beginning, e
 use Rattle.node_laws.specs.LineRecords.Clauses.{MadeLaw, Tells, TellsLaw, SilentLaw, RestartLaw, CallLaw, requested_at, RequestLaw, LossLaw, EditLaw, LikeLaw, HoldsLaw, PresentLaw, IsInTransfer, TransferLaw, AskedLaw, FrontLaw, ChannelsLaw, ClosingLaw}
 use Rattle.node_laws.proofs.LineRecords.WaitsInTransfer.{found_open}
 use Rattle.node_laws.proofs.LineRecords.Views.{kept_waits, KeptAt, seen, unseen}
-use Rattle.node_laws.proofs.LineRecords.Acting.{hears_at, expires_at, relinks_at, relinks_if_due_at, begins_at, settles_at, elapses_at, sends_at, offers_at, restarts_at, calls_at, requests_at, loses_at, edits_at, kept_happens, end_is}
+use Rattle.node_laws.proofs.LineRecords.KeptAfterActs.{hears_at, expires_at, relinks_at, relinks_if_due_at, begins_at, settles_at, elapses_at, sends_at, offers_at, restarts_at, calls_at, requests_at, loses_at, edits_at, kept_happens, end_is}
 
 -- ---- the making
 

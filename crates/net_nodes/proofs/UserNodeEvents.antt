@@ -1,4 +1,4 @@
--- What an event at a node is to the network.
+-- What an event at a node with users is to the network.
 use Rattle.std.proofs.Common.{◌≡◌, ℕ, ◌<◌, Bool, true, false, List, length, Option, Some, None, Result, Ok, Err, refl, sym, ap, ◌∙◌, subst, arith, inl, inr}
 use Rattle.std.specs.Prelude.{slice_get, ◌⊎◌, if◌then◌else◌, is_some, not, [], ◌∷◌, set, drop, zero, suc}
 use Rattle.std.proofs.lemmas.Option.{same_Some}

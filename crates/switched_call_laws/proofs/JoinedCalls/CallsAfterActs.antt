@@ -32,7 +32,7 @@ use Rattle.switch_laws.specs.Steps.{Happening, does, lines_after, happening_acts
 use Rattle.switch_laws.specs.Steps as steps
 use Rattle.switch_laws.specs.Steps.Step.{Asks, Happens}
 use Rattle.switch_laws.specs.EventSteps.{told_steps, heed_steps, heed_all_steps}
-use Rattle.switch_laws.proofs.Coming.{at, never_both}
+use Rattle.switch_laws.proofs.JoinsAfterNotes.{at, never_both}
 use Rattle.switch_laws.proofs.Relaying.{waiting_before}
 use Rattle.switch_lines.specs.Relay.{told_of}
 use Rattle.switch_laws.proofs.Lists.{same_as}
@@ -40,7 +40,7 @@ use Rattle.switch_laws.proofs.Leading.{heed_leads}
 use Rattle.switch_laws.proofs.Layers.{seen, opened_shown, world_acts_all}
 use Rattle.switch_laws.proofs.Outcomes.{AreOf, Outcome}
 use Rattle.switch_laws.proofs.Outcomes.Outcome.{ends, connects, waits, goes_on}
-use Rattle.switch_laws.proofs.Telling.{GoesOn}
+use Rattle.switch_laws.proofs.NotesOfJoined.{GoesOn}
 use Rattle.switch_laws.proofs.Places.{place_after, some_there}
 use Rattle.switch_laws.proofs.Effects.{Effect, IsStep}
 use Rattle.switch_laws.proofs.Effects.Effect.{nothing, closes_all, on_one}
@@ -52,7 +52,7 @@ use Rattle.switched_call_laws.specs.SwitchRecords.Rests.{Rests}
 use Rattle.switched_call_laws.specs.SwitchRecords.Joined.{JoinsRecords}
 use Rattle.switched_call_laws.proofs.SwitchRecords.Cells.{Touches, touches_none, touches_then, touches_closed, touches_new, changes, apart_after}
 use Rattle.switched_call_laws.proofs.SwitchRecords.Chains.{books_chain, books_apart}
-use Rattle.switched_call_laws.proofs.SwitchRecords.Happenings.{happening_explains, happening_on}
+use Rattle.switched_call_laws.proofs.SwitchRecords.LineEndActs.{happening_explains, happening_on}
 use Rattle.switched_call_laws.proofs.SwitchRecords.Relaying.{joins_relay}
 use Rattle.switched_call_laws.proofs.SwitchRecords.Resting.{event_rests}
 use Rattle.switched_call_laws.proofs.SwitchRecords.Stepping.{step_layers}
@@ -65,7 +65,7 @@ use Rattle.switch_laws.specs.Pairs.{IsNoted}
 use Rattle.switched_call_laws.specs.SwitchRecords.Opened.{HasSlot}
 use Rattle.switched_call_laws.specs.SwitchRecords.Kept.{Partners, AreKept}
 use Rattle.switched_call_laws.proofs.JoinedCalls.Closing.{Side, IsAbsent, TouchesAt, touched_slot, SameEpochs, epochs_itself, epochs_then, relayed_same, closed_there, closed_absent}
-use Rattle.switched_call_laws.proofs.JoinedCalls.Telling.{InHand, Marks, Told as ToldOne, closed_told, IsClosing, closings_told, marks_calls}
+use Rattle.switched_call_laws.proofs.JoinedCalls.EndedCalls.{InHand, Marks, Told as ToldOne, closed_told, IsClosing, closings_told, marks_calls}
 use Rattle.switched_call_laws.proofs.JoinedCalls.Answering.{alone_walk}
 use Rattle.switch_joins.proofs.Apart.{decided, place_is}
 use Rattle.switch_lines.proofs.Places.{joined_kept}

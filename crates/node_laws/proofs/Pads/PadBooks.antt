@@ -14,7 +14,7 @@ use Rattle.packet_end.specs.PacketEnd.{PacketEnd, begun, received, after_timer, 
 use Rattle.packet_end.proofs.Sizes.{asked_same, received_same, timer_same, finished_same}
 use Rattle.record_laws.proofs.Books.Basics.{get_set}
 use Rattle.call_records.specs.Book.{Book}
-use Rattle.node_laws.proofs.LineRecords.Happening.{all_offered_notes}
+use Rattle.node_laws.proofs.LineRecords.WholeEvents.{all_offered_notes}
 use Rattle.x25_pad.specs.Notes as notes
 use Rattle.x25_pad.specs.Notes.{ChannelNote}
 use Rattle.x25_pad.specs.Line as line
