@@ -2,7 +2,7 @@
 ghost use Rattle.std.specs.Prelude.{◌≡◌};
 ghost use Rattle.call_records.specs.Matching.Epochs.{all_parts};
 
-use crate::{Epoch, Passed};
+use crate::passed::{Epoch, Passed};
 
 /// An epoch of what passed: that of this number of those that ended, or the last one.
 #[derive(Clone, Copy)]

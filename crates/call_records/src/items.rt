@@ -2,7 +2,7 @@
 ghost use Rattle.std.specs.Prelude.{◌≡◌};
 ghost use Rattle.epochs.specs.Item.{all_items};
 
-use crate::{Packet, PacketsIter};
+use crate::packets::{Packet, PacketsIter};
 
 /// An octet of a message, its end, and the same two where the message is qualified.
 #[derive(Clone, Copy, PartialEq, Eq)]

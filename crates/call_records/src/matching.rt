@@ -9,8 +9,10 @@ ghost use Rattle.call_records.specs.Matching.Epochs.{epoch_of, epochs_in};
 ghost use Rattle.call_records.specs.Matching.EpochsLeft.{part_at, parts_left};
 
 use crate::epochs_iter::{EpochAt, Epochs};
+use crate::interrupt::Interrupt;
 use crate::items::Items;
-use crate::{Interrupt, PacketsIter, Passed};
+use crate::packets::PacketsIter;
+use crate::passed::Passed;
 
 /// Whether what one end of a call took matches what the other end sent: each epoch in which anything was taken begins a
 /// sent one, later ones later ones, and no two the same one. The items and the interrupts alone count, and where a

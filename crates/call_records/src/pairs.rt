@@ -6,7 +6,7 @@ ghost use Rattle.call_records.specs.RecordView.{shown, pair_of};
 ghost use Rattle.call_records.specs.Matching.Pairs.{PairMatches, AllMatch};
 
 use crate::matching::matches;
-use crate::{Pair, Record};
+use crate::record::{Pair, Record};
 
 /// Whether the two records of each pair match, both ways.
 pub fn all_match(records: &[Record], pairs: &[Pair]) -> bool
