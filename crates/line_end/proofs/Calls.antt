@@ -27,7 +27,6 @@ use Rattle.std.specs.Option.{option_copied}
 use Rattle.std.specs.Borrow.{Bor}
 use Rattle.std.proofs.Common.{refl, sym, ap, ◌∙◌, arith, inl, inr, length-drop}
 use Rattle.std.proofs.lemmas.List.{length-map, take_all}
-use Rattle.link_timers.specs.Timers.{Places}
 use Rattle.frame_codec.specs.Spelling.{spelling}
 use Rattle.lapb.specs.declared.note.Timing.{Timing as Change}
 use Rattle.lapb.specs.Held.{Link as Holder}
@@ -51,16 +50,16 @@ change-is l step before out told is = ap (λ (o : Out). o.timer) is ∙
     ap (λ (change : Change). timing_after change (timing l step)) told ∙ timing_after-keep (timing l step)
 
 -- the end after a step, by what the link's call gave
-pub did-is : (e : End) (step : Step) (before out : Out) (timers : Places) → before.timer ≡ Change.Keep →
-    before.frames ≡ e.frames → out ≡ gathered before e.link step → timers ≡ timed out.timer e.timers →
-    (record { link = step.link; timers = timers; frames = out.frames }) ≡ did e step
-did-is e step before out timers told frames is by_timer =
-    let places : timers ≡ timed (timing e.link step) e.timers =
-    by_timer ∙ ap (λ (change : Change). timed change e.timers) (change-is e.link step before out told is) in
+pub did-is : (e : End) (step : Step) (before out : Out) (t1 : Option ℕ) → before.timer ≡ Change.Keep →
+    before.frames ≡ e.frames → out ≡ gathered before e.link step → t1 ≡ timed out.timer e.t1 →
+    (record { link = step.link; t1 = t1; frames = out.frames }) ≡ did e step
+did-is e step before out t1 told frames is by_timer =
+    let left : t1 ≡ timed (timing e.link step) e.t1 =
+    by_timer ∙ ap (λ (change : Change). timed change e.t1) (change-is e.link step before out told is) in
     let all : out.frames ≡ with_frames e.frames (map (spelling e.link.role) step.frames) =
     ap (λ (o : Out). o.frames) is ∙
     ap (λ (fs : List Octets). with_frames fs (map (spelling e.link.role) step.frames)) frames in
-    λ i. record { link = step.link; timers = places i; frames = all i }
+    λ i. record { link = step.link; t1 = left i; frames = all i }
 
 -- whether T1 runs after it
 pub t1-is : (l : Link) (step : Step) (prior out : Out) (before after : Bool) → prior.timer ≡ Change.Keep →

@@ -1,4 +1,4 @@
--- The end of a line: its link, its timers and the frames that go out, and what each call makes of them.
+-- The end of a line: its link, T1 and the frames that go out, and what each call makes of them.
 use Rattle.std.specs.Prelude.{
   ◌≡◌,
   ℕ,
@@ -20,9 +20,7 @@ use Rattle.std.specs.Prelude.{
   if◌then◌else◌,
 }
 use Rattle.link_timers.specs.declared.role.Role.{Role}
-use Rattle.link_timers.specs.declared.timers.TimerId.{TimerId}
-use Rattle.link_timers.specs.declared.timers.TimerId.TheVariants.{T1}
-use Rattle.link_timers.specs.Timers.{Places, left_of, none_running, started, stopped, after_ticks}
+use Rattle.link_timers.specs.Timers.{lowered}
 use Rattle.frame_codec.specs.Spelling.{spelling}
 use Rattle.lapb.specs.declared.link.LinkParams.{LinkParams}
 use Rattle.lapb.specs.declared.note.Note.{Note}
@@ -34,7 +32,7 @@ use Rattle.lapb.specs.Out.{most_frames, with_frames}
 
 pub record End : Type 0 where
   pub link : Link
-  pub timers : Places
+  pub t1 : Option ℕ  -- the ticks that it has left, if it runs
   pub frames : List Octets  -- that go out, in order
 
 -- how long T1 runs
@@ -42,10 +40,10 @@ abbrev pub t1_ticks : ℕ
 t1_ticks = 60
 
 -- what becomes of T1
-abbrev pub timed : Timing → Places → Places
-timed Timing.Keep timers = timers
-timed Timing.Start timers = started timers T1 t1_ticks
-timed Timing.Stop timers = stopped timers T1
+abbrev pub timed : Timing → Option ℕ → Option ℕ
+timed Timing.Keep t1 = t1
+timed Timing.Start t1 = Some t1_ticks
+timed Timing.Stop t1 = None
 
 -- whether T1 runs then, which ran before or not
 abbrev pub runs_then : Timing → (ran : Bool) → Bool
@@ -58,7 +56,7 @@ runs_then Timing.Stop ran = false
 abbrev pub did : End → Step → End
 did e step = record {
   link = step.link;
-  timers = timed (timing e.link step) e.timers;
+  t1 = timed (timing e.link step) e.t1;
   frames = with_frames e.frames (map (spelling e.link.role) step.frames);
 }
 
@@ -82,7 +80,7 @@ relinked e = did e (machine.relink e.link)
 abbrev pub untouched : Role → LinkParams → End
 untouched role p = record {
   link = machine.new role p;
-  timers = none_running;
+  t1 = None;
   frames = [];
 }
 
@@ -103,23 +101,17 @@ restarted e = made e.link.role (machine.params_anew e.link)
 abbrev pub received : End → Octets → End
 received e octets = did e (on_octets e.link octets)
 
--- a timer that runs expires
-abbrev pub expired : TimerId → End → End
-expired T1 e = did (record e { timers = stopped e.timers T1 }) (machine.on_t1 e.link)
-expired id e = record e { timers = stopped e.timers id }
+-- T1 expires while it runs
+abbrev pub expired : End → End
+expired e = did (record e { t1 = None }) (machine.on_t1 e.link)
 
--- an expiry of a timer, which changes nothing where the timer does not run
-abbrev pub after_timer : End → TimerId → End
-after_timer e id = if is_some (left_of e.timers id) then expired id e else e
+-- an expiry of T1, which changes nothing if it does not run
+abbrev pub after_t1 : End → End
+after_t1 e = if is_some e.t1 then expired e else e
 
--- what the expiry of a timer that runs tells of the link
-abbrev pub expiry_note : TimerId → Link → Note
-expiry_note T1 link = (machine.on_t1 link).note
-expiry_note id link = Note.Nothing
-
--- the same, if the timer runs
-abbrev pub timer_note : End → TimerId → Option Note
-timer_note e id = if is_some (left_of e.timers id) then Some (expiry_note id e.link) else None
+-- what the expiry tells of the link, if T1 runs
+abbrev pub t1_note : End → Option Note
+t1_note e = if is_some e.t1 then Some (machine.on_t1 e.link).note else None
 
 -- a packet is offered to the link; a refused one changes nothing
 abbrev pub offered : End → Octets → End
@@ -135,4 +127,4 @@ without_first e = record e { frames = drop 1 e.frames }
 
 -- ticks pass
 abbrev pub elapsed : End → (ticks : ℕ) → End
-elapsed e ticks = record e { timers = after_ticks e.timers ticks }
+elapsed e ticks = record e { t1 = lowered ticks e.t1 }

@@ -5,10 +5,9 @@ use Rattle.lapb.specs.declared.note.Timing.{Timing}
 use Rattle.line_end.specs.declared.end.LineEnd.TheInside.{Inside}
 use Rattle.line_end.specs.End.{End}
 use Rattle.line_end.specs.Held.{LineEnd}
-use Rattle.line_end.specs.T1.{t1_alone}
 
 abbrev pub end_of : Inside → End
-end_of a = record { link = a.link.link; timers = t1_alone a.t1; frames = a.out.frames }
+end_of a = record { link = a.link.link; t1 = a.t1; frames = a.out.frames }
 
 abbrev pub holding : Inside → LineEnd
 holding a = record { end = end_of a; held = a.link.held }

@@ -17,7 +17,7 @@ ghost use Rattle.std.specs.Prelude.{
   option_copied,
 };
 ghost use Rattle.std.specs.Bool.{OnTrue, OnFalse};
-ghost use Rattle.link_timers.specs.Timers.{left_of, due_timers, first_of};
+ghost use Rattle.link_timers.specs.Timers.{is_due};
 ghost use Rattle.flow_window.specs.Pool.{Holds, Balances, in_use};
 ghost use Rattle.frame_codec.specs.Spelling.{most_information};
 ghost use Rattle.lapb.specs.Machine as machine;
@@ -25,15 +25,14 @@ ghost use Rattle.lapb.specs.Octets.{on_octets};
 ghost use Rattle.lapb.specs.Offers.{refusal};
 ghost use Rattle.lapb.specs.Unsent.{HasSentAll};
 ghost use Rattle.lapb.specs.Params.{AreParams};
-ghost use Rattle.line_end.specs.T1.{t1_alone};
 ghost use Rattle.line_end.specs.End.{
   timed,
   runs_then,
   made,
   without_frames,
   received,
-  after_timer,
-  timer_note,
+  after_t1,
+  t1_note,
   relinked,
   restarted,
   offered,
@@ -43,11 +42,10 @@ ghost use Rattle.line_end.specs.End.{
   SendsUpTo,
 };
 
-use crate::countdown::Countdown;
 use flow_window::pool::Pool;
 use frame_codec::FrameBuf;
 use lapb::{BadParams, Link, LinkOut, LinkParams, MOST_FRAMES, Note, OfferFault, Timing};
-use link_timers::{Role, TimerId};
+use link_timers::{Countdown, Role};
 use std::marker::Model;
 
 /// How long T1 runs, in ticks of a twentieth of a second (X.25 2.4.8.1).
@@ -141,16 +139,16 @@ impl LineEnd {
         }
     }
 
-    /// Takes an expiry of a timer: what it tells of the link, or `None` if the timer does not run, which changes
+    /// Takes an expiry of T1 (X.25 2.4.8.1): what it tells of the link, or `None` if T1 does not run, which changes
     /// nothing.
-    pub fn on_timer(&mut self, id: TimerId, pool: &mut Pool) -> Option<Note>
+    pub fn on_t1(&mut self, pool: &mut Pool) -> Option<Note>
         requires { Holds pool.old self.old.held }
-        ensures end { self.new.end ≡ after_timer self.old.end id }
+        ensures end { self.new.end ≡ after_t1 self.old.end }
         ensures frames { SendsUpTo 1 self.old.end (machine.on_t1 self.old.end.link) }
-        ensures note { result ≡ timer_note self.old.end id }
+        ensures note { result ≡ t1_note self.old.end }
 
-        // T1 runs exactly where the link needs it.
-        ensures t1 { is_some (left_of self.old.end.timers TimerId.T1) ≡ machine.runs self.old.end.link }
+        // T1 runs exactly if the link needs it.
+        ensures t1 { is_some self.old.end.t1 ≡ machine.runs self.old.end.link }
         ensures pool { Balances pool.old self.old.held pool.new self.new.held }
         ensures tight { length self.new.held ≡ length self.new.end.link.queue }
         ensures most { length self.new.held ≤ self.new.end.link.k }
@@ -160,9 +158,6 @@ impl LineEnd {
         if !self.t1.is_running() {
             return None;
         }
-        let TimerId::T1 = id else {
-            return None;
-        };
         self.t1.stop();
         self.link.on_t1(&mut self.out, pool);
         set_timer(&mut self.t1, self.out.take_timer());
@@ -269,15 +264,11 @@ impl LineEnd {
         self.t1.elapse(ticks);
     }
 
-    /// T1, if it runs with no tick left. No other timer runs here.
-    pub fn due(&self) -> Option<TimerId>
-        ensures { result ≡ first_of (due_timers self.now.end.timers) }
+    /// Whether T1 runs with no tick left.
+    pub fn is_due(&self) -> bool
+        ensures { result ≡ is_due self.now.end.t1 }
     {
-        if self.t1.is_due() {
-            Some(TimerId::T1)
-        } else {
-            None
-        }
+        self.t1.is_due()
     }
 
     /// How many frames wait to be taken.
@@ -296,14 +287,11 @@ impl LineEnd {
         self.link.can_offer()
     }
 
-    /// Whether a timer runs, also with no tick left.
-    pub fn is_running(&self, id: TimerId) -> bool
-        ensures { result ≡ is_some (left_of self.now.end.timers id) }
+    /// Whether T1 runs, also with no tick left.
+    pub fn runs_t1(&self) -> bool
+        ensures { result ≡ is_some self.now.end.t1 }
     {
-        match id {
-            TimerId::T1 => self.t1.is_running(),
-            _ => false,
-        }
+        self.t1.is_running()
     }
 
     /// Whether the link is up and has nothing to wait for or to tell.
@@ -316,8 +304,8 @@ impl LineEnd {
 
 // Does with T1 what a call of the link asks for.
 fn set_timer(t1: &mut Countdown, change: Timing)
-    ensures timers { t1_alone t1.new ≡ timed change (t1_alone t1.old) }
-    ensures t1 { is_some t1.new ≡ runs_then change (is_some t1.old) }
+    ensures left { t1.new ≡ timed change t1.old }
+    ensures runs { is_some t1.new ≡ runs_then change (is_some t1.old) }
 {
     match change {
         Timing::Keep => {}

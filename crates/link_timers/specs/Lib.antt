@@ -1,3 +1,5 @@
 pub mod Role
-pub mod PlaceSet
 pub mod Timers
+pub mod Running
+pub mod PlaceSet
+pub mod ChannelTimers

@@ -1,7 +1,8 @@
 -- Sets of places of timers.
-use Rattle.std.specs.Prelude.{◌≡◌, ℕ, ◌<◌, ◌/◌, ◌%◌, Bool, true, false, ◌&&◌, not, ◌==◌, slice_index_or, sum_by}
+use Rattle.std.specs.Prelude.{ℕ, ◌/◌, ◌%◌, Bool, slice_index_or, sum_by}
 use Rattle.number_set.specs.declared.NumberSet.{NumberSet}
 use Rattle.number_set.specs.NumberSet as numbers
+use Rattle.link_timers.specs.Running.{IsFirst}
 use Rattle.link_timers.specs.declared.places.PlaceSet.{PlaceSet}
 
 -- no number
@@ -13,10 +14,8 @@ abbrev pub has : PlaceSet → (place : ℕ) → Bool
 has s n = numbers.has (slice_index_or s.parts (n / 64) empty) (n % 64)
 
 -- the first place of a set, which is taken out
-pub record IsFirstOf (s : PlaceSet) (place : ℕ) (rest : PlaceSet) : Type 0 where
-  pub there : has s place ≡ true
-  pub first : (n : ℕ) → n < place → has s n ≡ false
-  pub others : (n : ℕ) → has rest n ≡ (has s n && not (n == place))
+abbrev pub IsFirstOf : PlaceSet → (place : ℕ) → PlaceSet → Type 0
+IsFirstOf s place rest = IsFirst (λ n. has s n) place (λ n. has rest n)
 
 -- a number that falls with each place that is taken
 abbrev pub size : PlaceSet → ℕ

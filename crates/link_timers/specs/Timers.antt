@@ -1,34 +1,7 @@
 -- The timers of an end of a line, as a map from those that run to the ticks that they have left.
-use Rattle.std.specs.Prelude.{
-  ◌≡◌,
-  ℕ,
-  ◌+◌,
-  ◌-◌,
-  ◌≤◌,
-  Bool,
-  false,
-  ◌&&◌,
-  List,
-  [],
-  ◌∷◌,
-  length,
-  map,
-  replicate,
-  Option,
-  Some,
-  None,
-  is_some,
-  slice_index_or,
-  slice_set,
-  nat_le,
-  nat_lt,
-  ◌==◌,
-  if◌then◌else◌,
-}
-use Rattle.link_timers.specs.declared.places.PlaceSet.{PlaceSet}
+use Rattle.std.specs.Prelude.{ℕ, ◌+◌, ◌-◌, ◌≤◌, Bool, false, ◌&&◌, List, [], ◌∷◌, map, replicate, Option, Some, None, slice_get, slice_index_or, slice_set, nat_le, nat_lt, ◌==◌, if◌then◌else◌}
 use Rattle.link_timers.specs.declared.timers.TimerId.{TimerId}
 use Rattle.link_timers.specs.declared.timers.TimerId.TheVariants.{T1, T10, T20, T11, T12, T13, T21, T22, T23, Idle}
-use Rattle.link_timers.specs.PlaceSet.{has}
 
 -- the timers' places: in the order in which their names are listed, then by number
 abbrev pub Places : Type 0
@@ -111,11 +84,14 @@ abbrev pub is_due : Option ℕ → Bool
 is_due None = false
 is_due (Some left) = left == 0
 
--- those of the places from this one on that have no ticks left
+-- those of the places from this one on that have no ticks left, by what is at each place
+abbrev pub due_by : {A : Type 0} → (name : ℕ → A) → (place : ℕ) → Places → List A
+due_by name place [] = []
+due_by name place (left ∷ others) =
+    if is_due left then name place ∷ due_by name (place + 1) others else due_by name (place + 1) others
+
 abbrev pub due_from : (place : ℕ) → Places → List TimerId
-due_from place [] = []
-due_from place (left ∷ others) =
-    if is_due left then timer_at place ∷ due_from (place + 1) others else due_from (place + 1) others
+due_from place timers = due_by timer_at place timers
 
 -- the timers that have no ticks left, in order
 abbrev pub due_timers : Places → List TimerId
@@ -123,10 +99,4 @@ due_timers timers = due_from 0 timers
 
 -- the first of them
 abbrev pub first_of : List TimerId → Option TimerId
-first_of [] = None
-first_of (id ∷ ids) = Some id
-
--- what always holds of the places and of the set of those at which a timer runs
-pub record AreTimers (timers : Places) (running : PlaceSet) : Type 0 where
-  pub whole : length timers ≡ places
-  pub runs : (place : ℕ) → has running place ≡ is_some (slice_index_or timers place None)
+first_of ids = slice_get ids 0

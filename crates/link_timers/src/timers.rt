@@ -99,7 +99,9 @@ pub struct Timers {
 impl Model for Timers {
     ghost use Rattle.std.specs.Prelude.{ℕ, List, Option};
     ghost use Rattle.std.specs.Coded.{coded_list, coded_option, coded_ℕ};
-    ghost use Rattle.link_timers.specs.Timers.{AreTimers};
+    ghost use Rattle.link_timers.specs.Timers.{places};
+    ghost use Rattle.link_timers.specs.Running.{AreCounts};
+    ghost use Rattle.link_timers.specs.PlaceSet.{has};
 
     ghost Value = { List (Option ℕ) };
 
@@ -107,7 +109,7 @@ impl Model for Timers {
 
     ghost view = { λ t. t.left };
 
-    ghost invariant = { λ t. AreTimers t.left t.running };
+    ghost invariant = { λ t. AreCounts places t.left (λ n. has t.running n) };
 }
 
 impl Timers {
@@ -233,7 +235,7 @@ impl Timers {
     }
 }
 
-fn lower_one(left: Option<u16>, ticks: u16) -> Option<u16>
+pub(crate) fn lower_one(left: Option<u16>, ticks: u16) -> Option<u16>
     ensures { result ≡ lowered ticks left }
 {
     Some(left?.saturating_sub(ticks))

@@ -20,7 +20,7 @@ use Rattle.pad_terminal.specs.Settings.{after_pairs}
 use Rattle.pad_terminal.specs.Commands.{after_line, request_of_line}
 use Rattle.pad_terminal.specs.Messages.{after_octets}
 use Rattle.packet_end.specs.PacketEnd.{finished, all_offered}
-use Rattle.packet_end.specs.Timing.{brought}
+use Rattle.packet_layer.specs.LayerTimers.{brought}
 use Rattle.x25_pad.specs.Pad.{all_heard}
 use Rattle.call_records.specs.Records.{RecordValue, new_record, with_closed}
 use Rattle.call_records.specs.Book.{Book, Slot}

@@ -14,7 +14,6 @@ use Rattle.line_nodes.specs.LineTurns.{expires}
 use Rattle.line_nodes.proofs.Noted.{timer_stays}
 use Rattle.node_laws.specs.Due.{due_count}
 use Rattle.node_laws.specs.Quiet.{IsQuiet}
-use Rattle.node_laws.proofs.QuietTurns.{timers-apart}
 use Rattle.node_laws.proofs.LineRecords.DueEnds.{no-more-due, finished-due, IsFewer, due-expires}
 
 host-expires : (role : Role) (e : PacketEnd) (id : TimerId) (b : Book) → IsFewer e id
@@ -44,5 +43,5 @@ pad-expires role p id b fewer = by (pad.runs_at p id) refl
 
 pub fewer-due : (role : Role) (n : NodeState) (id : TimerId) (b : Book) → IsQuiet n → node_due n ≡ Some id
     → due_count (drained (expires role n id b).node) < due_count n
-fewer-due role (Pad p) id b q is = pad-expires role p id b (pad_law.expires p id (timers-apart (Pad p) q.timers) is)
-fewer-due role (Host e) id b q is = host-expires role e id b (due-expires e id (timers-apart (Host e) q.timers) is)
+fewer-due role (Pad p) id b q is = pad-expires role p id b (pad_law.expires p id is)
+fewer-due role (Host e) id b q is = host-expires role e id b (due-expires e id is)

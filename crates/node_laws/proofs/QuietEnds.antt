@@ -56,7 +56,7 @@ received_unread e octets h =
     packet_unread step.accepted (heeded step.note x) (heeded_unread step.note x h)
 
 expired_unread : (e : PacketEnd) (id : TimerId) → IsUnread e → IsUnread (end.expired id (begun e))
-expired_unread e timer.T1 h = heeded_unread (on_t1 e.line.link).note (record (begun e) { line = line.expired timer.T1 (begun e).line }) h
+expired_unread e timer.T1 h = heeded_unread (on_t1 e.line.link).note (record (begun e) { line = line.expired (begun e).line }) h
 expired_unread e timer.T10 h = refl
 expired_unread e timer.T20 h = refl
 expired_unread e (timer.T11 c) h = refl

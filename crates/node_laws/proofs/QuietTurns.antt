@@ -21,7 +21,6 @@ use Rattle.x25_pad.specs.Pad as pad
 use Rattle.x25_pad.specs.Pad.{PadState}
 use Rattle.x25_pad.specs.Making as pad_making
 use Rattle.x25_pad.specs.declared.config.PadConfig.{PadConfig}
-use Rattle.node_laws.proofs.Pads.Expiring.{apart as pad_apart}
 use Rattle.call_records.specs.Book.{Book}
 use Rattle.line_nodes.specs.Node.{NodeState, Pad, Host, end_of, drained, node_elapsed}
 use Rattle.line_nodes.specs.Turn.{Turn, unchanged, told}
@@ -31,50 +30,34 @@ use Rattle.line_nodes.specs.HostTurns.{host_calls, host_asks, host_refuses, host
 use Rattle.line_nodes.specs.declared.terminal.TerminalEvent.{TerminalEvent}
 use Rattle.line_nodes.specs.declared.terminal.TerminalEvent.TheVariants as event
 use Rattle.line_nodes.specs.declared.terminal.TerminalEvent.TheVariants.{Key, Break, Print}
-use Rattle.node_laws.specs.Due.{TimersApart, AreApart}
 use Rattle.node_laws.specs.Quiet.{IsQuiet, LeavesQuiet}
-use Rattle.node_laws.proofs.LineRecords.DueEnds.{NoMoreDue, stays-apart, same-due, then-due, begun-due, received-due, timer-due, relinked-due, finished-due, calls-due, asks-due, refuses-due, says-due, takes-due, elapsed-apart, made-apart, restarted-apart}
 use Rattle.node_laws.proofs.QuietEnds.{IsUnread, received_unread, timer_unread, finished_unread, asked_unread, called_unread, calls_unread, asks_unread, refuses_unread, says_unread, takes_unread}
 use Rattle.node_laws.proofs.LineRecords.Relinking.{AsksNone, finished_asks, calls_ask, requests_ask, refuses_ask, says_ask, takes_ask, expiry_asks}
 use Rattle.node_laws.proofs.PadEnds.{key_at, idle_at, breaks_at, print_at, port_at, answered_at}
 
--- ---- the timers of a node
-
-set-apart : (n : NodeState) → TimersApart (end_of n) → AreApart n
-unfolding AreApart
-set-apart n a = a
-
-pub timers-apart : (n : NodeState) → AreApart n → TimersApart (end_of n)
-unfolding AreApart
-timers-apart n a = a
-
 -- ---- turns of any node
 
 -- nothing is unread, and no timer runs where it must not
-told_quiet : (role : Role) (e : PacketEnd) (b : Book) → IsUnread e → AsksNone e → TimersApart e → LeavesQuiet (told role (Host e) b)
-told_quiet role e b h settled a =
-    record { node = record { read = refl; noted = refl; sent = refl }; unread = h; settled = settled; timers = set-apart _ (record { link = a.link; layer = a.layer }) }
+told_quiet : (role : Role) (e : PacketEnd) (b : Book) → IsUnread e → AsksNone e → LeavesQuiet (told role (Host e) b)
+told_quiet role e b h settled =
+    record { node = record { read = refl; noted = refl; sent = refl }; unread = h; settled = settled }
 
-noted_quiet : (role : Role) (p : PadState) (b : Book) → p.line.end.notes ≡ [] → IsUnread p.line.end → AsksNone p.line.end → TimersApart p.line.end → LeavesQuiet (told role (Pad p) b)
-noted_quiet role p b read h settled a =
-    record { node = record { read = read; noted = refl; sent = refl }; unread = h; settled = settled; timers = set-apart _ (record { link = a.link; layer = a.layer }) }
+noted_quiet : (role : Role) (p : PadState) (b : Book) → p.line.end.notes ≡ [] → IsUnread p.line.end → AsksNone p.line.end → LeavesQuiet (told role (Pad p) b)
+noted_quiet role p b read h settled =
+    record { node = record { read = read; noted = refl; sent = refl }; unread = h; settled = settled }
 
 pub unchanged_quiet : (n : NodeState) (b : Book) → IsQuiet n → LeavesQuiet (unchanged n b)
 unchanged_quiet (Pad p) b q =
-    let a : TimersApart p.line.end = timers-apart (Pad p) q.timers in
     record {
       node = record { read = q.node.read; noted = q.node.noted; sent = refl };
       unread = q.unread;
       settled = q.settled;
-      timers = set-apart _ (record { link = a.link; layer = a.layer });
     }
 unchanged_quiet (Host e) b q =
-    let a : TimersApart e = timers-apart (Host e) q.timers in
     record {
       node = record { read = q.node.read; noted = refl; sent = refl };
       unread = q.unread;
       settled = q.settled;
-      timers = set-apart _ (record { link = a.link; layer = a.layer });
     }
 
 either_quiet : (v : Bool) (s t : Turn) → LeavesQuiet s → LeavesQuiet t → LeavesQuiet (cond v s t)
@@ -139,68 +122,53 @@ quiet-hears role (Pad p) octets b q =
     noted_quiet role (pad.after_frame p octets) b refl
     (line_unread (pad.with_end (received (pad.begun p).line.end octets) (pad.begun p)) (received_unread p.line.end octets q.unread))
     (line_settled (pad.with_end (received (pad.begun p).line.end octets) (pad.begun p)))
-    (pad_apart.frames p octets (timers-apart (Pad p) q.timers))
 quiet-hears role (Host e) octets b q =
     let x : PacketEnd = received (begun e) octets in
     told_quiet role (host.after_frame e octets) b (finished_unread x (received_unread e octets q.unread)) (finished_asks x)
-    (stays-apart e (finished x) (then-due (received-due e octets) (finished-due x)) (timers-apart (Host e) q.timers))
 
 host_expiry : (v : Bool) (e : PacketEnd) (id : TimerId) → IsUnread e → IsUnread (cond v (finished (after_timer (begun e) id)) e)
 host_expiry true e id h = finished_unread (after_timer (begun e) id) (timer_unread e id h)
 host_expiry false e id h = h
 
-host_expiry_due : (v : Bool) (e : PacketEnd) (id : TimerId) → NoMoreDue e (cond v (finished (after_timer (begun e) id)) e)
-host_expiry_due true e id = then-due (timer-due e id) (finished-due (after_timer (begun e) id))
-host_expiry_due false e id = same-due e
-
 pub quiet-expires : (role : Role) (n : NodeState) (id : TimerId) (b : Book) → IsQuiet n → LeavesQuiet (expires role n id b)
 quiet-expires role (Pad p) id b q =
     let h : IsBare (pad.after_timer p id) = timer_bare p id (record { read = q.node.read; unread = q.unread; settled = q.settled }) in
     either_quiet (pad.runs_at p id) (told role (Pad (pad.after_timer p id)) b) (unchanged (Pad p) b)
-    (noted_quiet role (pad.after_timer p id) b h.read h.unread h.settled (pad_apart.timers p id (timers-apart (Pad p) q.timers)))
+    (noted_quiet role (pad.after_timer p id) b h.read h.unread h.settled)
     (unchanged_quiet (Pad p) b q)
 quiet-expires role (Host e) id b q =
     either_quiet (runs_at e id) (told role (Host (host.after_expiry e id)) b) (unchanged (Host e) b)
-    (told_quiet role (host.after_expiry e id) b (host_expiry (runs_at e id) e id q.unread) (expiry_asks e id q.settled)
-    (stays-apart e (host.after_expiry e id) (host_expiry_due (runs_at e id) e id) (timers-apart (Host e) q.timers))) (unchanged_quiet (Host e) b q)
+    (told_quiet role (host.after_expiry e id) b (host_expiry (runs_at e id) e id q.unread) (expiry_asks e id q.settled)) (unchanged_quiet (Host e) b q)
 
 pub quiet-relinks : (role : Role) (n : NodeState) (b : Book) → IsQuiet n → LeavesQuiet (relinks role n b)
 quiet-relinks role (Pad p) b q =
     noted_quiet role (pad.after_relink p) b refl (line_unread (pad.with_end (relinked (pad.begun p).line.end) (pad.begun p)) refl)
     (line_settled (pad.with_end (relinked (pad.begun p).line.end) (pad.begun p)))
-    (pad_apart.relinks p (timers-apart (Pad p) q.timers))
 quiet-relinks role (Host e) b q =
     let x : PacketEnd = relinked (begun e) in
     told_quiet role (host.after_relink e) b (finished_unread x refl) (finished_asks x)
-    (stays-apart e (finished x) (then-due (begun-due e) (then-due (relinked-due (begun e)) (finished-due x))) (timers-apart (Host e) q.timers))
 
 pub quiet-restarts : (role : Role) (n : NodeState) (b : Book) → IsQuiet n → LeavesQuiet (restarts role n b)
 quiet-restarts role (Pad p) b q =
-    let a : TimersApart (restarted p.line.end) = restarted-apart p.line.end in
-    record { node = record { read = refl; noted = refl; sent = refl }; unread = refl; settled = refl; timers = set-apart _ (record { link = a.link; layer = a.layer }) }
+    record { node = record { read = refl; noted = refl; sent = refl }; unread = refl; settled = refl }
 quiet-restarts role (Host e) b q =
-    let a : TimersApart (restarted e) = restarted-apart e in
-    record { node = record { read = refl; noted = refl; sent = refl }; unread = refl; settled = refl; timers = set-apart _ (record { link = a.link; layer = a.layer }) }
+    record { node = record { read = refl; noted = refl; sent = refl }; unread = refl; settled = refl }
 
 -- ---- what the user of a host asks
 
 pub quiet-calls : (role : Role) (e : PacketEnd) (parts : CallParts) (b : Book) → IsQuiet (Host e) → LeavesQuiet (host_calls role e parts b)
 quiet-calls role e parts b q = told_quiet role (host.after_call e parts) b (calls_unread e parts q.unread) (calls_ask e parts q.settled)
-    (stays-apart e (host.after_call e parts) (calls-due e parts) (timers-apart (Host e) q.timers))
 
 pub quiet-asks : (role : Role) (e : PacketEnd) (channel : ℕ) (r : Request) (b : Book) → IsQuiet (Host e) → LeavesQuiet (host_asks role e channel r b)
 quiet-asks role e channel r b q = told_quiet role (host.after_request e channel r) b (asks_unread e channel r q.unread) (requests_ask e channel r q.settled)
-    (stays-apart e (host.after_request e channel r) (asks-due e channel r) (timers-apart (Host e) q.timers))
 
 pub quiet-refuses : (role : Role) (e : PacketEnd) (channel : ℕ) (b : Book) → IsQuiet (Host e) → LeavesQuiet (host_refuses role e channel b)
 quiet-refuses role e channel b q = told_quiet role (host.after_refuse e channel) b (refuses_unread e channel q.unread) (refuses_ask e channel q.settled)
-    (stays-apart e (host.after_refuse e channel) (refuses-due e channel) (timers-apart (Host e) q.timers))
 
 pub quiet-says : (role : Role) (e : PacketEnd) (channel : ℕ) (octets : List ℕ) (qualified delivery : Bool) (b : Book)
     → IsQuiet (Host e) → LeavesQuiet (host_says role e channel octets qualified delivery b)
 quiet-says role e channel octets qualified delivery b q =
     told_quiet role (host.after_say e channel octets qualified delivery) b (says_unread e channel octets qualified delivery q.unread) (says_ask e channel octets qualified delivery q.settled)
-    (stays-apart e (host.after_say e channel octets qualified delivery) (says-due e channel octets qualified delivery) (timers-apart (Host e) q.timers))
 
 pub quiet-takes : (role : Role) (e : PacketEnd) (channel : ℕ) (b : Book) → IsQuiet (Host e) → LeavesQuiet (host_takes role e channel b)
 quiet-takes role e channel b q = by (front_on e.layer channel)
@@ -209,7 +177,6 @@ quiet-takes role e channel b q = by (front_on e.layer channel)
     by None = unchanged_quiet (Host e) b q
     by (Some x) =
         told_quiet role (host.after_take e channel) b (takes_unread e channel q.unread) (takes_ask e channel q.settled)
-        (stays-apart e (host.after_take e channel) (takes-due e channel) (timers-apart (Host e) q.timers))
 
 -- ---- what happens at a terminal of a PAD
 
@@ -217,16 +184,15 @@ after_quiet : (role : Role) (p : PadState) (terminal : ℕ) (event : TerminalEve
 after_quiet role p terminal (Key octet) b q =
     noted_quiet role (pad.terminal_event terminal (port.after_key octet) p) b refl (terminal_unread terminal (port.after_key octet) p (key_unread octet) q.unread)
     (terminal_settled terminal (port.after_key octet) p)
-    (pad_apart.keys p terminal octet (timers-apart (Pad p) q.timers))
 after_quiet role p terminal Break b q =
     noted_quiet role (pad.terminal_event terminal port.after_break p) b refl
-    (terminal_unread terminal port.after_break p (breaks_at IsUnread asked_unread called_unread) q.unread) (terminal_settled terminal port.after_break p) (pad_apart.breaks p terminal (timers-apart (Pad p) q.timers))
+    (terminal_unread terminal port.after_break p (breaks_at IsUnread asked_unread called_unread) q.unread) (terminal_settled terminal port.after_break p)
 after_quiet role p terminal event.Idle b q =
     let h : IsBare (pad.after_timer p (Idle terminal)) = timer_bare p (Idle terminal) (record { read = q.node.read; unread = q.unread; settled = q.settled }) in
-    noted_quiet role (pad.after_idle terminal p) b h.read h.unread h.settled (pad_apart.timers p (Idle terminal) (timers-apart (Pad p) q.timers))
+    noted_quiet role (pad.after_idle terminal p) b h.read h.unread h.settled
 after_quiet role p terminal Print b q =
     noted_quiet role (pad.terminal_event terminal port.after_print p) b refl
-    (terminal_unread terminal port.after_print p (print_at IsUnread asked_unread called_unread) q.unread) (terminal_settled terminal port.after_print p) (pad_apart.prints p terminal (timers-apart (Pad p) q.timers))
+    (terminal_unread terminal port.after_print p (print_at IsUnread asked_unread called_unread) q.unread) (terminal_settled terminal port.after_print p)
 
 pub quiet-terminals : (role : Role) (n : NodeState) (terminal : ℕ) (event : TerminalEvent) (b : Book) → IsQuiet n → LeavesQuiet (at_terminal role n terminal event b)
 quiet-terminals role (Pad p) terminal event b q = after_quiet role p terminal event b q
@@ -236,16 +202,14 @@ quiet-terminals role (Host e) terminal event b q = unchanged_quiet (Host e) b q
 
 pub quiet-elapses : (n : NodeState) (ticks : ℕ) → IsQuiet n → IsQuiet (node_elapsed ticks n)
 quiet-elapses (Pad p) ticks q =
-    record { node = record { read = q.node.read; noted = q.node.noted; sent = q.node.sent }; unread = q.unread; settled = q.settled; timers = set-apart _ (pad_apart.times p ticks (timers-apart (Pad p) q.timers)) }
+    record { node = record { read = q.node.read; noted = q.node.noted; sent = q.node.sent }; unread = q.unread; settled = q.settled }
 quiet-elapses (Host e) ticks q =
-    record { node = record { read = q.node.read; noted = refl; sent = q.node.sent }; unread = q.unread; settled = q.settled; timers = set-apart _ (elapsed-apart e ticks (timers-apart (Host e) q.timers)) }
+    record { node = record { read = q.node.read; noted = refl; sent = q.node.sent }; unread = q.unread; settled = q.settled }
 
 pub quiet-made-pad : (c : PadConfig) → IsQuiet (drained (Pad (pad_making.made c)))
 quiet-made-pad c =
-    let a : TimersApart (made Dte c.line) = made-apart Dte c.line in
-    record { node = record { read = refl; noted = refl; sent = refl }; unread = refl; settled = refl; timers = set-apart _ (record { link = a.link; layer = a.layer }) }
+    record { node = record { read = refl; noted = refl; sent = refl }; unread = refl; settled = refl }
 
 pub quiet-made-host : (c : HostConfig) → IsQuiet (drained (Host (host_making.made c)))
 quiet-made-host c =
-    let a : TimersApart (made c.role c.line) = made-apart c.role c.line in
-    record { node = record { read = refl; noted = refl; sent = refl }; unread = refl; settled = refl; timers = set-apart _ (record { link = a.link; layer = a.layer }) }
+    record { node = record { read = refl; noted = refl; sent = refl }; unread = refl; settled = refl }

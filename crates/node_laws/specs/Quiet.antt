@@ -19,17 +19,14 @@ use Rattle.line_nodes.specs.LineTurns.{hears, expires, relinks, restarts}
 use Rattle.line_nodes.specs.HostTurns.{host_calls, host_asks, host_refuses, host_says, host_takes}
 use Rattle.line_nodes.specs.Terminals.{at_terminal}
 use Rattle.line_nodes.specs.declared.terminal.TerminalEvent.{TerminalEvent}
-use Rattle.node_laws.specs.Due.{AreApart}
 use Rattle.node_laws.specs.Nodes.{IsNode}
 use Rattle.node_laws.specs.Opening.{OpensNothing}
 
--- nothing is left of its last event: no note, also none in its layer, no frame, and no relink that is asked for; and no
--- timer runs where it must not
+-- nothing is left of its last event: no note, also none in its layer, no frame, and no relink that is asked for
 pub record IsQuiet (n : NodeState) : Type 0 where
   pub node : IsNode n
   pub unread : (end_of n).layer.notes ≡ []
   pub settled : (end_of n).layer.relink ≡ false
-  pub timers : AreApart n
 
 -- the node is quiet once the frames of the turn went
 abbrev pub LeavesQuiet : Turn → Type 0

@@ -1,15 +1,13 @@
 -- An end at which an event ended stays as it is when one ends again.
 use Rattle.std.proofs.Common.{◌≡◌, ◌∙◌, refl, sym, ap, subst, Bool, true, false, List, [], ◌∷◌, length, drop, inl, inr}
-use Rattle.std.proofs.Common.{set-set}
-use Rattle.std.specs.Prelude.{◌⊎◌, Option, None, is_some, not, ◌&&◌, cond, if◌then◌else◌}
-use Rattle.link_timers.specs.declared.timers.TimerId.TheVariants.{T1}
-use Rattle.link_timers.specs.Timers.{Places, place_of}
+use Rattle.std.specs.Prelude.{ℕ, ◌⊎◌, Option, is_some, not, ◌&&◌, cond, if◌then◌else◌}
 use Rattle.lapb.specs.declared.phase.Phase.{Phase}
 use Rattle.lapb.specs.Machine.{Octets, Link, runs, sendable, send_all, settle_in}
 use Rattle.lapb.specs.Out.{timing_by}
 use Rattle.line_end.specs.End.{End, did, timed}
 use Rattle.line_end.specs.End as line
 use Rattle.packet_channel.specs.Packets.{Packet}
+use Rattle.packet_layer.specs.LayerTimers.{LayerTimers}
 use Rattle.packet_end.specs.PacketEnd.{PacketEnd, SettlesOnce, IsFinished, HasOfferedAll}
 use Rattle.packet_end.specs.PacketEnd.{relinked, all_offered, settled, finished}
 use Rattle.packet_end.specs.Touched.{IsTouched}
@@ -21,10 +19,10 @@ use Rattle.packet_end.proofs.Untouched.{none_touched}
 -- ---- the link settles once
 
 -- steps that start nothing anew, one after the other
-timed_once : (ran runs_now : Bool) (timers : Places) →
-    timed (timing_by runs_now runs_now false) (timed (timing_by ran runs_now false) timers) ≡ timed (timing_by ran runs_now false) timers
-timed_once ran true timers = refl
-timed_once ran false timers = set-set timers (place_of T1) None None
+timed_once : (ran runs_now : Bool) (t1 : Option ℕ) →
+    timed (timing_by runs_now runs_now false) (timed (timing_by ran runs_now false) t1) ≡ timed (timing_by ran runs_now false) t1
+timed_once ran true t1 = refl
+timed_once ran false t1 = refl
 
 drop_all : (xs : List Octets) → drop (length xs) xs ≡ []
 drop_all [] = refl
@@ -34,15 +32,15 @@ all_sent : (may : Bool) (packets : List Octets) → (if may then drop (length pa
 all_sent false packets = refl
 all_sent true packets = drop_all packets
 
-abbrev with_timers : Link → List Octets → Places → End
-with_timers link frames timers = record { link = link; timers = timers; frames = frames }
+abbrev with_t1 : Link → List Octets → Option ℕ → End
+with_t1 link frames t1 = record { link = link; t1 = t1; frames = frames }
 
 -- an end with a link, whose T1 was timed as it is to run, is timed once
 once : (l : End) (link : Link) (frames : List Octets) →
-    with_timers link frames (timed (timing_by (runs link) (runs link) false)
-    (timed (timing_by (runs l.link) (runs link) false) l.timers))
-    ≡ with_timers link frames (timed (timing_by (runs l.link) (runs link) false) l.timers)
-once l link frames = ap (with_timers link frames) (timed_once (runs l.link) (runs link) l.timers)
+    with_t1 link frames (timed (timing_by (runs link) (runs link) false)
+    (timed (timing_by (runs l.link) (runs link) false) l.t1))
+    ≡ with_t1 link frames (timed (timing_by (runs l.link) (runs link) false) l.t1)
+once l link frames = ap (with_t1 link frames) (timed_once (runs l.link) (runs link) l.t1)
 
 sent_once : (l : End) (frames packets : List Octets) → sendable l.link ≡ packets →
     did (record (did l (send_all l.link packets)) { frames = frames })
@@ -91,7 +89,7 @@ offers_none e (inr silent) = no_packet 7 e (ap (λ (packet : Option Packet). is_
 
 settles_none : (e : PacketEnd) → IsFinished e → settled e ≡ e
 settles_none e is =
-    ap (λ (t : Places). record e { timers = t; line = line.settled e.line })
+    ap (λ (t : LayerTimers). record e { timers = t; line = line.settled e.line })
     (none_touched e.layer e.timers is.timers)
     ∙ ap (λ (l : End). record e { line = l }) (is.settled e.line.frames)
 

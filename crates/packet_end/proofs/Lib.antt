@@ -1,6 +1,5 @@
 pub mod Pools
 pub mod Offering
-pub mod Wanted
 pub mod Untouched
 pub mod Waits
 pub mod Owned

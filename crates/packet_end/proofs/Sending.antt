@@ -61,7 +61,7 @@ answered e octets =
 
 expired_frames : (id : TimerId) (e : PacketEnd) → (expired id (begun e)).line.frames ≡ expiry_frames id e
 expired_frames T1 e =
-    brought_frames (link.on_t1 e.line.link).note None (record (begun e) { line = line.expired T1 (begun e).line }) ∙ alone (expiry_frames T1 e) (expiry_few T1 e)
+    brought_frames (link.on_t1 e.line.link).note None (record (begun e) { line = line.expired (begun e).line }) ∙ alone (expiry_frames T1 e) (expiry_few T1 e)
 expired_frames id e = refl
 
 pub timed_out : (e : PacketEnd) (id : TimerId) → runs_at e id ≡ true → (after_timer (begun e) id).line.frames ≡ expiry_frames id e

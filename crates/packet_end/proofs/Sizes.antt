@@ -44,7 +44,7 @@ received_same e octets =
     packet_same answer.accepted (heeded answer.note x) ∙ heeded_same answer.note x
 
 expired_same : (id : TimerId) (e : PacketEnd) → SameSize e (expired id e)
-expired_same T1 e = heeded_same (link.on_t1 e.line.link).note (record e { line = line.expired T1 e.line })
+expired_same T1 e = heeded_same (link.on_t1 e.line.link).note (record e { line = line.expired e.line })
 expired_same T10 e = size_of _ _ (flow_on_named e.layer T10)
 expired_same T20 e = size_of _ _ (flow_on_named e.layer T20)
 expired_same (T11 c) e = size_of _ _ (flow_on_named e.layer (T11 c))

@@ -3,10 +3,6 @@ use Rattle.std.proofs.Common.{◌≡◌, ◌≢◌, ℕ, zero, suc, ◌≤◌, B
 use Rattle.std.specs.Prelude.{◌&&◌, ◌==◌, cond, if◌then◌else◌, Option, Some, None, is_some, Result, Ok, Err, slice_get}
 use Rattle.std.proofs.lemmas.Bool.{ne_eqb}
 use Rattle.link_timers.specs.declared.role.Role.{Role}
-use Rattle.link_timers.specs.declared.role.Role.TheVariants.{Dte, Dce}
-use Rattle.link_timers.specs.declared.timers.TimerId.{TimerId}
-use Rattle.link_timers.specs.declared.timers.TimerId.TheVariants.{T1, T10, T20, T11, T12, T13, T21, T22, T23, Idle}
-use Rattle.link_timers.specs.Timers.{Places}
 use Rattle.packet_codec.specs.declared.fault.PacketFault.{PacketFault}
 use Rattle.packet_codec.specs.declared.fault.PacketFault.TheVariants.{TooShort, BadFormatId, UnknownType, BadLength, BadAddress, DataTooLong}
 use Rattle.packet_codec.specs.declared.packet_type.PacketType.{PacketType}
@@ -18,13 +14,13 @@ use Rattle.packet_channel.specs.declared.flow.Flow.{Flow}
 use Rattle.packet_channel.specs.Packets.{CallParts, Packet, Body}
 use Rattle.packet_channel.specs.Channel.{CallState, Channel, Step, Request, Refusal, carried_out, unless, refusal, requested, owing, in_transfer, has_flow, moved, next_of, next_owed, ChannelNext, waits_for_call, waits_for_clear, received, unreadable, placing}
 use Rattle.packet_channel.specs.Channel.Request.{Accept, Clearing, Resetting, Sending, Interrupting, Stopping, Taking, Releasing, Confirming}
-use Rattle.packet_layer.specs.Layer.{Layer, Phase, nth_channel, channel_of, with_nth, unread, on_found, packet_in, runs_at, serve, serve_found, served, next_number, next_restart, next_in, next_packet, Next, placed_on}
+use Rattle.packet_layer.specs.Layer.{Layer, Phase, Timer, nth_channel, channel_of, with_nth, unread, on_found, packet_in, runs_at, serve, serve_found, served, next_number, next_restart, next_in, next_packet, Next, placed_on}
 use Rattle.packet_channel.specs.Traffic.{says}
 use Rattle.packet_layer.specs.Layer as machine
 use Rattle.packet_layer.specs.Layer.Phase.{NoSession, OwnRestart, PacketReady}
 use Rattle.packet_channel.specs.Octets.{heard_by, body_of, unreadable_as}
-use Rattle.packet_layer.specs.Events.{after_hearing, on_octets, timer_named, runs_named}
-use Rattle.packet_end.specs.Timing.{channel_number}
+use Rattle.packet_layer.specs.Events.{after_hearing, on_octets}
+use Rattle.packet_layer.specs.LayerTimers.{LayerTimers, channel_number}
 use Rattle.packet_end.specs.Touched.{has, OthersAgree, NamesAnother, is_of_call}
 use Rattle.packet_end.specs.declared.touched.Touched.{Touched}
 
@@ -81,40 +77,18 @@ restart_alike : (old new : Layer) (c : ℕ) → Alike old new c →
     machine.runs new machine.Timer.RestartTimer ≡ machine.runs old machine.Timer.RestartTimer
 restart_alike old new c a = ap machine.in_own_restart a.phase
 
-named_alike : (old new : Layer) (role : Role) (id : TimerId) → Alike old new (channel_number id) →
-    runs_named new (timer_named role id) ≡ runs_named old (timer_named role id)
-named_alike old new Dte T1 a = refl
-named_alike old new Dte T10 a = refl
-named_alike old new Dte T20 a = restart_alike old new 0 a
-named_alike old new Dte (T11 c) a = refl
-named_alike old new Dte (T12 c) a = refl
-named_alike old new Dte (T13 c) a = refl
-named_alike old new Dte (T21 c) a = call_alike old new c a
-named_alike old new Dte (T22 c) a = reset_alike old new c a
-named_alike old new Dte (T23 c) a = clear_alike old new c a
-named_alike old new Dte (Idle c) a = refl
-named_alike old new Dce T1 a = refl
-named_alike old new Dce T10 a = restart_alike old new 0 a
-named_alike old new Dce T20 a = refl
-named_alike old new Dce (T11 c) a = call_alike old new c a
-named_alike old new Dce (T12 c) a = reset_alike old new c a
-named_alike old new Dce (T13 c) a = clear_alike old new c a
-named_alike old new Dce (T21 c) a = refl
-named_alike old new Dce (T22 c) a = refl
-named_alike old new Dce (T23 c) a = refl
-named_alike old new Dce (Idle c) a = refl
-
-runs_alike : (old new : Layer) (id : TimerId) → Alike old new (channel_number id) →
-    runs_named new (timer_named new.role id) ≡ runs_named old (timer_named old.role id)
-runs_alike old new id a =
-    ap (λ (role : Role). runs_named new (timer_named role id)) a.role ∙ named_alike old new old.role id a
+runs_alike : (old new : Layer) (timer : Timer) → Alike old new (channel_number timer) → machine.runs new timer ≡ machine.runs old timer
+runs_alike old new machine.Timer.RestartTimer a = restart_alike old new 0 a
+runs_alike old new (machine.Timer.CallTimer c) a = call_alike old new c a
+runs_alike old new (machine.Timer.ResetTimer c) a = reset_alike old new c a
+runs_alike old new (machine.Timer.ClearTimer c) a = clear_alike old new c a
 
 -- what is so of the channels that are not touched stays so
-pub others_agree : (old new : Layer) (timers : Places) (before after : Touched) → OthersAgree old timers before →
+pub others_agree : (old new : Layer) (timers : LayerTimers) (before after : Touched) → OthersAgree old timers before →
     ((c : ℕ) → has after c ≡ false → (has before c ≡ false) × Alike old new c) → OthersAgree new timers after
-others_agree old new timers before after agree alike id is out =
-    let kept = alike (channel_number id) out in
-    agree id is kept.0 ∙ sym (runs_alike old new id kept.1)
+others_agree old new timers before after agree alike timer is out =
+    let kept = alike (channel_number timer) out in
+    agree timer is kept.0 ∙ sym (runs_alike old new timer kept.1)
 
 -- ---- a step of one channel
 

@@ -1,5 +1,4 @@
 pub mod PacketEnd
-pub mod Timing
 pub mod Touched
 pub mod Params
 pub mod Pooled

@@ -1,11 +1,12 @@
 -- One end of a line with its packet layer: what each call of a node makes of the link, the layer and the timers
 -- together.
 use Rattle.std.specs.Prelude.{◌≡◌, ℕ, zero, suc, Bool, false, cond, ◌&&◌, ◌⊎◌, List, [], ◌++◌, drop, Option, Some}
-use Rattle.std.specs.Prelude.{None, is_some}
+use Rattle.std.specs.Prelude.{None, is_some, if◌then◌else◌}
+use Rattle.std.specs.Option.{option_map}
 use Rattle.link_timers.specs.declared.role.Role.{Role}
 use Rattle.link_timers.specs.declared.timers.TimerId.{TimerId}
 use Rattle.link_timers.specs.declared.timers.TimerId.TheVariants.{T1}
-use Rattle.link_timers.specs.Timers.{Places, left_of, none_running, stopped, after_ticks, due_timers, first_of}
+use Rattle.link_timers.specs.Timers.{is_due}
 use Rattle.lapb.specs.declared.note.Note as link_note
 use Rattle.lapb.specs.declared.note.Note.TheVariants.{Nothing, Up, Down}
 use Rattle.lapb.specs.Machine as link
@@ -20,7 +21,9 @@ use Rattle.packet_channel.specs.Channel.{Request}
 use Rattle.packet_layer.specs.Layer.{Layer, Next, unread, next_packet}
 use Rattle.packet_layer.specs.Layer as machine
 use Rattle.packet_layer.specs.Events.{on_octets, on_named, timer_named, written_packet}
-use Rattle.packet_end.specs.Timing.{brought, TimersAgree}
+use Rattle.packet_layer.specs.LayerTimers.{LayerTimers, none_running, runs_by_name, stopped_by_name, after_ticks, name_of, brought}
+use Rattle.packet_layer.specs.LayerTimers.{TimersAgree}
+use Rattle.packet_layer.specs.LayerTimers as timers
 use Rattle.packet_end.specs.Params.{link_params}
 use Rattle.packet_end.specs.declared.params.EndParams.{EndParams}
 
@@ -28,7 +31,7 @@ use Rattle.packet_end.specs.declared.params.EndParams.{EndParams}
 pub record PacketEnd : Type 0 where
   pub line : End
   pub layer : Layer
-  pub timers : Places
+  pub timers : LayerTimers
   pub notes : List Note
 
 -- a layer tells its notes after those of the event so far
@@ -62,14 +65,14 @@ received e octets =
 
 -- T1 is the link's, the others are the layer's
 abbrev pub runs_at : PacketEnd → TimerId → Bool
-runs_at e T1 = is_some (left_of e.line.timers T1)
-runs_at e id = is_some (left_of e.timers id)
+runs_at e T1 = is_some e.line.t1
+runs_at e id = runs_by_name e.timers (timer_named e.layer.role id)
 
 -- a timer that runs expires
 abbrev pub expired : TimerId → PacketEnd → PacketEnd
-expired T1 e = heeded (link.on_t1 e.line.link).note (record e { line = line.expired T1 e.line })
+expired T1 e = heeded (link.on_t1 e.line.link).note (record e { line = line.expired e.line })
 expired id e = gathered (record e {
-  timers = stopped e.timers id;
+  timers = stopped_by_name e.timers (timer_named e.layer.role id);
   layer = on_named e.layer (timer_named e.layer.role id);
 })
 
@@ -170,7 +173,8 @@ either_timer None other = other
 
 -- the first timer with no tick left: T1 before the layer's
 abbrev pub due : PacketEnd → Option TimerId
-due e = either_timer (first_of (due_timers e.line.timers)) (first_of (due_timers e.timers))
+due e =
+    either_timer (if is_due e.line.t1 then Some T1 else None) (option_map (name_of e.layer.role) (timers.first_due e.timers))
 
 -- the link is at rest, and the layer has nothing to send, to tell or to hand out
 abbrev pub at_rest : PacketEnd → Bool

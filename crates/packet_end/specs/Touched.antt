@@ -1,11 +1,9 @@
 -- What happened at an end of a line since its last event, and what is so of the timers that it does not concern.
 use Rattle.std.specs.Prelude.{◌≡◌, ◌≢◌, ℕ, ◌≤◌, Bool, true, false, ◌==◌, Option, Some, None}
-use Rattle.link_timers.specs.declared.timers.TimerId.{TimerId}
-use Rattle.link_timers.specs.Timers.{Places}
 use Rattle.packet_channel.specs.Channel.{Request}
 use Rattle.packet_channel.specs.Channel.Request.{Accept, Clearing, Resetting}
-use Rattle.packet_layer.specs.Layer.{Layer}
-use Rattle.packet_end.specs.Timing.{RunsAsWanted, IsPacketTimer, channel_number}
+use Rattle.packet_layer.specs.Layer.{Layer, Timer}
+use Rattle.packet_layer.specs.LayerTimers.{LayerTimers, RunsAsWanted, IsTimer, channel_number}
 use Rattle.packet_end.specs.declared.touched.Touched.{Touched}
 use Rattle.packet_end.specs.declared.touched.Touched.TheVariants.{Nothing, NoTimer, Channel, Everything}
 
@@ -22,9 +20,9 @@ IsTouched Nothing = ⊥
 IsTouched touched = Unit {0}
 
 -- each timer that it does not concern runs exactly where the layer wants it to
-abbrev pub OthersAgree : Layer → Places → Touched → Type 0
+abbrev pub OthersAgree : Layer → LayerTimers → Touched → Type 0
 OthersAgree l timers touched =
-    (id : TimerId) → IsPacketTimer id → has touched (channel_number id) ≡ false → RunsAsWanted l timers id
+    (timer : Timer) → IsTimer timer → has touched (channel_number timer) ≡ false → RunsAsWanted l timers timer
 
 -- octets name a channel, which is another than this one, and do not speak of the restart
 abbrev pub NamesAnother : Option ℕ → ℕ → Type 0

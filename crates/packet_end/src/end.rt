@@ -12,7 +12,7 @@ ghost use Rattle.packet_layer.specs.RequestView.{request_of, refusal_of, call_re
 ghost use Rattle.packet_channel.specs.TakenView.{maybe_taken, maybe_front, taken_octets, HasFewOctets};
 ghost use Rattle.packet_channel.specs.Traffic.Taken.{TakenPacket};
 ghost use Rattle.packet_end.specs.Params.{AreParams, MadeNot};
-ghost use Rattle.packet_end.specs.Timing.{TimersAgree};
+ghost use Rattle.packet_layer.specs.LayerTimers.{TimersAgree};
 ghost use Rattle.packet_end.specs.PacketEnd.{made, begun, received, after_timer, relinked, restarted};
 ghost use Rattle.packet_end.specs.PacketEnd.{KeepsNothingBack, finished, asked, called};
 ghost use Rattle.packet_end.specs.PacketEnd.{elapsed, without_first_frame, without_first_note};

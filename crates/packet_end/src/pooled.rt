@@ -22,9 +22,9 @@ use flow_window::pool::Pool;
 use frame_codec::FrameBuf;
 use lapb::Note;
 use line_end::{LineEnd, MOST_FRAMES};
-use link_timers::{Role, TimerId, Timers};
+use link_timers::{Role, TimerId};
 use packet_codec::PacketBuf;
-use packet_layer::{Layer, LayerNote};
+use packet_layer::{Layer, LayerNote, LayerTimers};
 use std::alloc::Global;
 use std::marker::Model;
 use std::ops::Deref;
@@ -37,7 +37,7 @@ use std::ops::Deref;
 pub struct PooledEnd {
     line: LineEnd,
     layer: Layer,
-    timers: Timers,
+    timers: LayerTimers,
     notes: EventNotes,
     touched: Touched,
     /// The place of a packet that goes from the layer to the link.
@@ -94,7 +94,7 @@ impl PooledEnd {
         Ok(PooledEnd {
             line,
             layer,
-            timers: Timers::new(),
+            timers: LayerTimers::new(),
             notes,
             touched: Touched::Everything,
             packet: PacketBuf::new(),
@@ -141,9 +141,12 @@ impl PooledEnd {
     pub fn is_running(&self, id: TimerId) -> bool
         ensures { result ≡ runs_at self.now.end id }
     {
-        match id {
-            TimerId::T1 => self.line.is_running(id),
-            _ => self.timers.is_running(id),
+        if let TimerId::T1 = id {
+            return self.line.runs_t1();
+        }
+        match self.layer.timer_named(id) {
+            Some(timer) => self.timers.is_running(timer),
+            None => false,
         }
     }
 
@@ -158,14 +161,21 @@ impl PooledEnd {
     {
         if let TimerId::T1 = id {
             self.touched.touch();
-            if let Some(note) = self.line.on_timer(id, pool) {
+            if let Some(note) = self.line.on_t1(pool) {
                 self.heed(note, pool);
             }
-        } else if self.timers.fire(id) {
-            self.touched = Touched::Everything;
-            self.layer.on_timer(id, pool);
-            gather(&mut self.layer, &mut self.notes);
+            return;
         }
+        let Some(timer) = self.layer.timer_named(id) else {
+            return;
+        };
+        if !self.timers.is_running(timer) {
+            return;
+        }
+        self.timers.stop(timer);
+        self.touched = Touched::Everything;
+        self.layer.on_timer(id, pool);
+        gather(&mut self.layer, &mut self.notes);
     }
 
     /// Gives the link up and sets it up again: all calls close.
@@ -236,10 +246,10 @@ impl PooledEnd {
     pub fn due(&self) -> Option<TimerId>
         ensures { result ≡ due self.now.end }
     {
-        match self.line.due() {
-            Some(id) => Some(id),
-            None => self.timers.due(),
+        if self.line.is_due() {
+            return Some(TimerId::T1);
         }
+        Some(self.timers.due()?.name(self.layer.role()))
     }
 
     /// How many frames wait to be taken, at most [`MOST_FRAMES`].
@@ -280,7 +290,7 @@ impl PooledEnd {
             Note::Up => self.layer.link_up(pool),
             Note::Down => self.layer.link_down(pool),
         }
-        self.timers = Timers::new();
+        self.timers = LayerTimers::new();
         self.touched = Touched::Everything;
         gather(&mut self.layer, &mut self.notes);
     }

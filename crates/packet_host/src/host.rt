@@ -8,7 +8,7 @@ ghost use Rattle.packet_layer.specs.RequestView.{request_of, refusal_of, call_re
 ghost use Rattle.packet_channel.specs.TakenView.{taken_of, maybe_taken, maybe_front, taken_octets, taken_with, HasFewOctets};
 ghost use Rattle.packet_end.specs.Params.{AreParams, MadeNot};
 ghost use Rattle.packet_end.specs.PacketEnd as end;
-ghost use Rattle.packet_end.specs.Timing.{TimersAgree};
+ghost use Rattle.packet_layer.specs.LayerTimers.{TimersAgree};
 ghost use Rattle.packet_host.specs.Host.{ended, call_parts, after_call, after_request, refuse_refusal, after_refuse};
 ghost use Rattle.packet_host.specs.Host.{let_go, after_take, ended_frames};
 ghost use Rattle.packet_host.specs.Making.{made};

@@ -8,3 +8,4 @@ pub mod Round
 pub mod Asked
 pub mod Served
 pub mod Flows
+pub mod TimersWanted

@@ -7,5 +7,6 @@ pub mod Silence
 pub mod LayerView
 pub mod Events
 pub mod TimerView
+pub mod LayerTimers
 pub mod Free
 pub mod Interrupting

@@ -1,8 +1,8 @@
 -- The timers of a packet layer, as the code has them.
 use Rattle.std.specs.Prelude.{Option, Some, None}
 use Rattle.packet_layer.specs.Layer as spec
-use Rattle.packet_layer.specs.declared.layer.timers.Timer.{Timer}
-use Rattle.packet_layer.specs.declared.layer.timers.Timer.TheVariants as timer
+use Rattle.packet_layer.specs.declared.layer_timers.Timer.{Timer}
+use Rattle.packet_layer.specs.declared.layer_timers.Timer.TheVariants as timer
 
 abbrev pub timer_of : Timer → spec.Timer
 timer_of timer.Restart = spec.Timer.RestartTimer

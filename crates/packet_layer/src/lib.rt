@@ -4,11 +4,13 @@
 
 mod fault;
 mod layer;
+mod layer_timers;
 mod params;
 mod restart;
 
 pub use fault::{CallFault, MakeFault};
 pub use layer::Layer;
+pub use layer_timers::{LayerTimers, Timer};
 pub use packet_channel::{
     ChannelFault, DEFAULT_SIZE, Flow, Front, InterruptData, KeptPacket, LayerNote, MOST_CHANNELS,
     NoteQueue, Reason, RefusedBuf, Request, SEND_QUEUE, Taken, TakenBuf, UserData, full_packets,

@@ -66,7 +66,7 @@ brought_fits Down (Some octets) e f = f
 
 expired_fits : (id : TimerId) (e : PacketEnd) → Fits e.line.link → Fits (expired id (quieted e)).line.link
 expired_fits T1 e f =
-    brought_fits (link.on_t1 e.line.link).note None (record (quieted e) { line = line.expired T1 e.line }) (still_fits e.line.link (link.on_t1 e.line.link).link (sends_on_t1 e.line.link).keeps f)
+    brought_fits (link.on_t1 e.line.link).note None (record (quieted e) { line = line.expired e.line }) (still_fits e.line.link (link.on_t1 e.line.link).link (sends_on_t1 e.line.link).keeps f)
 expired_fits id e f = f
 
 by_bool : {X : Type 0} (P : X → Type 0) (b : Bool) (x y : X) → P x → P y → P (cond b x y)

@@ -178,7 +178,7 @@ fit_one old new room few = with_frames-fit old new (omega (arith, room, few))
 
 expired_line : (id : TimerId) (e : PacketEnd) → length e.line.frames ≤ 8 → (expired id (quieted e)).line.frames ≡ e.line.frames ++ expiry_frames id e
 expired_line T1 e room =
-    brought_line (link.on_t1 e.line.link).note None (record (quieted e) { line = line.expired T1 e.line })
+    brought_line (link.on_t1 e.line.link).note None (record (quieted e) { line = line.expired e.line })
     ∙ fit_one e.line.frames (expiry_frames T1 e) room (expiry_few T1 e)
 expired_line id e room = sym (append-nil e.line.frames)
 

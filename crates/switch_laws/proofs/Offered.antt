@@ -106,7 +106,7 @@ received_k octets e =
     brought_k (link_octets.on_octets e.line.link octets).note (link_octets.on_octets e.line.link octets).accepted (record (quieted e) { line = line.received e.line octets }) e.line.link.k (octets_keep_k e.line.link octets)
 
 expired_k : (id : TimerId) (e : PacketEnd) → (expired id (quieted e)).line.link.k ≡ e.line.link.k
-expired_k T1 e = brought_k (link.on_t1 e.line.link).note None (record (quieted e) { line = line.expired T1 e.line }) e.line.link.k (t1_keeps_k e.line.link)
+expired_k T1 e = brought_k (link.on_t1 e.line.link).note None (record (quieted e) { line = line.expired e.line }) e.line.link.k (t1_keeps_k e.line.link)
 expired_k id e = refl
 
 by_bool : {X : Type 0} (P : X → Type 0) (b : Bool) (x y : X) → P x → P y → P (cond b x y)

@@ -54,7 +54,7 @@ named_role None l = refl
 named_role (Some t) l = (timer_same l 0 t).0
 
 expires_role : (id : TimerId) (e : PacketEnd) → (expired id e).layer.role ≡ e.layer.role
-expires_role T1 e = heeds_role (on_t1 e.line.link).note (record e { line = line.expired T1 e.line })
+expires_role T1 e = heeds_role (on_t1 e.line.link).note (record e { line = line.expired e.line })
 expires_role id e = named_role (timer_named e.layer.role id) e.layer
 
 timer_role : (ran : Bool) (id : TimerId) (e : PacketEnd) → (cond ran (expired id e) e).layer.role ≡ e.layer.role

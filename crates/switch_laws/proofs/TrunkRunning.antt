@@ -10,7 +10,7 @@ use Rattle.packet_codec.specs.ClearCause.{invalid_facility}
 use Rattle.packet_channel.specs.Packets.{CallParts, Note}
 use Rattle.packet_channel.specs.Packets.Note.{Incoming}
 use Rattle.packet_end.specs.PacketEnd as offers
-use Rattle.packet_end.specs.Timing as timing
+use Rattle.packet_layer.specs.LayerTimers as timing
 use Rattle.packet_end.specs.PacketEnd.{received}
 use Rattle.address_routes.specs.Routes.{line_for, or_else}
 use Rattle.switch_lines.specs.declared.config.SwitchLineConfig.{SwitchLineConfig}

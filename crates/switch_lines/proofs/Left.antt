@@ -6,7 +6,7 @@ use Rattle.std.specs.Prelude.{◌⊎◌, Option, Some, None, nat_lt, slice_get}
 use Rattle.std.specs.List.{list_any}
 use Rattle.std.proofs.lemmas.Bool.{eq-eqb, ne_eqb, cases_eq, ltb-true, lt-ltb, or_parts}
 use Rattle.std.proofs.lemmas.Option.{none-some, same_Some}
-use Rattle.packet_end.specs.Timing.{TimersAgree}
+use Rattle.packet_layer.specs.LayerTimers.{TimersAgree}
 use Rattle.packet_end.specs.PacketEnd.{begun, settled, all_offered}
 use Rattle.number_set.specs.declared.NumberSet.{NumberSet}
 use Rattle.number_set.specs.NumberSet.{has}

@@ -10,7 +10,7 @@ use Rattle.frame_codec.specs.Spelling.{most_information}
 use Rattle.packet_channel.specs.Held.{Loses}
 use Rattle.number_set.specs.declared.NumberSet.{NumberSet}
 use Rattle.number_set.specs.NumberSet.{has, IsFirstOf}
-use Rattle.packet_end.specs.Timing.{TimersAgree}
+use Rattle.packet_layer.specs.LayerTimers.{TimersAgree}
 use Rattle.packet_end.specs.Pooled.{Serves}
 use Rattle.switch_lines.specs.Lines.{SwitchLine, changed}
 use Rattle.switch_lines.specs.Pooled.{Claim, PooledLine, plain, buffers, shares, KeepWithin, ArePooled, on_line}

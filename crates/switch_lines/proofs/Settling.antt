@@ -1,10 +1,9 @@
 -- A line that is settled stays as it is where it is settled again, and where time passes.
-use Rattle.std.proofs.Common.{◌≡◌, ℕ, zero, suc, ◌≤◌, Bool, true, false, not, if◌then◌else◌, ◌&&◌, ◌||◌, List, [], ◌∷◌}
-use Rattle.std.proofs.Common.{map, drop, length, set, get_or, refl, sym, ap, ◌∙◌, arith}
+use Rattle.std.proofs.Common.{◌≡◌, ℕ, Bool, true, false, not, if◌then◌else◌, ◌&&◌, ◌||◌, List, [], ◌∷◌}
+use Rattle.std.proofs.Common.{map, drop, length, get_or, refl, sym, ap, ◌∙◌}
 use Rattle.std.specs.Prelude.{Option, Some, None, is_some}
-use Rattle.link_timers.specs.declared.timers.TimerId.{TimerId}
-use Rattle.link_timers.specs.declared.timers.TimerId.TheVariants.{T1, T10, T20, T11, T12, T13, T21, T22, T23}
-use Rattle.link_timers.specs.Timers.{Places, place_of, left_of, started, stopped, lowered, after_ticks}
+use Rattle.link_timers.specs.Timers.{Places, lowered}
+use Rattle.link_timers.proofs.PlaceLaws.{lowered_at}
 use Rattle.frame_codec.specs.Spelling.{spelling}
 use Rattle.frame_codec.specs.Frame.{FrameValue}
 use Rattle.frame_codec.specs.Frame.Content.{Rr}
@@ -15,65 +14,14 @@ use Rattle.lapb.specs.Machine.{timing}
 use Rattle.lapb.specs.Out.{with_frames}
 use Rattle.line_end.specs.End.{End, timed}
 use Rattle.line_end.specs.End as line
-use Rattle.packet_layer.specs.Layer.{Layer, next_packet}
-use Rattle.packet_layer.specs.Events.{timer_named, runs_named}
-use Rattle.packet_end.specs.Timing.{packet_ticks, brought_as, brought_one, brought_channel, brought_channels, brought}
-use Rattle.packet_end.specs.Timing.{RunsAsWanted, TimersAgree}
+use Rattle.packet_layer.specs.Layer.{Timer, next_packet}
+use Rattle.packet_layer.specs.Layer.Timer.{RestartTimer, CallTimer, ResetTimer, ClearTimer}
+use Rattle.packet_layer.specs.LayerTimers.{LayerTimers, left_of, after_ticks, TimersAgree}
+use Rattle.packet_end.proofs.Untouched.{none_touched}
 use Rattle.packet_end.specs.PacketEnd.{begun, settled, elapsed}
 use Rattle.switch_lines.specs.Lines.{SwitchLine}
 use Rattle.switch_lines.specs.Switch.{with_end, may_offer}
 use Rattle.switch_lines.specs.Touched.{HasNothingToSend, IsSettled, IsTaken}
-
--- ---- the timers of the packet layer
-
-none_put : (timers : Places) (n : ℕ) → get_or timers n None ≡ None → set timers n None ≡ timers
-none_put [] n e = refl
-none_put (x ∷ xs) zero e = ap (λ (y : Option ℕ). y ∷ xs) (sym e)
-none_put (x ∷ xs) (suc n) e = ap (λ (ys : Places). x ∷ ys) (none_put xs n e)
-
-is_none : (o : Option ℕ) → is_some o ≡ false → o ≡ None
-is_none None e = refl
-is_none (Some left) e = absurd (cc)
-
-one_stays : (l : Layer) (id : TimerId) (timers : Places) → RunsAsWanted l timers id → brought_one l id timers ≡ timers
-one_stays l id timers agree = go (runs_named l (timer_named l.role id)) agree
-  where
-    go : (runs : Bool) → is_some (left_of timers id) ≡ runs → brought_as runs id timers ≡ timers
-    go true e = ap (λ (b : Bool). if b then timers else started timers id packet_ticks) e
-    go false e = none_put timers (place_of id) (is_none (left_of timers id) e)
-
-channel_stays : (l : Layer) (channel : ℕ) (timers : Places) → 1 ≤ channel → channel ≤ 32 → TimersAgree l timers →
-    brought_channel l channel timers ≡ timers
-channel_stays l channel timers least most agree =
-    let stays : (id : TimerId) → RunsAsWanted l timers id → brought_one l id timers ≡ timers =
-    λ id h. one_stays l id timers h in
-    let within : (1 ≤ channel) × (channel ≤ 32) = (least, most) in
-    ap (λ (ts : Places). brought_one l (T23 channel) (brought_one l (T22 channel)
-    (brought_one l (T21 channel) (brought_one l (T13 channel) (brought_one l (T12 channel) ts)))))
-    (stays (T11 channel) (agree (T11 channel) within))
-    ∙ ap (λ (ts : Places). brought_one l (T23 channel) (brought_one l (T22 channel)
-    (brought_one l (T21 channel) (brought_one l (T13 channel) ts))))
-    (stays (T12 channel) (agree (T12 channel) within))
-    ∙ ap (λ (ts : Places). brought_one l (T23 channel) (brought_one l (T22 channel) (brought_one l (T21 channel) ts)))
-    (stays (T13 channel) (agree (T13 channel) within))
-    ∙ ap (λ (ts : Places). brought_one l (T23 channel) (brought_one l (T22 channel) ts))
-    (stays (T21 channel) (agree (T21 channel) within))
-    ∙ ap (λ (ts : Places). brought_one l (T23 channel) ts) (stays (T22 channel) (agree (T22 channel) within))
-    ∙ stays (T23 channel) (agree (T23 channel) within)
-
-channels_stay : (l : Layer) (count : ℕ) (timers : Places) → count ≤ 32 → TimersAgree l timers →
-    brought_channels l count timers ≡ timers
-channels_stay l zero timers most agree = refl
-channels_stay l (suc count) timers most agree =
-    ap (λ (ts : Places). brought_channel l (suc count) ts) (channels_stay l count timers (omega arith) agree)
-    ∙ channel_stays l (suc count) timers (omega arith) most agree
-
-timers_stay : (l : Layer) (timers : Places) → TimersAgree l timers → brought l timers ≡ timers
-unfolding brought
-timers_stay l timers agree =
-    ap (λ (ts : Places). brought_channels l 32 (brought_one l T20 ts)) (one_stays l T10 timers (agree T10 tt))
-    ∙ (ap (λ (ts : Places). brought_channels l 32 ts) (one_stays l T20 timers (agree T20 tt))
-    ∙ channels_stay l 32 timers (omega arith) agree)
 
 -- ---- the link
 
@@ -139,16 +87,9 @@ same_offer l Phase.SettingUp = refl
 same_offer l Phase.Up = sent_offer l (sendable l)
 same_offer l Phase.Rejecting = refl
 
-stopped_none : (timers : Places) → left_of (stopped timers T1) T1 ≡ None
-stopped_none [] = refl
-stopped_none (x ∷ xs) = refl
-
-timed_none : (l : Link) (step : Step) (timers : Places) → runs step.link ≡ false →
-    left_of (timed (timing l step) timers) T1 ≡ None
-timed_none l step timers e =
-    ap (λ (b : Bool). left_of (timed (if b then (if step.anew || not (runs l) then Change.Start else Change.Keep) else
-    Change.Stop) timers) T1) e
-    ∙ stopped_none timers
+timed_none : (l : Link) (step : Step) (t1 : Option ℕ) → runs step.link ≡ false → timed (timing l step) t1 ≡ None
+timed_none l step t1 e =
+    ap (λ (b : Bool). timed (if b then (if step.anew || not (runs l) then Change.Start else Change.Keep) else Change.Stop) t1) e
 
 pub sends_nothing : (e : End) → HasNothingToSend (line.settled e)
 sends_nothing e =
@@ -158,32 +99,31 @@ sends_nothing e =
     record {
       link = ap (λ (s : Step). s.link) again ∙ no_more.link;
       frames = ap (λ (s : Step). s.frames) again ∙ no_more.frames;
-      timer = λ stands. timed_none e.link step e.timers stands;
+      timer = λ stands. timed_none e.link step e.t1 stands;
     }
 
-timer_stays : (ran now anew : Bool) (timers : Places) → now ≡ ran → anew ≡ false →
-    (ran ≡ false → left_of timers T1 ≡ None) →
-    timed (if now then (if anew || not ran then Change.Start else Change.Keep) else Change.Stop) timers ≡ timers
-timer_stays true true false timers same plain none = refl
-timer_stays false false false timers same plain none = none_put timers 0 (none refl)
-timer_stays true false anew timers same plain none = absurd (cc)
-timer_stays false true anew timers same plain none = absurd (cc)
-timer_stays ran now true timers same plain none = absurd (cc)
+timer_stays : (ran now anew : Bool) (t1 : Option ℕ) → now ≡ ran → anew ≡ false → (ran ≡ false → t1 ≡ None) →
+    timed (if now then (if anew || not ran then Change.Start else Change.Keep) else Change.Stop) t1 ≡ t1
+timer_stays true true false t1 same plain none = refl
+timer_stays false false false t1 same plain none = sym (none refl)
+timer_stays true false anew t1 same plain none = absurd (cc)
+timer_stays false true anew t1 same plain none = absurd (cc)
+timer_stays ran now true t1 same plain none = absurd (cc)
 
 end_stays : (e : End) → HasNothingToSend e → line.settled e ≡ e
 end_stays e h =
     let step = settle e.link in
     let link_is = h.link in
     let frames_are = ap (λ (fs : List FrameValue). with_frames e.frames (map (spelling e.link.role) fs)) h.frames in
-    let timers_are = timer_stays (runs e.link) (runs step.link) step.anew e.timers (ap runs h.link)
+    let t1_is = timer_stays (runs e.link) (runs step.link) step.anew e.t1 (ap runs h.link)
     (not_anew e.link e.link.phase) h.timer in
-    λ i. record { link = link_is i; timers = timers_are i; frames = frames_are i }
+    λ i. record { link = link_is i; t1 = t1_is i; frames = frames_are i }
 
 -- ---- the line
 
 pub stays_settled : (l : SwitchLine) → IsSettled l → with_end settled l ≡ l
 stays_settled l h =
-    let timers = timers_stay l.end.layer l.end.timers h.timers in
+    let timers = none_touched l.end.layer l.end.timers h.timers in
     let end = end_stays l.end.line h.sent in
     λ i. record l { end = record l.end { timers = timers i; line = end i } }
 
@@ -203,28 +143,26 @@ stays_taken l h =
 
 -- ---- time passes
 
-lowered_none : (ticks : ℕ) (timers : Places) (n : ℕ) → get_or (map (lowered ticks) timers) n None ≡ lowered ticks
-    (get_or timers n None)
-lowered_none ticks [] n = refl
-lowered_none ticks (x ∷ xs) zero = refl
-lowered_none ticks (x ∷ xs) (suc n) = lowered_none ticks xs n
-
 still_some : (ticks : ℕ) (o : Option ℕ) → is_some (lowered ticks o) ≡ is_some o
 still_some ticks None = refl
 still_some ticks (Some left) = refl
 
-agree_later : (l : Layer) (ticks : ℕ) (timers : Places) → TimersAgree l timers →
-    TimersAgree l (after_ticks timers ticks)
-agree_later l ticks timers agree =
-    λ id is. ap is_some (lowered_none ticks timers (place_of id)) ∙ (still_some ticks (left_of timers id) ∙ agree id is)
+kind_later : (ticks : ℕ) (timers : Places) (n : ℕ) → is_some (get_or (map (lowered ticks) timers) n None) ≡ is_some (get_or timers n None)
+kind_later ticks timers n = ap is_some (lowered_at timers n ticks) ∙ still_some ticks (get_or timers n None)
+
+runs_later : (ticks : ℕ) (timers : LayerTimers) (timer : Timer) → is_some (left_of (after_ticks timers ticks) timer) ≡ is_some (left_of timers timer)
+runs_later ticks timers RestartTimer = still_some ticks timers.restart
+runs_later ticks timers (CallTimer channel) = kind_later ticks timers.calls channel
+runs_later ticks timers (ResetTimer channel) = kind_later ticks timers.resets channel
+runs_later ticks timers (ClearTimer channel) = kind_later ticks timers.clears channel
 
 pub settled_later : (ticks : ℕ) (l : SwitchLine) → IsSettled l → IsSettled (with_end (λ e. elapsed e ticks) l)
 settled_later ticks l h = record {
-  timers = agree_later l.end.layer ticks l.end.timers h.timers;
+  timers = λ timer is. runs_later ticks l.end.timers timer ∙ h.timers timer is;
   sent = record {
     link = h.sent.link;
     frames = h.sent.frames;
-    timer = λ stands. lowered_none ticks l.end.line.timers 0 ∙ ap (lowered ticks) (h.sent.timer stands);
+    timer = λ stands. ap (lowered ticks) (h.sent.timer stands);
   };
   offered = h.offered;
   no_relink = h.no_relink;

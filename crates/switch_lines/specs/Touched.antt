@@ -2,11 +2,9 @@
 -- do.
 use Rattle.std.specs.Prelude.{◌≡◌, ℕ, suc, ◌<◌, true, false, ◌&&◌, if◌then◌else◌, List, [], ◌∷◌, length, slice_get}
 use Rattle.std.specs.Prelude.{Option, Some, None}
-use Rattle.link_timers.specs.declared.timers.TimerId.TheVariants.{T1}
-use Rattle.link_timers.specs.Timers.{left_of}
 use Rattle.lapb.specs.Machine.{settle, runs}
 use Rattle.line_end.specs.End.{End}
-use Rattle.packet_end.specs.Timing.{TimersAgree}
+use Rattle.packet_layer.specs.LayerTimers.{TimersAgree}
 use Rattle.number_set.specs.NumberSet.{has}
 use Rattle.number_set.specs.declared.NumberSet.{NumberSet}
 use Rattle.switch_lines.specs.Lines.{SwitchLine}
@@ -16,7 +14,7 @@ use Rattle.switch_lines.specs.Switch.{may_offer, frames_on}
 pub record HasNothingToSend (e : End) : Type 0 where
   pub link : (settle e.link).link ≡ e.link
   pub frames : (settle e.link).frames ≡ []
-  pub timer : runs e.link ≡ false → left_of e.timers T1 ≡ None
+  pub timer : runs e.link ≡ false → e.t1 ≡ None
 
 -- a line is settled: the timers of its packet layer run as that wants, its link has nothing to send and takes no packet
 -- that the layer has, and need not be set up anew

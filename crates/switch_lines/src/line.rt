@@ -18,7 +18,7 @@ ghost use Rattle.packet_channel.specs.TakenView.{maybe_taken, maybe_taken_in, ma
 ghost use Rattle.packet_end.specs.Params.{AreParams, info_of};
 ghost use Rattle.packet_end.specs.PacketEnd as end;
 ghost use Rattle.packet_end.specs.Pooled.{Serves};
-ghost use Rattle.packet_end.specs.Timing.{TimersAgree};
+ghost use Rattle.packet_layer.specs.LayerTimers.{TimersAgree};
 ghost use Rattle.packet_end.specs.declared.fault.EndFault.TheVariants as fault_is;
 ghost use Rattle.switch_joins.specs.Direction.{new_direction, carried, covered_by};
 ghost use Rattle.switch_joins.specs.Held.{begun};

@@ -12,7 +12,7 @@ ghost use Rattle.packet_layer.specs.RequestView.{request_of, refusal_of, call_re
 ghost use Rattle.packet_end.specs.PacketEnd as spec;
 ghost use Rattle.packet_end.specs.Params.{AreParams, MadeNot};
 ghost use Rattle.packet_end.specs.Sending.{EndsWhole};
-ghost use Rattle.packet_end.specs.Timing.{TimersAgree};
+ghost use Rattle.packet_layer.specs.LayerTimers.{TimersAgree};
 ghost use Rattle.x25_pad.specs.TakenView.{maybe_taken};
 
 use crate::taken::{PadData, PadTaken};

@@ -6,7 +6,7 @@ use crate::link::terminus::Terminus;
 use frame_codec::FrameBuf;
 use lapb::{LinkParams, Note, OfferFault};
 use line_end::LineEnd;
-use link_timers::{Role, TimerId};
+use link_timers::Role;
 use std::alloc::Global;
 use std::process::Abort;
 
@@ -24,10 +24,11 @@ enum Act<'a> {
     DropFrames,
     // the event ends
     Settle,
-    // a timer expires
-    Expire(TimerId, Option<Note>),
+    // T1 expires
+    Expire(Option<Note>),
     Elapse(u16),
-    Due(Option<TimerId>),
+    // whether T1 is due
+    Due(bool),
     Relink(Note),
     Restart,
     HasRoom(bool),
@@ -107,7 +108,7 @@ fn fits(end: &mut Terminus, act: Act<'_>) -> bool {
         Take(octets, note, frames) => takes(end, octets, note, frames),
         Accept(octets, packet) => end.on_frame(octets).packet == Some(packet),
         Offer(packet, answer) => end.offer(&packet) == answer,
-        Expire(timer, note) => end.on_timer(timer) == note,
+        Expire(note) => end.on_t1() == note,
         Relink(note) => end.relink() == note,
         Due(_) | HasRoom(_) | AtRest(_) | Waiting(_) => is_seen(end.end(), act),
         _ => {
@@ -120,7 +121,7 @@ fn fits(end: &mut Terminus, act: Act<'_>) -> bool {
 // Whether an end is as an act tells.
 fn is_seen(end: &LineEnd, act: Act<'_>) -> bool {
     match act {
-        Due(timer) => end.due() == timer,
+        Due(due) => end.is_due() == due,
         HasRoom(has_room) => end.has_room() == has_room,
         AtRest(at_rest) => end.is_at_rest() == at_rest,
         Waiting(frames) => end.waiting() == frames,
@@ -189,24 +190,19 @@ const A_PACKET: &[Turn] = &[
 
 const THREE_SECONDS: &[Turn] = &[
     Dte(Waiting(1)),
-    Dte(Due(None)),
+    Dte(Due(false)),
     Dte(Elapse(59)),
-    Dte(Due(None)),
+    Dte(Due(false)),
     Dte(Elapse(1)),
-    Dte(Due(Some(TimerId::T1))),
+    Dte(Due(true)),
     Dte(DropFrames),
-    Dte(Expire(TimerId::T1, Some(Note::Nothing))),
+    Dte(Expire(Some(Note::Nothing))),
     Dte(Send(&[&[0x01, 0x3F]])),
-    Dte(Due(None)),
-    Dte(Expire(TimerId::T20, None)),
+    Dte(Due(false)),
 ];
 
 // T1 does not expire at an end that stands, which has nothing to send.
-const STANDING: &[Turn] = &[
-    Dte(Expire(TimerId::T1, None)),
-    Dte(HasRoom(true)),
-    Dte(Send(&[])),
-];
+const STANDING: &[Turn] = &[Dte(Expire(None)), Dte(HasRoom(true)), Dte(Send(&[]))];
 
 const SETTING_UP_ANEW: &[Turn] = &[
     Dte(DropFrames),

@@ -6,7 +6,7 @@ use flow_window::pool::Pool;
 use frame_codec::FrameBuf;
 use lapb::{LinkParams, Note, OfferFault};
 use line_end::{LineEnd, Received};
-use link_timers::{Role, TimerId};
+use link_timers::Role;
 use std::alloc::Global;
 use std::marker::Model;
 
@@ -53,8 +53,8 @@ impl Terminus {
         self.end.on_frame(octets, &mut self.pool)
     }
 
-    pub fn on_timer(&mut self, id: TimerId) -> Option<Note> {
-        self.end.on_timer(id, &mut self.pool)
+    pub fn on_t1(&mut self) -> Option<Note> {
+        self.end.on_t1(&mut self.pool)
     }
 
     pub fn relink(&mut self) -> Note {

@@ -1,147 +1,162 @@
 -- Timers that stop, or start with ticks left: none is due that was not.
-use Rattle.std.proofs.Common.{◌≡◌, ℕ, zero, suc, ◌+◌, ◌<◌, ◌≤◌, Bool, true, false, List, [], ◌∷◌, length, get_or, set, replicate, refl, sym, ap, ◌∙◌, subst, arith}
-use Rattle.std.specs.Prelude.{Option, Some, None, is_some, if◌then◌else◌}
-use Rattle.std.proofs.lemmas.List.{length-set, length-map}
-use Rattle.link_timers.specs.declared.timers.TimerId.{TimerId}
-use Rattle.link_timers.specs.declared.timers.TimerId.TheVariants.{T10, T20, T11, T12, T13, T21, T22, T23}
-use Rattle.link_timers.specs.Timers.{Places, place_of, timer_at, left_of, none_running, started, stopped, lowered, after_ticks, is_due, due_from, due_timers}
-use Rattle.link_timers.proofs.PlaceLaws.{others_left, none_left, left_after_ticks}
-use Rattle.packet_layer.specs.Layer.{Layer}
-use Rattle.packet_layer.specs.Events.{timer_named, runs_named}
-use Rattle.packet_end.specs.Timing.{packet_ticks, brought_as, brought_one, brought_channels, brought, IsPacketTimer}
-use Rattle.node_laws.specs.LineRecords.Due.{RunsOnly}
+use Rattle.std.proofs.Common.{◌≡◌, ℕ, zero, suc, ◌+◌, ◌<◌, ◌≤◌, Bool, true, false, List, [], ◌∷◌, length, get_or, set, replicate, refl, sym, ap, ◌∙◌, arith}
+use Rattle.std.specs.Prelude.{Option, Some, None, is_some, if◌then◌else◌, slice_get}
+use Rattle.link_timers.specs.Timers.{Places, is_due, due_by}
+use Rattle.link_timers.specs.ChannelTimers as kind
+use Rattle.link_timers.specs.ChannelTimers.{brought_as, brought_on, due_channels, left_on, stopped_on}
+use Rattle.packet_layer.specs.Layer.{Layer, Timer, runs}
+use Rattle.packet_layer.specs.Layer.Timer.{RestartTimer, CallTimer, ResetTimer, ClearTimer}
+use Rattle.std.specs.Option.{option_map}
+use Rattle.std.proofs.lemmas.Option.{none-some, same_Some}
+use Rattle.packet_layer.specs.LayerTimers as running
+use Rattle.packet_layer.specs.LayerTimers.{LayerTimers, packet_ticks, left_of, none_running, stopped, brought_channel, brought_channels, brought_restart, brought, due_count}
 
--- ---- how many are due
+abbrev pub one_if : Bool → ℕ
+one_if v = if v then 1 else 0
 
--- of two lists that begin alike the one with fewer others is the shorter
-more_or_same : (v : Bool) (t : TimerId) (xs ys : List TimerId) → length xs ≤ length ys
-    → length (if v then t ∷ xs else xs) ≤ length (if v then t ∷ ys else ys)
-more_or_same true t xs ys h = omega (arith, h)
-more_or_same false t xs ys h = h
+-- ---- a list of counts
 
-more_than : (v : Bool) (t : TimerId) (xs ys : List TimerId) → length xs < length ys
-    → length (if v then t ∷ xs else xs) < length (if v then t ∷ ys else ys)
-more_than true t xs ys h = omega (arith, h)
-more_than false t xs ys h = h
+first_by : (v : Bool) (channel : ℕ) (xs : List ℕ) → length (if v then channel ∷ xs else xs) ≡ one_if v + length xs
+first_by true channel xs = omega arith
+first_by false channel xs = omega arith
 
-without_first : (v : Bool) (t : TimerId) (xs : List TimerId) → length xs ≤ length (if v then t ∷ xs else xs)
-without_first true t xs = omega arith
-without_first false t xs = omega arith
+if_more : (a b : Bool) → (a ≡ true → b ≡ true) → one_if a ≤ one_if b
+if_more true true h = omega arith
+if_more true false h = absurd (let e = h refl in cc)
+if_more false b h = omega arith
 
--- what is put in a place is not due
-set_few : (place k : ℕ) (timers : Places) (left : Option ℕ) → is_due left ≡ false
-    → length (due_from place (set timers k left)) ≤ length (due_from place timers)
-set_few place k [] left none = omega arith
-set_few place zero (x ∷ timers) left none = rw none (without_first (is_due x) (timer_at place) (due_from (place + 1) timers))
-set_few place (suc k) (x ∷ timers) left none =
-    more_or_same (is_due x) (timer_at place) (due_from (place + 1) (set timers k left)) (due_from (place + 1) timers)
-    (set_few (place + 1) k timers left none)
+abbrev due_at : (channel : ℕ) → Places → List ℕ
+due_at channel timers = due_by (λ c. c) channel timers
 
--- and what was there was due
-set_fewer : (place k : ℕ) (timers : Places) (left : Option ℕ) → is_due left ≡ false → get_or timers k None ≡ Some 0
-    → length (due_from place (set timers k left)) < length (due_from place timers)
+-- what is put in a place is due only if what was there was
+set_few : (place k : ℕ) (timers : Places) (left : Option ℕ) → (is_due left ≡ true → is_due (get_or timers k None) ≡ true)
+    → length (due_at place (set timers k left)) ≤ length (due_at place timers)
+set_few place k [] left h = omega arith
+set_few place zero (x ∷ timers) left h =
+    let a = first_by (is_due left) place (due_at (place + 1) timers) in
+    let b = first_by (is_due x) place (due_at (place + 1) timers) in
+    let c = if_more (is_due left) (is_due x) h in
+    omega (arith, a, b, c)
+set_few place (suc k) (x ∷ timers) left h =
+    let a = first_by (is_due x) place (due_at (place + 1) (set timers k left)) in
+    let b = first_by (is_due x) place (due_at (place + 1) timers) in
+    let c = set_few (place + 1) k timers left h in
+    omega (arith, a, b, c)
+
+-- what was there was due, and what is put there is not
+set_fewer : (place k : ℕ) (timers : Places) (left : Option ℕ) → is_due left ≡ false → is_due (get_or timers k None) ≡ true
+    → length (due_at place (set timers k left)) < length (due_at place timers)
 set_fewer place k [] left none was = absurd (cc)
 set_fewer place zero (x ∷ timers) left none was =
-    let due : is_due x ≡ true = ap is_due was in
-    rw (none, due) (omega arith)
+    let a = first_by (is_due left) place (due_at (place + 1) timers) in
+    let b = first_by (is_due x) place (due_at (place + 1) timers) in
+    let c : one_if (is_due left) ≡ 0 = ap one_if none in
+    let d : one_if (is_due x) ≡ 1 = ap one_if was in
+    omega (arith, a, b, c, d)
 set_fewer place (suc k) (x ∷ timers) left none was =
-    more_than (is_due x) (timer_at place) (due_from (place + 1) (set timers k left)) (due_from (place + 1) timers)
-    (set_fewer (place + 1) k timers left none was)
+    let a = first_by (is_due x) place (due_at (place + 1) (set timers k left)) in
+    let b = first_by (is_due x) place (due_at (place + 1) timers) in
+    let c = set_fewer (place + 1) k timers left none was in
+    omega (arith, a, b, c)
 
-none_from : (place count : ℕ) → length (due_from place (replicate count (let none : Option ℕ = None in none))) ≡ 0
-none_from place zero = refl
-none_from place (suc count) = none_from (place + 1) count
+-- the first that is due
+record IsDueAt (place : ℕ) (timers : Places) (channel : ℕ) : Type 0 where
+  at : ℕ
+  is : place + at ≡ channel
+  due : is_due (get_or timers at None) ≡ true
 
--- ---- of the timers that may run
+due_by_first : (place : ℕ) (left : Option ℕ) (timers : Places) (channel : ℕ) (v : Bool) → is_due left ≡ v
+    → slice_get (if v then place ∷ due_at (place + 1) timers else due_at (place + 1) timers) 0 ≡ Some channel
+    → (slice_get (due_at (place + 1) timers) 0 ≡ Some channel → IsDueAt (place + 1) timers channel) → IsDueAt place (left ∷ timers) channel
+due_by_first place left timers channel true due same later =
+    let is : place ≡ channel = same_Some place channel same in
+    record { at = 0; is = omega (arith, is); due = due }
+due_by_first place left timers channel false none same later =
+    let f = later same in
+    record { at = suc f.at; is = (let g = f.is in omega (arith, g)); due = f.due }
 
--- after a change none runs but these, as before, and no more are due
-pub record NoMore (these : TimerId → Type 0) (old new : Places) : Type 0 where
-  pub only : RunsOnly these old → RunsOnly these new
-  pub few : length (due_timers new) ≤ length (due_timers old)
+found_due : (place : ℕ) (timers : Places) (channel : ℕ) → slice_get (due_at place timers) 0 ≡ Some channel → IsDueAt place timers channel
+found_due place [] channel e = absurd (none-some channel e)
+found_due place (x ∷ timers) channel e =
+    due_by_first place x timers channel (is_due x) refl e (λ later. found_due (place + 1) timers channel later)
 
-pub no-more-same : {these : TimerId → Type 0} (timers : Places) → NoMore these timers timers
-no-more-same timers = record { only = λ h. h; few = omega arith }
+kind_due : (timers : Places) (channel : ℕ) → kind.first_due timers ≡ Some channel → is_due (left_on timers channel) ≡ true
+kind_due timers channel e =
+    let f = found_due 0 timers channel e in
+    let same : f.at ≡ channel = (let g = f.is in omega (arith, g)) in
+    ap (λ (c : ℕ). is_due (left_on timers c)) (sym same) ∙ f.due
 
-pub no-more-then : {these : TimerId → Type 0} {a b c : Places} → NoMore these a b → NoMore these b c → NoMore these a c
-no-more-then f g =
-    let p = f.few in
-    let q = g.few in
-    record { only = λ h. g.only (f.only h); few = omega (arith, p, q) }
+-- ---- the timers of a packet layer
 
-none-stays : (timers : Places) (k j : ℕ) → get_or timers j None ≡ None → get_or (set timers k (let none : Option ℕ = None in none)) j None ≡ None
-none-stays [] k j h = h
-none-stays (x ∷ timers) zero zero h = refl
-none-stays (x ∷ timers) zero (suc j) h = h
-none-stays (x ∷ timers) (suc k) zero h = h
-none-stays (x ∷ timers) (suc k) (suc j) h = none-stays timers k j h
-
-pub stopped-more : {these : TimerId → Type 0} (timers : Places) (id : TimerId) → NoMore these timers (stopped timers id)
-stopped-more timers id = record {
-  only = λ h. record {
-    whole = length-set timers (place_of id) None ∙ h.whole;
-    others = λ other not. none-stays timers (place_of id) (place_of other) (h.others other not);
-  };
-  few = set_few 0 (place_of id) timers None refl;
-}
-
-pub started-more : (these : TimerId → Type 0) (timers : Places) (id : TimerId) (ticks : ℕ) → these id → is_due (Some ticks) ≡ false
-    → NoMore these timers (started timers id ticks)
-started-more these timers id ticks own later = record {
-  only = λ h. record {
-    whole = length-set timers (place_of id) (Some ticks) ∙ h.whole;
-    others = λ other not. others_left timers id other (Some ticks) h.whole (λ same. not (subst these (sym same) own)) ∙ h.others other not;
-  };
-  few = set_few 0 (place_of id) timers (Some ticks) later;
-}
-
-pub only-none : (these : TimerId → Type 0) → RunsOnly these none_running
-only-none these = record { whole = refl; others = λ id not. none_left id }
-
-pub none-more : (these : TimerId → Type 0) (timers : Places) → NoMore these timers none_running
-none-more these timers = record { only = λ h. only-none these; few = (let none = none_from 0 211 in omega (arith, none)) }
+pub stopped-more : (timers : LayerTimers) (timer : Timer) → due_count (stopped timers timer) ≤ due_count timers
+stopped-more timers RestartTimer = omega arith
+stopped-more timers (CallTimer channel) = let a = set_few 0 channel timers.calls None (λ h. absurd (cc)) in omega (arith, a)
+stopped-more timers (ResetTimer channel) = let a = set_few 0 channel timers.resets None (λ h. absurd (cc)) in omega (arith, a)
+stopped-more timers (ClearTimer channel) = let a = set_few 0 channel timers.clears None (λ h. absurd (cc)) in omega (arith, a)
 
 -- a timer that was due and stops is due no more
-pub stopped-fewer : (timers : Places) (id : TimerId) → left_of timers id ≡ Some 0 → length (due_timers (stopped timers id)) < length (due_timers timers)
-stopped-fewer timers id was = set_fewer 0 (place_of id) timers None refl was
+pub stopped-fewer : (timers : LayerTimers) (timer : Timer) → is_due (left_of timers timer) ≡ true → due_count (stopped timers timer) < due_count timers
+stopped-fewer timers RestartTimer was = let a : one_if (is_due timers.restart) ≡ 1 = ap one_if was in omega (arith, a)
+stopped-fewer timers (CallTimer channel) was = let a = set_fewer 0 channel timers.calls None refl was in omega (arith, a)
+stopped-fewer timers (ResetTimer channel) was = let a = set_fewer 0 channel timers.resets None refl was in omega (arith, a)
+stopped-fewer timers (ClearTimer channel) was = let a = set_fewer 0 channel timers.clears None refl was in omega (arith, a)
 
--- ticks pass
-pub only-elapsed : (these : TimerId → Type 0) (timers : Places) (ticks : ℕ) → RunsOnly these timers → RunsOnly these (after_ticks timers ticks)
-only-elapsed these timers ticks h = record {
-  whole = length-map timers (lowered ticks) ∙ h.whole;
-  others = λ id not. left_after_ticks timers id ticks ∙ ap (lowered ticks) (h.others id not);
-}
+none-due : due_count none_running ≡ 0
+none-due = refl
 
--- ---- the timers of the packet layer are brought into line
+pub none-more : (timers : LayerTimers) → due_count none_running ≤ due_count timers
+none-more timers = let none = none-due in omega (arith, none)
 
-one-as : (v : Bool) (id : TimerId) (timers : Places) → IsPacketTimer id → NoMore IsPacketTimer timers (brought_as v id timers)
-one-as false id timers own = stopped-more timers id
-one-as true id timers own = by (is_some (left_of timers id))
-  where
-    by : (w : Bool) → NoMore IsPacketTimer timers (if w then timers else started timers id packet_ticks)
-    by true = no-more-same timers
-    by false = started-more IsPacketTimer timers id packet_ticks own refl
+-- ---- they are brought into line
 
-brings : (l : Layer) (id : TimerId) (old timers : Places) → IsPacketTimer id → NoMore IsPacketTimer old timers → NoMore IsPacketTimer old (brought_one l id timers)
-brings l id old timers own before = no-more-then before (one-as (runs_named l (timer_named l.role id)) id timers own)
+-- one that starts has ticks left
+brought_due : (wanted : Bool) (left : Option ℕ) → is_due (brought_as packet_ticks wanted left) ≡ true → is_due left ≡ true
+brought_due false left h = absurd (let no : false ≡ true = h in cc)
+brought_due true None h = absurd (let no : false ≡ true = h in cc)
+brought_due true (Some left) h = h
 
-brings-channels : (l : Layer) (count : ℕ) (old timers : Places) → count ≤ 32 → NoMore IsPacketTimer old timers → NoMore IsPacketTimer old (brought_channels l count timers)
-brings-channels l zero old timers within before = before
-brings-channels l (suc count) old timers within before =
-    let c : ℕ = suc count in
-    let own : (1 ≤ c) × (c ≤ 32) = (omega arith, within) in
-    let t0 : Places = brought_channels l count timers in
-    let t1 : Places = brought_one l (T11 c) t0 in
-    let t2 : Places = brought_one l (T12 c) t1 in
-    let t3 : Places = brought_one l (T13 c) t2 in
-    let t4 : Places = brought_one l (T21 c) t3 in
-    let t5 : Places = brought_one l (T22 c) t4 in
-    brings l (T23 c) old t5 own (brings l (T22 c) old t4 own (brings l (T21 c) old t3 own
-    (brings l (T13 c) old t2 own (brings l (T12 c) old t1 own (brings l (T11 c) old t0 own
-    (brings-channels l count old timers (omega arith) before))))))
+brought_few : (wanted : Bool) (channel : ℕ) (timers : Places)
+    → length (due_channels (brought_on packet_ticks wanted channel timers)) ≤ length (due_channels timers)
+brought_few wanted channel timers =
+    set_few 0 channel timers (brought_as packet_ticks wanted (left_on timers channel)) (brought_due wanted (left_on timers channel))
 
-pub brought-more : (l : Layer) (timers : Places) → NoMore IsPacketTimer timers (brought l timers)
+channel-more : (l : Layer) (channel : ℕ) (timers : LayerTimers) → due_count (brought_channel l channel timers) ≤ due_count timers
+channel-more l channel timers =
+    let a = brought_few (runs l (CallTimer channel)) channel timers.calls in
+    let b = brought_few (runs l (ResetTimer channel)) channel timers.resets in
+    let c = brought_few (runs l (ClearTimer channel)) channel timers.clears in
+    omega (arith, a, b, c)
+
+channels-more : (l : Layer) (count : ℕ) (timers : LayerTimers) → due_count (brought_channels l count timers) ≤ due_count timers
+channels-more l zero timers = omega arith
+channels-more l (suc count) timers =
+    let a = channel-more l (suc count) (brought_channels l count timers) in
+    let b = channels-more l count timers in
+    omega (arith, a, b)
+
+pub brought-more : (l : Layer) (timers : LayerTimers) → due_count (brought l timers) ≤ due_count timers
 unfolding brought
 brought-more l timers =
-    let ten : Places = brought_one l T10 timers in
-    brings-channels l 32 timers (brought_one l T20 ten) (omega arith)
-    (brings l T20 timers ten tt (brings l T10 timers timers tt (no-more-same timers)))
+    let a = channels-more l 32 (brought_restart l timers) in
+    let b = if_more (is_due (brought_as packet_ticks (runs l RestartTimer) timers.restart)) (is_due timers.restart)
+    (brought_due (runs l RestartTimer) timers.restart) in
+    omega (arith, a, b)
+
+-- ---- the first one that is due
+
+pub first-is-due : (timers : LayerTimers) (timer : Timer) → running.first_due timers ≡ Some timer
+    → is_due (left_of timers timer) ≡ true
+first-is-due timers timer e = by (is_due timers.restart) refl (kind.first_due timers.calls) refl (kind.first_due timers.resets) refl (kind.first_due timers.clears) refl e
+  where
+    by : (r : Bool) → is_due timers.restart ≡ r → (a : Option ℕ) → kind.first_due timers.calls ≡ a → (b : Option ℕ) → kind.first_due timers.resets ≡ b
+        → (c : Option ℕ) → kind.first_due timers.clears ≡ c
+        → (if r then Some RestartTimer else running.either (option_map CallTimer a) (running.either (option_map ResetTimer b) (option_map ClearTimer c))) ≡ Some timer
+        → is_due (left_of timers timer) ≡ true
+    by true r a e_a b e_b c e_c same = ap (λ (t : Timer). is_due (left_of timers t)) (sym (same_Some RestartTimer timer same)) ∙ r
+    by false r (Some n) e_a b e_b c e_c same =
+        ap (λ (t : Timer). is_due (left_of timers t)) (sym (same_Some (CallTimer n) timer same)) ∙ kind_due timers.calls n e_a
+    by false r None e_a (Some n) e_b c e_c same =
+        ap (λ (t : Timer). is_due (left_of timers t)) (sym (same_Some (ResetTimer n) timer same)) ∙ kind_due timers.resets n e_b
+    by false r None e_a None e_b (Some n) e_c same =
+        ap (λ (t : Timer). is_due (left_of timers t)) (sym (same_Some (ClearTimer n) timer same)) ∙ kind_due timers.clears n e_c
+    by false r None e_a None e_b None e_c same = absurd (none-some timer same)

@@ -1,60 +1,62 @@
--- Ends of a line: whatever happens to them but time, no timer runs where it must not, and none is due that was not.
-use Rattle.std.specs.Prelude.{◌≡◌, ℕ, zero, suc, ◌<◌, ◌≤◌, Bool, true, false, cond, List, [], ◌∷◌, length, Option, Some, None, is_some}
+-- Ends of a line: whatever happens to them but time, no timer is due that was not.
+use Rattle.std.specs.Prelude.{◌≡◌, ℕ, zero, suc, ◌<◌, ◌≤◌, Bool, true, false, cond, if◌then◌else◌, List, [], ◌∷◌, Option, Some, None, is_some}
+use Rattle.std.specs.Option.{option_map}
+use Rattle.std.proofs.lemmas.Option.{none-some, same_Some}
 use Rattle.std.proofs.Common.{refl, sym, ap, ◌∙◌, subst, arith}
 use Rattle.link_timers.specs.declared.role.Role.{Role}
+use Rattle.link_timers.specs.declared.role.Role.TheVariants.{Dte, Dce}
 use Rattle.link_timers.specs.declared.timers.TimerId.{TimerId}
 use Rattle.link_timers.specs.declared.timers.TimerId.TheVariants as timer
-use Rattle.link_timers.specs.Timers.{Places, left_of, none_running, stopped, due_timers, first_of}
-use Rattle.link_timers.proofs.DueLaws.{first_due}
+use Rattle.link_timers.specs.Timers.{is_due}
 use Rattle.lapb.specs.declared.note.Note as link_note
 use Rattle.lapb.specs.declared.note.Note.TheVariants.{Nothing, Up, Down}
 use Rattle.lapb.specs.declared.note.Timing.{Timing}
-use Rattle.lapb.specs.Machine.{Octets, Step, on_t1, can_offer, timing, params_anew}
+use Rattle.lapb.specs.Machine.{Octets, Step, on_t1, can_offer, timing}
 use Rattle.lapb.specs.Machine as machine
 use Rattle.lapb.specs.Octets as link_octets
-use Rattle.line_end.specs.End.{End, t1_ticks, timed, did}
+use Rattle.line_end.specs.End.{End, timed, did}
 use Rattle.line_end.specs.End as line
 use Rattle.packet_channel.specs.Packets.{CallParts, Datum}
 use Rattle.packet_channel.specs.Traffic.{Taken}
 use Rattle.packet_channel.specs.Traffic.Taken.{TakenInterrupt, TakenPacket}
 use Rattle.packet_channel.specs.Channel.{Refusal, Request}
-use Rattle.packet_layer.specs.Layer.{next_packet, front_on, call_refusal, request_refusal}
-use Rattle.packet_end.specs.Timing.{IsPacketTimer}
-use Rattle.packet_end.specs.Params.{link_params}
+use Rattle.packet_layer.specs.Layer.{Timer, next_packet, front_on, call_refusal, request_refusal}
+use Rattle.packet_layer.specs.Layer.Timer.{RestartTimer, CallTimer, ResetTimer, ClearTimer}
+use Rattle.packet_layer.specs.Events.{timer_named}
+use Rattle.packet_layer.specs.LayerTimers as running
+use Rattle.packet_layer.specs.LayerTimers.{LayerTimers, left_of, stopped_by_name, runs_by_name, name_of}
 use Rattle.packet_end.specs.PacketEnd as end
 use Rattle.packet_end.specs.PacketEnd.{PacketEnd, begun, heeded, after_packet, received, runs_at, after_timer, relinked, relinked_if_due, with_next, offered, all_offered, settled, finished, asked, called, due, either_timer}
-use Rattle.packet_end.specs.declared.params.EndParams.{EndParams}
 use Rattle.packet_host.specs.Host.{ended, unless_refused, refuse_refusal, after_call, after_request, after_refuse, after_say, let_go, taken_as, after_take}
 use Rattle.packet_channel.specs.Cutting.{cut}
 use Rattle.packet_host.specs.Saying.{queued, message, say_refusal}
-use Rattle.node_laws.specs.LineRecords.Due.{RunsOnly, TimersApart, due_count}
-use Rattle.node_laws.proofs.LineRecords.DueCounts.{NoMore, no-more-same, no-more-then, stopped-more, started-more, only-none, none-more, stopped-fewer, only-elapsed, brought-more}
+use Rattle.node_laws.specs.LineRecords.Due.{due_count}
+use Rattle.node_laws.proofs.LineRecords.DueCounts.{one_if, stopped-more, stopped-fewer, none-more, brought-more, first-is-due}
 
-abbrev IsT1 : TimerId → Type 0
-IsT1 id = id ≡ timer.T1
-
--- after a change of an end the timers that run are apart, as before, and no more are due
+-- after a change of an end no more timers are due
 pub record NoMoreDue (old new : PacketEnd) : Type 0 where
-  pub link : NoMore IsT1 old.line.timers new.line.timers
-  pub layer : NoMore IsPacketTimer old.timers new.timers
-
-pub stays-apart : (old new : PacketEnd) → NoMoreDue old new → TimersApart old → TimersApart new
-stays-apart old new h a = record { link = h.link.only a.link; layer = h.layer.only a.layer }
+  pub link : one_if (is_due new.line.t1) ≤ one_if (is_due old.line.t1)
+  pub layer : running.due_count new.timers ≤ running.due_count old.timers
 
 pub no-more-due : (old new : PacketEnd) → NoMoreDue old new → due_count new ≤ due_count old
 no-more-due old new h =
-    let p = h.link.few in
-    let q = h.layer.few in
+    let p = h.link in
+    let q = h.layer in
     omega (arith, p, q)
 
 pub same-due : (e : PacketEnd) → NoMoreDue e e
-same-due e = record { link = no-more-same e.line.timers; layer = no-more-same e.timers }
+same-due e = record { link = omega arith; layer = omega arith }
 
 pub begun-due : (e : PacketEnd) → NoMoreDue e (begun e)
-begun-due e = record { link = no-more-same e.line.timers; layer = no-more-same e.timers }
+begun-due e = record { link = omega arith; layer = omega arith }
 
 pub then-due : {a b c : PacketEnd} → NoMoreDue a b → NoMoreDue b c → NoMoreDue a c
-then-due f g = record { link = no-more-then f.link g.link; layer = no-more-then f.layer g.layer }
+then-due f g =
+    let p = f.link in
+    let q = g.link in
+    let r = f.layer in
+    let s = g.layer in
+    record { link = omega (arith, p, q); layer = omega (arith, r, s) }
 
 pub either-due : (v : Bool) (e x y : PacketEnd) → NoMoreDue e x → NoMoreDue e y → NoMoreDue e (cond v x y)
 either-due true e x y g h = g
@@ -62,20 +64,20 @@ either-due false e x y g h = h
 
 -- ---- the link
 
-times : (t : Timing) (timers : Places) → NoMore IsT1 timers (timed t timers)
-times Timing.Keep timers = no-more-same timers
-times Timing.Start timers = started-more IsT1 timers timer.T1 t1_ticks refl refl
-times Timing.Stop timers = stopped-more timers timer.T1
+pub times : (t : Timing) (t1 : Option ℕ) → one_if (is_due (timed t t1)) ≤ one_if (is_due t1)
+times Timing.Keep t1 = omega arith
+times Timing.Start t1 = omega arith
+times Timing.Stop t1 = omega arith
 
-does : (e : End) (step : Step) → NoMore IsT1 e.timers (did e step).timers
-does e step = times (timing e.link step) e.timers
+does : (e : End) (step : Step) → one_if (is_due (did e step).t1) ≤ one_if (is_due e.t1)
+does e step = times (timing e.link step) e.t1
 
 -- ---- what comes from the line
 
 heeds : (note : link_note.Note) (old e : PacketEnd) → NoMoreDue old e → NoMoreDue old (heeded note e)
 heeds Nothing old e h = h
-heeds Up old e h = record { link = h.link; layer = none-more IsPacketTimer old.timers }
-heeds Down old e h = record { link = h.link; layer = none-more IsPacketTimer old.timers }
+heeds Up old e h = record { link = h.link; layer = none-more old.timers }
+heeds Down old e h = record { link = h.link; layer = none-more old.timers }
 
 packet-comes : (o : Option Octets) (old e : PacketEnd) → NoMoreDue old e → NoMoreDue old (after_packet o e)
 packet-comes None old e h = h
@@ -86,30 +88,36 @@ received-due e octets =
     let step = link_octets.on_octets e.line.link octets in
     let x : PacketEnd = record (begun e) { line = line.received (begun e).line octets } in
     packet-comes step.accepted e (heeded step.note x)
-    (heeds step.note e x (record { link = does (begun e).line step; layer = no-more-same e.timers }))
+    (heeds step.note e x (record { link = does (begun e).line step; layer = omega arith }))
 
-t1-stopped : (e : PacketEnd) → NoMore IsT1 (stopped e.line.timers timer.T1) (line.expired timer.T1 (begun e).line).timers
-t1-stopped e = times (timing e.line.link (on_t1 e.line.link)) (stopped e.line.timers timer.T1)
+-- T1 expires, and then it is not due
+t1-after : (e : PacketEnd) → one_if (is_due (line.expired e.line).t1) ≤ 0
+t1-after e = times (timing e.line.link (on_t1 e.line.link)) None
+
+none-named : (o : Option Timer) (timers : LayerTimers) → running.due_count (stopped_by_name timers o) ≤ running.due_count timers
+none-named None timers = omega arith
+none-named (Some timer) timers = stopped-more timers timer
 
 expired-due : (e : PacketEnd) (id : TimerId) → NoMoreDue e (end.expired id (begun e))
 expired-due e timer.T1 =
-    heeds (on_t1 e.line.link).note e (record (begun e) { line = line.expired timer.T1 (begun e).line })
-    (record { link = no-more-then (stopped-more e.line.timers timer.T1) (t1-stopped e); layer = no-more-same e.timers })
-expired-due e timer.T10 = record { link = no-more-same e.line.timers; layer = stopped-more e.timers timer.T10 }
-expired-due e timer.T20 = record { link = no-more-same e.line.timers; layer = stopped-more e.timers timer.T20 }
-expired-due e (timer.T11 c) = record { link = no-more-same e.line.timers; layer = stopped-more e.timers (timer.T11 c) }
-expired-due e (timer.T12 c) = record { link = no-more-same e.line.timers; layer = stopped-more e.timers (timer.T12 c) }
-expired-due e (timer.T13 c) = record { link = no-more-same e.line.timers; layer = stopped-more e.timers (timer.T13 c) }
-expired-due e (timer.T21 c) = record { link = no-more-same e.line.timers; layer = stopped-more e.timers (timer.T21 c) }
-expired-due e (timer.T22 c) = record { link = no-more-same e.line.timers; layer = stopped-more e.timers (timer.T22 c) }
-expired-due e (timer.T23 c) = record { link = no-more-same e.line.timers; layer = stopped-more e.timers (timer.T23 c) }
-expired-due e (timer.Idle t) = record { link = no-more-same e.line.timers; layer = stopped-more e.timers (timer.Idle t) }
+    let after = t1-after (begun e) in
+    heeds (on_t1 e.line.link).note e (record (begun e) { line = line.expired (begun e).line })
+    (record { link = omega (arith, after); layer = omega arith })
+expired-due e timer.T10 = record { link = omega arith; layer = none-named (timer_named e.layer.role timer.T10) e.timers }
+expired-due e timer.T20 = record { link = omega arith; layer = none-named (timer_named e.layer.role timer.T20) e.timers }
+expired-due e (timer.T11 c) = record { link = omega arith; layer = none-named (timer_named e.layer.role (timer.T11 c)) e.timers }
+expired-due e (timer.T12 c) = record { link = omega arith; layer = none-named (timer_named e.layer.role (timer.T12 c)) e.timers }
+expired-due e (timer.T13 c) = record { link = omega arith; layer = none-named (timer_named e.layer.role (timer.T13 c)) e.timers }
+expired-due e (timer.T21 c) = record { link = omega arith; layer = none-named (timer_named e.layer.role (timer.T21 c)) e.timers }
+expired-due e (timer.T22 c) = record { link = omega arith; layer = none-named (timer_named e.layer.role (timer.T22 c)) e.timers }
+expired-due e (timer.T23 c) = record { link = omega arith; layer = none-named (timer_named e.layer.role (timer.T23 c)) e.timers }
+expired-due e (timer.Idle t) = record { link = omega arith; layer = none-named (timer_named e.layer.role (timer.Idle t)) e.timers }
 
 pub timer-due : (e : PacketEnd) (id : TimerId) → NoMoreDue e (after_timer (begun e) id)
 timer-due e id = either-due (runs_at (begun e) id) e (end.expired id (begun e)) (begun e) (expired-due e id) (begun-due e)
 
 pub relinked-due : (e : PacketEnd) → NoMoreDue e (relinked e)
-relinked-due e = record { link = does e.line (machine.relink e.line.link); layer = none-more IsPacketTimer e.timers }
+relinked-due e = record { link = does e.line (machine.relink e.line.link); layer = none-more e.timers }
 
 -- ---- the end of an event
 
@@ -135,7 +143,7 @@ finished-due e =
 -- ---- what a user asks
 
 pub asked-due : (e : PacketEnd) (channel : ℕ) (r : Request) → NoMoreDue e (asked e channel r)
-asked-due e channel r = record { link = no-more-same e.line.timers; layer = no-more-same e.timers }
+asked-due e channel r = record { link = omega arith; layer = omega arith }
 
 queued-due : (channel : ℕ) (ds : List Datum) (e : PacketEnd) → NoMoreDue e (queued channel ds e)
 queued-due channel [] e = same-due e
@@ -151,7 +159,7 @@ unless-due (Some r) done e h = same-due e
 pub calls-due : (e : PacketEnd) (parts : CallParts) → NoMoreDue e (after_call e parts)
 calls-due e parts =
     unless-due (call_refusal e.layer e.layer.phase) (ended (called e parts)) e
-    (ended-due e (called e parts) (record { link = no-more-same e.line.timers; layer = no-more-same e.timers }))
+    (ended-due e (called e parts) (record { link = omega arith; layer = omega arith }))
 
 pub asks-due : (e : PacketEnd) (channel : ℕ) (r : Request) → NoMoreDue e (after_request e channel r)
 asks-due e channel r = unless-due (request_refusal e.layer channel r) (ended (asked e channel r)) e (ended-due e (asked e channel r) (asked-due e channel r))
@@ -180,96 +188,96 @@ taken-due (Some x) channel e =
 pub takes-due : (e : PacketEnd) (channel : ℕ) → NoMoreDue e (after_take e channel)
 takes-due e channel = taken-due (front_on e.layer channel) channel e
 
--- ---- time, and ends that nothing happened to yet
-
-pub elapsed-apart : (e : PacketEnd) (ticks : ℕ) → TimersApart e → TimersApart (end.elapsed e ticks)
-elapsed-apart e ticks a = record { link = only-elapsed IsT1 e.line.timers ticks a.link; layer = only-elapsed IsPacketTimer e.timers ticks a.layer }
-
-line-apart : (e : line.End) (standing : Bool) → e.timers ≡ none_running → RunsOnly IsT1 (line.started_unless standing e).timers
-line-apart e true none = subst (λ (t : Places). RunsOnly IsT1 t) (sym none) (only-none IsT1)
-line-apart e false none = (times _ e.timers).only (subst (λ (t : Places). RunsOnly IsT1 t) (sym none) (only-none IsT1))
-
-pub made-apart : (role : Role) (p : EndParams) → TimersApart (end.made role p)
-made-apart role p = record { link = line-apart (line.untouched role (link_params p)) p.standing refl; layer = only-none IsPacketTimer }
-
-pub restarted-apart : (e : PacketEnd) → TimersApart (end.restarted e)
-restarted-apart e = record { link = line-apart (line.untouched e.line.link.role (params_anew e.line.link)) false refl; layer = only-none IsPacketTimer }
-
 -- ---- the timer that is due expires
 
--- it runs where it is looked for, and after it fewer are due
+-- it runs, and after it fewer are due
 pub record IsFewer (e : PacketEnd) (id : TimerId) : Type 0 where
   pub runs : runs_at e id ≡ true
   pub fewer : due_count (after_timer (begun e) id) < due_count e
 
-link-expires : (e : PacketEnd) (id : TimerId) → TimersApart e → left_of e.line.timers id ≡ Some 0 → IsFewer e id
-link-expires e timer.T1 a left = record { runs = runs; fewer = fewer }
+due-runs : (left : Option ℕ) → is_due left ≡ true → is_some left ≡ true
+due-runs None h = absurd (let no : false ≡ true = h in cc)
+due-runs (Some n) h = refl
+
+t1-expires : (e : PacketEnd) → is_due e.line.t1 ≡ true → IsFewer e timer.T1
+t1-expires e due = record { runs = runs; fewer = fewer }
   where
-    runs : is_some (left_of e.line.timers timer.T1) ≡ true
-    runs = ap is_some left
+    runs : is_some e.line.t1 ≡ true
+    runs = due-runs e.line.t1 due
 
     x : PacketEnd
-    x = record (begun e) { line = line.expired timer.T1 (begun e).line }
+    x = record (begun e) { line = line.expired (begun e).line }
 
     heard : NoMoreDue x (heeded (on_t1 e.line.link).note x)
     heard = heeds (on_t1 e.line.link).note x x (same-due x)
 
-    fewer : due_count (cond (is_some (left_of e.line.timers timer.T1)) (heeded (on_t1 e.line.link).note x) (begun e)) < due_count e
+    fewer : due_count (cond (is_some e.line.t1) (heeded (on_t1 e.line.link).note x) (begun e)) < due_count e
     fewer =
-        let stops = stopped-fewer e.line.timers timer.T1 left in
-        let p = (t1-stopped e).few in
+        let was : one_if (is_due e.line.t1) ≡ 1 = ap one_if due in
+        let after = t1-after (begun e) in
         let q = no-more-due x (heeded (on_t1 e.line.link).note x) heard in
-        rw runs (omega (arith, stops, p, q))
-link-expires e timer.T10 a left = absurd (let none = a.link.others timer.T10 (λ h. absurd (cc)) in cc)
-link-expires e timer.T20 a left = absurd (let none = a.link.others timer.T20 (λ h. absurd (cc)) in cc)
-link-expires e (timer.T11 c) a left = absurd (let none = a.link.others (timer.T11 c) (λ h. absurd (cc)) in cc)
-link-expires e (timer.T12 c) a left = absurd (let none = a.link.others (timer.T12 c) (λ h. absurd (cc)) in cc)
-link-expires e (timer.T13 c) a left = absurd (let none = a.link.others (timer.T13 c) (λ h. absurd (cc)) in cc)
-link-expires e (timer.T21 c) a left = absurd (let none = a.link.others (timer.T21 c) (λ h. absurd (cc)) in cc)
-link-expires e (timer.T22 c) a left = absurd (let none = a.link.others (timer.T22 c) (λ h. absurd (cc)) in cc)
-link-expires e (timer.T23 c) a left = absurd (let none = a.link.others (timer.T23 c) (λ h. absurd (cc)) in cc)
-link-expires e (timer.Idle t) a left = absurd (let none = a.link.others (timer.Idle t) (λ h. absurd (cc)) in cc)
+        rw runs (omega (arith, was, after, q))
 
--- a timer of the packet layer
-stops : (e : PacketEnd) (id : TimerId) (v : Bool) (x : PacketEnd) → x.line.timers ≡ e.line.timers → x.timers ≡ stopped e.timers id
-    → left_of e.timers id ≡ Some 0 → v ≡ is_some (left_of e.timers id) → due_count (cond v x (begun e)) < due_count e
-stops e id v x same stopped_there left is =
-    let runs : v ≡ true = is ∙ ap is_some left in
-    let fewer = stopped-fewer e.timers id left in
-    let link : length (due_timers x.line.timers) ≡ length (due_timers e.line.timers) = ap (λ (t : Places). length (due_timers t)) same in
-    let layer : length (due_timers x.timers) ≡ length (due_timers (stopped e.timers id)) = ap (λ (t : Places). length (due_timers t)) stopped_there in
-    rw runs (omega (arith, fewer, link, layer))
+-- a timer of the packet layer is found by its name
+named-back : (role : Role) (t : Timer) → timer_named role (name_of role t) ≡ Some t
+named-back Dte RestartTimer = refl
+named-back Dte (CallTimer c) = refl
+named-back Dte (ResetTimer c) = refl
+named-back Dte (ClearTimer c) = refl
+named-back Dce RestartTimer = refl
+named-back Dce (CallTimer c) = refl
+named-back Dce (ResetTimer c) = refl
+named-back Dce (ClearTimer c) = refl
 
-layer-expires : (e : PacketEnd) (id : TimerId) → TimersApart e → left_of e.timers id ≡ Some 0 → IsFewer e id
-layer-expires e timer.T1 a left = absurd (let none = a.layer.others timer.T1 (λ h. h) in cc)
-layer-expires e (timer.Idle t) a left = absurd (let none = a.layer.others (timer.Idle t) (λ h. h) in cc)
-layer-expires e timer.T10 a left =
-    record { runs = ap is_some left; fewer = stops e timer.T10 (is_some (left_of e.timers timer.T10)) (end.expired timer.T10 (begun e)) refl refl left refl }
-layer-expires e timer.T20 a left =
-    record { runs = ap is_some left; fewer = stops e timer.T20 (is_some (left_of e.timers timer.T20)) (end.expired timer.T20 (begun e)) refl refl left refl }
-layer-expires e (timer.T11 c) a left =
-    record { runs = ap is_some left; fewer = stops e (timer.T11 c) (is_some (left_of e.timers (timer.T11 c))) (end.expired (timer.T11 c) (begun e)) refl refl left refl }
-layer-expires e (timer.T12 c) a left =
-    record { runs = ap is_some left; fewer = stops e (timer.T12 c) (is_some (left_of e.timers (timer.T12 c))) (end.expired (timer.T12 c) (begun e)) refl refl left refl }
-layer-expires e (timer.T13 c) a left =
-    record { runs = ap is_some left; fewer = stops e (timer.T13 c) (is_some (left_of e.timers (timer.T13 c))) (end.expired (timer.T13 c) (begun e)) refl refl left refl }
-layer-expires e (timer.T21 c) a left =
-    record { runs = ap is_some left; fewer = stops e (timer.T21 c) (is_some (left_of e.timers (timer.T21 c))) (end.expired (timer.T21 c) (begun e)) refl refl left refl }
-layer-expires e (timer.T22 c) a left =
-    record { runs = ap is_some left; fewer = stops e (timer.T22 c) (is_some (left_of e.timers (timer.T22 c))) (end.expired (timer.T22 c) (begun e)) refl refl left refl }
-layer-expires e (timer.T23 c) a left =
-    record { runs = ap is_some left; fewer = stops e (timer.T23 c) (is_some (left_of e.timers (timer.T23 c))) (end.expired (timer.T23 c) (begun e)) refl refl left refl }
+-- an expiry by name of a timer that is not T1
+record IsLayers (e : PacketEnd) (id : TimerId) : Type 0 where
+  runs : runs_at e id ≡ runs_by_name e.timers (timer_named e.layer.role id)
+  line : (end.expired id (begun e)).line.t1 ≡ e.line.t1
+  timers : (end.expired id (begun e)).timers ≡ stopped_by_name e.timers (timer_named e.layer.role id)
 
-pub due-expires : (e : PacketEnd) (id : TimerId) → TimersApart e → due e ≡ Some id → IsFewer e id
-due-expires e id a is = by (first_of (due_timers e.line.timers)) (first_of (due_timers e.timers)) refl refl is
+of-layer : (e : PacketEnd) (role : Role) (t : Timer) → IsLayers e (name_of role t)
+of-layer e Dte RestartTimer = record { runs = refl; line = refl; timers = refl }
+of-layer e Dte (CallTimer c) = record { runs = refl; line = refl; timers = refl }
+of-layer e Dte (ResetTimer c) = record { runs = refl; line = refl; timers = refl }
+of-layer e Dte (ClearTimer c) = record { runs = refl; line = refl; timers = refl }
+of-layer e Dce RestartTimer = record { runs = refl; line = refl; timers = refl }
+of-layer e Dce (CallTimer c) = record { runs = refl; line = refl; timers = refl }
+of-layer e Dce (ResetTimer c) = record { runs = refl; line = refl; timers = refl }
+of-layer e Dce (ClearTimer c) = record { runs = refl; line = refl; timers = refl }
+
+layer-expires : (e : PacketEnd) (t : Timer) → is_due (left_of e.timers t) ≡ true → IsFewer e (name_of e.layer.role t)
+layer-expires e t due = record { runs = runs; fewer = fewer }
   where
-    by : (x y : Option TimerId) → x ≡ first_of (due_timers e.line.timers) → y ≡ first_of (due_timers e.timers) → either_timer x y ≡ Some id → IsFewer e id
-    by (Some first) y at_link at_layer same =
-        let left : left_of e.line.timers first ≡ Some 0 = first_due e.line.timers (Some first) at_link a.link.whole in
-        let is : first ≡ id = cc in
-        link-expires e id a (subst (λ (x : TimerId). left_of e.line.timers x ≡ Some 0) is left)
-    by None (Some first) at_link at_layer same =
-        let left : left_of e.timers first ≡ Some 0 = first_due e.timers (Some first) at_layer a.layer.whole in
-        let is : first ≡ id = cc in
-        layer-expires e id a (subst (λ (x : TimerId). left_of e.timers x ≡ Some 0) is left)
-    by None None at_link at_layer same = absurd (cc)
+    id : TimerId
+    id = name_of e.layer.role t
+
+    own : IsLayers e id
+    own = of-layer e e.layer.role t
+
+    named : timer_named e.layer.role id ≡ Some t
+    named = named-back e.layer.role t
+
+    runs : runs_at e id ≡ true
+    runs = own.runs ∙ ap (runs_by_name e.timers) named ∙ due-runs (left_of e.timers t) due
+
+    fewer : due_count (cond (runs_at (begun e) id) (end.expired id (begun e)) (begun e)) < due_count e
+    fewer =
+        let ran : runs_at (begun e) id ≡ true = (of-layer (begun e) e.layer.role t).runs ∙ ap (runs_by_name e.timers) named
+        ∙ due-runs (left_of e.timers t) due in
+        let line : one_if (is_due (end.expired id (begun e)).line.t1) ≡ one_if (is_due e.line.t1) =
+        ap (λ (left : Option ℕ). one_if (is_due left)) own.line in
+        let timers : running.due_count (end.expired id (begun e)).timers ≡ running.due_count (stopped_by_name e.timers (Some t)) =
+        ap running.due_count (own.timers ∙ ap (stopped_by_name e.timers) named) in
+        let less = stopped-fewer e.timers t due in
+        rw ran (omega (arith, line, timers, less))
+
+pub due-expires : (e : PacketEnd) (id : TimerId) → due e ≡ Some id → IsFewer e id
+due-expires e id is = by (is_due e.line.t1) refl (running.first_due e.timers) refl is
+  where
+    by : (v : Bool) → is_due e.line.t1 ≡ v → (o : Option Timer) → running.first_due e.timers ≡ o
+        → either_timer (if v then Some timer.T1 else None) (option_map (name_of e.layer.role) o) ≡ Some id → IsFewer e id
+    by true due o first same = subst (λ (x : TimerId). IsFewer e x) (same_Some timer.T1 id same) (t1-expires e due)
+    by false due (Some t) first same =
+        subst (λ (x : TimerId). IsFewer e x) (same_Some (name_of e.layer.role t) id same)
+        (layer-expires e t (first-is-due e.timers t first))
+    by false due None first same = absurd (none-some id same)

@@ -7,7 +7,7 @@ use Rattle.packet_channel.specs.declared.flow.Flow.{Flow}
 use Rattle.link_timers.specs.Role.{other_of}
 use Rattle.lapb.specs.Machine.{Octets, Link}
 use Rattle.lapb.specs.World as links
-use Rattle.link_timers.specs.Timers.{none_running}
+use Rattle.packet_layer.specs.LayerTimers.{none_running}
 use Rattle.packet_channel.proofs.Windows.{window_below}
 use Rattle.line_end.specs.End as line
 use Rattle.packet_channel.specs.Packets.{Note}

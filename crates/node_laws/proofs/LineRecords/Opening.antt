@@ -264,7 +264,7 @@ named_none l None e = ap opening_notes e
 named_none l (Some t) e = timer_none l t (runs l t) e
 
 expiry_none : (e : PacketEnd) (id : TimerId) → e.layer.notes ≡ [] → IsNone (end.expired id (begun e)).notes
-expiry_none e timer.T1 is = heeded_none (on_t1 e.line.link).note (record (begun e) { line = line.expired timer.T1 (begun e).line }) refl
+expiry_none e timer.T1 is = heeded_none (on_t1 e.line.link).note (record (begun e) { line = line.expired (begun e).line }) refl
 expiry_none e timer.T10 is = named_none e.layer (timer_named e.layer.role timer.T10) is
 expiry_none e timer.T20 is = named_none e.layer (timer_named e.layer.role timer.T20) is
 expiry_none e (timer.T11 c) is = named_none e.layer (timer_named e.layer.role (timer.T11 c)) is

@@ -1,11 +1,11 @@
 -- Each act at an end of a line is some events of its links and some of its two layers, in step.
-use Rattle.std.specs.Prelude.{◌≡◌, ℕ, Bool, true, false, cond, List, [], ◌∷◌, ◌++◌, map}
+use Rattle.std.specs.Prelude.{◌≡◌, ℕ, Bool, true, false, cond, List, [], ◌∷◌, ◌++◌, map, None}
 use Rattle.std.proofs.Common.{refl, sym, ap, ◌∙◌, subst}
 use Rattle.std.proofs.lemmas.List.{append-nil}
 use Rattle.link_timers.specs.declared.role.Role.{Role}
 use Rattle.link_timers.specs.declared.timers.TimerId.{TimerId}
 use Rattle.link_timers.specs.declared.timers.TimerId.TheVariants as timer
-use Rattle.link_timers.specs.Timers.{stopped}
+use Rattle.packet_layer.specs.LayerTimers.{stopped_by_name}
 use Rattle.link_timers.specs.Role.{other_of}
 use Rattle.frame_codec.specs.Spelling.{spelling}
 use Rattle.lapb.specs.Machine as link
@@ -186,18 +186,18 @@ module _ (role : Role) (w : World) (v : layers.Line) (me you : PacketEnd) (going
   t1_expires : Either (end.expired timer.T1 me) (expiry_events (coming_session role w) timer.T1 me)
   t1_expires =
       let step : link.Step = link.on_t1 me.line.link in
-      let before : PacketEnd = record me { line = line.expired timer.T1 me.line } in
+      let before : PacketEnd = record me { line = line.expired me.line } in
       let g = goes_t1 me.line.link you.line.link (going ++ me.line.frames) (coming ++ you.line.frames) here_side there_side role here in
-      let d = did_goes role (record me.line { timers = stopped me.line.timers timer.T1 }) step you.line.link going (coming ++ you.line.frames) (at_link here_side step.link) there_side role_is g in
+      let d = did_goes role (record me.line { t1 = None }) step you.line.link going (coming ++ you.line.frames) (at_link here_side step.link) there_side role_is g in
       let t = told_note here_side there_side you.layer before v j.mine j.yours j.readable_here j.same_flow step.note (coming_session role w) (at_link here_side step.link)
       (plain_takes me.line.link step (coming_session role w) here_side there_side refl (tells_on_t1 me.line.link) (plain_on_t1 me.line.link)) in
       either_told (at_link here_side step.link) (end.expired timer.T1 me) before (expiry_events (coming_session role w) timer.T1 me) refl j.same_flow t
       (subst (λ (q : End). at_line role q you.line.link going (coming ++ you.line.frames) (at_link here_side step.link) there_side) (sym t.line) d)
 
-  named_expires : (id : TimerId) → Either (gathered (record me { timers = stopped me.timers id; layer = Rattle.packet_layer.specs.Events.on_named me.layer (timer_named me.layer.role id) })) (timer_events (timer_named me.layer.role id))
+  named_expires : (id : TimerId) → Either (gathered (record me { timers = stopped_by_name me.timers (timer_named me.layer.role id); layer = Rattle.packet_layer.specs.Events.on_named me.layer (timer_named me.layer.role id) })) (timer_events (timer_named me.layer.role id))
   named_expires id =
-      either_told here_side (gathered (record me { timers = stopped me.timers id; layer = Rattle.packet_layer.specs.Events.on_named me.layer (timer_named me.layer.role id) })) me (timer_events (timer_named me.layer.role id)) refl j.same_flow
-      (told_timer here_side there_side you.layer me v j.mine j.yours j.readable_here j.same_flow (stopped me.timers id) (timer_named me.layer.role id)) here
+      either_told here_side (gathered (record me { timers = stopped_by_name me.timers (timer_named me.layer.role id); layer = Rattle.packet_layer.specs.Events.on_named me.layer (timer_named me.layer.role id) })) me (timer_events (timer_named me.layer.role id)) refl j.same_flow
+      (told_timer here_side there_side you.layer me v j.mine j.yours j.readable_here j.same_flow (stopped_by_name me.timers (timer_named me.layer.role id)) (timer_named me.layer.role id)) here
 
   any_expires : (id : TimerId) → Either (end.expired id me) (expiry_events (coming_session role w) id me)
   any_expires timer.T1 = t1_expires

@@ -4,7 +4,7 @@ use Rattle.std.proofs.Common.{refl, sym, ap, ◌∙◌, subst}
 use Rattle.link_timers.specs.declared.role.Role.{Role}
 use Rattle.link_timers.specs.declared.role.Role.TheVariants.{Dte, Dce}
 use Rattle.link_timers.specs.Role.{other_of}
-use Rattle.link_timers.specs.Timers.{none_running}
+use Rattle.packet_layer.specs.LayerTimers.{none_running}
 use Rattle.lapb.specs.declared.link.LinkParams.{LinkParams}
 use Rattle.lapb.specs.Machine as link
 use Rattle.lapb.specs.Machine.{Octets, Link}

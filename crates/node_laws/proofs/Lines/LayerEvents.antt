@@ -2,7 +2,7 @@
 use Rattle.std.specs.Prelude.{◌≡◌, ℕ, ◌≤◌, Bool, true, false, List, [], ◌∷◌, ◌++◌, length, slice_get, Option, Some, None}
 use Rattle.std.proofs.Common.{refl, sym, ap, ◌∙◌, subst}
 use Rattle.std.proofs.lemmas.List.{append-nil}
-use Rattle.link_timers.specs.Timers.{Places}
+use Rattle.packet_layer.specs.LayerTimers.{LayerTimers}
 use Rattle.lapb.specs.declared.note.Note as link_note
 use Rattle.lapb.specs.declared.note.Note.TheVariants.{Up, Down}
 use Rattle.lapb.specs.Machine.{Octets}
@@ -138,7 +138,7 @@ module _ (x y : Side) (m : Layer) (e : PacketEnd) (v : Line) (f : Follows x e.la
 
   -- ---- by a timer, by the user
 
-  pub told_timer : (timers : Places) (t : Option Timer) → Told x x y m e (gathered (record e { timers = timers; layer = on_named e.layer t })) v (timer_events t)
+  pub told_timer : (timers : LayerTimers) (t : Option Timer) → Told x x y m e (gathered (record e { timers = timers; layer = on_named e.layer t })) v (timer_events t)
   told_timer timers None = record {
     mine = record { session = f.session; offered = f.offered; accepted = f.accepted; layer = ap (λ (q : Layer). unread q) f.layer };
     yours = g;

@@ -73,14 +73,14 @@ received_last e octets h =
 -- ---- timers
 
 expired_tells : (had : ℕ → Bool) (id : TimerId) (e : PacketEnd) → EndTells had e → EndTells had (expired id e)
-expired_tells had T1 e h = heeded_tells had (link.on_t1 e.line.link).note (record e { line = line.expired T1 e.line }) (same_layer had e _ refl refl h)
+expired_tells had T1 e h = heeded_tells had (link.on_t1 e.line.link).note (record e { line = line.expired e.line }) (same_layer had e _ refl refl h)
 expired_tells had id e h =
     let m : Layer = on_named e.layer (timer_named e.layer.role id) in
     let g = gathered_tells had e m h (named_tells e.layer (timer_named e.layer.role id) h.read) in
     same_layer had (gathered (record e { layer = m })) (expired id e) refl refl g
 
 expired_last : (id : TimerId) (e : PacketEnd) → e.layer.notes ≡ [] → NoneComes e.notes → IncomingLast (expired id e).notes
-expired_last T1 e r h = none_last (expired T1 e).notes (heeded_none (link.on_t1 e.line.link).note (record e { line = line.expired T1 e.line }) h)
+expired_last T1 e r h = none_last (expired T1 e).notes (heeded_none (link.on_t1 e.line.link).note (record e { line = line.expired e.line }) h)
 expired_last id e r h =
     last_append e.notes (on_named e.layer (timer_named e.layer.role id)).notes h (named_tells e.layer (timer_named e.layer.role id) r).last
 

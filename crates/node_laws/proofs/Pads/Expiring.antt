@@ -6,7 +6,12 @@ use Rattle.std.proofs.lemmas.Bool.{ltb-true, eqb-true}
 use Rattle.std.proofs.lemmas.Option.{none-some, same_Some}
 use Rattle.link_timers.specs.declared.timers.TimerId.{TimerId}
 use Rattle.link_timers.specs.declared.timers.TimerId.TheVariants.{Idle}
-use Rattle.link_timers.specs.Timers.{Places}
+use Rattle.link_timers.specs.Timers.{is_due}
+use Rattle.packet_layer.specs.LayerTimers as running
+use Rattle.packet_layer.specs.LayerTimers.{LayerTimers}
+use Rattle.packet_layer.specs.Events.{timer_named}
+use Rattle.link_timers.specs.declared.role.Role.{Role}
+use Rattle.link_timers.specs.declared.role.Role.TheVariants.{Dte, Dce}
 use Rattle.pad_editing.specs.Edited.{Step, key, idle}
 use Rattle.packet_channel.specs.Packets.{Datum, Note}
 use Rattle.packet_channel.specs.Packets.Note.{Incoming, Connected, Closed, WasReset, InterruptConfirmed, Covered}
@@ -17,9 +22,9 @@ use Rattle.packet_channel.specs.Channel.Request.{Releasing}
 use Rattle.packet_layer.specs.Layer.{channel_given, call_refusal}
 use Rattle.packet_end.specs.PacketEnd as end
 use Rattle.packet_end.specs.PacketEnd.{PacketEnd, begun, received, after_timer, relinked, finished, runs_at}
-use Rattle.node_laws.specs.LineRecords.Due.{TimersApart}
 use Rattle.node_laws.specs.LineRecords.Due as counts
-use Rattle.node_laws.proofs.LineRecords.DueEnds.{NoMoreDue, stays-apart, no-more-due, same-due, begun-due, then-due, received-due, timer-due, relinked-due, finished-due, elapsed-apart, restarted-apart, IsFewer, due-expires}
+use Rattle.node_laws.proofs.LineRecords.DueEnds.{NoMoreDue, no-more-due, same-due, begun-due, then-due, finished-due, IsFewer, due-expires}
+use Rattle.node_laws.proofs.LineRecords.DueCounts.{one_if}
 use Rattle.x3_params.specs.Values.{value}
 use Rattle.x29_messages.specs.MessageForm.{octets_of}
 use Rattle.x29_messages.specs.declared.message.Message.{Message}
@@ -41,15 +46,15 @@ use Rattle.x25_pad.specs.Ports.{PortState, AtLine, brought, has_expired}
 use Rattle.x25_pad.specs.Pad as pad
 use Rattle.x25_pad.specs.Pad.{PadState, all_heard}
 use Rattle.x25_pad.specs.declared.line.PadLine.{PadLine}
-use Rattle.node_laws.specs.Pads.Expiry.{idle_count, due_count, ExpiryLaw, ApartLaw}
+use Rattle.node_laws.specs.Pads.Expiry.{idle_count, due_count, ExpiryLaw}
 use Rattle.node_laws.specs.Pads.Standing.{drained}
 use Rattle.node_laws.proofs.Pads.Ports.{found_at, changed_for, heard_connected, heard_cleared, heard_reset, heard_none, heard_more}
 
 -- ---- what happens at a terminal leaves all timers but its own, and that is put as the event puts it
 
-module _ (left : Option ℕ) (times link_times : Places) where
+module _ (left : Option ℕ) (times : LayerTimers) (t1 : Option ℕ) where
   abbrev pub Stays : AtLine → Type 0
-  Stays a = (a.port.idle_left ≡ left) × (a.line.end.timers ≡ times) × (a.line.end.line.timers ≡ link_times)
+  Stays a = (a.port.idle_left ≡ left) × (a.line.end.timers ≡ times) × (a.line.end.line.t1 ≡ t1)
 
   on_call_stays : (act : ℕ → AtLine → AtLine) (o : Option ℕ) (a : AtLine) → ((call : ℕ) → Stays (act call a)) → Stays a → Stays (port.on_call act o a)
   on_call_stays act None a f h = h
@@ -110,17 +115,16 @@ module _ (left : Option ℕ) (times link_times : Places) where
 -- ---- the ends of a PAD
 
 -- where the timers stay, no more are due
-same_times : (e f : PacketEnd) → f.timers ≡ e.timers → f.line.timers ≡ e.line.timers → NoMoreDue e f
-same_times e f t l =
-    let one : NoMoreDue e (record e { timers = f.timers }) = subst (λ (x : Places). NoMoreDue e (record e { timers = x })) (sym t) (same-due e) in
-    let two : NoMoreDue e (record e { timers = f.timers; line = record e.line { timers = f.line.timers } }) =
-    subst (λ (x : Places). NoMoreDue e (record e { timers = f.timers; line = record e.line { timers = x } })) (sym l) one in
-    record { link = two.link; layer = two.layer }
+same_times : (e f : PacketEnd) → f.timers ≡ e.timers → f.line.t1 ≡ e.line.t1 → NoMoreDue e f
+same_times e f t l = record {
+  link = (let p : one_if (is_due f.line.t1) ≡ one_if (is_due e.line.t1) = ap (λ (x : Option ℕ). one_if (is_due x)) l in omega (arith, p));
+  layer = (let q : running.due_count f.timers ≡ running.due_count e.timers = ap running.due_count t in omega (arith, q));
+}
 
 ended_due : (p : PadState) → NoMoreDue p.line.end (pad.ended p).line.end
 ended_due p = let f = finished-due p.line.end in record { link = f.link; layer = f.layer }
 
-port_due : (number : ℕ) (act : AtLine → AtLine) (p : PadState) → ((a : AtLine) → ((act a).line.end.timers ≡ a.line.end.timers) × ((act a).line.end.line.timers ≡ a.line.end.line.timers))
+port_due : (number : ℕ) (act : AtLine → AtLine) (p : PadState) → ((a : AtLine) → ((act a).line.end.timers ≡ a.line.end.timers) × ((act a).line.end.line.t1 ≡ a.line.end.line.t1))
     → NoMoreDue p.line.end (pad.at_port number act p).line.end
 port_due number act p f = by (slice_get p.ports number)
   where
@@ -130,7 +134,7 @@ port_due number act p f = by (slice_get p.ports number)
         let g = f (record { port = found; line = p.line }) in
         same_times p.line.end (act (record { port = found; line = p.line })).line.end g.0 g.1
 
-terminal_due : (number : ℕ) (act : AtLine → AtLine) (p : PadState) → ((a : AtLine) → ((act a).line.end.timers ≡ a.line.end.timers) × ((act a).line.end.line.timers ≡ a.line.end.line.timers))
+terminal_due : (number : ℕ) (act : AtLine → AtLine) (p : PadState) → ((a : AtLine) → ((act a).line.end.timers ≡ a.line.end.timers) × ((act a).line.end.line.t1 ≡ a.line.end.line.t1))
     → NoMoreDue p.line.end (pad.terminal_event number act p).line.end
 terminal_due number act p f =
     let b = begun-due p.line.end in
@@ -153,71 +157,27 @@ line_due p =
 
 -- ---- each act
 
-pub key_act : (o : ℕ) (a : AtLine) → ((port.after_key o a).port.idle_left ≡ None) × ((port.after_key o a).line.end.timers ≡ a.line.end.timers) × ((port.after_key o a).line.end.line.timers ≡ a.line.end.line.timers)
+pub key_act : (o : ℕ) (a : AtLine) → ((port.after_key o a).port.idle_left ≡ None) × ((port.after_key o a).line.end.timers ≡ a.line.end.timers) × ((port.after_key o a).line.end.line.t1 ≡ a.line.end.line.t1)
 key_act o a =
-    handles_stay None a.line.end.timers a.line.end.line.timers (port.key_input o a).answer (key o a.port.terminal.settings.params)
+    handles_stay None a.line.end.timers a.line.end.line.t1 (port.key_input o a).answer (key o a.port.terminal.settings.params)
     (record a { port = record a.port { terminal = (port.key_input o a).terminal; idle_left = None } }) (refl, refl, refl)
 
-idle_act : (a : AtLine) → ((port.after_idle a).port.idle_left ≡ None) × ((port.after_idle a).line.end.timers ≡ a.line.end.timers) × ((port.after_idle a).line.end.line.timers ≡ a.line.end.line.timers)
+idle_act : (a : AtLine) → ((port.after_idle a).port.idle_left ≡ None) × ((port.after_idle a).line.end.timers ≡ a.line.end.timers) × ((port.after_idle a).line.end.line.t1 ≡ a.line.end.line.t1)
 idle_act a =
-    handles_stay None a.line.end.timers a.line.end.line.timers (port.idle_input a).answer (idle a.port.terminal.settings.params)
+    handles_stay None a.line.end.timers a.line.end.line.t1 (port.idle_input a).answer (idle a.port.terminal.settings.params)
     (record a { port = record a.port { terminal = (port.idle_input a).terminal; idle_left = None } }) (refl, refl, refl)
 
-break_act : (a : AtLine) → ((port.after_break a).line.end.timers ≡ a.line.end.timers) × ((port.after_break a).line.end.line.timers ≡ a.line.end.line.timers)
+break_act : (a : AtLine) → ((port.after_break a).line.end.timers ≡ a.line.end.timers) × ((port.after_break a).line.end.line.t1 ≡ a.line.end.line.t1)
 break_act a =
-    let h = break_stays a.port.idle_left a.line.end.timers a.line.end.line.timers (port.break_answer_of a) (record a { port = port.with_terminal _ a.port }) (refl, refl, refl) in
+    let h = break_stays a.port.idle_left a.line.end.timers a.line.end.line.t1 (port.break_answer_of a) (record a { port = port.with_terminal _ a.port }) (refl, refl, refl) in
     (h.1, h.2)
 
-print_act : (a : AtLine) → ((port.after_print a).line.end.timers ≡ a.line.end.timers) × ((port.after_print a).line.end.line.timers ≡ a.line.end.line.timers)
+print_act : (a : AtLine) → ((port.after_print a).line.end.timers ≡ a.line.end.timers) × ((port.after_print a).line.end.line.t1 ≡ a.line.end.line.t1)
 print_act a =
-    let h = next_stays a.port.idle_left a.line.end.timers a.line.end.line.timers a.port.call (port.taken_of a) (port.with_terminal (calls.without_text a.port.terminal) a.port) a.line (refl, refl, refl) in
+    let h = next_stays a.port.idle_left a.line.end.timers a.line.end.line.t1 a.port.call (port.taken_of a) (port.with_terminal (calls.without_text a.port.terminal) a.port) a.line (refl, refl, refl) in
     (h.1, h.2)
-
--- ---- timers stay apart
-
-timer_apart_of : (p : PadState) (id : TimerId) → NoMoreDue p.line.end (pad.after_expiry p id).line.end
-timer_apart_of p id = by (runs_at p.line.end id)
-  where
-    q : PadState
-    q = pad.with_end (after_timer (begun p.line.end) id) (pad.begun p)
-
-    by : (v : Bool) → NoMoreDue p.line.end (if v then pad.line_event q else p).line.end
-    by true = then-due (timer-due p.line.end id) (line_due q)
-    by false = same-due p.line.end
-
-idle_due_of : (p : PadState) (number : ℕ) → NoMoreDue p.line.end (pad.after_idle number p).line.end
-idle_due_of p number = by (pad.runs_idle_timer number p)
-  where
-    by : (v : Bool) → NoMoreDue p.line.end (if v then pad.terminal_event number port.after_idle p else p).line.end
-    by true = terminal_due number port.after_idle p (λ a. (let h = idle_act a in (h.1, h.2)))
-    by false = same-due p.line.end
-
-any_due_of : (p : PadState) (id : TimerId) → NoMoreDue p.line.end (pad.after_timer p id).line.end
-any_due_of p (Idle number) = idle_due_of p number
-any_due_of p id = timer_apart_of p id
-
-pub apart : ApartLaw
-apart = record {
-  keys = λ p number octet h.
-      let q : PadState = pad.terminal_event number (port.after_key octet) p in
-      stays-apart p.line.end q.line.end (terminal_due number (port.after_key octet) p (λ a. (let k = key_act octet a in (k.1, k.2)))) h;
-  breaks = λ p number h. stays-apart p.line.end (pad.terminal_event number port.after_break p).line.end (terminal_due number port.after_break p break_act) h;
-  prints = λ p number h. stays-apart p.line.end (pad.terminal_event number port.after_print p).line.end (terminal_due number port.after_print p print_act) h;
-  frames = λ p octets h.
-      let q : PadState = pad.with_end (received (begun p.line.end) octets) (pad.begun p) in
-      stays-apart p.line.end (pad.line_event q).line.end (then-due (received-due p.line.end octets) (line_due q)) h;
-  timers = λ p id h. stays-apart p.line.end (pad.after_timer p id).line.end (any_due_of p id) h;
-  relinks = λ p h.
-      let q : PadState = pad.with_end (relinked (begun p.line.end)) (pad.begun p) in
-      stays-apart p.line.end (pad.line_event q).line.end (then-due (begun-due p.line.end) (then-due (relinked-due (begun p.line.end)) (line_due q))) h;
-  restarts = λ p. restarted-apart p.line.end;
-  times = λ p ticks h. elapsed-apart p.line.end ticks h;
-}
 
 -- ---- idle timers
-
-abbrev one_if : Bool → ℕ
-one_if v = if v then 1 else 0
 
 -- a port that changes and runs its timer on
 count_same : (ports : List PortState) (i : ℕ) (p q : PortState) → slice_get ports i ≡ Some p → q.idle_left ≡ p.idle_left → idle_count (set ports i q) ≡ idle_count ports
@@ -356,15 +316,19 @@ idle_expires p number q at due = by (pad.runs_idle_timer number p) (ap (λ (o : 
     by false e = absurd (true≢false (sym e))
 
 -- at an end no idle timer runs
-not_idle : (e : PacketEnd) (number : ℕ) (P : Type 0) → TimersApart e → runs_at e (Idle number) ≡ true → P
-not_idle e number P a h = absurd (true≢false (sym h ∙ ap (λ (o : Option ℕ). is_some o) (a.layer.others (Idle number) (λ i. i))))
+not_named : (role : Role) (number : ℕ) → timer_named role (Idle number) ≡ None
+not_named Dte number = refl
+not_named Dce number = refl
 
-end_expires : (p : PadState) (id : TimerId) → TimersApart p.line.end → IsFewer p.line.end id → due_count (drained (pad.after_timer p id)) < due_count p
-end_expires p (Idle number) a f = not_idle p.line.end number _ a f.runs
-end_expires p id a f = line_fewer p id f
+not_idle : (e : PacketEnd) (number : ℕ) (P : Type 0) → runs_at e (Idle number) ≡ true → P
+not_idle e number P h = absurd (true≢false (sym h ∙ ap (running.runs_by_name e.timers) (not_named e.layer.role number)))
+
+end_expires : (p : PadState) (id : TimerId) → IsFewer p.line.end id → due_count (drained (pad.after_timer p id)) < due_count p
+end_expires p (Idle number) f = not_idle p.line.end number _ f.runs
+end_expires p id f = line_fewer p id f
 
 pub expires : ExpiryLaw
-expires p id a due = by (end.due p.line.end) refl due
+expires p id due = by (end.due p.line.end) refl due
   where
     idle_is : (o : Option ℕ) → position (λ q. port.is_due q) p.ports ≡ o → pad.idle_due o ≡ Some id → due_count (drained (pad.after_timer p id)) < due_count p
     idle_is None e f = absurd (none-some id f)
@@ -374,4 +338,4 @@ expires p id a due = by (end.due p.line.end) refl due
 
     by : (o : Option TimerId) → end.due p.line.end ≡ o → end.either_timer o (pad.idle_due (position (λ q. port.is_due q) p.ports)) ≡ Some id → due_count (drained (pad.after_timer p id)) < due_count p
     by None e f = idle_is (position (λ q. port.is_due q) p.ports) refl f
-    by (Some x) e f = end_expires p id a (due-expires p.line.end id a (e ∙ f))
+    by (Some x) e f = end_expires p id (due-expires p.line.end id (e ∙ f))

@@ -9,7 +9,7 @@ ghost use Rattle.packet_end.specs.PacketEnd.{offered, all_offered, HasOfferedAll
 ghost use Rattle.packet_end.specs.PacketEnd.{relinked_if_due, KeepsNothingBack};
 ghost use Rattle.packet_end.specs.Pooled.{Serves};
 ghost use Rattle.packet_end.specs.Sending.{EndsWhole};
-ghost use Rattle.packet_end.specs.Timing.{TimersAgree};
+ghost use Rattle.packet_layer.specs.LayerTimers.{TimersAgree};
 
 use crate::pooled::PooledEnd;
 use crate::timing::bring_into_line;

@@ -7,54 +7,47 @@ ghost use Rattle.packet_layer.specs.Events.{timer_named, runs_named, on_named};
 ghost use Rattle.packet_layer.specs.TimerView.{maybe_timer, timer_of};
 
 use crate::layer::Layer;
+use crate::layer_timers::Timer;
 use crate::restart::Phase;
 use flow_window::pool::Pool;
 use link_timers::{Role, TimerId};
 use packet_channel::{Reason, error_cause};
 use packet_codec::{diagnostic, restart_cause};
 
-/// A timer of the packet layer: of the own restart, or by channel of the own call, the own reset or the own clear.
-#[derive(Clone, Copy)]
-pub(crate) enum Timer {
-    Restart,
-    Call(u8),
-    Reset(u8),
-    Clear(u8),
-}
-
-// The timer of this end that the name means. T20 to T23 are a DTE's, T10 to T13 a DCE's.
-fn own_timer(role: Role, id: TimerId) -> Option<Timer>
-    ensures { maybe_timer result ≡ timer_named role id }
-{
-    match (role, id) {
-        (Role::Dte, TimerId::T20) | (Role::Dce, TimerId::T10) => Some(Timer::Restart),
-        (Role::Dte, TimerId::T21(channel)) | (Role::Dce, TimerId::T11(channel)) => {
-            Some(Timer::Call(channel))
-        }
-        (Role::Dte, TimerId::T22(channel)) | (Role::Dce, TimerId::T12(channel)) => {
-            Some(Timer::Reset(channel))
-        }
-        (Role::Dte, TimerId::T23(channel)) | (Role::Dce, TimerId::T13(channel)) => {
-            Some(Timer::Clear(channel))
-        }
-        _ => None,
-    }
-}
-
 impl Layer {
+    /// The timer of this end that has the name, if there is one: T20 to T23 are a DTE's, T10 to T13 a DCE's.
+    pub fn timer_named(&self, id: TimerId) -> Option<Timer>
+        ensures { maybe_timer result ≡ timer_named self.now.layer.role id }
+    {
+        match (self.role, id) {
+            (Role::Dte, TimerId::T20) | (Role::Dce, TimerId::T10) => Some(Timer::Restart),
+            (Role::Dte, TimerId::T21(channel)) | (Role::Dce, TimerId::T11(channel)) => {
+                Some(Timer::Call(channel))
+            }
+            (Role::Dte, TimerId::T22(channel)) | (Role::Dce, TimerId::T12(channel)) => {
+                Some(Timer::Reset(channel))
+            }
+            (Role::Dte, TimerId::T23(channel)) | (Role::Dce, TimerId::T13(channel)) => {
+                Some(Timer::Clear(channel))
+            }
+            _ => None,
+        }
+    }
+
     /// Whether the timer is to run: T20 of a DTE or T10 of a DCE while its restart is not confirmed, and by channel
     /// T21 or T11 while its call is not answered, T22 or T12 while its reset and T23 or T13 while its clear is not
     /// confirmed. No other timer is one of the layer's.
     pub fn runs(&self, id: TimerId) -> bool
         ensures { result ≡ runs_named self.now.layer (timer_named self.now.layer.role id) }
     {
-        match own_timer(self.role, id) {
+        match self.timer_named(id) {
             Some(timer) => self.runs_own(timer),
             None => false,
         }
     }
 
-    fn runs_own(&self, timer: Timer) -> bool
+    /// Whether a timer is to run.
+    pub(crate) fn runs_own(&self, timer: Timer) -> bool
         ensures { result ≡ machine.runs self.now.layer (timer_of timer) }
     {
         match timer {
@@ -100,7 +93,7 @@ impl Layer {
         ensures most { most_held self.new.layer ≡ most_held self.old.layer }
         ensures few { length self.new.held ≤ most_held self.new.layer }
     {
-        let Some(timer) = own_timer(self.role, id) else {
+        let Some(timer) = self.timer_named(id) else {
             return;
         };
         if self.runs_own(timer) {

@@ -1,7 +1,7 @@
 //! What is done to some lines alone.
 ghost use Rattle.std.specs.Prelude.{◌≡◌, ℕ, ◌<◌, ◌≤◌, true, Some, length, map, slice_get};
 ghost use Rattle.packet_end.specs.PacketEnd as end;
-ghost use Rattle.packet_end.specs.Timing.{TimersAgree};
+ghost use Rattle.packet_layer.specs.LayerTimers.{TimersAgree};
 ghost use Rattle.number_set.specs.NumberSet.{has};
 ghost use Rattle.switch_lines.specs.Lines.{SwitchLine as Line};
 ghost use Rattle.switch_lines.specs.Pooled.{plain, on_line, ArePooled};

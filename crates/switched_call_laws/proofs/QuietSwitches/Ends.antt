@@ -1,18 +1,15 @@
 -- Ends of a line over a step of an event of a switch: none has a note where it had none, and no timer is due that was
 -- not.
 use Rattle.std.specs.Prelude.{◌≡◌, ℕ, zero, suc, cond, [], is_some}
-use Rattle.std.proofs.Common.{refl, ◌∙◌}
-use Rattle.link_timers.specs.declared.timers.TimerId.TheVariants as timer
-use Rattle.link_timers.specs.Timers.{Places}
-use Rattle.lapb.specs.declared.note.Timing.{Timing}
+use Rattle.std.proofs.Common.{refl, ◌∙◌, arith}
 use Rattle.lapb.specs.Machine.{can_offer, timing, settle}
-use Rattle.line_end.specs.End.{t1_ticks, timed, without_frames}
+use Rattle.line_end.specs.End.{without_frames}
 use Rattle.packet_channel.specs.Packets.{CallParts}
 use Rattle.packet_channel.specs.Channel.{Request}
 use Rattle.packet_layer.specs.Layer.{next_packet}
 use Rattle.packet_end.specs.PacketEnd.{PacketEnd, begun, asked, called, relinked, with_next, offered, all_offered, settled}
-use Rattle.node_laws.proofs.LineRecords.DueCounts.{NoMore, no-more-same, stopped-more, started-more, brought-more}
-use Rattle.node_laws.proofs.LineRecords.DueEnds.{NoMoreDue, same-due, then-due, begun-due, either-due, received-due, timer-due, relinked-due, asked-due}
+use Rattle.node_laws.proofs.LineRecords.DueCounts.{brought-more}
+use Rattle.node_laws.proofs.LineRecords.DueEnds.{NoMoreDue, same-due, then-due, begun-due, either-due, received-due, timer-due, relinked-due, asked-due, times}
 use Rattle.node_laws.proofs.LineRecords.WholeEvents.{all_offered_notes}
 use Rattle.node_laws.proofs.QuietEnds.{received_unread, timer_unread, asked_unread, called_unread}
 use Rattle.switch_lines.specs.Switch.{quieted, without_notes}
@@ -25,7 +22,7 @@ pub record IsRead (e : PacketEnd) : Type 0 where
   pub notes : e.notes ≡ []
   pub unread : e.layer.notes ≡ []
 
--- over a change it is read where it was, the timers that run are apart, as before, and no more are due
+-- over a change it is read if it was, and no more timers are due
 pub record EndStays (old new : PacketEnd) : Type 0 where
   pub read : IsRead old → IsRead new
   pub due : NoMoreDue old new
@@ -50,7 +47,7 @@ asked-stays e channel r = record {
 pub called-stays : (e : PacketEnd) (parts : CallParts) → EndStays e (called e parts)
 called-stays e parts = record {
   read = λ h. record { notes = h.notes; unread = called_unread e parts h.unread };
-  due = record { link = no-more-same e.line.timers; layer = no-more-same e.timers };
+  due = record { link = omega arith; layer = omega arith };
 }
 
 -- ---- what happens at an end, whose notes are taken
@@ -94,20 +91,15 @@ offered-stays e = record {
   due = offered-due 7 e;
 }
 
-timed-more : (t : Timing) (timers : Places) → NoMore (λ id. id ≡ timer.T1) timers (timed t timers)
-timed-more Timing.Keep timers = no-more-same timers
-timed-more Timing.Start timers = started-more (λ id. id ≡ timer.T1) timers timer.T1 t1_ticks refl refl
-timed-more Timing.Stop timers = stopped-more timers timer.T1
-
 pub settled-stays : (e : PacketEnd) → EndStays e (settled e)
 settled-stays e = record {
   read = λ h. record { notes = h.notes; unread = h.unread };
-  due = record { link = timed-more (timing e.line.link (settle e.line.link)) e.line.timers; layer = brought-more e.layer e.timers };
+  due = record { link = times (timing e.line.link (settle e.line.link)) e.line.t1; layer = brought-more e.layer e.timers };
 }
 
 -- its frames go out
 pub out-stays : (e : PacketEnd) → EndStays e (record e { line = without_frames e.line })
 out-stays e = record {
   read = λ h. record { notes = h.notes; unread = h.unread };
-  due = record { link = no-more-same e.line.timers; layer = no-more-same e.timers };
+  due = record { link = omega arith; layer = omega arith };
 }

@@ -4,11 +4,9 @@ use Rattle.std.proofs.Common.{refl, sym, ap, subst, ◌∙◌, arith}
 use Rattle.std.proofs.lemmas.Option.{none-some}
 use Rattle.link_timers.specs.declared.timers.TimerId.{TimerId}
 use Rattle.packet_end.specs.PacketEnd.{begun, due, runs_at}
-use Rattle.node_laws.specs.LineRecords.Due.{TimersApart}
 use Rattle.node_laws.proofs.LineRecords.DueEnds.{IsFewer, due-expires}
 use Rattle.line_nodes.specs.Node.{Host}
 use Rattle.node_laws.specs.Quiet.{IsQuiet}
-use Rattle.node_laws.proofs.QuietTurns.{timers-apart}
 use Rattle.switch_lines.specs.Lines.{SwitchLine}
 use Rattle.switch_lines.specs.Switch.{on_expiry, on_timer, timer_runs, with_end, without_notes, quieted, due_on}
 use Rattle.switch_laws.specs.Steps.{does}
@@ -29,8 +27,7 @@ record HappenedFewer (n : ℕ) (id : TimerId) (ls : List SwitchLine) (l : Switch
 happened-fewer : (n : ℕ) (id : TimerId) (ls : List SwitchLine) (l : SwitchLine) → slice_get ls n ≡ Some l → IsQuiet (Host l.end) → due l.end ≡ Some id
     → HappenedFewer n id ls l
 happened-fewer n id ls l there q is =
-    let a : TimersApart l.end = timers-apart (Host l.end) q.timers in
-    let f : IsFewer (quieted l.end) id = due-expires (quieted l.end) id (record { link = a.link; layer = a.layer }) is in
+    let f : IsFewer (quieted l.end) id = due-expires (quieted l.end) id is in
     record {
       runs = f.runs;
       fewer = fewer-first n (with_end without_notes) (with_end (λ e. does (RunsOut id) (quieted e))) (with_end begun) ls l there f.fewer (λ x. begun-stays x.end);

@@ -6,12 +6,9 @@ use Rattle.link_timers.specs.declared.timers.TimerId.{TimerId}
 use Rattle.lapb.specs.Machine.{Octets}
 use Rattle.packet_end.specs.PacketEnd.{PacketEnd, elapsed, without_first_frame}
 use Rattle.address_routes.specs.Routes.{RouteMap}
-use Rattle.node_laws.specs.LineRecords.Due.{TimersApart}
-use Rattle.node_laws.proofs.LineRecords.DueEnds.{stays-apart, made-apart, restarted-apart}
 use Rattle.line_nodes.specs.Node.{Host}
-use Rattle.node_laws.specs.Due.{AreApart}
 use Rattle.node_laws.specs.Quiet.{IsQuiet}
-use Rattle.node_laws.proofs.QuietTurns.{timers-apart, quiet-elapses}
+use Rattle.node_laws.proofs.QuietTurns.{quiet-elapses}
 use Rattle.switch_lines.specs.Lines.{SwitchLine, changed}
 use Rattle.switch_lines.specs.Making.{made_line}
 use Rattle.switch_lines.specs.Switch.{Switch, with_end, raised, to_relink, acted, all_begun, finished, timer_runs, on_expiry, without_joins}
@@ -26,21 +23,16 @@ use Rattle.switched_call_laws.proofs.QuietSwitches.Events.{event-stays}
 
 -- ---- an end whose frames went out
 
-is-apart : (e : PacketEnd) → TimersApart e → AreApart (Host e)
-unfolding AreApart
-is-apart e a = a
-
-out-quiet : (l : SwitchLine) → IsRead l.end → l.end.layer.relink ≡ false → TimersApart l.end → IsQuiet (Host (all_frames_out l).end)
-out-quiet l h asks a = record {
+out-quiet : (l : SwitchLine) → IsRead l.end → l.end.layer.relink ≡ false → IsQuiet (Host (all_frames_out l).end)
+out-quiet l h asks = record {
   node = record { read = h.notes; noted = refl; sent = refl };
   unread = h.unread;
   settled = asks;
-  timers = is-apart (all_frames_out l).end (record { link = a.link; layer = a.layer });
 }
 
 stays-quiet : (l m : SwitchLine) → IsQuiet (Host l.end) → EndStays l.end m.end → m.end.layer.relink ≡ false → IsQuiet (Host (all_frames_out m).end)
 stays-quiet l m q h asks =
-    out-quiet m (h.read (record { notes = q.node.read; unread = q.unread })) asks (stays-apart l.end m.end h.due (timers-apart (Host l.end) q.timers))
+    out-quiet m (h.read (record { notes = q.node.read; unread = q.unread })) asks
 
 -- ---- lines
 
@@ -80,7 +72,7 @@ all-keep f (l ∷ ls) h q zero x e = subst (λ (y : SwitchLine). IsQuiet (Host y
 all-keep f (l ∷ ls) h q (suc n) x e = all-keep f ls h (λ k y g. q (suc k) y g) n x e
 
 out-keep : KeepsQuiet all_frames_out
-out-keep l h = out-quiet l (record { notes = h.node.read; unread = h.unread }) h.settled (timers-apart (Host l.end) h.timers)
+out-keep l h = out-quiet l (record { notes = h.node.read; unread = h.unread }) h.settled
 
 either-quiet : (n : ℕ) (id : TimerId) (s : Switch) → IsQuietSwitch s → (ran : Bool) → IsQuietSwitch (drained (if ran then on_expiry n id s else s))
 either-quiet n id s q true = event-quiet s.routes n (RunsOut id) s.lines q
@@ -97,10 +89,10 @@ all-quiet f (y ∷ ys) h zero x e = subst (λ (l : SwitchLine). IsQuiet (Host l.
 all-quiet f (y ∷ ys) h (suc n) x e = all-quiet f ys h n x e
 
 pub restart-quiet : RestartQuietLaw
-restart-quiet s = all-quiet without_joins s.lines (λ l. out-quiet (without_joins l) (record { notes = refl; unread = refl }) refl (restarted-apart l.end))
+restart-quiet s = all-quiet without_joins s.lines (λ l. out-quiet (without_joins l) (record { notes = refl; unread = refl }) refl)
 
 pub made-quiet : MakingQuietLaw
-made-quiet routes lines = all-quiet made_line lines (λ c. out-quiet (made_line c) (record { notes = refl; unread = refl }) refl (made-apart c.role c.params))
+made-quiet routes lines = all-quiet made_line lines (λ c. out-quiet (made_line c) (record { notes = refl; unread = refl }) refl)
 
 -- ---- time, and a frame that is taken
 
@@ -116,12 +108,10 @@ time-quiet ticks s q = all-keep (with_end (λ e. elapsed e ticks)) s.lines (λ l
 
 first-out : (e : PacketEnd) → IsQuiet (Host e) → IsQuiet (Host (without_first_frame e))
 first-out e q =
-    let a : TimersApart e = timers-apart (Host e) q.timers in
     record {
       node = record { read = q.node.read; noted = refl; sent = ap (λ (frames : List Octets). drop 1 frames) q.node.sent };
       unread = q.unread;
       settled = q.settled;
-      timers = is-apart (without_first_frame e) (record { link = a.link; layer = a.layer });
     }
 
 pub out-keeps : OutQuietLaw

@@ -2,7 +2,7 @@
 ghost use Rattle.std.specs.Prelude.{◌≡◌, ◌≤◌, ◌∷◌, [], length};
 ghost use Rattle.std.specs.Bool.{OnTrue, OnFalse};
 ghost use Rattle.packet_end.specs.PacketEnd as end;
-ghost use Rattle.packet_end.specs.Timing.{TimersAgree};
+ghost use Rattle.packet_layer.specs.LayerTimers.{TimersAgree};
 ghost use Rattle.x25_pad.specs.Pad as spec;
 ghost use Rattle.x25_pad.specs.Sending.{frames_on_frame, frames_on_relink};
 

@@ -4,7 +4,7 @@ ghost use Rattle.std.specs.Bool.{OnTrue};
 ghost use Rattle.arrayvec.specs.ArrayVec.{array_vec_len};
 ghost use Rattle.packet_end.specs.PacketEnd as end;
 ghost use Rattle.packet_end.specs.Sending.{expiry_frames, ending_frames};
-ghost use Rattle.packet_end.specs.Timing.{TimersAgree};
+ghost use Rattle.packet_layer.specs.LayerTimers.{TimersAgree};
 ghost use Rattle.x25_pad.specs.Ports as port;
 ghost use Rattle.x25_pad.specs.Pad as spec;
 ghost use Rattle.x25_pad.specs.Sending.{frames_at_terminal, frames_on_timer};

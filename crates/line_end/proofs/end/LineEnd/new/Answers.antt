@@ -2,7 +2,6 @@ use Rattle.std.proofs.Common.{◌≡◌, [], ap, ◌∙◌, sym, subst, length, 
 use Rattle.flow_window.specs.Pool.{Buffer, Balances}
 use Rattle.flow_window.proofs.Weights.{balances_same}
 use Rattle.line_end.specs.End.{End, untouched, relinked, started_unless, made}
-use Rattle.line_end.specs.T1.{t1_alone}
 use Rattle.line_end.proofs.Calls.{made_queue, none_held}
 use Rattle.line_end.proofs.end.LineEnd.new.Goals as goal
 use Rattle.line_end.proofs.end.LineEnd.new.Goals.{then-not-params, else-not-params}
@@ -11,8 +10,8 @@ pub returns-clause-end : goal.returns-clause-end
 returns-clause-end c =
     let p = c.args.params in
     let is = c.in_ok-new.ensures.1 in
-    let start : record { link = c.in_ok-new.field-0.link; timers = t1_alone c.new-2.result; frames = c.new-3.result.frames } ≡ untouched c.args.role p =
-    λ i. record { link = (is i).link; timers = t1_alone (c.new-2.ensures i); frames = (c.new-3.ensures i).frames } in (
+    let start : record { link = c.in_ok-new.field-0.link; t1 = c.new-2.result; frames = c.new-3.result.frames } ≡ untouched c.args.role p =
+    λ i. record { link = (is i).link; t1 = c.new-2.ensures i; frames = (c.new-3.ensures i).frames } in (
       c.in_ok-new.ensures.0,
       elim c.if-not-params.branch [
         | then-not-params w ↦
@@ -37,8 +36,8 @@ pub returns-clause-pool : goal.returns-clause-pool
 returns-clause-pool c =
     let p = c.args.params in
     let is = c.in_ok-new.ensures.1 in
-    let start : record { link = c.in_ok-new.field-0.link; timers = t1_alone c.new-2.result; frames = c.new-3.result.frames } ≡ untouched c.args.role p =
-    λ i. record { link = (is i).link; timers = t1_alone (c.new-2.ensures i); frames = (c.new-3.ensures i).frames } in
+    let start : record { link = c.in_ok-new.field-0.link; t1 = c.new-2.result; frames = c.new-3.result.frames } ≡ untouched c.args.role p =
+    λ i. record { link = (is i).link; t1 = c.new-2.ensures i; frames = (c.new-3.ensures i).frames } in
     elim c.if-not-params.branch [
       | then-not-params w ↦
           let down : p.standing ≡ false = w.if-not-params.true in

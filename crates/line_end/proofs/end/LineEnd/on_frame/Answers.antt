@@ -9,7 +9,6 @@ use Rattle.lapb.specs.Out.{Out}
 use Rattle.line_end.specs.Held.{LineEnd}
 use Rattle.line_end.specs.End.{received}
 use Rattle.line_end.specs.EndView.{end_of}
-use Rattle.line_end.specs.T1.{t1_alone}
 use Rattle.line_end.proofs.Steps.{Keeps, sends_on_octets}
 use Rattle.line_end.proofs.Calls.{did-is, t1-is, still_end, accepted_long, packet-is, none_of, sends_up_to}
 use Rattle.line_end.proofs.end.LineEnd.on_frame.Goals as goal
@@ -21,19 +20,19 @@ invariant_of-self c =
     still_end c.self.inside c.on_frame.new.self c.set_timer.new.t1 c.take_timer.new.self
     c.self.invariant
     (rw c.on_frame.ensures.link (sends_on_octets c.self.inside.link.link c.args.octets.now).keeps) c.on_frame.ensures.tight
-    (rw c.on_frame.ensures.link (t1-is c.self.inside.link.link step c.self.inside.out c.on_frame.new.out _ _ c.self.invariant.told c.on_frame.ensures.out (c.set_timer.ensures.t1 ∙ ap (λ (change : Timing). runs_then change (is_some c.self.inside.t1)) c.take_timer.ensures.timer) c.self.invariant.t1)) (ap (λ (o : Out). o.timer) c.take_timer.ensures.out)
+    (rw c.on_frame.ensures.link (t1-is c.self.inside.link.link step c.self.inside.out c.on_frame.new.out _ _ c.self.invariant.told c.on_frame.ensures.out (c.set_timer.ensures.runs ∙ ap (λ (change : Timing). runs_then change (is_some c.self.inside.t1)) c.take_timer.ensures.timer) c.self.invariant.t1)) (ap (λ (o : Out). o.timer) c.take_timer.ensures.out)
 
 pub returns-clause-end : goal.returns-clause-end
 returns-clause-end c =
     let step = on_octets c.self.inside.link.link c.args.octets.now in
     (λ i. record {
       link = c.on_frame.ensures.link i;
-      timers = t1_alone c.set_timer.new.t1;
+      t1 = c.set_timer.new.t1;
       frames = (ap (λ (o : Out). o.frames) c.take_timer.ensures.out) i;
     })
-    ∙ did-is (end_of c.self.inside) step c.self.inside.out c.on_frame.new.out (t1_alone c.set_timer.new.t1)
+    ∙ did-is (end_of c.self.inside) step c.self.inside.out c.on_frame.new.out c.set_timer.new.t1
     c.self.invariant.told refl c.on_frame.ensures.out
-    (c.set_timer.ensures.timers ∙ ap (λ (change : Timing). timed change (t1_alone c.self.inside.t1)) c.take_timer.ensures.timer)
+    (c.set_timer.ensures.left ∙ ap (λ (change : Timing). timed change c.self.inside.t1) c.take_timer.ensures.timer)
     ∙ ap (λ (e : LineEnd). received e.end c.args.octets.now) c.self.view_is
 
 pub returns-clause-packet : goal.returns-clause-packet

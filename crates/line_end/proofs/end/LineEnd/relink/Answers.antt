@@ -14,4 +14,4 @@ invariant_of-self c =
     still_end c.self.inside c.relink.new.self c.set_timer.new.t1 c.take_timer.new.self
     c.self.invariant
     (rw c.relink.ensures.link (sends_relink c.self.inside.link.link).keeps) c.relink.ensures.tight
-    (rw c.relink.ensures.link (t1-is c.self.inside.link.link step c.self.inside.out c.relink.new.out _ _ c.self.invariant.told c.relink.ensures.out (c.set_timer.ensures.t1 ∙ ap (λ (change : Timing). runs_then change (is_some c.self.inside.t1)) c.take_timer.ensures.timer) c.self.invariant.t1)) (ap (λ (o : Out). o.timer) c.take_timer.ensures.out)
+    (rw c.relink.ensures.link (t1-is c.self.inside.link.link step c.self.inside.out c.relink.new.out _ _ c.self.invariant.told c.relink.ensures.out (c.set_timer.ensures.runs ∙ ap (λ (change : Timing). runs_then change (is_some c.self.inside.t1)) c.take_timer.ensures.timer) c.self.invariant.t1)) (ap (λ (o : Out). o.timer) c.take_timer.ensures.out)

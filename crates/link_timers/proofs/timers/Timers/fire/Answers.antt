@@ -1,4 +1,5 @@
 use Rattle.std.specs.Prelude.{None}
+use Rattle.link_timers.specs.PlaceSet.{has}
 use Rattle.link_timers.proofs.RunningLaws.{one_stopped, stopped_already, others_stay}
 use Rattle.link_timers.proofs.timers.Timers.fire.Goals as goal
 
@@ -7,7 +8,7 @@ returns-in_default-clause-places c = stopped_already c.args.self.now c.args.id c
 
 pub invariant_of-self : goal.invariant_of-self
 invariant_of-self c =
-    one_stopped c.self.inside.left c.self.inside.running c.remove.new.self c.in-Some.place c.self.invariant
+    one_stopped c.self.inside.left (λ n. has c.self.inside.running n) (λ n. has c.remove.new.self n) c.in-Some.place c.self.invariant
     c.in-Some.ensures.1 c.remove.ensures
 
 pub returns-clause-others : goal.returns-clause-others

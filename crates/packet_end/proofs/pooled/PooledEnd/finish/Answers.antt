@@ -70,7 +70,7 @@ invariant_of-self c =
       line = c.self-2.invariant.line;
       layer = c.self-2.invariant.layer;
       info = c.self-2.invariant.info;
-      agree = λ id is_id out. ends.timers id is_id;
+      agree = λ timer is out. ends.timers timer is;
       finished = inr ends;
     }
 

@@ -25,7 +25,7 @@ returns-clause-end c =
       end = record {
         line = (line i).end;
         layer = (layer i).layer;
-        timers = c.new-4.ensures.places i;
+        timers = c.new-4.ensures i;
         notes = c.in_ok-notes.ensures i;
       };
       held = (line i).held ++ (layer i).held;

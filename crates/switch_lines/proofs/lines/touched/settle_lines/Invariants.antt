@@ -3,7 +3,7 @@
 -- packet layers want them.
 use Rattle.std.proofs.Common.{◌≡◌, ℕ, true, false}
 use Rattle.std.specs.Prelude.{slice_get, Some}
-use Rattle.packet_end.specs.Timing.{TimersAgree}
+use Rattle.packet_layer.specs.LayerTimers.{TimersAgree}
 use Rattle.packet_end.specs.PacketEnd.{settled}
 use Rattle.number_set.specs.NumberSet.{has}
 use Rattle.switch_lines.specs.Lines.{SwitchLine}

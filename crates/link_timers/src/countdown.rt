@@ -1,12 +1,13 @@
 //! A count of ticks that runs down.
 ghost use Rattle.std.specs.Prelude.{◌≡◌, Some, None, is_some};
+ghost use Rattle.link_timers.specs.ChannelTimers.{brought_as};
 ghost use Rattle.link_timers.specs.Timers.{lowered, is_due};
 
 use std::marker::Model;
 
-/// The ticks that a timer has left, if it runs.
+/// The ticks that one timer has left, if it runs. Twenty ticks are a second.
 #[derive(Drop)]
-pub(crate) struct Countdown {
+pub struct Countdown {
     left: Option<u16>,
 }
 
@@ -22,42 +23,52 @@ impl Model for Countdown {
 
 impl Countdown {
     /// It does not run.
-    pub(crate) fn new() -> Self
+    pub fn new() -> Self
         ensures { result ≡ None }
     {
         Countdown { left: None }
     }
 
     /// Starts it, or starts it anew, with so many ticks left.
-    pub(crate) fn start(&mut self, ticks: u16)
+    pub fn start(&mut self, ticks: u16)
         ensures { self.new ≡ Some ticks }
     {
         self.left = Some(ticks);
     }
 
     /// Stops it, if it runs.
-    pub(crate) fn stop(&mut self)
+    pub fn stop(&mut self)
         ensures { self.new ≡ None }
     {
         self.left = None;
     }
 
+    /// Lets it run or not: if it is to run and does not it starts with so many ticks left, if it is not to run it stops,
+    /// and if it runs as it is to it goes on.
+    pub fn bring(&mut self, runs: bool, ticks: u16)
+        ensures { self.new ≡ brought_as ticks runs self.old }
+    {
+        if runs != self.is_running() {
+            self.left = if runs { Some(ticks) } else { None };
+        }
+    }
+
     /// Whether it runs, also with no tick left.
-    pub(crate) fn is_running(&self) -> bool
+    pub fn is_running(&self) -> bool
         ensures { result ≡ is_some self.now }
     {
         self.left.is_some()
     }
 
     /// Whether it runs with no tick left.
-    pub(crate) fn is_due(&self) -> bool
+    pub fn is_due(&self) -> bool
         ensures { result ≡ is_due self.now }
     {
         self.left == Some(0)
     }
 
     /// Lets ticks pass: if it runs it has so many less, not below 0.
-    pub(crate) fn elapse(&mut self, ticks: u16)
+    pub fn elapse(&mut self, ticks: u16)
         ensures { self.new ≡ lowered ticks self.old }
     {
         if let Some(left) = self.left {
