@@ -158,8 +158,8 @@ impl<L: Line> Net<L> {
         self.nodes.finds_none(line, direction)
     }
 
-    /// The first line from this number on of which it is not certain that deliveries in both directions find no frame. If
-    /// there is none, no line has the number that is given.
+    /// A number from this one on: it is certain that deliveries on the lines before it find no frame, either way. It is
+    /// that of the first line of which this is not certain, if there is one. That it is the first is not promised.
     pub fn next_with_frames(&self, from: usize) -> usize
         ensures onward { from ≤ result }
         ensures none { FindNoFrames L.service from result self.now }
