@@ -22,29 +22,29 @@ impl Model for Countdown {
 }
 
 impl Countdown {
-    /// It does not run.
+    /// A countdown that does not run.
     pub fn new() -> Self
         ensures { result ≡ None }
     {
         Countdown { left: None }
     }
 
-    /// Starts it, or starts it anew, with so many ticks left.
+    /// Starts the countdown, or restarts it, with so many ticks left.
     pub fn start(&mut self, ticks: u16)
         ensures { self.new ≡ Some ticks }
     {
         self.left = Some(ticks);
     }
 
-    /// Stops it, if it runs.
+    /// Stops the countdown, if it runs.
     pub fn stop(&mut self)
         ensures { self.new ≡ None }
     {
         self.left = None;
     }
 
-    /// Lets it run or not: if it is to run and does not it starts with so many ticks left, if it is not to run it stops,
-    /// and if it runs as it is to it goes on.
+    /// Lets the countdown run or not: one that is to run and does not starts with so many ticks left, one that is not to
+    /// run stops, and one that runs as it is to goes on.
     pub fn bring(&mut self, runs: bool, ticks: u16)
         ensures { self.new ≡ brought_as ticks runs self.old }
     {
@@ -53,21 +53,21 @@ impl Countdown {
         }
     }
 
-    /// Whether it runs, also with no tick left.
+    /// Whether the countdown runs, also with no tick left.
     pub fn is_running(&self) -> bool
         ensures { result ≡ is_some self.now }
     {
         self.left.is_some()
     }
 
-    /// Whether it runs with no tick left.
+    /// Whether the countdown runs with no tick left.
     pub fn is_due(&self) -> bool
         ensures { result ≡ is_due self.now }
     {
         self.left == Some(0)
     }
 
-    /// Lets ticks pass: if it runs it has so many less, not below 0.
+    /// Lets ticks pass: a countdown that runs has so many less, not below 0.
     pub fn elapse(&mut self, ticks: u16)
         ensures { self.new ≡ lowered ticks self.old }
     {

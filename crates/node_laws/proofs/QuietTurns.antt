@@ -37,7 +37,7 @@ use Rattle.node_laws.proofs.PadEnds.{key_at, idle_at, breaks_at, print_at, port_
 
 -- ---- turns of any node
 
--- nothing is unread, and no timer runs where it must not
+-- nothing is unread
 told_quiet : (role : Role) (e : PacketEnd) (b : Book) → IsUnread e → AsksNone e → LeavesQuiet (told role (Host e) b)
 told_quiet role e b h settled =
     record { node = record { read = refl; noted = refl; sent = refl }; unread = h; settled = settled }

@@ -13,7 +13,7 @@ use Rattle.switched_call_laws.specs.SwitchRecords.Kept.{all_frames_out}
 use Rattle.switched_call_laws.specs.SwitchRecords.Tied.{gone_out}
 
 -- at the end of each line nothing is left of the last event, as at a host with that end: no note, also none in its
--- layer, no frame, and no relink that is asked for; and no timer runs where it must not
+-- layer, no frame, and no relink that is asked for
 abbrev pub AreQuiet : List SwitchLine → Type 0
 AreQuiet ls = (n : ℕ) (l : SwitchLine) → slice_get ls n ≡ Some l → IsQuiet (Host l.end)
 
