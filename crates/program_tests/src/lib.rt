@@ -1,18 +1,12 @@
-//! Worked examples of the program, and of what it stands on: its words, networks, scripts, configurations, sockets and
-//! captures.
+//! Worked examples of the program and of what it stands on, as far as no session shows them: what networks keep of
+//! calls, readers and writers that refuse a call, sockets, and lines that are none of a trace.
 #![tactic(auto)]
 
 #[cfg(test)]
 mod captures;
 #[cfg(test)]
-mod configurations;
-#[cfg(test)]
-mod networks;
-#[cfg(test)]
-mod played;
-#[cfg(test)]
-mod scripts;
+mod records;
 #[cfg(test)]
 mod sockets;
 #[cfg(test)]
-mod words;
+mod streams;

@@ -1,8 +1,10 @@
-//! What no clause says of a line over sockets: which datagrams are frames, and that a pair carries them.
+//! What no clause says of a line over sockets: which datagrams are frames, that a pair carries them, and that a call
+//! that fails loses its frame and no other.
 use frame_codec::FrameBuf;
-use frame_lines::{Datagrams, Direction, Line, UdpLine};
+use frame_lines::{Datagrams, Direction, Line, SocketFault, UdpLine};
 use std::alloc::Global;
 use std::io;
+use std::net::{Ipv4Addr, Net, UdpSocket};
 use std::test::Fail;
 
 /// A partner that can send nothing, and whose one datagram has so many octets; where it has none to give it fails.
@@ -108,5 +110,246 @@ fn carries_frames_in_order_and_loses_what_is_in_flight(rt: HostRuntime) -> Resul
     let mut line = UdpLine::pair(&rt, rt.alloc())?;
     assert!(rt; carries(&mut line));
     assert!(rt; loses(&mut line));
+    Ok(())
+}
+
+/// How a partner fails at a call.
+#[derive(Clone, Copy, Debug)]
+enum Failure {
+    SendFails,
+    SendIsShort,
+    ReceiveFails,
+    ReceiveIsEmpty,
+}
+
+/// A socket that carries, but for one call.
+#[derive(Drop)]
+struct Failing {
+    socket: UdpSocket,
+    failure: Failure,
+    /// The number of the call that fails, of those that are left; 0 for none.
+    failing: u32,
+}
+
+impl Failing {
+    /// Whether the next call of the failing kind is the one that fails.
+    fn fails_now(&mut self) -> bool {
+        let fails = self.failing == 1;
+        self.failing = self.failing.saturating_sub(1);
+        fails
+    }
+}
+
+impl Datagrams for Failing {
+    fn send(&mut self, octets: &[u8]) -> io::Result<usize> {
+        let failure = self.failure;
+        match failure {
+            Failure::SendFails if self.fails_now() => {
+                Err(io::Error::from(io::ErrorKind::ConnectionRefused))
+            }
+            Failure::SendIsShort if self.fails_now() => {
+                self.socket.send(&octets[..octets.len() / 2])
+            }
+            _ => self.socket.send(octets),
+        }
+    }
+
+    fn recv(&mut self, octets: &mut [u8]) -> io::Result<usize> {
+        let received = self.socket.recv(octets);
+        let failure = self.failure;
+        match failure {
+            Failure::ReceiveFails if self.fails_now() => {
+                Err(io::Error::from(io::ErrorKind::ConnectionRefused))
+            }
+            Failure::ReceiveIsEmpty if self.fails_now() => Ok(0),
+            _ => received,
+        }
+    }
+}
+
+/// A line over two sockets, of which the one at the DTE's end fails at its call of one number, and that at the DCE's at
+/// that of another.
+fn failing_line<N: Net>(
+    net: &N,
+    alloc: Global,
+    failure: Failure,
+    [at_dte, at_dce]: [u32; 2],
+) -> Result<UdpLine<Failing>, SocketFault> {
+    let dte = UdpSocket::bind(net, (Ipv4Addr::LOCALHOST, 0))?;
+    let dce = UdpSocket::bind(net, (Ipv4Addr::LOCALHOST, 0))?;
+    dte.connect(dce.local_addr()?)?;
+    dce.connect(dte.local_addr()?)?;
+    dte.set_nonblocking(true)?;
+    dce.set_nonblocking(true)?;
+    UdpLine::over(
+        alloc,
+        Failing {
+            socket: dte,
+            failure,
+            failing: at_dte,
+        },
+        Failing {
+            socket: dce,
+            failure,
+            failing: at_dce,
+        },
+    )
+}
+
+/// How a call fails, its number at the DTE's end and at the DCE's, the direction of the frames, and which of two frames
+/// then come.
+type Failed = (Failure, [u32; 2], Direction, [bool; 2]);
+
+/// The first receive finds no frame, and the others one each.
+const FAILED: &[Failed] = &[
+    (
+        Failure::SendFails,
+        [1, 0],
+        Direction::FromDte,
+        [false, true],
+    ),
+    (
+        Failure::SendFails,
+        [2, 0],
+        Direction::FromDte,
+        [true, false],
+    ),
+    (
+        Failure::SendFails,
+        [0, 1],
+        Direction::FromDce,
+        [false, true],
+    ),
+    (
+        Failure::SendFails,
+        [0, 2],
+        Direction::FromDce,
+        [true, false],
+    ),
+    (
+        Failure::SendIsShort,
+        [1, 0],
+        Direction::FromDte,
+        [false, true],
+    ),
+    (
+        Failure::SendIsShort,
+        [2, 0],
+        Direction::FromDte,
+        [true, false],
+    ),
+    (
+        Failure::SendIsShort,
+        [0, 1],
+        Direction::FromDce,
+        [false, true],
+    ),
+    (
+        Failure::SendIsShort,
+        [0, 2],
+        Direction::FromDce,
+        [true, false],
+    ),
+    (
+        Failure::ReceiveFails,
+        [0, 1],
+        Direction::FromDte,
+        [true, true],
+    ),
+    (
+        Failure::ReceiveFails,
+        [0, 2],
+        Direction::FromDte,
+        [false, true],
+    ),
+    (
+        Failure::ReceiveFails,
+        [0, 3],
+        Direction::FromDte,
+        [true, false],
+    ),
+    (
+        Failure::ReceiveFails,
+        [1, 0],
+        Direction::FromDce,
+        [true, true],
+    ),
+    (
+        Failure::ReceiveFails,
+        [2, 0],
+        Direction::FromDce,
+        [false, true],
+    ),
+    (
+        Failure::ReceiveFails,
+        [3, 0],
+        Direction::FromDce,
+        [true, false],
+    ),
+    (
+        Failure::ReceiveIsEmpty,
+        [0, 1],
+        Direction::FromDte,
+        [true, true],
+    ),
+    (
+        Failure::ReceiveIsEmpty,
+        [0, 2],
+        Direction::FromDte,
+        [false, true],
+    ),
+    (
+        Failure::ReceiveIsEmpty,
+        [0, 3],
+        Direction::FromDte,
+        [true, false],
+    ),
+    (
+        Failure::ReceiveIsEmpty,
+        [1, 0],
+        Direction::FromDce,
+        [true, true],
+    ),
+    (
+        Failure::ReceiveIsEmpty,
+        [2, 0],
+        Direction::FromDce,
+        [false, true],
+    ),
+    (
+        Failure::ReceiveIsEmpty,
+        [3, 0],
+        Direction::FromDce,
+        [true, false],
+    ),
+];
+
+/// Whether a frame of these octets comes once it was put.
+fn crosses<L: Line>(line: &mut L, direction: Direction, octets: &[u8; 2]) -> bool {
+    line.put(direction, &frame_of(octets));
+    comes(line, direction, octets)
+}
+
+/// Whether nothing comes first, and of two frames, put one after the other, these come.
+fn cross_so<L: Line>(line: &mut L, direction: Direction, [first, second]: [bool; 2]) -> bool {
+    !line.take(direction, &mut FrameBuf::new())
+        && crosses(line, direction, b"AB") == first
+        && crosses(line, direction, b"CD") == second
+}
+
+/// Whether a call that fails loses what it has to.
+fn fails_so<N: Net>(net: &N, alloc: Global, failed: &Failed) -> bool {
+    let (failure, numbers, direction, frames) = *failed;
+    match failing_line(net, alloc, failure, numbers) {
+        Ok(mut line) => cross_so(&mut line, direction, frames),
+        Err(_) => false,
+    }
+}
+
+#[test]
+fn a_call_that_fails_loses_its_frame(rt: HostRuntime) -> Result<(), Fail> {
+    for failed in FAILED {
+        assert!(rt; fails_so(&rt, rt.alloc(), failed), "at {failed:?}");
+    }
     Ok(())
 }
