@@ -1,7 +1,7 @@
 //! Reading of the command words.
 ghost use Rattle.std.specs.Prelude.{◌≡◌, [], map, false, Ok, Err, None, Option, string_bytes, IfOk, MatchOption};
-ghost use Rattle.clap.specs.Words.{app_of, rule_of, subcommand_rows_of};
-ghost use Rattle.command_words.specs.Invocations.{Asks, Found, file_option, program};
+ghost use Rattle.clap.specs.Words.{app_of, rule_of, subcommand_rows_of, with_subcommand};
+ghost use Rattle.command_words.specs.Invocations.{Asks, Found, file_option, played, program};
 ghost use Rattle.command_words.specs.declared.invocation.Invocation.{Invocation};
 
 use crate::invocation::{Invocation, Mode, WordsFault};
@@ -36,16 +36,23 @@ pub fn read_words<'a>(
 fn program<'a>(alloc: Global) -> Result<Command<'a>, AllocError>
     ensures { IfOk result (λ command. app_of command ≡ program) }
 {
-    let sim = Command::new(alloc, "sim")
+    let nameless = Command::new(alloc, "x25net").no_binary_name(true);
+    add_mode(alloc, add_mode(alloc, nameless, "sim")?, "run")
+}
+
+/// The command with one mode more, which has its two files.
+fn add_mode<'a>(
+    alloc: Global,
+    command: Command<'a>,
+    name: &'a str,
+) -> Result<Command<'a>, AllocError>
+    ensures { IfOk result
+        (λ with_mode. app_of with_mode ≡ with_subcommand (app_of command.entry) (played name.entry.now).top) }
+{
+    let mode = Command::new(alloc, name)
         .arg(file_option(alloc, "net"))?
         .arg(file_option(alloc, "script"))?;
-    let run = Command::new(alloc, "run")
-        .arg(file_option(alloc, "net"))?
-        .arg(file_option(alloc, "script"))?;
-    Command::new(alloc, "x25net")
-        .no_binary_name(true)
-        .subcommand(sim)?
-        .subcommand(run)
+    command.subcommand(mode)
 }
 
 /// An option that has to be given, with the name of a file.

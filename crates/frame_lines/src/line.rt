@@ -6,7 +6,7 @@ ghost use Rattle.frame_lines.specs.Lines.{Flights, LineService, no_flights, flyi
 use frame_codec::FrameBuf;
 
 /// The direction of a frame on a line, by the role of the end that sent it.
-#[derive(Clone, Copy, Debug, PartialEq, Eq)]
+#[derive(Clone, Copy, PartialEq, Eq)]
 pub enum Direction {
     FromDte,
     FromDce,

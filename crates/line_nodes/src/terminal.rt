@@ -1,7 +1,7 @@
 //! What happens at a terminal.
 
 /// What happens at a terminal of a PAD.
-#[derive(Clone, Copy, Debug, PartialEq, Eq)]
+#[derive(Clone, Copy, PartialEq, Eq)]
 pub enum TerminalEvent {
     /// A key of this octet.
     Key(u8),

@@ -40,7 +40,7 @@ use std::marker::Model;
 
 /// A timer of an end of a line: T1 of the link (X.25 2.4.8.1), those of the packet layer by channel, 1 to 32 (X.25
 /// annex D: T10 to T13 of a DCE, T20 to T23 of a DTE), and the idle timer of a terminal, 0 to 15 (X.3 3.4).
-#[derive(Clone, Copy, Debug, PartialEq, Eq)]
+#[derive(Clone, Copy, PartialEq, Eq)]
 pub enum TimerId {
     T1,
     T10,

@@ -10,7 +10,7 @@ use thiserror::Error;
 
 /// An event, which is handled whole before the next one. Nodes and lines go by their place in the network's
 /// configuration, counted from 0.
-#[derive(Debug, Drop)]
+#[derive(Drop)]
 pub enum Event {
     /// Something happens at a terminal of a PAD.
     AtTerminal {

@@ -11,7 +11,7 @@ use std::alloc::{AllocError, Global};
 use std::marker::Model;
 
 /// Keys that are typed at a terminal of a PAD, one after the other.
-#[derive(Clone, Copy, Debug)]
+#[derive(Clone, Copy)]
 pub struct Keys<'a> {
     pub node: usize,
     pub terminal: u16,
@@ -19,7 +19,7 @@ pub struct Keys<'a> {
 }
 
 /// What a line of a script asks for.
-#[derive(Debug, Drop)]
+#[derive(Drop)]
 pub enum Command<'a> {
     /// These keys are typed.
     Keys(Keys<'a>),

@@ -74,10 +74,13 @@ fn read_document(alloc: Global, document: &Table) -> Result<Config, ProgFault>
     if !has_only(document, &["node", "line", "route"]) {
         return Err(ProgFault::NetText);
     }
+    let nodes = array(document, "node")?;
+    let lines = array(document, "line")?;
+    let routes = array(document, "route")?;
     Ok(Config {
-        nodes: read_nodes(alloc, array(document, "node")?)?,
-        lines: read_lines(alloc, array(document, "line")?)?,
-        routes: read_routes(alloc, array(document, "route")?)?,
+        nodes: read_nodes(alloc, nodes)?,
+        lines: read_lines(alloc, lines)?,
+        routes: read_routes(alloc, routes)?,
     })
 }
 
@@ -185,9 +188,6 @@ fn read_line(alloc: Global, entry: &Table) -> Result<LineConfig, ProgFault>
         return Err(ProgFault::NetText);
     }
     Ok(LineConfig {
-        dte: name(alloc, entry, "dte")?,
-        dce: name(alloc, entry, "dce")?,
-        address: read_address(alloc, text(entry, "address", Some(""))?)?,
         channels: number(entry, "channels", Some(4))?,
         modulo: number(entry, "modulo", Some(8))?,
         size: number(entry, "size", Some(128))?,
@@ -195,6 +195,9 @@ fn read_line(alloc: Global, entry: &Table) -> Result<LineConfig, ProgFault>
         k: number(entry, "k", Some(7))?,
         n2: number(entry, "n2", Some(3))?,
         standing: flag(entry, "standing", Some(false))?,
+        dte: name(alloc, entry, "dte")?,
+        dce: name(alloc, entry, "dce")?,
+        address: read_address(alloc, text(entry, "address", Some(""))?)?,
     })
 }
 
@@ -206,9 +209,9 @@ fn read_route(alloc: Global, entry: &Table) -> Result<RouteConfig, ProgFault>
         return Err(ProgFault::NetText);
     }
     Ok(RouteConfig {
+        line: number(entry, "line", None)?,
         switch: name(alloc, entry, "switch")?,
         prefix: read_prefix(alloc, text(entry, "prefix", None)?)?,
-        line: number(entry, "line", None)?,
     })
 }
 

@@ -25,7 +25,7 @@ pub enum AddressFault {
 }
 
 /// An address of one to fifteen decimal digits (X.25 5.2.1).
-#[derive(Clone, Copy, Debug, PartialEq, Eq)]
+#[derive(Clone, Copy, PartialEq, Eq)]
 pub struct Address {
     digits: [u8; MAX_DIGITS],
     len: u8,

@@ -2,7 +2,7 @@
 
 /// What the user of a host asks of the call on a logical channel. [`Host::ask`](crate::Host::ask) has the refusals of
 /// each.
-#[derive(Debug, Drop)]
+#[derive(Drop)]
 pub enum HostRequest {
     /// The call that came in is accepted (X.25 4.1.4).
     Answer,

@@ -15,20 +15,22 @@ fn main(rt: HostRuntime) -> ExitCode {
     ExitCode::from(status)
 }
 
-/// Runs the program on its command words, and gives the status to end with. Its output is written as many whole lines
-/// at a time as the buffer has room for.
+/// Runs the program on its command words, and gives the status to end with.
 fn run(rt: &HostRuntime, err: &mut Stderr) -> io::Result<u8> {
     let words = read_arguments(rt)?;
+    run_on(rt, words.as_slice(), err)
+}
+
+/// Runs the program on these words. Its output is written as many whole lines at a time as the buffer has room for.
+fn run_on(rt: &HostRuntime, words: &[String], err: &mut Stderr) -> io::Result<u8> {
     let mut out = BufWriter::new(rt.alloc(), io::writer(rt))?;
-    let status = perform(
-        rt,
-        rt.alloc(),
-        words.as_slice(),
-        &mut rt.reader(),
-        &mut out,
-        err,
-    );
-    Ok(finish(status, &out.flush(), err))
+    Ok(write_all(rt, words, &mut out, err))
+}
+
+/// Runs the program on these words, and writes all of its output.
+fn write_all<W: Write>(rt: &HostRuntime, words: &[String], out: &mut W, err: &mut Stderr) -> u8 {
+    let status = perform(rt, rt.alloc(), words, &mut rt.reader(), out, err);
+    finish(status, &out.flush(), err)
 }
 
 /// The command words, without the program's name.

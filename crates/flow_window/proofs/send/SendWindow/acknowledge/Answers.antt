@@ -1,0 +1,7 @@
+use Rattle.std.proofs.Common.{rules, tests}
+
+pub overflow_sub-self : goal.overflow_sub-self
+overflow_sub-self g c = search (rules, tests)
+
+pub returns-clause-window : goal.returns-clause-window
+returns-clause-window g c = search (rules, tests)

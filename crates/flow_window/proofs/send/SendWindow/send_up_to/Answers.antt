@@ -1,0 +1,7 @@
+use Rattle.std.proofs.Common.{rules, tests}
+
+pub returns-clause-window : goal.returns-clause-window
+returns-clause-window g c = search (rules, tests)
+
+pub returns-clause-counts : goal.returns-clause-counts
+returns-clause-counts g c = search (rules, tests)
