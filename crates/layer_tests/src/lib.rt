@@ -1,5 +1,5 @@
-//! Worked examples of the layers, by their octets: of the link and the end of a line, of packets and packet layers, and of
-//! the terminals of a PAD.
+//! Worked examples of the layers, by their octets: of the link, of packets and their state tables, and of what a terminal of a
+//! PAD types and is shown.
 #![tactic(auto)]
 
 mod link;

@@ -1,9 +1,7 @@
-//! Worked examples of frames, of the link and of the end of a line, by the octets of their frames.
+//! Worked examples of frames and of the link, by the octets of their frames, and the end of a line for tests.
 mod fault;
 #[cfg(test)]
 mod frames;
-#[cfg(test)]
-mod line_ends;
 #[cfg(test)]
 mod links;
 mod station;

@@ -1,16 +1,10 @@
-//! Worked examples of packets and of packet layers, by their octets.
+//! Worked examples of packets by their octets, rows of the state tables, and the calls of a packet layer.
 #[cfg(test)]
 mod calls;
 #[cfg(test)]
 mod layers;
 #[cfg(test)]
-mod numbers;
-#[cfg(test)]
 mod packets;
 #[cfg(test)]
 mod resets;
-#[cfg(test)]
-mod sizes;
 mod station;
-#[cfg(test)]
-mod steps;

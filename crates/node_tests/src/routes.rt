@@ -11,92 +11,38 @@ fn adds(routes: &mut Routes, prefix: &[u8], line: u16, fault: Option<RouteFault>
     }
 }
 
-/// An address, the line of its calls, and how many nodes are looked at for it.
-struct Lookup<'a> {
-    address: &'a [u8],
-    line: Option<LineNo>,
-    looks: u8,
-}
+// An address, the line of its calls, and how many nodes are looked at for it.
+type Lookup = (&'static [u8], Option<LineNo>, u8);
 
-impl Lookup<'_> {
-    fn fits(&self, routes: &Routes) -> bool {
-        match Address::read(self.address) {
-            Ok(address) => {
-                routes.find(&address) == self.line
-                    && routes.find_looks(&address) == (self.line, self.looks)
-            }
-            Err(_) => false,
-        }
-    }
-}
-
-const THREE_ROUTES: [Lookup; 5] = [
-    Lookup {
-        address: b"2001",
-        line: Some(LineNo(3)),
-        looks: 5,
-    },
-    Lookup {
-        address: b"20015",
-        line: Some(LineNo(3)),
-        looks: 5,
-    },
-    Lookup {
-        address: b"2002",
-        line: Some(LineNo(2)),
-        looks: 4,
-    },
-    Lookup {
-        address: b"21",
-        line: Some(LineNo(1)),
-        looks: 2,
-    },
-    Lookup {
-        address: b"3",
-        line: None,
-        looks: 1,
-    },
+const LOOKUPS: &[Lookup] = &[
+    (b"2001", Some(LineNo(2)), 5),
+    (b"2002", Some(LineNo(1)), 4),
+    (b"3", None, 1),
 ];
 
-const LONG_ROUTE: Lookup = Lookup {
-    address: b"300000000000000",
-    line: Some(LineNo(4)),
-    looks: 16,
-};
-
-const LAST_OF_256: Lookup = Lookup {
-    address: b"25512",
-    line: Some(LineNo(255)),
-    looks: 4,
-};
+fn is_found(routes: &Routes, lookup: &Lookup) -> bool {
+    let (digits, line, looks) = *lookup;
+    match Address::read(digits) {
+        Ok(address) => routes.find(&address) == line
+            && routes.find_looks(&address) == (line, looks),
+        Err(_) => false,
+    }
+}
 
 fn are_found(routes: &Routes, lookups: &[Lookup]) -> bool {
     let mut found = true;
     for lookup in lookups {
-        found = found && lookup.fits(routes);
+        found = found && is_found(routes, lookup);
     }
     found
 }
 
-// Adds routes with two prefixes of a third, and looks at what is found by then, after an addition that is refused and
-// after a long one.
+// Whether the route of the longest prefix is taken, and a prefix has one route.
 fn takes_the_longest(routes: &mut Routes) -> bool {
-    adds(routes, b"2", 1, None)
-        && adds(routes, b"20", 2, None)
-        && adds(routes, b"2001", 3, None)
-        && are_found(routes, &THREE_ROUTES)
-        && adds(routes, b"20", 4, Some(RouteFault::Duplicate))
-        && are_found(routes, &THREE_ROUTES)
-        && takes_a_long_one(routes)
-}
-
-// Whether a long route is found, or what was there if there is no memory for it.
-fn takes_a_long_one(routes: &mut Routes) -> bool {
-    if adds(routes, b"300000000000000", 4, None) {
-        are_found(routes, &[LONG_ROUTE])
-    } else {
-        are_found(routes, &THREE_ROUTES)
-    }
+    adds(routes, b"20", 1, None)
+        && adds(routes, b"2001", 2, None)
+        && adds(routes, b"20", 3, Some(RouteFault::Duplicate))
+        && are_found(routes, LOOKUPS)
 }
 
 fn adds_number(routes: &mut Routes, number: u16) -> bool {
@@ -108,46 +54,23 @@ fn adds_number(routes: &mut Routes, number: u16) -> bool {
     routes.add(&Address::new(&digits), LineNo(number)).is_ok()
 }
 
-// Adds all routes that there is room for.
-fn fills(routes: &mut Routes) -> bool {
+// Whether there is room for 254 routes more, of three digits, and then for none.
+fn has_an_end(routes: &mut Routes) -> bool {
     let mut added = true;
-    for number in 0..256u16 {
+    for number in 300..554u16 {
         added = added && adds_number(routes, number);
     }
-    added
+    added && adds(routes, b"9", 0, Some(RouteFault::Full))
 }
 
-// Whether there is room for 256 routes and no more.
-fn has_an_end(routes: &mut Routes) -> bool {
-    fills(routes)
-        && adds(routes, b"9", 0, Some(RouteFault::Full))
-        && adds(routes, b"255", 0, Some(RouteFault::Duplicate))
-        && are_found(routes, &[LAST_OF_256])
-}
-
-#[derive(Clone, Copy)]
-enum Rule {
-    LongestPrefix,
-    End,
-}
-
-// Whether new routes follow a rule.
-fn follow(alloc: Global, rule: Rule) -> bool {
+fn follow_the_rules(alloc: Global) -> bool {
     match Routes::new(alloc) {
-        Ok(mut routes) => match rule {
-            Rule::LongestPrefix => takes_the_longest(&mut routes),
-            Rule::End => has_an_end(&mut routes),
-        },
+        Ok(mut routes) => takes_the_longest(&mut routes) && has_an_end(&mut routes),
         Err(_) => false,
     }
 }
 
 #[test]
-fn the_longest_prefix_is_taken(rt: HostRuntime) {
-    assert!(rt; follow(rt.alloc(), Rule::LongestPrefix));
-}
-
-#[test]
-fn routes_are_at_most_256(rt: HostRuntime) {
-    assert!(rt; follow(rt.alloc(), Rule::End));
+fn the_longest_of_256_prefixes_is_taken(rt: HostRuntime) {
+    assert!(rt; follow_the_rules(rt.alloc()));
 }

@@ -1,6 +1,6 @@
 //! A switch of three lines with partners that send any packet, and steps of an example.
 
-use crate::lines::{Frames, LINE, address_of, keep};
+use crate::lines::{LINE, address_of};
 use address_routes::{LineNo, Routes};
 use arrayvec::ArrayVec;
 use frame_codec::FrameBuf;
@@ -8,9 +8,8 @@ use lapb::LinkParams;
 use layer_tests::Terminus;
 use link_timers::{Role, TimerId};
 use packet_codec::PacketBuf;
-use packet_end::EndParams;
 use std::alloc::Global;
-use x25_switch::{NewJoin, Switch, SwitchChannel, SwitchConfig, SwitchLineConfig};
+use x25_switch::{Switch, SwitchChannel, SwitchConfig, SwitchLineConfig};
 
 /// A step.
 #[derive(Clone, Copy)]
@@ -23,46 +22,28 @@ pub(crate) enum Step<'a> {
     Hears(usize, &'a [u8]),
     /// No packet more.
     HearsNothing(usize),
-    /// A frame arrives at the switch, on line 0.
-    Frame(&'a [u8]),
-    /// The one frame that the switch sent on line 0.
-    Sent(&'a [u8]),
     /// What a channel is joined to, by line and channel.
     Joined(usize, u8, Option<(usize, u8)>),
-    /// The last call that a frame joined, by line and channel: where it came in, and where it goes on.
-    Joins((usize, u8), (usize, u8)),
-    /// No frame has joined a call since.
-    JoinsNothing,
-    /// Whether the switch is at rest.
-    Rests(bool),
     /// An expiry, and whether the timer ran.
     Expires(usize, TimerId, bool),
-    /// Time passes.
-    Elapse(u16),
-    /// The timer of a line that is due.
-    Due(usize, Option<TimerId>),
-    /// The switch begins anew.
-    Restart,
-    /// The switch sets up the link of a line anew, of which it is the DTE.
-    SetUp(usize),
 }
 
 // The partner's link of a line, the frames that come to it, and the packets that came.
 #[derive(Drop)]
 struct Partner {
     end: Terminus,
-    coming: Frames,
+    coming: ArrayVec<FrameBuf, 32>,
     heard: ArrayVec<PacketBuf, 16>,
 }
 
 // Takes the frames that the switch sends on a line.
-fn collect_at(switch: &mut Switch, line: usize, coming: &mut Frames) {
+fn collect_at(switch: &mut Switch, line: usize, coming: &mut ArrayVec<FrameBuf, 32>) {
     for _ in 0..16 {
         let mut frame = FrameBuf::new();
-        if line >= switch.lines() || !switch.out(line, &mut frame) {
+        if line >= switch.lines() || coming.is_full() || !switch.out(line, &mut frame) {
             break;
         }
-        keep(coming, frame);
+        coming.push(frame);
     }
 }
 
@@ -70,43 +51,29 @@ fn collect_at(switch: &mut Switch, line: usize, coming: &mut Frames) {
 #[derive(Drop)]
 pub(crate) struct Bench {
     switch: Switch,
-    /// The partners' roles.
-    roles: [Role; 3],
     partners: Vec<Partner>,
-    /// The last call that a frame joined, if no step has taken it.
-    joined: Option<NewJoin>,
 }
 
 // A line to a DTE of this address.
-fn user_line(address: &[u8], k: u8) -> SwitchLineConfig {
+fn user_line(address: &[u8]) -> SwitchLineConfig {
     SwitchLineConfig {
-        params: EndParams { k, ..LINE },
+        params: LINE,
         role: Role::Dce,
         address: Some(address_of(address)),
     }
 }
 
-/// The lines of three users, of which line 0 has this k.
-pub(crate) fn user_lines(k: u8) -> [SwitchLineConfig; 3] {
-    [user_line(b"1", k), user_line(b"2", 7), user_line(b"4", 7)]
-}
+// A trunk, of which the switch is the DTE.
+const TRUNK: SwitchLineConfig = SwitchLineConfig {
+    params: LINE,
+    role: Role::Dte,
+    address: None,
+};
 
-// A trunk of so many channels, at which the switch has this role.
-fn trunk(role: Role, channels: u8) -> SwitchLineConfig {
-    SwitchLineConfig {
-        params: EndParams { channels, ..LINE },
-        role,
-        address: None,
-    }
-}
-
-/// Line 1 is a user's, and lines 0 and 2 are trunks of so many channels: of line 0 the switch is the DTE.
-pub(crate) fn trunk_lines(channels: u8) -> [SwitchLineConfig; 3] {
-    [
-        trunk(Role::Dte, channels),
-        user_line(b"2001", 7),
-        trunk(Role::Dce, channels),
-    ]
+// Lines 1 and 2 are those of the users 2 and 4. Line 0 is that of the user 1, or the trunk.
+fn lines(has_trunk: bool) -> [SwitchLineConfig; 3] {
+    let first = if has_trunk { TRUNK } else { user_line(b"1") };
+    [first, user_line(b"2"), user_line(b"4")]
 }
 
 fn place((line, channel): (usize, u8)) -> SwitchChannel {
@@ -136,14 +103,6 @@ fn new_switch(alloc: Global, lines: &[SwitchLineConfig]) -> Option<Switch> {
     }
 }
 
-// The role at the other end of a line.
-fn partner_role(line: &SwitchLineConfig) -> Role {
-    match line.role {
-        Role::Dte => Role::Dce,
-        Role::Dce => Role::Dte,
-    }
-}
-
 fn new_partner(alloc: Global, role: Role) -> Option<Partner> {
     let params = LinkParams {
         k: 7,
@@ -170,29 +129,22 @@ fn add_partner(alloc: Global, role: Role, partners: &mut Vec<Partner>) -> bool {
 }
 
 impl Bench {
-    /// A new switch at these lines.
-    pub(crate) fn new(alloc: Global, lines: &[SwitchLineConfig; 3]) -> Option<Bench> {
-        match new_switch(alloc, lines) {
+    /// A new switch of three users' lines, or of a trunk and two users' lines.
+    pub(crate) fn new(alloc: Global, has_trunk: bool) -> Option<Bench> {
+        match new_switch(alloc, &lines(has_trunk)) {
             Some(switch) => Some(Bench {
                 switch,
-                roles: [
-                    partner_role(&lines[0]),
-                    partner_role(&lines[1]),
-                    partner_role(&lines[2]),
-                ],
                 partners: Vec::new(alloc),
-                joined: None,
             }),
             None => None,
         }
     }
 
-    /// Brings the partners. Whether there is memory for them.
-    pub(crate) fn begin(&mut self, alloc: Global) -> bool {
-        let [first, second, third] = self.roles;
+    /// Brings the partners, of which the first has this role. Whether there is memory for them.
+    pub(crate) fn begin(&mut self, alloc: Global, first: Role) -> bool {
         let begun = add_partner(alloc, first, &mut self.partners)
-            && add_partner(alloc, second, &mut self.partners)
-            && add_partner(alloc, third, &mut self.partners);
+            && add_partner(alloc, Role::Dte, &mut self.partners)
+            && add_partner(alloc, Role::Dte, &mut self.partners);
         self.collect();
         begun
     }
@@ -206,12 +158,10 @@ impl Bench {
         }
     }
 
-    /// A frame arrives at the switch.
-    pub(crate) fn arrive(&mut self, line: usize, octets: &[u8]) {
+    // A frame arrives at the switch.
+    fn arrive(&mut self, line: usize, octets: &[u8]) {
         if line < self.switch.lines() {
-            if let Some(join) = self.switch.on_frame(line, octets) {
-                self.joined = Some(join);
-            }
+            let _ = self.switch.on_frame(line, octets);
             self.collect();
         }
     }
@@ -230,8 +180,8 @@ impl Bench {
         sent || came
     }
 
-    /// All frames arrive, and those that they are answered by.
-    pub(crate) fn flow(&mut self) {
+    // All frames arrive, and those that they are answered by.
+    fn flow(&mut self) {
         for _ in 0..64 {
             let first = self.deliver(0);
             let second = self.deliver(1);
@@ -257,8 +207,12 @@ impl Bench {
             Step::Send(line, _) | Step::Hears(line, _) | Step::HearsNothing(line) => {
                 self.partner_takes(line, step)
             }
-            Step::Sent(_) => self.partner_takes(0, step),
-            _ => self.shows(step),
+            Step::Flow => {
+                self.flow();
+                true
+            }
+            Step::Joined(line, channel, other) => self.is_joined(line, channel, other),
+            Step::Expires(line, id, runs) => self.expires(line, id, runs),
         }
     }
 
@@ -269,99 +223,9 @@ impl Bench {
         }
     }
 
-    // What the switch and its calls show.
-    fn shows(&mut self, step: Step<'_>) -> bool {
-        match step {
-            Step::Joined(line, channel, other) => self.is_joined(line, channel, other),
-            Step::Joins(came_in, placed) => self.joins(came_in, placed),
-            Step::JoinsNothing => self.joined.is_none(),
-            Step::Rests(rests) => self.switch.is_at_rest() == rests,
-            Step::Expires(line, id, runs) => self.expires(line, id, runs),
-            Step::Due(line, id) => line < self.switch.lines() && self.switch.due(line) == id,
-            _ => self.happens(step),
-        }
-    }
-
-    // What happens, where it can.
-    fn happens(&mut self, step: Step<'_>) -> bool {
-        match step {
-            Step::Flow => self.flow(),
-            Step::Frame(octets) => return self.hears_frame(octets),
-            Step::Elapse(ticks) => self.switch.elapse(ticks),
-            Step::Restart => self.restart(),
-            Step::SetUp(line) => return self.sets_up(line),
-            _ => return false,
-        }
-        true
-    }
-
-    fn hears_frame(&mut self, octets: &[u8]) -> bool {
-        if self.switch.lines() == 0 {
-            return false;
-        }
-        self.switch.on_frame(0, octets);
-        self.collect();
-        true
-    }
-
-    fn restart(&mut self) {
-        self.switch.restart();
-        self.collect();
-    }
-
-    // The switch sets up the link of a line anew, if it is the DTE there.
-    fn sets_up(&mut self, line: usize) -> bool {
-        if line >= self.switch.lines() || self.switch.role(line) != Role::Dte {
-            return false;
-        }
-        self.switch.relink(line);
-        self.collect();
-        true
-    }
-
-    /// Whether a channel is joined to this one, or to none.
-    pub(crate) fn is_joined(&self, line: usize, channel: u8, other: Option<(usize, u8)>) -> bool {
+    // Whether a channel is joined to this one, or to none.
+    fn is_joined(&self, line: usize, channel: u8, other: Option<(usize, u8)>) -> bool {
         self.switch.joins(SwitchChannel { line, channel }) == other.map(place)
-    }
-
-    fn joins(&mut self, came_in: (usize, u8), placed: (usize, u8)) -> bool {
-        let Some(join) = self.joined.take() else {
-            return false;
-        };
-        let joined = NewJoin {
-            came_in: place(came_in),
-            placed: place(placed),
-        };
-        join == joined
-    }
-
-    /// The partner on a line hands a packet to its link, if that takes it.
-    pub(crate) fn hand(&mut self, line: usize, packet: &[u8]) {
-        if let Some(partner) = self.partners.get_mut(line) {
-            let _ = partner.send(packet);
-        }
-    }
-
-    /// The partner on a line sets its link up anew.
-    pub(crate) fn relink(&mut self, line: usize) {
-        if let Some(partner) = self.partners.get_mut(line) {
-            let _ = partner.end.relink();
-            partner.end.settle();
-        }
-    }
-
-    /// A timer of a line expires at the switch, if it runs.
-    pub(crate) fn expire(&mut self, line: usize, id: TimerId) {
-        let _ = self.expires(line, id, true);
-    }
-
-    /// Takes the packets that the partner on a line heard, and answers those that ask for an answer. Whether one of
-    /// them was of this channel.
-    pub(crate) fn reply(&mut self, line: usize, channel: u8) -> bool {
-        match self.partners.get_mut(line) {
-            Some(partner) => partner.reply(channel),
-            None => false,
-        }
     }
 
     fn expires(&mut self, line: usize, id: TimerId, runs: bool) -> bool {
@@ -381,7 +245,6 @@ impl Partner {
             Step::Send(_, packet) => self.send(packet),
             Step::Hears(_, packet) => self.hears(packet),
             Step::HearsNothing(_) => self.heard.is_empty(),
-            Step::Sent(octets) => self.takes_frame(octets),
             _ => false,
         }
     }
@@ -397,41 +260,6 @@ impl Partner {
 
     fn hears(&mut self, packet: &[u8]) -> bool {
         !self.heard.is_empty() && self.heard.remove(0).as_slice() == packet
-    }
-
-    // Takes the packets that were heard, and answers them. Whether one of them was of this channel.
-    fn reply(&mut self, channel: u8) -> bool {
-        let mut of_channel = false;
-        for _ in 0..self.heard.len() {
-            if self.heard.is_empty() {
-                break;
-            }
-            let packet = self.heard.remove(0);
-            if let [first, number, code, ..] = packet.as_slice() {
-                of_channel = of_channel || *number == channel;
-                if let Some(code) = reply_to(*code) {
-                    let _ = self.send(&[*first, *number, code]);
-                }
-            }
-        }
-        of_channel
-    }
-
-    // Whether one frame came, of these octets.
-    fn takes_frame(&mut self, octets: &[u8]) -> bool {
-        self.coming.len() == 1 && self.coming.remove(0).as_slice() == octets
-    }
-}
-
-// The type of the packet that answers one of this type, if one does.
-fn reply_to(code: u8) -> Option<u8> {
-    match code {
-        0x0b => Some(0x0f),
-        0x13 => Some(0x17),
-        0x1b => Some(0x1f),
-        0x23 => Some(0x27),
-        0xfb => Some(0xff),
-        _ => None,
     }
 }
 

@@ -1,9 +1,9 @@
 -- The pool of a layer has room.
-use Rattle.std.proofs.Common.{◌≡◌, ℕ, zero, suc, ◌+◌, ◌*◌, ◌≤◌, Bool, true, false, List, [], ◌∷◌, length, refl, ap, sym, subst, ◌∙◌, arith}
+use Rattle.std.proofs.Common.{◌≡◌, ℕ, zero, suc, ◌+◌, ◌*◌, ◌≤◌, Bool, true, false, List, length, refl, ap, sym, subst, ◌∙◌, arith}
 use Rattle.std.specs.Prelude.{replicate}
 use Rattle.link_timers.specs.declared.role.Role.{Role}
-use Rattle.flow_window.specs.Pool.{Buffer, IsIn, weight}
-use Rattle.flow_window.proofs.Weights.{weight_ones, held_in}
+use Rattle.flow_window.specs.Pool.{Buffer, weight}
+use Rattle.flow_window.proofs.Weights.{weight_ones}
 use Rattle.packet_channel.specs.declared.flow.Flow.{Flow}
 use Rattle.packet_channel.specs.Channel.{Request, closed_channel}
 use Rattle.packet_layer.specs.Held.{Layer as Held, most_held, HasRoom}
@@ -19,14 +19,6 @@ has_room a is =
     let exact = is.exact (λ _. 1) in
     let own = weight_ones a.layer.held in
     omega (arith, exact, own, is.places)
-
--- a buffer that the layer handed out is in use
-pub in_hand : (a : Inside) (b : Buffer) (held : List Buffer) → IsStation a →
-    ((w : Buffer → ℕ) → weight w a.layer.held ≡ weight w held + weight w (b ∷ [])) → IsIn b a.pool
-in_hand a b held is handed_out =
-    held_in a.pool (b ∷ []) 0 b
-    (λ w. let exact = is.exact w in let parts = handed_out w in omega (arith, exact, parts))
-    refl
 
 made_length : (standing : Bool) (n : ℕ) → length (standing_channels standing (replicate n closed_channel)) ≡ n
 made_length true zero = refl

@@ -3,7 +3,7 @@ use lapb::BadParams;
 use std::alloc::AllocError;
 
 /// Why a link or the end of a line was not made.
-#[derive(Clone, Copy, Debug, PartialEq, Eq)]
+#[derive(Clone, Copy)]
 pub enum MakeFault {
     BadParams,
     OutOfMemory,

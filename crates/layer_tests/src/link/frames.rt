@@ -8,72 +8,45 @@ const SHORT: u16 = 145;
 
 const LONG: u16 = 1_028;
 
-// Octets, where they are read, and the frame that they are: its kind, and its P/F bit.
-type Row = (&'static [u8], Role, FrameKind<'static>, bool);
+// Octets, where they are read, and the frame that they are: its kind, whether it is a response, and its P/F bit.
+type Row = (&'static [u8], Role, FrameKind<'static>, bool, bool);
 
-const COMMANDS: &[Row] = &[
-    (&[0x01, 0x3F], Role::Dce, Sabm, true),
-    (&[0x03, 0x2F], Role::Dte, Sabm, false),
-    (&[0x01, 0x43], Role::Dce, Disc, false),
-    (&[0x03, 0x53], Role::Dte, Disc, true),
-    (&[0x01, 0x11], Role::Dce, Rr { nr: 0 }, true),
-    (&[0x03, 0x61], Role::Dte, Rr { nr: 3 }, false),
+const FRAMES: &[Row] = &[
+    (&[0x01, 0x3F], Role::Dce, Sabm, false, true),
+    (&[0x03, 0x2F], Role::Dte, Sabm, false, false),
+    (&[0x01, 0x43], Role::Dce, Disc, false, false),
+    (&[0x03, 0x53], Role::Dte, Disc, false, true),
+    (&[0x01, 0x11], Role::Dce, Rr { nr: 0 }, false, true),
     (
-        &[0x01, 0x0E, 0x10, 0x01],
+        &[0x01, 0x6E, 0x10, 0x01],
         Role::Dce,
         I {
             ns: 7,
-            nr: 0,
+            nr: 3,
             information: &[0x10, 0x01],
         },
         false,
+        false,
     ),
+    (&[0x01, 0x0F], Role::Dte, Dm, true, false),
+    (&[0x03, 0x1F], Role::Dce, Dm, true, true),
+    (&[0x01, 0x73], Role::Dte, Ua, true, true),
+    (&[0x03, 0x63], Role::Dce, Ua, true, false),
+    (&[0x01, 0xF1], Role::Dte, Rr { nr: 7 }, true, true),
+    (&[0x03, 0x25], Role::Dce, Rnr { nr: 1 }, true, false),
+    (&[0x01, 0x09], Role::Dte, Rej { nr: 0 }, true, false),
     (
-        &[0x01, 0x74],
-        Role::Dce,
-        I {
-            ns: 2,
-            nr: 3,
-            information: &[],
-        },
+        &[0x01, 0x97, 0xFF, 0x00, 0x01],
+        Role::Dte,
+        Frmr(OF_W),
+        true,
         true,
     ),
-    (
-        &[0x01, 0x02],
-        Role::Dce,
-        I {
-            ns: 1,
-            nr: 0,
-            information: &[],
-        },
-        false,
-    ),
-    (
-        &[0x03, 0x44],
-        Role::Dte,
-        I {
-            ns: 2,
-            nr: 2,
-            information: &[],
-        },
-        false,
-    ),
-];
-
-const RESPONSES: &[Row] = &[
-    (&[0x01, 0x0F], Role::Dte, Dm, false),
-    (&[0x03, 0x1F], Role::Dce, Dm, true),
-    (&[0x01, 0x73], Role::Dte, Ua, true),
-    (&[0x03, 0x63], Role::Dce, Ua, false),
-    (&[0x01, 0x11], Role::Dte, Rr { nr: 0 }, true),
-    (&[0x01, 0xF1], Role::Dte, Rr { nr: 7 }, true),
-    (&[0x03, 0x25], Role::Dce, Rnr { nr: 1 }, false),
-    (&[0x01, 0x09], Role::Dte, Rej { nr: 0 }, false),
-    (&[0x01, 0x97, 0xFF, 0x00, 0x01], Role::Dte, Frmr(OF_W), true),
     (
         &[0x03, 0x87, 0x21, 0x7A, 0x0F],
         Role::Dce,
         Frmr(OF_ALL),
+        true,
         false,
     ),
 ];
@@ -101,19 +74,20 @@ const OF_ALL: Rejection = Rejection {
     z: true,
 };
 
+fn frames() -> &'static [Row] {
+    FRAMES
+}
+
 #[test]
-fn reads_and_writes_frames(rt: HostRuntime) {
-    for row in COMMANDS {
-        assert!(rt; fits(row, false));
-    }
-    for row in RESPONSES {
-        assert!(rt; fits(row, true));
+fn frames_are_read_and_written(rt: HostRuntime) {
+    for row in frames() {
+        assert!(rt; fits(row));
     }
 }
 
-// Whether a row's octets are read as its frame, a response or a command, and are written back.
-fn fits(row: &Row, response: bool) -> bool {
-    let (octets, at, kind, pf) = *row;
+// Whether a row's octets are read as its frame, and are written back.
+fn fits(row: &Row) -> bool {
+    let (octets, at, kind, response, pf) = *row;
     let frame = Frame { kind, response, pf };
     read_frame(octets, at, SHORT) == Ok(frame) && is_written_back(octets, at)
 }
@@ -131,54 +105,40 @@ fn is_written_back(octets: &[u8], at: Role) -> bool {
     }
 }
 
-const FAULTS: &[(&[u8], Role, FrameFault)] = &[
-    (&[], Role::Dce, FrameFault::TooShort),
+// An I frame of 146 octets, one more than an information field may have.
+const TOO_LONG: &[u8] =
+    b"\x01\x00AAAAAAAAAAAAAAAAAAAAAAAAAAAAAAAAAAAAAAAAAAAAAAAAAAAAAAAAAAAAAAAAAAAAAAAAAAAAAAAA\
+    AAAAAAAAAAAAAAAAAAAAAAAAAAAAAAAAAAAAAAAAAAAAAAAAAAAAAAAAAAAAAAAAAA";
+
+// Octets, where they are read, and why they are no frame.
+type Refused = (&'static [u8], Role, FrameFault);
+
+const REFUSED: &[Refused] = &[
     (&[0x01], Role::Dce, FrameFault::TooShort),
-    (&[0x05], Role::Dce, FrameFault::TooShort),
     (&[0x05, 0x00], Role::Dce, FrameFault::WrongAddress),
     (&[0x01, 0xFF], Role::Dce, FrameFault::UnknownControl),
-    (&[0x03, 0x00], Role::Dce, FrameFault::UnknownControl),
     (&[0x01, 0x63], Role::Dce, FrameFault::UnknownControl),
-    (&[0x01, 0x3F], Role::Dte, FrameFault::UnknownControl),
-    (&[0x01, 0x0D], Role::Dce, FrameFault::UnknownControl),
     (&[0x01, 0x21, 0x00], Role::Dce, FrameFault::InfoNotAllowed),
     (
         &[0x03, 0x97, 0xFF, 0x00],
         Role::Dce,
         FrameFault::InfoNotAllowed,
     ),
-    (
-        &[0x03, 0x97, 0xFF, 0x00, 0x01, 0x00],
-        Role::Dce,
-        FrameFault::InfoNotAllowed,
-    ),
-    (&[0x01, 0x2F, 0x00], Role::Dce, FrameFault::InfoNotAllowed),
+    (TOO_LONG, Role::Dce, FrameFault::InfoTooLong),
 ];
 
+fn refused() -> &'static [Refused] {
+    REFUSED
+}
+
 #[test]
-fn refuses(rt: HostRuntime) {
-    for (octets, at, fault) in FAULTS {
-        assert!(rt; read_frame(octets, *at, SHORT) == Err(*fault));
+fn other_octets_are_refused(rt: HostRuntime) {
+    for row in refused() {
+        assert!(rt; is_refused(row));
     }
 }
 
-#[test]
-fn refuses_information_that_is_too_long(rt: HostRuntime) {
-    let mut octets = [0u8; 1_031];
-    octets[0] = 0x01;
-    assert!(rt; is_too_long(&octets, LONG));
-    assert!(rt; is_written_back(&octets[..1_030], Role::Dce));
-    assert!(rt; is_too_long(&octets[..148], SHORT));
-    assert!(rt; !is_too_long(&octets[..147], SHORT));
-}
-
-fn is_too_long(octets: &[u8], info: u16) -> bool {
-    read_frame(octets, Role::Dce, info) == Err(FrameFault::InfoTooLong)
-}
-
-#[test]
-fn looks_at_no_spare_bit(rt: HostRuntime) {
-    let spare = read_frame(&[0x03, 0x87, 0x21, 0x7B, 0xFF], Role::Dce, SHORT);
-    let none = read_frame(&[0x03, 0x87, 0x21, 0x7A, 0x0F], Role::Dce, SHORT);
-    assert!(rt; spare == none);
+fn is_refused(row: &Refused) -> bool {
+    let (octets, at, fault) = *row;
+    read_frame(octets, at, SHORT) == Err(fault)
 }

@@ -1,4 +1,5 @@
 //! Two links by the octets of their frames.
+use crate::link::fault::MakeFault;
 use crate::link::station::Station;
 use lapb::{Link, LinkOut, LinkParams, Note, OfferFault, Phase, Timing};
 use link_timers::Role;
@@ -26,7 +27,6 @@ enum Act<'a> {
     // a packet of one octet is offered
     Offer(u8, Result<(), OfferFault>),
     In(Phase),
-    T1Runs,
     Rests,
 }
 
@@ -39,41 +39,49 @@ enum Turn<'a> {
     Cross,
 }
 
-use Act::{Accept, Expire, In, Offer, Relink, Rests, Settle, Start, T1Runs, Take};
+use Act::{Accept, Expire, In, Offer, Relink, Rests, Settle, Start, Take};
 use Turn::{Cross, Dce, Dte};
 
-fn link(rt: &impl Abort, alloc: Global, role: Role) -> Station {
+fn link(alloc: Global, role: Role) -> Result<Station, MakeFault> {
     let params = LinkParams {
         k: 7,
         n2: 3,
         info: 145,
         standing: false,
     };
-    match Station::new(alloc, role, params) {
-        Ok(link) => link,
-        Err(_) => panic!(rt; "the parameters are in range"),
+    Station::new(alloc, role, params)
+}
+
+// A rule, and turns by which it is seen at two links.
+type Example<'a> = (&'a str, &'a [Turn<'a>]);
+
+// Plays each example at two new links, after turns that are the same for all.
+fn play(rt: &impl Abort, alloc: Global, begins: &[Turn<'_>], examples: &[Example<'_>]) {
+    for (rule, turns) in examples {
+        assert!(rt; holds(alloc, begins, turns), "{rule}");
     }
 }
 
-// Plays turns at two links.
-fn play(rt: &impl Abort, alloc: Global, rule: &str, turns: &[Turn<'_>]) {
-    let mut dte = link(rt, alloc, Role::Dte);
-    let mut dce = link(rt, alloc, Role::Dce);
-    play_at(rt, &mut dte, &mut dce, rule, turns);
-}
-
-// Plays turns at two links after the set-up, with the poll answered.
-fn play_up(rt: &impl Abort, alloc: Global, rule: &str, turns: &[Turn<'_>]) {
-    let mut dte = link(rt, alloc, Role::Dte);
-    let mut dce = link(rt, alloc, Role::Dce);
-    play_at(rt, &mut dte, &mut dce, "both come up", set_up());
-    play_at(rt, &mut dte, &mut dce, rule, turns);
-}
-
-fn play_at(rt: &impl Abort, dte: &mut Station, dce: &mut Station, rule: &str, turns: &[Turn<'_>]) {
-    for (place, turn) in turns.iter().enumerate() {
-        assert!(rt; turn_fits(dte, dce, turn), "{rule}: turn {place}");
+fn holds(alloc: Global, begins: &[Turn<'_>], turns: &[Turn<'_>]) -> bool {
+    match link(alloc, Role::Dte) {
+        Ok(mut dte) => holds_from(alloc, &mut dte, begins, turns),
+        Err(_) => false,
     }
+}
+
+fn holds_from(alloc: Global, dte: &mut Station, begins: &[Turn<'_>], turns: &[Turn<'_>]) -> bool {
+    match link(alloc, Role::Dce) {
+        Ok(mut dce) => fit(dte, &mut dce, begins) && fit(dte, &mut dce, turns),
+        Err(_) => false,
+    }
+}
+
+fn fit(dte: &mut Station, dce: &mut Station, turns: &[Turn<'_>]) -> bool {
+    let mut same = true;
+    for turn in turns {
+        same = same && turn_fits(dte, dce, turn);
+    }
+    same
 }
 
 fn turn_fits(dte: &mut Station, dce: &mut Station, turn: &Turn<'_>) -> bool {
@@ -88,7 +96,6 @@ fn fits(link: &mut Station, act: Act<'_>) -> bool {
     match act {
         Offer(octet, answer) => link.offer(&[octet]) == answer,
         In(phase) => link.phase() == phase,
-        T1Runs => link.runs(),
         Rests => link.at_rest(),
         _ => gives(link, &mut LinkOut::new(), act),
     }
@@ -270,106 +277,57 @@ const UNKNOWN_CONTROL: &[Turn] = &[
     )),
 ];
 
-const A_SABM_WITH_INFORMATION: &[Turn] = &[Dce(Take(
-    &[0x01, 0x3F, 0x00],
+const A_BAD_NUMBER: &[Turn] = &[Dce(Take(
+    &[0x01, 0x21],
     Note::Down,
-    &[&[0x01, 0x97, 0x3F, 0x00, 0x03]],
+    &[&[0x01, 0x87, 0x21, 0x00, 0x08]],
 ))];
 
-const A_BAD_NUMBER: &[Turn] = &[
-    Dce(Take(
-        &[0x01, 0x21],
-        Note::Down,
-        &[&[0x01, 0x87, 0x21, 0x00, 0x08]],
-    )),
-    Dce(T1Runs),
+const SET_UPS: &[Example] = &[
+    (
+        "a stale acknowledgement is ignored",
+        A_STALE_ACKNOWLEDGEMENT,
+    ),
+    ("eight packets cross after a repeated set-up", EIGHT_PACKETS),
 ];
 
+const WINDOWS: &[Example] = &[
+    ("the window is seven", A_FULL_WINDOW),
+    ("a lost frame is sent again", A_LOST_FRAME),
+];
+
+const FAULTS: &[Example] = &[
+    ("a silent partner ends the session", A_SILENT_PARTNER),
+    ("an unknown control octet is reported", UNKNOWN_CONTROL),
+    ("a bad number is reported", A_BAD_NUMBER),
+];
+
+fn set_ups() -> &'static [Example<'static>] {
+    SET_UPS
+}
+
+fn windows() -> &'static [Example<'static>] {
+    WINDOWS
+}
+
+fn faults() -> &'static [Example<'static>] {
+    FAULTS
+}
+
+// The turns by which both ends come up.
 fn set_up() -> &'static [Turn<'static>] {
     SET_UP
 }
 
-fn a_stale_acknowledgement() -> &'static [Turn<'static>] {
-    A_STALE_ACKNOWLEDGEMENT
-}
-
-fn eight_packets() -> &'static [Turn<'static>] {
-    EIGHT_PACKETS
-}
-
-fn a_full_window() -> &'static [Turn<'static>] {
-    A_FULL_WINDOW
-}
-
-fn a_lost_frame() -> &'static [Turn<'static>] {
-    A_LOST_FRAME
-}
-
-fn a_silent_partner() -> &'static [Turn<'static>] {
-    A_SILENT_PARTNER
-}
-
-fn unknown_control() -> &'static [Turn<'static>] {
-    UNKNOWN_CONTROL
-}
-
-fn a_sabm_with_information() -> &'static [Turn<'static>] {
-    A_SABM_WITH_INFORMATION
-}
-
-fn a_bad_number() -> &'static [Turn<'static>] {
-    A_BAD_NUMBER
+#[test]
+fn links_are_set_up(rt: HostRuntime) {
+    play(&rt, rt.alloc(), &[], set_ups());
 }
 
 #[test]
-fn links_do_what_the_rules_say(rt: HostRuntime) {
-    let alloc = rt.alloc();
-    play(
-        &rt,
-        alloc,
-        "a stale acknowledgement is ignored",
-        a_stale_acknowledgement(),
-    );
-    play(
-        &rt,
-        alloc,
-        "eight packets cross after a repeated set-up",
-        eight_packets(),
-    );
-    play_up(&rt, alloc, "the window is seven", a_full_window());
-    play_up(&rt, alloc, "a lost frame is sent again", a_lost_frame());
-    play_up(
-        &rt,
-        alloc,
-        "a silent partner ends the session",
-        a_silent_partner(),
-    );
-    play_up(
-        &rt,
-        alloc,
-        "an unknown control octet is reported",
-        unknown_control(),
-    );
-    play_up(&rt, alloc, "a bad number is reported", a_bad_number());
-    play_up(
-        &rt,
-        alloc,
-        "a SABM with information is reported",
-        a_sabm_with_information(),
-    );
-}
-
-// An I frame with 146 octets, one more than an information field may have.
-#[test]
-fn too_long_a_frame_is_reported(rt: HostRuntime) {
-    let alloc = rt.alloc();
-    let mut dte = link(&rt, alloc, Role::Dte);
-    let mut dce = link(&rt, alloc, Role::Dce);
-    play_at(&rt, &mut dte, &mut dce, "both come up", set_up());
-    let mut octets = [0u8; 148];
-    octets[0] = 0x01;
-    let act = Take(&octets, Note::Down, &[&[0x01, 0x87, 0x00, 0x00, 0x04]]);
-    assert!(&rt; fits(&mut dce, act));
+fn links_carry_packets_and_report_faults(rt: HostRuntime) {
+    play(&rt, rt.alloc(), set_up(), windows());
+    play(&rt, rt.alloc(), set_up(), faults());
 }
 
 // Takes all frames of one end at the other, and the end of the event there. The packet that is expected next there is
@@ -416,29 +374,15 @@ fn cross(dte: &mut Station, dce: &mut Station) -> (u8, u8) {
 }
 
 #[test]
-fn parameters_have_ranges(rt: HostRuntime) {
-    const PARAMS: &[(u8, u8, u16, bool)] = &[
-        (7, 20, 1_028, true),
-        (8, 3, 145, false),
-        (0, 3, 145, false),
-        (7, 0, 145, false),
-        (7, 21, 145, false),
-        (7, 20, 1_029, false),
-        (1, 1, 145, true),
-    ];
-    for (k, n2, info, good) in PARAMS {
-        assert!(rt;
-            is_made(*k, *n2, *info) == *good,
-            "k {k}, n2 {n2}, info {info}"
-        );
-    }
+fn a_window_is_at_most_seven(rt: HostRuntime) {
+    assert!(rt; is_made(7) && !is_made(8));
 }
 
-fn is_made(k: u8, n2: u8, info: u16) -> bool {
+fn is_made(k: u8) -> bool {
     let params = LinkParams {
         k,
-        n2,
-        info,
+        n2: 20,
+        info: 145,
         standing: true,
     };
     Link::new(Role::Dce, params).is_ok()

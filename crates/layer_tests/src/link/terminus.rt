@@ -4,7 +4,7 @@ ghost use Rattle.std.specs.Prelude.{◌≡◌, ◌≤◌, length};
 use crate::link::fault::MakeFault;
 use flow_window::pool::Pool;
 use frame_codec::FrameBuf;
-use lapb::{LinkParams, Note, OfferFault};
+use lapb::{LinkParams, OfferFault};
 use line_end::{LineEnd, Received};
 use link_timers::Role;
 use std::alloc::Global;
@@ -53,18 +53,6 @@ impl Terminus {
         self.end.on_frame(octets, &mut self.pool)
     }
 
-    pub fn on_t1(&mut self) -> Option<Note> {
-        self.end.on_t1(&mut self.pool)
-    }
-
-    pub fn relink(&mut self) -> Note {
-        self.end.relink(&mut self.pool)
-    }
-
-    pub fn restart(&mut self) {
-        self.end.restart(&mut self.pool);
-    }
-
     pub fn offer(&mut self, packet: &[u8]) -> Result<(), OfferFault>
         requires { length packet.now ≤ 145 }
     {
@@ -77,9 +65,5 @@ impl Terminus {
 
     pub fn out(&mut self, frame: &mut FrameBuf) -> bool {
         self.end.out(frame)
-    }
-
-    pub fn elapse(&mut self, ticks: u16) {
-        self.end.elapse(ticks);
     }
 }

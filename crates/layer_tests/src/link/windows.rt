@@ -1,6 +1,5 @@
 //! Numbers of windows.
 use flow_window::{Mod8, Mod128, Modulus, Offer, OutOfWindow, RecvWindow, SendWindow};
-use std::process::Abort;
 
 // What is done at a window that sends, or looked at, with its answer.
 #[derive(Clone, Copy)]
@@ -11,19 +10,18 @@ enum Act {
     Ack(u8, Result<u8, OutOfWindow>),
     GoBack(u8),
     Clear,
-    // how many numbers are not acknowledged, and how many were used
-    Counts(u8, u8),
-    Size(u8),
     // the oldest number and the next one
     Numbers(u8, u8),
 }
 
-use Act::{Ack, Clear, Counts, GoBack, Next, Numbers, Size};
+use Act::{Ack, Clear, GoBack, Next, Numbers};
 
-fn play<M: Modulus>(rt: &impl Abort, window: &mut SendWindow<M>, acts: &[Act]) {
-    for (place, act) in acts.iter().enumerate() {
-        assert!(rt; fits(window, *act), "act {place}");
+fn fit<M: Modulus>(window: &mut SendWindow<M>, acts: &[Act]) -> bool {
+    let mut same = true;
+    for act in acts {
+        same = same && fits(window, *act);
     }
+    same
 }
 
 fn fits<M: Modulus>(window: &mut SendWindow<M>, act: Act) -> bool {
@@ -35,10 +33,6 @@ fn fits<M: Modulus>(window: &mut SendWindow<M>, act: Act) -> bool {
             window.clear();
             true
         }
-        Counts(unacknowledged, used) => {
-            window.unacknowledged() == unacknowledged && window.used() == used
-        }
-        Size(size) => window.size() == size,
         Numbers(oldest, next) => window.oldest() == oldest && window.next_number() == next,
     }
 }
@@ -59,83 +53,47 @@ fn goes_back<M: Modulus>(window: &mut SendWindow<M>, number: u8) -> bool {
     there
 }
 
-#[test]
-fn numbers_and_acknowledges(rt: HostRuntime) {
-    const ACTS: &[Act] = &[
-        Next(Some(0)),
-        Next(Some(1)),
-        Next(Some(2)),
-        Next(Some(3)),
-        Next(Some(4)),
-        Next(Some(5)),
-        Next(Some(6)),
-        Next(None),
-        Ack(7, Ok(7)),
-        Next(Some(7)),
-        Next(Some(0)),
-        Ack(2, Err(OutOfWindow)),
-        Ack(1, Ok(2)),
-    ];
-    play(&rt, &mut SendWindow::<Mod8>::new(7), ACTS);
-}
-
-#[test]
-fn sends_up_to_a_count(rt: HostRuntime) {
-    let mut window = SendWindow::<Mod8>::new(7);
-    window.send_up_to(3);
-    play(&rt, &mut window, &[Counts(3, 3), Next(Some(3))]);
-}
-
-#[test]
-fn goes_back_to_a_number(rt: HostRuntime) {
-    const ACTS: &[Act] = &[
-        Next(Some(0)),
-        Next(Some(1)),
-        Ack(128, Err(OutOfWindow)),
-        GoBack(1),
-        Numbers(0, 1),
-        Counts(1, 2),
-        Size(3),
-        Ack(2, Ok(2)),
-        Next(Some(2)),
-        Clear,
-        Next(Some(0)),
-    ];
-    play(&rt, &mut SendWindow::<Mod128>::new(3), ACTS);
-}
-
-// What a window that receives says to numbers in turn: the expected ones, one that is not, and the expected one.
-const EXPECTED: &[(u8, Offer)] = &[
-    (0, Offer::InOrder),
-    (1, Offer::InOrder),
-    (2, Offer::InOrder),
-    (3, Offer::InOrder),
-    (4, Offer::InOrder),
-    (5, Offer::InOrder),
-    (6, Offer::InOrder),
-    (7, Offer::InOrder),
+const MODULO_8: &[Act] = &[
+    Next(Some(0)),
+    Next(Some(1)),
+    Next(Some(2)),
+    Next(Some(3)),
+    Next(Some(4)),
+    Next(Some(5)),
+    Next(Some(6)),
+    Next(None),
+    Ack(7, Ok(7)),
+    Next(Some(7)),
+    Next(Some(0)),
+    Ack(2, Err(OutOfWindow)),
+    Ack(1, Ok(2)),
 ];
 
-const UNEXPECTED: &[(u8, Offer)] = &[(1, Offer::OutOfOrder), (0, Offer::InOrder)];
+const MODULO_128: &[Act] = &[
+    Next(Some(0)),
+    Next(Some(1)),
+    Ack(128, Err(OutOfWindow)),
+    GoBack(1),
+    Numbers(0, 1),
+    Clear,
+    Next(Some(0)),
+];
 
-fn answers(window: &mut RecvWindow<Mod8>, offers: &[(u8, Offer)]) -> bool {
-    let mut same = true;
-    for (number, answer) in offers {
-        same = same && window.offer(*number) == *answer;
-    }
-    same
+#[test]
+fn windows_number_and_acknowledge(rt: HostRuntime) {
+    assert!(rt; fit(&mut SendWindow::<Mod8>::new(7), MODULO_8));
+    assert!(rt; fit(&mut SendWindow::<Mod128>::new(3), MODULO_128));
 }
 
-fn expects_0_anew(window: &mut RecvWindow<Mod8>) -> bool {
+// Whether a window that receives takes the expected number alone, and expects 0 once it is cleared.
+fn takes_the_expected(window: &mut RecvWindow<Mod8>) -> bool {
+    let taken = window.offer(0) == Offer::InOrder && window.offer(2) == Offer::OutOfOrder;
+    let next = window.expected();
     window.clear();
-    window.expected() == 0
+    taken && next == 1 && window.expected() == 0
 }
 
 #[test]
-fn accepts_the_expected_number_alone(rt: HostRuntime) {
-    let mut window = RecvWindow::<Mod8>::new();
-    assert!(rt; answers(&mut window, EXPECTED));
-    assert!(rt; window.expected() == 0);
-    assert!(rt; answers(&mut window, UNEXPECTED));
-    assert!(rt; expects_0_anew(&mut window));
+fn windows_take_the_expected_number(rt: HostRuntime) {
+    assert!(rt; takes_the_expected(&mut RecvWindow::<Mod8>::new()));
 }

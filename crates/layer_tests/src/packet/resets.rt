@@ -6,72 +6,30 @@ use reset_restart::{
     ResetEvent, ResetNote, ResetState, ResetStep, RestartNote, RestartState, RestartStep,
 };
 
-// A role, an event when flow control is ready, and what comes of it.
-type ResetRow = (Role, ResetEvent, ResetStep);
-
-const RESETS: &[ResetRow] = &[
-    (
-        Role::Dte,
-        ResetEvent::UserReset,
-        ResetStep {
-            state: ResetState::DteReset,
-            owed: Some(PacketType::ResetRequest),
-            note: ResetNote::Nothing,
-            error: None,
-        },
-    ),
-    // A Reset Confirmation of no reset, at a DCE.
-    (
-        Role::Dce,
-        ResetEvent::Received(PacketType::ResetConfirmation),
-        ResetStep {
-            state: ResetState::DceReset,
-            owed: Some(PacketType::ResetRequest),
-            note: ResetNote::Reset,
-            error: Some(0x1b),
-        },
-    ),
-];
-
+// A Reset Confirmation of no reset, at a DCE.
 #[test]
 fn resets(rt: HostRuntime) {
-    for (role, event, step) in RESETS {
-        assert!(rt; ResetState::step(*role, ResetState::FlowControlReady, *event) == *step);
-    }
+    const STEP: ResetStep = ResetStep {
+        state: ResetState::DceReset,
+        owed: Some(PacketType::ResetRequest),
+        note: ResetNote::Reset,
+        error: Some(0x1b),
+    };
+    let event = ResetEvent::Received(PacketType::ResetConfirmation);
+    assert!(rt; ResetState::step(Role::Dce, ResetState::FlowControlReady, event) == STEP);
     assert!(rt; ResetState::own(Role::Dce) == ResetState::DceReset);
 }
 
-// A role, a packet when the packet layer is ready, and what comes of it.
-type RestartRow = (Role, PacketType, RestartStep);
-
-const RESTARTS: &[RestartRow] = &[
-    (
-        Role::Dte,
-        PacketType::RestartRequest,
-        RestartStep {
-            state: RestartState::PacketLayerReady,
-            owed: Some(PacketType::RestartConfirmation),
-            note: RestartNote::CallsClosed,
-            error: None,
-        },
-    ),
-    // A Restart Confirmation of no restart, at a DCE.
-    (
-        Role::Dce,
-        PacketType::RestartConfirmation,
-        RestartStep {
-            state: RestartState::DceRestart,
-            owed: Some(PacketType::RestartRequest),
-            note: RestartNote::CallsClosed,
-            error: Some(0x11),
-        },
-    ),
-];
-
+// A Restart Confirmation of no restart, at a DCE.
 #[test]
 fn restarts(rt: HostRuntime) {
-    for (role, packet, step) in RESTARTS {
-        assert!(rt; RestartState::step(*role, RestartState::PacketLayerReady, *packet) == *step);
-    }
+    const STEP: RestartStep = RestartStep {
+        state: RestartState::DceRestart,
+        owed: Some(PacketType::RestartRequest),
+        note: RestartNote::CallsClosed,
+        error: Some(0x11),
+    };
+    let event = PacketType::RestartConfirmation;
+    assert!(rt; RestartState::step(Role::Dce, RestartState::PacketLayerReady, event) == STEP);
     assert!(rt; RestartState::own(Role::Dce) == RestartState::DceRestart);
 }

@@ -1,10 +1,7 @@
 //! Command lines as they are read, and service signals by their texts.
-use crate::terminal::steps::is_selection;
 use arrayvec::ArrayVec;
-use std::process::Abort;
 use x28_commands::{
-    Command, CommandFault, ParameterValue, Signal, hides_echo, read_command, read_pairs,
-    write_signal,
+    Command, CommandFault, ParameterValue, Selection, Signal, read_command, write_signal,
 };
 
 /// What a line is read as.
@@ -12,9 +9,6 @@ use x28_commands::{
 enum Wanted<'a> {
     Fault(CommandFault),
     Empty,
-    Profile(u8),
-    /// A command that asks for these parameters.
-    Read(&'a [u8]),
     /// A command that sets these parameters, each by its number and its value.
     Set(&'a [(u8, u8)]),
     /// A command that calls this address, with these user data.
@@ -23,41 +17,23 @@ enum Wanted<'a> {
 
 const LINES: &[(&[u8], Wanted)] = &[
     (b"SETT", Wanted::Fault(CommandFault::Unknown)),
-    (b"STAT 1", Wanted::Fault(CommandFault::Unknown)),
     (b"SET 300:1", Wanted::Fault(CommandFault::BadNumber)),
     (b"SET 2", Wanted::Fault(CommandFault::BadNumber)),
-    (b"SET", Wanted::Fault(CommandFault::BadNumber)),
     (b"20X1", Wanted::Fault(CommandFault::BadAddress)),
-    (b"2001 D", Wanted::Fault(CommandFault::BadAddress)),
     (b"2001D1234567890123", Wanted::Fault(CommandFault::TooLong)),
     (&[b' '; 65], Wanted::Fault(CommandFault::TooLong)),
-    (&[b' '; 64], Wanted::Empty),
-    (
-        b"par?1,2,3,4,5,6,7,8,9,1,2,3,4,5,6,7,8,9",
-        Wanted::Read(&[1, 2, 3, 4, 5, 6, 7, 8, 9, 1, 2, 3, 4, 5, 6, 7, 8, 9]),
-    ),
-    (
-        b"par?1,2,3,4,5,6,7,8,9,1,2,3,4,5,6,7,8,9,1",
-        Wanted::Fault(CommandFault::TooLong),
-    ),
-    (b"set 2:0,3:2", Wanted::Set(&[(2, 0), (3, 2)])),
-    (b"  Par? 2,25 ", Wanted::Read(&[2, 25])),
-    (b"2001Phi ", Wanted::Select(&[2, 0, 0, 1], b"hi ")),
     (b"", Wanted::Empty),
-    (b"PROF91", Wanted::Profile(91)),
+    (b"set 2:0,3:2", Wanted::Set(&[(2, 0), (3, 2)])),
+    (b"2001Phi ", Wanted::Select(&[2, 0, 0, 1], b"hi ")),
 ];
-
-#[test]
-fn reads_lines(rt: HostRuntime) {
-    read_all(&rt, lines());
-}
 
 fn lines() -> &'static [(&'static [u8], Wanted<'static>)] {
     LINES
 }
 
-fn read_all(rt: &impl Abort, lines: &[(&[u8], Wanted<'_>)]) {
-    for (line, wanted) in lines {
+#[test]
+fn reads_lines(rt: HostRuntime) {
+    for (line, wanted) in lines() {
         assert!(rt; is_read(line, *wanted), "{line:?}");
     }
 }
@@ -80,8 +56,6 @@ fn is_fault(fault: CommandFault, wanted: Wanted<'_>) -> bool {
 fn is_command(command: &Command, wanted: Wanted<'_>) -> bool {
     match (command, wanted) {
         (Command::Empty, Wanted::Empty) => true,
-        (Command::Profile(number), Wanted::Profile(wanted)) => *number == wanted,
-        (Command::Read(numbers), Wanted::Read(wanted)) => numbers.as_slice() == wanted,
         (Command::Set(pairs), Wanted::Set(wanted)) => pairs.as_slice() == wanted,
         (Command::Select(selection), Wanted::Select(address, user_data)) => {
             is_selection(selection, address, user_data)
@@ -90,18 +64,9 @@ fn is_command(command: &Command, wanted: Wanted<'_>) -> bool {
     }
 }
 
-/// Whether a text is read as pairs.
-fn are_pairs(text: &[u8]) -> bool {
-    text.len() <= 143 && read_pairs(text).is_ok()
-}
-
-#[test]
-fn reads_pairs_and_hides_user_data(rt: HostRuntime) {
-    assert!(rt; are_pairs(b"3:2,15:1"));
-    assert!(rt; !are_pairs(b"3:2, 15:1"));
-    assert!(rt; hides_echo(b" 2001P"));
-    assert!(rt; !hides_echo(b"2001D"));
-    assert!(rt; !hides_echo(b"P"));
+/// Whether a selection has this address and these user data.
+fn is_selection(selection: &Selection, address: &[u8], user_data: &[u8]) -> bool {
+    selection.address.digits() == address && selection.user_data.as_slice() == user_data
 }
 
 /// What a PAD tells.
@@ -116,18 +81,33 @@ enum Told {
 }
 
 const SIGNALS: &[(Told, &[u8])] = &[
+    (Told::Clear(1), b"\r\nCLR OCC\r\n"),
+    (Told::Clear(3), b"\r\nCLR INV\r\n"),
+    (Told::Clear(5), b"\r\nCLR NC\r\n"),
+    (Told::Clear(9), b"\r\nCLR DER\r\n"),
+    (Told::Clear(11), b"\r\nCLR NA\r\n"),
     (Told::Clear(13), b"\r\nCLR NP\r\n"),
+    (Told::Clear(17), b"\r\nCLR RPE\r\n"),
+    (Told::Clear(19), b"\r\nCLR ERR\r\n"),
     (Told::Clear(2), b"\r\nCLR ERR\r\n"),
+    (Told::Clear(0), b"\r\nCLR DTE\r\n"),
     (Told::Clear(128), b"\r\nCLR DTE\r\n"),
+    (Told::Reset(0), b"\r\nRESET DTE\r\n"),
+    (Told::Reset(3), b"\r\nRESET RPE\r\n"),
     (Told::Reset(5), b"\r\nRESET ERR\r\n"),
+    (Told::Reset(7), b"\r\nRESET NC\r\n"),
     (Told::Prompt, b"\r\n*"),
     (Told::Acknowledgement, b"\r\n"),
     (Told::Parameters, b"\r\nPAR 2:1,25:INV\r\n"),
 ];
 
+fn signals() -> &'static [(Told, &'static [u8])] {
+    SIGNALS
+}
+
 #[test]
 fn writes_signals(rt: HostRuntime) {
-    for (told, text) in SIGNALS {
+    for (told, text) in signals() {
         assert!(rt; is_written(*told, text), "{text:?}");
     }
 }

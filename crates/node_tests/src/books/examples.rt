@@ -1,53 +1,12 @@
 //! Rules of books, each with writes by which it is seen.
-use crate::books::{
-    CALLED, DCE_NODE, DTE_NODE, Example, INTERRUPT, NOTHING, Passage, Shown, Step, play,
-};
-use Shown::{Ended, HasSpare, IsClosed, NoEpoch, Open, Sent, Took};
+use crate::books::{CALLED, DCE_NODE, DTE_NODE, Example, Shown, Step, play};
+use Shown::{Ended, HasSpare, IsClosed, Open};
 use Step::{
-    AllMatch, Answer, Close, CloseAll, Closed, Connected, Cover, Incoming, Matches, Pairs, Place,
-    Present, Records, Renew, Reset, Send, SendInterrupt, SendOn, Shows,
+    AllMatch, Answer, Cancelled, Close, Connected, Incoming, Matches, Pairs, Place, Present, Renew,
+    Send, SendInterrupt, SendLast, Shows,
 };
 use call_records::Pair;
 use link_timers::Role::{Dce, Dte};
-use packet_layer::Reason;
-
-const FIRST_PAIR: &[Pair] = &[Pair {
-    caller: 0,
-    callee: 1,
-}];
-
-// Packets of more octets than a line has by default.
-const LARGEST: &[u8] = &[7; 1_024];
-
-const LARGE: &[u8] = &[8; 129];
-
-// What is kept of packets of each size.
-const SIZES: &[Example] = &[Example {
-    rule: "a packet is kept whole, with its bits",
-    standing: true,
-    steps: &[
-        Send(Dte, LARGEST),
-        Send(Dte, b""),
-        Send(Dte, LARGE),
-        Cover(Dte, 2),
-        Shows(
-            0,
-            Sent(
-                None,
-                Passage {
-                    packets: &[LARGEST, b"", LARGE],
-                    interrupt: None,
-                    counted: 2,
-                },
-            ),
-        ),
-    ],
-}];
-
-#[test]
-fn books_keep_large_packets(rt: HostRuntime) {
-    play(&rt, rt.alloc(), SIZES);
-}
 
 // What matches, and what does not.
 const MATCHES: &[Example] = &[
@@ -118,7 +77,7 @@ const MATCHES: &[Example] = &[
             Matches(false),
             Send(Dce, b"C"),
             Matches(true),
-            SendOn(Dte, 1, b""),
+            SendLast(Dte, b""),
             Send(Dce, b"D"),
             Matches(false),
         ],
@@ -138,61 +97,58 @@ const MATCHES: &[Example] = &[
         rule: "interrupts count apart from packets",
         standing: true,
         steps: &[
-            SendInterrupt(Dte, INTERRUPT),
+            SendInterrupt(Dte, &[7]),
             Matches(false),
             Send(Dce, b"A"),
-            SendInterrupt(Dce, INTERRUPT),
+            SendInterrupt(Dce, &[7]),
             Matches(true),
-            SendInterrupt(Dte, INTERRUPT),
+            SendInterrupt(Dte, &[7]),
             SendInterrupt(Dce, &[8]),
             Matches(false),
         ],
     },
 ];
 
-#[test]
-fn taken_matches_sent(rt: HostRuntime) {
-    play(&rt, rt.alloc(), MATCHES);
+fn matching() -> &'static [Example<'static>] {
+    MATCHES
 }
 
-// Calls that are placed, that cross and that stand.
+#[test]
+fn taken_matches_sent(rt: HostRuntime) {
+    play(&rt, rt.alloc(), matching());
+}
+
+// Calls that are placed, that cross and that are reset.
 const CALLS: &[Example] = &[
     Example {
         rule: "a call is placed and answered",
         standing: false,
         steps: &[
-            Records(0),
-            Pairs(&[]),
             Place(Dte, 2),
             Shows(0, Open(DTE_NODE, &[], &CALLED)),
             Incoming(Dce, 2),
             Shows(1, Open(DCE_NODE, &CALLED, &[])),
-            Present(Dte, 2, Some(0)),
-            Present(Dce, 2, Some(1)),
             Pairs(&[]),
             Answer(Dce, 2),
             Connected(Dte, 2),
-            Pairs(FIRST_PAIR),
+            Pairs(&[Pair {
+                caller: 0,
+                callee: 1,
+            }]),
             Close(Dte, 2),
             Shows(0, IsClosed(true)),
             Shows(1, IsClosed(false)),
-            Closed(Dce, 2, Reason::FarEnd),
-            Shows(1, IsClosed(true)),
-            Present(Dce, 2, None),
-            Place(Dce, 2),
-            Shows(2, Open(DCE_NODE, &[], &CALLED)),
-            Pairs(FIRST_PAIR),
-            Records(3),
+            Present(Dte, 2, None),
+            Present(Dce, 2, Some(1)),
         ],
     },
-    // One of two calls that cross is cancelled.
     Example {
-        rule: "calls cross",
+        rule: "one of two calls that cross is cancelled",
         standing: false,
         steps: &[
             Place(Dte, 1),
             Place(Dce, 1),
-            Closed(Dce, 1, Reason::Cancelled),
+            Cancelled(Dce, 1),
             Incoming(Dce, 1),
             Shows(1, IsClosed(true)),
             Shows(2, Open(DCE_NODE, &CALLED, &[])),
@@ -217,138 +173,22 @@ const CALLS: &[Example] = &[
         ],
     },
     Example {
-        rule: "a call stands",
+        rule: "a reset ends an epoch both ways",
         standing: true,
         steps: &[
-            Shows(0, Open(DTE_NODE, &[], &[])),
-            Shows(1, Open(DCE_NODE, &[], &[])),
-            Pairs(FIRST_PAIR),
-            Records(2),
-            Present(Dte, 1, Some(0)),
-            Present(Dce, 1, Some(1)),
-            Present(Dte, 2, None),
-            Present(Dte, 0, None),
+            Send(Dte, b"AB"),
+            Renew(Dte),
+            Shows(0, Ended(1)),
+            Shows(1, Ended(0)),
         ],
     },
 ];
+
+fn calls() -> &'static [Example<'static>] {
+    CALLS
+}
 
 #[test]
 fn books_have_calls(rt: HostRuntime) {
-    play(&rt, rt.alloc(), CALLS);
-}
-
-// What passed in epochs, and calls that close.
-const EPOCHS: &[Example] = &[
-    Example {
-        rule: "a reset opens an epoch at each end",
-        standing: true,
-        steps: &[
-            Send(Dte, b"AB"),
-            Cover(Dte, 1),
-            Renew(Dte),
-            Reset(Dce),
-            Records(2),
-            Shows(0, Sent(None, NOTHING)),
-            Shows(0, Took(None, NOTHING)),
-            Shows(1, Sent(None, NOTHING)),
-            Shows(1, Took(None, NOTHING)),
-            Shows(0, Ended(1)),
-            Shows(1, Ended(1)),
-            Shows(
-                0,
-                Sent(
-                    Some(0),
-                    Passage {
-                        packets: &[b"AB"],
-                        interrupt: None,
-                        counted: 1,
-                    },
-                ),
-            ),
-        ],
-    },
-    // What was sent in each of three epochs.
-    Example {
-        rule: "each epoch is read by itself",
-        standing: true,
-        steps: &[
-            Send(Dte, b"AB"),
-            Send(Dte, b"C"),
-            Cover(Dte, 1),
-            SendInterrupt(Dte, INTERRUPT),
-            Renew(Dte),
-            Send(Dte, b"D"),
-            Renew(Dte),
-            Send(Dte, b"EF"),
-            Records(2),
-            Shows(
-                0,
-                Sent(
-                    Some(0),
-                    Passage {
-                        packets: &[b"AB", b"C"],
-                        interrupt: Some(INTERRUPT),
-                        counted: 1,
-                    },
-                ),
-            ),
-            Shows(
-                0,
-                Sent(
-                    Some(1),
-                    Passage {
-                        packets: &[b"D"],
-                        interrupt: None,
-                        counted: 0,
-                    },
-                ),
-            ),
-            Shows(
-                0,
-                Sent(
-                    None,
-                    Passage {
-                        packets: &[b"EF"],
-                        interrupt: None,
-                        counted: 0,
-                    },
-                ),
-            ),
-            Shows(0, Ended(2)),
-            Shows(0, NoEpoch(2)),
-        ],
-    },
-    Example {
-        rule: "all calls of an end close",
-        standing: true,
-        steps: &[
-            Place(Dte, 4),
-            Place(Dce, 3),
-            CloseAll(Dte),
-            Shows(0, IsClosed(true)),
-            Shows(2, IsClosed(true)),
-            Shows(1, IsClosed(false)),
-            Shows(3, IsClosed(false)),
-            Present(Dte, 1, None),
-            Present(Dte, 4, None),
-            Present(Dce, 3, Some(3)),
-        ],
-    },
-    Example {
-        rule: "a line keeps nothing of a channel that it has not",
-        standing: false,
-        steps: &[
-            Place(Dte, 5),
-            Records(1),
-            Present(Dte, 5, None),
-            SendOn(Dte, 5, b"AB"),
-            Close(Dte, 5),
-            Shows(0, Open(DTE_NODE, &[], &CALLED)),
-        ],
-    },
-];
-
-#[test]
-fn books_have_epochs(rt: HostRuntime) {
-    play(&rt, rt.alloc(), EPOCHS);
+    play(&rt, rt.alloc(), calls());
 }
