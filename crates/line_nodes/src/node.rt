@@ -2,7 +2,7 @@
 ghost use Rattle.std.specs.Prelude.{◌≡◌, ◌≤◌, ◌∷◌, [], length};
 ghost use Rattle.std.specs.Bool.{OnTrue, OnFalse};
 ghost use Rattle.packet_end.specs.PacketEnd.{without_first_frame};
-ghost use Rattle.line_nodes.specs.Node.{end_of, with_end, is_pad, frames_of, node_rests, node_due};
+ghost use Rattle.line_nodes.specs.Node.{end_of, with_end, frames_of, node_rests, node_due};
 ghost use Rattle.line_nodes.specs.Node.{node_elapsed, node_confirmed};
 ghost use Rattle.line_nodes.specs.NodeView.{node_of};
 ghost use Rattle.line_nodes.specs.NodeEvents.{heard, node_runs, expired, relinked, restarted};
@@ -128,12 +128,5 @@ impl Node {
             Node::Pad(_) => false,
             Node::Host(host) => host.confirmed(channel),
         }
-    }
-
-    /// Whether the node is a PAD.
-    pub fn is_pad(&self) -> bool
-        ensures { result ≡ is_pad (node_of self.now) }
-    {
-        matches!(self, Node::Pad(_))
     }
 }

@@ -1,7 +1,5 @@
-//! Nodes, and their faults by their words.
-use crate::hosts::new_host;
-use crate::lines::STANDING;
-use line_nodes::{Node, NodeFault};
+//! The faults of nodes by their words.
+use line_nodes::NodeFault;
 use packet_layer::{CallFault, ChannelFault};
 use std::alloc::Global;
 
@@ -18,16 +16,4 @@ fn a_fault_has_the_words_of_its_cause(rt: HostRuntime) {
     assert!(rt; has_words(rt.alloc(), full, "send queue full"));
     let narrow = NodeFault::from(CallFault::NoChannel);
     assert!(rt; has_words(rt.alloc(), narrow, "no free channel"));
-}
-
-fn is_no_pad(alloc: Global) -> bool {
-    match new_host(alloc, STANDING) {
-        Ok(host) => !Node::Host(host).is_pad(),
-        Err(_) => false,
-    }
-}
-
-#[test]
-fn a_host_is_no_pad(rt: HostRuntime) {
-    assert!(rt; is_no_pad(rt.alloc()));
 }

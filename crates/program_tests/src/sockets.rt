@@ -349,7 +349,7 @@ fn fails_so<N: Net>(net: &N, alloc: Global, failed: &Failed) -> bool {
 #[test]
 fn a_call_that_fails_loses_its_frame(rt: HostRuntime) -> Result<(), Fail> {
     for failed in FAILED {
-        assert!(rt; fails_so(&rt, rt.alloc(), failed), "at {failed:?}");
+        assert!(rt; fails_so(&rt, rt.alloc(), failed));
     }
     Ok(())
 }

@@ -1,4 +1,4 @@
-use Rattle.std.proofs.Common.{◌↔◌, List, ◌∷◌, map, sym, subst}
+use Rattle.std.proofs.Common.{◌↔◌, List, ◌∷◌, map, sym, subst, rules, tests}
 use Rattle.std.proofs.lemmas.Bool.{iff_false}
 use Rattle.epochs.specs.Match.{Match}
 use Rattle.call_records.proofs.OnePass.{match-join, match-skip}
@@ -23,3 +23,6 @@ loop-other-preserved c = λ later.
     let P : List Part → Type 0 = λ ps. Match (e ∷ later) (map epoch_of ps) ↔ Match (e ∷ later) rest in
     iff-then (c.loop-other.invariant later)
     (subst P (sym c.in-Some.ensures.steps) (match-skip c.requires (iff_false c.begins.ensures c.if-begins.false)))
+
+pub returns-clause-found : goal.returns-clause-found
+returns-clause-found c = search (rules, tests)

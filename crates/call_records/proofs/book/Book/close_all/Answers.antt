@@ -1,4 +1,4 @@
-use Rattle.std.proofs.Common.{◌∙◌, ◌+◌, ◌-◌, ap, sym}
+use Rattle.std.proofs.Common.{◌∙◌, ◌+◌, ◌-◌, ap, sym, rules, tests}
 use Rattle.call_records.specs.Book.{Book}
 use Rattle.call_records.specs.Closing.{closed_from}
 use Rattle.call_records.specs.Room.{BookState}
@@ -27,3 +27,6 @@ loop-place-preserved c =
         pairs = ap (λ (s : BookState). s.pairs) w.self-is ∙ c.loop-place.invariant.pairs;
       }
     ]
+
+pub loop-place-init : goal.loop-place-init
+loop-place-init c = search (rules, tests)

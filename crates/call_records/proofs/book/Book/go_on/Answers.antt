@@ -1,4 +1,4 @@
-use Rattle.std.proofs.Common.{arith}
+use Rattle.std.proofs.Common.{arith, rules, tests}
 use Rattle.call_records.proofs.book.Book.go_on.Goals as goal
 
 pub invariant_of-self : goal.invariant_of-self
@@ -13,3 +13,6 @@ invariant_of-self c =
       dte = λ channel number e. c.go_on_at.ensures.room a.places number (p.dte channel number e);
       dce = λ channel number e. c.go_on_at.ensures.room a.places number (p.dce channel number e);
     }
+
+pub returns : goal.returns
+returns c = search (rules, tests)

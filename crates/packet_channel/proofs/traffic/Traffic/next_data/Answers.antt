@@ -1,4 +1,4 @@
-use Rattle.std.proofs.Common.{sym, subst}
+use Rattle.std.proofs.Common.{sym, subst, rules, tests}
 use Rattle.flow_window.specs.Pool.{Holds}
 use Rattle.flow_window.proofs.Weights.{held_in}
 use Rattle.packet_channel.specs.Held.{Traffic}
@@ -16,3 +16,15 @@ pub drop_front-requires : goal.drop_front-requires
 drop_front-requires c =
     let all = subst (λ (t : Traffic). Holds c.args.pool.now t.held) (sym c.self-2.view_is) c.requires.holds in
     holds_first c.args.pool.now c.self-2.inside.waiting.held c.self-2.inside.arrived.held all
+
+pub returns-clause-octets : goal.returns-clause-octets
+returns-clause-octets c = search (rules, tests)
+
+pub returns-clause-reads_back : goal.returns-clause-reads_back
+returns-clause-reads_back c = search (rules, tests)
+
+pub returns-clause-traffic : goal.returns-clause-traffic
+returns-clause-traffic c = search (rules, tests)
+
+pub returns-clause-said : goal.returns-clause-said
+returns-clause-said c = search (rules, tests)
