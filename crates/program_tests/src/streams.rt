@@ -29,7 +29,7 @@ fn ends<F: Files + net::Net, R: Read, W: Write>(
     perform(rt, alloc, &[], input, out, &mut err) == status && err.as_slice() == told
 }
 
-/// Whether it does so, and prints this.
+/// Whether the program ends so on this input, and prints this text.
 fn ends_printing<F: Files + net::Net, R: Read>(
     rt: &F,
     alloc: Global,
@@ -91,7 +91,7 @@ fn writes_of_all<F: Files + net::Net>(rt: &F, alloc: Global) -> Option<u32> {
     }
 }
 
-/// Whether it ends in the fault of a refused write after so many, with a part of what is printed.
+/// Whether the program ends in the fault of a refused write after so many, with a part of what is printed.
 fn stops<F: Files + net::Net>(rt: &F, alloc: Global, writes: u32) -> bool {
     let mut input = SCRIPT;
     let mut out = Refusing::new(alloc, writes);
