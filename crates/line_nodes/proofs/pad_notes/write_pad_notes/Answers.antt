@@ -1,5 +1,5 @@
 -- The first note has room, and where there is none all are written.
-use Rattle.std.proofs.Common.{◌≡◌, ℕ, List, [], ◌∷◌, length, Some, None, drop, slice_get, refl, subst, sym, ap, ◌∙◌}
+use Rattle.std.proofs.Common.{◌≡◌, ℕ, List, [], ◌∷◌, length, Some, None, drop, slice_get, refl, subst, sym, ap, ◌∙◌, rules, tests}
 use Rattle.x25_pad.specs.Notes.{ChannelNote}
 use Rattle.x25_pad.specs.Pad.{PadState}
 use Rattle.call_records.specs.Writes.{all_written}
@@ -39,3 +39,6 @@ returns-clause-book c =
     ap (λ notes. all_written c.args.role (writes_of notes) c.loop-note.book.book)
     (sym (none_is c.loop-note.pad.line.notes c.in_default.ensures))
     ∙ c.loop-note.invariant.book
+
+pub loop-note-preserved : goal.loop-note-preserved
+loop-note-preserved c = search (rules, tests)

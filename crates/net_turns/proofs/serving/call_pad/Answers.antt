@@ -1,4 +1,4 @@
-use Rattle.std.proofs.Common.{◌<◌, length, refl, arith}
+use Rattle.std.proofs.Common.{◌<◌, length, refl, arith, rules, tests}
 use Rattle.line_nodes.specs.Node.{Pad}
 use Rattle.net_events.specs.NodeEvents.{AtTerminal}
 use Rattle.net_turns.proofs.Writing.{called_terminal}
@@ -16,3 +16,6 @@ returns c =
           (called_terminal c.args.at.role p c.args.terminal c.args.event c.open_turn.new.register.book c.requires.quiet o.writes o.pairs)
           c.in_ok-open_turn.ensures.empty.ready refl refl c.at_terminal.ensures.outcome c.at_terminal.ensures.text),
     )
+
+pub returns-then-terminal-from : goal.returns-then-terminal-from
+returns-then-terminal-from c = search (rules, tests)

@@ -1,4 +1,4 @@
-use Rattle.std.proofs.Common.{rules, arith, sym, ap, subst, ◌∙◌, inl, inr, take, drop, ◌-◌, length-append, length}
+use Rattle.std.proofs.Common.{rules, arith, sym, ap, subst, ◌∙◌, inl, inr, take, drop, ◌-◌, length-append, length, tests}
 use Rattle.std.proofs.lemmas.Grind.{common_steps}
 use Rattle.trace_capture.proofs.Octets.{Left, first_left, on_err, spelled_so}
 use Rattle.trace_capture.proofs.frame.read_octets.Goals as goal
@@ -28,3 +28,9 @@ returns-else-is_empty-clause-fault c octets are spelled =
         | in_default-2 w ↦ search (rules, some.1)
       ]
     ]
+
+pub returns-then-len-eq-MAX_FRAME-clause-fault : goal.returns-then-len-eq-MAX_FRAME-clause-fault
+returns-then-len-eq-MAX_FRAME-clause-fault c = grind (arith, common_steps)
+
+pub push-requires : goal.push-requires
+push-requires c = search (rules, tests)

@@ -1,4 +1,4 @@
-use Rattle.std.proofs.Common.{ap}
+use Rattle.std.proofs.Common.{ap, rules, tests}
 use Rattle.packet_layer.specs.Held.{Layer}
 use Rattle.packet_end.proofs.Pools.{served, layer_holds, layer_balanced}
 use Rattle.packet_end.proofs.pooled.PooledEnd.heed.Goals as goal
@@ -27,3 +27,6 @@ returns-clause-pool c =
           rw (held, w.pool-is, w.self-inside-is)
           (layer_balanced c.self.inside c.args.self.now c.args.pool.now w.link_down.new.pool w.link_down.new.self c.self.view_is w.link_down.ensures.pool)
     ]
+
+pub returns-clause-end : goal.returns-clause-end
+returns-clause-end c = search (rules, tests)

@@ -1,4 +1,4 @@
-use Rattle.std.proofs.Common.{◌≡◌, ◌∙◌, ◌<◌, true, List, ℕ, length, take, drop, false, sym, ap, arith}
+use Rattle.std.proofs.Common.{◌≡◌, ◌∙◌, ◌<◌, true, List, ℕ, length, take, drop, false, sym, ap, arith, rules, tests}
 use Rattle.packet_channel.specs.Cutting.{cut}
 use Rattle.packet_channel.proofs.Pieces.{some_full, one_full, cut_more, full_of}
 use Rattle.packet_channel.specs.Channel.{Request}
@@ -30,3 +30,6 @@ loop-preserved c =
           ∙ sym (ap (λ (ds : List Datum). queued c.args.channel ds c.loop.end) (cut_more size whole is long))
           ∙ c.loop.invariant.queued;
     }
+
+pub returns : goal.returns
+returns c = search (rules, tests)
