@@ -428,12 +428,25 @@ fn goes_so(alloc: Global, case: &Case) -> bool {
 fn goes_so_on(alloc: Global, net: &mut Net<MemLine>, config: &Config, case: &Case) -> bool {
     let mut same = true;
     for stage in case.stages {
-        same = same
-            && plays(alloc, net, config, stage.script).is_ok()
-            && are_confirmed(net, case.channels, stage.confirmed)
-            && find_none(net, stage.finds_none);
+        same = same && has_stage(alloc, net, config, case.channels, stage);
     }
-    same && net.pairs() == case.pairs && are_kept(net.records(), case.records)
+    same && are_pairs(net.pairs(), case.pairs) && are_kept(net.records(), case.records)
+}
+
+fn has_stage(
+    alloc: Global,
+    net: &mut Net<MemLine>,
+    config: &Config,
+    channels: [u16; 2],
+    stage: &Stage,
+) -> bool {
+    plays(alloc, net, config, stage.script).is_ok()
+        && are_confirmed(net, channels, stage.confirmed)
+        && find_none(net, stage.finds_none)
+}
+
+fn are_pairs(pairs: &[Pair], expected: &[Pair]) -> bool {
+    pairs == expected
 }
 
 /// Whether delivery is confirmed so on these channels of the first node and the second. It never is where there is no

@@ -114,7 +114,7 @@ fn carries_frames_in_order_and_loses_what_is_in_flight(rt: HostRuntime) -> Resul
 }
 
 /// How a partner fails at a call.
-#[derive(Clone, Copy, Debug)]
+#[derive(Clone, Copy)]
 enum Failure {
     SendFails,
     SendIsShort,

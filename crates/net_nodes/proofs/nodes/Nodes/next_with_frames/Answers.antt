@@ -1,4 +1,4 @@
-use Rattle.std.proofs.Common.{◌≤◌, ◌<◌, arith}
+use Rattle.std.proofs.Common.{◌≤◌, ◌<◌, arith, rules, tests}
 use Rattle.net_nodes.proofs.Passing.{one_more}
 use Rattle.net_nodes.proofs.nodes.Nodes.next_with_frames.Goals as goal
 
@@ -11,3 +11,6 @@ pub returns-clause-none : goal.returns-clause-none
 returns-clause-none g c line after before =
     let so_far : line < c.loop-line.line = omega (arith, after, before, c.max.ensures) in
     c.loop-line.invariant line after so_far
+
+pub returns-then-not-find_none-clause-none : goal.returns-then-not-find_none-clause-none
+returns-then-not-find_none-clause-none c = search (rules, tests)
