@@ -35,7 +35,7 @@ use Rattle.net_events.specs.declared.event.StepFault.{StepFault}
 use Rattle.net_events.specs.declared.event.StepFault.TheVariants.{NoSuchTerminal}
 use Rattle.net_nodes.specs.declared.nodes.LineSide.{LineSide}
 use Rattle.net_nodes.specs.Turns.{CanServe, CanServeUser, HadTurn, AtEnd, ActsSo, LeavesLine, UserActsSo, its_turn}
-use Rattle.switch_turns.proofs.Switching.{set_there}
+use Rattle.net_turns.proofs.Switching.{set_there}
 
 -- ---- before the turn
 

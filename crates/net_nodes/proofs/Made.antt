@@ -25,10 +25,10 @@ use Rattle.net_config.specs.NetPlan.{IsKindOfLine, IsLinePlan, HasEndAt, IsSwitc
 use Rattle.net_events.specs.Opening.{NodeIsMade, LineIsMade, AreSent}
 use Rattle.net_events.specs.Opening.{new_at, end_of_two, placed_new, placed_switch, role_on_line, own_configs, line_plan}
 use Rattle.placed_nodes.specs.Making.{waiting_switch, AreNew}
-use Rattle.placed_nodes.proofs.Lists.{within, at_index}
+use Rattle.net_events.proofs.Lists.{within, at_index}
 use Rattle.placed_nodes.proofs.NewNodes.{not_before, has_begun}
 use Rattle.placed_nodes.proofs.Plans.{never_both, same_new_switch, node_of_end, own_line_of, own_there, config_at, configs_count}
-use Rattle.switch_turns.specs.Switching.{LinePut}
+use Rattle.net_turns.specs.Switching.{LinePut}
 use Rattle.net_nodes.specs.Making.{frames_put, put_at, first_end, ArePutSoFar, LineHasBegun, HaveBegun, CanBegin}
 use Rattle.net_nodes.specs.Making.{SwitchBegins, switch_to, HaveNodesBegun, IsMadeOf}
 use Rattle.net_nodes.proofs.Making.{same_before, none_yet, now_put}
@@ -152,14 +152,6 @@ line_stays L next l dte dce flights not_dte not_dce old = record {
     stays Dce = end_stays next l.dce dce Dce l not_dce
 
 -- ---- one switch more
-
-switch_or : PlacedSwitch → NetNode → PlacedSwitch
-switch_or other (User n) = other
-switch_or other (Switching n) = n
-
-pub switches_are : (a b : PlacedSwitch) → Switching a ≡ Switching b → a ≡ b
-unfolding switch_or
-switches_are a b e = ap (switch_or a) e
 
 -- the node that is next: one with users, or a switch whose frames wait
 pub data IsNext (plan : NetPlan) (place : ℕ) (node : NetNode) : Type 0 where

@@ -16,7 +16,7 @@ use Rattle.net_config.specs.NetPlan.{NewNode, NewSwitch, Planned, PlannedUser, P
 use Rattle.net_config.specs.NetPlan.{IsKindOfLine, IsLinePlan, HasEndAt, IsPlan}
 use Rattle.net_events.specs.Opening.{new_at, new_end, placed_new}
 use Rattle.placed_nodes.specs.Making.{waiting, waiting_switch, begun_to, AreNew}
-use Rattle.placed_nodes.proofs.Lists.{within}
+use Rattle.net_events.proofs.Lists.{within}
 use Rattle.placed_nodes.proofs.NewNodes.{not_before, waits, has_begun}
 use Rattle.placed_nodes.proofs.Plans.{node_of_end}
 use Rattle.net_nodes.specs.Making.{begun, begun_node, users_frames, frames_put, ArePutSoFar, LineHasBegun, HaveBegun}

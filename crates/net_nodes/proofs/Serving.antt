@@ -22,7 +22,7 @@ use Rattle.net_turns.specs.Served.{Served}
 use Rattle.net_turns.specs.Users.{IsRefusedWith, IsServed, AtLine}
 use Rattle.net_turns.proofs.Opening.{written_at}
 use Rattle.net_events.proofs.Users.{user_is}
-use Rattle.switch_turns.proofs.Switching.{set_there}
+use Rattle.net_turns.proofs.Switching.{set_there}
 use Rattle.net_nodes.specs.declared.nodes.LineSide.{LineSide}
 use Rattle.net_nodes.specs.Turns.{its_turn, LineServed, UserServed, HadTurn}
 

@@ -27,11 +27,18 @@ use Rattle.net_nodes.specs.Faults.{step_fault, where_there_is, stands_at}
 use Rattle.net_nodes.specs.Happening.{Happens}
 use Rattle.net_events.specs.declared.event.Event.TheVariants.{Deliver, Expire, Relink, Restart}
 use Rattle.net_nodes.specs.Steps.{AtSwitch, hearer}
-use Rattle.switch_turns.specs.Switching.{HasRoom, CanPut}
+use Rattle.net_turns.specs.Switching.{HasRoom, CanPut}
 use Rattle.net_nodes.specs.Switching.{CanSwitch, SwitchActed}
-use Rattle.placed_nodes.proofs.Lists.{within}
-use Rattle.switch_turns.proofs.Switching.{heard_lines, expired_lines, relinked_lines, restarted_lines}
-use Rattle.switch_turns.proofs.Turns.{switch_is}
+use Rattle.net_events.proofs.Lists.{within}
+use Rattle.net_turns.proofs.Switching.{heard_lines, expired_lines, relinked_lines, restarted_lines}
+
+switch_or : PlacedSwitch → NetNode → PlacedSwitch
+switch_or other (User n) = other
+switch_or other (Switching n) = n
+
+pub switch_is : (a b : PlacedSwitch) → Switching a ≡ Switching b → a ≡ b
+unfolding switch_or
+switch_is a b e = ap (switch_or a) e
 
 pub same_switch : (a b : PlacedSwitch) → Some (Switching a) ≡ Some (Switching b) → a ≡ b
 same_switch a b e = switch_is a b (same_Some (Switching a) (Switching b) e)

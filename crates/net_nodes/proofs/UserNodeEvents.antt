@@ -33,7 +33,7 @@ use Rattle.net_nodes.specs.Steps.{AtNode, StepOf, hearer}
 use Rattle.net_nodes.specs.Happening.{Happens}
 use Rattle.net_events.proofs.Users.{same_user, not_both}
 use Rattle.net_nodes.proofs.Places.{user_there}
-use Rattle.placed_nodes.proofs.Lists.{within}
+use Rattle.net_events.proofs.Lists.{within}
 
 -- ---- the node of a place
 

@@ -18,7 +18,7 @@ use Rattle.net_config.specs.NetPlan.{NewNode, NewSwitch, Planned, PlannedUser, P
 use Rattle.net_events.specs.Opening.{IsMade}
 use Rattle.net_events.specs.Opening.{new_at, placed_new, placed_switch, line_plan}
 use Rattle.placed_nodes.specs.Making.{waiting_switch}
-use Rattle.switch_turns.specs.Switching.{LinesPut}
+use Rattle.net_turns.specs.Switching.{LinesPut}
 
 -- ---- what has been put on a line
 

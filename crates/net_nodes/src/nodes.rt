@@ -18,9 +18,9 @@ use frame_codec::FrameBuf;
 use frame_lines::Line;
 use link_timers::Role;
 use net_events::{Answer, Event, StepFault};
+use net_turns::NetLine;
 use placed_nodes::NetNode;
 use std::marker::Model;
-use switch_turns::NetLine;
 
 /// An end of a line.
 #[derive(Clone, Copy)]

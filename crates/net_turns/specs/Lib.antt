@@ -2,3 +2,4 @@ pub mod Outcomes
 pub mod Sends
 pub mod Served
 pub mod Users
+pub mod Switching

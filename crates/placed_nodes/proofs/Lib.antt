@@ -1,4 +1,3 @@
-pub mod Lists
 pub mod Plans
 pub mod NewNodes
 mod Due

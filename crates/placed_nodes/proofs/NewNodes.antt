@@ -11,7 +11,7 @@ use Rattle.net_events.specs.Network.{NetNode, User}
 use Rattle.net_config.specs.NetPlan.{NewNode, Planned, PlannedUser, PlannedSwitch, NewLine, NetPlan}
 use Rattle.net_events.specs.Opening.{placed_new, line_plan}
 use Rattle.placed_nodes.specs.Making.{waiting, begun_to, IsNewNode, AreNew, AreFree, stands}
-use Rattle.placed_nodes.proofs.Lists.{within}
+use Rattle.net_events.proofs.Lists.{within}
 
 pub not_before : (a b : ℕ) → b ≤ a → nat_lt a b ≡ false
 not_before a b h = by (nat_lt a b) refl

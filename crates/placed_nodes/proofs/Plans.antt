@@ -10,7 +10,7 @@ use Rattle.net_config.specs.NetPlan.{NewNode, NewSwitch, Planned, PlannedUser, P
 use Rattle.net_config.specs.NetPlan.{IsEndPlan, IsKindOfLine, IsLinePlan, HasEndAt, IsSwitchPlan, IsPlan}
 use Rattle.net_events.specs.Opening.{line_config, found_config, own_configs}
 use Rattle.placed_nodes.specs.Making.{CanMakeLines}
-use Rattle.placed_nodes.proofs.Lists.{at_index, within}
+use Rattle.net_events.proofs.Lists.{at_index, within}
 
 -- ---- what is planned for a place
 

@@ -6,4 +6,4 @@ mod making;
 mod node;
 
 pub use making::{new_nodes, new_register};
-pub use node::{Equipment, NetNode, first_node_due, network_line};
+pub use node::{Equipment, NetNode, first_node_due};

@@ -20,7 +20,7 @@ ghost use Rattle.placed_nodes.specs.Making.{AreFree, stands};
 ghost use Rattle.placed_nodes.specs.NodeView.{kind_of};
 ghost use Rattle.net_config.specs.PlanView.{add_route, routes_value};
 
-use crate::node::{Equipment, NetNode, network_line};
+use crate::node::{Equipment, NetNode};
 use address_routes::{RouteFault, Routes};
 use call_records::Register;
 use line_nodes::Node;

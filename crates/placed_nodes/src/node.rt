@@ -1,7 +1,6 @@
 //! One node of a network.
 ghost use Rattle.std.specs.Prelude.{◌≡◌, ◌≤◌, is_none, length};
 ghost use Rattle.std.specs.Option.{option_map};
-ghost use Rattle.net_events.specs.AtSwitch.{network_line};
 ghost use Rattle.net_events.specs.NextDue.{due_at, due_on_lines, due_from};
 ghost use Rattle.net_events.specs.Network.{elapsed_node};
 ghost use Rattle.net_events.specs.Network as network;
@@ -10,6 +9,7 @@ ghost use Rattle.placed_nodes.specs.Node.{user_of, own_line, rests, confirmed_by
 use line_nodes::Node;
 use link_timers::TimerId;
 use net_config::find_own;
+use net_events::network_line;
 use std::marker::Model;
 use x25_switch::Switch;
 
@@ -136,13 +136,6 @@ pub fn first_node_due(nodes: &[NetNode]) -> Option<(usize, (usize, TimerId))>
         }
     }
     None
-}
-
-/// The line of the network that is an own line of a switch.
-pub fn network_line(lines: &[usize], own: usize) -> usize
-    ensures { result ≡ network_line lines.now own }
-{
-    lines.get(own).copied().unwrap_or(0)
 }
 
 /// The first timer without a tick left of the first own line of a switch that has one, and its line of the network.

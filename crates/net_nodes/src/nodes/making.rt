@@ -13,10 +13,9 @@ use frame_lines::{Direction, Line};
 use line_end::MOST_FRAMES;
 use net_config::{MakeFault, NetPlan, NewLine};
 use net_events::Puts;
-use net_turns::put_frames;
+use net_turns::{NetLine, put_frames, put_lines};
 use placed_nodes::{Equipment, NetNode, new_nodes, new_register};
 use std::alloc::{AllocError, Global};
-use switch_turns::{NetLine, put_lines};
 
 /// Puts all frames that wait at a node with users on its line; those of a switch wait.
 fn put_user_frames<L: Line>(

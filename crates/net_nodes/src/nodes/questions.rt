@@ -14,8 +14,8 @@ use crate::nodes::Nodes;
 use call_records::{Pair, Record};
 use frame_lines::{Direction, Line};
 use net_events::Event;
+use net_turns::NetLine;
 use placed_nodes::first_node_due;
-use switch_turns::NetLine;
 
 /// Whether no frame is in flight on a line.
 fn is_empty<L: Line>(net_line: &NetLine<L>) -> bool

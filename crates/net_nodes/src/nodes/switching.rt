@@ -1,19 +1,21 @@
 //! What happens at the switch of a place in the network.
 ghost use Rattle.std.specs.Prelude.{◌≡◌, [], Some, OnOk, MatchResult, length, slice_get};
+ghost use Rattle.call_records.specs.RegisterView.{register_of};
 ghost use Rattle.net_events.specs.EventView.{switch_event_of};
 ghost use Rattle.net_events.specs.Network as network;
-ghost use Rattle.switch_turns.specs.Switching.{HasRoom};
+ghost use Rattle.net_turns.specs.Switching.{HasRoom};
 ghost use Rattle.net_nodes.specs.Places.{is_switch_at};
 ghost use Rattle.net_nodes.specs.Steps.{switch_outcome};
-ghost use Rattle.net_nodes.specs.Switching.{CanSwitch, SwitchActed};
+ghost use Rattle.net_nodes.specs.Switching.{CanSwitch, SwitchActed, CanServeSwitch, NodeServed};
 
 use crate::nodes::Nodes;
+use call_records::Register;
 use frame_lines::Line;
 use line_end::MOST_FRAMES;
-use net_events::{Answer, Outcome, StepFault, SwitchEvent};
-use net_turns::make_frame_room;
+use net_events::{Answer, Outcome, Puts, StepFault, SwitchEvent};
+use net_turns::{NetLine, make_frame_room, serve_switch};
+use placed_nodes::{Equipment, NetNode};
 use std::alloc::AllocError;
-use switch_turns::serve_switch;
 
 /// What the event gives besides frames.
 fn outcome_of(event: &SwitchEvent<'_>) -> Outcome
@@ -25,6 +27,27 @@ fn outcome_of(event: &SwitchEvent<'_>) -> Outcome
         SwitchEvent::Relinks(_) => Outcome::Done,
         SwitchEvent::Restarts => Outcome::Done,
     }
+}
+
+/// Serves an event at a node that is a switch, and lists the frames that it puts.
+fn serve_switch_of<L: Line>(
+    node: &mut NetNode,
+    lines: &mut Vec<NetLine<L>>,
+    register: &mut Register,
+    event: &SwitchEvent<'_>,
+    puts: &mut Puts,
+) -> Result<(), StepFault>
+    requires { CanServeSwitch (switch_event_of event.now) node.old lines.old.items puts.old.items
+        puts.old.room }
+    ensures { (n : network.PlacedSwitch) → node.old ≡ network.Switching n
+        → MatchResult result (λ _. NodeServed L.service (switch_event_of event.now) n lines.old.items
+        (register_of register.old) node.new lines.new.items (register_of register.new) puts.new.items) (λ _. ⊥) }
+{
+    let Equipment::Switching { lines: own, switch } = &mut node.kind else {
+        return Err(StepFault::NoSuchNode);
+    };
+    serve_switch(switch, own, lines, register, event, puts);
+    Ok(())
 }
 
 impl<L: Line> Nodes<L> {
@@ -71,7 +94,7 @@ impl<L: Line> Nodes<L> {
             self.new) (λ _. ⊥) }
     {
         let (lines, register) = (&mut self.lines, &mut self.register);
-        let served = serve_switch(
+        let served = serve_switch_of(
             &mut self.nodes[place],
             lines,
             register,

@@ -16,9 +16,8 @@ use frame_lines::Line;
 use line_nodes::Attachment;
 use link_timers::Role;
 use net_events::{Answer, LineEvent, StepFault, UserEvent};
-use net_turns::{MOST_WRITES, make_room, serve_line, serve_user};
+use net_turns::{MOST_WRITES, NetLine, make_room, serve_line, serve_user};
 use placed_nodes::{Equipment, NetNode};
-use switch_turns::NetLine;
 
 /// The place of the node at the end of a role of a line.
 pub(super) fn place_at<L: Line>(role: Role, net_line: &NetLine<L>) -> usize

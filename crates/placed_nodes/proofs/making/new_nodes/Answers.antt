@@ -1,7 +1,7 @@
 use Rattle.std.proofs.Common.{◌≡◌, ℕ, ◌+◌, suc, List, length, slice_get, refl, sym, ap, ◌∙◌, subst, arith}
 use Rattle.net_events.specs.Network.{NetNode}
 use Rattle.net_config.specs.NetPlan.{NetPlan}
-use Rattle.placed_nodes.proofs.Lists.{there}
+use Rattle.net_events.proofs.Lists.{there}
 use Rattle.placed_nodes.proofs.NewNodes.{MadeTo, none_made, made_more, all_made}
 use Rattle.placed_nodes.proofs.making.new_nodes.Goals as goal
 

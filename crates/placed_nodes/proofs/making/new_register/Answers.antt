@@ -3,7 +3,7 @@ use Rattle.call_records.specs.Register.{made_register}
 use Rattle.net_config.specs.NetPlan.{NewLine, NetPlan}
 use Rattle.net_events.specs.Opening.{line_plan}
 use Rattle.placed_nodes.specs.Making.{AreFree, stands}
-use Rattle.placed_nodes.proofs.Lists.{there}
+use Rattle.net_events.proofs.Lists.{there}
 use Rattle.placed_nodes.proofs.NewNodes.{are_free, one_stands, some_line}
 use Rattle.placed_nodes.proofs.Plans.{free_or_unaddressed}
 use Rattle.placed_nodes.proofs.making.new_register.Goals as goal

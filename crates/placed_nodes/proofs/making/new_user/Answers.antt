@@ -5,7 +5,7 @@ use Rattle.packet_end.specs.Params.{AreParams}
 use Rattle.net_events.specs.Network.{User}
 use Rattle.net_config.specs.NetPlan.{NewNode, PlannedUser, HasEndAt, NewLine, NetPlan, IsNewDte}
 use Rattle.net_events.specs.Opening.{new_node}
-use Rattle.placed_nodes.proofs.Lists.{within, found}
+use Rattle.net_events.proofs.Lists.{within, found}
 use Rattle.placed_nodes.proofs.Plans.{dte_made}
 use Rattle.placed_nodes.proofs.making.new_user.Goals as goal
 

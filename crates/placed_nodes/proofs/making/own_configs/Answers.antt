@@ -4,7 +4,7 @@ use Rattle.std.proofs.lemmas.List.{take_more}
 use Rattle.std.proofs.lemmas.Option.{get_or_from_slice_get}
 use Rattle.net_config.specs.NetPlan.{NetPlan}
 use Rattle.net_events.specs.Opening.{line_config, own_configs}
-use Rattle.placed_nodes.proofs.Lists.{found, at_index}
+use Rattle.net_events.proofs.Lists.{found, at_index}
 use Rattle.placed_nodes.proofs.Plans.{configs_more}
 use Rattle.placed_nodes.proofs.making.own_configs.Goals as goal
 

@@ -4,7 +4,7 @@ use Rattle.call_records.specs.RegisterView.{register_of}
 use Rattle.net_events.specs.EventView.{line_event_of}
 use Rattle.net_events.specs.Network.{NetLine, place_at}
 use Rattle.net_nodes.specs.Turns.{CanAct}
-use Rattle.placed_nodes.proofs.Lists.{found, within}
+use Rattle.net_events.proofs.Lists.{found, within}
 use Rattle.net_nodes.proofs.LineEndEvents.{can_serve, acts, turned_from}
 use Rattle.net_nodes.proofs.nodes.Nodes.act.Goals as goal
 

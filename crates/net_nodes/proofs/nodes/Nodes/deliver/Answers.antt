@@ -2,7 +2,7 @@ use Rattle.std.proofs.Common.{◌<◌, length, slice_get, sym, ap, ◌∙◌, ar
 use Rattle.frame_lines.specs.Lines.{flying}
 use Rattle.net_events.specs.Network.{Network, NetLine, place_at}
 use Rattle.net_nodes.specs.Steps.{hearer}
-use Rattle.placed_nodes.proofs.Lists.{there}
+use Rattle.net_events.proofs.Lists.{there}
 use Rattle.net_nodes.proofs.UserNodeEvents.{registered_at, nothing_arrives}
 use Rattle.net_nodes.proofs.SwitchTurns.{own_line_there, no_own_line}
 use Rattle.net_nodes.proofs.nodes.Nodes.deliver.Goals as goal

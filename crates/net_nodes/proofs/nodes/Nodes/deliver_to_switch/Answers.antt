@@ -7,7 +7,7 @@ use Rattle.net_events.specs.Network.{Network}
 use Rattle.net_nodes.specs.Faults.{where_there_is}
 use Rattle.net_nodes.specs.Places.{IsStanding, IsOwnLine}
 use Rattle.net_nodes.specs.Steps.{hearer}
-use Rattle.placed_nodes.proofs.Lists.{there, within}
+use Rattle.net_events.proofs.Lists.{there, within}
 use Rattle.net_events.specs.declared.event.Event.TheVariants.{Deliver}
 use Rattle.net_nodes.specs.Happening.{Happens}
 use Rattle.net_nodes.proofs.SwitchTurns.{own_within, can_switch, can_hear, heard, answered}

@@ -11,7 +11,7 @@ use Rattle.net_nodes.specs.Faults.{where_there_is}
 use Rattle.net_nodes.specs.Places.{HearsAt}
 use Rattle.net_nodes.specs.Steps.{hearer}
 use Rattle.net_nodes.proofs.Places.{hears_there}
-use Rattle.placed_nodes.proofs.Lists.{there, within}
+use Rattle.net_events.proofs.Lists.{there, within}
 use Rattle.net_nodes.proofs.LineEndEvents.{can_serve, same_place, acts_anew, turned_from, left_hears}
 use Rattle.net_nodes.proofs.UserNodeEvents.{delivered}
 use Rattle.net_nodes.proofs.nodes.Nodes.deliver_to_user.Goals as goal

@@ -3,7 +3,7 @@ use Rattle.link_timers.specs.declared.role.Role.TheVariants.{Dte, Dce}
 use Rattle.net_events.specs.Network.{NetLine}
 use Rattle.net_nodes.specs.Places.{IsStanding}
 use Rattle.net_nodes.proofs.Places.{has_line, as_dte, as_dce, at_line, of_user}
-use Rattle.placed_nodes.proofs.Lists.{there}
+use Rattle.net_events.proofs.Lists.{there}
 use Rattle.net_nodes.proofs.nodes.Nodes.end_of.Goals as goal
 
 pub returns-then-line-len : goal.returns-then-line-len

@@ -2,7 +2,7 @@ use Rattle.std.proofs.Common.{◌<◌, length, slice_get, sym, ap, subst, ◌∙
 use Rattle.std.proofs.lemmas.Bool.{OnTrue_from}
 use Rattle.frame_lines.specs.Lines.{flying}
 use Rattle.net_events.specs.Network.{Network, NetLine}
-use Rattle.placed_nodes.proofs.Lists.{there}
+use Rattle.net_events.proofs.Lists.{there}
 use Rattle.net_nodes.proofs.Empties.{none_arrived}
 use Rattle.net_nodes.proofs.UserNodeEvents.{nothing_arrives}
 use Rattle.net_nodes.proofs.nodes.Nodes.is_certainly_empty.Goals as goal

@@ -1,7 +1,7 @@
 use Rattle.std.proofs.Common.{◌<◌, length, Some, refl, sym, ap, ◌∙◌, arith}
 use Rattle.net_nodes.specs.Faults.{where_there_is}
 use Rattle.std.specs.Prelude.{is_some}
-use Rattle.placed_nodes.proofs.Lists.{there}
+use Rattle.net_events.proofs.Lists.{there}
 use Rattle.net_nodes.proofs.nodes.Nodes.lose.Goals as goal
 
 pub returns : goal.returns

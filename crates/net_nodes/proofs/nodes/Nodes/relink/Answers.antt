@@ -3,7 +3,7 @@ use Rattle.std.specs.Result.{result_and}
 use Rattle.link_timers.specs.declared.role.Role.TheVariants.{Dte}
 use Rattle.net_events.specs.declared.event.Event.TheVariants.{Relink}
 use Rattle.net_events.specs.Network.{Network, NetLine}
-use Rattle.placed_nodes.proofs.Lists.{there}
+use Rattle.net_events.proofs.Lists.{there}
 use Rattle.net_nodes.specs.Places.{UserStands, IsOwnLine}
 use Rattle.net_nodes.specs.Happening.{Happens}
 use Rattle.net_nodes.proofs.UserNodeEvents.{can_relink, relinked}

@@ -5,7 +5,7 @@ use Rattle.net_events.specs.NodeEvents.{Restarts}
 use Rattle.net_events.specs.declared.node_event.LineEvent.TheVariants as line_event
 use Rattle.net_events.specs.Network.{NetLine, place_at}
 use Rattle.net_nodes.specs.Places.{IsStanding, IsPlaceOf}
-use Rattle.placed_nodes.proofs.Lists.{found, within}
+use Rattle.net_events.proofs.Lists.{found, within}
 use Rattle.net_nodes.proofs.LineEndEvents.{can_serve, acts_anew, turned_from, same_place}
 use Rattle.net_nodes.proofs.UserNodeEvents.{registered_at, quiet_at, at_end_of, began_anew}
 use Rattle.net_nodes.proofs.nodes.Nodes.restart_user.Goals as goal

@@ -1,13 +1,14 @@
 use Rattle.std.proofs.Common.{set, sym, ap, subst}
 use Rattle.net_events.specs.EventView.{switch_event_of}
+use Rattle.switch_lines.specs.Switch.{Switch}
 use Rattle.net_events.specs.Network.{NetNode, Switching}
 use Rattle.net_nodes.specs.Switching.{CanSwitch}
-use Rattle.placed_nodes.proofs.Lists.{found, within}
+use Rattle.net_events.proofs.Lists.{found, within}
 use Rattle.net_nodes.proofs.SwitchTurns.{then_so}
 use Rattle.net_nodes.proofs.nodes.Nodes.switch_acts.Goals as goal
 
-pub serve_switch-served-requires : goal.serve_switch-served-requires
-serve_switch-served-requires g c =
+pub serve_switch_of-served-requires : goal.serve_switch_of-served-requires
+serve_switch_of-served-requires g c =
     let nodes = c.self.inside.nodes.items in
     let can = subst (λ s. CanSwitch (switch_event_of c.args.event.now) c.args.place s c.args.answer.now.frames.items c.args.answer.now.frames.room) (sym c.self.view_is) c.requires.can in
     record {
@@ -22,14 +23,14 @@ returns g c =
     let nodes = c.self.inside.nodes.items in
     rw (← c.self.view_is)
     (λ n there.
-    then_so c.serve_switch-served.result
+    then_so c.serve_switch_of-served.result
     (λ w. record {
-      nodes_are = ap (λ (m : NetNode). set nodes c.args.place m) w.node_is;
-      lines_put = w.lines_put;
-      register_is = w.register_is;
-      puts = w.puts_are;
+      nodes_are = ap (λ (m : NetNode). set nodes c.args.place m) (w.node_is ∙ ap (λ (s : Switch). Switching (record n { switch = s })) w.served.switch_is);
+      lines_put = w.served.lines_put;
+      register_is = w.served.register_is;
+      puts = w.served.puts_are;
       notes = c.requires.notes;
       text = c.requires.text;
       outcome = c.outcome_of-answer.ensures;
     })
-    (c.serve_switch-served.ensures n (found nodes c.args.place _ c.index_mut.result.now (Switching n) (within nodes c.args.place (Switching n) there) c.index_mut.ensures.value there)))
+    (c.serve_switch_of-served.ensures n (found nodes c.args.place _ c.index_mut.result.now (Switching n) (within nodes c.args.place (Switching n) there) c.index_mut.ensures.value there)))

@@ -6,7 +6,7 @@ use Rattle.net_events.specs.EventView.{user_event_of}
 use Rattle.net_events.specs.Network.{NetLine, place_at}
 use Rattle.net_turns.specs.Users.{IsRefusedWith, user_fault}
 use Rattle.net_nodes.specs.Turns.{CanAct, HadTurn}
-use Rattle.placed_nodes.proofs.Lists.{found, within}
+use Rattle.net_events.proofs.Lists.{found, within}
 use Rattle.net_nodes.proofs.LineEndEvents.{can_serve_user, user_acts}
 use Rattle.net_nodes.proofs.nodes.Nodes.user_acts.Goals as goal
 

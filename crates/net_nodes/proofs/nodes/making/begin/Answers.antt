@@ -4,7 +4,7 @@ use Rattle.frame_lines.specs.Lines.{Flights, no_flights, ArePut}
 use Rattle.net_events.specs.Network.{NetNode}
 use Rattle.net_config.specs.NetPlan.{NewLine}
 use Rattle.record_laws.proofs.Books.Basics.{set_elsewhere}
-use Rattle.placed_nodes.proofs.Lists.{found, within}
+use Rattle.net_events.proofs.Lists.{found, within}
 use Rattle.net_nodes.specs.Making.{begun_node, users_frames}
 use Rattle.net_nodes.proofs.nodes.making.begin.Goals as goal
 

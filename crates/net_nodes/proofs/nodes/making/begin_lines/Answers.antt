@@ -4,7 +4,7 @@ use Rattle.net_events.specs.Network.{NetLine}
 use Rattle.net_config.specs.NetPlan.{NewLine, NetPlan}
 use Rattle.net_nodes.specs.Making.{HaveBegun}
 use Rattle.placed_nodes.specs.Making.{AreNew}
-use Rattle.placed_nodes.proofs.Lists.{there, at_index}
+use Rattle.net_events.proofs.Lists.{there, at_index}
 use Rattle.net_nodes.proofs.Making.{none_begun, ends_of, one_more, first_frames, begun_so_far, line_more}
 use Rattle.net_nodes.proofs.nodes.making.begin_lines.Goals as goal
 

@@ -1,7 +1,7 @@
 use Rattle.std.proofs.Common.{◌≡◌, ℕ, List, length, sym, ap, ◌∙◌, subst, arith}
 use Rattle.net_events.specs.Network.{PlacedSwitch}
 use Rattle.placed_nodes.specs.NodeView.{kind_of}
-use Rattle.switch_turns.specs.Switching.{CanPut}
+use Rattle.net_turns.specs.Switching.{CanPut}
 use Rattle.net_nodes.proofs.nodes.making.begin_switch.Goals as goal
 
 pub put_lines-requires : goal.put_lines-requires

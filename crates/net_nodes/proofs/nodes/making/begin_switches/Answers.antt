@@ -2,10 +2,11 @@ use Rattle.std.proofs.Common.{◌≡◌, ℕ, ◌+◌, ◌<◌, suc, List, lengt
 use Rattle.std.specs.Prelude.{slice_get, vec_items}
 use Rattle.net_events.proofs.Users.{not_switch}
 use Rattle.net_events.specs.Network.{PlacedSwitch, NetNode, NetLine, Switching}
-use Rattle.placed_nodes.proofs.Lists.{there}
+use Rattle.net_events.proofs.Lists.{there}
 use Rattle.placed_nodes.specs.Making.{waiting_switch}
 use Rattle.net_nodes.specs.Making.{CanBegin, HaveBegun, HaveNodesBegun}
-use Rattle.net_nodes.proofs.Made.{no_switch_yet, can_begin, IsNext, NextUser, NextSwitch, next_is, switches_are, switch_more, user_more, is_made}
+use Rattle.net_nodes.proofs.SwitchTurns.{switch_is}
+use Rattle.net_nodes.proofs.Made.{no_switch_yet, can_begin, IsNext, NextUser, NextSwitch, next_is, switch_more, user_more, is_made}
 use Rattle.net_nodes.proofs.nodes.making.begin_switches.Goals as goal
 
 pub loop-place-init : goal.loop-place-init
@@ -33,7 +34,7 @@ begin_switch-requires g c = λ n is.
     elim (next_is plan place nodes c.index_mut.result.now c.requires.plan c.loop-place.invariant.nodes at) [
       | NextUser m m_there u u_is ↦ absurd (not_switch u n (sym u_is ∙ is))
       | NextSwitch m m_there m_is ↦
-          subst (λ (x : PlacedSwitch). CanBegin x lines) (switches_are (waiting_switch place m plan.lines) n (sym m_is ∙ is))
+          subst (λ (x : PlacedSwitch). CanBegin x lines) (switch_is (waiting_switch place m plan.lines) n (sym m_is ∙ is))
           (can_begin L plan place place m lines c.requires.plan m_there c.loop-place.invariant.lines)
     ]
 

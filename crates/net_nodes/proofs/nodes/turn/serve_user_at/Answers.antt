@@ -5,7 +5,7 @@ use Rattle.net_events.specs.EventView.{user_event_of}
 use Rattle.net_events.specs.Network.{User, place_at}
 use Rattle.line_nodes.specs.declared.attachment.Attachment.{Attachment}
 use Rattle.net_turns.specs.Users.{user_fault}
-use Rattle.placed_nodes.proofs.Lists.{found, within}
+use Rattle.net_events.proofs.Lists.{found, within}
 use Rattle.net_nodes.proofs.Serving.{quiet_of, user_served_at}
 use Rattle.net_nodes.proofs.nodes.turn.serve_user_at.Goals as goal
 
