@@ -1,5 +1,6 @@
 //! Digests of what a network gave and keeps: two runs that are alike have the same.
-use call_records::{Epoch, Pair, Passed, Record};
+use call_data::{Epoch, Passed};
+use call_records::{Pair, Record};
 use frame_lines::Direction;
 use line_nodes::{HostNote, NoteKind};
 use net_events::{Answer, Outcome, StepFault};
