@@ -5,10 +5,6 @@ pub mod Rooms
 pub mod NewRecords
 pub mod Ending
 pub mod Opening
-pub mod Written
-pub mod Cutting
-pub mod Blank
-pub mod OnePass
-pub mod ListPrefixes
-pub mod EpochLists
+pub mod Elements
+pub mod RecordEpochs
 pub mod PairsThere

@@ -4,7 +4,7 @@ use Rattle.std.proofs.Common.{sym, subst, ◌∙◌}
 use Rattle.std.proofs.lemmas.Option.{same_Some, none-some}
 use Rattle.epochs.specs.Match.{Match}
 use Rattle.call_records.specs.Records.{RecordValue, PairValue, taken_epochs, sent_epochs}
-use Rattle.call_records.specs.Matching.Pairs.{PairMatches}
+use Rattle.call_records.specs.Pairs.{PairMatches}
 
 -- they are the ones that match
 pub match-there : (records : List RecordValue) (pair : PairValue) (caller callee : RecordValue)

@@ -1,8 +1,4 @@
-pub mod Packets
 pub mod Records
-pub mod Passed
-pub mod EpochEnds
-pub mod PassedView
 pub mod Book
 pub mod Room
 pub mod Closing
@@ -12,4 +8,4 @@ pub mod Register
 pub mod RecordView
 pub mod BookView
 pub mod RegisterView
-pub mod Matching
+pub mod Pairs

@@ -1,9 +1,10 @@
 -- What a network keeps of each end's part in a call, and which two of these make a call.
-use Rattle.std.specs.Prelude.{ℕ, zero, suc, ◌+◌, Bool, true, false, nat_le, if◌then◌else◌, List, [], ◌∷◌, ◌++◌}
+use Rattle.std.specs.Prelude.{ℕ, zero, suc, Bool, true, false, nat_le, if◌then◌else◌, List, [], ◌∷◌, ◌++◌}
 use Rattle.std.specs.Prelude.{length, map, Option}
 use Rattle.epochs.specs.Item.{DataPacket}
 use Rattle.epochs.specs.Epoch.{nothing_sent, nothing_taken, Epoch, SentEpoch, TakenEpoch, sent_epoch, taken_epoch}
 use Rattle.pad_editing.specs.Edited.{Step}
+use Rattle.call_data.specs.Counted.{counted}
 
 -- a hop of a call: a switch placed it onward, on a channel of a line
 pub record HopValue : Type 0 where
@@ -77,10 +78,6 @@ with_taken packet r = record r { taken = record r.taken { packets = r.taken.pack
 
 abbrev pub with_interrupt_taken : List ℕ → RecordValue → RecordValue
 with_interrupt_taken octets r = record r { taken = record r.taken { interrupts = r.taken.interrupts ++ octets ∷ [] } }
-
--- a count with n more, where it is of so many; what would pass further is not counted
-abbrev pub counted : (all count n : ℕ) → ℕ
-counted all count n = if nat_le (count + n) all then count + n else count
 
 -- n more of the packets taken are released: P(R) passes no packet that was not taken
 abbrev pub with_released : ℕ → RecordValue → RecordValue

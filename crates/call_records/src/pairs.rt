@@ -3,10 +3,10 @@ ghost use Rattle.std.specs.Prelude.{◌↔◌, IsTrue, map};
 ghost use Rattle.epochs.specs.Match.{Match};
 ghost use Rattle.call_records.specs.Records.{taken_epochs, sent_epochs};
 ghost use Rattle.call_records.specs.RecordView.{shown, pair_of};
-ghost use Rattle.call_records.specs.Matching.Pairs.{PairMatches, AllMatch};
+ghost use Rattle.call_records.specs.Pairs.{PairMatches, AllMatch};
 
-use crate::matching::matches;
 use crate::record::{Pair, Record};
+use call_data::matches;
 
 /// Whether the two records of each pair match, both ways.
 pub fn all_match(records: &[Record], pairs: &[Pair]) -> bool

@@ -1,7 +1,8 @@
 //! Little books, write by write.
 ghost use Rattle.std.specs.Prelude.{◌≡◌, ◌≤◌};
 
-use call_records::{Book, Packet, Pair, Record, all_match, matches};
+use call_data::{Packet, matches};
+use call_records::{Book, Pair, Record, all_match};
 use link_timers::Role;
 use packet_codec::{Address, CallBuf, CallData};
 use packet_layer::{LayerNote, Reason};

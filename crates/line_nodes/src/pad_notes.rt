@@ -1,8 +1,8 @@
 //! What a PAD noted, written into the book of its line.
 ghost use Rattle.std.specs.Prelude.{◌≡◌, ◌≤◌, ◌-◌, length};
 ghost use Rattle.packet_channel.specs.TakenView.{taken_with, HasFewOctets};
+ghost use Rattle.call_data.specs.Packets.{data_packet_of};
 ghost use Rattle.call_records.specs.Book.{packet_of};
-ghost use Rattle.call_records.specs.Packets.{data_packet_of};
 ghost use Rattle.call_records.specs.Room.{taken_room};
 ghost use Rattle.call_records.specs.Writes.{all_written, written_by};
 ghost use Rattle.call_records.specs.Writes.Write.{Took};
@@ -11,7 +11,8 @@ ghost use Rattle.x25_pad.specs.TakenView.{taken_of as pad_taken_of};
 ghost use Rattle.line_nodes.specs.PadWriting.{writes_of, without_notes};
 ghost use Rattle.line_nodes.specs.PadRoom.{HasRoom, HaveRoom, written};
 
-use call_records::{Book, EditStep, Packet};
+use call_data::Packet;
+use call_records::{Book, EditStep};
 use link_timers::Role;
 use packet_layer::Front;
 use x25_pad::{ChannelNote, Pad, PadData, PadTaken};

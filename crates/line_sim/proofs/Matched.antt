@@ -2,7 +2,7 @@
 use Rattle.std.proofs.Common.{◌≡◌, ◌<◌, ℕ, zero, suc, List, [], ◌∷◌, length, get_or, Some, refl, arith}
 use Rattle.std.specs.Prelude.{slice_get}
 use Rattle.call_records.specs.Records.{PairValue}
-use Rattle.call_records.specs.Matching.Pairs.{AllMatch}
+use Rattle.call_records.specs.Pairs.{AllMatch}
 use Rattle.frame_lines.specs.Lines.{LineService}
 use Rattle.net_events.specs.Network.{Network}
 use Rattle.network_laws.specs.Switched.IsSwitched.{IsAny}

@@ -2,7 +2,7 @@
 ghost use Rattle.std.specs.Prelude.{◌≡◌, ◌≢◌, ◌≤◌, ◌↔◌, true, false, map, Err, IsTrue, IsOkUnless, IfOk, vec_len};
 ghost use Rattle.std.specs.Bool.{OnTrue};
 ghost use Rattle.call_records.specs.RecordView.{shown, pair_of};
-ghost use Rattle.call_records.specs.Matching.Pairs.{AllMatch};
+ghost use Rattle.call_records.specs.Pairs.{AllMatch};
 ghost use Rattle.net_events.specs.Network.{all_elapsed};
 ghost use Rattle.network_laws.specs.Switched.Promise.{NetworkPromise};
 ghost use Rattle.network_laws.specs.Switched.Rest.{MissesNothing, IsDelivered};

@@ -14,7 +14,7 @@ use Rattle.net_events.specs.declared.event.StepFault.TheVariants.{OutOfMemory}
 use Rattle.net_events.specs.Network.{Network, all_elapsed}
 use Rattle.net_nodes.specs.Questions.{net_rests}
 use Rattle.net_nodes.specs.Due.{net_due}
-use Rattle.call_records.specs.Matching.Pairs.{AllMatch}
+use Rattle.call_records.specs.Pairs.{AllMatch}
 use Rattle.net_nodes.specs.Happening.{Happens}
 use Rattle.net_files.specs.Commands.{CommandView}
 use Rattle.net_files.specs.Commands.{CommandView as command}

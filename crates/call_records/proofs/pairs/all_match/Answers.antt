@@ -1,8 +1,8 @@
 use Rattle.std.proofs.Common.{rules, ◌<◌, map, length}
 use Rattle.std.proofs.lemmas.Bool.{iff_false}
 use Rattle.call_records.specs.RecordView.{shown, pair_of}
-use Rattle.call_records.specs.Matching.Pairs.{PairMatches}
-use Rattle.call_records.proofs.ListPrefixes.{holds-at, holds-next}
+use Rattle.call_records.specs.Pairs.{PairMatches}
+use Rattle.call_records.proofs.Elements.{holds-at, holds-next}
 use Rattle.call_records.proofs.pairs.all_match.Goals as goal
 
 pub loop-pair-preserved : goal.loop-pair-preserved

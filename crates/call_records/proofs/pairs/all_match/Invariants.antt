@@ -1,7 +1,7 @@
 use Rattle.std.proofs.Common.{◌<◌, ℕ, map, get_or}
 use Rattle.call_records.specs.Records.{PairValue}
 use Rattle.call_records.specs.RecordView.{shown, pair_of}
-use Rattle.call_records.specs.Matching.Pairs.{PairMatches}
+use Rattle.call_records.specs.Pairs.{PairMatches}
 use Rattle.call_records.proofs.pairs.all_match.Given as goal
 
 -- the pairs gone over match

@@ -1,7 +1,7 @@
 use Rattle.std.proofs.Common.{◌≡◌, map, slice_get, Some, None}
 use Rattle.std.proofs.lemmas.Bool.{both_ways}
 use Rattle.call_records.specs.RecordView.{shown, pair_of}
-use Rattle.call_records.proofs.ListPrefixes.{get-there, get-past, get-map, get-map-none}
+use Rattle.call_records.proofs.Elements.{get-there, get-past, get-map, get-map-none}
 use Rattle.call_records.proofs.PairsThere.{match-there, no-caller, no-callee}
 use Rattle.call_records.proofs.pairs.pair_matches.Goals as goal
 

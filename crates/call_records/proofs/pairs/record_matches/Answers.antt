@@ -1,4 +1,4 @@
-use Rattle.call_records.proofs.EpochLists.{sent-epochs, taken-epochs}
+use Rattle.call_records.proofs.RecordEpochs.{sent-epochs, taken-epochs}
 use Rattle.call_records.proofs.pairs.record_matches.Goals as goal
 
 pub returns : goal.returns

@@ -1,0 +1,4 @@
+pub mod Decision
+pub mod Epochs
+pub mod EpochsLeft
+pub mod Items

@@ -1,5 +1,0 @@
-pub mod Decision
-pub mod Epochs
-pub mod EpochsLeft
-pub mod Items
-pub mod Pairs
