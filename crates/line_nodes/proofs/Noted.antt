@@ -5,7 +5,7 @@ use Rattle.link_timers.specs.declared.role.Role.{Role}
 use Rattle.link_timers.specs.declared.timers.TimerId.{TimerId}
 use Rattle.link_timers.specs.declared.timers.TimerId.TheVariants as timer
 use Rattle.packet_end.specs.PacketEnd.{PacketEnd, begun, finished, after_timer, runs_at}
-use Rattle.x25_pad.specs.Notes.{ChannelNote}
+use Rattle.pad_ports.specs.Notes.{ChannelNote}
 use Rattle.x25_pad.specs.Pad as pad
 use Rattle.x25_pad.specs.Pad.{PadState}
 use Rattle.call_records.specs.Book.{Book}

@@ -5,7 +5,7 @@ use Rattle.packet_layer.specs.Layer.{confirmed}
 use Rattle.line_end.specs.End.{without_frames}
 use Rattle.packet_end.specs.PacketEnd as end
 use Rattle.packet_end.specs.PacketEnd.{Octets, PacketEnd, at_rest}
-use Rattle.x25_pad.specs.Notes.{ChannelNote}
+use Rattle.pad_ports.specs.Notes.{ChannelNote}
 use Rattle.x25_pad.specs.Pad as pad
 use Rattle.x25_pad.specs.Pad.{PadState}
 use Rattle.line_nodes.specs.PadWriting as records

@@ -3,7 +3,8 @@ use Rattle.std.specs.Prelude.{ℕ, ◌+◌, ◌-◌, ◌≤◌, IsTrue, List, []
 use Rattle.link_timers.specs.declared.role.Role.{Role}
 use Rattle.call_records.specs.Room.{BookState, opens, room_after}
 use Rattle.call_records.specs.Writes.{written_by}
-use Rattle.x25_pad.specs.Notes.{ChannelNote, Told, Placed, Accepted, Cleared, WasReset, Edited, Sent, Interrupted, Took}
+use Rattle.pad_ports.specs.Notes.{ChannelNote, Told, Placed, Accepted, Cleared, WasReset, Edited, Sent}
+use Rattle.pad_ports.specs.Notes.{Interrupted, Took}
 use Rattle.line_nodes.specs.PadWriting.{write_of}
 
 -- there is room for a note, where there is room for so many writes and for so many pairs

@@ -3,7 +3,8 @@ use Rattle.std.specs.Prelude.{ℕ, List, [], ◌∷◌, map, length, drop, Some,
 use Rattle.packet_channel.specs.Packets.{CallParts}
 use Rattle.packet_channel.specs.Channel.Request.{Accept, Resetting, Interrupting}
 use Rattle.call_records.specs.Writes.{Write, Write as write}
-use Rattle.x25_pad.specs.Notes.{ChannelNote, Told, Placed, Accepted, Cleared, WasReset, Edited, Sent, Interrupted, Took}
+use Rattle.pad_ports.specs.Notes.{ChannelNote, Told, Placed, Accepted, Cleared, WasReset, Edited, Sent}
+use Rattle.pad_ports.specs.Notes.{Interrupted, Took}
 use Rattle.x25_pad.specs.Pad.{PadState}
 
 -- a record has the address of a call, and no more of its parts

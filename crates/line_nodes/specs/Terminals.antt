@@ -1,7 +1,7 @@
 -- What happens at the terminals of a PAD, what the PAD answers and shows, and what is written of it.
 use Rattle.std.specs.Prelude.{ℕ, ◌<◌, Bool, true, List, [], length}
 use Rattle.link_timers.specs.declared.role.Role.{Role}
-use Rattle.x25_pad.specs.Ports as port
+use Rattle.pad_ports.specs.Ports as port
 use Rattle.x25_pad.specs.Pad as pad
 use Rattle.x25_pad.specs.Pad.{PadState, terminal_event}
 use Rattle.call_records.specs.Book.{Book}

@@ -6,8 +6,8 @@ ghost use Rattle.call_records.specs.Book.{packet_of};
 ghost use Rattle.call_records.specs.Room.{taken_room};
 ghost use Rattle.call_records.specs.Writes.{all_written, written_by};
 ghost use Rattle.call_records.specs.Writes.Write.{Took};
-ghost use Rattle.x25_pad.specs.NoteView.{pad_note_of};
-ghost use Rattle.x25_pad.specs.TakenView.{taken_of as pad_taken_of};
+ghost use Rattle.pad_ports.specs.NoteView.{pad_note_of};
+ghost use Rattle.pad_ports.specs.TakenView.{taken_of as pad_taken_of};
 ghost use Rattle.line_nodes.specs.PadWriting.{writes_of, without_notes};
 ghost use Rattle.line_nodes.specs.PadRoom.{HasRoom, HaveRoom, written};
 

@@ -7,9 +7,9 @@ use Rattle.link_timers.specs.declared.role.Role.TheVariants.{Dte, Dce}
 use Rattle.link_timers.specs.declared.timers.TimerId.{TimerId}
 use Rattle.link_timers.specs.declared.timers.TimerId.TheVariants.{Idle as idle_timer}
 use Rattle.packet_host.specs.Host.{call_parts}
+use Rattle.pad_ports.specs.Ports as port
 use Rattle.x25_pad.specs.Pad as pad
 use Rattle.x25_pad.specs.Pad.{PadState}
-use Rattle.x25_pad.specs.Ports as port
 use Rattle.node_laws.specs.Pads.Courses.{PadHolds}
 use Rattle.node_laws.specs.Pads.RecordClauses.{HoldsAfter}
 use Rattle.node_laws.proofs.Pads.Holding as pad_law

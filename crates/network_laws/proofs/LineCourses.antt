@@ -4,11 +4,11 @@ use Rattle.std.specs.Prelude.{slice_get}
 use Rattle.link_timers.specs.declared.role.Role.TheVariants.{Dte, Dce}
 use Rattle.link_timers.specs.declared.timers.TimerId.{TimerId}
 use Rattle.link_timers.specs.declared.timers.TimerId.TheVariants.{Idle as idle_timer}
+use Rattle.pad_ports.specs.Notes.{ChannelNote}
+use Rattle.pad_ports.specs.Ports as port
 use Rattle.x25_pad.specs.Pad as pad
 use Rattle.x25_pad.specs.Pad.{PadState}
 use Rattle.x25_pad.specs.Making.{made}
-use Rattle.x25_pad.specs.Notes.{ChannelNote}
-use Rattle.x25_pad.specs.Ports as port
 use Rattle.line_nodes.specs.PadWriting.{writes_of, without_notes}
 use Rattle.call_records.specs.Book.{Book}
 use Rattle.call_records.specs.Writes.{Write, all_written}

@@ -8,11 +8,11 @@ use Rattle.link_timers.specs.declared.role.Role.TheVariants.{Dte, Dce}
 use Rattle.link_timers.specs.declared.timers.TimerId.TheVariants.{T1}
 use Rattle.packet_end.specs.PacketEnd.{PacketEnd, finished, received, runs_at, after_timer}
 use Rattle.packet_end.specs.Params.{AreParams}
+use Rattle.pad_ports.specs.Ports as port
+use Rattle.pad_ports.specs.Ports.{PortState, AtLine}
+use Rattle.pad_ports.specs.Line as line
 use Rattle.x25_pad.specs.Pad as pad
 use Rattle.x25_pad.specs.Pad.{PadState, all_heard}
-use Rattle.x25_pad.specs.Ports as port
-use Rattle.x25_pad.specs.Ports.{PortState, AtLine}
-use Rattle.x25_pad.specs.Line as line
 use Rattle.call_records.specs.Book.{Book}
 use Rattle.frame_lines.specs.declared.line.Direction.{Direction}
 use Rattle.frame_lines.specs.declared.line.Direction.TheVariants.{FromDte, FromDce}

@@ -13,8 +13,8 @@ use Rattle.packet_host.specs.Saying.{message, say_refusal}
 use Rattle.call_records.specs.Book.{Book}
 use Rattle.call_records.specs.Writes.{Write, all_written}
 use Rattle.call_records.specs.Writes.Write.{Told, Placed, Asked, Said, Took, Cleared, AllClosed}
-use Rattle.x25_pad.specs.Notes.{ChannelNote}
-use Rattle.x25_pad.specs.Notes as pad
+use Rattle.pad_ports.specs.Notes.{ChannelNote}
+use Rattle.pad_ports.specs.Notes as pad
 use Rattle.line_nodes.specs.PadWriting.{write_of, writes_of}
 use Rattle.record_laws.specs.Registers.Giving.{GivesNone, AllGiveNone}
 use Rattle.line_nodes.specs.Node.{NodeState, Pad, Host, end_of}

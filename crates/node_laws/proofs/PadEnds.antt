@@ -21,12 +21,12 @@ use Rattle.pad_terminal.specs.declared.answers.Reply.{Reply}
 use Rattle.pad_terminal.specs.declared.answers.Reply.TheVariants as reply
 use Rattle.pad_terminal.specs.declared.answers.Request.{Request}
 use Rattle.pad_terminal.specs.declared.answers.Request.TheVariants as request
-use Rattle.x25_pad.specs.Line as line
-use Rattle.x25_pad.specs.Ports as port
-use Rattle.x25_pad.specs.Ports.{PortState, AtLine}
+use Rattle.pad_ports.specs.Line as line
+use Rattle.pad_ports.specs.Ports as port
+use Rattle.pad_ports.specs.Ports.{PortState, AtLine}
+use Rattle.pad_ports.specs.declared.line.PadLine.{PadLine}
 use Rattle.x25_pad.specs.Pad as pad
 use Rattle.x25_pad.specs.Pad.{PadState}
-use Rattle.x25_pad.specs.declared.line.PadLine.{PadLine}
 
 module _ (P : PacketEnd → Type 0) (asks : (e : PacketEnd) (channel : ℕ) (r : ask) → P e → P (end.asked e channel r))
     (places : (e : PacketEnd) (parts : CallParts) → P e → P (end.called e parts)) where

@@ -14,9 +14,9 @@ use Rattle.packet_end.specs.PacketEnd.{PacketEnd, begun, received, runs_at, afte
 use Rattle.packet_host.specs.Host as host
 use Rattle.packet_host.specs.Making as host_making
 use Rattle.packet_host.specs.declared.config.HostConfig.{HostConfig}
-use Rattle.x25_pad.specs.Line.{last_incoming}
-use Rattle.x25_pad.specs.Ports as port
-use Rattle.x25_pad.specs.Ports.{AtLine}
+use Rattle.pad_ports.specs.Line.{last_incoming}
+use Rattle.pad_ports.specs.Ports as port
+use Rattle.pad_ports.specs.Ports.{AtLine}
 use Rattle.x25_pad.specs.Pad as pad
 use Rattle.x25_pad.specs.Pad.{PadState}
 use Rattle.x25_pad.specs.Making as pad_making

@@ -2,9 +2,9 @@
 use Rattle.std.proofs.Common.{◌≡◌, ℕ, zero, suc, ◌<◌, List, [], ◌∷◌, length, get_or, Option, Some, sym, ap, ◌∙◌, arith}
 use Rattle.std.specs.Prelude.{slice_get, slice_set}
 use Rattle.std.specs.Option.{option_map_or}
+use Rattle.pad_ports.specs.Ports.{PortState, AtLine}
+use Rattle.pad_ports.specs.declared.line.PadLine.{PadLine}
 use Rattle.x25_pad.specs.Pad.{PadState, named, at_port, acted}
-use Rattle.x25_pad.specs.Ports.{PortState, AtLine}
-use Rattle.x25_pad.specs.declared.line.PadLine.{PadLine}
 
 there : {X : Type 0} (xs : List X) (n : ℕ) (x : X) → n < length xs → x ≡ get_or xs n x → slice_get xs n ≡ Some x
 there [] n x less is = absurd (omega (arith, less))

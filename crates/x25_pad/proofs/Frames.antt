@@ -23,13 +23,13 @@ use Rattle.pad_terminal.specs.declared.answers.Reply.{Reply}
 use Rattle.pad_terminal.specs.declared.answers.Reply.TheVariants as reply
 use Rattle.pad_terminal.specs.declared.answers.Request.{Request}
 use Rattle.pad_terminal.specs.declared.answers.Request.TheVariants as request
-use Rattle.x25_pad.specs.Line as line
-use Rattle.x25_pad.specs.Ports as port
-use Rattle.x25_pad.specs.Ports.{PortState, AtLine}
+use Rattle.pad_ports.specs.Line as line
+use Rattle.pad_ports.specs.Ports as port
+use Rattle.pad_ports.specs.Ports.{PortState, AtLine}
+use Rattle.pad_ports.specs.declared.line.PadLine.{PadLine}
 use Rattle.x25_pad.specs.Pad as pad
 use Rattle.x25_pad.specs.Pad.{PadState, acted, at_port, heeded, with_frame, with_relink, with_expiry}
 use Rattle.x25_pad.specs.Sending.{frames_on_frame, frames_on_relink, frames_at_terminal, frames_on_timer}
-use Rattle.x25_pad.specs.declared.line.PadLine.{PadLine}
 
 -- ---- the frames that wait stay
 

@@ -6,10 +6,10 @@ use Rattle.std.proofs.lemmas.List.Sums.{fold-append}
 use Rattle.packet_channel.specs.Packets.{Note}
 use Rattle.packet_channel.specs.Packets.Note.{Incoming, Connected, Closed, WasReset, InterruptConfirmed, Covered}
 use Rattle.packet_end.specs.PacketEnd.{without_first_note}
-use Rattle.x25_pad.specs.Line.{learnt_of, all_learnt, last_incoming, about}
-use Rattle.x25_pad.specs.Notes.{ChannelNote, Told, all_told}
+use Rattle.pad_ports.specs.Line.{learnt_of, all_learnt, last_incoming, about}
+use Rattle.pad_ports.specs.Notes.{ChannelNote, Told, all_told}
+use Rattle.pad_ports.specs.Ports.{PortState}
 use Rattle.x25_pad.specs.Pad.{PadState, one_learnt, all_heard, holder, holders, told}
-use Rattle.x25_pad.specs.Ports.{PortState}
 
 -- the first note, and then the others
 first_is : (notes : List Note) (note : Note) → slice_get notes 0 ≡ Some note → note ∷ drop 1 notes ≡ notes

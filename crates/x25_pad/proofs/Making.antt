@@ -1,7 +1,7 @@
 -- Ports as they are made, one after the other.
 use Rattle.std.proofs.Common.{◌≡◌, ℕ, ◌+◌, ◌-◌, ◌≤◌, [], ◌∷◌, ◌++◌, replicate, ap, arith, ◌∙◌}
 use Rattle.std.proofs.lemmas.List.{replicate-append-replicate}
-use Rattle.x25_pad.specs.Ports.{PortState}
+use Rattle.pad_ports.specs.Ports.{PortState}
 
 -- one port more
 pub one_port_more : (first port : PortState) (n : ℕ) → 1 ≤ n →

@@ -4,8 +4,8 @@ use Rattle.packet_channel.specs.Channel.{Request}
 use Rattle.packet_layer.specs.Layer.{request_refusal}
 use Rattle.pad_terminal.specs.declared.answers.InputAnswer.{InputAnswer}
 use Rattle.pad_terminal.specs.declared.answers.InputAnswer.TheVariants.{Edited}
-use Rattle.x25_pad.specs.Line.{datum}
-use Rattle.x25_pad.specs.Ports.{AtLine, key_input, idle_input}
+use Rattle.pad_ports.specs.Line.{datum}
+use Rattle.pad_ports.specs.Ports.{AtLine, key_input, idle_input}
 
 -- where a block is ended that fits into a packet of the line, the send queue of the call takes it
 abbrev pub BlockIsTaken : InputAnswer → AtLine → Type 0

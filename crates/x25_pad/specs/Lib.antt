@@ -1,11 +1,5 @@
-pub mod Notes
-pub mod NoteView
-pub mod Line
-pub mod Ports
-pub mod PortView
 pub mod Pad
 pub mod Sending
 pub mod PadView
 pub mod Making
 pub mod Law
-pub mod TakenView

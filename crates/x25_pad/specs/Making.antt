@@ -5,8 +5,8 @@ use Rattle.packet_end.specs.PacketEnd as end
 use Rattle.packet_end.specs.Params.{AreParams}
 use Rattle.packet_end.specs.declared.fault.EndFault.{EndFault}
 use Rattle.packet_end.specs.declared.fault.EndFault.TheVariants.{BadConfig, OutOfMemory}
+use Rattle.pad_ports.specs.Ports.{new_port}
 use Rattle.x25_pad.specs.Pad.{PadState}
-use Rattle.x25_pad.specs.Ports.{new_port}
 use Rattle.x25_pad.specs.declared.config.PadConfig.{PadConfig}
 
 -- from 1 to 16 terminals, and parameters of a line whose packets have at most 128 octets

@@ -8,15 +8,15 @@ use Rattle.packet_channel.specs.Packets.{Note}
 use Rattle.packet_channel.specs.Traffic.{Taken as TakenValue}
 use Rattle.packet_end.specs.PacketEnd.{Octets, PacketEnd}
 use Rattle.packet_end.specs.PacketEnd as end
-use Rattle.x25_pad.specs.Line as line
-use Rattle.x25_pad.specs.Line.{gathered, last_incoming, learnt_of, all_learnt, about}
-use Rattle.x25_pad.specs.Notes.{ChannelNote, PadNote}
-use Rattle.x25_pad.specs.Ports as port
-use Rattle.x25_pad.specs.Ports.{PortState, AtLine}
+use Rattle.pad_ports.specs.Line as line
+use Rattle.pad_ports.specs.Line.{gathered, last_incoming, learnt_of, all_learnt, about}
+use Rattle.pad_ports.specs.Notes.{ChannelNote, PadNote, first_terminal}
+use Rattle.pad_ports.specs.Ports as port
+use Rattle.pad_ports.specs.Ports.{PortState, AtLine}
+use Rattle.pad_ports.specs.declared.call.CallNote.{CallNote}
+use Rattle.pad_ports.specs.declared.line.PadLine.{PadLine}
 use Rattle.x25_pad.specs.declared.answer.PadAnswer.{PadAnswer}
 use Rattle.x25_pad.specs.declared.answer.PadAnswer.TheVariants as answer
-use Rattle.x25_pad.specs.declared.call.CallNote.{CallNote}
-use Rattle.x25_pad.specs.declared.line.PadLine.{PadLine}
 
 -- its end of the line with its notes, its ports in the order of their terminals, and for each note, in the same order,
 -- the terminal whose call it is of, if one has the call
@@ -224,11 +224,6 @@ restarted p = record {
   ports = map port.restarted p.ports;
   noted_at = [];
 }
-
--- the terminal of the first note, if it has one
-abbrev pub first_terminal : List (Option ℕ) → Option ℕ
-first_terminal [] = None
-first_terminal (terminal ∷ terminals) = terminal
 
 abbrev pub with_terminal : (terminal : Option ℕ) → Option ChannelNote → Option PadNote
 with_terminal terminal None = None

@@ -4,7 +4,7 @@ use Rattle.link_timers.specs.declared.timers.TimerId.{TimerId}
 use Rattle.link_timers.specs.declared.timers.TimerId.TheVariants.{Idle}
 use Rattle.packet_end.specs.PacketEnd.{Octets}
 use Rattle.packet_end.specs.Sending.{answer_frames, expiry_frames, relink_frames, ending_frames}
-use Rattle.x25_pad.specs.Ports.{AtLine, after_idle}
+use Rattle.pad_ports.specs.Ports.{AtLine, after_idle}
 use Rattle.x25_pad.specs.Pad.{PadState, begun, at_port, heeded, with_frame, with_relink, with_expiry}
 
 -- a frame comes: its answer, and those of the event's end

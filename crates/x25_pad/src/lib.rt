@@ -2,20 +2,12 @@
 #![tactic(auto)]
 
 mod answer;
-mod call;
 mod config;
-mod end;
 mod law;
-mod line;
-mod note;
 mod pad;
-mod port;
-mod taken;
 
 pub use answer::PadAnswer;
 pub use config::PadConfig;
 pub use law::block_law;
-pub use note::{ChannelNote, PadNote};
 pub use pad::Pad;
-pub use port::MOST_TEXT;
-pub use taken::{PadData, PadTaken};
+pub use pad_ports::{ChannelNote, MOST_TEXT, PadData, PadNote, PadTaken};

@@ -1,22 +1,19 @@
 //! The PAD and its terminals.
 ghost use Rattle.std.specs.Prelude.{◌≡◌, ◌≤◌, ◌-◌, ◌∷◌, None, IfOk, MatchResult, length, replicate, slice_get};
 ghost use Rattle.std.specs.Prelude.{option_copied};
-ghost use Rattle.x25_pad.specs.Ports.{new_port};
+ghost use Rattle.pad_ports.specs.Ports.{new_port};
+ghost use Rattle.pad_ports.specs.NoteView.{maybe_pad_note, maybe_terminal_note};
 ghost use Rattle.x25_pad.specs.Pad as spec;
 ghost use Rattle.x25_pad.specs.Making.{made, IsConfig, MadeNot};
-ghost use Rattle.x25_pad.specs.NoteView.{maybe_pad_note, maybe_terminal_note};
 
 mod events;
 mod from_line;
 mod terminals;
 
 use crate::config::PadConfig;
-use crate::end::PadEnd;
-use crate::line::PadLine;
-use crate::note::{ChannelNote, NotedAt, PadNote, PadNotes};
-use crate::port::Port;
 use packet_channel::DEFAULT_SIZE;
 use packet_end::EndFault;
+use pad_ports::{ChannelNote, NotedAt, PadEnd, PadLine, PadNote, PadNotes, Port};
 use std::alloc::{AllocError, Global};
 use std::marker::Model;
 use x3_params::Params;

@@ -27,11 +27,11 @@ use Rattle.node_laws.proofs.LineRecords.Views.{KeptAt, line_of, unseen}
 use Rattle.node_laws.proofs.LineRecords.LineLaw.{front_kept}
 use Rattle.node_laws.proofs.LineRecords.KeptAfterActs.{requests_at, calls_at, edits_at}
 use Rattle.x28_commands.specs.declared.command.Selection.{Selection}
-use Rattle.x25_pad.specs.Notes as notes
-use Rattle.x25_pad.specs.Notes.{ChannelNote}
-use Rattle.x25_pad.specs.Line as line
-use Rattle.x25_pad.specs.Line.{asked, gathered, call_parts}
-use Rattle.x25_pad.specs.declared.line.PadLine.{PadLine}
+use Rattle.pad_ports.specs.Notes as notes
+use Rattle.pad_ports.specs.Notes.{ChannelNote}
+use Rattle.pad_ports.specs.Line as line
+use Rattle.pad_ports.specs.Line.{asked, gathered, call_parts}
+use Rattle.pad_ports.specs.declared.line.PadLine.{PadLine}
 use Rattle.line_nodes.specs.PadWriting.{write_of, writes_of}
 use Rattle.node_laws.proofs.Pads.Selecting.{IsSelection, may_be_placed}
 

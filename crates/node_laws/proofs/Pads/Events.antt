@@ -19,10 +19,10 @@ use Rattle.node_laws.proofs.LineRecords.Views.{KeptAt, seen}
 use Rattle.node_laws.proofs.LineRecords.KeptAfterActs.{begins_at, hears_at, expires_at, relinks_at}
 use Rattle.node_laws.proofs.LineRecords.LineLaw.{like_kept, silent_kept, made_kept}
 use Rattle.node_laws.proofs.LineRecords.WholeEvents.{ends_on, restarted_kept}
-use Rattle.x25_pad.specs.Notes as notes
-use Rattle.x25_pad.specs.Line.{last_incoming}
-use Rattle.x25_pad.specs.Ports as port
-use Rattle.x25_pad.specs.Ports.{AtLine}
+use Rattle.pad_ports.specs.Notes as notes
+use Rattle.pad_ports.specs.Line.{last_incoming}
+use Rattle.pad_ports.specs.Ports as port
+use Rattle.pad_ports.specs.Ports.{AtLine}
 use Rattle.x25_pad.specs.Pad as pad
 use Rattle.x25_pad.specs.Pad.{PadState}
 use Rattle.node_laws.specs.Pads.Standing.{StandsAt, KeepsWith, KeepsBy, drained}

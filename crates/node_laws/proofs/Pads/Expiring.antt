@@ -39,13 +39,13 @@ use Rattle.pad_terminal.specs.declared.answers.Reply.{Reply}
 use Rattle.pad_terminal.specs.declared.answers.Reply.TheVariants as reply
 use Rattle.pad_terminal.specs.declared.answers.Request.{Request}
 use Rattle.pad_terminal.specs.declared.answers.Request.TheVariants as request
-use Rattle.x25_pad.specs.Line as line
-use Rattle.x25_pad.specs.Line.{last_incoming, all_learnt, learnt_of}
-use Rattle.x25_pad.specs.Ports as port
-use Rattle.x25_pad.specs.Ports.{PortState, AtLine, brought, has_expired}
+use Rattle.pad_ports.specs.Line as line
+use Rattle.pad_ports.specs.Line.{last_incoming, all_learnt, learnt_of}
+use Rattle.pad_ports.specs.Ports as port
+use Rattle.pad_ports.specs.Ports.{PortState, AtLine, brought, has_expired}
+use Rattle.pad_ports.specs.declared.line.PadLine.{PadLine}
 use Rattle.x25_pad.specs.Pad as pad
 use Rattle.x25_pad.specs.Pad.{PadState, all_heard}
-use Rattle.x25_pad.specs.declared.line.PadLine.{PadLine}
 use Rattle.node_laws.specs.Pads.Expiry.{idle_count, due_count, ExpiryLaw}
 use Rattle.node_laws.specs.Pads.Standing.{drained}
 use Rattle.node_laws.proofs.Pads.Ports.{found_at, changed_for, heard_connected, heard_cleared, heard_reset, heard_none, heard_more}

@@ -33,13 +33,13 @@ use Rattle.pad_terminal.specs.declared.answers.Reply.{Reply}
 use Rattle.pad_terminal.specs.declared.answers.Reply.TheVariants as reply
 use Rattle.pad_terminal.specs.declared.answers.Request.{Request}
 use Rattle.pad_terminal.specs.declared.answers.Request.TheVariants as request
-use Rattle.x25_pad.specs.Notes as notes
-use Rattle.x25_pad.specs.Notes.{ChannelNote, unless_refused}
-use Rattle.x25_pad.specs.Line as line
-use Rattle.x25_pad.specs.Line.{condition}
-use Rattle.x25_pad.specs.Ports as port
-use Rattle.x25_pad.specs.Ports.{AtLine}
-use Rattle.x25_pad.specs.declared.line.PadLine.{PadLine}
+use Rattle.pad_ports.specs.Notes as notes
+use Rattle.pad_ports.specs.Notes.{ChannelNote, unless_refused}
+use Rattle.pad_ports.specs.Line as line
+use Rattle.pad_ports.specs.Line.{condition}
+use Rattle.pad_ports.specs.Ports as port
+use Rattle.pad_ports.specs.Ports.{AtLine}
+use Rattle.pad_ports.specs.declared.line.PadLine.{PadLine}
 use Rattle.node_laws.specs.Pads.Occasions.{Occasion, HadBreak, HadCommand, indication, asks_interrupt, all_interrupts}
 use Rattle.node_laws.specs.Pads.Happening.{by_key, by_line, by_break, by_taking, by_printing, meets, is_pending, asks_for_interrupt}
 use Rattle.node_laws.proofs.Pads.QualifiedPackets.{Octets, interrupt_in, all_in, IsKind, IsSaidBy, nothing_noted, either, tells_silent, break_answer_by, one_more, silent_more, placed_says, clears_says, resets_says, edits_say}

@@ -7,11 +7,11 @@ use Rattle.packet_channel.specs.Packets.Note.{Incoming, Connected, Closed, WasRe
 use Rattle.packet_channel.specs.Traffic.{Taken}
 use Rattle.packet_layer.specs.Layer.{front_on}
 use Rattle.pad_terminal.specs.Terminal.{may_show}
-use Rattle.x25_pad.specs.Ports as port
-use Rattle.x25_pad.specs.Ports.{PortState, AtLine, has_channel, text_taken}
+use Rattle.pad_ports.specs.Ports as port
+use Rattle.pad_ports.specs.Ports.{PortState, AtLine, has_channel, text_taken}
+use Rattle.pad_ports.specs.declared.line.PadLine.{PadLine}
 use Rattle.x25_pad.specs.Pad as pad
 use Rattle.x25_pad.specs.Pad.{PadState, acted, changed_at, holder, print_taken}
-use Rattle.x25_pad.specs.declared.line.PadLine.{PadLine}
 use Rattle.node_laws.specs.Pads.Own.{OwnPacketLaw, OwnTextLaw, OthersStayLaw, LearnsOwnLaw}
 use Rattle.node_laws.proofs.Pads.Ports.{found_at, changed_for, heard_connected, heard_cleared, heard_reset, heard_none}
 

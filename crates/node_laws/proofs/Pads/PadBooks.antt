@@ -15,15 +15,15 @@ use Rattle.packet_end.proofs.Sizes.{asked_same, received_same, timer_same, finis
 use Rattle.record_laws.proofs.Books.Basics.{get_set}
 use Rattle.call_records.specs.Book.{Book}
 use Rattle.node_laws.proofs.LineRecords.WholeEvents.{all_offered_notes}
-use Rattle.x25_pad.specs.Notes as notes
-use Rattle.x25_pad.specs.Notes.{ChannelNote}
-use Rattle.x25_pad.specs.Line as line
-use Rattle.x25_pad.specs.Line.{all_learnt, last_incoming}
-use Rattle.x25_pad.specs.Ports as port
-use Rattle.x25_pad.specs.Ports.{PortState, AtLine, has_channel}
+use Rattle.pad_ports.specs.Notes as notes
+use Rattle.pad_ports.specs.Notes.{ChannelNote}
+use Rattle.pad_ports.specs.Line as line
+use Rattle.pad_ports.specs.Line.{all_learnt, last_incoming}
+use Rattle.pad_ports.specs.Ports as port
+use Rattle.pad_ports.specs.Ports.{PortState, AtLine, has_channel}
+use Rattle.pad_ports.specs.declared.line.PadLine.{PadLine}
 use Rattle.x25_pad.specs.Pad as pad
 use Rattle.x25_pad.specs.Pad.{PadState, all_heard, changed_at, at_port, acted}
-use Rattle.x25_pad.specs.declared.line.PadLine.{PadLine}
 use Rattle.node_laws.specs.Pads.Holds.{BookHolds, IsPort, IsOn, TextOf, PadTypes}
 use Rattle.line_nodes.specs.PadWriting.{writes_of}
 use Rattle.call_records.specs.Writes.{Write, all_written}

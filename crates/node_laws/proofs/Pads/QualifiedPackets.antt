@@ -30,15 +30,15 @@ use Rattle.pad_terminal.specs.declared.answers.Reply.{Reply}
 use Rattle.pad_terminal.specs.declared.answers.Reply.TheVariants as reply
 use Rattle.pad_terminal.specs.declared.answers.Request.{Request}
 use Rattle.pad_terminal.specs.declared.answers.Request.TheVariants as request
-use Rattle.x25_pad.specs.Notes as notes
-use Rattle.x25_pad.specs.Notes.{ChannelNote, unless_refused}
-use Rattle.x25_pad.specs.Line as line
-use Rattle.x25_pad.specs.Line.{condition, datum}
-use Rattle.x25_pad.specs.Ports as port
-use Rattle.x25_pad.specs.Ports.{PortState, AtLine}
+use Rattle.pad_ports.specs.Notes as notes
+use Rattle.pad_ports.specs.Notes.{ChannelNote, unless_refused}
+use Rattle.pad_ports.specs.Line as line
+use Rattle.pad_ports.specs.Line.{condition, datum}
+use Rattle.pad_ports.specs.Ports as port
+use Rattle.pad_ports.specs.Ports.{PortState, AtLine}
+use Rattle.pad_ports.specs.declared.line.PadLine.{PadLine}
 use Rattle.x25_pad.specs.Pad as pad
 use Rattle.x25_pad.specs.Pad.{PadState, acted, at_port}
-use Rattle.x25_pad.specs.declared.line.PadLine.{PadLine}
 use Rattle.node_laws.specs.Pads.Occasions.{Occasion, TookMessage, HadBreak, HadCommand, messages_taken, answer_in, indication, all_told}
 use Rattle.node_laws.specs.Pads.Happening.{by_key, by_line, by_break, by_taking, by_printing, at_terminal, meets, is_pending, line_ended}
 use Rattle.node_laws.proofs.Pads.Lengths.{IsShort, ReplyIsShort, reply_short}

@@ -10,7 +10,7 @@ use Rattle.call_records.specs.Records.{RecordValue, sent_epochs, with_step, with
 use Rattle.call_records.specs.Book.{packet_of}
 use Rattle.x29_messages.specs.MessageForm.{octets_of}
 use Rattle.x29_messages.specs.declared.message.Message.{Message}
-use Rattle.x25_pad.specs.Line.{datum}
+use Rattle.pad_ports.specs.Line.{datum}
 use Rattle.node_laws.specs.Pads.Sending.{items_of_epochs, interrupts_of_epochs, items_sent, user_messages, qualified_messages, qualified_items, HasTyped}
 
 -- ---- lists one after the other

@@ -32,12 +32,12 @@ use Rattle.pad_terminal.specs.declared.answers.Reply.TheVariants as reply
 use Rattle.pad_terminal.specs.declared.answers.Request.{Request}
 use Rattle.pad_terminal.specs.declared.answers.Request.TheVariants as request
 use Rattle.line_nodes.specs.PadRoom.{HaveRoom}
-use Rattle.x25_pad.specs.Notes.{ChannelNote, all_told, unless_refused}
-use Rattle.x25_pad.specs.Notes as notes
-use Rattle.x25_pad.specs.Line as line
-use Rattle.x25_pad.specs.Line.{last_incoming}
-use Rattle.x25_pad.specs.Ports as port
-use Rattle.x25_pad.specs.Ports.{PortState, AtLine}
+use Rattle.pad_ports.specs.Notes.{ChannelNote, all_told, unless_refused}
+use Rattle.pad_ports.specs.Notes as notes
+use Rattle.pad_ports.specs.Line as line
+use Rattle.pad_ports.specs.Line.{last_incoming}
+use Rattle.pad_ports.specs.Ports as port
+use Rattle.pad_ports.specs.Ports.{PortState, AtLine}
 use Rattle.x25_pad.specs.Pad as pad
 use Rattle.x25_pad.specs.Pad.{PadState}
 use Rattle.node_laws.specs.Pads.Rooms.{NeedsTwoAtMost, KeyRoom, BreakRoom, PrintRoom, IdleRoom, FrameRoom, RelinkRoom, TimerRoom}

@@ -6,9 +6,9 @@ use Rattle.x3_params.specs.Forwarding.{class_of}
 use Rattle.packet_channel.specs.Flow.{modulo_8}
 use Rattle.packet_end.specs.PacketEnd.{finished, all_offered}
 use Rattle.packet_end.specs.declared.params.EndParams.{EndParams}
-use Rattle.x25_pad.specs.Line.{datum}
-use Rattle.x25_pad.specs.Notes.{Edited, Sent}
-use Rattle.x25_pad.specs.Ports as port
+use Rattle.pad_ports.specs.Line.{datum}
+use Rattle.pad_ports.specs.Notes.{Edited, Sent}
+use Rattle.pad_ports.specs.Ports as port
 use Rattle.x25_pad.specs.Pad.{PadState, terminal_event, all_heard}
 use Rattle.x25_pad.specs.Making.{made}
 use Rattle.node_laws.specs.Pads.Standing.{drained}

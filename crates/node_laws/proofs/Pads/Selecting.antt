@@ -27,7 +27,7 @@ use Rattle.pad_terminal.specs.Terminal.{TerminalState, has_call}
 use Rattle.pad_terminal.specs.declared.answers.CallCondition.{CallCondition}
 use Rattle.pad_terminal.specs.declared.answers.Request.{Request}
 use Rattle.pad_terminal.specs.declared.answers.Request.TheVariants as request
-use Rattle.x25_pad.specs.Line.{call_parts}
+use Rattle.pad_ports.specs.Line.{call_parts}
 
 -- ---- a selection
 

@@ -20,9 +20,9 @@ use Rattle.call_records.specs.Book.{Book, Side, Slot, side_of, nth_slot, slot_at
 use Rattle.call_records.specs.Closing.{closes_if, closes_present, closed_from, all_closed}
 use Rattle.call_records.specs.Carried.{carried, unless_refused, placed_on}
 use Rattle.call_records.specs.Writes.{Write, Write as write, all_sent, let_go, written_by, all_written}
-use Rattle.x25_pad.specs.Notes as notes
-use Rattle.x25_pad.specs.Notes.{ChannelNote}
-use Rattle.x25_pad.specs.Line.{datum}
+use Rattle.pad_ports.specs.Notes as notes
+use Rattle.pad_ports.specs.Notes.{ChannelNote}
+use Rattle.pad_ports.specs.Line.{datum}
 use Rattle.line_nodes.specs.PadWriting.{write_of, parts_to}
 use Rattle.node_laws.specs.Pads.Occasions.{Occasion}
 use Rattle.node_laws.specs.Pads.Sending.{items_sent, interrupts_of_epochs, qualified_items, qualified_messages, qualified_octets, packets_of_epochs, messages_read, HasSaid}

@@ -23,13 +23,13 @@ use Rattle.pad_terminal.specs.declared.answers.InputAnswer.{InputAnswer}
 use Rattle.pad_terminal.specs.declared.answers.InputAnswer.TheVariants as input
 use Rattle.pad_terminal.specs.declared.answers.Request.{Request}
 use Rattle.pad_terminal.specs.declared.answers.Request.TheVariants as request
-use Rattle.x25_pad.specs.Notes as notes
-use Rattle.x25_pad.specs.Notes.{ChannelNote}
-use Rattle.x25_pad.specs.Line as line
-use Rattle.x25_pad.specs.Line.{asked, call_parts, datum, interrupt_octet}
-use Rattle.x25_pad.specs.Ports as port
-use Rattle.x25_pad.specs.Ports.{PortState, AtLine, has_channel}
-use Rattle.x25_pad.specs.declared.line.PadLine.{PadLine}
+use Rattle.pad_ports.specs.Notes as notes
+use Rattle.pad_ports.specs.Notes.{ChannelNote}
+use Rattle.pad_ports.specs.Line as line
+use Rattle.pad_ports.specs.Line.{asked, call_parts, datum, interrupt_octet}
+use Rattle.pad_ports.specs.Ports as port
+use Rattle.pad_ports.specs.Ports.{PortState, AtLine, has_channel}
+use Rattle.pad_ports.specs.declared.line.PadLine.{PadLine}
 use Rattle.line_nodes.specs.PadWriting.{write_of}
 use Rattle.node_laws.specs.Pads.Holds.{BookHolds, IsPort}
 use Rattle.node_laws.proofs.Pads.Asking.{noted, noted_append}

@@ -10,9 +10,9 @@ use Rattle.call_records.specs.Book.{Book, made_book}
 use Rattle.call_records.specs.Writes.Write.{AllClosed}
 use Rattle.node_laws.specs.LineRecords.Kept.{Setting, IsSetting, Kept, end_at, coming_to}
 use Rattle.node_laws.specs.LineRecords.Happens.{sent, with_restart}
+use Rattle.pad_ports.specs.Ports as port
 use Rattle.x25_pad.specs.Pad.{PadState, terminal_event, after_idle, after_frame, after_timer, after_relink, restarted}
 use Rattle.x25_pad.specs.Pad.{elapsed}
-use Rattle.x25_pad.specs.Ports as port
 use Rattle.x25_pad.specs.Making.{made}
 use Rattle.x25_pad.specs.declared.config.PadConfig.{PadConfig}
 use Rattle.node_laws.specs.Pads.Standing.{StandsAt, Keeps, KeepsWith, KeepsBy, drained}

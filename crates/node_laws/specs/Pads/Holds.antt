@@ -8,7 +8,7 @@ use Rattle.record_laws.specs.Books.Headline as calls
 use Rattle.call_records.specs.Records.{RecordValue}
 use Rattle.call_records.specs.Book.{Book, side_of, slot_at}
 use Rattle.pad_terminal.specs.Terminal.{has_call}
-use Rattle.x25_pad.specs.Ports.{PortState, has_channel}
+use Rattle.pad_ports.specs.Ports.{PortState, has_channel}
 use Rattle.x25_pad.specs.Pad.{PadState}
 use Rattle.node_laws.specs.Pads.Occasions.{Occasion}
 use Rattle.node_laws.specs.Pads.Sending.{HasTyped, HasSaid}

@@ -1,9 +1,10 @@
 -- What is noted of what happens at a terminal is of its own call.
 use Rattle.std.specs.Prelude.{◌≡◌, ℕ, ◌⊎◌, [], Option, Some}
 use Rattle.packet_laws.specs.Readable.{Every}
-use Rattle.x25_pad.specs.Line.{about}
-use Rattle.x25_pad.specs.Notes.{ChannelNote, Told, Placed, Accepted, Cleared, WasReset, Edited, Sent, Interrupted, Took}
-use Rattle.x25_pad.specs.Ports.{AtLine, after_key, after_break, after_idle, after_print}
+use Rattle.pad_ports.specs.Line.{about}
+use Rattle.pad_ports.specs.Notes.{ChannelNote, Told, Placed, Accepted, Cleared, WasReset, Edited, Sent}
+use Rattle.pad_ports.specs.Notes.{Interrupted, Took}
+use Rattle.pad_ports.specs.Ports.{AtLine, after_key, after_break, after_idle, after_print}
 
 -- the channel of a note
 abbrev pub channel_of : ChannelNote → ℕ

@@ -3,8 +3,8 @@ use Rattle.std.specs.Prelude.{◌≡◌, ℕ, List, ◌++◌, slice_get, Some, f
 use Rattle.packet_channel.specs.Packets.{Note}
 use Rattle.packet_channel.specs.Traffic.{Taken}
 use Rattle.packet_layer.specs.Layer.{front_on}
-use Rattle.x25_pad.specs.Line.{learnt_of, about}
-use Rattle.x25_pad.specs.Ports.{PortState, AtLine, has_channel, text_taken}
+use Rattle.pad_ports.specs.Line.{learnt_of, about}
+use Rattle.pad_ports.specs.Ports.{PortState, AtLine, has_channel, text_taken}
 use Rattle.x25_pad.specs.Pad.{PadState, at_port, print_taken, print_text, all_heard}
 
 -- printing at a terminal takes what waits first on the channel of its own call

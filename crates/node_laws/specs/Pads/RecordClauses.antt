@@ -9,9 +9,9 @@ use Rattle.call_records.specs.Records.{RecordValue}
 use Rattle.call_records.specs.Book.{Book, made_book}
 use Rattle.call_records.specs.Writes.{Write, all_written}
 use Rattle.call_records.specs.Writes.Write.{AllClosed}
+use Rattle.pad_ports.specs.Ports as port
 use Rattle.x25_pad.specs.Pad.{PadState, terminal_event, after_frame, after_timer, after_relink, restarted}
 use Rattle.x25_pad.specs.Pad.{elapsed}
-use Rattle.x25_pad.specs.Ports as port
 use Rattle.x25_pad.specs.Making.{made, IsConfig}
 use Rattle.x25_pad.specs.declared.config.PadConfig.{PadConfig}
 use Rattle.line_nodes.specs.PadWriting.{writes_of}

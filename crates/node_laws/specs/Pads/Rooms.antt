@@ -3,8 +3,8 @@ use Rattle.std.specs.Prelude.{◌≡◌, ℕ, ◌≤◌, []}
 use Rattle.link_timers.specs.declared.timers.TimerId.{TimerId}
 use Rattle.lapb.specs.Machine.{Octets}
 use Rattle.line_nodes.specs.PadRoom.{HaveRoom}
+use Rattle.pad_ports.specs.Ports as port
 use Rattle.x25_pad.specs.Pad.{PadState, terminal_event, after_idle, after_frame, after_timer, after_relink}
-use Rattle.x25_pad.specs.Ports as port
 
 -- room for two writes and for a pair is enough. So one record or epoch is opened at most, and behind it nothing is
 -- written but the pair of a call that came in and what needs no room

@@ -4,14 +4,12 @@ ghost use Rattle.packet_channel.specs.NoteView.{note_of};
 ghost use Rattle.packet_end.specs.PacketEnd as end;
 ghost use Rattle.packet_end.specs.Sending.{EndsWhole, ending_frames};
 ghost use Rattle.packet_layer.specs.LayerTimers.{TimersAgree};
-ghost use Rattle.x25_pad.specs.Line as line;
+ghost use Rattle.pad_ports.specs.Line as line;
 ghost use Rattle.x25_pad.specs.Pad as spec;
 
-use crate::call::CallNote;
-use crate::note::{ChannelNote, EARLY_NOTES, MOST_NOTES, TOLD_NOTES};
 use crate::pad::Pad;
-use crate::port::Port;
 use packet_layer::LayerNote;
+use pad_ports::{CallNote, ChannelNote, EARLY_NOTES, MOST_NOTES, Port, TOLD_NOTES};
 
 impl Pad {
     // Begins an event: what was not taken of the last one is dropped.

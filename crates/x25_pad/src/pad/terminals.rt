@@ -5,18 +5,16 @@ ghost use Rattle.arrayvec.specs.ArrayVec.{array_vec_len};
 ghost use Rattle.packet_end.specs.PacketEnd as end;
 ghost use Rattle.packet_end.specs.Sending.{expiry_frames, ending_frames};
 ghost use Rattle.packet_layer.specs.LayerTimers.{TimersAgree};
-ghost use Rattle.x25_pad.specs.Ports as port;
+ghost use Rattle.pad_ports.specs.Ports as port;
+ghost use Rattle.pad_ports.specs.TakenView.{maybe_taken};
 ghost use Rattle.x25_pad.specs.Pad as spec;
 ghost use Rattle.x25_pad.specs.Sending.{frames_at_terminal, frames_on_timer};
-ghost use Rattle.x25_pad.specs.TakenView.{maybe_taken};
 
 use crate::answer::PadAnswer;
-use crate::note::EARLY_NOTES;
 use crate::pad::Pad;
-use crate::port::MOST_TEXT;
-use crate::taken::PadTaken;
 use arrayvec::ArrayVec;
 use link_timers::TimerId;
+use pad_ports::{EARLY_NOTES, MOST_TEXT, PadTaken};
 
 impl Pad {
     /// Takes a key of a terminal (X.3 3; X.28 3.2).

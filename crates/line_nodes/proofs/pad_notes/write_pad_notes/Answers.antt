@@ -1,6 +1,6 @@
 -- The first note has room, and where there is none all are written.
 use Rattle.std.proofs.Common.{◌≡◌, ℕ, List, [], ◌∷◌, length, Some, None, drop, slice_get, refl, subst, sym, ap, ◌∙◌, rules, tests}
-use Rattle.x25_pad.specs.Notes.{ChannelNote}
+use Rattle.pad_ports.specs.Notes.{ChannelNote}
 use Rattle.x25_pad.specs.Pad.{PadState}
 use Rattle.call_records.specs.Writes.{all_written}
 use Rattle.line_nodes.specs.PadWriting.{writes_of, without_notes}

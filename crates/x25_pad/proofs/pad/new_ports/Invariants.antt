@@ -1,6 +1,6 @@
 -- The ports so far.
 use Rattle.std.proofs.Common.{◌≡◌, ◌≤◌, ◌-◌, ◌∷◌, None, replicate}
-use Rattle.x25_pad.specs.Ports.{new_port}
+use Rattle.pad_ports.specs.Ports.{new_port}
 use Rattle.x25_pad.proofs.pad.new_ports.Given as goal
 
 abbrev pub invariant-loop : goal.invariant-loop

@@ -1,7 +1,7 @@
 -- One port more.
 use Rattle.std.proofs.Common.{arith}
 use Rattle.std.proofs.lemmas.List.Edits.{map_over_more}
-use Rattle.x25_pad.specs.Ports.{elapsed}
+use Rattle.pad_ports.specs.Ports.{elapsed}
 use Rattle.x25_pad.proofs.pad.Pad.elapse_idle_timers.Goals as goal
 
 pub loop-port-preserved : goal.loop-port-preserved

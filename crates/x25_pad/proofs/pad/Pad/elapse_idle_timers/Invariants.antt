@@ -1,6 +1,6 @@
 -- The ports so far are changed.
 use Rattle.std.proofs.Common.{◌≡◌, ◌++◌, map, take, drop}
-use Rattle.x25_pad.specs.Ports.{elapsed}
+use Rattle.pad_ports.specs.Ports.{elapsed}
 use Rattle.x25_pad.proofs.pad.Pad.elapse_idle_timers.Given as goal
 
 abbrev pub invariant-loop-port : goal.invariant-loop-port

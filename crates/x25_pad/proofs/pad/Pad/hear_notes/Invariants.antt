@@ -1,6 +1,6 @@
 -- What was told so far, with what the remaining notes tell, is what all notes tell.
 use Rattle.std.proofs.Common.{◌≡◌, ◌≤◌, ◌+◌, None, length}
-use Rattle.x25_pad.specs.Line.{last_incoming}
+use Rattle.pad_ports.specs.Line.{last_incoming}
 use Rattle.x25_pad.specs.Pad.{told, IsEachNamed}
 use Rattle.x25_pad.proofs.pad.Pad.hear_notes.Given as goal
 

@@ -1,6 +1,6 @@
 -- What happens at a terminal sends nothing before the event ends.
 use Rattle.std.proofs.Common.{ap, ◌∙◌}
-use Rattle.x25_pad.specs.Ports as port
+use Rattle.pad_ports.specs.Ports as port
 use Rattle.x25_pad.specs.Pad as spec
 use Rattle.x25_pad.specs.Pad.{PadState}
 use Rattle.x25_pad.proofs.Frames.{break_same, terminal_whole}

@@ -1,6 +1,6 @@
 -- What happens at a port.
 use Rattle.std.proofs.Common.{false, ◌∙◌}
-use Rattle.x25_pad.specs.Ports as port
+use Rattle.pad_ports.specs.Ports as port
 use Rattle.x25_pad.specs.PadView.{pad_of}
 use Rattle.x25_pad.proofs.Acting.{acts_at, seen_at}
 use Rattle.x25_pad.proofs.pad.Pad.pause.Goals as goal

@@ -1,7 +1,7 @@
 -- One port more.
 use Rattle.std.proofs.Common.{arith}
 use Rattle.std.proofs.lemmas.List.Edits.{map_over_more}
-use Rattle.x25_pad.specs.Ports.{restarted}
+use Rattle.pad_ports.specs.Ports.{restarted}
 use Rattle.x25_pad.proofs.pad.Pad.restart_terminals.Goals as goal
 
 pub loop-port-preserved : goal.loop-port-preserved

@@ -1,6 +1,6 @@
 -- The ports so far are changed.
 use Rattle.std.proofs.Common.{◌≡◌, ◌++◌, map, take, drop}
-use Rattle.x25_pad.specs.Ports.{restarted}
+use Rattle.pad_ports.specs.Ports.{restarted}
 use Rattle.x25_pad.proofs.pad.Pad.restart_terminals.Given as goal
 
 abbrev pub invariant-loop-port : goal.invariant-loop-port

@@ -1,8 +1,8 @@
 -- One port more, and all.
 use Rattle.std.proofs.Common.{ap, arith}
 use Rattle.std.proofs.lemmas.List.Edits.{map_over_more}
+use Rattle.pad_ports.specs.Ports.{settled}
 use Rattle.x25_pad.specs.Pad.{PadState}
-use Rattle.x25_pad.specs.Ports.{settled}
 use Rattle.x25_pad.proofs.pad.Pad.settle.Goals as goal
 
 pub loop-port-preserved : goal.loop-port-preserved

@@ -1,6 +1,6 @@
 -- The ports so far are as the end of the event leaves them.
 use Rattle.std.proofs.Common.{◌≡◌, ◌++◌, map, take, drop}
-use Rattle.x25_pad.specs.Ports.{settled}
+use Rattle.pad_ports.specs.Ports.{settled}
 use Rattle.x25_pad.proofs.pad.Pad.settle.Given as goal
 
 abbrev pub invariant-loop-port : goal.invariant-loop-port

@@ -1,6 +1,6 @@
 -- What printing does at a port.
 use Rattle.std.proofs.Common.{None, ◌∙◌}
-use Rattle.x25_pad.specs.Ports as port
+use Rattle.pad_ports.specs.Ports as port
 use Rattle.x25_pad.specs.PadView.{pad_of}
 use Rattle.x25_pad.proofs.Acting.{acts_at, seen_at}
 use Rattle.x25_pad.proofs.pad.Pad.show.Goals as goal

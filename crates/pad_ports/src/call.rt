@@ -1,0 +1,27 @@
+//! What a terminal learns of its call.
+ghost use Rattle.std.specs.Prelude.{◌≡◌};
+ghost use Rattle.pad_ports.specs.Ports.{channel_of};
+
+/// What a terminal learns of the call on a channel.
+#[derive(Clone, Copy)]
+pub enum CallNote {
+    /// It is connected.
+    Connected(u8),
+    /// It was cleared, with this cause.
+    Cleared(u8, u8),
+    /// It was reset, with this cause.
+    Reset(u8, u8),
+}
+
+impl CallNote {
+    /// The channel.
+    pub fn channel(self) -> u8
+        ensures { result ≡ channel_of self }
+    {
+        match self {
+            CallNote::Connected(channel)
+            | CallNote::Cleared(channel, _)
+            | CallNote::Reset(channel, _) => channel,
+        }
+    }
+}

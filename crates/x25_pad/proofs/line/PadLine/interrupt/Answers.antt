@@ -1,5 +1,0 @@
-use Rattle.std.proofs.Common.{rules, tests}
-use Rattle.x25_pad.proofs.line.PadLine.interrupt.Goals as goal
-
-pub returns-clause-line : goal.returns-clause-line
-returns-clause-line c = search (rules, tests)

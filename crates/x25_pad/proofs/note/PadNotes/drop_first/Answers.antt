@@ -1,6 +1,0 @@
-use Rattle.std.proofs.lemmas.Grind.{common_steps}
-use Rattle.std.proofs.Common.{arith}
-use Rattle.x25_pad.proofs.note.PadNotes.drop_first.Goals as goal
-
-pub returns : goal.returns
-returns c = grind (arith, common_steps)
