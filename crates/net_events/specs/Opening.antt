@@ -12,7 +12,7 @@ use Rattle.x25_pad.specs.Making as pad
 use Rattle.line_nodes.specs.Node.{NodeState, Pad, Host, frames_of, drained}
 use Rattle.frame_lines.specs.Lines.{Flights, no_flights, LineService, ArePut}
 use Rattle.switch_lines.specs.Making.{made}
-use Rattle.switch_lines.specs.declared.config.SwitchLineConfig.{SwitchLineConfig}
+use Rattle.joined_line.specs.declared.config.SwitchLineConfig.{SwitchLineConfig}
 use Rattle.net_config.specs.NetPlan.{NewDte, NewPad, NewHost, NewNode, NewSwitch, NewLine, NetPlan, Planned, PlannedUser, PlannedSwitch}
 use Rattle.net_events.specs.OneLine.{direction_of}
 use Rattle.net_events.specs.Network.{PlacedNode, PlacedSwitch, User, Switching, Network}

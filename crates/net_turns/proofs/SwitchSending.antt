@@ -7,7 +7,7 @@ use Rattle.packet_end.specs.PacketEnd.{PacketEnd, without_first_frame}
 use Rattle.frame_lines.specs.declared.line.Direction.{Direction}
 use Rattle.frame_lines.specs.Lines.{Flights, IsPut, LineService, ArePut}
 use Rattle.switch_lines.specs.Lines.{SwitchLine, changed}
-use Rattle.switch_lines.specs.Switch.{Switch, frames_on, timer_runs, on_expiry, with_end, without_frame, without_joins}
+use Rattle.switch_lines.specs.Switch.{Switch, frames_on, timer_runs, on_expiry, with_end, quieted, without_frame, without_joins}
 use Rattle.switch_lines.proofs.Places.{fused}
 use Rattle.switch_laws.specs.Steps.{Happening, does, Step, lines_after, lines_after_all}
 use Rattle.switch_laws.specs.Steps.Happening.{Brings, RunsOut, Relinks}
@@ -115,7 +115,7 @@ step_lines : (s : Step) (ls : List SwitchLine) → length (lines_after s ls) ≡
 step_lines (Asks p q) ls = length_changed p.line _ ls
 step_lines (Places n parts) ls = length_changed n _ ls
 step_lines (Keeps p o) ls = length_changed p.line _ ls
-step_lines (Happens n what) ls = length_changed n _ (changed n (with_end (λ e. does what (Rattle.switch_lines.specs.Switch.quieted e))) ls) ∙ length_changed n _ ls
+step_lines (Happens n what) ls = length_changed n _ (changed n (with_end (λ e. does what (quieted e))) ls) ∙ length_changed n _ ls
 step_lines (Offers n) ls = length_changed n _ ls
 step_lines Begins ls = on_ends _ ls
 step_lines Settles ls = on_ends _ ls

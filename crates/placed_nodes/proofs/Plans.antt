@@ -5,7 +5,7 @@ use Rattle.std.proofs.lemmas.Option.{same_Some, none-some}
 use Rattle.link_timers.specs.declared.role.Role.TheVariants.{Dte, Dce}
 use Rattle.packet_end.specs.Params.{AreParams}
 use Rattle.switch_lines.specs.Making.{IsLineConfig}
-use Rattle.switch_lines.specs.declared.config.SwitchLineConfig.{SwitchLineConfig}
+use Rattle.joined_line.specs.declared.config.SwitchLineConfig.{SwitchLineConfig}
 use Rattle.net_config.specs.NetPlan.{NewNode, NewSwitch, Planned, PlannedUser, PlannedSwitch, NewLine, NetPlan, IsNewDte}
 use Rattle.net_config.specs.NetPlan.{IsEndPlan, IsKindOfLine, IsLinePlan, HasEndAt, IsSwitchPlan, IsPlan}
 use Rattle.net_events.specs.Opening.{line_config, found_config, own_configs}

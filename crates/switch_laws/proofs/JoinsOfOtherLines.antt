@@ -15,7 +15,7 @@ use Rattle.packet_laws.proofs.Line.Outcomes.{free_is, given_ready}
 use Rattle.packet_end.specs.PacketEnd.{PacketEnd, all_offered}
 use Rattle.address_routes.specs.Routes.{RouteMap, line_for}
 use Rattle.switch_joins.specs.Direction.{Direction, new_direction, releasable, released}
-use Rattle.switch_lines.specs.Causes.{clear_cause, reset_cause, far_diagnostic}
+use Rattle.joined_line.specs.Causes.{clear_cause, reset_cause, far_diagnostic}
 use Rattle.switch_joins.specs.declared.channels.SwitchChannel.{SwitchChannel}
 use Rattle.switch_joins.specs.Joins.{Joined}
 use Rattle.switch_lines.specs.Lines.{SwitchLine, same_place, changed, joined_at, with_joined, ask, ask_all, front_at, sizes_at, takes_at}

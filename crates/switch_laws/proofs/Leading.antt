@@ -9,7 +9,7 @@ use Rattle.packet_channel.specs.Traffic.{Taken}
 use Rattle.packet_channel.specs.Channel.{Request}
 use Rattle.packet_channel.specs.Channel.Request.{Taking, Resetting}
 use Rattle.address_routes.specs.Routes.{RouteMap}
-use Rattle.switch_lines.specs.Causes.{reset_cause, far_diagnostic}
+use Rattle.joined_line.specs.Causes.{reset_cause, far_diagnostic}
 use Rattle.switch_joins.specs.declared.channels.SwitchChannel.{SwitchChannel}
 use Rattle.switch_joins.specs.Joins.{Joined}
 use Rattle.switch_lines.specs.Lines.{SwitchLine, changed, joined_at, ask, ask_all, front_at, sizes_at, takes_at}

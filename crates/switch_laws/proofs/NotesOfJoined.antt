@@ -7,7 +7,7 @@ use Rattle.packet_channel.specs.Packets.Note.{Incoming, Connected, Closed, WasRe
 use Rattle.packet_channel.specs.Channel.{Request}
 use Rattle.packet_channel.specs.Channel.Request.{Clearing, Resetting, Releasing, Confirming}
 use Rattle.switch_joins.specs.Direction.{Direction, new_direction, releasable, released, covered_by}
-use Rattle.switch_lines.specs.Causes.{reset_cause, clear_cause, far_diagnostic}
+use Rattle.joined_line.specs.Causes.{reset_cause, clear_cause, far_diagnostic}
 use Rattle.switch_joins.specs.declared.channels.SwitchChannel.{SwitchChannel}
 use Rattle.switch_joins.specs.Joins.{Joined}
 use Rattle.switch_lines.specs.Lines.{SwitchLine, same_place, joined_at, with_joined, ask, is_trunk}

@@ -9,7 +9,7 @@ use Rattle.packet_end.specs.Params.{AreParams}
 use Rattle.packet_end.specs.PacketEnd as offers
 use Rattle.switch_lines.specs.Relay.{most_moves}
 use Rattle.std.specs.Prelude.{slice_get}
-use Rattle.switch_lines.specs.declared.config.SwitchLineConfig.{SwitchLineConfig}
+use Rattle.joined_line.specs.declared.config.SwitchLineConfig.{SwitchLineConfig}
 use Rattle.switch_joins.specs.declared.channels.SwitchChannel.{SwitchChannel}
 use Rattle.switch_lines.specs.Making.{IsConfig, IsLineConfig}
 use Rattle.switch_joins.specs.Joins.{Joined}

@@ -13,7 +13,7 @@ use Rattle.packet_end.specs.PacketEnd as offers
 use Rattle.packet_layer.specs.LayerTimers as timing
 use Rattle.packet_end.specs.PacketEnd.{received}
 use Rattle.address_routes.specs.Routes.{line_for, or_else}
-use Rattle.switch_lines.specs.declared.config.SwitchLineConfig.{SwitchLineConfig}
+use Rattle.joined_line.specs.declared.config.SwitchLineConfig.{SwitchLineConfig}
 use Rattle.switch_lines.specs.Lines.{SwitchLine, changed}
 use Rattle.switch_lines.specs.Making.{IsConfig, IsLineConfig}
 use Rattle.switch_lines.specs.Relay.{most_moves}

@@ -12,7 +12,7 @@ use Rattle.packet_channel.specs.Channel.Request.{Accept, Clearing, Resetting, Ta
 use Rattle.address_routes.specs.Routes.{RouteMap}
 use Rattle.switch_joins.specs.Direction.{Direction, new_direction, releasable, released, covered_by}
 use Rattle.switch_lines.specs.Relay.{carried_by, due_at}
-use Rattle.switch_lines.specs.Causes.{reset_cause, clear_cause, far_diagnostic}
+use Rattle.joined_line.specs.Causes.{reset_cause, clear_cause, far_diagnostic}
 use Rattle.switch_joins.specs.declared.channels.SwitchChannel.{SwitchChannel}
 use Rattle.switch_lines.specs.Lines.{Joined, SwitchLine, changed, joined_at, places, front_at, sizes_at, takes_at, is_trunk}
 use Rattle.switch_lines.specs.Relay.{moved, relayed, places_first, relayed_first, most_moves}

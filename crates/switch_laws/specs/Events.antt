@@ -9,7 +9,7 @@ use Rattle.packet_channel.specs.Flow.{modulo_8}
 use Rattle.packet_channel.specs.Channel.{closed_channel}
 use Rattle.packet_laws.specs.History.{empty_epoch}
 use Rattle.address_routes.specs.Routes.{RouteMap}
-use Rattle.switch_lines.specs.declared.config.SwitchLineConfig.{SwitchLineConfig}
+use Rattle.joined_line.specs.declared.config.SwitchLineConfig.{SwitchLineConfig}
 use Rattle.switch_lines.specs.Lines.{SwitchLine}
 use Rattle.switch_lines.specs.Making.{IsConfig, made}
 use Rattle.switch_lines.specs.Switch.{Switch, on_frame, timer_runs, on_expiry, on_timer, relink, restart, elapse}

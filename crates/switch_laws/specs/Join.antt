@@ -7,7 +7,7 @@ use Rattle.packet_channel.specs.Channel.{received, unreadable}
 use Rattle.packet_channel.specs.Channel.Request.{Resetting}
 use Rattle.std.specs.Prelude.{Bool}
 use Rattle.switch_joins.specs.Direction.{Direction, new_direction}
-use Rattle.switch_lines.specs.Causes.{reset_cause, far_diagnostic}
+use Rattle.joined_line.specs.Causes.{reset_cause, far_diagnostic}
 use Rattle.switch_laws.specs.Leg.{Leg, asked, heard, misheard, gave}
 use Rattle.switch_laws.specs.Way.{Way, IsRight, IsStuck, relayed, covers, confirms}
 

@@ -6,7 +6,7 @@ use Rattle.link_timers.specs.declared.role.Role.TheVariants.{Dte}
 use Rattle.link_timers.specs.declared.timers.TimerId.TheVariants.{T21}
 use Rattle.lapb.specs.Machine.{Octets}
 use Rattle.address_routes.specs.Routes.{RouteMap}
-use Rattle.switch_lines.specs.declared.config.SwitchLineConfig.{SwitchLineConfig}
+use Rattle.joined_line.specs.declared.config.SwitchLineConfig.{SwitchLineConfig}
 use Rattle.switch_lines.specs.Making.{IsConfig, made}
 use Rattle.switch_lines.specs.Switch.{Switch, frames_on}
 use Rattle.switch_laws.specs.Events.{Event, after_events, HoldsOn, new_legs}

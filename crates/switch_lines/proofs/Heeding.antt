@@ -12,13 +12,13 @@ use Rattle.packet_channel.specs.Channel.Request.{Accept, Clearing, Resetting, Co
 use Rattle.packet_end.specs.PacketEnd.{PacketEnd, without_first_note}
 use Rattle.address_routes.specs.Routes.{RouteMap, line_for}
 use Rattle.switch_joins.specs.Direction.{Direction, new_direction, releasable, released, covered_by}
-use Rattle.switch_lines.specs.Causes.{reset_cause, clear_cause, far_diagnostic}
+use Rattle.joined_line.specs.Causes.{reset_cause, clear_cause, far_diagnostic}
 use Rattle.switch_lines.specs.Lines.{SwitchChannel, Joined, SwitchLine, is_trunk, changed, joined_at, with_joined, ask}
 use Rattle.switch_lines.specs.Relay.{told_joined, told_of, with_kept, freed, kept_anew, covered_on}
 use Rattle.switch_lines.specs.Switch.{Answer, answer, answer_by, answer_on, has_any, route_from, forwarded, address_of, place_call, with_join, answered, heed, heed_all, with_end, without_notes, notes_heeded, acted, all_begun, quieted}
 use Rattle.switch_lines.specs.Switch.Answer.{Clears, Joins}
 use Rattle.switch_lines.specs.NewJoins.{NewJoin, join_of, joins_of_note, joins_of_notes, joins_heeded}
-use Rattle.switch_lines.specs.OfLine.{notes_on, AreRead}
+use Rattle.switch_lines.specs.ByPlace.{notes_on, AreRead}
 use Rattle.switch_lines.proofs.Places.{fused, same_there, joined_after}
 
 -- no notes are left on a line

@@ -6,7 +6,7 @@ use Rattle.packet_channel.specs.Channel.Request.{Taking, Releasing}
 use Rattle.switch_joins.specs.Direction.{released, releasable}
 use Rattle.switch_lines.specs.Lines.{SwitchChannel, Joined, SwitchLine, same_place, joined_at, with_joined, ask, ask_all, front_at, sizes_at, takes_at}
 use Rattle.switch_lines.specs.Relay.{carried_by, due_at, moved, moved_joined, moved_front, moved_if, relayed, relayed_from, places_of, both_legs, legs_at, legs_of, most_moves}
-use Rattle.switch_lines.specs.OfLine.{places_by}
+use Rattle.switch_lines.specs.ByPlace.{places_by}
 use Rattle.switch_lines.proofs.Places.{joined_asked, joined_asks, joined_here, joined_apart}
 use Rattle.switch_joins.proofs.Apart.{decided, place_is}
 use Rattle.switch_lines.proofs.Rounds.{counts, counts_from, counts_there, counts_length, on_line, from_both}

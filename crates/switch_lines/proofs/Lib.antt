@@ -1,4 +1,3 @@
-pub mod Unread
 pub mod Changing
 pub mod Onward
 pub mod Places
@@ -10,7 +9,6 @@ pub mod Heeding
 pub mod Ending
 pub mod Making
 pub mod Pooled
-pub mod Sharing
 pub mod Asking
 pub mod Settling
 pub mod Touched

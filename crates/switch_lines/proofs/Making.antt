@@ -1,10 +1,9 @@
 -- How lines are made.
-use Rattle.std.proofs.Common.{◌≡◌, ℕ, zero, suc, ◌+◌, ◌*◌, ◌≤◌, ◌<◌, max, List, [], ◌∷◌, map, take, length, get_or, refl, ap, ◌∙◌, sym, subst, arith}
+use Rattle.std.proofs.Common.{◌≡◌, ℕ, zero, suc, ◌+◌, ◌≤◌, ◌<◌, max, List, [], ◌∷◌, map, take, length, get_or, refl, ap, ◌∙◌, sym, subst, arith}
 use Rattle.flow_window.specs.Pool.{Pool, Buffer, weight, pooled}
 use Rattle.frame_codec.specs.Spelling.{most_information}
-use Rattle.packet_channel.specs.declared.flow.Flow.{Flow}
 use Rattle.packet_end.specs.Params.{info_of}
-use Rattle.switch_lines.specs.declared.config.SwitchLineConfig.{SwitchLineConfig}
+use Rattle.joined_line.specs.declared.config.SwitchLineConfig.{SwitchLineConfig}
 use Rattle.switch_lines.specs.Making.{made_line, line_share, shares_with, greatest_info}
 use Rattle.switch_lines.specs.Pooled.{PooledLine, plain, buffers, shares, KeepWithin, ArePooled}
 
@@ -40,15 +39,6 @@ pooled_made pool cs ps is size most places none = subst (λ (zs : List PooledLin
 })
 
 -- ---- how many buffers they need
-
-pub small : (k channels : ℕ) (flow : Flow) → k ≤ 7 → channels ≤ 32 → flow.window ≤ 32 → k + channels * (flow.window + 8) + 1 + channels ≤ 1320
-small k channels flow a b d =
-    let product = times channels (flow.window + 8) (omega (arith, d)) in
-    omega (arith, a, b, product)
-  where
-    times : (m n : ℕ) → n ≤ 40 → m * n ≤ m * 40
-    times zero n few = omega arith
-    times (suc m) n few = let rest = times m n few in omega (arith, rest, few)
 
 pub one_share_more : (cs : List SwitchLineConfig) (i : ℕ) (c : SwitchLineConfig) → i < length cs → c ≡ get_or cs i c →
     shares_with (take (i + 1) cs) ≡ shares_with (take i cs) + line_share c

@@ -8,7 +8,7 @@ use Rattle.packet_channel.specs.Traffic.{Taken}
 use Rattle.packet_channel.specs.declared.taken.Front.{Front}
 use Rattle.switch_joins.specs.ChannelSet.{has, is_small}
 use Rattle.switch_joins.specs.declared.channel_set.ChannelSet.{ChannelSet}
-use Rattle.switch_lines.specs.declared.config.SwitchLineConfig.{SwitchLineConfig}
+use Rattle.joined_line.specs.declared.config.SwitchLineConfig.{SwitchLineConfig}
 use Rattle.switch_lines.specs.Making.{made_line}
 use Rattle.switch_lines.specs.Lines.{SwitchChannel, Joined, SwitchLine, flat, nth_joined, with_nth_joined, joined_on, joined_at}
 use Rattle.switch_lines.specs.Pooled.{PooledLine, plain}

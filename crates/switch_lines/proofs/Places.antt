@@ -11,7 +11,8 @@ use Rattle.switch_joins.specs.Direction.{Direction, releasable, released}
 use Rattle.switch_joins.proofs.Apart.{apart_by}
 use Rattle.switch_lines.specs.Lines.{SwitchChannel, Joined, SwitchLine, same_place, changed, flat, nth_joined, joined_on, joined_at, with_nth_joined, with_joined, ask, ask_all, size_of_line, sizes_at}
 use Rattle.switch_lines.specs.Relay.{with_kept, freed}
-use Rattle.switch_lines.specs.OfLine.{kept_on, kept_at, released_if, freed_on, freed_at}
+use Rattle.joined_line.specs.OfLine.{kept_on, released_if, freed_on}
+use Rattle.switch_lines.specs.ByPlace.{kept_at, freed_at}
 use Rattle.switch_joins.specs.Joins.{joined_with}
 use Rattle.switch_joins.proofs.Slots.{nth_apart}
 

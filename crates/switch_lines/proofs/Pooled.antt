@@ -149,14 +149,6 @@ within_set size (x ∷ xs) zero old new all e same fits =
     (fits, omega (arith, info, there_, all.1), all.2)
 within_set size (x ∷ xs) (suc n) old new all e same fits = (all.0, all.1, within_set size xs n old new all.2 e same fits)
 
-pub count : (bs cs : List Buffer) → length (bs ++ cs) ≡ length bs + length cs
-count bs cs =
-    let parts = weight_append (λ _. 1) bs cs in
-    let all = weight_ones (bs ++ cs) in
-    let first = weight_ones bs in
-    let second = weight_ones cs in
-    omega (arith, parts, all, first, second)
-
 few : (size : ℕ) (ps : Pooled) → KeepWithin size ps → length (buffers ps) ≤ shares ps
 few size [] all = omega arith
 few size (p ∷ ps) all =

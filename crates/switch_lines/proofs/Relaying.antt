@@ -27,7 +27,7 @@ use Rattle.switch_joins.specs.Direction.{carried}
 use Rattle.switch_joins.specs.Joins.{gathered_by}
 use Rattle.switch_lines.specs.Lines.{SwitchChannel, Joined, SwitchLine, joined_at, ask, ask_all, front_at, front_of_line, sizes_at, takes_at, takes_all, takes_on_channel, takes_on_line}
 use Rattle.switch_lines.specs.Relay.{requests_for, due_at, carried_by, moved, moved_joined, moved_front, moved_if, freed, with_kept, relayed}
-use Rattle.switch_lines.specs.OfLine.{kept_at, freed_at, made_due, Fits, TakesFront, passed_on, sent_on, MovesFront}
+use Rattle.switch_lines.specs.ByPlace.{kept_at, freed_at, made_due, Fits, TakesFront, passed_on, sent_on, MovesFront}
 use Rattle.switch_lines.specs.Waiting.{IsStuck}
 use Rattle.switch_lines.proofs.Places.{joined_asked, joined_asks, joined_here, sizes_asked, kept_joined, freed_joined, freed_kept}
 use Rattle.switch_lines.proofs.Rounds.{same_length, counts_asked}

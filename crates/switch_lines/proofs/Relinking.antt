@@ -22,7 +22,7 @@ use Rattle.packet_layer.specs.Layer.Phase.{NoSession, OwnRestart, PacketReady}
 use Rattle.packet_end.specs.PacketEnd.{PacketEnd, relinked, offered, all_offered, with_next}
 use Rattle.address_routes.specs.Routes.{RouteMap}
 use Rattle.switch_joins.specs.Direction.{Direction, releasable}
-use Rattle.switch_lines.specs.Causes.{reset_cause, clear_cause, far_diagnostic}
+use Rattle.joined_line.specs.Causes.{reset_cause, clear_cause, far_diagnostic}
 use Rattle.switch_joins.specs.declared.channels.SwitchChannel.{SwitchChannel}
 use Rattle.switch_joins.specs.Joins.{Joined}
 use Rattle.switch_lines.specs.Lines.{SwitchLine, changed, joined_at, with_joined, ask, ask_all, front_at, sizes_at, takes_at, is_trunk}

@@ -5,7 +5,7 @@ use Rattle.packet_channel.specs.Channel.{Request}
 use Rattle.packet_channel.specs.Channel.Request.{Taking, Releasing}
 use Rattle.switch_joins.specs.Direction.{releasable}
 use Rattle.switch_lines.specs.Lines.{SwitchChannel, Joined, SwitchLine, changed, joined_at, with_joined, ask, ask_all, front_at, sizes_at, takes_at, places_on, places_from}
-pub use Rattle.switch_lines.specs.OfLine.{places_by}
+pub use Rattle.switch_lines.specs.ByPlace.{places_by}
 use Rattle.switch_lines.specs.Relay.{carried_by, due_at, moved, moved_joined, moved_front, moved_if, relayed, relayed_from, all_relayed, most_moves}
 use Rattle.switch_joins.proofs.Slots.{set_size}
 

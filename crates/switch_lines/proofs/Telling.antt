@@ -5,10 +5,10 @@ use Rattle.packet_channel.specs.Packets.{Note, Reason}
 use Rattle.packet_channel.specs.Packets.Note.{Connected, Closed, WasReset, InterruptConfirmed, Covered}
 use Rattle.packet_channel.specs.Channel.Request.{Accept, Clearing, Resetting, Confirming}
 use Rattle.switch_joins.specs.Direction.{new_direction, covered_by}
-use Rattle.switch_lines.specs.Causes.{reset_cause, clear_cause, far_diagnostic}
+use Rattle.joined_line.specs.Causes.{reset_cause, clear_cause, far_diagnostic}
 use Rattle.switch_lines.specs.Lines.{SwitchChannel, Joined, SwitchLine, is_trunk, same_place, joined_at, with_joined, ask}
 use Rattle.switch_lines.specs.Relay.{told, told_of, told_joined, with_kept, kept_anew, covered_on}
-use Rattle.switch_lines.specs.OfLine.{kept_at, freed_at}
+use Rattle.switch_lines.specs.ByPlace.{kept_at, freed_at}
 use Rattle.switch_lines.proofs.Places.{joined_asked, joined_here, joined_apart, kept_joined, kept_none, freed_joined, freed_kept, freed_none}
 use Rattle.switch_joins.proofs.Apart.{decided, place_is}
 use Rattle.switch_lines.proofs.Relaying.{joined_by, not_joined}

@@ -17,7 +17,7 @@ use Rattle.switch_joins.specs.ChannelSet.{has, is_small}
 use Rattle.switch_joins.specs.declared.channel_set.ChannelSet.{ChannelSet}
 use Rattle.switch_joins.specs.Direction.{Direction, releasable, released}
 use Rattle.switch_lines.specs.Lines.{SwitchChannel, Joined, SwitchLine, same_place, changed, flat, nth_joined, with_nth_joined, joined_on, joined_at, with_joined, ask, ask_all, front_at, front_of_line, size_of_line, sizes_at, takes_at, takes_on_line, takes_on_channel}
-use Rattle.switch_lines.specs.OfLine.{kept_on, released_if, freed_on}
+use Rattle.joined_line.specs.OfLine.{kept_on, released_if, freed_on}
 use Rattle.switch_joins.specs.Joins.{joined_with}
 use Rattle.switch_lines.specs.Relay.{requests_for, due_at, carried_by, moved, moved_joined, moved_front, moved_if, relayed, relayed_from, both_legs, most_moves}
 use Rattle.switch_lines.specs.Switch.{with_end}

@@ -1,13 +1,11 @@
-pub mod Causes
 pub mod Lines
 pub mod Pooled
 pub mod Relay
 pub mod Switch
 pub mod NewJoins
 pub mod Alone
-pub mod OfLine
+pub mod ByPlace
 pub mod Touched
-pub mod LineView
 pub mod LinesView
 pub mod Calling
 pub mod Making

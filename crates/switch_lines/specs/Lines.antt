@@ -6,30 +6,21 @@ use Rattle.packet_channel.specs.Traffic.{Taken}
 use Rattle.packet_channel.specs.declared.flow.Flow.{Flow}
 use Rattle.packet_channel.specs.Channel.{Channel, Request, Refusal, refusal, requested, owing}
 use Rattle.packet_layer.specs.Layer.{channel_of, front_on, request_refusal}
-use Rattle.packet_end.specs.PacketEnd.{PacketEnd, asked}
+use Rattle.packet_end.specs.PacketEnd.{asked}
 use Rattle.switch_joins.specs.Turning.{Sizes}
 -- a logical channel of a line; lines are numbered from 0, channels from 1
 pub use Rattle.switch_joins.specs.declared.channels.SwitchChannel.{SwitchChannel}
 -- what a channel has whose call is joined to another one: that one, whether the call came in here, and the direction
 -- from here to there
 pub use Rattle.switch_joins.specs.Joins.{Joined, same_place, flat, nth_joined, with_nth_joined}
-
 -- a line: its end, the address that calls from it get as their calling address, if it has one, and of its channels 1, 2
--- and so on those that are joined
-pub record SwitchLine : Type 0 where
-  pub end : PacketEnd
-  pub address : Option (List ℕ)
-  pub joined : List (Option Joined)
+-- and so on those that are joined; one without an address is a trunk
+pub use Rattle.joined_line.specs.Line.{SwitchLine, is_trunk}
 
 -- the switch's role on a line
 abbrev pub role_on : Option SwitchLine → Option Role
 role_on None = None
 role_on (Some l) = Some l.end.layer.role
-
--- a line without an address is a trunk: a switch is at its other end too
-abbrev pub is_trunk : Option SwitchLine → Bool
-is_trunk None = false
-is_trunk (Some l) = is_none l.address
 
 -- the n-th one is changed, if there is one
 abbrev pub changed : {X : Type 0} → ℕ → (X → X) → List X → List X

@@ -1,19 +1,13 @@
 -- How a switch is made.
-use Rattle.std.specs.Prelude.{◌≡◌, ℕ, ◌+◌, ◌≤◌, max, false, List, [], ◌∷◌, length, map, replicate, slice_get, Some, None}
-use Rattle.packet_end.specs.Params.{AreParams, info_of}
-use Rattle.packet_end.specs.PacketEnd as end
-use Rattle.packet_end.specs.Pooled.{share_with}
+use Rattle.std.specs.Prelude.{◌≡◌, ℕ, ◌+◌, ◌≤◌, max, List, [], ◌∷◌, length, map, slice_get, Some}
+use Rattle.packet_end.specs.Params.{info_of}
 use Rattle.packet_end.specs.declared.fault.EndFault.{EndFault}
 use Rattle.packet_end.specs.declared.fault.EndFault.TheVariants.{BadConfig, OutOfMemory}
 use Rattle.address_routes.specs.Routes.{RouteMap}
-use Rattle.switch_lines.specs.declared.config.SwitchLineConfig.{SwitchLineConfig}
-use Rattle.switch_lines.specs.Lines.{SwitchLine}
+use Rattle.joined_line.specs.declared.config.SwitchLineConfig.{SwitchLineConfig}
 use Rattle.switch_lines.specs.Switch.{Switch}
-
--- the parameters are in their ranges, and the line does not stand
-pub record IsLineConfig (c : SwitchLineConfig) : Type 0 where
-  pub params : AreParams c.params
-  pub not_standing : c.params.standing ≡ false
+-- which lines a switch takes, how one is made, and the share that it has of the switch's pool
+pub use Rattle.joined_line.specs.Making.{IsLineConfig, made_line, line_share}
 
 -- 1 to 64 lines
 pub record IsConfig (lines : List SwitchLineConfig) : Type 0 where
@@ -25,19 +19,7 @@ abbrev pub MadeNot : List SwitchLineConfig → EndFault → Type 0
 MadeNot lines BadConfig = IsConfig lines → ⊥
 MadeNot lines OutOfMemory = IsConfig lines
 
--- a line without joins, at which the switch has its role
-abbrev pub made_line : SwitchLineConfig → SwitchLine
-made_line c = record {
-  end = end.made c.role c.params;
-  address = c.address;
-  joined = replicate c.params.channels None;
-}
-
--- the share that a line has of the switch's pool: that of its end, and one buffer for each channel, for what is gathered
--- from there; and the shares of lines together
-abbrev pub line_share : SwitchLineConfig → ℕ
-line_share c = share_with c.params + c.params.channels
-
+-- the shares that lines have of the switch's pool, together
 abbrev pub shares_with : List SwitchLineConfig → ℕ
 shares_with [] = 0
 shares_with (c ∷ cs) = line_share c + shares_with cs

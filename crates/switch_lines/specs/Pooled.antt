@@ -3,17 +3,8 @@ use Rattle.std.specs.Prelude.{◌≡◌, ℕ, ◌+◌, ◌<◌, ◌≤◌, List,
 use Rattle.flow_window.specs.Pool.{Pool, Buffer, weight, pooled}
 use Rattle.frame_codec.specs.Spelling.{most_information}
 use Rattle.switch_lines.specs.Lines.{SwitchLine}
-
--- what a line may have of the pool: so many buffers, each with room for so many octets
-pub record Claim : Type 0 where
-  pub share : ℕ
-  pub info : ℕ
-
--- a line, the buffers that it holds, and its claim
-pub record PooledLine : Type 0 where
-  pub line : SwitchLine
-  pub held : List Buffer
-  pub claim : Claim
+-- a line, the buffers that it holds, and what it may have of the pool
+pub use Rattle.joined_line.specs.Pooled.{Claim, PooledLine, on_line}
 
 abbrev pub plain : List PooledLine → List SwitchLine
 plain ps = map (λ p. p.line) ps
@@ -38,7 +29,3 @@ pub record ArePooled (pool : Pool) (ps : List PooledLine) : Type 0 where
   pub places : length pool.places ≡ shares ps
   pub exact : (w : Buffer → ℕ) → pooled w pool ≡ weight w (buffers ps)
   pub within : KeepWithin pool.size ps
-
--- a line changes, and holds what it held
-abbrev pub on_line : (SwitchLine → SwitchLine) → PooledLine → PooledLine
-on_line f p = record p { line = f p.line }

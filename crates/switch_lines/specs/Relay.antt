@@ -9,7 +9,7 @@ use Rattle.packet_channel.specs.Channel.Request.{Accept, Clearing, Resetting, Ta
 use Rattle.packet_channel.specs.Channel.Request.{Sending, Interrupting}
 use Rattle.switch_joins.specs.Turning.{Sizes, Gathered, turned}
 use Rattle.switch_joins.specs.Direction.{Direction, new_direction, releasable, released, covered_by, carried}
-use Rattle.switch_lines.specs.Causes.{reset_cause, clear_cause, far_diagnostic}
+use Rattle.joined_line.specs.Causes.{reset_cause, clear_cause, far_diagnostic}
 use Rattle.switch_lines.specs.Lines.{SwitchChannel, Joined, SwitchLine, joined_at, with_joined, places, places_on, ask}
 use Rattle.switch_lines.specs.Lines.{is_trunk, front_at, ask_all, sizes_at, takes_at}
 

@@ -1,25 +1,26 @@
 -- A switch: its lines and routes, and what each event makes of them.
 use Rattle.std.specs.Prelude.{ℕ, zero, suc, ◌*◌, ◌==◌, Bool, true, false, ◌&&◌, if◌then◌else◌, List, [], ◌∷◌, length, map}
 use Rattle.std.specs.Prelude.{slice_get}
-use Rattle.std.specs.Prelude.{Option, Some, None, is_some, unwrap_or}
+use Rattle.std.specs.Prelude.{Option, Some, None, unwrap_or}
 use Rattle.std.specs.List.{list_any, list_all}
 use Rattle.link_timers.specs.declared.timers.TimerId.{TimerId}
-use Rattle.lapb.specs.Machine.{Octets, can_offer}
+use Rattle.lapb.specs.Machine.{Octets}
 use Rattle.packet_codec.specs.ClearCause.{invalid_facility, not_obtainable, out_of_order, number_busy}
 use Rattle.packet_codec.specs.Diagnostic.{no_information}
 use Rattle.packet_channel.specs.Packets.{CallParts, Note}
 use Rattle.packet_channel.specs.Packets.Note.{Incoming, Connected, Closed, WasReset, InterruptConfirmed, Covered}
 use Rattle.packet_channel.specs.Channel.Request.{Clearing}
-use Rattle.packet_layer.specs.Layer.{Phase, channel_given, next_packet, unread}
+use Rattle.packet_layer.specs.Layer.{Phase, channel_given}
 use Rattle.packet_layer.specs.Layer.Phase.{PacketReady}
-use Rattle.packet_end.specs.PacketEnd.{PacketEnd, begun, received, after_timer, relinked, restarted, called}
-use Rattle.packet_end.specs.PacketEnd.{all_offered}
-use Rattle.packet_end.specs.PacketEnd.{settled, elapsed, runs_at, due, without_first_frame, at_rest}
+use Rattle.packet_end.specs.PacketEnd.{PacketEnd, begun, received, after_timer, relinked, called, all_offered}
+use Rattle.packet_end.specs.PacketEnd.{settled, elapsed, runs_at, due, without_first_frame}
 use Rattle.address_routes.specs.Routes.{RouteMap, line_for}
 use Rattle.switch_joins.specs.Direction.{new_direction}
-use Rattle.switch_joins.specs.Joins.{gathers_nothing}
 use Rattle.switch_lines.specs.Lines.{SwitchChannel, SwitchLine, changed, with_joined, ask, is_trunk}
 use Rattle.switch_lines.specs.Relay.{told, relayed_first}
+-- what happens at the end of a line, whether its link takes a packet that it has, what a restart leaves of it, and
+-- whether it is at rest
+pub use Rattle.joined_line.specs.Line.{with_end, quieted, may_offer, without_joins, line_rests}
 
 pub record Switch : Type 0 where
   pub routes : RouteMap
@@ -108,9 +109,6 @@ heed_all routes n (x ∷ xs) ls = heed_all routes n xs (heed routes n x ls)
 
 -- ---- what happens at the end of a line, and the notes that it makes
 
-abbrev pub with_end : (PacketEnd → PacketEnd) → SwitchLine → SwitchLine
-with_end f l = record l { end = f l.end }
-
 abbrev pub notes_of : Option SwitchLine → List Note
 notes_of None = []
 notes_of (Some l) = l.end.notes
@@ -121,10 +119,6 @@ without_notes e = record e { notes = [] }
 -- the notes are taken and heeded
 abbrev pub notes_heeded : RouteMap → (line : ℕ) → List SwitchLine → List SwitchLine
 notes_heeded routes n ls = heed_all routes n (notes_of (slice_get ls n)) (changed n (with_end without_notes) ls)
-
--- no notes of before are left
-abbrev pub quieted : PacketEnd → PacketEnd
-quieted e = record e { layer = unread e.layer; notes = [] }
 
 abbrev pub acted : RouteMap → (line : ℕ) → (PacketEnd → PacketEnd) → List SwitchLine → List SwitchLine
 acted routes n f ls = notes_heeded routes n (changed n (with_end (λ e. f (quieted e))) ls)
@@ -155,9 +149,6 @@ relinks_of zero o routes ls = []
 relinks_of (suc most) None routes ls = []
 relinks_of (suc most) (Some n) routes ls =
     n ∷ relinks_of most (to_relink (acted routes n relinked ls)) routes (acted routes n relinked ls)
-
-abbrev pub may_offer : SwitchLine → Bool
-may_offer l = can_offer l.end.line.link && is_some (next_packet l.end.layer).packet
 
 -- so many lines, from this one on
 abbrev pub offered_from : (count line : ℕ) → List SwitchLine → List SwitchLine
@@ -219,9 +210,6 @@ abbrev pub relink : (line : ℕ) → Switch → Switch
 relink n s = record s { lines = finished s.routes n (acted s.routes n relinked (all_begun s.lines)) }
 
 -- all links are set up anew, and no call is left
-abbrev pub without_joins : SwitchLine → SwitchLine
-without_joins l = record l { end = restarted l.end; joined = map (λ o. None) l.joined }
-
 abbrev pub restart : Switch → Switch
 restart s = record s { lines = map without_joins s.lines }
 
@@ -242,11 +230,6 @@ due_on None = None
 due_on (Some l) = due l.end
 
 -- ---- at rest
-
--- its link is up with nothing unacknowledged, nothing is owed, nothing waits to be sent or to be carried on, and nothing
--- is gathered
-abbrev pub line_rests : SwitchLine → Bool
-line_rests l = at_rest l.end && list_all gathers_nothing l.joined
 
 abbrev pub switch_rests : Switch → Bool
 switch_rests s = list_all line_rests s.lines

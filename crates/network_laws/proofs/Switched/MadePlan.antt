@@ -11,7 +11,7 @@ use Rattle.address_routes.specs.Routes.{line_for}
 use Rattle.packet_codec.specs.Digits.{digits_or_none}
 use Rattle.call_records.specs.Book.{address_of}
 use Rattle.record_laws.proofs.Books.Basics.{get_there, eq_true, by_true, by_false}
-use Rattle.switch_lines.specs.declared.config.SwitchLineConfig.{SwitchLineConfig}
+use Rattle.joined_line.specs.declared.config.SwitchLineConfig.{SwitchLineConfig}
 use Rattle.switch_lines.specs.Making.{IsConfig, IsLineConfig}
 use Rattle.record_laws.specs.CallPaths.World.{Plan, AreAddressed, AreBetween}
 use Rattle.record_laws.specs.CallPaths.Tree.{IsTree}

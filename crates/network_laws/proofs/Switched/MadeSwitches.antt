@@ -20,7 +20,7 @@ use Rattle.node_laws.specs.Lines.Line.{made as made_ends}
 use Rattle.node_laws.specs.LineRecords.Kept.{IsSetting, Kept, end_at}
 use Rattle.node_laws.specs.LineRecords.Happens.{sent}
 use Rattle.node_laws.proofs.LineRecords.LineLaw.{made_kept}
-use Rattle.switch_lines.specs.declared.config.SwitchLineConfig.{SwitchLineConfig}
+use Rattle.joined_line.specs.declared.config.SwitchLineConfig.{SwitchLineConfig}
 use Rattle.switch_lines.specs.Lines.{SwitchLine}
 use Rattle.switch_lines.specs.Making.{made_line, made}
 use Rattle.switch_lines.specs.Switch.{Switch}

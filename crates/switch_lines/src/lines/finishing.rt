@@ -5,7 +5,7 @@ ghost use Rattle.arrayvec.specs.ArrayVec.{array_vec_len};
 ghost use Rattle.packet_codec.specs.Reading.{named_channel};
 ghost use Rattle.packet_end.specs.PacketEnd as end;
 ghost use Rattle.switch_lines.specs.NewJoins.{joins_acted};
-ghost use Rattle.switch_lines.specs.OfLine.{AreRead};
+ghost use Rattle.switch_lines.specs.ByPlace.{AreRead};
 ghost use Rattle.switch_lines.specs.Alone.{finished_alone, offered_alone};
 ghost use Rattle.switch_lines.specs.Switch.{acted, all_begun, all_relinked, relinks_of, to_relink, offering_from};
 ghost use Rattle.switch_lines.specs.Switch.{may_offer, with_end, without_joins};

@@ -5,7 +5,7 @@ ghost use Rattle.packet_end.specs.PacketEnd.{without_first_note};
 ghost use Rattle.packet_channel.specs.NoteView.{note_of, maybe_note};
 ghost use Rattle.switch_lines.specs.Lines.{changed};
 ghost use Rattle.switch_lines.specs.NewJoins.{joins_of_note, joins_heeded};
-ghost use Rattle.switch_lines.specs.OfLine.{notes_on};
+ghost use Rattle.switch_lines.specs.ByPlace.{notes_on};
 ghost use Rattle.switch_lines.specs.Switch.{heed, notes_heeded, with_end};
 
 use crate::lines::Lines;

@@ -5,8 +5,8 @@ ghost use Rattle.switch_joins.specs.ChannelSet.{has, is_small};
 ghost use Rattle.switch_lines.specs.Pooled.{plain};
 ghost use Rattle.switch_lines.specs.Waiting.{NothingElseMoves};
 
-use crate::line::SwitchLine;
 use crate::lines::other_of;
+use joined_line::SwitchLine;
 use number_set::NumberSet;
 use switch_joins::{ChannelSet, END_OF_CHANNELS, SwitchChannel};
 

@@ -4,8 +4,8 @@ ghost use Rattle.packet_channel.specs.NoteView.{reason_of};
 ghost use Rattle.packet_channel.specs.Packets.{Note as note};
 ghost use Rattle.switch_lines.specs.Relay.{told};
 
-use crate::causes::{far_clear_cause, far_diagnostic, far_reset_cause};
 use crate::lines::Lines;
+use joined_line::{far_clear_cause, far_diagnostic, far_reset_cause};
 use packet_layer::{Reason, Request};
 use switch_joins::SwitchChannel;
 

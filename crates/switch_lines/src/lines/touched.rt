@@ -8,10 +8,10 @@ ghost use Rattle.switch_lines.specs.Pooled.{plain, on_line, ArePooled};
 ghost use Rattle.switch_lines.specs.Switch.{with_end, without_joins};
 ghost use Rattle.switch_lines.specs.Touched.{AreThere, changed_in, offering_in, first_to_relink};
 
-use crate::line::SwitchLine;
 use crate::lines::LineList;
 use arrayvec::ArrayVec;
 use flow_window::pool::Pool;
+use joined_line::SwitchLine;
 use number_set::NumberSet;
 use switch_joins::MOST_LINES;
 

@@ -9,12 +9,12 @@ ghost use Rattle.switch_joins.specs.Direction.{carried};
 ghost use Rattle.switch_joins.specs.Joins.{gathered_by};
 ghost use Rattle.switch_joins.specs.Turning.{nothing_gathered, all_made, turned};
 ghost use Rattle.switch_lines.specs.Lines.{ask, ask_all, joined_at, front_at, sizes_at};
-ghost use Rattle.switch_lines.specs.OfLine.{kept_at, TakesFront, MovesFront};
+ghost use Rattle.switch_lines.specs.ByPlace.{kept_at, TakesFront, MovesFront};
 ghost use Rattle.switch_lines.specs.Pooled.{PooledLine, plain};
 ghost use Rattle.switch_lines.specs.Waiting.{other_at};
 
-use crate::line::SwitchLine;
 use crate::lines::{Lines, other_of};
+use joined_line::SwitchLine;
 use packet_layer::{Front, Request, Taken, TakenBuf, UserData};
 use switch_joins::{Outline, Sizes, SwitchChannel};
 

@@ -9,7 +9,7 @@ use Rattle.packet_channel.specs.Channel.Request.{Clearing}
 use Rattle.packet_laws.specs.Readable.{Every}
 use Rattle.address_routes.specs.Routes.{RouteMap}
 use Rattle.call_records.specs.Records.{RecordValue}
-use Rattle.switch_lines.specs.Causes.{clear_cause, far_diagnostic}
+use Rattle.joined_line.specs.Causes.{clear_cause, far_diagnostic}
 use Rattle.switch_joins.specs.declared.channels.SwitchChannel.{SwitchChannel}
 use Rattle.switch_joins.specs.Joins.{Joined}
 use Rattle.switch_lines.specs.Lines.{SwitchLine, is_trunk, same_place, joined_at, with_joined, ask}

@@ -21,7 +21,7 @@ use Rattle.packet_laws.specs.Readable.{Every}
 use Rattle.packet_end.specs.PacketEnd.{PacketEnd, heeded, expired, runs_at}
 use Rattle.line_end.specs.End.{End}
 use Rattle.address_routes.specs.Routes.{RouteMap, line_for}
-use Rattle.switch_lines.specs.Causes.{clear_cause, far_diagnostic}
+use Rattle.joined_line.specs.Causes.{clear_cause, far_diagnostic}
 use Rattle.switch_joins.specs.declared.channels.SwitchChannel.{SwitchChannel}
 use Rattle.switch_joins.specs.Joins.{Joined}
 use Rattle.switch_lines.specs.Lines.{SwitchLine, is_trunk, changed, joined_at, with_joined}

@@ -20,7 +20,7 @@ use Rattle.call_records.specs.Book.{Book, Slot, slot_at, with_pair, takes, chang
 use Rattle.call_records.specs.Carried.{carried, unless_refused}
 use Rattle.record_laws.proofs.Books.Writing.{slot_changed}
 use Rattle.switch_joins.specs.Direction.{new_direction, releasable, covered_by}
-use Rattle.switch_lines.specs.Causes.{reset_cause, far_diagnostic}
+use Rattle.joined_line.specs.Causes.{reset_cause, far_diagnostic}
 use Rattle.switch_joins.specs.declared.channels.SwitchChannel.{SwitchChannel}
 use Rattle.switch_joins.specs.Joins.{Joined}
 use Rattle.switch_lines.specs.Lines.{SwitchLine, same_place, joined_at, with_joined, ask, ask_all, sizes_at, takes_at}

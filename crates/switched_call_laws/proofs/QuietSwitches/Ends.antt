@@ -13,7 +13,7 @@ use Rattle.node_laws.proofs.LineRecords.DueEnds.{NoMoreDue, same-due, then-due, 
 use Rattle.node_laws.proofs.LineRecords.WholeEvents.{all_offered_notes}
 use Rattle.node_laws.proofs.QuietEnds.{received_unread, timer_unread, asked_unread, called_unread}
 use Rattle.switch_lines.specs.Switch.{quieted, without_notes}
-use Rattle.switch_lines.proofs.Unread.{all_offered_read}
+use Rattle.joined_line.proofs.Unread.{all_offered_read}
 use Rattle.switch_laws.specs.Steps.{Happening, does}
 use Rattle.switch_laws.specs.Steps.Happening.{Brings, RunsOut, Relinks}
 

@@ -17,7 +17,7 @@ use Rattle.record_laws.proofs.Books.Basics.{number_is}
 use Rattle.node_laws.specs.Lines.Line.{Sends, made as made_ends}
 use Rattle.node_laws.specs.LineRecords.Kept.{IsSetting}
 use Rattle.node_laws.proofs.LineRecords.LineLaw.{made_kept, silent_kept}
-use Rattle.switch_lines.specs.declared.config.SwitchLineConfig.{SwitchLineConfig}
+use Rattle.joined_line.specs.declared.config.SwitchLineConfig.{SwitchLineConfig}
 use Rattle.switch_lines.specs.Lines.{SwitchLine}
 use Rattle.switch_lines.specs.Making.{IsConfig, IsLineConfig}
 use Rattle.switch_laws.specs.World.{layers_of}

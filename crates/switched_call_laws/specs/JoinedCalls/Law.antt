@@ -9,7 +9,7 @@ use Rattle.call_records.specs.Records.{RecordValue}
 use Rattle.call_records.specs.Book.{Book}
 use Rattle.call_records.specs.Writes.{Write, all_written}
 use Rattle.address_routes.specs.Routes.{RouteMap}
-use Rattle.switch_lines.specs.declared.config.SwitchLineConfig.{SwitchLineConfig}
+use Rattle.joined_line.specs.declared.config.SwitchLineConfig.{SwitchLineConfig}
 use Rattle.switch_lines.specs.Making.{IsConfig, made}
 use Rattle.switch_joins.specs.declared.channels.NewJoin.{NewJoin}
 use Rattle.switch_lines.specs.NewJoins.{new_joins}

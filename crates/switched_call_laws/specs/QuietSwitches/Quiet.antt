@@ -5,7 +5,7 @@ use Rattle.lapb.specs.Machine.{Octets}
 use Rattle.address_routes.specs.Routes.{RouteMap}
 use Rattle.line_nodes.specs.Node.{Host}
 use Rattle.node_laws.specs.Quiet.{IsQuiet}
-use Rattle.switch_lines.specs.declared.config.SwitchLineConfig.{SwitchLineConfig}
+use Rattle.joined_line.specs.declared.config.SwitchLineConfig.{SwitchLineConfig}
 use Rattle.switch_lines.specs.Lines.{SwitchLine}
 use Rattle.switch_lines.specs.Making.{made}
 use Rattle.switch_lines.specs.Switch.{Switch, on_frame, on_timer, relink, restart, elapse, without_frame}

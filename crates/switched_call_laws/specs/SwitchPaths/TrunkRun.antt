@@ -10,7 +10,7 @@ use Rattle.line_end.specs.End.{without_frames}
 use Rattle.call_records.specs.Book.{Book, made_book}
 use Rattle.call_records.specs.Register.{LinePlan}
 use Rattle.address_routes.specs.Routes.{RouteMap, line_for}
-use Rattle.switch_lines.specs.declared.config.SwitchLineConfig.{SwitchLineConfig}
+use Rattle.joined_line.specs.declared.config.SwitchLineConfig.{SwitchLineConfig}
 use Rattle.switch_lines.specs.Lines.{SwitchLine}
 use Rattle.switch_lines.specs.Making.{made_line, made as made_switch}
 use Rattle.switch_lines.specs.Switch.{on_frame, relink}

@@ -1,7 +1,7 @@
 -- The lines so far may be made.
 use Rattle.std.proofs.Common.{◌≡◌, ◌<◌, ℕ, Some}
 use Rattle.std.specs.Prelude.{slice_get}
-use Rattle.switch_lines.specs.declared.config.SwitchLineConfig.{SwitchLineConfig}
+use Rattle.joined_line.specs.declared.config.SwitchLineConfig.{SwitchLineConfig}
 use Rattle.switch_lines.specs.Making.{IsLineConfig}
 use Rattle.switch_lines.proofs.config.check_lines.Given as goal
 

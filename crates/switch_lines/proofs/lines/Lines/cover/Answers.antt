@@ -1,6 +1,6 @@
 use Rattle.std.proofs.Common.{arith, ap, refl}
 use Rattle.switch_joins.specs.Direction.{covered_by}
-use Rattle.switch_lines.specs.OfLine.{kept_on}
+use Rattle.joined_line.specs.OfLine.{kept_on}
 use Rattle.switch_lines.specs.Pooled.{PooledLine}
 use Rattle.switch_lines.proofs.Pooled.{one_changed, none_changed, joins_of_one, pooled_same}
 use Rattle.switch_lines.proofs.Touched.{count_kept}

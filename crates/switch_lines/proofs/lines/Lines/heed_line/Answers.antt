@@ -6,7 +6,7 @@ use Rattle.packet_channel.specs.NoteView.{note_of}
 use Rattle.packet_end.specs.PacketEnd.{without_first_note}
 use Rattle.switch_lines.specs.Lines.{SwitchLine, changed}
 use Rattle.switch_lines.specs.NewJoins.{NewJoin, joins_of_note, joins_heeded}
-use Rattle.switch_lines.specs.OfLine.{notes_on}
+use Rattle.switch_lines.specs.ByPlace.{notes_on}
 use Rattle.switch_lines.specs.Switch.{heed, notes_heeded, with_end}
 use Rattle.switch_lines.proofs.Heeding.{one_heeded, notes_left, no_first, empty_notes, none_heeded}
 use Rattle.switch_lines.proofs.Heeding.{one_joined, none_joined, first_joined, or_none}

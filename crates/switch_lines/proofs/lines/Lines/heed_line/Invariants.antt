@@ -4,7 +4,7 @@ use Rattle.std.proofs.Common.{◌≡◌, ◌+◌, length}
 use Rattle.std.specs.Prelude.{slice_get}
 use Rattle.std.specs.Option.{option_or}
 use Rattle.switch_lines.specs.NewJoins.{joins_heeded}
-use Rattle.switch_lines.specs.OfLine.{notes_on}
+use Rattle.switch_lines.specs.ByPlace.{notes_on}
 use Rattle.switch_lines.specs.Switch.{notes_heeded}
 use Rattle.switch_lines.proofs.lines.Lines.heed_line.Given as goal
 

@@ -3,7 +3,7 @@ use Rattle.packet_channel.specs.Channel.Request.{Taking}
 use Rattle.packet_channel.specs.TakenView.{taken_of}
 use Rattle.packet_channel.specs.Traffic.{Taken as TakenValue}
 use Rattle.switch_lines.specs.Lines.{SwitchLine}
-use Rattle.switch_lines.specs.OfLine.{MovesFront}
+use Rattle.switch_lines.specs.ByPlace.{MovesFront}
 use Rattle.switch_lines.proofs.Relaying.{turned_on, asked_length}
 use Rattle.switch_lines.proofs.lines.Lines.move_turned.Goals as goal
 

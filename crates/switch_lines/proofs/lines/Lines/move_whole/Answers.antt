@@ -11,7 +11,7 @@ use Rattle.switch_joins.proofs.ChannelSets.{not_of_join}
 use Rattle.switch_joins.specs.Joins.{gathered_by}
 use Rattle.switch_joins.specs.Turning.{all_made}
 use Rattle.switch_lines.specs.Lines.{SwitchLine, ask, front_of_line, joined_at}
-use Rattle.switch_lines.specs.OfLine.{MovesFront, kept_at}
+use Rattle.switch_lines.specs.ByPlace.{MovesFront, kept_at}
 use Rattle.switch_lines.specs.Pooled.{plain}
 use Rattle.switch_lines.specs.Switch.{with_end}
 use Rattle.switch_lines.proofs.Pooled.{one_changed, one_seen, one_touched, seen_within, handed_out, handed_in, none_in_hand, is_in_hand}

@@ -4,7 +4,7 @@ use Rattle.switch_joins.specs.Direction.{carried}
 use Rattle.switch_joins.specs.Joins.{gathered_by}
 use Rattle.switch_joins.specs.Turning.{all_made}
 use Rattle.switch_lines.specs.Lines.{SwitchLine, joined_on}
-use Rattle.switch_lines.specs.OfLine.{kept_on}
+use Rattle.joined_line.specs.OfLine.{kept_on}
 use Rattle.switch_lines.specs.Pooled.{PooledLine}
 use Rattle.switch_lines.proofs.Pooled.{one_changed, none_changed, one_seen, joins_of_one, pooled_same}
 use Rattle.switch_lines.proofs.Touched.{count_kept}

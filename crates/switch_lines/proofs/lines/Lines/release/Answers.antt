@@ -1,5 +1,5 @@
 use Rattle.std.proofs.Common.{arith}
-use Rattle.switch_lines.specs.OfLine.{freed_on}
+use Rattle.joined_line.specs.OfLine.{freed_on}
 use Rattle.switch_lines.proofs.Pooled.{one_changed, none_changed, one_touched, pooled_set, serves_one}
 use Rattle.switch_lines.proofs.Touched.{count_kept}
 use Rattle.switch_lines.proofs.Moving.{one_calm}

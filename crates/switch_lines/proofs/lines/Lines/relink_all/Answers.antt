@@ -1,7 +1,7 @@
 use Rattle.std.proofs.Common.{◌≡◌, ◌-◌, ◌+◌, ◌++◌, ◌∷◌, [], ◌∙◌, ap, sym, subst, arith, length, List, ℕ}
 use Rattle.packet_end.specs.PacketEnd.{relinked}
 use Rattle.switch_lines.specs.Lines.{SwitchLine}
-use Rattle.switch_lines.specs.OfLine.{AreRead}
+use Rattle.switch_lines.specs.ByPlace.{AreRead}
 use Rattle.switch_lines.specs.Switch.{all_relinked, relinks_of, to_relink}
 use Rattle.switch_lines.proofs.Heeding.{acted_read}
 use Rattle.switch_lines.proofs.Ending.{relinks_no_more, relinks_one, first_there, listed_one, listed_no_more}

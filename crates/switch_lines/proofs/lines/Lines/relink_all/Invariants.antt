@@ -2,7 +2,7 @@
 -- no notes are left.
 use Rattle.std.proofs.Common.{◌≡◌, ◌-◌, ◌+◌, ◌≤◌, ◌++◌, length}
 use Rattle.arrayvec.specs.ArrayVec.{array_vec_len}
-use Rattle.switch_lines.specs.OfLine.{AreRead}
+use Rattle.switch_lines.specs.ByPlace.{AreRead}
 use Rattle.switch_lines.specs.Switch.{all_relinked, relinks_of, to_relink}
 use Rattle.switch_lines.proofs.lines.Lines.relink_all.Given as goal
 

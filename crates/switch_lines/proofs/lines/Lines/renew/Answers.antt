@@ -3,7 +3,7 @@ use Rattle.switch_joins.specs.Direction.{new_direction}
 use Rattle.switch_joins.proofs.ChannelSets.{not_of_join}
 use Rattle.switch_joins.proofs.Slots.{nth_apart}
 use Rattle.switch_lines.specs.Lines.{SwitchLine}
-use Rattle.switch_lines.specs.OfLine.{kept_on}
+use Rattle.joined_line.specs.OfLine.{kept_on}
 use Rattle.switch_lines.proofs.Pooled.{one_changed, none_changed, joins_of_one, pooled_set, serves_one}
 use Rattle.switch_lines.proofs.Touched.{count_kept}
 use Rattle.switch_lines.proofs.Calmer.{same_layer}

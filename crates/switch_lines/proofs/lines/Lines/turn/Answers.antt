@@ -8,7 +8,8 @@ use Rattle.switch_joins.proofs.ChannelSets.{not_of_join}
 use Rattle.switch_joins.proofs.Slots.{nth_apart}
 use Rattle.switch_joins.proofs.Turning.{turned_left}
 use Rattle.switch_lines.specs.Lines.{SwitchLine, ask_all, joined_on, sizes_at}
-use Rattle.switch_lines.specs.OfLine.{asked_on, kept_on, kept_at}
+use Rattle.joined_line.specs.OfLine.{asked_on, kept_on}
+use Rattle.switch_lines.specs.ByPlace.{kept_at}
 use Rattle.switch_lines.specs.Pooled.{PooledLine, plain}
 use Rattle.switch_lines.proofs.Asking.{asks_changed, asked_joined, asked_calm}
 use Rattle.switch_lines.proofs.Calmer.{same_layer}

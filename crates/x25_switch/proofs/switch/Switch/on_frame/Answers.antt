@@ -3,7 +3,7 @@ use Rattle.std.specs.Prelude.{slice_get}
 use Rattle.packet_end.specs.PacketEnd as end
 use Rattle.switch_lines.specs.Lines.{SwitchLine}
 use Rattle.switch_lines.specs.NewJoins.{joins_acted, new_joins}
-use Rattle.switch_lines.specs.OfLine.{AreRead}
+use Rattle.switch_lines.specs.ByPlace.{AreRead}
 use Rattle.switch_lines.specs.Switch.{Switch, on_frame}
 use Rattle.switch_lines.proofs.Heeding.{begun_read, acted_read}
 use Rattle.switch_laws.specs.Events.Event.{Arrives}

@@ -2,7 +2,7 @@ use Rattle.std.proofs.Common.{◌≡◌, ◌∙◌, ap, sym, subst, true, List}
 use Rattle.std.specs.Prelude.{slice_get}
 use Rattle.packet_end.specs.PacketEnd as end
 use Rattle.switch_lines.specs.Lines.{SwitchLine}
-use Rattle.switch_lines.specs.OfLine.{AreRead}
+use Rattle.switch_lines.specs.ByPlace.{AreRead}
 use Rattle.switch_lines.specs.Switch.{Switch, timer_runs, on_timer}
 use Rattle.switch_lines.proofs.Heeding.{begun_read, acted_read}
 use Rattle.switch_laws.specs.Events.Event.{Expires}

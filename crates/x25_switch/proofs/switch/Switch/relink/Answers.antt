@@ -4,7 +4,7 @@ use Rattle.std.specs.Prelude.{Some, slice_get}
 use Rattle.link_timers.specs.declared.role.Role.TheVariants.{Dte}
 use Rattle.packet_end.specs.PacketEnd.{relinked, begun as begin_end}
 use Rattle.switch_lines.specs.Lines.{SwitchLine, role_on}
-use Rattle.switch_lines.specs.OfLine.{AreRead}
+use Rattle.switch_lines.specs.ByPlace.{AreRead}
 use Rattle.switch_lines.specs.Switch.{Switch, with_end, relink}
 use Rattle.switch_lines.proofs.Heeding.{begun_read, acted_read}
 use Rattle.switch_laws.specs.Events.Event.{SetsUp}

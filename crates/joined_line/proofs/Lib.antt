@@ -1,0 +1,4 @@
+pub mod Unread
+pub mod Sharing
+pub mod Asking
+pub mod Making

@@ -1,0 +1,14 @@
+use Rattle.std.proofs.Common.{List, ◌++◌, ap, subst, sym}
+use Rattle.flow_window.specs.Pool.{Buffer, Balances}
+use Rattle.switch_joins.specs.Held.{HeldJoins}
+use Rattle.joined_line.proofs.Sharing.{end_served, end_balances}
+use Rattle.joined_line.proofs.line.SwitchLine.release.Goals as goal
+
+pub ask-requires : goal.ask-requires
+ask-requires c = end_served c.self.inside c.args.self.now c.args.pool.now c.self.view_is c.self.invariant c.requires
+
+pub returns-in-Some-clause-pool : goal.returns-in-Some-clause-pool
+returns-in-Some-clause-pool c =
+    let kept = ap (λ (j : HeldJoins). j.held) (sym c.release.ensures.joins) in
+    subst (λ (bs : List Buffer). Balances c.args.pool.now c.args.self.now.held c.ask.new.pool (c.ask.new.self.held ++ bs)) kept
+    (end_balances c.self.inside c.args.self.now c.args.pool.now c.ask.new.pool c.ask.new.self c.self.view_is c.ask.ensures.pool)

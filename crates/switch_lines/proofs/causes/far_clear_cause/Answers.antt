@@ -1,5 +1,0 @@
-use Rattle.std.proofs.Common.{rules, tests}
-use Rattle.switch_lines.proofs.causes.far_clear_cause.Goals as goal
-
-pub returns-in-FarRestart : goal.returns-in-FarRestart
-returns-in-FarRestart c = search (rules, tests)

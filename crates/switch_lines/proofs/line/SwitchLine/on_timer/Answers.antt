@@ -1,9 +1,0 @@
-use Rattle.switch_lines.proofs.Sharing.{end_served, end_balances}
-use Rattle.switch_lines.proofs.line.SwitchLine.on_timer.Goals as goal
-
-pub on_timer-requires-clause-pool : goal.on_timer-requires-clause-pool
-on_timer-requires-clause-pool c = end_served c.self.inside c.args.self.now c.args.pool.now c.self.view_is c.self.invariant c.requires.pool
-
-pub returns-clause-pool : goal.returns-clause-pool
-returns-clause-pool c =
-    end_balances c.self.inside c.args.self.now c.args.pool.now c.on_timer.new.pool c.on_timer.new.self c.self.view_is c.on_timer.ensures.pool

@@ -1,6 +1,0 @@
-use Rattle.switch_lines.proofs.Sharing.{end_takes}
-use Rattle.switch_lines.proofs.line.SwitchLine.send_packet.Goals as goal
-
-pub returns-clause-pool : goal.returns-clause-pool
-returns-clause-pool c =
-    end_takes c.self.inside c.args.self.now c.args.pool.now c.send_on.new.pool c.args.packet.buffer c.send_on.new.line c.self.view_is c.send_on.ensures.pool

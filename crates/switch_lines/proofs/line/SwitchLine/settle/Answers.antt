@@ -1,5 +1,0 @@
-use Rattle.switch_lines.proofs.Sharing.{end_served}
-use Rattle.switch_lines.proofs.line.SwitchLine.settle.Goals as goal
-
-pub settle-requires : goal.settle-requires
-settle-requires c = end_served c.self.inside c.args.self.now c.args.pool.now c.self.view_is c.self.invariant c.requires

@@ -1,7 +1,0 @@
-use Rattle.switch_lines.proofs.Sharing.{end_loses}
-use Rattle.packet_channel.specs.TakenView.{maybe_buffers_in}
-use Rattle.switch_lines.proofs.line.SwitchLine.take_buf.Goals as goal
-
-pub returns-clause-held : goal.returns-clause-held
-returns-clause-held c =
-    end_loses c.self.inside c.args.self.now (maybe_buffers_in c.take_buf.result) c.take_buf.new.self c.self.view_is c.take_buf.ensures.held
