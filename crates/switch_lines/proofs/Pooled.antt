@@ -12,6 +12,7 @@ use Rattle.number_set.specs.declared.NumberSet.{NumberSet}
 use Rattle.number_set.specs.NumberSet.{has, IsFirstOf}
 use Rattle.packet_layer.specs.LayerTimers.{TimersAgree}
 use Rattle.packet_end.specs.Pooled.{Serves}
+use Rattle.joined_line.proofs.Sharing.{count}
 use Rattle.switch_lines.specs.Lines.{SwitchLine, changed}
 use Rattle.switch_lines.specs.Pooled.{Claim, PooledLine, plain, buffers, shares, KeepWithin, ArePooled, on_line}
 use Rattle.switch_lines.specs.Touched.{AreThere, NothingElseIsLeft, IsSettled, IsTaken, changed_in}
