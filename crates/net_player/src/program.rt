@@ -234,7 +234,11 @@ fn play_in_memory<W: Write>(
         (W.contents out.old) (W.contents out.new)) }
 {
     match Net::on_memory_lines(alloc, config) {
-        Ok(mut net) => play(alloc, &mut net, script, out),
+        Ok(mut net) => {
+            let played = play(alloc, &mut net, script, out);
+            net.close();
+            played
+        }
         Err(fault) => Err(making_fault(fault)),
     }
 }
@@ -254,7 +258,11 @@ fn play_over_sockets<N: net::Net, W: Write>(
 {
     let lines = socket_lines(system, alloc, config.lines.len())?;
     match Net::new(alloc, config, lines) {
-        Ok(mut net) => play(alloc, &mut net, script, out),
+        Ok(mut net) => {
+            let played = play(alloc, &mut net, script, out);
+            net.close();
+            played
+        }
         Err(fault) => Err(making_fault(fault)),
     }
 }
