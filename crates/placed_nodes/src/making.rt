@@ -28,6 +28,7 @@ use link_timers::Role;
 use net_config::{
     MakeFault, NetPlan, NewKind, NewLine, NewNode, NewRoute, NewSwitch, Planned, PlannedKind,
 };
+use net_events::network_line;
 use packet_end::{EndFault, EndParams};
 use packet_host::{Host, HostConfig};
 use std::alloc::Global;
