@@ -1,4 +1,4 @@
-use Rattle.std.proofs.Common.{set, sym, ap, subst}
+use Rattle.std.proofs.Common.{set, sym, ap, ◌∙◌, subst}
 use Rattle.net_events.specs.EventView.{switch_event_of}
 use Rattle.switch_lines.specs.Switch.{Switch}
 use Rattle.net_events.specs.Network.{NetNode, Switching}

@@ -1,5 +1,5 @@
 use Rattle.std.proofs.Common.{◌≡◌, List, ℕ, sym, ap, ◌∙◌, subst}
-use Rattle.switch_lines.specs.Switch.{Switch}
+use Rattle.call_records.specs.RegisterView.{register_of}
 use Rattle.net_events.specs.AtSwitch.{HasOwnLine}
 use Rattle.net_events.specs.EventView.{switch_event_of}
 use Rattle.net_events.specs.Network.{PlacedSwitch, Switching}
@@ -28,6 +28,6 @@ returns g c = λ n is.
     record {
       switch = c.serve_switch.new.switch;
       node_is = ap (λ (x : PlacedSwitch). Switching (record x { switch = c.serve_switch.new.switch })) same;
-      served = subst (λ (x : PlacedSwitch). SwitchServed g.L.Line.service (switch_event_of c.args.event.now) x c.args.lines.now.items _ c.serve_switch.new.switch c.serve_switch.new.lines.items _ c.serve_switch.new.puts.items)
+      served = subst (λ (x : PlacedSwitch). SwitchServed g.L.Line.service (switch_event_of c.args.event.now) x c.args.lines.now.items (register_of c.args.register.now) c.serve_switch.new.switch c.serve_switch.new.lines.items (register_of c.serve_switch.new.register) c.serve_switch.new.puts.items)
           (ap (λ (own : List ℕ). record p { lines = own }) c.deref.ensures.value ∙ same) c.serve_switch.ensures;
     }
