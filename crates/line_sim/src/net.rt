@@ -167,9 +167,6 @@ impl<L: Line> Net<L> {
         self.nodes.next_with_frames(from)
     }
 
-    /// Ends the network: its lines are dropped, and the memory that it took is given back.
-    pub fn close(self) {}
-
     /// Handles an event, and lends the answer, which the network keeps until the next event. A refused event changes
     /// nothing, nor does an expiry of a timer that does not run.
     ///

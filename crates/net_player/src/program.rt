@@ -234,11 +234,7 @@ fn play_in_memory<W: Write>(
         (W.contents out.old) (W.contents out.new)) }
 {
     match Net::on_memory_lines(alloc, config) {
-        Ok(mut net) => {
-            let played = play(alloc, &mut net, script, out);
-            net.close();
-            played
-        }
+        Ok(mut net) => play(alloc, &mut net, script, out),
         Err(fault) => Err(making_fault(fault)),
     }
 }
@@ -258,11 +254,7 @@ fn play_over_sockets<N: net::Net, W: Write>(
 {
     let lines = socket_lines(system, alloc, config.lines.len())?;
     match Net::new(alloc, config, lines) {
-        Ok(mut net) => {
-            let played = play(alloc, &mut net, script, out);
-            net.close();
-            played
-        }
+        Ok(mut net) => play(alloc, &mut net, script, out),
         Err(fault) => Err(making_fault(fault)),
     }
 }

@@ -418,11 +418,7 @@ fn plays(
 fn goes_so(alloc: Global, case: &Case) -> bool {
     match read_net(alloc, case.network) {
         Ok(config) => match Net::on_memory_lines(alloc, &config) {
-            Ok(mut net) => {
-                let goes_so = goes_so_on(alloc, &mut net, &config, case);
-                net.close();
-                goes_so
-            }
+            Ok(mut net) => goes_so_on(alloc, &mut net, &config, case),
             Err(_) => false,
         },
         Err(_) => false,
@@ -531,11 +527,7 @@ fn lead_there(alloc: Global) -> bool {
     let events = [key(0), key(2), take(1, 2), deliver(), take(1, 1)];
     match read_net(alloc, FIRST) {
         Ok(config) => match run(alloc, &config, &events) {
-            Ok(mut net) => {
-                let has_crossed = has_crossed(&mut net);
-                net.close();
-                has_crossed
-            }
+            Ok(mut net) => has_crossed(&mut net),
             Err(_) => false,
         },
         Err(_) => false,

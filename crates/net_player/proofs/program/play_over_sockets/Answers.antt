@@ -15,8 +15,8 @@ returns-in_err-lines-clause-failed g c =
 
 pub returns-in-Ok-clause-failed : goal.returns-in-Ok-clause-failed
 returns-in-Ok-clause-failed g c =
-    if_err_and c.play-played.result (λ fault is stops. stopped _ is c.in-Ok.ensures.ok stops) c.play-played.ensures.faults
-    c.play-played.ensures.stops
+    if_err_and c.play.result (λ fault is stops. stopped _ is c.in-Ok.ensures.ok stops) c.play.ensures.faults
+    c.play.ensures.stops
 
 pub returns-in-Err-clause-failed : goal.returns-in-Err-clause-failed
 returns-in-Err-clause-failed g c =
