@@ -1,7 +1,7 @@
 -- A change of one of the code's records: as the records show it, and the room that it leaves.
 use Rattle.std.proofs.Common.{◌≡◌, ℕ, zero, suc, ◌<◌, ◌≤◌, List, [], ◌∷◌, map, set, length, get_or, refl, sym, ap, subst, ◌∙◌, inl, inr, arith}
 use Rattle.std.specs.Prelude.{◌⊎◌, Some, slice_get}
-use Rattle.call_data.specs.Passed.{PassedState, HasSpare}
+use Rattle.epochs.specs.Passed.{PassedState, HasSpare}
 use Rattle.call_records.specs.Records.{RecordValue, changed_at}
 use Rattle.call_records.specs.RecordView.{shown, HasPlaces, PlacesAt, left}
 use Rattle.call_records.specs.declared.record.Record.{Record}

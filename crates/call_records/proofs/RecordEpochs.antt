@@ -2,8 +2,8 @@
 use Rattle.std.specs.Prelude.{◌≡◌, List, [], ◌∷◌, ◌++◌, map}
 use Rattle.std.proofs.Common.{refl, ap}
 use Rattle.epochs.specs.Epoch.{sent_epoch, taken_epoch}
-use Rattle.call_data.specs.Passed.{Part}
-use Rattle.call_data.specs.Matching.Epochs.{epoch_of}
+use Rattle.epochs.specs.Passed.{Part}
+use Rattle.epochs.specs.Matching.Epochs.{epoch_of}
 use Rattle.call_records.specs.RecordView.{sent_of, taken_of}
 
 pub sent-epochs : (before : List Part) (last : Part)

@@ -2,8 +2,8 @@
 use Rattle.std.specs.Prelude.{◌≡◌, ℕ, ◌-◌, ◌≤◌, List, length, map, slice_get, Some, vec_len, vec_capacity}
 use Rattle.epochs.specs.Epoch.{SentEpoch as Sent, TakenEpoch as Taken}
 use Rattle.pad_editing.specs.Edited.{Step, key, idle}
-use Rattle.call_data.specs.Packets.{data_packet_of, places_of}
-use Rattle.call_data.specs.Passed.{Part, HasSpare, HasNoSpare}
+use Rattle.epochs.specs.Packets.{data_packet_of, places_of}
+use Rattle.epochs.specs.Passed.{Part, HasSpare, HasNoSpare}
 use Rattle.call_records.specs.Records.{RecordValue, HopValue, PairValue, with_step, with_sent, with_interrupt_sent}
 use Rattle.call_records.specs.Records.{with_taken, with_interrupt_taken, with_released, with_covered, with_epoch, with_closed}
 use Rattle.call_records.specs.declared.record.EditStep.{EditStep}

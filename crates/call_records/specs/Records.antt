@@ -4,7 +4,7 @@ use Rattle.std.specs.Prelude.{length, map, Option}
 use Rattle.epochs.specs.Item.{DataPacket}
 use Rattle.epochs.specs.Epoch.{nothing_sent, nothing_taken, Epoch, SentEpoch, TakenEpoch, sent_epoch, taken_epoch}
 use Rattle.pad_editing.specs.Edited.{Step}
-use Rattle.call_data.specs.Counted.{counted}
+use Rattle.epochs.specs.Counted.{counted}
 
 -- a hop of a call: a switch placed it onward, on a channel of a line
 pub record HopValue : Type 0 where

@@ -5,7 +5,7 @@ use Rattle.packet_channel.specs.Packets.{Note}
 use Rattle.packet_channel.specs.Packets.Note.{Incoming, Connected, Closed, WasReset, InterruptConfirmed, Covered}
 use Rattle.packet_channel.specs.Traffic.{Taken}
 use Rattle.packet_channel.specs.Traffic.Taken.{TakenInterrupt, TakenPacket}
-use Rattle.call_data.specs.Packets.{places_of}
+use Rattle.epochs.specs.Packets.{places_of}
 use Rattle.call_records.specs.Book.{Book}
 
 pub record BookState : Type 0 where

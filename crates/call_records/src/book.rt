@@ -5,7 +5,7 @@ ghost use Rattle.std.specs.Option.{option_to_list};
 ghost use Rattle.packet_channel.specs.NoteView.{note_of};
 ghost use Rattle.packet_channel.specs.TakenView.{taken_with, HasFewOctets};
 ghost use Rattle.packet_channel.specs.Octets.{parts_of};
-ghost use Rattle.call_data.specs.Packets.{data_packet_of, places_of};
+ghost use Rattle.epochs.specs.Packets.{data_packet_of, places_of};
 ghost use Rattle.call_records.specs.Book.{made_book, slot_at, address_of, with_change, changed, places, comes};
 ghost use Rattle.call_records.specs.Book.{answers, closes, renews, sends, interrupts, takes, releases, covers, edits, told};
 ghost use Rattle.packet_codec.specs.Digits.{digits_or_none};
@@ -17,7 +17,7 @@ ghost use Rattle.call_records.specs.RecordView.{shown, pair_of, step_of, grown, 
 
 use crate::ends::{Ends, Side, Slot};
 use crate::record::{EditStep, Growth, Hop, Pair, Record};
-use call_data::{Interrupt, Packet, Passed};
+use epochs::{Interrupt, Packet, Passed};
 use link_timers::Role;
 use packet_codec::{Address, CallBuf, CallData};
 use packet_layer::{Front, LayerNote};

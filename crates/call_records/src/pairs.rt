@@ -6,7 +6,7 @@ ghost use Rattle.call_records.specs.RecordView.{shown, pair_of};
 ghost use Rattle.call_records.specs.Pairs.{PairMatches, AllMatch};
 
 use crate::record::{Pair, Record};
-use call_data::matches;
+use epochs::matches;
 
 /// Whether the two records of each pair match, both ways.
 pub fn all_match(records: &[Record], pairs: &[Pair]) -> bool

@@ -4,7 +4,7 @@ ghost use Rattle.call_records.specs.Records.{new_record, with_epoch, with_hop};
 ghost use Rattle.call_records.specs.RecordView.{shown, grown, needed, left, Fits, HasPlaces, HasNoPlaces, hop_of};
 
 use arrayvec::ArrayVec;
-use call_data::{Interrupt, Packet, Passed, give_back};
+use epochs::{Interrupt, Packet, Passed, give_back};
 use packet_codec::Address;
 use std::alloc::{AllocError, Global};
 use x3_params::Params;

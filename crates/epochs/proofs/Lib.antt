@@ -1,6 +1,12 @@
 pub mod Prefixes
-pub mod Matching
+pub mod Matches
 pub mod Rising
 pub mod Placing
 pub mod Confirming
 pub mod Confirms
+pub mod Written
+pub mod Cutting
+pub mod Blank
+pub mod OnePass
+pub mod ListPrefixes
+pub mod EpochLists

@@ -5,3 +5,9 @@ pub mod Match
 pub mod Laws
 pub mod Confirmed
 pub mod ConfirmedLaws
+pub mod Packets
+pub mod Counted
+pub mod Passed
+pub mod EpochEnds
+pub mod PassedView
+pub mod Matching

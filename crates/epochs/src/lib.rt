@@ -1,34 +1,19 @@
-//! What the two ends of a call send and take between resets, and when the one matches the other.
+//! What the two ends of a call send and take between resets: items, epochs, and when the one matches the other. And how
+//! what one end sent or took is kept, packet by packet, and is found to match.
 #![tactic(auto)]
 
-ghost use Rattle.epochs.specs.Laws.{IsReflexive, IsTransitive, IsKeptByGrowth, IsKeptByOpening, IsKeptByBothOpening};
-ghost use Rattle.epochs.specs.Laws.{AlignedListsMatch, HasRisingPlaces};
-ghost use Rattle.epochs.specs.ConfirmedLaws.{ConfirmsItself, ConfirmsOnward, ConfirmsInTurn, AlignedListsConfirm};
-ghost use Rattle.epochs.specs.ConfirmedLaws.{NothingConfirms, ConfirmedIsTaken, ConfirmsIsMatch, RelayConfirms};
+mod epochs_iter;
+mod interrupt;
+mod items;
+mod laws;
+mod matching;
+mod packets;
+mod passed;
+mod spare;
 
-/// The laws of matching, as a contract: it does nothing.
-pub fn match_laws()
-    ensures reflexive { IsReflexive }
-    ensures transitive { IsTransitive }
-    ensures grows { IsKeptByGrowth }
-    ensures opens { IsKeptByOpening }
-    ensures both_open { IsKeptByBothOpening }
-    ensures aligned { AlignedListsMatch }
-    // What a match is, and so what it refuses: two taken epochs of one sent epoch, or of two in the other order.
-    ensures rising { HasRisingPlaces }
-{}
-
-/// The laws of matching with confirmed items, as a contract: it does nothing. By one matching, what was taken matches
-/// what was sent, and what is confirmed was taken.
-pub fn confirmation_laws()
-    ensures itself { ConfirmsItself }
-    ensures onward { ConfirmsOnward }
-    ensures in_turn { ConfirmsInTurn }
-    ensures aligned { AlignedListsConfirm }
-    ensures none { NothingConfirms }
-    ensures taken { ConfirmedIsTaken }
-    ensures is_match { ConfirmsIsMatch }
-
-    // What a switch releases confirms no more than what is covered on its other leg.
-    ensures relay { RelayConfirms }
-{}
+pub use interrupt::Interrupt;
+pub use laws::{confirmation_laws, decision_law, match_laws};
+pub use matching::matches;
+pub use packets::{Packet, PacketsIter};
+pub use passed::{Epoch, Passed};
+pub use spare::give_back;

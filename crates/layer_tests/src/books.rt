@@ -1,7 +1,7 @@
 //! Little books, write by write.
 ghost use Rattle.std.specs.Prelude.{◌≡◌, ◌≤◌};
 
-use call_data::{Packet, matches};
+use epochs::{Packet, matches};
 use call_records::{Book, Pair, Record, all_match};
 use link_timers::Role;
 use packet_codec::{Address, CallBuf, CallData};

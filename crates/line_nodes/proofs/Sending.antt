@@ -2,7 +2,7 @@
 use Rattle.std.proofs.Common.{◌≡◌, ℕ, ◌-◌, ◌<◌, ◌≤◌, true, List, length, take, drop, arith, length-drop, length-take}
 use Rattle.packet_channel.specs.Flow.{is_size}
 use Rattle.packet_channel.proofs.Pieces.{by_size}
-use Rattle.call_data.specs.Packets.{places_of}
+use Rattle.epochs.specs.Packets.{places_of}
 
 -- and leaves room for the others
 pub places_left : (size : ℕ) (octets : List ℕ) (room : ℕ) → is_size size ≡ true → size < length octets →

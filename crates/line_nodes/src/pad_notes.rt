@@ -1,7 +1,7 @@
 //! What a PAD noted, written into the book of its line.
 ghost use Rattle.std.specs.Prelude.{◌≡◌, ◌≤◌, ◌-◌, length};
 ghost use Rattle.packet_channel.specs.TakenView.{taken_with, HasFewOctets};
-ghost use Rattle.call_data.specs.Packets.{data_packet_of};
+ghost use Rattle.epochs.specs.Packets.{data_packet_of};
 ghost use Rattle.call_records.specs.Book.{packet_of};
 ghost use Rattle.call_records.specs.Room.{taken_room};
 ghost use Rattle.call_records.specs.Writes.{all_written, written_by};
@@ -11,7 +11,7 @@ ghost use Rattle.pad_ports.specs.TakenView.{taken_of as pad_taken_of};
 ghost use Rattle.line_nodes.specs.PadWriting.{writes_of, without_notes};
 ghost use Rattle.line_nodes.specs.PadRoom.{HasRoom, HaveRoom, written};
 
-use call_data::Packet;
+use epochs::Packet;
 use call_records::{Book, EditStep};
 use link_timers::Role;
 use packet_layer::Front;

@@ -15,7 +15,7 @@ use crate::attachment::Attachment;
 use crate::node::Node;
 use crate::note::{HostNote, list_note};
 use crate::pad_notes::write_pad_notes;
-use call_data::Packet;
+use epochs::Packet;
 use call_records::Book;
 use link_timers::Role;
 use packet_channel::full_packets;

@@ -4,7 +4,7 @@
 mod net;
 mod running;
 
-pub use call_data::{Epoch, Interrupt, Packet, Passed, matches};
+pub use epochs::{Epoch, Interrupt, Packet, Passed, matches};
 pub use call_records::{EditStep, Hop, Pair, Record};
 pub use frame_lines::{Direction, FRAMES_IN_FLIGHT, Line, MemLine, mem_lines};
 pub use line_nodes::{HostNote, NodeFault, NoteKind, TerminalEvent};

@@ -20,7 +20,7 @@ use Rattle.packet_laws.specs.History.{Epoch, History, opened, heard_history, rec
 use Rattle.packet_laws.specs.Counts.{NamesCounts}
 use Rattle.packet_laws.specs.Law.{epoch_now}
 use Rattle.packet_laws.proofs.Numbers.{covered_is_sent, released_is_taken, beyond_taken}
-use Rattle.call_data.specs.Counted.{counted}
+use Rattle.epochs.specs.Counted.{counted}
 use Rattle.call_records.specs.Records.{RecordValue, with_sent, with_interrupt_sent, with_interrupt_taken, with_released, with_covered, with_epoch, changed_at}
 use Rattle.call_records.specs.Records as records
 use Rattle.call_records.specs.Book.{Book, slot_at, with_change, changed, answers, closes, packet_of, all_told}

@@ -6,7 +6,7 @@ use Rattle.link_timers.specs.declared.role.Role.{Role}
 use Rattle.link_timers.specs.declared.role.Role.TheVariants.{Dte, Dce}
 use Rattle.packet_channel.specs.Packets.{Datum}
 use Rattle.epochs.specs.Epoch.{IsAligned}
-use Rattle.epochs.proofs.Matching.{aligned-match}
+use Rattle.epochs.proofs.Matches.{aligned-match}
 use Rattle.epochs.proofs.Confirms.{confirms_itself}
 use Rattle.call_records.specs.Records.{RecordValue, new_record}
 use Rattle.call_records.specs.Book.{packet_of}

@@ -19,7 +19,7 @@ use Rattle.packet_laws.specs.History.{Epoch, empty_epoch, logged_heard, with_tak
 use Rattle.packet_laws.specs.Counts.{NamesCounts, NamesAfter}
 use Rattle.packet_laws.proofs.Naming.{counts_hold}
 use Rattle.packet_laws.proofs.Numbers.{covered_within}
-use Rattle.call_data.specs.Counted.{counted}
+use Rattle.epochs.specs.Counted.{counted}
 use Rattle.call_records.specs.Records.{RecordValue, with_sent, with_interrupt_sent, with_taken, with_interrupt_taken, with_released, with_covered, with_epoch, new_record}
 use Rattle.call_records.specs.Book.{Book, Slot, side_of, with_slot, with_record, changed, closes, renews, comes, places_from, answers, takes, releases, all_told}
 use Rattle.call_records.specs.Carried.{unless_refused}

@@ -1,7 +1,7 @@
 use Rattle.std.proofs.Common.{◌≡◌, ◌≤◌, ◌-◌, length}
 use Rattle.packet_channel.specs.Cutting.{full_packets, cut}
 use Rattle.packet_host.specs.Saying.{message}
-use Rattle.call_data.specs.Packets.{places_of}
+use Rattle.epochs.specs.Packets.{places_of}
 use Rattle.line_nodes.specs.Turn.{all_sent}
 use Rattle.line_nodes.proofs.writing.write_message.Given as goal
 

@@ -1,6 +1,0 @@
-pub mod Written
-pub mod Cutting
-pub mod Blank
-pub mod OnePass
-pub mod ListPrefixes
-pub mod EpochLists
