@@ -8,8 +8,8 @@ use Rattle.std.specs.List.{flat_map}
 use Rattle.packet_layer.specs.declared.fault.CallFault.TheVariants.{NotReady, NoChannel}
 use Rattle.packet_channel.specs.declared.fault.ChannelFault.TheVariants.{NoCall, Resetting, QueueFull, TooLong}
 use Rattle.packet_channel.specs.declared.fault.ChannelFault.TheVariants.{InterruptPending}
-use Rattle.packet_channel.specs.declared.taken.Front.{Front}
-use Rattle.packet_channel.specs.declared.taken.Front.TheVariants as front
+use Rattle.data_transfer.specs.declared.taken.Front.{Front}
+use Rattle.data_transfer.specs.declared.taken.Front.TheVariants as front
 use Rattle.line_nodes.specs.declared.fault.NodeFault.{NodeFault}
 use Rattle.line_nodes.specs.declared.fault.NodeFault.TheVariants.{Call, Channel}
 use Rattle.line_nodes.specs.declared.note.HostNote.{HostNote}

@@ -4,7 +4,7 @@ use Rattle.std.specs.Prelude.{Option, Some, None}
 use Rattle.link_timers.specs.declared.role.Role.{Role}
 use Rattle.link_timers.specs.declared.role.Role.TheVariants.{Dte, Dce}
 use Rattle.link_timers.specs.Role.{other_of}
-use Rattle.packet_channel.specs.Packets.{CallParts}
+use Rattle.data_transfer.specs.Packets.{CallParts}
 use Rattle.call_records.specs.Records.{RecordValue, PairValue, new_record}
 use Rattle.call_records.specs.Book.{side_of, slot_at, with_slot, free_slot, address_of, calling_from, places, comes, new_book, standing_book}
 use Rattle.call_records.specs.RecordView.{shown, pair_of}

@@ -1,8 +1,8 @@
 -- What the book has of that which a user asked, where it was not refused.
 use Rattle.std.specs.Prelude.{ℕ, Option, Some, None}
 use Rattle.link_timers.specs.declared.role.Role.{Role}
-use Rattle.packet_channel.specs.Packets.{CallParts}
-use Rattle.packet_channel.specs.Traffic.{Taken}
+use Rattle.data_transfer.specs.Packets.{CallParts}
+use Rattle.data_transfer.specs.Traffic.{Taken}
 use Rattle.packet_channel.specs.Channel.{Request, Refusal}
 use Rattle.packet_channel.specs.Channel.Request.{Accept, Clearing, Resetting, Sending, Interrupting, Taking, Releasing}
 use Rattle.call_records.specs.Book.{Book, places_from, answers, closes, renews, sends, interrupts, takes, releases}

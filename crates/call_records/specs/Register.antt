@@ -5,8 +5,8 @@ use Rattle.std.specs.Prelude.{ℕ, Bool, if◌then◌else◌, List, [], ◌∷�
 use Rattle.std.specs.Prelude.{Option, Some, None, is_some}
 use Rattle.link_timers.specs.declared.role.Role.{Role}
 use Rattle.link_timers.specs.declared.role.Role.TheVariants.{Dte, Dce}
-use Rattle.packet_channel.specs.Packets.{CallParts}
-use Rattle.packet_channel.specs.Packets.Note.{Incoming}
+use Rattle.data_transfer.specs.Packets.{CallParts}
+use Rattle.data_transfer.specs.Packets.Note.{Incoming}
 use Rattle.packet_channel.specs.Channel.Request.{Accept}
 use Rattle.call_records.specs.Records.{RecordValue, PairValue, with_hop}
 use Rattle.call_records.specs.Book.{Book, Side, side_of, slot_at, with_slot, with_change, free_slot, made_book}

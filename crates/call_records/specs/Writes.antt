@@ -3,9 +3,9 @@
 use Rattle.std.specs.Prelude.{ℕ, List, [], ◌∷◌, Option, Some}
 use Rattle.link_timers.specs.declared.role.Role.{Role}
 use Rattle.pad_editing.specs.Edited.{Step}
-use Rattle.packet_channel.specs.Packets.{CallParts, Datum, Note}
-use Rattle.packet_channel.specs.Traffic.{Taken}
-use Rattle.packet_channel.specs.Traffic.Taken.{TakenInterrupt, TakenPacket}
+use Rattle.data_transfer.specs.Packets.{CallParts, Datum, Note}
+use Rattle.data_transfer.specs.Traffic.{Taken}
+use Rattle.data_transfer.specs.Traffic.Taken.{TakenInterrupt, TakenPacket}
 use Rattle.packet_channel.specs.Channel.{Request, Refusal}
 use Rattle.call_records.specs.Book.{Book, closes, sends, takes, releases, edits, all_told}
 use Rattle.call_records.specs.Closing.{all_closed}

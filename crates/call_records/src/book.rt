@@ -3,8 +3,8 @@ ghost use Rattle.std.specs.Prelude.{◌≡◌, ◌≤◌, ◌+◌, ◌-◌, ℕ,
 ghost use Rattle.std.specs.Prelude.{◌<◌, ◌++◌, vec_capacity};
 ghost use Rattle.std.specs.Option.{option_to_list};
 ghost use Rattle.packet_channel.specs.NoteView.{note_of};
-ghost use Rattle.packet_channel.specs.TakenView.{taken_with, HasFewOctets};
-ghost use Rattle.packet_channel.specs.Octets.{parts_of};
+ghost use Rattle.data_transfer.specs.TakenView.{taken_with, HasFewOctets};
+ghost use Rattle.data_transfer.specs.Octets.{parts_of};
 ghost use Rattle.epochs.specs.Packets.{data_packet_of, places_of};
 ghost use Rattle.call_records.specs.Book.{made_book, slot_at, address_of, with_change, changed, places, comes};
 ghost use Rattle.call_records.specs.Book.{answers, closes, renews, sends, interrupts, takes, releases, covers, edits, told};

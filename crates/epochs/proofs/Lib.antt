@@ -1,5 +1,5 @@
 pub mod Prefixes
-pub mod Matches
+pub mod MatchedLists
 pub mod Rising
 pub mod Placing
 pub mod Confirming

@@ -1,6 +1,6 @@
 -- How many buffers a line needs.
 use Rattle.std.proofs.Common.{ℕ, zero, suc, ◌+◌, ◌*◌, ◌≤◌, arith}
-use Rattle.packet_channel.specs.declared.flow.Flow.{Flow}
+use Rattle.data_transfer.specs.declared.flow.Flow.{Flow}
 
 pub small : (k channels : ℕ) (flow : Flow) → k ≤ 7 → channels ≤ 32 → flow.window ≤ 32 → k + channels * (flow.window + 8) + 1 + channels ≤ 1320
 small k channels flow a b d =

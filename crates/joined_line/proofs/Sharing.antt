@@ -3,7 +3,7 @@
 use Rattle.std.proofs.Common.{◌≡◌, ℕ, ◌+◌, ◌≤◌, List, [], ◌∷◌, ◌++◌, length, ap, subst, sym, ◌∙◌, arith}
 use Rattle.flow_window.specs.Pool.{Pool, Buffer, Holds, weight, Balances}
 use Rattle.flow_window.proofs.Weights.{weight_append, weight_ones}
-use Rattle.packet_channel.specs.Held.{Loses}
+use Rattle.data_transfer.specs.Held.{Loses}
 use Rattle.packet_end.specs.Pooled.{PooledEnd, Serves}
 use Rattle.switch_joins.specs.Held.{HeldJoins}
 use Rattle.joined_line.specs.Pooled.{PooledLine}

@@ -1,7 +1,7 @@
 -- Packets that go to the link leave nothing to be told.
 use Rattle.std.proofs.Common.{◌≡◌, ℕ, zero, suc, Bool, true, false, cond, ◌∙◌, List, [], ◌∷◌, refl, length, Option, Some, None, is_some}
 use Rattle.lapb.specs.Machine.{can_offer}
-use Rattle.packet_channel.specs.Packets.{Body, Note}
+use Rattle.data_transfer.specs.Packets.{Body, Note}
 use Rattle.packet_channel.specs.Channel.{Channel}
 use Rattle.packet_layer.specs.Layer.{Layer, Phase, Next, channel_of, next_of, next_number, serve, serve_found, served, next_restart, next_in, next_packet}
 use Rattle.packet_end.specs.PacketEnd.{PacketEnd, offered, all_offered, with_next}

@@ -4,8 +4,8 @@ use Rattle.std.specs.Prelude.{ℕ, Bool, true, false}
 use Rattle.packet_codec.specs.ClearCause as clear
 use Rattle.packet_codec.specs.ResetCause as reset
 use Rattle.packet_codec.specs.Diagnostic.{no_information}
-use Rattle.packet_channel.specs.Packets.{Reason}
-use Rattle.packet_channel.specs.Packets.Reason.{FarEnd, LocalFault, LinkLost, FarRestart, Cancelled}
+use Rattle.data_transfer.specs.Packets.{Reason}
+use Rattle.data_transfer.specs.Packets.Reason.{FarEnd, LocalFault, LinkLost, FarRestart, Cancelled}
 
 -- what the near leg's partner said is handed on; a procedure error found there is a remote one to the far leg
 abbrev pub reset_cause : Reason → (cause : ℕ) → ℕ

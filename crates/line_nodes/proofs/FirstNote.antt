@@ -1,8 +1,8 @@
 -- The first note of a host is written before it is dropped.
 use Rattle.std.proofs.Common.{◌≡◌, ◌∙◌, ℕ, ◌+◌, ◌≤◌, List, [], ◌∷◌, ◌++◌, length, drop, slice_get, Some, sym, ap, subst, arith, append_assoc, length-append}
 use Rattle.std.specs.Prelude.{IsTrue}
-use Rattle.packet_channel.specs.Packets.{Note}
-use Rattle.packet_channel.specs.Packets.Note.{Incoming, Connected, Closed, WasReset, InterruptConfirmed, Covered}
+use Rattle.data_transfer.specs.Packets.{Note}
+use Rattle.data_transfer.specs.Packets.Note.{Incoming, Connected, Closed, WasReset, InterruptConfirmed, Covered}
 use Rattle.call_records.specs.Room.{opens, room_after, opening_notes}
 use Rattle.line_nodes.specs.declared.note.HostNote.{HostNote}
 use Rattle.line_nodes.specs.Notes.{host_note, host_notes}

@@ -1,8 +1,8 @@
 -- Notes that are read one by one: what each opens, and what is listed of it.
 use Rattle.std.proofs.Common.{◌≡◌, ◌≤◌, ℕ, List, [], ◌∷◌, refl, arith}
 use Rattle.std.specs.Prelude.{None, IsTrue, slice_get}
-use Rattle.packet_channel.specs.Packets.{Note}
-use Rattle.packet_channel.specs.Packets.Note.{Incoming, Connected, Closed, WasReset, InterruptConfirmed, Covered}
+use Rattle.data_transfer.specs.Packets.{Note}
+use Rattle.data_transfer.specs.Packets.Note.{Incoming, Connected, Closed, WasReset, InterruptConfirmed, Covered}
 use Rattle.call_records.specs.Room.{opens, room_after, opening_notes}
 
 pub none_read : (notes : List Note) → None ≡ slice_get notes 0 → notes ≡ []

@@ -1,7 +1,7 @@
 -- The room that the packets of a message take, one by one.
 use Rattle.std.proofs.Common.{◌≡◌, ℕ, ◌-◌, ◌<◌, ◌≤◌, true, List, length, take, drop, arith, length-drop, length-take}
-use Rattle.packet_channel.specs.Flow.{is_size}
-use Rattle.packet_channel.proofs.Pieces.{by_size}
+use Rattle.data_transfer.specs.Flow.{is_size}
+use Rattle.data_transfer.proofs.Pieces.{by_size}
 use Rattle.epochs.specs.Packets.{places_of}
 
 -- and leaves room for the others

@@ -3,9 +3,9 @@ use Rattle.std.proofs.Common.{◌≡◌, ◌≤◌, ℕ, Bool, true, false, List
 use Rattle.std.specs.Prelude.{Option, Some, None, not, ◌||◌, ◌==◌, nat_lt}
 use Rattle.std.proofs.lemmas.Bool.{ltb-false}
 use Rattle.link_timers.specs.declared.role.Role.{Role}
-use Rattle.packet_channel.specs.declared.flow.Flow.{Flow}
+use Rattle.data_transfer.specs.declared.flow.Flow.{Flow}
 use Rattle.packet_channel.specs.Channel.{Channel, Refusal, Request, refused_if, in_transfer}
-use Rattle.packet_channel.specs.Traffic.{interrupt_pending}
+use Rattle.data_transfer.specs.Traffic.{interrupt_pending}
 use Rattle.packet_layer.specs.Layer.{refusal_at, flow_refusal, channel_of, room}
 use Rattle.packet_end.specs.PacketEnd.{PacketEnd}
 use Rattle.packet_host.specs.Saying.{say_refusal, either_refusal, most_octets, places_needed}

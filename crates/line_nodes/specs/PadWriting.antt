@@ -1,6 +1,6 @@
 -- What is written into the book of a line from the notes of a PAD there.
 use Rattle.std.specs.Prelude.{ℕ, List, [], ◌∷◌, map, length, drop, Some, None}
-use Rattle.packet_channel.specs.Packets.{CallParts}
+use Rattle.data_transfer.specs.Packets.{CallParts}
 use Rattle.packet_channel.specs.Channel.Request.{Accept, Resetting, Interrupting}
 use Rattle.call_records.specs.Writes.{Write, Write as write}
 use Rattle.pad_ports.specs.Notes.{ChannelNote, Told, Placed, Accepted, Cleared, WasReset, Edited, Sent}

@@ -1,7 +1,7 @@
 -- What an event makes of a node and of the book of its line.
 use Rattle.std.specs.Prelude.{List, []}
 use Rattle.link_timers.specs.declared.role.Role.{Role}
-use Rattle.packet_channel.specs.Packets.{Note}
+use Rattle.data_transfer.specs.Packets.{Note}
 use Rattle.call_records.specs.Book.{Book, all_told}
 use Rattle.call_records.specs.Writes.{all_written}
 pub use Rattle.call_records.specs.Writes.{all_sent}

@@ -1,7 +1,7 @@
 -- What the network writes into the book of a line: what a user asked where it was not refused, and what a node noted.
 use Rattle.std.specs.Prelude.{ℕ, ◌≤◌, length}
 use Rattle.link_timers.specs.declared.role.Role.{Role}
-use Rattle.packet_channel.specs.Cutting.{cut}
+use Rattle.data_transfer.specs.Cutting.{cut}
 use Rattle.packet_host.specs.Saying.{message}
 use Rattle.packet_host.specs.declared.request.HostRequest.{HostRequest}
 use Rattle.packet_host.specs.declared.request.HostRequest.TheVariants.{Answer, Refuse, Say, Interrupt, Reset, Clear}

@@ -1,6 +1,6 @@
 //! What a PAD noted, written into the book of its line.
 ghost use Rattle.std.specs.Prelude.{◌≡◌, ◌≤◌, ◌-◌, length};
-ghost use Rattle.packet_channel.specs.TakenView.{taken_with, HasFewOctets};
+ghost use Rattle.data_transfer.specs.TakenView.{taken_with, HasFewOctets};
 ghost use Rattle.epochs.specs.Packets.{data_packet_of};
 ghost use Rattle.call_records.specs.Book.{packet_of};
 ghost use Rattle.call_records.specs.Room.{taken_room};

@@ -1,7 +1,7 @@
 //! What the network writes into the book of a line: what a user asked, and what a node noted.
 ghost use Rattle.std.specs.Prelude.{◌≡◌, ◌≤◌, [], true, length, vec_capacity};
-ghost use Rattle.packet_channel.specs.Cutting.{cut};
-ghost use Rattle.packet_channel.specs.Flow.{is_size};
+ghost use Rattle.data_transfer.specs.Cutting.{cut};
+ghost use Rattle.data_transfer.specs.Flow.{is_size};
 ghost use Rattle.packet_host.specs.Saying.{message};
 ghost use Rattle.call_records.specs.Book.{all_told};
 ghost use Rattle.call_records.specs.Room.{opening_notes};
@@ -18,7 +18,7 @@ use crate::pad_notes::write_pad_notes;
 use epochs::Packet;
 use call_records::Book;
 use link_timers::Role;
-use packet_channel::full_packets;
+use data_transfer::full_packets;
 use packet_end::MOST_NOTES;
 use packet_host::{Host, HostRequest};
 

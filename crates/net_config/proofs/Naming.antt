@@ -6,8 +6,8 @@ use Rattle.std.specs.List.{list_all, list_any, filter}
 use Rattle.std.specs.Cmp.Lexicographic.{bytes_decides}
 use Rattle.std.proofs.lemmas.Bool.{and_parts, or_cases, leb-true, not-true, eq-eqb, eqb-true}
 use Rattle.packet_codec.specs.declared.packet.Numbering.TheVariants.{Modulo8, Modulo128}
-use Rattle.packet_channel.specs.Flow.{IsFlow}
-use Rattle.packet_channel.proofs.Windows.{size_most}
+use Rattle.data_transfer.specs.Flow.{IsFlow}
+use Rattle.data_transfer.proofs.Windows.{size_most}
 use Rattle.packet_end.specs.Params.{AreParams}
 use Rattle.net_config.specs.Served.{is_from, same_text, is_named, has_dte, has_end, exactly_one, place_of}
 use Rattle.net_config.specs.Served.{is_kind_served, most_lines, is_switch, is_dce_named, is_numbered, is_sized, is_within, suits_pad}

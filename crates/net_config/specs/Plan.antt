@@ -12,7 +12,7 @@ use Rattle.packet_codec.specs.Address.{address_of}
 use Rattle.packet_codec.specs.declared.address.AddressFault.{AddressFault}
 use Rattle.packet_codec.specs.declared.packet.Numbering.{Numbering}
 use Rattle.packet_codec.specs.declared.packet.Numbering.TheVariants.{Modulo8, Modulo128}
-use Rattle.packet_channel.specs.declared.flow.Flow.{Flow}
+use Rattle.data_transfer.specs.declared.flow.Flow.{Flow}
 use Rattle.packet_end.specs.declared.params.EndParams.{EndParams}
 use Rattle.address_routes.specs.Routes.{RouteMap, add_fault}
 use Rattle.net_config.specs.NetPlan.{NewDte, NewPad, NewHost, NewNode, NewSwitch, Planned, PlannedUser, PlannedSwitch}

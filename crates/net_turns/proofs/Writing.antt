@@ -3,12 +3,12 @@ use Rattle.std.proofs.Common.{◌≡◌, ◌≤◌, ◌∙◌, ℕ, true, false,
 use Rattle.std.specs.Prelude.{Option, Some, None}
 use Rattle.link_timers.specs.declared.role.Role.{Role}
 use Rattle.link_timers.specs.declared.timers.TimerId.{TimerId}
-use Rattle.packet_channel.specs.Traffic.{Taken}
+use Rattle.data_transfer.specs.Traffic.{Taken}
 use Rattle.packet_channel.specs.Channel.{Refusal, Request as ask}
 use Rattle.packet_layer.specs.Layer.{front_on, channel_given, request_refusal}
 use Rattle.packet_end.specs.PacketEnd.{PacketEnd}
 use Rattle.packet_host.specs.Host.{call_parts, after_call, after_request, after_refuse, after_say, after_take, taken_as, refuse_refusal}
-use Rattle.packet_channel.specs.Cutting.{cut}
+use Rattle.data_transfer.specs.Cutting.{cut}
 use Rattle.packet_host.specs.Saying.{message, say_refusal}
 use Rattle.packet_host.specs.Asking.{ask_refusal, after_ask}
 use Rattle.packet_host.specs.declared.request.HostRequest.{HostRequest}

@@ -3,7 +3,7 @@ use Rattle.std.specs.Prelude.{◌≡◌, ℕ, true, List, [], Option, Some, None
 use Rattle.packet_channel.specs.declared.fault.ChannelFault.TheVariants as channel_fault
 use Rattle.packet_channel.specs.Channel.{Refusal}
 use Rattle.packet_layer.specs.Layer.{call_refusal, channel_given, request_refusal, front_on}
-use Rattle.packet_channel.specs.TakenView.{maybe_front, taken_octets}
+use Rattle.data_transfer.specs.TakenView.{maybe_front, taken_octets}
 use Rattle.packet_layer.specs.declared.fault.CallFault.TheVariants as call_fault
 use Rattle.packet_host.specs.Host.{refuse_refusal}
 use Rattle.packet_host.specs.Saying.{say_refusal}

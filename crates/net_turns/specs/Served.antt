@@ -2,7 +2,7 @@
 use Rattle.std.specs.Prelude.{◌≡◌, ℕ, ◌≤◌, List, [], vec_capacity, Option, Some, None}
 use Rattle.link_timers.specs.declared.role.Role.{Role}
 use Rattle.packet_end.specs.declared.notes.TheConstants.{MOST_NOTES}
-use Rattle.packet_channel.specs.Traffic.{Taken}
+use Rattle.data_transfer.specs.Traffic.{Taken}
 use Rattle.call_records.specs.Book.{Book, takes}
 use Rattle.call_records.specs.Room.{BookState}
 use Rattle.line_nodes.specs.Node.{NodeState, is_pad, drained, frames_of}

@@ -2,7 +2,7 @@
 ghost use Rattle.std.specs.Prelude.{◌≡◌, ◌≤◌, [], Some, Ok, OnOk, OnErr, length, vec_capacity};
 ghost use Rattle.std.specs.Result.{result_and};
 ghost use Rattle.packet_layer.specs.Layer.{front_on};
-ghost use Rattle.packet_channel.specs.TakenView.{maybe_front, taken_octets};
+ghost use Rattle.data_transfer.specs.TakenView.{maybe_front, taken_octets};
 ghost use Rattle.packet_host.specs.Host.{after_take};
 ghost use Rattle.line_nodes.specs.Node.{Host as HostNode};
 ghost use Rattle.node_laws.specs.Quiet.{IsQuiet};

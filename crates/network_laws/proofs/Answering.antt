@@ -3,7 +3,7 @@ use Rattle.std.proofs.Common.{◌≡◌, ℕ, Some, sym, ap, ◌∙◌, subst}
 use Rattle.std.specs.Prelude.{is_some, true, false}
 use Rattle.link_timers.specs.declared.role.Role.{Role}
 use Rattle.link_timers.specs.declared.role.Role.TheVariants.{Dte, Dce}
-use Rattle.packet_channel.proofs.Windows.{window_below}
+use Rattle.data_transfer.proofs.Windows.{window_below}
 use Rattle.packet_channel.specs.Channel.{Channel, may_accept, in_transfer}
 use Rattle.packet_layer.specs.Layer.{Layer, channel_of}
 use Rattle.node_laws.specs.Lines.Line.{Line}

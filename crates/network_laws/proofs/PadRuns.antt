@@ -30,8 +30,8 @@ use Rattle.network_laws.specs.PadRun.{Act, after_arrival, after_act, after_event
 use Rattle.network_laws.specs.PadRun.Act.{Arrives, IsLost, RunsOut, Does, Asked, Tells, TakesNext}
 use Rattle.network_laws.specs.PadRun.{dialled_run, standing_run, IsAct, AllAre, PadRunLaw}
 use Rattle.std.proofs.lemmas.Option.{same_Some, none-some}
-use Rattle.packet_channel.specs.Packets.{Note}
-use Rattle.packet_channel.specs.Traffic.{Taken}
+use Rattle.data_transfer.specs.Packets.{Note}
+use Rattle.data_transfer.specs.Traffic.{Taken}
 use Rattle.packet_layer.specs.Layer.{front_on}
 use Rattle.line_nodes.specs.Turn.{told, unchanged}
 use Rattle.line_nodes.specs.LineTurns.{hears, expires}

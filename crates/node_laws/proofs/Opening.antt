@@ -1,13 +1,13 @@
 -- How many notes of a turn open something.
 use Rattle.std.specs.Prelude.{◌≡◌, Bool, true, false, cond, if◌then◌else◌, [], Option, Some, None}
 use Rattle.std.proofs.Common.{refl, ap, ◌∙◌, lit≤}
-use Rattle.packet_channel.specs.Traffic.{Taken}
+use Rattle.data_transfer.specs.Traffic.{Taken}
 use Rattle.packet_channel.specs.Channel.{Request, Refusal}
 use Rattle.packet_layer.specs.Layer.{call_refusal, request_refusal, front_on}
 use Rattle.packet_end.specs.PacketEnd.{PacketEnd, begun, after_timer, finished, asked, called, runs_at}
 use Rattle.packet_host.specs.Host as host
 use Rattle.packet_host.specs.Host.{ended, refuse_refusal, let_go, taken_as}
-use Rattle.packet_channel.specs.Cutting.{cut}
+use Rattle.data_transfer.specs.Cutting.{cut}
 use Rattle.packet_host.specs.Saying.{message, queued, say_refusal}
 use Rattle.x25_pad.specs.Pad as pad
 use Rattle.call_records.specs.Room.{opening_notes}

@@ -2,9 +2,9 @@
 use Rattle.std.specs.Prelude.{ℕ, Bool, true, false, List, [], ◌∷◌, Option, Some, None, slice_get}
 use Rattle.std.specs.Option.{option_map_or}
 use Rattle.pad_editing.specs.Edited.{Step, key, idle}
-use Rattle.packet_channel.specs.Packets.{CallParts, Datum}
-use Rattle.packet_channel.specs.Traffic.{Taken}
-use Rattle.packet_channel.specs.Traffic.Taken.{TakenInterrupt, TakenPacket}
+use Rattle.data_transfer.specs.Packets.{CallParts, Datum}
+use Rattle.data_transfer.specs.Traffic.{Taken}
+use Rattle.data_transfer.specs.Traffic.Taken.{TakenInterrupt, TakenPacket}
 use Rattle.packet_channel.specs.Channel.{Request as ask}
 use Rattle.packet_end.specs.PacketEnd as end
 use Rattle.packet_end.specs.PacketEnd.{PacketEnd}

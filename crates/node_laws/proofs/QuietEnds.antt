@@ -8,15 +8,15 @@ use Rattle.lapb.specs.declared.note.Note.TheVariants.{Nothing, Up, Down}
 use Rattle.lapb.specs.Machine.{Octets, on_t1, can_offer}
 use Rattle.lapb.specs.Octets as link_octets
 use Rattle.line_end.specs.End as line
-use Rattle.packet_channel.specs.Packets.{CallParts, Datum}
-use Rattle.packet_channel.specs.Traffic.{Taken}
-use Rattle.packet_channel.specs.Traffic.Taken.{TakenInterrupt, TakenPacket}
+use Rattle.data_transfer.specs.Packets.{CallParts, Datum}
+use Rattle.data_transfer.specs.Traffic.{Taken}
+use Rattle.data_transfer.specs.Traffic.Taken.{TakenInterrupt, TakenPacket}
 use Rattle.packet_channel.specs.Channel.{Refusal, Request}
 use Rattle.packet_layer.specs.Layer.{Layer, unread, call, request, next_packet, front_on, call_refusal, request_refusal}
 use Rattle.packet_end.specs.PacketEnd as end
 use Rattle.packet_end.specs.PacketEnd.{PacketEnd, begun, heeded, after_packet, received, runs_at, after_timer, relinked, relinked_if_due, with_next, offered, all_offered, finished, asked, called}
 use Rattle.packet_host.specs.Host.{ended, unless_refused, refuse_refusal, after_call, after_request, after_refuse, after_say, let_go, taken_as, after_take}
-use Rattle.packet_channel.specs.Cutting.{cut}
+use Rattle.data_transfer.specs.Cutting.{cut}
 use Rattle.packet_host.specs.Saying.{message, queued, say_refusal}
 use Rattle.node_laws.proofs.Lines.Unread.{request_unread, call_unread}
 use Rattle.node_laws.proofs.Lines.Layers.{next_silent}

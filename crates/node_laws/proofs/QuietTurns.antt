@@ -6,8 +6,8 @@ use Rattle.link_timers.specs.declared.role.Role.TheVariants.{Dte}
 use Rattle.link_timers.specs.declared.timers.TimerId.{TimerId}
 use Rattle.link_timers.specs.declared.timers.TimerId.TheVariants.{Idle}
 use Rattle.lapb.specs.Machine.{Octets}
-use Rattle.packet_channel.specs.Packets.{CallParts}
-use Rattle.packet_channel.specs.Traffic.{Taken}
+use Rattle.data_transfer.specs.Packets.{CallParts}
+use Rattle.data_transfer.specs.Traffic.{Taken}
 use Rattle.packet_channel.specs.Channel.{Request}
 use Rattle.packet_layer.specs.Layer.{front_on}
 use Rattle.packet_end.specs.PacketEnd.{PacketEnd, begun, received, runs_at, after_timer, relinked, restarted, finished, made}

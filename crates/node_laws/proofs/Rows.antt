@@ -6,8 +6,8 @@ use Rattle.link_timers.specs.declared.role.Role.{Role}
 use Rattle.link_timers.specs.declared.role.Role.TheVariants.{Dte, Dce}
 use Rattle.lapb.specs.Machine.{Octets}
 use Rattle.epochs.specs.Epoch.{nothing_sent, nothing_taken}
-use Rattle.packet_channel.specs.Flow.{modulo_8}
-use Rattle.packet_channel.specs.Packets.{Datum}
+use Rattle.data_transfer.specs.Flow.{modulo_8}
+use Rattle.data_transfer.specs.Packets.{Datum}
 use Rattle.packet_channel.specs.Channel.Request.{Accept}
 use Rattle.packet_end.specs.PacketEnd as end
 use Rattle.packet_end.specs.PacketEnd.{PacketEnd, finished, all_offered}

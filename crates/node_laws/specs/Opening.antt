@@ -4,7 +4,7 @@ use Rattle.std.specs.Prelude.{◌≡◌, ℕ, ◌≤◌, Bool, List}
 use Rattle.link_timers.specs.declared.role.Role.{Role}
 use Rattle.link_timers.specs.declared.timers.TimerId.{TimerId}
 use Rattle.lapb.specs.Machine.{Octets}
-use Rattle.packet_channel.specs.Packets.{CallParts}
+use Rattle.data_transfer.specs.Packets.{CallParts}
 use Rattle.packet_channel.specs.Channel.{Request}
 use Rattle.packet_end.specs.PacketEnd.{PacketEnd}
 use Rattle.node_laws.specs.Lines.Line.{Line}

@@ -2,13 +2,13 @@
 use Rattle.std.proofs.Common.{◌≡◌, Bool, false, Result, Ok, Err, Some, None, refl, ap, ◌∙◌, sym}
 use Rattle.std.specs.Prelude.{IsErrAnd}
 use Rattle.link_timers.specs.declared.role.Role.{Role}
-use Rattle.packet_channel.specs.declared.flow.Flow.{Flow}
+use Rattle.data_transfer.specs.declared.flow.Flow.{Flow}
 use Rattle.packet_channel.specs.Answers.{Answers, CarriedOut}
 use Rattle.packet_channel.specs.Channel.{Channel, Request, refusal}
 use Rattle.packet_channel.specs.Channel.Request.{Sending}
-use Rattle.packet_channel.specs.Packets.{Datum}
+use Rattle.data_transfer.specs.Packets.{Datum}
 use Rattle.packet_channel.specs.RequestView.{refusal_of}
-use Rattle.packet_channel.specs.Traffic.{Traffic, queue}
+use Rattle.data_transfer.specs.Traffic.{Traffic, queue}
 use Rattle.packet_channel.specs.declared.fault.ChannelFault.{ChannelFault}
 
 pub told : (role : Role) (flow : Flow) (ch : Channel) (r : Request) (result : Result Bool ChannelFault) (fault : ChannelFault) →

@@ -2,10 +2,10 @@
 use Rattle.std.specs.Prelude.{◌≡◌, Bool, false, List, [], ◌∷◌, Result, Ok, Err, Some, None}
 use Rattle.flow_window.specs.Pool.{Buffer}
 use Rattle.link_timers.specs.declared.role.Role.{Role}
-use Rattle.packet_channel.specs.declared.flow.Flow.{Flow}
+use Rattle.data_transfer.specs.declared.flow.Flow.{Flow}
 use Rattle.packet_channel.specs.Channel.{Channel, Request, refusal, carried_out, owing, passes_limit}
 use Rattle.packet_channel.specs.Channel.Request.{Sending}
-use Rattle.packet_channel.specs.Held.{Kept, datum_in}
+use Rattle.data_transfer.specs.Held.{Kept, datum_in}
 use Rattle.packet_channel.specs.RequestView.{refusal_of}
 use Rattle.packet_channel.specs.declared.fault.ChannelFault.{ChannelFault}
 use Rattle.packet_channel.specs.declared.fault.RefusedBuf.{RefusedBuf}

@@ -7,17 +7,17 @@ use Rattle.link_timers.specs.declared.role.Role.TheVariants.{Dte, Dce}
 use Rattle.packet_codec.specs.ClearCause as clear_cause
 use Rattle.packet_codec.specs.ResetCause as reset_cause
 use Rattle.packet_codec.specs.Diagnostic.{no_information, not_allowed_in_p, not_allowed_in_d1}
-use Rattle.packet_channel.specs.Packets.{CallParts, Datum, Body, Note}
-use Rattle.packet_channel.specs.Packets.Body.{Call, Accepted, Clear, ClearConfirmation, Data, Interrupt}
-use Rattle.packet_channel.specs.Packets.Body.{InterruptConfirmation, ReceiveReady, ReceiveNotReady, Reset}
-use Rattle.packet_channel.specs.Packets.Body.{ResetConfirmation}
-use Rattle.packet_channel.specs.Packets.Note.{Incoming, Connected, Closed, WasReset, InterruptConfirmed, Covered}
-use Rattle.packet_channel.specs.Packets.Reason.{FarEnd, LocalFault, Cancelled}
-use Rattle.packet_channel.specs.Traffic.{Traffic, Heard, fresh, queue, queue_interrupt}
-use Rattle.packet_channel.specs.Traffic.{interrupt_pending, stopping, taking, may_release, releasing, confirming}
-use Rattle.packet_channel.specs.Traffic.{hears, says, rests}
-use Rattle.packet_channel.specs.Traffic.Heard.{Keeps, Confirms, Wrong}
-use Rattle.packet_channel.specs.declared.flow.Flow.{Flow}
+use Rattle.data_transfer.specs.Packets.{CallParts, Datum, Body, Note}
+use Rattle.data_transfer.specs.Packets.Body.{Call, Accepted, Clear, ClearConfirmation, Data, Interrupt}
+use Rattle.data_transfer.specs.Packets.Body.{InterruptConfirmation, ReceiveReady, ReceiveNotReady, Reset}
+use Rattle.data_transfer.specs.Packets.Body.{ResetConfirmation}
+use Rattle.data_transfer.specs.Packets.Note.{Incoming, Connected, Closed, WasReset, InterruptConfirmed, Covered}
+use Rattle.data_transfer.specs.Packets.Reason.{FarEnd, LocalFault, Cancelled}
+use Rattle.data_transfer.specs.Traffic.{Traffic, Heard, fresh, queue, queue_interrupt}
+use Rattle.data_transfer.specs.Traffic.{interrupt_pending, stopping, taking, may_release, releasing, confirming}
+use Rattle.data_transfer.specs.Traffic.{hears, says, rests}
+use Rattle.data_transfer.specs.Traffic.Heard.{Keeps, Confirms, Wrong}
+use Rattle.data_transfer.specs.declared.flow.Flow.{Flow}
 
 -- p1; p2 of a DTE or p3 of a DCE; p3 of a DTE or p2 of a DCE; p4; p5; p6 of a DTE or p7 of a DCE
 pub data CallState : Type 0 where

@@ -1,6 +1,6 @@
 -- What contracts see of the code's channel, and what always holds of it.
 use Rattle.std.specs.Prelude.{◌≡◌, false}
-use Rattle.packet_channel.specs.Traffic.{fresh}
+use Rattle.data_transfer.specs.Traffic.{fresh}
 use Rattle.packet_channel.specs.Channel.{Channel, in_transfer}
 use Rattle.packet_channel.specs.Held as held
 use Rattle.packet_channel.specs.ControlView.{bodies_of}

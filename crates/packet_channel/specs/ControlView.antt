@@ -1,7 +1,7 @@
 -- Control packets that are owed, as the code has them.
 use Rattle.std.specs.Prelude.{List, map}
-use Rattle.packet_channel.specs.Packets.{Body}
-use Rattle.packet_channel.specs.Octets.{parts_of}
+use Rattle.data_transfer.specs.Packets.{Body}
+use Rattle.data_transfer.specs.Octets.{parts_of}
 use Rattle.packet_channel.specs.declared.control.Control.{Control}
 use Rattle.packet_channel.specs.declared.control.Control.TheVariants as control
 

@@ -1,6 +1,6 @@
 -- A step of a channel, done.
 use Rattle.std.specs.Prelude.{◌≡◌, ◌≤◌, Bool, List, length}
-use Rattle.packet_channel.specs.Packets.{Note}
+use Rattle.data_transfer.specs.Packets.{Note}
 use Rattle.packet_channel.specs.Channel.{Channel, Step, owing, passes_limit}
 
 -- the channel owes what the step says; whether that is one packet too many, so that the link has to be set up anew;

@@ -1,12 +1,5 @@
-pub mod Packets
-pub mod Flow
-pub mod Traffic
 pub mod Channel
 pub mod Held
-pub mod Octets
-pub mod TakenView
-pub mod TrafficView
-pub mod HeardView
 pub mod ControlView
 pub mod NoteView
 pub mod StateView
@@ -14,4 +7,3 @@ pub mod Done
 pub mod ChannelView
 pub mod RequestView
 pub mod Answers
-pub mod Cutting

@@ -1,7 +1,7 @@
 -- Notes, as the code has them.
 use Rattle.std.specs.Prelude.{List, map, Option, Some, None}
-use Rattle.packet_channel.specs.Packets as spec
-use Rattle.packet_channel.specs.Octets.{parts_of}
+use Rattle.data_transfer.specs.Packets as spec
+use Rattle.data_transfer.specs.Octets.{parts_of}
 use Rattle.packet_channel.specs.declared.note.Reason.{Reason}
 use Rattle.packet_channel.specs.declared.note.Reason.TheVariants as reason
 use Rattle.packet_channel.specs.declared.note.LayerNote.{LayerNote}

@@ -6,11 +6,12 @@ ghost use Rattle.flow_window.specs.Pool.{Holds, Balances};
 ghost use Rattle.packet_channel.specs.Channel as machine;
 ghost use Rattle.packet_channel.specs.ControlView.{control_body};
 ghost use Rattle.packet_channel.specs.Done.{IsDone};
-ghost use Rattle.packet_channel.specs.Held.{Fits, Loses};
+ghost use Rattle.data_transfer.specs.Held.{Loses};
+ghost use Rattle.packet_channel.specs.Held.{Fits};
 ghost use Rattle.packet_channel.specs.StateView.{state_of};
-ghost use Rattle.packet_channel.specs.Octets.{parts_of, written, ReadsAs};
-ghost use Rattle.packet_channel.specs.Packets.{Body as body};
-ghost use Rattle.packet_channel.specs.declared.flow.Flow.{Flow as FlowValue};
+ghost use Rattle.data_transfer.specs.Octets.{parts_of, written, ReadsAs};
+ghost use Rattle.data_transfer.specs.Packets.{Body as body};
+ghost use Rattle.data_transfer.specs.declared.flow.Flow.{Flow as FlowValue};
 ghost use Rattle.packet_codec.specs.Diagnostic.{no_information};
 
 mod errors;
@@ -18,12 +19,10 @@ mod receiving;
 mod requests;
 
 use crate::control::{Control, write_control};
-use crate::flow::Flow;
 use crate::notes::Notes;
 use crate::owed::Owed;
 use crate::state::{CallState, End};
-use crate::taken::{Front, TakenBuf};
-use crate::traffic::{SEND_QUEUE, Traffic};
+use data_transfer::{Flow, Front, SEND_QUEUE, TakenBuf, Traffic};
 use flow_window::pool::Pool;
 use packet_codec::{CallBuf, PacketBuf, diagnostic};
 pub use requests::{BareRequest, Request};
@@ -54,8 +53,8 @@ impl Model for Channel {
 
 impl Channel {
     ghost use Rattle.link_timers.specs.declared.role.Role.{Role};
-    ghost use Rattle.packet_channel.specs.Traffic as traffic;
-    ghost use Rattle.packet_channel.specs.TakenView.{maybe_taken_in, maybe_buffers_in, maybe_front};
+    ghost use Rattle.data_transfer.specs.Traffic as traffic;
+    ghost use Rattle.data_transfer.specs.TakenView.{maybe_taken_in, maybe_buffers_in, maybe_front};
 
     /// A channel without a call. `AllocError` comes for want of memory.
     pub fn new(alloc: Global) -> Result<Self, AllocError>

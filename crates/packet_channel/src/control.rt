@@ -1,9 +1,9 @@
 //! Control packets of a channel.
 ghost use Rattle.std.specs.Prelude.{◌≡◌, ◌<◌, Some};
-ghost use Rattle.packet_channel.specs.Octets.{written, ReadsAs};
+ghost use Rattle.data_transfer.specs.Octets.{written, ReadsAs};
 ghost use Rattle.packet_channel.specs.ControlView.{control_body};
 
-use crate::flow::Flow;
+use data_transfer::Flow;
 use packet_codec::{CallBuf, Content, Packet, PacketBuf, write_packet};
 
 /// A packet of call set-up, clearing or reset (X.25 5.2, 5.4.3).

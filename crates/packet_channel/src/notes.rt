@@ -21,7 +21,7 @@ pub struct NoteQueue<const PLACES: usize> {
 
 impl<const PLACES: usize> Model for NoteQueue<PLACES> {
     ghost use Rattle.std.specs.Prelude.{◌≡◌, List};
-    ghost use Rattle.packet_channel.specs.Packets.{Note};
+    ghost use Rattle.data_transfer.specs.Packets.{Note};
 
     ghost Value = { List Note };
 

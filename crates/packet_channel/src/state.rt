@@ -3,7 +3,7 @@ ghost use Rattle.std.specs.Prelude.{◌≡◌, ◌≤◌};
 ghost use Rattle.packet_channel.specs.Channel as machine;
 ghost use Rattle.packet_channel.specs.StateView.{state_of};
 
-use crate::flow::Flow;
+use data_transfer::Flow;
 use link_timers::Role;
 use packet_codec::clear_cause;
 

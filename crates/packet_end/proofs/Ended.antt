@@ -6,7 +6,7 @@ use Rattle.lapb.specs.Machine.{Octets, Link, runs, sendable, send_all, settle_in
 use Rattle.lapb.specs.Out.{timing_by}
 use Rattle.line_end.specs.End.{End, did, timed}
 use Rattle.line_end.specs.End as line
-use Rattle.packet_channel.specs.Packets.{Packet}
+use Rattle.data_transfer.specs.Packets.{Packet}
 use Rattle.packet_layer.specs.LayerTimers.{LayerTimers}
 use Rattle.packet_end.specs.PacketEnd.{PacketEnd, SettlesOnce, IsFinished, HasOfferedAll}
 use Rattle.packet_end.specs.PacketEnd.{relinked, all_offered, settled, finished}

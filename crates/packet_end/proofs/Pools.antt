@@ -5,7 +5,7 @@ use Rattle.link_timers.specs.declared.role.Role.{Role}
 use Rattle.link_timers.specs.declared.role.Role.TheVariants.{Dte, Dce}
 use Rattle.flow_window.specs.Pool.{Pool, Buffer, weight, in_use, Holds, Balances}
 use Rattle.flow_window.proofs.Weights.{weight_append, weight_ones, holds_after}
-use Rattle.packet_channel.specs.declared.flow.Flow.{Flow}
+use Rattle.data_transfer.specs.declared.flow.Flow.{Flow}
 use Rattle.lapb.specs.declared.link.LinkParams.{LinkParams}
 use Rattle.line_end.specs.End as line
 use Rattle.line_end.specs.Held.{LineEnd}

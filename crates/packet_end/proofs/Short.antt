@@ -9,9 +9,9 @@ use Rattle.packet_codec.specs.Packet.{PacketValue, ContentValue, CallRequest, Ca
 use Rattle.packet_codec.specs.Reading.{reading, named_channel}
 use Rattle.packet_codec.proofs.Blocks.{length-packed}
 use Rattle.packet_codec.proofs.Forms.{AreOctets, Found, found}
-use Rattle.packet_channel.specs.declared.flow.Flow.{Flow}
-use Rattle.packet_channel.specs.Packets.{Packet, Received}
-use Rattle.packet_channel.specs.Octets.{body_of, content_of, unreadable_as, heard_by, heard}
+use Rattle.data_transfer.specs.declared.flow.Flow.{Flow}
+use Rattle.data_transfer.specs.Packets.{Packet, Received}
+use Rattle.data_transfer.specs.Octets.{body_of, content_of, unreadable_as, heard_by, heard}
 use Rattle.packet_layer.specs.Events.{written_packet, IsHeard}
 use Rattle.packet_end.specs.Params.{info_of}
 

@@ -8,8 +8,8 @@ use Rattle.lapb.specs.Octets as link_octets
 use Rattle.lapb.specs.declared.note.Note as link_note
 use Rattle.lapb.specs.declared.note.Note.TheVariants.{Nothing, Up, Down}
 use Rattle.line_end.specs.End as line
-use Rattle.packet_channel.specs.declared.flow.Flow.{Flow}
-use Rattle.packet_channel.specs.Packets.{CallParts}
+use Rattle.data_transfer.specs.declared.flow.Flow.{Flow}
+use Rattle.data_transfer.specs.Packets.{CallParts}
 use Rattle.packet_channel.specs.Channel.{Request}
 use Rattle.packet_layer.specs.Layer.{next_packet}
 use Rattle.packet_end.specs.PacketEnd.{Octets, PacketEnd, heeded, after_packet, received, runs_at, expired, after_timer}

@@ -10,15 +10,15 @@ use Rattle.packet_codec.specs.declared.packet.Numbering.{Numbering}
 use Rattle.packet_codec.specs.Packet.{PacketValue, ContentValue, format_id}
 use Rattle.packet_codec.specs.Reading.{reading, typed, on_channel, named_channel, named_type, format_of}
 use Rattle.packet_codec.specs.Reading as codec
-use Rattle.packet_channel.specs.declared.flow.Flow.{Flow}
-use Rattle.packet_channel.specs.Packets.{CallParts, Packet, Body}
+use Rattle.data_transfer.specs.declared.flow.Flow.{Flow}
+use Rattle.data_transfer.specs.Packets.{CallParts, Packet, Body}
 use Rattle.packet_channel.specs.Channel.{CallState, Channel, Step, Request, Refusal, carried_out, unless, refusal, requested, owing, in_transfer, has_flow, moved, next_of, next_owed, ChannelNext, waits_for_call, waits_for_clear, received, unreadable, placing}
 use Rattle.packet_channel.specs.Channel.Request.{Accept, Clearing, Resetting, Sending, Interrupting, Stopping, Taking, Releasing, Confirming}
 use Rattle.packet_layer.specs.Layer.{Layer, Phase, Timer, nth_channel, channel_of, with_nth, unread, on_found, packet_in, runs_at, serve, serve_found, served, next_number, next_restart, next_in, next_packet, Next, placed_on}
-use Rattle.packet_channel.specs.Traffic.{says}
+use Rattle.data_transfer.specs.Traffic.{says}
 use Rattle.packet_layer.specs.Layer as machine
 use Rattle.packet_layer.specs.Layer.Phase.{NoSession, OwnRestart, PacketReady}
-use Rattle.packet_channel.specs.Octets.{heard_by, body_of, unreadable_as}
+use Rattle.data_transfer.specs.Octets.{heard_by, body_of, unreadable_as}
 use Rattle.packet_layer.specs.Events.{after_hearing, on_octets}
 use Rattle.packet_layer.specs.LayerTimers.{LayerTimers, channel_number}
 use Rattle.packet_end.specs.Touched.{has, OthersAgree, NamesAnother, is_of_call}

@@ -16,7 +16,7 @@ use Rattle.lapb.specs.Octets as link_octets
 use Rattle.lapb.specs.Unsent.{HasSentAll}
 use Rattle.line_end.specs.End.{End}
 use Rattle.line_end.specs.End as line
-use Rattle.packet_channel.specs.Packets.{CallParts, Note}
+use Rattle.data_transfer.specs.Packets.{CallParts, Note}
 use Rattle.packet_channel.specs.Channel.{Request}
 use Rattle.packet_layer.specs.Layer.{Layer, Next, unread, next_packet}
 use Rattle.packet_layer.specs.Layer as machine

@@ -2,7 +2,7 @@
 use Rattle.std.specs.Prelude.{ℕ, ◌+◌, max}
 use Rattle.lapb.specs.Params as link
 use Rattle.lapb.specs.declared.link.LinkParams.{LinkParams}
-use Rattle.packet_channel.specs.declared.flow.Flow.{Flow}
+use Rattle.data_transfer.specs.declared.flow.Flow.{Flow}
 use Rattle.packet_layer.specs.Params as layer
 use Rattle.packet_layer.specs.declared.fault.MakeFault.{MakeFault}
 use Rattle.packet_layer.specs.declared.fault.MakeFault.TheVariants as layer_fault

@@ -2,7 +2,7 @@
 ghost use Rattle.std.specs.Prelude.{true, ◌≡◌, ◌≤◌, ◌<◌, ◌+◌, ◌++◌, [], ◌∷◌, length, drop, MatchOption, MatchResult, Some, None, slice_get};
 ghost use Rattle.std.specs.Bool.{OnTrue, OnFalse};
 ghost use Rattle.flow_window.specs.Pool.{Balances};
-ghost use Rattle.packet_channel.specs.Flow.{is_size};
+ghost use Rattle.data_transfer.specs.Flow.{is_size};
 ghost use Rattle.packet_layer.specs.Layer.{unread};
 ghost use Rattle.packet_end.specs.Params.{AreParams, info_of};
 ghost use Rattle.packet_end.specs.Pooled.{Serves, share_with};

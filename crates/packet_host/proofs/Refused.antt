@@ -5,13 +5,13 @@ use Rattle.std.proofs.lemmas.List.{append-nil}
 use Rattle.std.proofs.lemmas.Option.{none-some}
 use Rattle.link_timers.specs.declared.role.Role.{Role}
 use Rattle.link_timers.specs.declared.role.Role.TheVariants.{Dte, Dce}
-use Rattle.packet_channel.specs.declared.flow.Flow.{Flow}
-use Rattle.packet_channel.specs.Packets.{Datum}
-use Rattle.packet_channel.specs.Traffic.{Taken, Traffic, front_of, taking_of}
+use Rattle.data_transfer.specs.declared.flow.Flow.{Flow}
+use Rattle.data_transfer.specs.Packets.{Datum}
+use Rattle.data_transfer.specs.Traffic.{Taken, Traffic, front_of, taking_of}
 use Rattle.packet_channel.specs.Channel.{CallState, Channel, Request, Refusal, Step, unless, quiet, refusal, requested, carried_out, may_accept, may_clear, refused_if}
 use Rattle.packet_layer.specs.Layer.{Layer, Phase, nth_channel, with_nth, channel_of, on_found, after_step, request_refusal, refusal_at, call_refusal, free_channel, can_accept, can_accept_at, front_on, front_at}
 use Rattle.packet_layer.specs.Layer as machine
-use Rattle.packet_channel.specs.TakenView.{maybe_front, shown_front}
+use Rattle.data_transfer.specs.TakenView.{maybe_front, shown_front}
 use Rattle.packet_layer.proofs.Places.{set_same}
 use Rattle.packet_end.specs.PacketEnd.{PacketEnd, asked}
 use Rattle.packet_host.specs.Host.{ended, unless_refused, after_request, after_take, taken_as}

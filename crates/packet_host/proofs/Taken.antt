@@ -2,14 +2,14 @@
 use Rattle.std.proofs.Common.{◌≡◌, ℕ, zero, suc, ◌+◌, ◌-◌, ◌<◌, ◌≤◌, Bool, true, false, List, [], ◌∷◌, length, set, refl, sym, ap, ◌∙◌, arith, length-append, length-take}
 use Rattle.std.specs.Prelude.{Option, Some, None, slice_get, not, nat_lt}
 use Rattle.std.proofs.lemmas.Bool.{le-ltb, lt-leb, ltb-false}
-use Rattle.packet_channel.specs.Packets.{Datum}
-use Rattle.packet_channel.specs.Traffic.{queue}
+use Rattle.data_transfer.specs.Packets.{Datum}
+use Rattle.data_transfer.specs.Traffic.{queue}
 use Rattle.packet_channel.specs.Channel.{Channel, Request, Refusal, unless, quiet, refusal, requested, carried_out, moved, in_transfer, refused_if}
 use Rattle.packet_layer.specs.Layer.{Layer, nth_channel, with_nth, channel_of, on_found, after_step, request_refusal, refusal_at, flow_refusal_at, flow_refusal, room, room_at}
 use Rattle.packet_end.specs.PacketEnd.{PacketEnd, asked}
-use Rattle.packet_channel.specs.Flow.{is_size}
-use Rattle.packet_channel.specs.Cutting.{full_packets, cut_after, cut}
-use Rattle.packet_channel.proofs.Pieces.{by_size, none_full, some_full, one_full, rest_of}
+use Rattle.data_transfer.specs.Flow.{is_size}
+use Rattle.data_transfer.specs.Cutting.{full_packets, cut_after, cut}
+use Rattle.data_transfer.proofs.Pieces.{by_size, none_full, some_full, one_full, rest_of}
 use Rattle.packet_host.specs.Saying.{message, most_octets, places_needed, either_refusal, say_refusal, AllTaken}
 
 -- ---- a channel on which data flows, once a packet was queued

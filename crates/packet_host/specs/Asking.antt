@@ -1,6 +1,6 @@
 -- What the user of a host asks of a call: when it is refused, and what it makes of the host.
 use Rattle.std.specs.Prelude.{ℕ, true, false, Option}
-use Rattle.packet_channel.specs.Cutting.{cut}
+use Rattle.data_transfer.specs.Cutting.{cut}
 use Rattle.packet_channel.specs.Channel.{Refusal}
 use Rattle.packet_channel.specs.Channel.{Request as ask}
 use Rattle.packet_layer.specs.Layer.{request_refusal}

@@ -2,9 +2,9 @@
 -- event.
 use Rattle.std.specs.Prelude.{ℕ, Bool, cond, not, List, [], Option, Some, None}
 use Rattle.link_timers.specs.declared.timers.TimerId.{TimerId}
-use Rattle.packet_channel.specs.Cutting.{cut}
-use Rattle.packet_channel.specs.Packets.{CallParts}
-use Rattle.packet_channel.specs.Traffic.{Taken}
+use Rattle.data_transfer.specs.Cutting.{cut}
+use Rattle.data_transfer.specs.Packets.{CallParts}
+use Rattle.data_transfer.specs.Traffic.{Taken}
 use Rattle.packet_channel.specs.Channel.{Refusal, Request, refused_if}
 use Rattle.packet_layer.specs.Layer.{can_accept, request_refusal, call_refusal, front_on}
 use Rattle.packet_end.specs.PacketEnd.{Octets, PacketEnd, begun, finished, asked, called, received, runs_at, after_timer}

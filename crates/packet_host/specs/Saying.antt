@@ -1,7 +1,7 @@
 -- What a host says on a call: octets cut into Data packets of the line's size (X.25 4.3.4), and when they are refused.
 use Rattle.std.specs.Prelude.{◌≡◌, ℕ, suc, Bool, true, false, List, [], ◌∷◌, length, min, nat_lt, Option, Some, None}
-use Rattle.packet_channel.specs.Cutting.{full_packets}
-use Rattle.packet_channel.specs.Packets.{Datum}
+use Rattle.data_transfer.specs.Cutting.{full_packets}
+use Rattle.data_transfer.specs.Packets.{Datum}
 use Rattle.packet_channel.specs.Channel.{Refusal, Request, refused_if}
 use Rattle.packet_layer.specs.Layer.{Layer, flow_refusal, request_refusal, room}
 use Rattle.packet_end.specs.PacketEnd.{PacketEnd, asked}

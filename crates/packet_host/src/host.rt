@@ -5,7 +5,7 @@ ghost use Rattle.packet_channel.specs.Channel.{Request as ask};
 ghost use Rattle.packet_layer.specs.Layer as machine;
 ghost use Rattle.packet_channel.specs.NoteView.{maybe_note, note_of};
 ghost use Rattle.packet_layer.specs.RequestView.{request_of, refusal_of, call_refusal_of};
-ghost use Rattle.packet_channel.specs.TakenView.{taken_of, maybe_taken, maybe_front, taken_octets, taken_with, HasFewOctets};
+ghost use Rattle.data_transfer.specs.TakenView.{taken_of, maybe_taken, maybe_front, taken_octets, taken_with, HasFewOctets};
 ghost use Rattle.packet_end.specs.Params.{AreParams, MadeNot};
 ghost use Rattle.packet_end.specs.PacketEnd as end;
 ghost use Rattle.packet_layer.specs.LayerTimers.{TimersAgree};

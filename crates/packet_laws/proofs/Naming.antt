@@ -2,12 +2,12 @@
 use Rattle.std.proofs.Common.{◌≡◌, ℕ, zero, suc, ◌+◌, ◌-◌, ◌%◌, ◌<◌, ◌≤◌, Bool, true, false, cond, ◌&&◌, ◌==◌, nat_lt, nat_le, List, [], ◌∷◌, ◌++◌, length, Option, Some, None, refl, sym, ap, subst, ◌∙◌, append_assoc, length-append, arith}
 use Rattle.std.specs.Prelude.{◌↔◌}
 use Rattle.std.proofs.lemmas.Bool.{leb-true, ltb-true, eqb-true}
-use Rattle.packet_channel.specs.Flow.{modulus, shown, ahead_shown}
-use Rattle.packet_channel.specs.declared.flow.Flow.{Flow}
-use Rattle.packet_channel.proofs.Windows.{below_small}
-use Rattle.packet_channel.specs.Packets.{Datum, Body}
-use Rattle.packet_channel.specs.Packets.Body.{Data, Interrupt, InterruptConfirmation, ReceiveReady, ReceiveNotReady}
-use Rattle.packet_channel.specs.Traffic.{Traffic, Said, queue, Heard, in_flight, unreleased, interrupted, covers, keeps, arrives, partner_says, hears, says, says_interrupt, says_data, says_flow, flow_told, window_open, ready_or_not, taking_of, front_of, may_release, releasing, confirming, covering}
+use Rattle.data_transfer.specs.Flow.{modulus, shown, ahead_shown}
+use Rattle.data_transfer.specs.declared.flow.Flow.{Flow}
+use Rattle.data_transfer.proofs.Windows.{below_small}
+use Rattle.data_transfer.specs.Packets.{Datum, Body}
+use Rattle.data_transfer.specs.Packets.Body.{Data, Interrupt, InterruptConfirmation, ReceiveReady, ReceiveNotReady}
+use Rattle.data_transfer.specs.Traffic.{Traffic, Said, queue, Heard, in_flight, unreleased, interrupted, covers, keeps, arrives, partner_says, hears, says, says_interrupt, says_data, says_flow, flow_told, window_open, ready_or_not, taking_of, front_of, may_release, releasing, confirming, covering}
 use Rattle.packet_channel.specs.Channel.{Request, traffic_after}
 use Rattle.packet_channel.specs.Channel.Request.{Sending, Interrupting, Stopping, Taking, Releasing, Confirming}
 use Rattle.packet_laws.specs.History.{Epoch, logged, with_taken}

@@ -3,13 +3,13 @@
 use Rattle.std.specs.Prelude.{◌≡◌, ℕ, ◌+◌, ◌%◌, ◌<◌, ◌≤◌, true, false, List, length}
 use Rattle.std.proofs.Common.{ap, ◌∙◌, length-append, arith}
 use Rattle.std.proofs.lemmas.Bool.{leb-true, leb-false}
-use Rattle.packet_channel.specs.Flow.{modulus, shown, ahead_shown}
+use Rattle.data_transfer.specs.Flow.{modulus, shown, ahead_shown}
 use Rattle.packet_codec.specs.declared.packet.Numbering.{Numbering}
 use Rattle.packet_codec.specs.declared.packet.Numbering.TheVariants.{Modulo8, Modulo128}
-use Rattle.packet_channel.specs.declared.flow.Flow.{Flow}
-use Rattle.packet_channel.proofs.Windows.{below_small}
-use Rattle.packet_channel.specs.Packets.{Datum}
-use Rattle.packet_channel.specs.Traffic.{Traffic, distance, in_flight, unreleased, may_release}
+use Rattle.data_transfer.specs.declared.flow.Flow.{Flow}
+use Rattle.data_transfer.proofs.Windows.{below_small}
+use Rattle.data_transfer.specs.Packets.{Datum}
+use Rattle.data_transfer.specs.Traffic.{Traffic, distance, in_flight, unreleased, may_release}
 use Rattle.packet_laws.specs.History.{Epoch}
 use Rattle.packet_laws.specs.Counts.{NamesCounts}
 

@@ -11,19 +11,19 @@ use Rattle.packet_codec.proofs.Cases.{cond_by}
 use Rattle.packet_codec.proofs.Blocks.{length-packed}
 use Rattle.packet_codec.proofs.Spellings.{reading-spelling}
 use Rattle.packet_codec.specs.declared.packet.Numbering.{Numbering}
-use Rattle.packet_channel.specs.Flow.{modulus, shown, ahead_shown}
-use Rattle.packet_channel.specs.declared.flow.Flow.{Flow}
-use Rattle.packet_channel.specs.Packets.{CallParts, Datum, Body, Packet, Received}
-use Rattle.packet_channel.specs.Packets.Body.{Call, Accepted, Clear, ClearConfirmation, Data, Interrupt, InterruptConfirmation, ReceiveReady, ReceiveNotReady, Reset, ResetConfirmation, Restart, RestartConfirmation}
-use Rattle.packet_channel.specs.Traffic.{Traffic, Said, Heard, fresh, in_flight, window_open, flow_told, interrupted, unreleased, ready_or_not, may_release, releasing, confirming, taking_of, covers, keeps, arrives, partner_says, hears, says, says_interrupt, says_data, says_flow}
-use Rattle.packet_channel.specs.Traffic.Heard.{Keeps, Confirms, Wrong}
+use Rattle.data_transfer.specs.Flow.{modulus, shown, ahead_shown}
+use Rattle.data_transfer.specs.declared.flow.Flow.{Flow}
+use Rattle.data_transfer.specs.Packets.{CallParts, Datum, Body, Packet, Received}
+use Rattle.data_transfer.specs.Packets.Body.{Call, Accepted, Clear, ClearConfirmation, Data, Interrupt, InterruptConfirmation, ReceiveReady, ReceiveNotReady, Reset, ResetConfirmation, Restart, RestartConfirmation}
+use Rattle.data_transfer.specs.Traffic.{Traffic, Said, Heard, fresh, in_flight, window_open, flow_told, interrupted, unreleased, ready_or_not, may_release, releasing, confirming, taking_of, covers, keeps, arrives, partner_says, hears, says, says_interrupt, says_data, says_flow}
+use Rattle.data_transfer.specs.Traffic.Heard.{Keeps, Confirms, Wrong}
 use Rattle.packet_channel.specs.Channel.{CallState, Channel, Step, Request, Refusal, closed_channel, clear_error, reset_error, far_cleared, after_heard, in_flow_ready, in_own_reset, in_ready, in_own_waiting, in_far_waiting, in_collision, in_own_clear, received_in, received, unreadable_in, unreadable, in_transfer, has_flow, refused_if, refusal, carried_out, unless, requested}
 use Rattle.packet_channel.specs.Channel.CallState.{Ready, OwnWaiting, FarWaiting, Transfer, Collision, OwnClear}
 use Rattle.packet_channel.specs.Channel.Request.{Accept, Clearing, Resetting, Sending, Interrupting, Stopping, Taking, Releasing, Confirming}
 use Rattle.packet_layer.specs.Layer.{Layer, Phase, Timer, Next, ChannelNext, channel_of, nth_channel, with_nth, standing_channels, made, is_full, with_owed, owing, unread, link_up, link_down, restart_packet, on_found, on_channel, on_received, runs, expired, on_timer, next_owed, next_of, next_number, served, serve_found, serve, next_restart, next_in, next_packet, placing, placed_on, channel_given, call, request}
 use Rattle.packet_layer.specs.Layer.Phase.{NoSession, OwnRestart, PacketReady}
 use Rattle.packet_layer.specs.Layer.Timer.{RestartTimer, CallTimer, ResetTimer, ClearTimer}
-use Rattle.packet_channel.specs.Octets.{content_of, heard}
+use Rattle.data_transfer.specs.Octets.{content_of, heard}
 use Rattle.packet_layer.specs.Events.{on_octets, after_hearing, written_packet}
 use Rattle.packet_laws.specs.Readable.{Every, IfAny, value_of, FitsChannels, FitsRestarts, FitsLine, IsShortDatum, IsInterrupt, TrafficReads, ChannelReads, AllRead, IsReadable, CanBePlaced}
 use Rattle.packet_layer.proofs.Serving.{heard_of_reading}

@@ -2,12 +2,12 @@
 use Rattle.std.specs.Prelude.{◌≡◌, ℕ, zero, suc, ◌+◌, ◌-◌, ◌%◌, ◌<◌, ◌≤◌, ◌↔◌, Bool, true, if◌then◌else◌, List, [], ◌∷◌}
 use Rattle.std.specs.Prelude.{◌++◌}
 use Rattle.std.specs.Prelude.{length, Option, Some}
-use Rattle.packet_channel.specs.Flow.{modulus, shown}
-use Rattle.packet_channel.specs.declared.flow.Flow.{Flow}
-use Rattle.packet_channel.specs.Packets.{Datum, Body}
-use Rattle.packet_channel.specs.Packets.Body.{Data, ReceiveReady, ReceiveNotReady}
-use Rattle.packet_channel.specs.Traffic.{Traffic, Heard, says, hears}
-use Rattle.packet_channel.specs.Traffic.Heard.{Keeps, Confirms, Wrong}
+use Rattle.data_transfer.specs.Flow.{modulus, shown}
+use Rattle.data_transfer.specs.declared.flow.Flow.{Flow}
+use Rattle.data_transfer.specs.Packets.{Datum, Body}
+use Rattle.data_transfer.specs.Packets.Body.{Data, ReceiveReady, ReceiveNotReady}
+use Rattle.data_transfer.specs.Traffic.{Traffic, Heard, says, hears}
+use Rattle.data_transfer.specs.Traffic.Heard.{Keeps, Confirms, Wrong}
 use Rattle.packet_channel.specs.Channel.{Request, traffic_after}
 use Rattle.packet_laws.specs.History.{Epoch, logged, logged_heard, empty_epoch}
 
@@ -65,7 +65,7 @@ AreDelivered e = (before after : List Datum) (d : Datum) → before ++ d ∷ aft
 -- so it is at the beginning of an epoch and stays so over all that is asked, said and heard, with a window below
 -- the modulus; and nothing is still to be covered exactly where all packets with D = 1 are
 pub record CountsLaw : Type 0 where
-  pub begins : (flow : Flow) → NamesCounts flow Rattle.packet_channel.specs.Traffic.fresh empty_epoch
+  pub begins : (flow : Flow) → NamesCounts flow Rattle.data_transfer.specs.Traffic.fresh empty_epoch
   pub asked : (flow : Flow) → flow.window < modulus flow.numbering → (t : Traffic) (e : Epoch) (r : Request) → NamesCounts flow t e
       → NamesCounts flow (traffic_after r t) (logged t r e)
   pub said : (flow : Flow) → flow.window < modulus flow.numbering → (t : Traffic) (e : Epoch) → NamesCounts flow t e

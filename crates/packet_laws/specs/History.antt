@@ -2,13 +2,13 @@
 use Rattle.std.specs.Prelude.{ℕ, ◌+◌, Bool, true, false, if◌then◌else◌, ◌&&◌, ◌==◌, List, [], ◌∷◌, ◌++◌, Option, Some}
 use Rattle.std.specs.Prelude.{None}
 use Rattle.link_timers.specs.declared.role.Role.{Role}
-use Rattle.packet_channel.specs.declared.flow.Flow.{Flow}
-use Rattle.packet_channel.specs.Packets.{CallParts, Datum, Body, Packet}
-use Rattle.packet_channel.specs.Packets.Body.{Clear, ClearConfirmation, Reset, ResetConfirmation, Restart}
-use Rattle.packet_channel.specs.Packets.Body.{RestartConfirmation}
-use Rattle.packet_channel.specs.Traffic.{Traffic, Taken, Heard, front, may_release, hears}
-use Rattle.packet_channel.specs.Traffic.Taken.{TakenInterrupt, TakenPacket}
-use Rattle.packet_channel.specs.Traffic.Heard.{Keeps, Wrong}
+use Rattle.data_transfer.specs.declared.flow.Flow.{Flow}
+use Rattle.data_transfer.specs.Packets.{CallParts, Datum, Body, Packet}
+use Rattle.data_transfer.specs.Packets.Body.{Clear, ClearConfirmation, Reset, ResetConfirmation, Restart}
+use Rattle.data_transfer.specs.Packets.Body.{RestartConfirmation}
+use Rattle.data_transfer.specs.Traffic.{Traffic, Taken, Heard, front, may_release, hears}
+use Rattle.data_transfer.specs.Traffic.Taken.{TakenInterrupt, TakenPacket}
+use Rattle.data_transfer.specs.Traffic.Heard.{Keeps, Wrong}
 use Rattle.packet_channel.specs.Channel.{CallState, Channel, Request, Refusal, received, requested, refusal}
 use Rattle.packet_channel.specs.Channel.CallState.{Transfer}
 use Rattle.packet_channel.specs.Channel.Request.{Accept, Sending, Interrupting, Taking, Releasing}

@@ -4,10 +4,10 @@ use Rattle.std.specs.Prelude.{length}
 use Rattle.std.specs.Prelude.{Option, Some, None, is_some, ◌<◌}
 use Rattle.link_timers.specs.declared.role.Role.{Role}
 use Rattle.link_timers.specs.declared.role.Role.TheVariants.{Dte}
-use Rattle.packet_channel.specs.Flow.{modulus}
-use Rattle.packet_channel.specs.declared.flow.Flow.{Flow}
-use Rattle.packet_channel.specs.Packets.{Body, Packet, CallParts}
-use Rattle.packet_channel.specs.Packets.Body.{Clear, Reset, RestartConfirmation, Call}
+use Rattle.data_transfer.specs.Flow.{modulus}
+use Rattle.data_transfer.specs.declared.flow.Flow.{Flow}
+use Rattle.data_transfer.specs.Packets.{Body, Packet, CallParts}
+use Rattle.data_transfer.specs.Packets.Body.{Clear, Reset, RestartConfirmation, Call}
 use Rattle.packet_channel.specs.Channel.{CallState, Channel, received}
 use Rattle.packet_channel.specs.Channel.CallState.{Ready, OwnWaiting, FarWaiting, Transfer, Collision}
 use Rattle.packet_layer.specs.Layer.{Phase, Layer, channel_of}

@@ -5,9 +5,9 @@ use Rattle.std.specs.Prelude.{ℕ, zero, suc, ◌+◌, Bool, true, false, if◌t
 use Rattle.std.specs.Prelude.{slice_get, Option, Some, None}
 use Rattle.link_timers.specs.declared.role.Role.{Role}
 use Rattle.link_timers.specs.declared.role.Role.TheVariants.{Dte, Dce}
-use Rattle.packet_channel.specs.declared.flow.Flow.{Flow}
-use Rattle.packet_channel.specs.Packets.{CallParts, Packet}
-use Rattle.packet_channel.specs.Packets.Received.{Whole}
+use Rattle.data_transfer.specs.declared.flow.Flow.{Flow}
+use Rattle.data_transfer.specs.Packets.{CallParts, Packet}
+use Rattle.data_transfer.specs.Packets.Received.{Whole}
 use Rattle.packet_channel.specs.Channel.{Request}
 use Rattle.packet_layer.specs.Layer.{Layer, Timer, made, link_up, link_down, on_packet, on_timer, next_packet, call}
 use Rattle.packet_layer.specs.Layer.{channel_given, request}

@@ -2,12 +2,12 @@
 use Rattle.std.specs.Prelude.{ℕ, ◌<◌, ◌≤◌, List, [], ◌∷◌, length, Option, Some, None}
 use Rattle.packet_codec.specs.declared.packet.Numbering.{Numbering}
 use Rattle.packet_codec.specs.Packet.{PacketValue, IsLogicalChannel, IsCallValue, IsContentOn}
-use Rattle.packet_channel.specs.declared.flow.Flow.{Flow}
-use Rattle.packet_channel.specs.Packets.{CallParts, Datum, Body, Packet}
-use Rattle.packet_channel.specs.Traffic.{Traffic}
+use Rattle.data_transfer.specs.declared.flow.Flow.{Flow}
+use Rattle.data_transfer.specs.Packets.{CallParts, Datum, Body, Packet}
+use Rattle.data_transfer.specs.Traffic.{Traffic}
 use Rattle.packet_channel.specs.Channel.{Channel}
 use Rattle.packet_layer.specs.Layer.{Layer}
-use Rattle.packet_channel.specs.Octets.{content_of, value_of_parts}
+use Rattle.data_transfer.specs.Octets.{content_of, value_of_parts}
 
 -- it holds of each
 abbrev pub Every : {A : Type 0} → (A → Type 0) → List A → Type 0

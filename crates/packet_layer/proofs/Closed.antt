@@ -5,11 +5,11 @@ use Rattle.std.specs.Vec.{with_items}
 use Rattle.std.proofs.lemmas.List.{with_items_is, length-map}
 use Rattle.packet_codec.specs.ClearCause.{out_of_order}
 use Rattle.packet_codec.specs.Diagnostic.{no_information}
-use Rattle.packet_channel.specs.Packets.{Note, Reason, Closed}
+use Rattle.data_transfer.specs.Packets.{Note, Reason, Closed}
 use Rattle.packet_channel.specs.Channel.{Channel, closed_channel, entered}
 use Rattle.packet_channel.specs.Channel.CallState.{Transfer}
 use Rattle.packet_channel.specs.Held.{Channel as Holder}
-use Rattle.packet_channel.specs.declared.flow.Flow.{Flow}
+use Rattle.data_transfer.specs.declared.flow.Flow.{Flow}
 use Rattle.packet_layer.specs.Held.{plain, buffers, AllFit}
 use Rattle.packet_layer.specs.Layer.{closing_notes, had_call, standing_channels}
 

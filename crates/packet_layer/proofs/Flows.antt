@@ -2,9 +2,9 @@
 use Rattle.std.proofs.Common.{◌≡◌, ℕ, zero, suc, Bool, true, false, List, [], ◌∷◌, length, refl}
 use Rattle.std.specs.Prelude.{◌==◌, if◌then◌else◌, Option, Some, None, is_some}
 use Rattle.link_timers.specs.declared.timers.TimerId.{TimerId}
-use Rattle.packet_channel.specs.Packets.{CallParts, Body, Received}
-use Rattle.packet_channel.specs.Packets.Body.{Restart, RestartConfirmation}
-use Rattle.packet_channel.specs.Packets.Received.{Whole, Unknown, Faulty}
+use Rattle.data_transfer.specs.Packets.{CallParts, Body, Received}
+use Rattle.data_transfer.specs.Packets.Body.{Restart, RestartConfirmation}
+use Rattle.data_transfer.specs.Packets.Received.{Whole, Unknown, Faulty}
 use Rattle.packet_codec.specs.Diagnostic.{no_information}
 use Rattle.packet_channel.specs.Channel.{Channel, Step, Request, received, unreadable, requested, clear_error, placing}
 use Rattle.packet_layer.specs.Layer.{Layer, Phase, Timer, Next, ChannelNext, next_of, channel_of, channel_given, unread, on_found}
@@ -13,7 +13,7 @@ use Rattle.packet_layer.specs.Layer.{next_number, serve, serve_found, next_resta
 use Rattle.packet_layer.specs.Layer as machine
 use Rattle.packet_layer.specs.Layer.Phase.{NoSession, OwnRestart, PacketReady}
 use Rattle.packet_layer.specs.Layer.Timer.{RestartTimer, CallTimer, ResetTimer, ClearTimer}
-use Rattle.packet_channel.specs.Octets.{heard}
+use Rattle.data_transfer.specs.Octets.{heard}
 use Rattle.packet_layer.specs.Events.{after_hearing, on_octets, on_named, timer_named}
 
 -- the same line

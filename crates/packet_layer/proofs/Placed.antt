@@ -5,10 +5,11 @@ use Rattle.std.proofs.lemmas.Option.{same_Some, none-some}
 use Rattle.std.proofs.lemmas.List.{length-map, map-set}
 use Rattle.flow_window.specs.Pool.{Pool, Buffer, weight, in_use, Holds, Balances}
 use Rattle.flow_window.proofs.Weights.{weight_append, weight_ones}
-use Rattle.packet_channel.specs.Packets.{CallParts}
+use Rattle.data_transfer.specs.Packets.{CallParts}
 use Rattle.packet_channel.specs.Channel.{owing, placing}
-use Rattle.packet_channel.specs.Held.{Channel as Holder, Fits, Loses, Takes}
-use Rattle.packet_channel.specs.declared.flow.Flow.{Flow}
+use Rattle.data_transfer.specs.Held.{Loses, Takes}
+use Rattle.packet_channel.specs.Held.{Channel as Holder, Fits}
+use Rattle.data_transfer.specs.declared.flow.Flow.{Flow}
 use Rattle.packet_layer.specs.declared.layer.Layer.TheInside.{Inside}
 use Rattle.packet_layer.specs.Held.{Layer as Held, plain, buffers, AllFit, HasRoom, most_held}
 use Rattle.packet_layer.specs.LayerView.{holding, IsLayer}

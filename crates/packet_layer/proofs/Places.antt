@@ -3,8 +3,8 @@ use Rattle.std.proofs.Common.{◌≡◌, ℕ, zero, suc, ◌+◌, ◌<◌, Bool,
 use Rattle.std.specs.Prelude.{Option, Some, None, Result, Ok, Err, MatchResult, slice_get, ◌&&◌, ◌==◌}
 use Rattle.std.proofs.lemmas.List.{append-nil}
 use Rattle.link_timers.specs.declared.role.Role.{Role}
-use Rattle.packet_channel.specs.Packets.{Body, CallParts, Call, Note}
-use Rattle.packet_channel.specs.Traffic.{front}
+use Rattle.data_transfer.specs.Packets.{Body, CallParts, Call, Note}
+use Rattle.data_transfer.specs.Traffic.{front}
 use Rattle.packet_channel.specs.Channel.CallState.{Ready, OwnWaiting, FarWaiting, Transfer, Collision, OwnClear}
 use Rattle.packet_channel.specs.Channel.{CallState, Channel, Step, Request, Refusal, unless, refusal, requested, carried_out, received, unreadable, clear_error}
 use Rattle.packet_channel.specs.Channel.Request.{Accept, Clearing, Resetting, Sending, Interrupting, Stopping, Taking, Releasing, Confirming}
@@ -13,11 +13,11 @@ use Rattle.packet_channel.specs.Done.{IsDone}
 use Rattle.packet_layer.specs.Layer.Phase.{PacketReady}
 use Rattle.packet_layer.specs.Layer.{Layer, Phase, on_channel, is_ready, is_free, free_channel, placing, nth_channel, channel_of, on_found, owing, passes_limit, set_if}
 use Rattle.packet_channel.specs.Answers.{CarriedOut, Refused, BufAnswers, sending}
-use Rattle.packet_channel.specs.Held.{Kept}
+use Rattle.data_transfer.specs.Held.{Kept}
 use Rattle.packet_channel.specs.RequestView.{refusal_of}
-use Rattle.packet_channel.specs.Octets.{unreadable_as}
+use Rattle.data_transfer.specs.Octets.{unreadable_as}
 use Rattle.packet_codec.specs.Diagnostic.{no_information}
-use Rattle.packet_channel.specs.declared.flow.Flow.{Flow}
+use Rattle.data_transfer.specs.declared.flow.Flow.{Flow}
 use Rattle.packet_layer.specs.Events.{after_hearing}
 use Rattle.packet_channel.specs.declared.fault.ChannelFault.{ChannelFault}
 use Rattle.packet_channel.specs.declared.fault.RefusedBuf.{RefusedBuf}

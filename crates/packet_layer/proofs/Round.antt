@@ -6,7 +6,7 @@ use Rattle.std.specs.Prelude.{Option, Some, None, is_some, if◌then◌else◌, 
 use Rattle.std.proofs.lemmas.Bool.{le-leb, lt-leb, cases_lt, ltb-true, ltb-false, lt-ltb, le-ltb}
 use Rattle.number_set.specs.NumberSet.{has, IsFirstOf}
 use Rattle.number_set.specs.declared.NumberSet.{NumberSet}
-use Rattle.packet_channel.specs.Packets.{Body}
+use Rattle.data_transfer.specs.Packets.{Body}
 use Rattle.packet_channel.specs.Channel.{Channel}
 use Rattle.packet_layer.specs.Layer.{Layer, Next, Phase, channel_of, next_of, next_number, serve, serve_found, served}
 use Rattle.packet_layer.specs.Layer.{next_restart, next_in, next_packet}

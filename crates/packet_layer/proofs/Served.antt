@@ -4,9 +4,9 @@ use Rattle.number_set.specs.declared.NumberSet.{NumberSet}
 use Rattle.number_set.specs.NumberSet.{has, IsFirstOf}
 use Rattle.std.specs.Prelude.{slice_get, is_some}
 use Rattle.packet_channel.specs.Channel.{Channel}
-use Rattle.packet_channel.specs.declared.flow.Flow.{Flow}
+use Rattle.data_transfer.specs.declared.flow.Flow.{Flow}
 use Rattle.packet_channel.specs.Held.{Channel as Holder}
-use Rattle.packet_channel.specs.Octets.{written, ReadsAs}
+use Rattle.data_transfer.specs.Octets.{written, ReadsAs}
 use Rattle.packet_layer.specs.declared.layer.Layer.TheInside.{Inside}
 use Rattle.packet_layer.specs.Events.{written_packet, ReadsBack}
 use Rattle.packet_layer.specs.Held.{Layer as Held, plain}

@@ -1,13 +1,13 @@
 -- What goes to the link: the channels one by one, round.
 use Rattle.std.proofs.Common.{◌≡◌, ℕ, zero, suc, ◌+◌, ◌-◌, ◌<◌, true, false, List, set, refl, sym, ap, ◌∙◌, arith}
 use Rattle.std.specs.Prelude.{Option, Some, None, Result, is_some, slice_get}
-use Rattle.packet_channel.specs.declared.flow.Flow.{Flow}
-use Rattle.packet_channel.specs.Packets.{Body, Packet, Received}
+use Rattle.data_transfer.specs.declared.flow.Flow.{Flow}
+use Rattle.data_transfer.specs.Packets.{Body, Packet, Received}
 use Rattle.packet_channel.specs.Channel.{Channel}
 use Rattle.packet_layer.specs.Layer.{Layer, Next, channel_of, next_of, next_number, packet_of, serve, serve_found, served}
 use Rattle.packet_codec.specs.Packet.{PacketValue}
 use Rattle.packet_codec.specs.declared.fault.PacketFault.{PacketFault}
-use Rattle.packet_channel.specs.Octets.{written, ReadsAs, body_of, content_of, heard_by}
+use Rattle.data_transfer.specs.Octets.{written, ReadsAs, body_of, content_of, heard_by}
 use Rattle.packet_layer.specs.Events.{written_packet, ReadsBack, IsHeard}
 use Rattle.packet_layer.proofs.Places.{channel_at}
 

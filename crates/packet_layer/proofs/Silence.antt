@@ -7,12 +7,12 @@ use Rattle.std.proofs.lemmas.List.{length-set}
 use Rattle.std.proofs.lemmas.Bool.{eq-eqb, ne_eqb, cases_eq}
 use Rattle.number_set.specs.NumberSet.{has}
 use Rattle.number_set.specs.declared.NumberSet.{NumberSet}
-use Rattle.packet_channel.specs.Packets.{Note}
+use Rattle.data_transfer.specs.Packets.{Note}
 use Rattle.packet_channel.specs.Channel.{Channel, Step, closed_channel, entered, next_of}
 use Rattle.packet_channel.specs.Done.{IsDone}
 use Rattle.packet_channel.specs.Channel.CallState.{Transfer}
 use Rattle.packet_channel.specs.Held.{Channel as Holder, Fits}
-use Rattle.packet_channel.specs.declared.flow.Flow.{Flow}
+use Rattle.data_transfer.specs.declared.flow.Flow.{Flow}
 use Rattle.packet_layer.specs.Held.{plain, AllFit}
 use Rattle.packet_layer.specs.Layer.{Layer, Next, channel_of, serve, standing_channels}
 use Rattle.packet_layer.specs.Silence.{OthersAreSilent}

@@ -6,10 +6,10 @@ use Rattle.link_timers.specs.declared.timers.TimerId.{TimerId}
 use Rattle.link_timers.specs.declared.timers.TimerId.TheVariants.{T10, T20, T11, T12, T13, T21, T22, T23}
 use Rattle.packet_codec.specs.Packet.{spelling}
 use Rattle.packet_codec.specs.Reading.{reading}
-use Rattle.packet_channel.specs.declared.flow.Flow.{Flow}
-use Rattle.packet_channel.specs.Packets.{Packet, Received}
+use Rattle.data_transfer.specs.declared.flow.Flow.{Flow}
+use Rattle.data_transfer.specs.Packets.{Packet, Received}
 use Rattle.packet_layer.specs.Layer.{Layer, Timer, unread, on_received, on_timer, runs}
-use Rattle.packet_channel.specs.Octets.{content_of, heard}
+use Rattle.data_transfer.specs.Octets.{content_of, heard}
 
 -- ---- octets
 

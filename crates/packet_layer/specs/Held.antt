@@ -2,9 +2,9 @@
 use Rattle.std.specs.Prelude.{ℕ, ◌+◌, ◌*◌, ◌≤◌, List, [], ◌∷◌, ◌++◌, length, map}
 use Rattle.flow_window.specs.Pool.{Pool, Buffer, in_use}
 use Rattle.packet_channel.specs.Channel.{Channel}
-pub use Rattle.packet_channel.specs.Held.{Loses, Takes}
+pub use Rattle.data_transfer.specs.Held.{Loses, Takes}
 use Rattle.packet_channel.specs.Held.{Channel as Holder, Fits}
-use Rattle.packet_channel.specs.declared.flow.Flow.{Flow}
+use Rattle.data_transfer.specs.declared.flow.Flow.{Flow}
 use Rattle.packet_layer.specs.Layer as machine
 
 pub record Layer : Type 0 where

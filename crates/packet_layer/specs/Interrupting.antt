@@ -1,6 +1,6 @@
 -- Whether an interrupt may be sent.
 use Rattle.std.specs.Prelude.{ℕ, Bool, false, ◌&&◌, not, Option, Some, None}
-use Rattle.packet_channel.specs.Traffic.{interrupt_pending}
+use Rattle.data_transfer.specs.Traffic.{interrupt_pending}
 use Rattle.packet_channel.specs.Channel.{Channel, has_flow}
 use Rattle.packet_layer.specs.Layer.{Layer, channel_of}
 

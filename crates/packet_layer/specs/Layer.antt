@@ -8,12 +8,12 @@ use Rattle.link_timers.specs.declared.role.Role.TheVariants.{Dte, Dce}
 use Rattle.packet_codec.specs.ClearCause as clear_cause
 use Rattle.packet_codec.specs.RestartCause as restart_cause
 use Rattle.packet_codec.specs.Diagnostic.{no_information, not_allowed_in_r1}
-use Rattle.packet_channel.specs.Packets.{CallParts, Body, Packet, Received, Note, Reason}
-use Rattle.packet_channel.specs.Packets.Body.{Restart, RestartConfirmation}
-use Rattle.packet_channel.specs.Packets.Received.{Whole, Unknown, Faulty}
-use Rattle.packet_channel.specs.Packets.Note.{Closed}
-use Rattle.packet_channel.specs.Packets.Reason.{LinkLost, FarRestart, LocalFault}
-use Rattle.packet_channel.specs.Traffic.{Taken, front}
+use Rattle.data_transfer.specs.Packets.{CallParts, Body, Packet, Received, Note, Reason}
+use Rattle.data_transfer.specs.Packets.Body.{Restart, RestartConfirmation}
+use Rattle.data_transfer.specs.Packets.Received.{Whole, Unknown, Faulty}
+use Rattle.data_transfer.specs.Packets.Note.{Closed}
+use Rattle.data_transfer.specs.Packets.Reason.{LinkLost, FarRestart, LocalFault}
+use Rattle.data_transfer.specs.Traffic.{Taken, front}
 use Rattle.packet_channel.specs.Channel.{Channel, Step, Request, Refusal, closed_channel, entered, error_cause}
 use Rattle.packet_channel.specs.Channel.{clear_error, received, unreadable, requested, refusal, has_flow, in_transfer}
 use Rattle.packet_channel.specs.Channel.{refused_if, may_accept}
@@ -21,7 +21,7 @@ use Rattle.packet_channel.specs.Channel.CallState.{Transfer}
 pub use Rattle.packet_channel.specs.Channel.{is_full, with_owed, passes_limit, owing, had_call, waits_for_call}
 pub use Rattle.packet_channel.specs.Channel.{waits_for_clear, ChannelNext, next_owed, next_of, is_ready, is_free}
 pub use Rattle.packet_channel.specs.Channel.{placing, channel_rests}
-use Rattle.packet_channel.specs.declared.flow.Flow.{Flow}
+use Rattle.data_transfer.specs.declared.flow.Flow.{Flow}
 
 -- no session of the link; r2 of a DTE or r3 of a DCE; r1
 pub data Phase : Type 0 where

@@ -1,6 +1,6 @@
 -- What contracts see of the code's packet layer, and what always holds of it.
 use Rattle.std.specs.Prelude.{◌≤◌, length}
-use Rattle.packet_channel.specs.Flow.{IsFlow}
+use Rattle.data_transfer.specs.Flow.{IsFlow}
 use Rattle.packet_layer.specs.Layer.{Layer}
 use Rattle.packet_layer.specs.Held as held
 use Rattle.packet_layer.specs.Held.{plain, buffers, AllFit}

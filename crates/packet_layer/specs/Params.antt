@@ -1,7 +1,7 @@
 -- The parameters of a packet layer.
 use Rattle.std.specs.Prelude.{ℕ, ◌≤◌}
-use Rattle.packet_channel.specs.Flow.{IsFlow}
-use Rattle.packet_channel.specs.declared.flow.Flow.{Flow}
+use Rattle.data_transfer.specs.Flow.{IsFlow}
+use Rattle.data_transfer.specs.declared.flow.Flow.{Flow}
 use Rattle.packet_layer.specs.declared.fault.MakeFault.{MakeFault}
 use Rattle.packet_layer.specs.declared.fault.MakeFault.TheVariants.{BadParams, OutOfMemory}
 

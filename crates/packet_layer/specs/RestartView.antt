@@ -1,6 +1,6 @@
 -- The restart procedure, as the code has it.
 use Rattle.std.specs.Prelude.{List, map}
-use Rattle.packet_channel.specs.Packets.{Body}
+use Rattle.data_transfer.specs.Packets.{Body}
 use Rattle.packet_layer.specs.Layer as spec
 use Rattle.packet_layer.specs.declared.restart.Phase.{Phase}
 use Rattle.packet_layer.specs.declared.restart.Phase.TheVariants as phase

@@ -3,7 +3,7 @@ use Rattle.std.specs.Prelude.{◌≡◌, ℕ, false, List, Some, is_some, slice_
 use Rattle.number_set.specs.NumberSet.{has}
 use Rattle.number_set.specs.declared.NumberSet.{NumberSet}
 use Rattle.packet_channel.specs.Channel.{Channel, next_of}
-use Rattle.packet_channel.specs.declared.flow.Flow.{Flow}
+use Rattle.data_transfer.specs.declared.flow.Flow.{Flow}
 
 -- those whose places are not in the set
 pub record OthersAreSilent (flow : Flow) (places : NumberSet) (chs : List Channel) : Type 0 where

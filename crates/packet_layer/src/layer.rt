@@ -17,9 +17,10 @@ mod timers;
 use crate::fault::MakeFault;
 use crate::params::LayerParams;
 use crate::restart::{Phase, RestartPacket};
+use data_transfer::Flow;
 use link_timers::Role;
 use number_set::NumberSet;
-use packet_channel::{Channel, End, Flow, LayerNote, Notes, Owed};
+use packet_channel::{Channel, End, LayerNote, Notes, Owed};
 use std::alloc::{AllocError, Global};
 use std::marker::Model;
 
@@ -165,7 +166,7 @@ impl Layer {
     }
 
     // The end at which the channel with this place is seen.
-    #[tactic(auto, using(packet_channel::proofs::Windows::window_small, packet_channel::proofs::Windows::size_most))]
+    #[tactic(auto, using(data_transfer::proofs::Windows::window_small, data_transfer::proofs::Windows::size_most))]
     fn end(&self, place: usize) -> End
         requires { place < length self.now.layer.channels }
         ensures role { result.role ≡ self.now.layer.role }

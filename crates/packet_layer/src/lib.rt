@@ -8,11 +8,14 @@ mod layer_timers;
 mod params;
 mod restart;
 
+pub use data_transfer::{
+    DEFAULT_SIZE, Flow, Front, InterruptData, KeptPacket, SEND_QUEUE, Taken, TakenBuf, UserData,
+    full_packets,
+};
 pub use fault::{CallFault, MakeFault};
 pub use layer::Layer;
 pub use layer_timers::{LayerTimers, Timer};
 pub use packet_channel::{
-    ChannelFault, DEFAULT_SIZE, Flow, Front, InterruptData, KeptPacket, LayerNote, MOST_CHANNELS,
-    NoteQueue, Reason, RefusedBuf, Request, SEND_QUEUE, Taken, TakenBuf, UserData, full_packets,
+    ChannelFault, LayerNote, MOST_CHANNELS, NoteQueue, Reason, RefusedBuf, Request,
 };
 pub use params::LayerParams;

@@ -4,7 +4,8 @@ ghost use Rattle.packet_layer.specs.Params.{AreParams};
 ghost use Rattle.packet_layer.specs.declared.fault.MakeFault.TheVariants as make_fault;
 
 use crate::fault::MakeFault;
-use packet_channel::{Flow, MOST_CHANNELS};
+use data_transfer::Flow;
+use packet_channel::MOST_CHANNELS;
 
 /// How the packet layer of a line is to be made.
 #[derive(Clone, Copy, PartialEq, Eq)]

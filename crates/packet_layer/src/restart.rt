@@ -1,9 +1,9 @@
 //! The restart procedure and its packets.
 ghost use Rattle.std.specs.Prelude.{◌≡◌, Some};
-ghost use Rattle.packet_channel.specs.Octets.{written, ReadsAs};
+ghost use Rattle.data_transfer.specs.Octets.{written, ReadsAs};
 ghost use Rattle.packet_layer.specs.RestartView.{restart_body};
 
-use packet_channel::Flow;
+use data_transfer::Flow;
 use packet_codec::{Content, Packet, PacketBuf, write_packet};
 
 /// Where the restart procedure stands (X.25 table C-1).

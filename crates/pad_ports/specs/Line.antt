@@ -1,9 +1,9 @@
 -- The PAD's end of its line with its notes, and what a PAD asks of the calls there.
 use Rattle.std.specs.Prelude.{ℕ, Bool, true, false, ◌==◌, List, [], ◌∷◌, ◌++◌, Option, Some, None}
 use Rattle.std.specs.List.{flat_map}
-use Rattle.packet_channel.specs.Packets.{CallParts, Datum, Note}
-use Rattle.packet_channel.specs.Traffic.{Taken}
-use Rattle.packet_channel.specs.Packets.Note.{Incoming, Connected, Closed, WasReset, InterruptConfirmed, Covered}
+use Rattle.data_transfer.specs.Packets.{CallParts, Datum, Note}
+use Rattle.data_transfer.specs.Traffic.{Taken}
+use Rattle.data_transfer.specs.Packets.Note.{Incoming, Connected, Closed, WasReset, InterruptConfirmed, Covered}
 use Rattle.packet_channel.specs.Channel.{Refusal, Request}
 use Rattle.packet_layer.specs.Layer.{room, flow_refusal, request_refusal, channel_given}
 use Rattle.packet_layer.specs.Interrupting.{may_interrupt}

@@ -1,8 +1,8 @@
 -- What a PAD notes.
 use Rattle.std.specs.Prelude.{ℕ, List, [], ◌∷◌, map, Option, Some, None}
 use Rattle.pad_editing.specs.Edited.{Step}
-use Rattle.packet_channel.specs.Packets.{Note, Datum}
-use Rattle.packet_channel.specs.Traffic.{Taken}
+use Rattle.data_transfer.specs.Packets.{Note, Datum}
+use Rattle.data_transfer.specs.Traffic.{Taken}
 use Rattle.packet_channel.specs.Channel.{Refusal}
 
 -- what its packet layer told; that a call of an address was placed, that one which came in was accepted, that one was

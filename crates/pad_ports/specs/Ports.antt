@@ -7,9 +7,9 @@ use Rattle.x29_messages.specs.MessageForm.{octets_of}
 use Rattle.x29_messages.specs.declared.message.Message.{Message}
 use Rattle.packet_channel.specs.Channel.{Refusal, Request as ask}
 use Rattle.packet_layer.specs.Layer.{channel_given, call_refusal, front_on}
-use Rattle.packet_channel.specs.Packets.{Datum}
-use Rattle.packet_channel.specs.Traffic.{Taken as TakenValue}
-use Rattle.packet_channel.specs.Traffic.Taken.{TakenInterrupt, TakenPacket}
+use Rattle.data_transfer.specs.Packets.{Datum}
+use Rattle.data_transfer.specs.Traffic.{Taken as TakenValue}
+use Rattle.data_transfer.specs.Traffic.Taken.{TakenInterrupt, TakenPacket}
 use Rattle.packet_end.specs.PacketEnd as end
 use Rattle.pad_terminal.specs.Terminal as terminal
 use Rattle.pad_terminal.specs.Terminal.{TerminalState}

@@ -1,6 +1,6 @@
 -- What a terminal takes, as the code has it.
 use Rattle.std.specs.Prelude.{Option, Some, None}
-use Rattle.packet_channel.specs.Traffic as spec
+use Rattle.data_transfer.specs.Traffic as spec
 use Rattle.pad_ports.specs.declared.taken.PadTaken.{PadTaken}
 use Rattle.pad_ports.specs.declared.taken.PadTaken.TheVariants.{Interrupt, «Data»}
 

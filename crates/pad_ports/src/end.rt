@@ -7,7 +7,7 @@ ghost use Rattle.packet_codec.specs.View.{call_view};
 ghost use Rattle.packet_channel.specs.Channel.{Request as ask};
 ghost use Rattle.packet_layer.specs.Layer as machine;
 ghost use Rattle.packet_channel.specs.NoteView.{maybe_note};
-ghost use Rattle.packet_channel.specs.Octets.{parts_of};
+ghost use Rattle.data_transfer.specs.Octets.{parts_of};
 ghost use Rattle.packet_layer.specs.RequestView.{request_of, refusal_of, call_refusal_of};
 ghost use Rattle.packet_end.specs.PacketEnd as spec;
 ghost use Rattle.packet_end.specs.Params.{AreParams, MadeNot};

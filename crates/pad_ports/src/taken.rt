@@ -21,7 +21,7 @@ pub struct PadData {
 
 impl Model for PadData {
     ghost use Rattle.std.specs.Prelude.{◌≤◌, length};
-    ghost use Rattle.packet_channel.specs.Packets.{Datum};
+    ghost use Rattle.data_transfer.specs.Packets.{Datum};
 
     ghost Value = { Datum };
 

@@ -2,7 +2,7 @@
 use Rattle.std.specs.Prelude.{◌≡◌, ℕ, true, false, List, [], ◌∷◌, drop}
 use Rattle.link_timers.specs.declared.role.Role.{Role}
 use Rattle.link_timers.specs.declared.role.Role.TheVariants.{Dte, Dce}
-use Rattle.packet_channel.specs.Flow.{modulo_8}
+use Rattle.data_transfer.specs.Flow.{modulo_8}
 use Rattle.packet_end.specs.declared.params.EndParams.{EndParams}
 use Rattle.call_records.specs.Register.{made_register}
 use Rattle.line_nodes.specs.Node.{frames_of}

@@ -4,8 +4,8 @@ use Rattle.std.proofs.lemmas.Bool.{le-leb}
 use Rattle.std.proofs.lemmas.List.{append-nil, length-take, length-drop, take-append-drop}
 use Rattle.std.proofs.Math.Nat.{lt-div-mul-add, div-eq_of_lt, div-zero}
 use Rattle.epochs.specs.Item.{Item, DataPacket, items_of, all_items}
-use Rattle.packet_channel.specs.Held.{are_short}
-use Rattle.packet_channel.specs.Cutting.{full_packets, cut_after, cut}
+use Rattle.data_transfer.specs.Held.{are_short}
+use Rattle.data_transfer.specs.Cutting.{full_packets, cut_after, cut}
 
 -- ---- items
 

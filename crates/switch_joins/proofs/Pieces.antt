@@ -9,7 +9,7 @@ use Rattle.std.proofs.Math.Bool.{and-true, or-false, or-true, and-false}
 use Rattle.std.proofs.Math.Nat.{div-mul-le_self, mul-le-mul_right}
 use Rattle.epochs.specs.Item.{DataPacket}
 use Rattle.packet_channel.specs.Channel.{Request}
-use Rattle.packet_channel.specs.Cutting.{full_packets, cut_after, cut}
+use Rattle.data_transfer.specs.Cutting.{full_packets, cut_after, cut}
 use Rattle.switch_joins.specs.Turning.{Gathered, going_on, flushed}
 use Rattle.switch_joins.specs.TurnedView.{piece}
 use Rattle.switch_joins.proofs.Cut.{cut_count, all_cut}

@@ -7,8 +7,8 @@ use Rattle.std.proofs.lemmas.List.{append-nil}
 use Rattle.std.proofs.Math.Seq.{drop-length}
 use Rattle.std.proofs.Math.Bool.{and-true, or-false}
 use Rattle.epochs.specs.Item.{DataPacket}
-use Rattle.packet_channel.specs.Held.{are_short}
-use Rattle.packet_channel.specs.Cutting.{full_packets, cut}
+use Rattle.data_transfer.specs.Held.{are_short}
+use Rattle.data_transfer.specs.Cutting.{full_packets, cut}
 use Rattle.switch_joins.specs.Turning.{Sizes, Gathered, nothing_gathered, Turn, all_made, going_on, flushed, same_bit, is_full, joined, turned}
 use Rattle.switch_joins.specs.Plan.{outline_of, goes_first, rest_length, waits, plan_for, rest_of, planned}
 use Rattle.switch_joins.specs.declared.plan.Outline.{Outline}

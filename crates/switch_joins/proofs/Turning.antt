@@ -8,7 +8,7 @@ use Rattle.std.proofs.Common.{length-append}
 use Rattle.std.proofs.Math.Nat.{div-lt_iff_lt-mul}
 use Rattle.epochs.specs.Item.{Item, DataPacket, items_of, all_items}
 use Rattle.epochs.proofs.Prefixes.{all_items-append}
-use Rattle.packet_channel.specs.Cutting.{full_packets, cut}
+use Rattle.data_transfer.specs.Cutting.{full_packets, cut}
 use Rattle.switch_joins.specs.Turning.{Sizes, Gathered, nothing_gathered, Turn, all_made, going_on, flushed, same_bit, is_full, joined, turned}
 use Rattle.switch_joins.specs.Turning.{items_gathered, IsGathered}
 use Rattle.switch_joins.proofs.Apart.{and_both}

@@ -1,7 +1,7 @@
 -- How a packet goes on to another line, by lengths alone.
 use Rattle.std.specs.Prelude.{ℕ, ◌+◌, Bool, false, not, ◌&&◌, ◌||◌, ◌==◌, nat_lt, nat_le, if◌then◌else◌, max, [], ◌++◌, length}
 use Rattle.epochs.specs.Item.{DataPacket}
-use Rattle.packet_channel.specs.Cutting.{cut}
+use Rattle.data_transfer.specs.Cutting.{cut}
 use Rattle.switch_joins.specs.Turning.{Sizes, Gathered, nothing_gathered, Turn, flushed, same_bit}
 use Rattle.switch_joins.specs.declared.plan.Outline.{Outline}
 use Rattle.switch_joins.specs.declared.plan.Plan.{Plan}

@@ -1,6 +1,6 @@
 -- What contracts see of the packets that a packet makes due.
 use Rattle.std.specs.Prelude.{◌≡◌, ℕ, ◌≤◌, true, not, ◌&&◌, ◌||◌, nat_le, List, [], ◌++◌, length, take, min, if◌then◌else◌}
-use Rattle.packet_channel.specs.Cutting.{cut}
+use Rattle.data_transfer.specs.Cutting.{cut}
 use Rattle.epochs.specs.Item.{DataPacket}
 use Rattle.switch_joins.specs.Turning.{Turn, nothing_gathered, flushed}
 use Rattle.switch_joins.specs.declared.turned.Turned.TheInside.{Inside}

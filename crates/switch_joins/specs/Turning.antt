@@ -3,7 +3,7 @@
 use Rattle.std.specs.Prelude.{◌≡◌, ℕ, ◌+◌, ◌≤◌, Bool, true, false, not, ◌&&◌, ◌==◌, nat_lt, nat_le, if◌then◌else◌}
 use Rattle.std.specs.Prelude.{List, [], ◌∷◌, ◌++◌, length}
 use Rattle.epochs.specs.Item.{Item, DataPacket, items_of}
-use Rattle.packet_channel.specs.Cutting.{cut}
+use Rattle.data_transfer.specs.Cutting.{cut}
 
 -- the packet sizes of the line that packets come from, and of the one that they go on to
 pub record Sizes : Type 0 where

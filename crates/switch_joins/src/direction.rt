@@ -3,7 +3,7 @@ ghost use Rattle.std.specs.Prelude.{◌≡◌, ◌≤◌, ◌<◌, ◌==◌, ◌
 ghost use Rattle.flow_window.specs.Pool.{Holds, Balances, in_use};
 ghost use Rattle.std.specs.Bool.{OnTrue};
 ghost use Rattle.epochs.specs.Item.{DataPacket};
-ghost use Rattle.packet_channel.specs.Held.{are_short};
+ghost use Rattle.data_transfer.specs.Held.{are_short};
 ghost use Rattle.switch_joins.specs.Direction.{carried, passed, more_sent, kept_places, covered_by, releasable, released};
 ghost use Rattle.switch_joins.specs.Held.{direction_in, gathered_in, buffers_in, IsPart};
 ghost use Rattle.switch_joins.specs.Outline.{outline_of};
@@ -15,7 +15,7 @@ use crate::sizes::Sizes;
 use crate::turned::Turned;
 use arrayvec::ArrayVec;
 use flow_window::pool::Pool;
-use packet_channel::UserData;
+use data_transfer::UserData;
 use std::marker::Model;
 
 /// The most packets of a call that are taken and not released: no window is larger.

@@ -4,7 +4,7 @@ ghost use Rattle.std.specs.Option.{option_map};
 ghost use Rattle.std.specs.Bool.{OnTrue};
 ghost use Rattle.epochs.specs.Item.{DataPacket};
 ghost use Rattle.flow_window.specs.Pool.{Holds, Balances, in_use};
-ghost use Rattle.packet_channel.specs.Held.{are_short};
+ghost use Rattle.data_transfer.specs.Held.{are_short};
 ghost use Rattle.switch_joins.specs.Direction.{new_direction, carried, passed, covered_by, releasable, released};
 ghost use Rattle.switch_joins.specs.Held.{joined_in, buffers_of, begun};
 ghost use Rattle.switch_joins.specs.Joins.{joined_with, gathered_by, gathers_nothing};
@@ -17,7 +17,7 @@ use crate::plan::{self, Outline};
 use crate::sizes::Sizes;
 use crate::turned::Turned;
 use flow_window::pool::Pool;
-use packet_channel::UserData;
+use data_transfer::UserData;
 use std::marker::Model;
 
 /// What a channel is joined to: the other channel, and whether the call came in here.

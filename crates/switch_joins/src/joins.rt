@@ -6,7 +6,7 @@ ghost use Rattle.std.specs.Option.{option_map};
 ghost use Rattle.std.specs.Bool.{OnTrue};
 ghost use Rattle.epochs.specs.Item.{DataPacket};
 ghost use Rattle.flow_window.specs.Pool.{Holds, Balances, in_use};
-ghost use Rattle.packet_channel.specs.Held.{are_short};
+ghost use Rattle.data_transfer.specs.Held.{are_short};
 ghost use Rattle.switch_joins.specs.Direction.{new_direction, carried, covered_by, releasable, released};
 ghost use Rattle.switch_joins.specs.Held.{begun, joined_in};
 ghost use Rattle.switch_joins.specs.Joins.{Joined as JoinedValue, nth_joined, with_nth_joined, with_nth_kept};
@@ -20,7 +20,7 @@ use crate::plan::{self, Outline};
 use crate::sizes::Sizes;
 use crate::turned::Turned;
 use flow_window::pool::Pool;
-use packet_channel::UserData;
+use data_transfer::UserData;
 use std::alloc::{AllocError, Global};
 use std::marker::Model;
 

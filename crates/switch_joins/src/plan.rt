@@ -1,7 +1,7 @@
 //! How a packet of one line goes on to another one (X.25 4.3.4), by lengths alone.
 ghost use Rattle.std.specs.Prelude.{◌≡◌, ◌≤◌, ◌+◌, ◌-◌, ◌/◌, ◌||◌, ◌&&◌, nat_lt, true, false, if◌then◌else◌, length, MatchOption};
 ghost use Rattle.epochs.specs.Item.{DataPacket};
-ghost use Rattle.packet_channel.specs.Held.{are_short};
+ghost use Rattle.data_transfer.specs.Held.{are_short};
 ghost use Rattle.switch_joins.specs.Plan.{outline_of, plan_for, rest_length};
 ghost use Rattle.switch_joins.specs.Turning.{Gathered, turned};
 

@@ -1,6 +1,6 @@
 //! Packet sizes of the two lines of a join (X.25 4.4.1).
 ghost use Rattle.std.specs.Prelude.{◌≡◌, ◌≤◌, true};
-ghost use Rattle.packet_channel.specs.Flow.{is_size};
+ghost use Rattle.data_transfer.specs.Flow.{is_size};
 
 use std::marker::Model;
 

@@ -12,7 +12,8 @@ use crate::plan::{Outline, Plan, pieces};
 use crate::sizes::Sizes;
 use arrayvec::ArrayVec;
 use flow_window::pool::Pool;
-use packet_channel::{Request, UserData};
+use data_transfer::UserData;
+use packet_channel::Request;
 use std::marker::Model;
 
 /// The most octets of a packet.

@@ -4,8 +4,8 @@ use Rattle.std.specs.Prelude.{slice_get}
 use Rattle.std.proofs.lemmas.Bool.{eq-eqb}
 use Rattle.std.proofs.lemmas.Option.{same_Some}
 use Rattle.lapb.specs.Machine.{can_offer}
-use Rattle.packet_channel.specs.Packets.{Note}
-use Rattle.packet_channel.specs.Traffic.{Taken, front}
+use Rattle.data_transfer.specs.Packets.{Note}
+use Rattle.data_transfer.specs.Traffic.{Taken, front}
 use Rattle.packet_channel.specs.Channel.{Channel, Request}
 use Rattle.packet_layer.specs.Layer.{Layer, channel_of, next_packet, front_at as front_of_channel}
 use Rattle.packet_end.specs.PacketEnd.{PacketEnd, begun, relinked}

@@ -2,7 +2,7 @@
 use Rattle.std.proofs.Common.{◌≡◌, ℕ, zero, suc, ◌+◌, ◌-◌, ◌<◌, ◌≤◌, Bool, true, false, if◌then◌else◌, List, [], ◌∷◌, ◌++◌, length, map, take, refl, sym, ap, ap₂, subst, ◌∙◌, append_assoc, append-nil, length-append, arith, true≢false}
 use Rattle.epochs.specs.Item.{Item, items_of, all_items}
 use Rattle.epochs.proofs.Prefixes.{all_items-append}
-use Rattle.packet_channel.specs.Packets.{Datum}
+use Rattle.data_transfer.specs.Packets.{Datum}
 use Rattle.switch_joins.specs.Turning.{Sizes, Gathered, Turn, turned, items_gathered}
 use Rattle.switch_joins.specs.Direction.{Direction, new_direction, more_sent, carried, covered_by, releasable, unreleasable, released}
 use Rattle.switch_joins.proofs.Turning.{turned_items, turned_delivery}

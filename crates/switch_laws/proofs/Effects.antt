@@ -5,12 +5,12 @@ use Rattle.std.proofs.lemmas.Option.{none-some, same_Some}
 use Rattle.std.proofs.lemmas.Bool.{eqb-true, eq-eqb}
 use Rattle.packet_codec.specs.ClearCause as clear_cause
 use Rattle.packet_codec.specs.Diagnostic.{no_information}
-use Rattle.packet_channel.specs.Packets.{Body, Packet, Received, Note, Reason}
-use Rattle.packet_channel.specs.Packets.Body.{Restart, RestartConfirmation}
-use Rattle.packet_channel.specs.Packets.Received.{Whole, Unknown, Faulty}
-use Rattle.packet_channel.specs.Packets.Note.{Closed}
-use Rattle.packet_channel.specs.Packets.Reason.{LinkLost, FarRestart, LocalFault}
-use Rattle.packet_channel.specs.Traffic.{Heard, hears}
+use Rattle.data_transfer.specs.Packets.{Body, Packet, Received, Note, Reason}
+use Rattle.data_transfer.specs.Packets.Body.{Restart, RestartConfirmation}
+use Rattle.data_transfer.specs.Packets.Received.{Whole, Unknown, Faulty}
+use Rattle.data_transfer.specs.Packets.Note.{Closed}
+use Rattle.data_transfer.specs.Packets.Reason.{LinkLost, FarRestart, LocalFault}
+use Rattle.data_transfer.specs.Traffic.{Heard, hears}
 use Rattle.packet_channel.specs.Channel.{CallState, Channel, Step, received, unreadable, clear_error, had_call, in_transfer, owing}
 use Rattle.packet_channel.specs.Channel.CallState.{Ready, OwnWaiting, FarWaiting, Transfer, Collision, OwnClear}
 use Rattle.packet_layer.specs.Layer.{Layer, Phase, Timer, nth_channel, channel_of, closing_notes, on_found, on_channel, on_timer, expired, restart_packet, unread, runs}

@@ -4,7 +4,7 @@ use Rattle.std.specs.Prelude.{slice_get}
 use Rattle.std.specs.List.{list_any}
 use Rattle.std.proofs.lemmas.Option.{none-some, same_Some}
 use Rattle.lapb.specs.Machine.{can_offer}
-use Rattle.packet_channel.specs.Packets.{Packet}
+use Rattle.data_transfer.specs.Packets.{Packet}
 use Rattle.packet_channel.specs.Channel.{Channel, CallState, had_call, Request, may_accept, waits_for_call}
 use Rattle.packet_layer.specs.Layer.{Layer, next_packet, channel_of, unread, link_down}
 use Rattle.packet_end.specs.PacketEnd.{PacketEnd, begun, relinked, with_next, offered, all_offered, settled, elapsed}

@@ -1,12 +1,12 @@
 -- What comes on one leg of a join, and leaves it in data transfer, keeps both clauses once the switch was told.
 use Rattle.std.proofs.Common.{◌≡◌, ℕ, ◌+◌, Bool, true, false, cond, ◌==◌, List, [], ◌∷◌, Option, None, refl, sym, ap, subst, ◌∙◌, true≢false, is_some, ◌||◌, arith}
 use Rattle.std.proofs.lemmas.Bool.{eqb-true}
-use Rattle.packet_channel.proofs.Windows.{window_below}
-use Rattle.packet_channel.specs.Packets.{Body}
-use Rattle.packet_channel.specs.Packets.Note.{Covered}
-use Rattle.packet_channel.specs.Packets.Body.{Clear, Data, Interrupt, InterruptConfirmation, ReceiveReady, ReceiveNotReady, Reset, ResetConfirmation}
-use Rattle.packet_channel.specs.Traffic.{Traffic, Heard, hears as hears_in, confirming}
-use Rattle.packet_channel.specs.Traffic.Heard.{Keeps, Confirms, Wrong}
+use Rattle.data_transfer.proofs.Windows.{window_below}
+use Rattle.data_transfer.specs.Packets.{Body}
+use Rattle.data_transfer.specs.Packets.Note.{Covered}
+use Rattle.data_transfer.specs.Packets.Body.{Clear, Data, Interrupt, InterruptConfirmation, ReceiveReady, ReceiveNotReady, Reset, ResetConfirmation}
+use Rattle.data_transfer.specs.Traffic.{Traffic, Heard, hears as hears_in, confirming}
+use Rattle.data_transfer.specs.Traffic.Heard.{Keeps, Confirms, Wrong}
 use Rattle.packet_channel.specs.Channel.{CallState, received, unreadable, in_transfer, after_heard, moved as with_traffic}
 use Rattle.packet_channel.specs.Channel.CallState.{Transfer}
 use Rattle.packet_channel.specs.Channel.Request.{Confirming}

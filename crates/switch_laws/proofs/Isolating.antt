@@ -5,8 +5,8 @@ use Rattle.std.specs.List.{list_any}
 use Rattle.std.proofs.lemmas.Bool.{cases_lt, lt-leb, leb-false}
 use Rattle.std.proofs.lemmas.Option.{none-some, same_Some, slice_get_within}
 use Rattle.lapb.specs.Machine.{Link, can_offer}
-use Rattle.packet_channel.specs.Packets.{Body}
-use Rattle.packet_channel.specs.Traffic.{Taken}
+use Rattle.data_transfer.specs.Packets.{Body}
+use Rattle.data_transfer.specs.Traffic.{Taken}
 use Rattle.packet_channel.specs.Channel.{Channel, Request, requested}
 use Rattle.packet_channel.specs.Channel.Request.{Taking, Releasing}
 use Rattle.packet_layer.specs.Layer.{Layer, Phase, Next, ChannelNext, channel_of, with_nth, next_of, next_number, serve, serve_found, packet_of, next_restart, next_in, next_packet}

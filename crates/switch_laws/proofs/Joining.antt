@@ -5,8 +5,8 @@ use Rattle.std.proofs.lemmas.Bool.{eq-eqb}
 use Rattle.link_timers.specs.declared.role.Role.{Role}
 use Rattle.packet_codec.specs.ClearCause as clear_cause
 use Rattle.packet_codec.specs.Diagnostic.{no_information}
-use Rattle.packet_channel.specs.Packets.{Note, Reason}
-use Rattle.packet_channel.specs.Packets.Note.{Incoming, Connected, Closed, WasReset, InterruptConfirmed, Covered}
+use Rattle.data_transfer.specs.Packets.{Note, Reason}
+use Rattle.data_transfer.specs.Packets.Note.{Incoming, Connected, Closed, WasReset, InterruptConfirmed, Covered}
 use Rattle.packet_channel.specs.Channel.{CallState, Channel, Step, had_call}
 use Rattle.packet_layer.specs.Layer.{Layer, channel_of, closing_notes}
 use Rattle.packet_laws.specs.History.{Epoch}

@@ -1,10 +1,10 @@
 -- Both directions of a join: what is relayed, asked and given on one leg keeps both clauses.
 use Rattle.std.proofs.Common.{◌≡◌, ℕ, Bool, true, false, List, Option, None, refl, sym, ap, ap₂, subst, ◌∙◌, not}
 use Rattle.link_timers.specs.declared.role.Role.{Role}
-use Rattle.packet_channel.specs.declared.flow.Flow.{Flow}
-use Rattle.packet_channel.specs.Flow.{IsFlow}
-use Rattle.packet_channel.specs.Packets.{Body}
-use Rattle.packet_channel.specs.Traffic.{Traffic, fresh, interrupt_pending}
+use Rattle.data_transfer.specs.declared.flow.Flow.{Flow}
+use Rattle.data_transfer.specs.Flow.{IsFlow}
+use Rattle.data_transfer.specs.Packets.{Body}
+use Rattle.data_transfer.specs.Traffic.{Traffic, fresh, interrupt_pending}
 use Rattle.packet_channel.specs.Channel.{CallState, Refusal, refusal, refused_if, in_transfer}
 use Rattle.packet_channel.specs.Channel.Request.{Resetting}
 use Rattle.packet_laws.specs.History.{Epoch, empty_epoch}

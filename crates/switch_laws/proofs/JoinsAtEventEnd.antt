@@ -5,9 +5,9 @@ use Rattle.std.specs.List.{list_any}
 use Rattle.std.proofs.lemmas.Option.{same_Some}
 use Rattle.std.proofs.lemmas.Bool.{eqb-true}
 use Rattle.lapb.specs.Machine.{can_offer}
-use Rattle.packet_channel.specs.declared.flow.Flow.{Flow}
-use Rattle.packet_channel.specs.Packets.{Body, Packet}
-use Rattle.packet_channel.specs.Traffic.{Taken, says}
+use Rattle.data_transfer.specs.declared.flow.Flow.{Flow}
+use Rattle.data_transfer.specs.Packets.{Body, Packet}
+use Rattle.data_transfer.specs.Traffic.{Taken, says}
 use Rattle.packet_channel.specs.Channel.{CallState, Channel, ChannelNext, Request, had_call, has_flow, next_of, next_owed, moved as with_traffic}
 use Rattle.packet_channel.specs.Channel.Request.{Taking}
 use Rattle.packet_layer.specs.Layer.{Layer, Phase, Next, channel_of, with_nth, nth_channel, next_packet, next_in, next_restart, next_number, serve, serve_found, packet_of}

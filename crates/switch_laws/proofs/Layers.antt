@@ -5,11 +5,11 @@ use Rattle.std.proofs.lemmas.Option.{none-some, same_Some}
 use Rattle.std.proofs.lemmas.Bool.{eqb-true}
 use Rattle.link_timers.specs.declared.role.Role.{Role}
 use Rattle.packet_codec.specs.Diagnostic.{no_information}
-use Rattle.packet_channel.specs.declared.flow.Flow.{Flow}
-use Rattle.packet_channel.specs.Packets.{CallParts, Body, Packet, Received}
-use Rattle.packet_channel.specs.Packets.Body.{Clear, ClearConfirmation, Reset, ResetConfirmation, Restart, RestartConfirmation}
-use Rattle.packet_channel.specs.Packets.Received.{Whole, Unknown, Faulty}
-use Rattle.packet_channel.specs.Traffic.{hears}
+use Rattle.data_transfer.specs.declared.flow.Flow.{Flow}
+use Rattle.data_transfer.specs.Packets.{CallParts, Body, Packet, Received}
+use Rattle.data_transfer.specs.Packets.Body.{Clear, ClearConfirmation, Reset, ResetConfirmation, Restart, RestartConfirmation}
+use Rattle.data_transfer.specs.Packets.Received.{Whole, Unknown, Faulty}
+use Rattle.data_transfer.specs.Traffic.{hears}
 use Rattle.packet_channel.specs.Channel.{CallState, Channel, Step, Request, Refusal, refusal, requested, received, unreadable, carried_out, unless, owing, closed_channel, clear_error, in_transfer, placing, is_free, is_ready, next_of}
 use Rattle.packet_channel.specs.Channel.CallState.{Ready}
 use Rattle.packet_layer.specs.Layer.{Layer, Phase, Timer, Next, nth_channel, channel_of, with_nth, channel_given, next_in, next_restart, serve, serve_found, next_number, packet_of, on_received, on_timer, expired, on_found, unread, runs, link_up, link_down, request, call, placed_on, restart_packet, on_channel}

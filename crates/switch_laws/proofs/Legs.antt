@@ -3,13 +3,13 @@ use Rattle.std.proofs.Common.{◌≡◌, ℕ, zero, suc, ◌+◌, ◌≤◌, Boo
 use Rattle.std.proofs.lemmas.Bool.{leb-true, le-leb}
 use Rattle.std.proofs.lemmas.Option.{none-some}
 use Rattle.link_timers.specs.declared.role.Role.{Role}
-use Rattle.packet_channel.proofs.Windows.{window_below, window_small}
-use Rattle.packet_channel.specs.Flow.{IsFlow, shown, ahead_shown}
-use Rattle.packet_channel.specs.declared.flow.Flow.{Flow}
-use Rattle.packet_channel.specs.Packets.{Datum, Body}
-use Rattle.packet_channel.specs.Packets.Body.{Data, Interrupt, InterruptConfirmation, ReceiveReady, ReceiveNotReady}
-use Rattle.packet_channel.specs.Traffic.{Traffic, fresh, taking, taking_of, may_release, releasing, confirming, interrupt_pending, unreleased, says, says_interrupt, says_data, says_flow, flow_told, window_open, Said, hears, Heard, covers, keeps, arrives, partner_says, interrupted, in_flight}
-use Rattle.packet_channel.specs.Traffic.Heard.{Keeps, Confirms, Wrong}
+use Rattle.data_transfer.proofs.Windows.{window_below, window_small}
+use Rattle.data_transfer.specs.Flow.{IsFlow, shown, ahead_shown}
+use Rattle.data_transfer.specs.declared.flow.Flow.{Flow}
+use Rattle.data_transfer.specs.Packets.{Datum, Body}
+use Rattle.data_transfer.specs.Packets.Body.{Data, Interrupt, InterruptConfirmation, ReceiveReady, ReceiveNotReady}
+use Rattle.data_transfer.specs.Traffic.{Traffic, fresh, taking, taking_of, may_release, releasing, confirming, interrupt_pending, unreleased, says, says_interrupt, says_data, says_flow, flow_told, window_open, Said, hears, Heard, covers, keeps, arrives, partner_says, interrupted, in_flight}
+use Rattle.data_transfer.specs.Traffic.Heard.{Keeps, Confirms, Wrong}
 use Rattle.packet_channel.specs.Channel.{CallState, Request, Refusal, refusal, refused_if, in_transfer, moved, next_owed, ChannelNext, has_flow}
 use Rattle.packet_channel.specs.Channel.CallState.{Transfer}
 use Rattle.packet_channel.specs.Channel.Request.{Sending, Interrupting, Taking, Releasing, Confirming}

@@ -4,9 +4,9 @@ use Rattle.std.proofs.Common.{◌≡◌, ℕ, zero, suc, ◌+◌, Bool, true, fa
 use Rattle.std.specs.Prelude.{◌%◌, ◌&&◌}
 use Rattle.std.proofs.lemmas.Bool.{and_parts}
 use Rattle.link_timers.specs.declared.role.Role.TheVariants.{Dce}
-use Rattle.packet_channel.specs.Flow.{IsFlow, modulo_128}
-use Rattle.packet_channel.specs.Packets.{Datum, Body}
-use Rattle.packet_channel.specs.Packets.Body.{Data, ReceiveReady}
+use Rattle.data_transfer.specs.Flow.{IsFlow, modulo_128}
+use Rattle.data_transfer.specs.Packets.{Datum, Body}
+use Rattle.data_transfer.specs.Packets.Body.{Data, ReceiveReady}
 use Rattle.packet_channel.specs.Channel.{CallState, received, next_of, in_transfer}
 use Rattle.packet_channel.specs.Channel.CallState.{Transfer}
 use Rattle.switch_joins.specs.Direction.{new_direction}

@@ -14,8 +14,8 @@ use Rattle.lapb.specs.Unsent.{HasSentAll}
 use Rattle.lapb.specs.Octets as link_octets
 use Rattle.line_end.specs.End as line
 use Rattle.line_end.specs.End.{End}
-use Rattle.packet_channel.specs.Packets.{CallParts, Note}
-use Rattle.packet_channel.specs.Packets.Note.{Incoming, Connected, Closed, WasReset, InterruptConfirmed, Covered}
+use Rattle.data_transfer.specs.Packets.{CallParts, Note}
+use Rattle.data_transfer.specs.Packets.Note.{Incoming, Connected, Closed, WasReset, InterruptConfirmed, Covered}
 use Rattle.packet_channel.specs.Channel.Request.{Accept, Clearing, Resetting, Releasing, Confirming}
 use Rattle.packet_layer.specs.Layer.{next_packet}
 use Rattle.packet_end.specs.PacketEnd.{PacketEnd, received, heeded, after_packet, after_timer, expired, runs_at, relinked, settled, HasOfferedAll, KeepsNothingBack}

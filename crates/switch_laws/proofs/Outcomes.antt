@@ -2,12 +2,12 @@
 use Rattle.std.proofs.Common.{◌≡◌, ℕ, Bool, true, false, cond, ◌==◌, List, [], ◌∷◌, None, refl, sym, true≢false}
 use Rattle.link_timers.specs.declared.role.Role.{Role}
 use Rattle.link_timers.specs.declared.role.Role.TheVariants.{Dte, Dce}
-use Rattle.packet_channel.specs.declared.flow.Flow.{Flow}
-use Rattle.packet_channel.specs.Packets.{Body, Note, Reason}
-use Rattle.packet_channel.specs.Packets.Body.{Call, Accepted, Clear, ClearConfirmation, Data, Interrupt, InterruptConfirmation, ReceiveReady, ReceiveNotReady, Reset, ResetConfirmation}
-use Rattle.packet_channel.specs.Packets.Note.{Incoming, Connected, Closed, WasReset, InterruptConfirmed, Covered}
-use Rattle.packet_channel.specs.Traffic.{Heard, hears as hears_in}
-use Rattle.packet_channel.specs.Traffic.Heard.{Keeps, Confirms, Wrong}
+use Rattle.data_transfer.specs.declared.flow.Flow.{Flow}
+use Rattle.data_transfer.specs.Packets.{Body, Note, Reason}
+use Rattle.data_transfer.specs.Packets.Body.{Call, Accepted, Clear, ClearConfirmation, Data, Interrupt, InterruptConfirmation, ReceiveReady, ReceiveNotReady, Reset, ResetConfirmation}
+use Rattle.data_transfer.specs.Packets.Note.{Incoming, Connected, Closed, WasReset, InterruptConfirmed, Covered}
+use Rattle.data_transfer.specs.Traffic.{Heard, hears as hears_in}
+use Rattle.data_transfer.specs.Traffic.Heard.{Keeps, Confirms, Wrong}
 use Rattle.packet_channel.specs.Channel.{CallState, Channel, Step, received, unreadable, in_transfer, may_accept, waits_for_call, had_call, after_heard, entered}
 use Rattle.packet_channel.specs.Channel.CallState.{Ready, OwnWaiting, FarWaiting, Transfer, Collision, OwnClear}
 use Rattle.packet_laws.specs.Readable.{Every}

@@ -9,10 +9,10 @@ use Rattle.lapb.specs.declared.note.Note as link_note
 use Rattle.lapb.specs.declared.note.Note.TheVariants.{Nothing, Up, Down}
 use Rattle.lapb.specs.Machine.{Octets, on_t1}
 use Rattle.lapb.specs.Octets.{on_octets}
-use Rattle.packet_channel.specs.declared.flow.Flow.{Flow}
-use Rattle.packet_channel.specs.Packets.{CallParts, Body, Note, Received}
-use Rattle.packet_channel.specs.Packets.Note.{Incoming, Connected, Closed, WasReset, InterruptConfirmed, Covered}
-use Rattle.packet_channel.specs.Octets.{heard}
+use Rattle.data_transfer.specs.declared.flow.Flow.{Flow}
+use Rattle.data_transfer.specs.Packets.{CallParts, Body, Note, Received}
+use Rattle.data_transfer.specs.Packets.Note.{Incoming, Connected, Closed, WasReset, InterruptConfirmed, Covered}
+use Rattle.data_transfer.specs.Octets.{heard}
 use Rattle.packet_channel.specs.Channel.{Channel, requested, placing}
 use Rattle.packet_channel.specs.Channel as channel
 use Rattle.packet_layer.specs.Layer.{Layer, Phase, Timer, channel_of, channel_given, on_found, placed_on, passes_limit, set_if}

@@ -4,7 +4,7 @@ use Rattle.std.specs.Prelude.{slice_get, is_none, unwrap_or}
 use Rattle.std.proofs.lemmas.Bool.{eqb-true, eq-eqb}
 use Rattle.link_timers.specs.declared.role.Role.{Role}
 use Rattle.packet_codec.specs.ClearCause.{invalid_facility, not_obtainable, out_of_order}
-use Rattle.packet_channel.specs.Packets.{CallParts}
+use Rattle.data_transfer.specs.Packets.{CallParts}
 use Rattle.packet_channel.specs.Channel.{CallState, had_call, may_accept, waits_for_call}
 use Rattle.packet_channel.specs.Channel.CallState.{Ready, OwnWaiting, FarWaiting, Transfer, Collision, OwnClear}
 use Rattle.packet_layer.specs.Layer.{Layer, Phase, free_channel, channel_given}

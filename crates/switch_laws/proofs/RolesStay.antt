@@ -8,13 +8,13 @@ use Rattle.lapb.specs.declared.note.Note.TheVariants.{Nothing, Up, Down}
 use Rattle.lapb.specs.Machine.{Octets, can_offer, on_t1}
 use Rattle.lapb.specs.Octets as link_octets
 use Rattle.line_end.specs.End as line
-use Rattle.packet_channel.specs.Packets.{Received}
-use Rattle.packet_channel.specs.Packets.Received.{Whole, Unknown, Faulty}
+use Rattle.data_transfer.specs.Packets.{Received}
+use Rattle.data_transfer.specs.Packets.Received.{Whole, Unknown, Faulty}
 use Rattle.packet_channel.specs.Channel.{unreadable, requested}
 use Rattle.packet_layer.specs.Layer.{Layer, Phase, Timer, channel_of, channel_given, next_packet, on_channel, unread}
 use Rattle.packet_layer.specs.Layer.Phase.{NoSession, OwnRestart, PacketReady}
 use Rattle.packet_layer.specs.Events.{after_hearing, on_named, timer_named}
-use Rattle.packet_channel.specs.Octets.{heard}
+use Rattle.data_transfer.specs.Octets.{heard}
 use Rattle.packet_end.specs.PacketEnd.{PacketEnd, after_packet, heeded, expired, runs_at, offered, all_offered, with_next}
 use Rattle.packet_laws.proofs.Line.Moves.{found_same, placed_same, timer_same}
 use Rattle.packet_laws.proofs.Line.Arriving.{packet_same}

@@ -4,7 +4,7 @@ use Rattle.std.specs.List.{list_any}
 use Rattle.std.proofs.lemmas.Bool.{leb-true, leb-false}
 use Rattle.lapb.specs.Machine.{Octets, Link, can_offer}
 use Rattle.line_end.specs.End.{End}
-use Rattle.packet_channel.specs.Traffic.{Taken}
+use Rattle.data_transfer.specs.Traffic.{Taken}
 use Rattle.packet_channel.specs.Channel.{Request}
 use Rattle.packet_channel.specs.Channel.Request.{Taking, Releasing}
 use Rattle.packet_layer.specs.Layer.{Next, next_packet}

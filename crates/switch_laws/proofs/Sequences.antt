@@ -1,8 +1,8 @@
 -- What ends a sequence of packets leaves nothing gathered, and no packet but the last that is made due has D = 1.
 use Rattle.std.proofs.Common.{◌≡◌, ℕ, zero, suc, ◌+◌, ◌<◌, ◌⊎◌, inl, inr, Bool, true, false, not, ◌&&◌, ◌==◌, if◌then◌else◌, List, [], ◌∷◌, ◌++◌, length, drop, refl, sym, ap, subst, append-nil, nat_le, nat_lt, arith, true≢false}
 use Rattle.std.proofs.lemmas.Bool.{eqb-true}
-use Rattle.packet_channel.specs.Packets.{Datum}
-use Rattle.packet_channel.specs.Cutting.{full_packets, cut_after, cut}
+use Rattle.data_transfer.specs.Packets.{Datum}
+use Rattle.data_transfer.specs.Cutting.{full_packets, cut_after, cut}
 use Rattle.switch_joins.specs.Turning.{Sizes, Gathered, nothing_gathered, all_made, going_on, flushed, same_bit, is_full, joined, turned}
 use Rattle.switch_laws.specs.Clause.{EndsSequence, OnlyLast}
 

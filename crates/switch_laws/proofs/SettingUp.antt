@@ -6,8 +6,8 @@ use Rattle.std.proofs.lemmas.Bool.{eqb-true, eq-eqb}
 use Rattle.link_timers.specs.declared.role.Role.{Role}
 use Rattle.link_timers.specs.declared.role.Role.TheVariants.{Dte, Dce}
 use Rattle.packet_codec.specs.Diagnostic.{no_information}
-use Rattle.packet_channel.specs.Packets.{CallParts}
-use Rattle.packet_channel.specs.Packets.Note.{Incoming}
+use Rattle.data_transfer.specs.Packets.{CallParts}
+use Rattle.data_transfer.specs.Packets.Note.{Incoming}
 use Rattle.packet_channel.specs.Channel.{CallState, Channel, may_accept, waits_for_call, had_call, is_ready, is_free, placing}
 use Rattle.packet_channel.specs.Channel.CallState.{Ready, OwnWaiting, FarWaiting, Transfer, Collision, OwnClear}
 use Rattle.packet_channel.specs.Channel.Request.{Clearing}

@@ -1,8 +1,8 @@
 -- The run of a join between lines with packets of 128 and of 256 octets.
 use Rattle.std.proofs.Common.{[], refl, arith}
 use Rattle.link_timers.specs.declared.role.Role.TheVariants.{Dce}
-use Rattle.packet_channel.specs.Flow.{IsFlow, modulo_8}
-use Rattle.packet_channel.specs.Packets.Body.{Data, ReceiveReady, Reset, ResetConfirmation}
+use Rattle.data_transfer.specs.Flow.{IsFlow, modulo_8}
+use Rattle.data_transfer.specs.Packets.Body.{Data, ReceiveReady, Reset, ResetConfirmation}
 use Rattle.switch_laws.specs.Join.{IsJoin, turned, hears, gives}
 use Rattle.switch_laws.specs.SizesRun.{wide, started, letter, cut_in_two, half_covered, covered, part, gathered, filled, short, ended, dropped, resetting, gathered_meanwhile, confirmed, filled_later, reset_again, SizesRunLaw}
 use Rattle.switch_laws.proofs.Joins.{join_begins, both_right, gives_right, turned_join}

@@ -12,11 +12,11 @@ use Rattle.lapb.specs.declared.phase.Phase.TheVariants as phase
 use Rattle.lapb.specs.declared.link.LinkParams.{LinkParams}
 use Rattle.lapb.specs.Machine as link
 use Rattle.lapb.specs.Machine.{Octets, Link, can_offer, sendable, send_all, settle_in}
-use Rattle.packet_channel.specs.declared.flow.Flow.{Flow}
+use Rattle.data_transfer.specs.declared.flow.Flow.{Flow}
 use Rattle.line_end.specs.End as line
 use Rattle.line_end.specs.End.{End}
 use Rattle.packet_end.specs.Params.{link_params}
-use Rattle.packet_channel.specs.Packets.{Packet}
+use Rattle.data_transfer.specs.Packets.{Packet}
 use Rattle.packet_channel.specs.Channel.{Channel, closed_channel, had_call}
 use Rattle.packet_layer.specs.Layer.{Layer, channel_of, nth_channel, standing_channels, start_phase, next_in}
 use Rattle.packet_layer.specs.Layer.{next_packet}

@@ -7,8 +7,8 @@ use Rattle.std.proofs.lemmas.Cmp.{nat_list_cmp_total}
 use Rattle.link_timers.specs.declared.timers.TimerId.TheVariants.{T21}
 use Rattle.lapb.specs.Machine.{Octets}
 use Rattle.packet_codec.specs.ClearCause.{invalid_facility}
-use Rattle.packet_channel.specs.Packets.{CallParts, Note}
-use Rattle.packet_channel.specs.Packets.Note.{Incoming}
+use Rattle.data_transfer.specs.Packets.{CallParts, Note}
+use Rattle.data_transfer.specs.Packets.Note.{Incoming}
 use Rattle.packet_end.specs.PacketEnd as offers
 use Rattle.packet_layer.specs.LayerTimers as timing
 use Rattle.packet_end.specs.PacketEnd.{received}

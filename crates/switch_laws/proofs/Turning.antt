@@ -10,11 +10,11 @@ use Rattle.lapb.specs.Machine as link
 use Rattle.lapb.specs.Machine.{Octets}
 use Rattle.lapb.specs.Octets as link_octets
 use Rattle.line_end.specs.End.{End}
-use Rattle.packet_channel.specs.Packets.{Body, Note, Received}
-use Rattle.packet_channel.specs.Packets.Body.{Restart, RestartConfirmation}
+use Rattle.data_transfer.specs.Packets.{Body, Note, Received}
+use Rattle.data_transfer.specs.Packets.Body.{Restart, RestartConfirmation}
 use Rattle.packet_channel.specs.Channel.{unreadable, received as received_packet}
-use Rattle.packet_channel.specs.Packets.Received.{Whole, Unknown, Faulty}
-use Rattle.packet_channel.specs.Octets.{heard}
+use Rattle.data_transfer.specs.Packets.Received.{Whole, Unknown, Faulty}
+use Rattle.data_transfer.specs.Octets.{heard}
 use Rattle.packet_layer.specs.Layer.{Layer, Phase, Timer, on_received, on_channel, restart_packet, unread, link_up, link_down}
 use Rattle.packet_layer.specs.Layer.Phase.{NoSession, OwnRestart, PacketReady}
 use Rattle.packet_layer.specs.Events.{after_hearing, on_named, timer_named}

@@ -4,12 +4,12 @@ use Rattle.std.proofs.lemmas.Bool.{leb-true, leb-false, eqb-true, or_cases}
 use Rattle.std.proofs.lemmas.Option.{none-some, same_Some}
 use Rattle.link_timers.specs.declared.role.Role.{Role}
 use Rattle.epochs.specs.Item.{all_items}
-use Rattle.packet_channel.specs.declared.flow.Flow.{Flow}
-use Rattle.packet_channel.proofs.Windows.{window_small}
-use Rattle.packet_channel.specs.Flow.{is_size}
-use Rattle.packet_channel.specs.Packets.{Datum}
-use Rattle.packet_channel.specs.Traffic.{Taken, front, front_of, may_release, releasing, interrupt_pending}
-use Rattle.packet_channel.specs.Traffic.Taken.{TakenInterrupt, TakenPacket}
+use Rattle.data_transfer.specs.declared.flow.Flow.{Flow}
+use Rattle.data_transfer.proofs.Windows.{window_small}
+use Rattle.data_transfer.specs.Flow.{is_size}
+use Rattle.data_transfer.specs.Packets.{Datum}
+use Rattle.data_transfer.specs.Traffic.{Taken, front, front_of, may_release, releasing, interrupt_pending}
+use Rattle.data_transfer.specs.Traffic.Taken.{TakenInterrupt, TakenPacket}
 use Rattle.packet_channel.specs.Channel.{CallState, Channel, Request, Refusal, refusal, refused_if, in_transfer, carried_out, owing, unless, moved as with_traffic}
 use Rattle.packet_channel.specs.Channel.CallState.{Transfer}
 use Rattle.packet_channel.specs.Channel.Request.{Sending, Interrupting, Taking, Releasing}

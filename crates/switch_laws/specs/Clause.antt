@@ -2,7 +2,7 @@
 -- nothing that was to be delivered is released before it was.
 use Rattle.std.specs.Prelude.{◌≡◌, ℕ, ◌+◌, ◌-◌, ◌≤◌, ◌<◌, ◌⊎◌, Bool, true, false, if◌then◌else◌, List, [], ◌∷◌, ◌++◌, length}
 use Rattle.epochs.specs.Item.{Item, items_of, all_items}
-use Rattle.packet_channel.specs.Packets.{Datum}
+use Rattle.data_transfer.specs.Packets.{Datum}
 use Rattle.packet_laws.specs.History.{Epoch}
 use Rattle.switch_joins.specs.Turning.{Sizes, items_gathered}
 use Rattle.switch_joins.specs.Direction.{Direction}

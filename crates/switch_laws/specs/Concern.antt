@@ -3,7 +3,7 @@ use Rattle.std.specs.Prelude.{◌≡◌, ℕ, Bool, false, ◌||◌, ◌==◌, i
 use Rattle.std.specs.Prelude.{Option, Some, None}
 use Rattle.std.specs.List.{list_any}
 use Rattle.link_timers.specs.declared.timers.TimerId.{TimerId}
-use Rattle.packet_channel.specs.Traffic.{Taken}
+use Rattle.data_transfer.specs.Traffic.{Taken}
 use Rattle.packet_end.specs.PacketEnd as end
 use Rattle.packet_end.specs.PacketEnd.{PacketEnd}
 use Rattle.switch_joins.specs.declared.channels.SwitchChannel.{SwitchChannel}

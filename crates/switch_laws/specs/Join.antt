@@ -1,8 +1,8 @@
 -- A join: two legs and what the switch keeps of both directions. What happens on a leg is said of the leg b; of the leg
 -- a it is the same, with the join turned.
 use Rattle.std.specs.Prelude.{ℕ, List, [], ◌∷◌}
-use Rattle.packet_channel.specs.Packets.{Body, Note}
-use Rattle.packet_channel.specs.Packets.Note.{WasReset, InterruptConfirmed, Covered}
+use Rattle.data_transfer.specs.Packets.{Body, Note}
+use Rattle.data_transfer.specs.Packets.Note.{WasReset, InterruptConfirmed, Covered}
 use Rattle.packet_channel.specs.Channel.{received, unreadable}
 use Rattle.packet_channel.specs.Channel.Request.{Resetting}
 use Rattle.std.specs.Prelude.{Bool}

@@ -1,8 +1,8 @@
 -- A switch with the legs of all its channels: what always holds of its joins.
 use Rattle.std.specs.Prelude.{◌≡◌, ℕ, zero, suc, Bool, true, false, not, ◌⊎◌, List, [], ◌∷◌, slice_get}
 use Rattle.std.specs.Prelude.{Option, Some, None, is_some}
-use Rattle.packet_channel.specs.Packets.{Note}
-use Rattle.packet_channel.specs.Packets.Note.{Closed}
+use Rattle.data_transfer.specs.Packets.{Note}
+use Rattle.data_transfer.specs.Packets.Note.{Closed}
 use Rattle.packet_channel.specs.Channel.{may_accept, waits_for_call}
 use Rattle.switch_joins.specs.Direction.{new_direction}
 use Rattle.switch_lines.specs.Waiting.{IsStuck}

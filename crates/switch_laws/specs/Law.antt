@@ -3,9 +3,9 @@ use Rattle.std.specs.Prelude.{◌≡◌, ℕ, ◌≤◌, ◌<◌, Bool, true, fa
 use Rattle.link_timers.specs.declared.role.Role.{Role}
 use Rattle.link_timers.specs.declared.timers.TimerId.{TimerId}
 use Rattle.epochs.specs.Item.{all_items}
-use Rattle.packet_channel.specs.declared.flow.Flow.{Flow}
-use Rattle.packet_channel.specs.Flow.{IsFlow}
-use Rattle.packet_channel.specs.Packets.{Body, CallParts, Datum}
+use Rattle.data_transfer.specs.declared.flow.Flow.{Flow}
+use Rattle.data_transfer.specs.Flow.{IsFlow}
+use Rattle.data_transfer.specs.Packets.{Body, CallParts, Datum}
 use Rattle.packet_channel.specs.Channel.{received, unreadable}
 use Rattle.packet_channel.specs.Channel.CallState.{Transfer}
 use Rattle.packet_layer.specs.Layer.{Layer}

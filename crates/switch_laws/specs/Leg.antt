@@ -1,11 +1,11 @@
 -- A leg of a join: a logical channel of a line together with what was done on it, epoch by epoch.
 use Rattle.std.specs.Prelude.{◌≡◌, ℕ, Bool, true, false, List, [], ◌∷◌, Option, Some, None}
 use Rattle.link_timers.specs.declared.role.Role.{Role}
-use Rattle.packet_channel.specs.Flow.{IsFlow}
-use Rattle.packet_channel.specs.declared.flow.Flow.{Flow}
-use Rattle.packet_channel.specs.Packets.{Body}
-use Rattle.packet_channel.specs.Packets.Body.{Reset, ResetConfirmation, Clear, ClearConfirmation}
-use Rattle.packet_channel.specs.Traffic.{fresh, Heard, hears}
+use Rattle.data_transfer.specs.Flow.{IsFlow}
+use Rattle.data_transfer.specs.declared.flow.Flow.{Flow}
+use Rattle.data_transfer.specs.Packets.{Body}
+use Rattle.data_transfer.specs.Packets.Body.{Reset, ResetConfirmation, Clear, ClearConfirmation}
+use Rattle.data_transfer.specs.Traffic.{fresh, Heard, hears}
 use Rattle.packet_channel.specs.Channel.{CallState, Channel, Step, Request, Refusal, received, unreadable, refusal}
 use Rattle.packet_channel.specs.Channel.{carried_out, owing, next_of}
 use Rattle.packet_channel.specs.Channel.CallState.{Transfer}

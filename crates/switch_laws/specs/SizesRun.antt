@@ -3,10 +3,10 @@
 use Rattle.std.specs.Prelude.{◌≡◌, true, false, [], ◌∷◌, ◌++◌, length, replicate}
 use Rattle.link_timers.specs.declared.role.Role.TheVariants.{Dce}
 use Rattle.packet_codec.specs.declared.packet.Numbering.TheVariants.{Modulo8}
-use Rattle.packet_channel.specs.declared.flow.Flow.{Flow}
-use Rattle.packet_channel.specs.Flow.{modulo_8}
-use Rattle.packet_channel.specs.Packets.{Datum}
-use Rattle.packet_channel.specs.Packets.Body.{Data, ReceiveReady, Reset, ResetConfirmation}
+use Rattle.data_transfer.specs.declared.flow.Flow.{Flow}
+use Rattle.data_transfer.specs.Flow.{modulo_8}
+use Rattle.data_transfer.specs.Packets.{Datum}
+use Rattle.data_transfer.specs.Packets.Body.{Data, ReceiveReady, Reset, ResetConfirmation}
 use Rattle.switch_joins.specs.Turning.{Gathered, nothing_gathered}
 use Rattle.switch_joins.specs.Direction.{new_direction}
 use Rattle.switch_laws.specs.Leg.{connected}

@@ -1,6 +1,6 @@
 -- One direction of a join: from its near leg to its far leg.
 use Rattle.std.specs.Prelude.{◌≡◌, ℕ, zero, suc, Bool, true, false, List, Option, Some, None}
-use Rattle.packet_channel.specs.Traffic.{Taken, front, interrupt_pending}
+use Rattle.data_transfer.specs.Traffic.{Taken, front, interrupt_pending}
 use Rattle.packet_channel.specs.Channel.{Request}
 use Rattle.packet_channel.specs.Channel.Request.{Taking, Releasing, Confirming}
 use Rattle.packet_channel.specs.Channel.CallState.{Transfer}

@@ -3,11 +3,11 @@ use Rattle.std.specs.Prelude.{◌≡◌, ℕ, Bool, true, false, if◌then◌els
 use Rattle.std.specs.Prelude.{Some, None}
 use Rattle.link_timers.specs.declared.role.Role.{Role}
 use Rattle.packet_codec.specs.Diagnostic.{no_information}
-use Rattle.packet_channel.specs.declared.flow.Flow.{Flow}
-use Rattle.packet_channel.specs.Packets.{CallParts, Body, Packet, Received}
-use Rattle.packet_channel.specs.Packets.Body.{Restart, RestartConfirmation}
-use Rattle.packet_channel.specs.Packets.Received.{Whole, Unknown, Faulty}
-use Rattle.packet_channel.specs.Traffic.{fresh}
+use Rattle.data_transfer.specs.declared.flow.Flow.{Flow}
+use Rattle.data_transfer.specs.Packets.{CallParts, Body, Packet, Received}
+use Rattle.data_transfer.specs.Packets.Body.{Restart, RestartConfirmation}
+use Rattle.data_transfer.specs.Packets.Received.{Whole, Unknown, Faulty}
+use Rattle.data_transfer.specs.Traffic.{fresh}
 use Rattle.packet_channel.specs.Channel.{Channel, Request, closed_channel, clear_error, in_transfer, placing}
 use Rattle.packet_channel.specs.Channel.Request.{Stopping}
 use Rattle.packet_layer.specs.Layer.{Layer, Phase, Timer, channel_of, channel_given, next_packet, on_received, on_timer}

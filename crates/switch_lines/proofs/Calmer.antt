@@ -23,17 +23,17 @@ use Rattle.packet_codec.specs.Packet.{PacketValue, ContentValue, format_id}
 use Rattle.packet_codec.specs.Diagnostic.{no_information}
 use Rattle.packet_codec.specs.Reading.{reading, typed, named_channel, named_type, format_of}
 use Rattle.packet_codec.specs.Reading as codec
-use Rattle.packet_channel.specs.declared.flow.Flow.{Flow}
-use Rattle.packet_channel.specs.Packets.{CallParts, Datum, Packet, Body}
-use Rattle.packet_channel.specs.Packets.Body.{Restart, RestartConfirmation}
+use Rattle.data_transfer.specs.declared.flow.Flow.{Flow}
+use Rattle.data_transfer.specs.Packets.{CallParts, Datum, Packet, Body}
+use Rattle.data_transfer.specs.Packets.Body.{Restart, RestartConfirmation}
 use Rattle.packet_channel.specs.Channel.{Channel, Step, Request, Refusal, closed_channel, refused_if, refusal, requested, unless, carried_out, owing, in_transfer, has_flow, moved, next_of, next_owed, ChannelNext, placing, clear_error, received, unreadable}
 use Rattle.packet_channel.specs.Channel.Request.{Taking, Releasing}
 use Rattle.packet_layer.specs.Layer.{Layer, Phase, Next, nth_channel, channel_of, with_nth, unread, on_found, on_channel, packet_in, restart_packet, served, serve, serve_found, next_number, next_restart, next_in, next_packet, placed_on, call, front_at, front_on}
 use Rattle.packet_layer.specs.Layer as machine
 use Rattle.packet_layer.specs.Layer.Phase.{NoSession, OwnRestart, PacketReady}
 use Rattle.packet_layer.specs.Events.{after_hearing, on_octets, timer_named, on_named}
-use Rattle.packet_channel.specs.Octets.{heard_by, body_of, unreadable_as}
-use Rattle.packet_channel.specs.Traffic.{Traffic, Taken, front, taking, taking_of, says, says_data, says_flow, says_interrupt, Said, flow_told, window_open, may_release, releasing, interrupt_pending, queue, queue_interrupt}
+use Rattle.data_transfer.specs.Octets.{heard_by, body_of, unreadable_as}
+use Rattle.data_transfer.specs.Traffic.{Traffic, Taken, front, taking, taking_of, says, says_data, says_flow, says_interrupt, Said, flow_told, window_open, may_release, releasing, interrupt_pending, queue, queue_interrupt}
 use Rattle.packet_end.specs.PacketEnd.{PacketEnd, heeded, after_packet, runs_at, expired, after_timer, relinked, offered, all_offered, with_next}
 use Rattle.packet_end.specs.PacketEnd as end
 use Rattle.switch_lines.specs.Lines.{takes_all, takes_on_channel}

@@ -1,7 +1,7 @@
 -- The relay on the joins of some lines, one channel after the other: what is joined to what stays as it is.
 use Rattle.std.proofs.Common.{◌≡◌, ℕ, zero, suc, ◌+◌, ◌-◌, ◌<◌, ◌≤◌, ◌⊎◌, inl, inr, Bool, true, false, List, [], ◌∷◌, ◌++◌, length, drop, get_or, refl, sym, ap, ap₂, ◌∙◌, arith, option_map, Option, Some, None}
 use Rattle.std.specs.Prelude.{slice_get}
-use Rattle.packet_channel.specs.Traffic.{Taken}
+use Rattle.data_transfer.specs.Traffic.{Taken}
 use Rattle.packet_channel.specs.Channel.Request.{Taking, Releasing}
 use Rattle.switch_joins.specs.Direction.{released, releasable}
 use Rattle.switch_lines.specs.Lines.{SwitchChannel, Joined, SwitchLine, same_place, joined_at, with_joined, ask, ask_all, front_at, sizes_at, takes_at}

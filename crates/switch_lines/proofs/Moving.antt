@@ -3,9 +3,9 @@ use Rattle.std.proofs.Common.{◌≡◌, ◌≢◌, ℕ, suc, ◌<◌, ◌≤◌
 use Rattle.std.specs.Prelude.{slice_get, replicate}
 use Rattle.std.proofs.lemmas.Bool.{ltb-true}
 use Rattle.std.proofs.lemmas.Option.{none-some}
-use Rattle.packet_channel.specs.TakenView.{maybe_front}
-use Rattle.packet_channel.specs.Traffic.{Taken}
-use Rattle.packet_channel.specs.declared.taken.Front.{Front}
+use Rattle.data_transfer.specs.TakenView.{maybe_front}
+use Rattle.data_transfer.specs.Traffic.{Taken}
+use Rattle.data_transfer.specs.declared.taken.Front.{Front}
 use Rattle.switch_joins.specs.ChannelSet.{has, is_small}
 use Rattle.switch_joins.specs.declared.channel_set.ChannelSet.{ChannelSet}
 use Rattle.joined_line.specs.declared.config.SwitchLineConfig.{SwitchLineConfig}

@@ -1,8 +1,8 @@
 -- Requests by which something goes on to the other leg of a join: to send a packet, or an interrupt.
 use Rattle.std.proofs.Common.{List, [], ◌∷◌, map, ℕ}
-use Rattle.packet_channel.specs.Packets.{Datum}
-use Rattle.packet_channel.specs.Traffic.{Taken}
-use Rattle.packet_channel.specs.Traffic.Taken.{TakenInterrupt, TakenPacket}
+use Rattle.data_transfer.specs.Packets.{Datum}
+use Rattle.data_transfer.specs.Traffic.{Taken}
+use Rattle.data_transfer.specs.Traffic.Taken.{TakenInterrupt, TakenPacket}
 use Rattle.packet_channel.specs.Channel.{Request}
 use Rattle.packet_channel.specs.Channel.Request.{Sending, Interrupting}
 use Rattle.switch_joins.specs.Turning.{Sizes, Gathered, turned}

@@ -7,7 +7,7 @@ use Rattle.std.proofs.lemmas.List.{length-map, map-set}
 use Rattle.flow_window.specs.Pool.{Pool, Buffer, IsIn, weight, pooled, in_use, Balances}
 use Rattle.flow_window.proofs.Weights.{weight_append, weight_ones, held_in, balances_same}
 use Rattle.frame_codec.specs.Spelling.{most_information}
-use Rattle.packet_channel.specs.Held.{Loses}
+use Rattle.data_transfer.specs.Held.{Loses}
 use Rattle.number_set.specs.declared.NumberSet.{NumberSet}
 use Rattle.number_set.specs.NumberSet.{has, IsFirstOf}
 use Rattle.packet_layer.specs.LayerTimers.{TimersAgree}

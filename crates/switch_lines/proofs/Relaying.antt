@@ -6,19 +6,19 @@ use Rattle.std.proofs.lemmas.List.{length-append}
 use Rattle.std.proofs.lemmas.Bool.{ltb-true, ltb-false, leb-true, leb-false, le-leb, lt-leb, le-ltb}
 use Rattle.std.proofs.Math.Dec.{eqb-suc-zero, leb-zero, leb-suc-zero, leb-suc-suc}
 use Rattle.link_timers.specs.declared.role.Role.{Role}
-use Rattle.packet_channel.specs.declared.flow.Flow.{Flow}
-use Rattle.packet_channel.specs.Held.{are_short}
-use Rattle.packet_channel.specs.Packets.{Datum}
-use Rattle.packet_channel.specs.Traffic.{Taken, interrupt_pending, queue}
-use Rattle.packet_channel.specs.Traffic.Taken.{TakenInterrupt, TakenPacket}
+use Rattle.data_transfer.specs.declared.flow.Flow.{Flow}
+use Rattle.data_transfer.specs.Held.{are_short}
+use Rattle.data_transfer.specs.Packets.{Datum}
+use Rattle.data_transfer.specs.Traffic.{Taken, interrupt_pending, queue}
+use Rattle.data_transfer.specs.Traffic.Taken.{TakenInterrupt, TakenPacket}
 use Rattle.packet_channel.specs.Channel.{Channel, Request, Refusal, refused_if, in_transfer, has_flow, owing, unless, carried_out}
 use Rattle.packet_channel.specs.Channel as channel
 use Rattle.packet_channel.specs.Channel.Request.{Sending, Interrupting, Taking}
 use Rattle.packet_layer.specs.Layer.{channel_of, room_at, room}
 use Rattle.packet_layer.specs.Interrupting.{may_interrupt_at, may_interrupt}
-use Rattle.packet_channel.specs.TakenView.{shown_front, maybe_front}
-use Rattle.packet_channel.specs.declared.taken.Front.{Front}
-use Rattle.packet_channel.specs.declared.taken.Front.TheVariants as front
+use Rattle.data_transfer.specs.TakenView.{shown_front, maybe_front}
+use Rattle.data_transfer.specs.declared.taken.Front.{Front}
+use Rattle.data_transfer.specs.declared.taken.Front.TheVariants as front
 use Rattle.switch_joins.specs.declared.plan.Outline.{Outline}
 use Rattle.switch_joins.specs.Outline.{outline_of}
 use Rattle.switch_joins.specs.Turning.{Sizes, Gathered, nothing_gathered, Turn, all_made, turned}

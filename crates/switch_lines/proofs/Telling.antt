@@ -1,8 +1,8 @@
 -- What the other leg of a join is told.
 use Rattle.std.proofs.Common.{◌≡◌, ℕ, ◌⊎◌, inl, inr, true, false, List, refl, sym, ap, ◌∙◌, Option, Some, None, option_map}
 use Rattle.std.specs.Prelude.{slice_get}
-use Rattle.packet_channel.specs.Packets.{Note, Reason}
-use Rattle.packet_channel.specs.Packets.Note.{Connected, Closed, WasReset, InterruptConfirmed, Covered}
+use Rattle.data_transfer.specs.Packets.{Note, Reason}
+use Rattle.data_transfer.specs.Packets.Note.{Connected, Closed, WasReset, InterruptConfirmed, Covered}
 use Rattle.packet_channel.specs.Channel.Request.{Accept, Clearing, Resetting, Confirming}
 use Rattle.switch_joins.specs.Direction.{new_direction, covered_by}
 use Rattle.joined_line.specs.Causes.{reset_cause, clear_cause, far_diagnostic}

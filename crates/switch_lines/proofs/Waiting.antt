@@ -6,8 +6,8 @@ use Rattle.std.proofs.lemmas.Option.{none-some, same_Some}
 use Rattle.link_timers.specs.declared.role.Role.{Role}
 use Rattle.number_set.specs.declared.NumberSet.{NumberSet}
 use Rattle.number_set.specs.NumberSet as numbers
-use Rattle.packet_channel.specs.Traffic.{Taken}
-use Rattle.packet_channel.specs.declared.flow.Flow.{Flow}
+use Rattle.data_transfer.specs.Traffic.{Taken}
+use Rattle.data_transfer.specs.declared.flow.Flow.{Flow}
 use Rattle.packet_channel.specs.Channel.{Channel, Request, requested}
 use Rattle.packet_channel.specs.Channel.Request.{Taking, Releasing}
 use Rattle.packet_layer.specs.Layer.{Layer, channel_of}

@@ -2,8 +2,8 @@
 use Rattle.std.specs.Prelude.{ℕ, zero, suc, List, [], ◌∷◌, ◌++◌, slice_get, Option, Some, None, Bool, true, false}
 use Rattle.std.specs.Prelude.{◌&&◌, is_none}
 use Rattle.link_timers.specs.declared.role.Role.{Role}
-use Rattle.packet_channel.specs.Traffic.{Taken}
-use Rattle.packet_channel.specs.declared.flow.Flow.{Flow}
+use Rattle.data_transfer.specs.Traffic.{Taken}
+use Rattle.data_transfer.specs.declared.flow.Flow.{Flow}
 use Rattle.packet_channel.specs.Channel.{Channel, Request, Refusal, refusal, requested, owing}
 use Rattle.packet_layer.specs.Layer.{channel_of, front_on, request_refusal}
 use Rattle.packet_end.specs.PacketEnd.{asked}

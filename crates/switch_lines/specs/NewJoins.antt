@@ -1,8 +1,8 @@
 -- Which calls an event joins: those that come in on its line and go on from another one.
 use Rattle.std.specs.Prelude.{ℕ, List, [], ◌∷◌, ◌++◌, slice_get}
 use Rattle.lapb.specs.Machine.{Octets}
-use Rattle.packet_channel.specs.Packets.{Note}
-use Rattle.packet_channel.specs.Packets.Note.{Incoming}
+use Rattle.data_transfer.specs.Packets.{Note}
+use Rattle.data_transfer.specs.Packets.Note.{Incoming}
 use Rattle.packet_end.specs.PacketEnd.{PacketEnd, received}
 use Rattle.address_routes.specs.Routes.{RouteMap}
 use Rattle.switch_lines.specs.Lines.{SwitchChannel, SwitchLine, changed}

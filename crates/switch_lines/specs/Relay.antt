@@ -1,9 +1,9 @@
 -- What a switch relays between the two legs of a join, and what it is told of a leg.
 use Rattle.std.specs.Prelude.{ℕ, zero, suc, Bool, true, false, List, [], ◌∷◌, ◌++◌, map, slice_get, Option, Some, None}
-use Rattle.packet_channel.specs.Packets.{Note}
-use Rattle.packet_channel.specs.Packets.Note.{Connected, Closed, WasReset, InterruptConfirmed, Covered}
-use Rattle.packet_channel.specs.Traffic.{Taken}
-use Rattle.packet_channel.specs.Traffic.Taken.{TakenInterrupt, TakenPacket}
+use Rattle.data_transfer.specs.Packets.{Note}
+use Rattle.data_transfer.specs.Packets.Note.{Connected, Closed, WasReset, InterruptConfirmed, Covered}
+use Rattle.data_transfer.specs.Traffic.{Taken}
+use Rattle.data_transfer.specs.Traffic.Taken.{TakenInterrupt, TakenPacket}
 use Rattle.packet_channel.specs.Channel.{Request}
 use Rattle.packet_channel.specs.Channel.Request.{Accept, Clearing, Resetting, Taking, Releasing, Confirming}
 use Rattle.packet_channel.specs.Channel.Request.{Sending, Interrupting}

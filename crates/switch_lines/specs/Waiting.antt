@@ -2,7 +2,7 @@
 -- the other leg takes.
 use Rattle.std.specs.Prelude.{◌≡◌, true, false, List, Option, Some}
 use Rattle.std.specs.Option.{option_map}
-use Rattle.packet_channel.specs.Traffic.{Taken}
+use Rattle.data_transfer.specs.Traffic.{Taken}
 use Rattle.switch_joins.specs.ChannelSet.{has, is_small}
 use Rattle.switch_joins.specs.declared.channel_set.ChannelSet.{ChannelSet}
 use Rattle.switch_lines.specs.Relay.{due_at}

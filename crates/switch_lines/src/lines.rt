@@ -4,7 +4,7 @@ ghost use Rattle.std.specs.List.{list_all};
 ghost use Rattle.std.specs.Option.{option_map};
 ghost use Rattle.std.specs.Bool.{OnTrue, OnFalse};
 ghost use Rattle.packet_layer.specs.RequestView.{request_of};
-ghost use Rattle.packet_channel.specs.TakenView.{maybe_front};
+ghost use Rattle.data_transfer.specs.TakenView.{maybe_front};
 ghost use Rattle.packet_end.specs.PacketEnd.{without_first_frame};
 ghost use Rattle.packet_end.specs.declared.fault.EndFault.TheVariants as fault_is;
 ghost use Rattle.switch_joins.specs.Direction.{new_direction, covered_by};

@@ -4,7 +4,7 @@ use Rattle.std.proofs.Common.{if◌then◌else◌, nat_lt, nat_le, refl, subst, 
 use Rattle.std.specs.Prelude.{is_some}
 use borrow.Author.Tests.{eqb-false}
 use Rattle.link_timers.specs.declared.role.Role.{Role}
-use Rattle.packet_channel.specs.declared.flow.Flow.{Flow}
+use Rattle.data_transfer.specs.declared.flow.Flow.{Flow}
 use Rattle.pad_editing.specs.Edited.{after_key}
 use Rattle.packet_channel.specs.Channel.{Channel, Request, Refusal, refused_if, in_transfer}
 use Rattle.packet_layer.specs.Layer.{room_at, channel_of, refusal_at, request_refusal}

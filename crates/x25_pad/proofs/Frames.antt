@@ -7,9 +7,9 @@ use Rattle.link_timers.specs.declared.timers.TimerId.TheVariants.{Idle}
 use Rattle.packet_end.specs.PacketEnd.{Octets, PacketEnd, runs_at}
 use Rattle.packet_end.specs.Sending.{EndsWhole, answer_frames, expiry_frames, relink_frames, ending_frames}
 use Rattle.packet_end.proofs.Sending.{answered, answer_few, timed_out, expiry_few, set_up_anew, relink_few}
-use Rattle.packet_channel.specs.Traffic.{Taken}
-use Rattle.packet_channel.specs.Traffic.Taken.{TakenInterrupt, TakenPacket}
-use Rattle.packet_channel.specs.Packets.{Datum}
+use Rattle.data_transfer.specs.Traffic.{Taken}
+use Rattle.data_transfer.specs.Traffic.Taken.{TakenInterrupt, TakenPacket}
+use Rattle.data_transfer.specs.Packets.{Datum}
 use Rattle.packet_channel.specs.Channel.{Request as LayerRequest}
 use Rattle.pad_editing.specs.Edited.{Step, key}
 use Rattle.x29_messages.specs.declared.message.Message.{Message}

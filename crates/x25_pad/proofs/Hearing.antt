@@ -3,8 +3,8 @@ use Rattle.std.proofs.Common.{◌≡◌, ℕ, List, ◌∷◌, [], ◌++◌, Opt
 use Rattle.std.proofs.Common.{◌∙◌, append_assoc, arith, length}
 use Rattle.std.proofs.lemmas.List.{append-nil}
 use Rattle.std.proofs.lemmas.List.Sums.{fold-append}
-use Rattle.packet_channel.specs.Packets.{Note}
-use Rattle.packet_channel.specs.Packets.Note.{Incoming, Connected, Closed, WasReset, InterruptConfirmed, Covered}
+use Rattle.data_transfer.specs.Packets.{Note}
+use Rattle.data_transfer.specs.Packets.Note.{Incoming, Connected, Closed, WasReset, InterruptConfirmed, Covered}
 use Rattle.packet_end.specs.PacketEnd.{without_first_note}
 use Rattle.pad_ports.specs.Line.{learnt_of, all_learnt, last_incoming, about}
 use Rattle.pad_ports.specs.Notes.{ChannelNote, Told, all_told}

@@ -4,8 +4,8 @@ use Rattle.std.specs.Prelude.{length, slice_get, slice_set, position, drop, is_s
 use Rattle.std.specs.Option.{option_map_or}
 use Rattle.link_timers.specs.declared.timers.TimerId.{TimerId}
 use Rattle.link_timers.specs.declared.timers.TimerId.TheVariants.{Idle}
-use Rattle.packet_channel.specs.Packets.{Note}
-use Rattle.packet_channel.specs.Traffic.{Taken as TakenValue}
+use Rattle.data_transfer.specs.Packets.{Note}
+use Rattle.data_transfer.specs.Traffic.{Taken as TakenValue}
 use Rattle.packet_end.specs.PacketEnd.{Octets, PacketEnd}
 use Rattle.packet_end.specs.PacketEnd as end
 use Rattle.pad_ports.specs.Line as line

@@ -11,7 +11,7 @@ mod from_line;
 mod terminals;
 
 use crate::config::PadConfig;
-use packet_channel::DEFAULT_SIZE;
+use data_transfer::DEFAULT_SIZE;
 use packet_end::EndFault;
 use pad_ports::{ChannelNote, NotedAt, PadEnd, PadLine, PadNote, PadNotes, Port};
 use std::alloc::{AllocError, Global};

@@ -4,7 +4,7 @@ use Rattle.std.specs.Prelude.{replicate}
 use Rattle.link_timers.specs.declared.role.Role.{Role}
 use Rattle.flow_window.specs.Pool.{Buffer, weight}
 use Rattle.flow_window.proofs.Weights.{weight_ones}
-use Rattle.packet_channel.specs.declared.flow.Flow.{Flow}
+use Rattle.data_transfer.specs.declared.flow.Flow.{Flow}
 use Rattle.packet_channel.specs.Channel.{Request, closed_channel}
 use Rattle.packet_layer.specs.Held.{Layer as Held, most_held, HasRoom}
 use Rattle.packet_layer.specs.Layer as machine

@@ -7,7 +7,7 @@ use Rattle.link_timers.specs.declared.role.Role.{Role}
 use Rattle.link_timers.specs.declared.role.Role.TheVariants.{Dte, Dce}
 use Rattle.packet_end.specs.PacketEnd.{PacketEnd}
 use Rattle.packet_end.specs.PacketEnd as end
-use Rattle.packet_channel.specs.Flow.{modulo_8}
+use Rattle.data_transfer.specs.Flow.{modulo_8}
 use Rattle.packet_end.specs.declared.params.EndParams.{EndParams}
 use Rattle.address_routes.specs.Routes.{line_for}
 use Rattle.call_records.specs.Book.{Book, side_of, made_book, address_of}

@@ -9,7 +9,7 @@ use Rattle.packet_codec.specs.Address.{MayBeDigits}
 use Rattle.packet_codec.specs.Digits.{digits_or_none}
 use Rattle.packet_end.specs.PacketEnd.{PacketEnd}
 use Rattle.packet_end.specs.PacketEnd as end
-use Rattle.packet_channel.specs.declared.flow.Flow.{Flow}
+use Rattle.data_transfer.specs.declared.flow.Flow.{Flow}
 use Rattle.packet_layer.specs.Layer.{Layer}
 use Rattle.packet_layer.specs.Layer as layers
 use Rattle.address_routes.specs.Routes.{line_for}

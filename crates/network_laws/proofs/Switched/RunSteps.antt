@@ -27,8 +27,8 @@ use Rattle.switch_lines.specs.Switch.Answer.{Clears}
 use Rattle.switch_lines.specs.NewJoins.{join_of, joins_of_notes}
 use Rattle.packet_laws.specs.Readable.{AreOctets}
 use Rattle.packet_end.specs.PacketEnd.{received}
-use Rattle.packet_channel.specs.Packets.{CallParts, Note}
-use Rattle.packet_channel.specs.Packets.Note.{Incoming}
+use Rattle.data_transfer.specs.Packets.{CallParts, Note}
+use Rattle.data_transfer.specs.Packets.Note.{Incoming}
 use Rattle.packet_codec.specs.Address.{are_decimal}
 use Rattle.address_routes.specs.Routes.{RouteMap, line_for}
 use Rattle.network_laws.specs.Switched.IsSwitched.{IsAny}

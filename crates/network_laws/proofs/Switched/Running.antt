@@ -23,8 +23,8 @@ use Rattle.network_laws.proofs.Switched.RestAny.{rest_any}
 use Rattle.switch_lines.specs.Switch.{notes_of}
 use Rattle.switch_joins.specs.declared.channels.NewJoin.{NewJoin}
 use Rattle.packet_end.specs.PacketEnd.{received}
-use Rattle.packet_channel.specs.Packets.{CallParts}
-use Rattle.packet_channel.specs.Packets.Note.{Incoming}
+use Rattle.data_transfer.specs.Packets.{CallParts}
+use Rattle.data_transfer.specs.Packets.Note.{Incoming}
 use Rattle.packet_layer.specs.Layer.{confirmed}
 use Rattle.address_routes.specs.Routes.{RouteMap, line_for, or_else}
 use Rattle.std.specs.FinMap.{empty, insert, get-insert}

@@ -6,8 +6,8 @@ use Rattle.std.proofs.lemmas.Bool.{and_parts}
 use Rattle.link_timers.specs.declared.role.Role.TheVariants.{Dte, Dce}
 use Rattle.packet_end.specs.PacketEnd as offers
 use Rattle.packet_end.specs.Params.{AreParams}
-use Rattle.packet_channel.specs.Packets.{CallParts}
-use Rattle.packet_channel.specs.Packets.Note.{Incoming}
+use Rattle.data_transfer.specs.Packets.{CallParts}
+use Rattle.data_transfer.specs.Packets.Note.{Incoming}
 use Rattle.line_nodes.specs.Node.{frames_of, node_rests}
 use Rattle.frame_lines.specs.declared.line.Direction.TheVariants.{FromDte, FromDce}
 use Rattle.frame_lines.specs.Lines.{Flights, lossless_service, no_flights, without_first}

@@ -11,7 +11,7 @@ use Rattle.link_timers.specs.declared.role.Role.TheVariants.{Dte, Dce}
 use Rattle.link_timers.specs.declared.timers.TimerId.TheVariants.{T1}
 use Rattle.epochs.specs.Item.{DataPacket}
 use Rattle.packet_codec.specs.Address.{are_decimal}
-use Rattle.packet_channel.specs.Flow.{modulo_8}
+use Rattle.data_transfer.specs.Flow.{modulo_8}
 use Rattle.packet_end.specs.PacketEnd.{made}
 use Rattle.packet_end.specs.declared.params.EndParams.{EndParams}
 use Rattle.packet_channel.specs.Channel.Request.{Accept}

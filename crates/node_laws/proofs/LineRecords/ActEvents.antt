@@ -8,7 +8,7 @@ use Rattle.lapb.specs.declared.note.Note as link_note
 use Rattle.lapb.specs.declared.note.Note.TheVariants.{Nothing, Up as LinkUp, Down as LinkDown}
 use Rattle.lapb.specs.Machine.{Octets, can_offer, on_t1}
 use Rattle.lapb.specs.Octets.{on_octets}
-use Rattle.packet_channel.specs.Packets.{Packet, Note}
+use Rattle.data_transfer.specs.Packets.{Packet, Note}
 use Rattle.packet_layer.specs.Layer.{Layer, Timer, unread, runs, next_packet, link_up, on_timer, expired}
 use Rattle.packet_layer.specs.Layer.Timer.{RestartTimer, CallTimer, ResetTimer, ClearTimer}
 use Rattle.packet_layer.specs.Events.{timer_named}

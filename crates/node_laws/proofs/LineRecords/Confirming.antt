@@ -6,9 +6,9 @@ use Rattle.std.proofs.lemmas.List.{length-map}
 use Rattle.link_timers.specs.declared.role.Role.{Role}
 use Rattle.link_timers.specs.declared.role.Role.TheVariants.{Dte, Dce}
 use Rattle.epochs.specs.Item.{DataPacket}
-use Rattle.packet_channel.specs.declared.flow.Flow.{Flow}
-use Rattle.packet_channel.proofs.Windows.{window_below}
-use Rattle.packet_channel.specs.Packets.{Datum}
+use Rattle.data_transfer.specs.declared.flow.Flow.{Flow}
+use Rattle.data_transfer.proofs.Windows.{window_below}
+use Rattle.data_transfer.specs.Packets.{Datum}
 use Rattle.packet_channel.specs.Channel.{Channel, in_transfer}
 use Rattle.packet_layer.specs.Layer.{Layer, channel_of, confirmed_at}
 use Rattle.packet_laws.specs.History.{Epoch}

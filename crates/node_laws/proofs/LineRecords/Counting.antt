@@ -6,9 +6,9 @@ use Rattle.link_timers.specs.declared.role.Role.{Role}
 use Rattle.link_timers.specs.declared.role.Role.TheVariants.{Dte, Dce}
 use Rattle.epochs.specs.Item.{DataPacket}
 use Rattle.epochs.specs.Epoch.{SentEpoch, TakenEpoch}
-use Rattle.packet_channel.specs.Flow.{modulus}
-use Rattle.packet_channel.specs.declared.flow.Flow.{Flow}
-use Rattle.packet_channel.proofs.Windows.{window_below}
+use Rattle.data_transfer.specs.Flow.{modulus}
+use Rattle.data_transfer.specs.declared.flow.Flow.{Flow}
+use Rattle.data_transfer.proofs.Windows.{window_below}
 use Rattle.packet_channel.specs.Channel.{Channel, in_transfer}
 use Rattle.packet_layer.specs.Layer.{Layer, channel_of, unread}
 use Rattle.packet_laws.specs.History.{Epoch, empty_epoch}

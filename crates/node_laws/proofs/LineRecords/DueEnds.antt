@@ -16,9 +16,9 @@ use Rattle.lapb.specs.Machine as machine
 use Rattle.lapb.specs.Octets as link_octets
 use Rattle.line_end.specs.End.{End, timed, did}
 use Rattle.line_end.specs.End as line
-use Rattle.packet_channel.specs.Packets.{CallParts, Datum}
-use Rattle.packet_channel.specs.Traffic.{Taken}
-use Rattle.packet_channel.specs.Traffic.Taken.{TakenInterrupt, TakenPacket}
+use Rattle.data_transfer.specs.Packets.{CallParts, Datum}
+use Rattle.data_transfer.specs.Traffic.{Taken}
+use Rattle.data_transfer.specs.Traffic.Taken.{TakenInterrupt, TakenPacket}
 use Rattle.packet_channel.specs.Channel.{Refusal, Request}
 use Rattle.packet_layer.specs.Layer.{Timer, next_packet, front_on, call_refusal, request_refusal}
 use Rattle.packet_layer.specs.Layer.Timer.{RestartTimer, CallTimer, ResetTimer, ClearTimer}
@@ -28,7 +28,7 @@ use Rattle.packet_layer.specs.LayerTimers.{LayerTimers, left_of, stopped_by_name
 use Rattle.packet_end.specs.PacketEnd as end
 use Rattle.packet_end.specs.PacketEnd.{PacketEnd, begun, heeded, after_packet, received, runs_at, after_timer, relinked, relinked_if_due, with_next, offered, all_offered, settled, finished, asked, called, due, either_timer}
 use Rattle.packet_host.specs.Host.{ended, unless_refused, refuse_refusal, after_call, after_request, after_refuse, after_say, let_go, taken_as, after_take}
-use Rattle.packet_channel.specs.Cutting.{cut}
+use Rattle.data_transfer.specs.Cutting.{cut}
 use Rattle.packet_host.specs.Saying.{queued, message, say_refusal}
 use Rattle.node_laws.specs.LineRecords.Due.{due_count}
 use Rattle.node_laws.proofs.LineRecords.DueCounts.{one_if, stopped-more, stopped-fewer, none-more, brought-more, first-is-due}

@@ -4,8 +4,8 @@ use Rattle.std.proofs.Common.{refl, sym, ap, subst, ◌∙◌}
 use Rattle.link_timers.specs.declared.role.Role.{Role}
 use Rattle.link_timers.specs.declared.role.Role.TheVariants.{Dte, Dce}
 use Rattle.link_timers.specs.Role.{other_of}
-use Rattle.packet_channel.specs.declared.flow.Flow.{Flow}
-use Rattle.packet_channel.specs.Packets.{Packet}
+use Rattle.data_transfer.specs.declared.flow.Flow.{Flow}
+use Rattle.data_transfer.specs.Packets.{Packet}
 use Rattle.packet_layer.specs.Layer.{Layer}
 use Rattle.packet_laws.specs.Line as layers
 use Rattle.packet_laws.specs.Line.{Event, End, accepts, arrives_in, begun, happens, may_begin, next_of_session, offers, turned}

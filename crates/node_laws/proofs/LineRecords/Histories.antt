@@ -5,7 +5,7 @@ use Rattle.call_records.specs.Book.{Book}
 use Rattle.record_laws.proofs.Books.Counting.{records_counted}
 use Rattle.record_laws.proofs.Books.AcceptedPairs.{pairs_accepted}
 use Rattle.node_laws.specs.LineRecords.Histories.{LineHistory, HistoryLaw}
-use Rattle.packet_channel.proofs.Windows.{window_below}
+use Rattle.data_transfer.proofs.Windows.{window_below}
 use Rattle.node_laws.proofs.LineRecords.Counting.{same_layer}
 
 pub history_kept : HistoryLaw

@@ -3,14 +3,14 @@ use Rattle.std.specs.Prelude.{◌≡◌, ℕ, Bool, true, false, cond, not, List
 use Rattle.std.proofs.Common.{refl, sym, ap, subst, ◌∙◌}
 use Rattle.std.proofs.lemmas.Option.{none-some}
 use Rattle.link_timers.specs.declared.role.Role.{Role}
-use Rattle.packet_channel.specs.declared.flow.Flow.{Flow}
+use Rattle.data_transfer.specs.declared.flow.Flow.{Flow}
 use Rattle.link_timers.specs.declared.timers.TimerId.{TimerId}
 use Rattle.link_timers.specs.Role.{other_of}
 use Rattle.lapb.specs.Machine.{Octets}
-use Rattle.packet_channel.specs.Packets.{CallParts, Datum}
-use Rattle.packet_channel.specs.Packets.{Note}
-use Rattle.packet_channel.specs.Traffic.{Taken}
-use Rattle.packet_channel.specs.Traffic.Taken.{TakenInterrupt, TakenPacket}
+use Rattle.data_transfer.specs.Packets.{CallParts, Datum}
+use Rattle.data_transfer.specs.Packets.{Note}
+use Rattle.data_transfer.specs.Traffic.{Taken}
+use Rattle.data_transfer.specs.Traffic.Taken.{TakenInterrupt, TakenPacket}
 use Rattle.packet_channel.specs.Channel.{Channel, Step, Request, Refusal, refusal, refused_if, in_transfer, unless, carried_out, requested}
 use Rattle.packet_channel.specs.Channel.Request.{Clearing, Sending, Taking, Releasing, Confirming}
 use Rattle.packet_layer.specs.Layer.{Phase, Layer, channel_of, channel_given, free_channel, call_refusal, request_refusal, refusal_at, can_accept, front_on, request, on_found, after_step, owing}
@@ -20,8 +20,8 @@ use Rattle.packet_end.specs.PacketEnd.{PacketEnd, begun, finished, asked, called
 use Rattle.node_laws.specs.Lines.Line.{Line}
 use Rattle.packet_host.specs.Host as host
 use Rattle.packet_host.specs.Host.{ended, after_call, after_request, after_refuse, after_say, after_take, after_expiry, let_go, taken_as}
-use Rattle.packet_channel.specs.Flow.{is_size}
-use Rattle.packet_channel.specs.Cutting.{cut}
+use Rattle.data_transfer.specs.Flow.{is_size}
+use Rattle.data_transfer.specs.Cutting.{cut}
 use Rattle.packet_host.specs.Saying.{message, queued, say_refusal, AllTaken}
 use Rattle.packet_host.proofs.Refused.{accepted_clears}
 use Rattle.packet_host.proofs.Taken.{all_said}

@@ -3,16 +3,16 @@ use Rattle.std.specs.Prelude.{◌≡◌, ℕ, suc, not, ◌+◌, Bool, true, fal
 use Rattle.std.proofs.Common.{refl, sym, ap, subst, ◌∙◌, arith, true≢false}
 use Rattle.link_timers.specs.declared.role.Role.{Role}
 use Rattle.link_timers.specs.declared.role.Role.TheVariants.{Dte, Dce}
-use Rattle.packet_channel.specs.declared.flow.Flow.{Flow}
+use Rattle.data_transfer.specs.declared.flow.Flow.{Flow}
 use Rattle.link_timers.specs.Role.{other_of}
 use Rattle.lapb.specs.Machine.{Octets, Link}
 use Rattle.lapb.specs.World as links
 use Rattle.packet_layer.specs.LayerTimers.{none_running}
-use Rattle.packet_channel.proofs.Windows.{window_below}
+use Rattle.data_transfer.proofs.Windows.{window_below}
 use Rattle.line_end.specs.End as line
-use Rattle.packet_channel.specs.Packets.{Note}
-use Rattle.packet_channel.specs.Packets.Note.{Closed}
-use Rattle.packet_channel.specs.Packets.Reason.{LinkLost}
+use Rattle.data_transfer.specs.Packets.{Note}
+use Rattle.data_transfer.specs.Packets.Note.{Closed}
+use Rattle.data_transfer.specs.Packets.Reason.{LinkLost}
 use Rattle.packet_channel.specs.Channel.{CallState, Channel, Request, Refusal, refusal, refused_if, in_transfer, entered}
 use Rattle.packet_channel.specs.Channel.CallState.{Ready, OwnWaiting, FarWaiting, Transfer, Collision, OwnClear}
 use Rattle.packet_channel.specs.Channel.Request.{Accept, Clearing, Resetting, Sending, Interrupting, Stopping, Taking, Releasing, Confirming}

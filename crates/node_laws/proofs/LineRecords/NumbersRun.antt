@@ -4,8 +4,8 @@ use Rattle.std.specs.Prelude.{◌≡◌, ℕ, zero, suc, false, List, [], ◌∷
 use Rattle.std.proofs.Common.{refl, arith}
 use Rattle.link_timers.specs.declared.role.Role.TheVariants.{Dte, Dce}
 use Rattle.epochs.specs.Item.{DataPacket}
-use Rattle.packet_channel.specs.Flow.{modulo_128}
-use Rattle.packet_channel.specs.Packets.{Datum}
+use Rattle.data_transfer.specs.Flow.{modulo_128}
+use Rattle.data_transfer.specs.Packets.{Datum}
 use Rattle.packet_channel.specs.Channel.Request.{Accept, Sending, Taking, Releasing}
 use Rattle.packet_end.specs.PacketEnd.{finished, all_offered}
 use Rattle.packet_end.specs.declared.params.EndParams.{EndParams}

@@ -9,17 +9,17 @@ use Rattle.lapb.specs.declared.note.Note as link_note
 use Rattle.lapb.specs.declared.note.Note.TheVariants.{Nothing, Up, Down}
 use Rattle.lapb.specs.Machine.{Octets, on_t1}
 use Rattle.lapb.specs.Octets as link_octets
-use Rattle.packet_channel.specs.declared.flow.Flow.{Flow}
+use Rattle.data_transfer.specs.declared.flow.Flow.{Flow}
 use Rattle.line_end.specs.End as line
-use Rattle.packet_channel.specs.Packets.{CallParts, Body, Packet, Received, Note, Reason}
-use Rattle.packet_channel.specs.Packets.Body.{Call, Accepted, Clear, ClearConfirmation, Data, Interrupt, InterruptConfirmation, ReceiveReady, ReceiveNotReady, Reset, ResetConfirmation, Restart, RestartConfirmation}
-use Rattle.packet_channel.specs.Packets.Received.{Whole, Unknown, Faulty}
-use Rattle.packet_channel.specs.Packets.Note.{Incoming, Connected, Closed, WasReset, InterruptConfirmed, Covered}
-use Rattle.packet_channel.specs.Traffic.{Heard, hears}
-use Rattle.packet_channel.specs.Traffic.Heard.{Keeps, Confirms, Wrong}
+use Rattle.data_transfer.specs.Packets.{CallParts, Body, Packet, Received, Note, Reason}
+use Rattle.data_transfer.specs.Packets.Body.{Call, Accepted, Clear, ClearConfirmation, Data, Interrupt, InterruptConfirmation, ReceiveReady, ReceiveNotReady, Reset, ResetConfirmation, Restart, RestartConfirmation}
+use Rattle.data_transfer.specs.Packets.Received.{Whole, Unknown, Faulty}
+use Rattle.data_transfer.specs.Packets.Note.{Incoming, Connected, Closed, WasReset, InterruptConfirmed, Covered}
+use Rattle.data_transfer.specs.Traffic.{Heard, hears}
+use Rattle.data_transfer.specs.Traffic.Heard.{Keeps, Confirms, Wrong}
 use Rattle.packet_channel.specs.Channel.{CallState, Channel, Step, after_heard, covered_note, in_flow_ready, in_own_reset, in_ready, collision_notes, in_own_waiting, in_far_waiting, in_collision, in_own_clear, received_in, unreadable_in, clear_error, unreadable, received as channel_received}
 use Rattle.packet_channel.specs.Channel.CallState.{Ready, OwnWaiting, FarWaiting, Transfer, Collision, OwnClear}
-use Rattle.packet_channel.specs.Octets.{heard}
+use Rattle.data_transfer.specs.Octets.{heard}
 use Rattle.packet_layer.specs.Events.{after_hearing, on_octets, timer_named, on_named}
 use Rattle.packet_layer.specs.Layer.{Phase, Layer, Timer, had_call, closing_notes, unread, link_up, link_down, restart_packet, on_found, on_channel, channel_of, packet_in, runs, expired}
 use Rattle.packet_layer.specs.Layer.Phase.{NoSession, OwnRestart, PacketReady}

@@ -3,14 +3,14 @@ use Rattle.std.specs.Prelude.{◌≡◌, ℕ, zero, suc, Bool, true, false, cond
 use Rattle.std.proofs.Common.{refl, ◌∙◌}
 use Rattle.link_timers.specs.declared.timers.TimerId.{TimerId}
 use Rattle.lapb.specs.Machine.{can_offer}
-use Rattle.packet_channel.specs.Packets.{Body, CallParts}
-use Rattle.packet_channel.specs.Traffic.{Taken}
+use Rattle.data_transfer.specs.Packets.{Body, CallParts}
+use Rattle.data_transfer.specs.Traffic.{Taken}
 use Rattle.packet_channel.specs.Channel.{Channel, Refusal, Request}
 use Rattle.packet_layer.specs.Layer.{Phase, Layer, channel_of, next_packet, next_in, next_restart, next_number, next_of, serve, serve_found, Next, front_on, call_refusal, request_refusal}
 use Rattle.packet_layer.specs.Layer.Phase.{NoSession, OwnRestart, PacketReady}
 use Rattle.packet_end.specs.PacketEnd.{PacketEnd, begun, runs_at, after_timer, relinked, relinked_if_due, with_next, offered, all_offered, finished, asked, called}
 use Rattle.packet_host.specs.Host.{ended, unless_refused, refuse_refusal, after_call, after_request, after_refuse, after_say, let_go, taken_as, after_take, after_expiry}
-use Rattle.packet_channel.specs.Cutting.{cut}
+use Rattle.data_transfer.specs.Cutting.{cut}
 use Rattle.packet_host.specs.Saying.{queued, message, say_refusal}
 
 abbrev pub AsksNone : PacketEnd → Type 0

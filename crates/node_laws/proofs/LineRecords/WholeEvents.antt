@@ -7,7 +7,7 @@ use Rattle.link_timers.specs.declared.timers.TimerId.{TimerId}
 use Rattle.link_timers.specs.Role.{other_of}
 use Rattle.lapb.specs.Machine.{Octets, can_offer}
 use Rattle.lapb.specs.Line.{chosen}
-use Rattle.packet_channel.specs.Packets.{CallParts, Note}
+use Rattle.data_transfer.specs.Packets.{CallParts, Note}
 use Rattle.packet_channel.specs.Channel.{Request}
 use Rattle.packet_layer.specs.Layer.{channel_given, link_down, next_packet}
 use Rattle.packet_laws.specs.Readable.{CanBePlaced}

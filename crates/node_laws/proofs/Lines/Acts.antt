@@ -16,7 +16,7 @@ use Rattle.lapb.specs.Line.{chosen}
 use Rattle.lapb.proofs.Rising.{tells_on_t1, plain_on_t1}
 use Rattle.line_end.specs.End.{End, did, without_frames, untouched}
 use Rattle.line_end.specs.End as line
-use Rattle.packet_channel.specs.Packets.{CallParts, Note}
+use Rattle.data_transfer.specs.Packets.{CallParts, Note}
 use Rattle.packet_channel.specs.Channel.{Request}
 use Rattle.packet_layer.specs.Layer.{Layer}
 use Rattle.packet_layer.specs.Events.{timer_named}

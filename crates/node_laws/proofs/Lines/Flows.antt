@@ -1,13 +1,13 @@
 -- Nothing that happens at a packet layer changes the flow control of its line.
 use Rattle.std.specs.Prelude.{◌≡◌, ℕ, Bool, true, false, List, Option, Some, None}
 use Rattle.std.proofs.Common.{refl}
-use Rattle.packet_channel.specs.Packets.{CallParts, Received}
-use Rattle.packet_channel.specs.Packets.Received.{Whole, Unknown, Faulty}
+use Rattle.data_transfer.specs.Packets.{CallParts, Received}
+use Rattle.data_transfer.specs.Packets.Received.{Whole, Unknown, Faulty}
 use Rattle.packet_channel.specs.Channel.{Request, unreadable, requested}
 use Rattle.packet_layer.specs.Layer.{Layer, Phase, Timer, channel_of, channel_given, unread, call, request, on_channel, on_timer, next_packet}
 use Rattle.packet_layer.specs.Layer.Phase.{NoSession, OwnRestart, PacketReady}
 use Rattle.packet_layer.specs.Events.{after_hearing, on_octets}
-use Rattle.packet_channel.specs.Octets.{heard}
+use Rattle.data_transfer.specs.Octets.{heard}
 use Rattle.packet_laws.proofs.Line.Moves.{found_same, placed_same, timer_same}
 use Rattle.packet_laws.proofs.Line.Arriving.{packet_same}
 use Rattle.packet_laws.proofs.Line.Offering.{next_same}

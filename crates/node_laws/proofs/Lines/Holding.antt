@@ -10,8 +10,8 @@ use Rattle.lapb.specs.Machine as link
 use Rattle.lapb.specs.Machine.{Octets, Link}
 use Rattle.lapb.specs.World.{World, opening}
 use Rattle.lapb.proofs.Lines.{stands_opening}
-use Rattle.packet_channel.specs.declared.flow.Flow.{Flow}
-use Rattle.packet_channel.proofs.Windows.{window_below}
+use Rattle.data_transfer.specs.declared.flow.Flow.{Flow}
+use Rattle.data_transfer.proofs.Windows.{window_below}
 use Rattle.line_end.specs.End.{untouched}
 use Rattle.line_end.specs.End as line
 use Rattle.packet_layer.specs.Layer as machine

@@ -7,11 +7,11 @@ use Rattle.lapb.specs.declared.note.Note as link_note
 use Rattle.lapb.specs.declared.note.Note.TheVariants.{Up, Down}
 use Rattle.lapb.specs.Machine.{Octets}
 use Rattle.lapb.specs.World.{logged, emptied}
-use Rattle.packet_channel.specs.declared.flow.Flow.{Flow}
-use Rattle.packet_channel.specs.Packets.{CallParts, Note}
-use Rattle.packet_channel.specs.Packets.Received.{Whole}
+use Rattle.data_transfer.specs.declared.flow.Flow.{Flow}
+use Rattle.data_transfer.specs.Packets.{CallParts, Note}
+use Rattle.data_transfer.specs.Packets.Received.{Whole}
 use Rattle.packet_channel.specs.Channel.{Request}
-use Rattle.packet_channel.specs.Octets.{heard}
+use Rattle.data_transfer.specs.Octets.{heard}
 use Rattle.packet_layer.specs.Events.{on_octets, after_hearing, on_named}
 use Rattle.packet_layer.specs.Layer.{Layer, Timer, unread, link_up, link_down, on_packet, on_timer, call, request, channel_given}
 use Rattle.packet_laws.specs.History.{call_history, request_history, timer_history}

@@ -4,10 +4,10 @@ use Rattle.std.proofs.Common.{refl, sym, ap, ◌∙◌, subst, arith, length-app
 use Rattle.std.proofs.lemmas.Bool.{eq-eqb, ne_eqb}
 use Rattle.lapb.specs.Machine.{Octets}
 use Rattle.lapb.specs.World.{logged, emptied}
-use Rattle.packet_channel.specs.declared.flow.Flow.{Flow}
-use Rattle.packet_channel.specs.Packets.{CallParts, Packet}
-use Rattle.packet_channel.specs.Packets.Received.{Whole}
-use Rattle.packet_channel.specs.Octets.{heard}
+use Rattle.data_transfer.specs.declared.flow.Flow.{Flow}
+use Rattle.data_transfer.specs.Packets.{CallParts, Packet}
+use Rattle.data_transfer.specs.Packets.Received.{Whole}
+use Rattle.data_transfer.specs.Octets.{heard}
 use Rattle.packet_layer.specs.Events.{on_octets, after_hearing}
 use Rattle.packet_channel.specs.Channel.{Request}
 use Rattle.packet_laws.specs.History.{History}

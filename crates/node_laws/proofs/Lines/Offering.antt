@@ -6,15 +6,15 @@ use Rattle.link_timers.specs.declared.role.Role.{Role}
 use Rattle.link_timers.specs.Role.{other_of}
 use Rattle.lapb.specs.Machine.{Octets, can_offer}
 use Rattle.lapb.specs.World.{World, logged}
-use Rattle.packet_channel.specs.Packets.{Packet, Note}
-use Rattle.packet_channel.specs.Packets.Received.{Whole}
-use Rattle.packet_channel.specs.Octets.{heard}
+use Rattle.data_transfer.specs.Packets.{Packet, Note}
+use Rattle.data_transfer.specs.Packets.Received.{Whole}
+use Rattle.data_transfer.specs.Octets.{heard}
 use Rattle.packet_layer.specs.Layer.{next_packet}
 use Rattle.packet_layer.specs.Events.{written_packet}
 use Rattle.packet_laws.specs.Line as layers
 use Rattle.packet_laws.specs.Line.{Event, happens}
 use Rattle.packet_laws.proofs.Readable.{readable_next, next_heard, next_short}
-use Rattle.packet_channel.specs.declared.flow.Flow.{Flow}
+use Rattle.data_transfer.specs.declared.flow.Flow.{Flow}
 use Rattle.packet_end.specs.Params.{info_of}
 use Rattle.packet_end.specs.PacketEnd.{PacketEnd, with_next, offered, all_offered}
 use Rattle.node_laws.specs.Lines.Line.{Offers}

@@ -10,9 +10,9 @@ use Rattle.lapb.specs.Machine.{Octets, Link, is_up, is_empty}
 use Rattle.lapb.specs.World.{World}
 use Rattle.lapb.proofs.Inv.{Inv}
 use Rattle.lapb.proofs.Reach.{reached_inv}
-use Rattle.packet_channel.specs.declared.flow.Flow.{Flow}
-use Rattle.packet_channel.specs.Packets.{Packet, Datum}
-use Rattle.packet_channel.specs.Traffic.{Traffic, rests, flow_told}
+use Rattle.data_transfer.specs.declared.flow.Flow.{Flow}
+use Rattle.data_transfer.specs.Packets.{Packet, Datum}
+use Rattle.data_transfer.specs.Traffic.{Traffic, rests, flow_told}
 use Rattle.packet_channel.specs.Channel.{Channel, channel_rests}
 use Rattle.packet_layer.specs.Layer.{Layer, channel_of, nth_channel}
 use Rattle.packet_laws.specs.History.{Epoch}

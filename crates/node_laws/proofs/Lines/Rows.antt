@@ -3,10 +3,10 @@ use Rattle.std.specs.Prelude.{◌≡◌, ℕ, zero, suc, false, List, [], ◌∷
 use Rattle.std.proofs.Common.{refl, arith}
 use Rattle.link_timers.specs.declared.role.Role.{Role}
 use Rattle.link_timers.specs.declared.role.Role.TheVariants.{Dte, Dce}
-use Rattle.packet_channel.specs.Flow.{modulo_8}
-use Rattle.packet_channel.specs.Packets.{CallParts, Datum}
-use Rattle.packet_channel.specs.Packets.Note.{Incoming, Connected}
-use Rattle.packet_channel.specs.Traffic.Taken.{TakenPacket}
+use Rattle.data_transfer.specs.Flow.{modulo_8}
+use Rattle.data_transfer.specs.Packets.{CallParts, Datum}
+use Rattle.data_transfer.specs.Packets.Note.{Incoming, Connected}
+use Rattle.data_transfer.specs.Traffic.Taken.{TakenPacket}
 use Rattle.packet_channel.specs.Channel.Request.{Accept, Sending, Taking, Releasing}
 use Rattle.packet_laws.specs.Readable.{CanBePlaced}
 use Rattle.packet_layer.specs.Layer.{front_on}

@@ -1,7 +1,7 @@
 -- Notes that were not read change nothing else of what a layer does.
 use Rattle.std.specs.Prelude.{◌≡◌, ℕ, zero, suc, Bool, true, false, cond, List, [], ◌∷◌, length, Option, Some, None, is_some}
 use Rattle.std.proofs.Common.{refl, sym, ap, ◌∙◌}
-use Rattle.packet_channel.specs.Packets.{CallParts, Body}
+use Rattle.data_transfer.specs.Packets.{CallParts, Body}
 use Rattle.packet_channel.specs.Channel.{Channel, Step, Request, Refusal, refusal, carried_out, unless, requested}
 use Rattle.packet_channel.specs.Channel.Request.{Accept, Clearing, Resetting, Sending, Interrupting, Stopping, Taking, Releasing, Confirming}
 use Rattle.packet_layer.specs.Layer.{Layer, Phase, Timer, Next, ChannelNext, channel_of, with_nth, after_step, on_found, unread, placing, placed_on, channel_given, call, request, runs, expired, on_timer, packet_of, next_of, next_number, serve_found, serve, next_restart, next_in, next_packet}

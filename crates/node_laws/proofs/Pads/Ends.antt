@@ -8,7 +8,7 @@ use Rattle.lapb.specs.Machine as link
 use Rattle.lapb.specs.Machine.{Octets, can_offer}
 use Rattle.lapb.specs.Octets as link_octets
 use Rattle.line_end.specs.End as line
-use Rattle.packet_channel.specs.Packets.{Note}
+use Rattle.data_transfer.specs.Packets.{Note}
 use Rattle.packet_layer.specs.Layer.{Layer, link_up, link_down, next_packet}
 use Rattle.packet_layer.specs.Events.{timer_named, on_octets, on_named}
 use Rattle.packet_end.specs.PacketEnd.{PacketEnd, gathered, heeded, after_packet, received, runs_at, expired, after_timer, relinked, relinked_if_due, with_next, offered, all_offered, settled, finished}

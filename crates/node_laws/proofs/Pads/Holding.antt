@@ -8,9 +8,9 @@ use Rattle.link_timers.specs.declared.role.Role.{Role}
 use Rattle.link_timers.specs.declared.timers.TimerId.{TimerId}
 use Rattle.link_timers.specs.declared.timers.TimerId.TheVariants.{Idle}
 use Rattle.pad_editing.specs.Edited.{Step, key, idle}
-use Rattle.packet_channel.specs.Packets.{Note, Datum}
-use Rattle.packet_channel.specs.Traffic.{Taken}
-use Rattle.packet_channel.specs.Traffic.Taken.{TakenInterrupt, TakenPacket}
+use Rattle.data_transfer.specs.Packets.{Note, Datum}
+use Rattle.data_transfer.specs.Traffic.{Taken}
+use Rattle.data_transfer.specs.Traffic.Taken.{TakenInterrupt, TakenPacket}
 use Rattle.packet_channel.specs.Channel.{Refusal}
 use Rattle.packet_channel.specs.Channel.Request.{Releasing}
 use Rattle.packet_layer.specs.Layer.{channel_given}

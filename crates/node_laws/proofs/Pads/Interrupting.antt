@@ -2,9 +2,9 @@
 use Rattle.std.specs.Prelude.{◌≡◌, ℕ, Bool, true, false, not, ◌&&◌, if◌then◌else◌, List, [], ◌∷◌, ◌++◌, Option, Some, None, is_some, Result, Ok, Err}
 use Rattle.std.proofs.Common.{refl, sym, ap, ◌∙◌, append-nil}
 use Rattle.pad_editing.specs.Edited.{Step, key, idle, after_key}
-use Rattle.packet_channel.specs.Packets.{Datum}
-use Rattle.packet_channel.specs.Traffic.{Taken, interrupt_pending}
-use Rattle.packet_channel.specs.Traffic.Taken.{TakenInterrupt, TakenPacket}
+use Rattle.data_transfer.specs.Packets.{Datum}
+use Rattle.data_transfer.specs.Traffic.{Taken, interrupt_pending}
+use Rattle.data_transfer.specs.Traffic.Taken.{TakenInterrupt, TakenPacket}
 use Rattle.packet_channel.specs.Channel.{Channel, Refusal, in_transfer, refused_if}
 use Rattle.packet_channel.specs.Channel.Request.{Interrupting, Releasing}
 use Rattle.packet_layer.specs.Layer.{request_refusal, refusal_at, channel_given, channel_of}

@@ -4,9 +4,9 @@ use Rattle.std.proofs.Common.{inl, inr, refl, sym}
 use Rattle.packet_laws.specs.Readable.{Every}
 use Rattle.packet_channel.specs.Channel.{Refusal, Request as LayerRequest}
 use Rattle.packet_layer.specs.Layer.{channel_given, call_refusal}
-use Rattle.packet_channel.specs.Packets.{Datum}
-use Rattle.packet_channel.specs.Traffic.{Taken}
-use Rattle.packet_channel.specs.Traffic.Taken.{TakenInterrupt, TakenPacket}
+use Rattle.data_transfer.specs.Packets.{Datum}
+use Rattle.data_transfer.specs.Traffic.{Taken}
+use Rattle.data_transfer.specs.Traffic.Taken.{TakenInterrupt, TakenPacket}
 use Rattle.pad_editing.specs.Edited.{Step, key, idle}
 use Rattle.x28_commands.specs.declared.command.Selection.{Selection}
 use Rattle.x29_messages.specs.MessageForm.{octets_of}

@@ -6,7 +6,7 @@ use Rattle.std.proofs.lemmas.Option.{none-some, same_Some, slice_get-map}
 use Rattle.link_timers.specs.declared.role.Role.{Role}
 use Rattle.link_timers.specs.declared.timers.TimerId.{TimerId}
 use Rattle.link_timers.specs.declared.timers.TimerId.TheVariants.{Idle}
-use Rattle.packet_channel.specs.Packets.{Note}
+use Rattle.data_transfer.specs.Packets.{Note}
 use Rattle.packet_channel.specs.Channel.{Refusal}
 use Rattle.packet_channel.specs.Channel.Request.{Accept, Clearing}
 use Rattle.packet_layer.specs.Layer.{request, request_refusal, link_down, unread}

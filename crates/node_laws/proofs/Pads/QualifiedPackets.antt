@@ -4,9 +4,9 @@ use Rattle.std.specs.Option.{option_map_or}
 use Rattle.std.proofs.Common.{refl, sym, ap, subst, ◌∙◌, ◌≤◌, true≢false, append_assoc, append-nil, arith}
 use Rattle.std.proofs.lemmas.Option.{none-some, same_Some}
 use Rattle.pad_editing.specs.Edited.{Step, key}
-use Rattle.packet_channel.specs.Packets.{Note, Datum}
-use Rattle.packet_channel.specs.Traffic.{Taken}
-use Rattle.packet_channel.specs.Traffic.Taken.{TakenInterrupt, TakenPacket}
+use Rattle.data_transfer.specs.Packets.{Note, Datum}
+use Rattle.data_transfer.specs.Traffic.{Taken}
+use Rattle.data_transfer.specs.Traffic.Taken.{TakenInterrupt, TakenPacket}
 use Rattle.packet_channel.specs.Channel.{Refusal}
 use Rattle.packet_channel.specs.Channel.Request.{Interrupting, Taking, Releasing}
 use Rattle.packet_layer.specs.Layer.{room, request, channel_given, front_on}

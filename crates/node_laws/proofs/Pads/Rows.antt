@@ -3,7 +3,7 @@ use Rattle.std.specs.Prelude.{◌≡◌, ℕ, true, false, List, [], ◌∷◌}
 use Rattle.std.proofs.Common.{refl}
 use Rattle.pad_editing.specs.Edited.{key, after_key, after_idle}
 use Rattle.x3_params.specs.Forwarding.{class_of}
-use Rattle.packet_channel.specs.Flow.{modulo_8}
+use Rattle.data_transfer.specs.Flow.{modulo_8}
 use Rattle.packet_end.specs.PacketEnd.{finished, all_offered}
 use Rattle.packet_end.specs.declared.params.EndParams.{EndParams}
 use Rattle.pad_ports.specs.Line.{datum}

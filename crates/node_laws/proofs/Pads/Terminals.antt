@@ -6,9 +6,9 @@ use Rattle.std.proofs.lemmas.Option.{none-some}
 use Rattle.link_timers.specs.declared.role.Role.{Role}
 use Rattle.lapb.specs.Machine.{Octets}
 use Rattle.pad_editing.specs.Edited.{Step, Effect, key, idle, after_key}
-use Rattle.packet_channel.specs.Packets.{Datum}
-use Rattle.packet_channel.specs.Traffic.{Taken}
-use Rattle.packet_channel.specs.Traffic.Taken.{TakenInterrupt, TakenPacket}
+use Rattle.data_transfer.specs.Packets.{Datum}
+use Rattle.data_transfer.specs.Traffic.{Taken}
+use Rattle.data_transfer.specs.Traffic.Taken.{TakenInterrupt, TakenPacket}
 use Rattle.packet_channel.specs.Channel.Request.{Releasing}
 use Rattle.packet_layer.specs.Layer.{front_on}
 use Rattle.packet_end.specs.PacketEnd.{PacketEnd}

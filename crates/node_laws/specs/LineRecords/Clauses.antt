@@ -3,8 +3,8 @@
 use Rattle.std.specs.Prelude.{◌≡◌, ℕ, true, List, ◌++◌, length, Option, Some, None, is_some}
 use Rattle.link_timers.specs.declared.role.Role.{Role}
 use Rattle.pad_editing.specs.Edited.{Step}
-use Rattle.packet_channel.specs.Packets.{CallParts, Note}
-use Rattle.packet_channel.specs.Traffic.{Taken}
+use Rattle.data_transfer.specs.Packets.{CallParts, Note}
+use Rattle.data_transfer.specs.Traffic.{Taken}
 use Rattle.packet_channel.specs.Channel.{Request, Refusal}
 use Rattle.packet_layer.specs.Layer.{link_down, channel_of, channel_given, request_refusal, flow_refusal, front_on}
 use Rattle.packet_laws.specs.Readable.{CanBePlaced}

@@ -1,7 +1,7 @@
 -- What the records of a line count and what its packet layers count: nothing that these let pass is cut or left out.
 use Rattle.std.specs.Prelude.{◌≡◌, ℕ, ◌+◌, true, List, length, slice_get, Some}
 use Rattle.link_timers.specs.declared.role.Role.{Role}
-use Rattle.packet_channel.specs.Traffic.{in_flight, unreleased}
+use Rattle.data_transfer.specs.Traffic.{in_flight, unreleased}
 use Rattle.packet_channel.specs.Channel.{Channel, in_transfer}
 use Rattle.packet_layer.specs.Layer.{Layer, channel_of, unread}
 use Rattle.node_laws.specs.Lines.Line.{Line}

@@ -3,15 +3,15 @@
 use Rattle.std.specs.Prelude.{◌≡◌, ℕ, Bool, List, [], ◌∷◌, Option, Some, None}
 use Rattle.link_timers.specs.declared.role.Role.{Role}
 use Rattle.link_timers.specs.declared.timers.TimerId.{TimerId}
-use Rattle.packet_channel.specs.Packets.{CallParts, Datum}
-use Rattle.packet_channel.specs.Traffic.{Taken}
-use Rattle.packet_channel.specs.Traffic.Taken.{TakenInterrupt, TakenPacket}
+use Rattle.data_transfer.specs.Packets.{CallParts, Datum}
+use Rattle.data_transfer.specs.Traffic.{Taken}
+use Rattle.data_transfer.specs.Traffic.Taken.{TakenInterrupt, TakenPacket}
 use Rattle.packet_channel.specs.Channel.{Request}
 use Rattle.packet_layer.specs.Layer.{channel_given, front_on}
 use Rattle.packet_laws.specs.Readable.{CanBePlaced}
 use Rattle.packet_end.specs.PacketEnd.{PacketEnd}
 use Rattle.node_laws.specs.Lines.Line.{Line}
-use Rattle.packet_channel.specs.Cutting.{cut}
+use Rattle.data_transfer.specs.Cutting.{cut}
 use Rattle.packet_host.specs.Saying.{message, say_refusal}
 use Rattle.packet_host.specs.Host.{after_call, after_request, after_refuse, after_say, after_take, after_expiry}
 use Rattle.packet_host.specs.Host.{refuse_refusal}

@@ -6,7 +6,7 @@ use Rattle.lapb.specs.declared.note.Note.{Note}
 use Rattle.lapb.specs.declared.note.Note.TheVariants.{Nothing, Up, Down}
 use Rattle.lapb.specs.Machine.{Octets, Step, can_offer, on_t1}
 use Rattle.lapb.specs.Octets.{on_octets}
-use Rattle.packet_channel.specs.Packets as packets
+use Rattle.data_transfer.specs.Packets as packets
 use Rattle.packet_layer.specs.Layer.{Timer, next_packet, unread}
 use Rattle.packet_layer.specs.Events.{timer_named}
 use Rattle.packet_laws.specs.Line as layers

@@ -7,10 +7,10 @@ use Rattle.link_timers.specs.Role.{other_of}
 use Rattle.lapb.specs.Machine.{Octets, Link, is_up}
 use Rattle.lapb.specs.World.{Sent, World}
 use Rattle.lapb.specs.Line.{StandsIn}
-use Rattle.packet_channel.specs.declared.flow.Flow.{Flow}
-use Rattle.packet_channel.specs.Packets.{Packet}
-use Rattle.packet_channel.specs.Packets.Received.{Whole}
-use Rattle.packet_channel.specs.Octets.{heard}
+use Rattle.data_transfer.specs.declared.flow.Flow.{Flow}
+use Rattle.data_transfer.specs.Packets.{Packet}
+use Rattle.data_transfer.specs.Packets.Received.{Whole}
+use Rattle.data_transfer.specs.Octets.{heard}
 use Rattle.packet_layer.specs.Layer.{Layer, unread}
 use Rattle.packet_laws.specs.Line.{End, Happening}
 use Rattle.packet_laws.specs.Line as layers

@@ -4,7 +4,7 @@ use Rattle.link_timers.specs.declared.role.Role.{Role}
 use Rattle.link_timers.specs.Role.{other_of}
 use Rattle.lapb.specs.Machine.{Octets}
 use Rattle.lapb.specs.World.{World}
-use Rattle.packet_channel.specs.Packets.{Note}
+use Rattle.data_transfer.specs.Packets.{Note}
 use Rattle.packet_laws.specs.Line as layers
 use Rattle.packet_laws.specs.Line.{Event}
 use Rattle.packet_end.specs.PacketEnd.{PacketEnd}

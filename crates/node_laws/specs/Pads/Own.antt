@@ -1,7 +1,7 @@
 -- What a terminal shows is of its own call, or its own: nothing of another terminal's.
 use Rattle.std.specs.Prelude.{◌≡◌, ℕ, List, ◌++◌, slice_get, Some, false}
-use Rattle.packet_channel.specs.Packets.{Note}
-use Rattle.packet_channel.specs.Traffic.{Taken}
+use Rattle.data_transfer.specs.Packets.{Note}
+use Rattle.data_transfer.specs.Traffic.{Taken}
 use Rattle.packet_layer.specs.Layer.{front_on}
 use Rattle.pad_ports.specs.Line.{learnt_of, about}
 use Rattle.pad_ports.specs.Ports.{PortState, AtLine, has_channel, text_taken}

@@ -5,7 +5,7 @@ ghost use Rattle.packet_channel.specs.Channel as machine;
 ghost use Rattle.packet_channel.specs.Held.{Fits};
 ghost use Rattle.packet_channel.specs.StateView.{state_of};
 ghost use Rattle.packet_channel.specs.Done.{IsDone};
-ghost use Rattle.packet_channel.specs.declared.flow.Flow.{Flow as FlowValue};
+ghost use Rattle.data_transfer.specs.declared.flow.Flow.{Flow as FlowValue};
 
 use crate::channel::Channel;
 use crate::control::Control;

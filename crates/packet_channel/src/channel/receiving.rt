@@ -3,20 +3,20 @@ ghost use Rattle.std.specs.Prelude.{◌≡◌, ◌≤◌, ◌<◌, ℕ, [], leng
 ghost use Rattle.flow_window.specs.Pool.{Holds, Balances, in_use};
 ghost use Rattle.packet_codec.specs.Packet.{IsContentOn};
 ghost use Rattle.packet_codec.specs.View.{content_view};
-ghost use Rattle.packet_channel.specs.Packets.{Body as body};
+ghost use Rattle.data_transfer.specs.Packets.{Body as body};
 ghost use Rattle.packet_channel.specs.Channel as machine;
 ghost use Rattle.packet_channel.specs.Held.{Fits};
-ghost use Rattle.packet_channel.specs.Octets.{body_of};
-ghost use Rattle.packet_channel.specs.HeardView.{heard_of};
+ghost use Rattle.data_transfer.specs.Octets.{body_of};
+ghost use Rattle.data_transfer.specs.HeardView.{heard_of};
 ghost use Rattle.packet_channel.specs.Done.{IsDone};
-ghost use Rattle.packet_channel.specs.declared.flow.Flow.{Flow as FlowValue};
+ghost use Rattle.data_transfer.specs.declared.flow.Flow.{Flow as FlowValue};
 
 use crate::channel::Channel;
 use crate::control::Control;
-use crate::heard::Heard;
 use crate::note::{LayerNote, Reason};
 use crate::notes::Notes;
 use crate::state::{CallState, End};
+use data_transfer::Heard;
 use flow_window::pool::Pool;
 use link_timers::Role;
 use packet_codec::{CallBuf, Content, Numbering, Packet, clear_cause, diagnostic};

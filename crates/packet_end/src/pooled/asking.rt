@@ -7,11 +7,11 @@ ghost use Rattle.packet_channel.specs.Answers.{handed_back};
 ghost use Rattle.packet_layer.specs.Held.{Loses, Takes};
 ghost use Rattle.packet_channel.specs.Channel.{Request as ask};
 ghost use Rattle.packet_layer.specs.Layer as machine;
-ghost use Rattle.packet_channel.specs.Octets.{parts_of};
-ghost use Rattle.packet_channel.specs.Packets.{Datum};
+ghost use Rattle.data_transfer.specs.Octets.{parts_of};
+ghost use Rattle.data_transfer.specs.Packets.{Datum};
 ghost use Rattle.packet_layer.specs.RequestView.{request_of, refusal_of, call_refusal_of};
-ghost use Rattle.packet_channel.specs.TakenView.{maybe_taken_in, maybe_buffers_in, maybe_front};
-ghost use Rattle.packet_channel.specs.Traffic.Taken.{TakenPacket};
+ghost use Rattle.data_transfer.specs.TakenView.{maybe_taken_in, maybe_buffers_in, maybe_front};
+ghost use Rattle.data_transfer.specs.Traffic.Taken.{TakenPacket};
 ghost use Rattle.packet_end.specs.PacketEnd.{asked, called};
 ghost use Rattle.packet_end.specs.Pooled.{Serves};
 

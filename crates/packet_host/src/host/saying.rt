@@ -1,14 +1,14 @@
 //! What a host says on a call (X.25 4.3).
 ghost use Rattle.std.specs.Prelude.{◌≡◌, true, Some, None, MatchResult, OnOk};
-ghost use Rattle.packet_channel.specs.Cutting.{cut};
-ghost use Rattle.packet_channel.specs.Flow.{is_size};
+ghost use Rattle.data_transfer.specs.Cutting.{cut};
+ghost use Rattle.data_transfer.specs.Flow.{is_size};
 ghost use Rattle.packet_layer.specs.RequestView.{refusal_of};
 ghost use Rattle.packet_end.specs.PacketEnd as end;
 ghost use Rattle.packet_host.specs.Host.{after_say, ended_frames};
 ghost use Rattle.packet_host.specs.Saying.{say_refusal, places_needed, most_octets, message, queued, AllTaken};
 
 use crate::host::Host;
-use packet_channel::full_packets;
+use data_transfer::full_packets;
 use packet_end::PacketEnd;
 use packet_layer::{ChannelFault, Request, SEND_QUEUE};
 

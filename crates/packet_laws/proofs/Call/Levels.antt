@@ -4,11 +4,11 @@ use Rattle.std.proofs.Common.{◌≡◌, ℕ, Bool, true, false, List, [], ◌�
 use Rattle.link_timers.specs.declared.role.Role.{Role}
 use Rattle.link_timers.specs.declared.role.Role.TheVariants.{Dte}
 use Rattle.link_timers.specs.Role.{other_of}
-use Rattle.packet_channel.specs.declared.flow.Flow.{Flow}
-use Rattle.packet_channel.specs.Packets.{CallParts, Datum, Body}
-use Rattle.packet_channel.specs.Packets.Body.{Call, Accepted, Clear, ClearConfirmation, Data, Interrupt, InterruptConfirmation, ReceiveReady, ReceiveNotReady, Reset, ResetConfirmation, Restart, RestartConfirmation}
-use Rattle.packet_channel.specs.Traffic.{Traffic, Said, says, says_interrupt, says_data, says_flow, ready_or_not, window_open, flow_told}
-use Rattle.packet_channel.specs.Flow.{shown}
+use Rattle.data_transfer.specs.declared.flow.Flow.{Flow}
+use Rattle.data_transfer.specs.Packets.{CallParts, Datum, Body}
+use Rattle.data_transfer.specs.Packets.Body.{Call, Accepted, Clear, ClearConfirmation, Data, Interrupt, InterruptConfirmation, ReceiveReady, ReceiveNotReady, Reset, ResetConfirmation, Restart, RestartConfirmation}
+use Rattle.data_transfer.specs.Traffic.{Traffic, Said, says, says_interrupt, says_data, says_flow, ready_or_not, window_open, flow_told}
+use Rattle.data_transfer.specs.Flow.{shown}
 use Rattle.packet_channel.specs.Channel as channel
 use Rattle.packet_laws.proofs.Handshakes.Handshake.{Kind, Side, Two, Did, said, does, started, acted, advanced, side_hears, side_ok, Inv, AllPayload, SaysPayload, turned_two}
 use Rattle.packet_laws.proofs.Handshakes.Handshake.Kind.{Payload, Request, Confirmation}

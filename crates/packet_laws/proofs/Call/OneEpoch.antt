@@ -1,12 +1,12 @@
 -- One epoch of a call at both ends: what is sent, on the way, waiting and taken; numbers and the counts they stand for;
 -- interrupts and their confirmations.
 use Rattle.std.proofs.Common.{◌≡◌, ℕ, suc, ◌+◌, ◌%◌, ◌<◌, ◌≤◌, Bool, true, false, List, [], ◌∷◌, ◌++◌, length, Option, Some, None}
-use Rattle.packet_channel.specs.Flow.{modulus, shown}
-use Rattle.packet_channel.specs.declared.flow.Flow.{Flow}
-use Rattle.packet_channel.specs.Packets.{Datum, Body}
-use Rattle.packet_channel.specs.Packets.Body.{Data, Interrupt, InterruptConfirmation, ReceiveReady, ReceiveNotReady}
-use Rattle.packet_channel.specs.Traffic.{Traffic, Heard, fresh, says, hears, interrupt_pending}
-use Rattle.packet_channel.specs.Traffic.Heard.{Keeps, Confirms, Wrong}
+use Rattle.data_transfer.specs.Flow.{modulus, shown}
+use Rattle.data_transfer.specs.declared.flow.Flow.{Flow}
+use Rattle.data_transfer.specs.Packets.{Datum, Body}
+use Rattle.data_transfer.specs.Packets.Body.{Data, Interrupt, InterruptConfirmation, ReceiveReady, ReceiveNotReady}
+use Rattle.data_transfer.specs.Traffic.{Traffic, Heard, fresh, says, hears, interrupt_pending}
+use Rattle.data_transfer.specs.Traffic.Heard.{Keeps, Confirms, Wrong}
 use Rattle.packet_channel.specs.Channel.{Request, traffic_after}
 use Rattle.packet_channel.specs.Channel.Request.{Interrupting}
 use Rattle.packet_laws.specs.History.{Epoch, empty_epoch, logged, logged_heard}

@@ -1,8 +1,8 @@
 -- Numbers, P(R) and interrupts in a pipe when a packet is put in or taken off.
 use Rattle.std.proofs.Common.{◌≡◌, ℕ, suc, ◌+◌, ◌≤◌, List, [], ◌∷◌, ◌++◌, length, refl, sym, ap, subst, ◌∙◌, append_assoc, length-append, arith}
-use Rattle.packet_channel.specs.declared.flow.Flow.{Flow}
-use Rattle.packet_channel.specs.Packets.{Datum, Body}
-use Rattle.packet_channel.specs.Packets.Body.{Data, Interrupt, InterruptConfirmation, ReceiveReady, ReceiveNotReady}
+use Rattle.data_transfer.specs.declared.flow.Flow.{Flow}
+use Rattle.data_transfer.specs.Packets.{Datum, Body}
+use Rattle.data_transfer.specs.Packets.Body.{Data, Interrupt, InterruptConfirmation, ReceiveReady, ReceiveNotReady}
 use Rattle.packet_laws.proofs.Call.OneEpoch.{data_of, datas, interrupt_of, interrupts, confirmations, NumberOf, Numbers, AckOf, Acks}
 
 pub datas_append : (xs ys : List Body) → datas (xs ++ ys) ≡ datas xs ++ datas ys

@@ -1,12 +1,12 @@
 -- What an end says in a call, by the rules of what goes to the link, keeps the two ends of the epoch in agreement.
 use Rattle.std.proofs.Common.{◌≡◌, ℕ, ◌+◌, ◌%◌, ◌<◌, ◌≤◌, Bool, true, false, cond, not, ◌&&◌, nat_lt, List, [], ◌∷◌, ◌++◌, length, Option, Some, None, refl, sym, ap, subst, ◌∙◌, append-nil, append_assoc, length-append, arith, true≢false}
 use Rattle.std.proofs.lemmas.Bool.{ltb-true}
-use Rattle.packet_channel.specs.Flow.{shown}
-use Rattle.packet_channel.specs.declared.flow.Flow.{Flow}
-use Rattle.packet_channel.proofs.Windows.{below_small}
-use Rattle.packet_channel.specs.Packets.{Datum, Body}
-use Rattle.packet_channel.specs.Packets.Body.{Data, Interrupt, InterruptConfirmation, ReceiveReady, ReceiveNotReady}
-use Rattle.packet_channel.specs.Traffic.{Said, in_flight, window_open, flow_told, ready_or_not, says_interrupt, says_data, says_flow}
+use Rattle.data_transfer.specs.Flow.{shown}
+use Rattle.data_transfer.specs.declared.flow.Flow.{Flow}
+use Rattle.data_transfer.proofs.Windows.{below_small}
+use Rattle.data_transfer.specs.Packets.{Datum, Body}
+use Rattle.data_transfer.specs.Packets.Body.{Data, Interrupt, InterruptConfirmation, ReceiveReady, ReceiveNotReady}
+use Rattle.data_transfer.specs.Traffic.{Said, in_flight, window_open, flow_told, ready_or_not, says_interrupt, says_data, says_flow}
 use Rattle.packet_laws.proofs.Handshakes.Handshake.{said}
 use Rattle.packet_laws.proofs.Call.OneEpoch.{Inner, datas, interrupts, confirmations, NumberOf, one, Waits, Way, Epochs_agree, inner_says}
 use Rattle.packet_laws.specs.Law.{listed}

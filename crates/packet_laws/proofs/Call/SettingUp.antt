@@ -3,8 +3,8 @@ use Rattle.std.proofs.Common.{◌≡◌, Bool, true, false, not, ◌&&◌, ◌||
 use Rattle.link_timers.specs.declared.role.Role.{Role}
 use Rattle.link_timers.specs.declared.role.Role.TheVariants.{Dte, Dce}
 use Rattle.link_timers.specs.Role.{other_of}
-use Rattle.packet_channel.specs.Packets.{CallParts, Body}
-use Rattle.packet_channel.specs.Packets.Body.{Call, Accepted}
+use Rattle.data_transfer.specs.Packets.{CallParts, Body}
+use Rattle.data_transfer.specs.Packets.Body.{Call, Accepted}
 use Rattle.packet_laws.proofs.Handshakes.Handshake.{Two, Did, said, does, turned_two}
 use Rattle.packet_laws.proofs.Call.SetUp.{Stage, Use, Sort, sort, places, accepts_call, in_call, use_hears, use_ok, Pair, Passes, Path, Leads, kept_flow, flows, Idle, UseInv, SaysFlow, IsCalled, AllCalled, Answerer, Places, answers}
 use Rattle.packet_laws.proofs.Call.SetUp.Stage.{Free, Placed, Waiting, Collided, Open}

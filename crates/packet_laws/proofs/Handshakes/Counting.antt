@@ -2,7 +2,7 @@
 -- number.
 use Rattle.std.proofs.Common.{◌≡◌, ℕ, suc, ◌+◌, ◌≤◌, Bool, true, false, cond, List, [], ◌∷◌, ◌++◌, length, drop, slice_get, Some, refl, sym, ap, subst, ◌∙◌, arith}
 use Rattle.std.proofs.lemmas.Bool.{eq-eqb}
-use Rattle.packet_channel.specs.Packets.{Body}
+use Rattle.data_transfer.specs.Packets.{Body}
 use Rattle.packet_laws.proofs.Handshakes.Handshake.{Kind, Side, Two, at, Meets, Seen, Walk, Inv, AllPayload}
 use Rattle.packet_laws.proofs.Handshakes.Handshake.Kind.{Payload, Request, Confirmation}
 use Rattle.packet_laws.proofs.Handshakes.Walks.{walk_reach}

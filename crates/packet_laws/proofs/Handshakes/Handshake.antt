@@ -1,7 +1,7 @@
 -- A handshake of requests and confirmations over a payload, of which restart, clear and reset are three: its ends with their
 -- history, and what they do. A request begins the next number; so does learning of the other end's request.
 use Rattle.std.proofs.Common.{◌≡◌, ℕ, suc, ◌<◌, ◌≤◌, Bool, true, false, cond, ◌==◌, List, [], ◌∷◌, ◌++◌, length, drop, slice_get, Option, Some, None}
-use Rattle.packet_channel.specs.Packets.{Body}
+use Rattle.data_transfer.specs.Packets.{Body}
 
 pub data Kind : Type 0 where
   Payload : Kind

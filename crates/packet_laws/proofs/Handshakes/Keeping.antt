@@ -3,7 +3,7 @@ use Rattle.std.proofs.Common.{◌≡◌, ℕ, zero, suc, ◌<◌, ◌≤◌, Boo
 use Rattle.std.proofs.lemmas.Bool.{eq-eqb, ne_eqb, eqb-true}
 use Rattle.std.proofs.lemmas.List.{drop-append-le}
 use Rattle.std.proofs.lemmas.Option.{slice_get_within}
-use Rattle.packet_channel.specs.Packets.{Body}
+use Rattle.data_transfer.specs.Packets.{Body}
 use Rattle.packet_laws.proofs.Handshakes.Handshake.{Kind, Side, Two, Did, said, does, at, inner, puts, acted, reacted, advanced, side_hears, side_ok, Meets, Seen, Walk, Later, Half, Inv, AllPayload, SaysPayload, turned_two}
 use Rattle.packet_laws.proofs.Handshakes.Handshake.Kind.{Payload, Request, Confirmation}
 use Rattle.packet_laws.proofs.Handshakes.Walks.{Grows, walk_split, walk_push, walk_meets, walk_reach, walk_begin, payload_end, NumbersMeet}

@@ -1,6 +1,6 @@
 -- Walks through a pipe: what a change of the sender, of the pipe's tail and of the walker makes of them.
 use Rattle.std.proofs.Common.{◌≡◌, ℕ, suc, ◌≤◌, Bool, true, false, List, [], ◌∷◌, ◌++◌, slice_get, Some, refl, sym, ap, subst, append-nil, arith}
-use Rattle.packet_channel.specs.Packets.{Body}
+use Rattle.data_transfer.specs.Packets.{Body}
 use Rattle.packet_laws.proofs.Handshakes.Handshake.{Kind, Meets, Seen, Walk, AllPayload}
 use Rattle.packet_laws.proofs.Handshakes.Handshake.Kind.{Payload, Request, Confirmation}
 

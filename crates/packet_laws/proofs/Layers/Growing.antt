@@ -1,11 +1,11 @@
 -- Each call makes an epoch longer, leaves it as it is, or begins it anew.
 use Rattle.std.proofs.Common.{◌≡◌, ℕ, ◌+◌, ◌==◌, ◌⊎◌, Bool, true, false, List, [], ◌∷◌, append-nil, Option, Some, None, refl, inl, inr, arith}
-use Rattle.packet_channel.specs.Packets.{Body, Received}
-use Rattle.packet_channel.specs.Packets.Body.{Clear, ClearConfirmation, Reset, ResetConfirmation, Restart, RestartConfirmation}
-use Rattle.packet_channel.specs.Packets.Received.{Whole, Unknown, Faulty}
-use Rattle.packet_channel.specs.Traffic.{Traffic, Taken, Heard, front, may_release, hears}
-use Rattle.packet_channel.specs.Traffic.Taken.{TakenInterrupt, TakenPacket}
-use Rattle.packet_channel.specs.Traffic.Heard.{Keeps, Confirms, Wrong}
+use Rattle.data_transfer.specs.Packets.{Body, Received}
+use Rattle.data_transfer.specs.Packets.Body.{Clear, ClearConfirmation, Reset, ResetConfirmation, Restart, RestartConfirmation}
+use Rattle.data_transfer.specs.Packets.Received.{Whole, Unknown, Faulty}
+use Rattle.data_transfer.specs.Traffic.{Traffic, Taken, Heard, front, may_release, hears}
+use Rattle.data_transfer.specs.Traffic.Taken.{TakenInterrupt, TakenPacket}
+use Rattle.data_transfer.specs.Traffic.Heard.{Keeps, Confirms, Wrong}
 use Rattle.packet_channel.specs.Channel.{CallState, Channel, Request, Refusal, refusal, requested, received, unreadable}
 use Rattle.packet_channel.specs.Channel.CallState.{Transfer}
 use Rattle.packet_channel.specs.Channel.Request.{Sending, Interrupting, Taking, Releasing}
@@ -13,7 +13,7 @@ use Rattle.packet_layer.specs.Layer.{Layer, Phase, Timer, channel_of, runs}
 use Rattle.packet_layer.specs.Layer.Phase.{PacketReady, OwnRestart, NoSession}
 use Rattle.packet_layer.specs.Layer.Timer.{RestartTimer, CallTimer, ResetTimer, ClearTimer}
 use Rattle.packet_layer.specs.Events.{timer_named}
-use Rattle.packet_channel.specs.Octets.{heard}
+use Rattle.data_transfer.specs.Octets.{heard}
 use Rattle.packet_laws.specs.History.{Epoch, empty_epoch, logged, logged_heard, with_taken}
 use Rattle.packet_laws.specs.Law.{IsPrefix}
 use Rattle.packet_laws.proofs.Call.Saying.{by_cond}

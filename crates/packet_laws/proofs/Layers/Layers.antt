@@ -4,18 +4,18 @@ use Rattle.std.proofs.lemmas.Bool.{eqb-true, eqb-false, cases_eq}
 use Rattle.std.proofs.lemmas.Option.{none-some, same_Some}
 use Rattle.link_timers.specs.declared.role.Role.{Role}
 use Rattle.packet_codec.specs.Diagnostic.{no_information}
-use Rattle.packet_channel.specs.Flow.{modulus}
-use Rattle.packet_channel.specs.declared.flow.Flow.{Flow}
-use Rattle.packet_channel.specs.Packets.{CallParts, Body, Received}
-use Rattle.packet_channel.specs.Packets.Body.{Restart, RestartConfirmation}
-use Rattle.packet_channel.specs.Packets.Received.{Whole, Unknown, Faulty}
+use Rattle.data_transfer.specs.Flow.{modulus}
+use Rattle.data_transfer.specs.declared.flow.Flow.{Flow}
+use Rattle.data_transfer.specs.Packets.{CallParts, Body, Received}
+use Rattle.data_transfer.specs.Packets.Body.{Restart, RestartConfirmation}
+use Rattle.data_transfer.specs.Packets.Received.{Whole, Unknown, Faulty}
 use Rattle.packet_channel.specs.Channel.{Channel, Step, Request, closed_channel, clear_error, entered, is_ready, owing, placing, received, requested, unreadable, ChannelNext, next_of}
 use Rattle.packet_channel.specs.Channel.CallState.{Transfer}
 use Rattle.packet_layer.specs.Layer.{Layer, Phase, Timer, Next, nth_channel, channel_of, with_nth, standing_channels, unread, start_cause, link_up, link_down, restart_packet, on_found, on_channel, on_received, runs, expired, channel_given, placed_on, call, request, next_number, served, serve_found, serve, next_restart, next_in, next_packet}
 use Rattle.packet_layer.specs.Layer.Phase.{NoSession, OwnRestart, PacketReady}
 use Rattle.packet_layer.specs.Layer.Timer.{RestartTimer, CallTimer, ResetTimer, ClearTimer}
 use Rattle.packet_layer.specs.Events.{after_hearing, on_named, timer_named}
-use Rattle.packet_channel.specs.Octets.{heard}
+use Rattle.data_transfer.specs.Octets.{heard}
 use Rattle.packet_laws.specs.History.{Epoch, empty_epoch}
 use Rattle.packet_laws.specs.Readable.{Every, IfAny}
 use Rattle.packet_laws.proofs.Call.Saying.{by_cond, and_parts}

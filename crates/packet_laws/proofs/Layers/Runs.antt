@@ -2,9 +2,9 @@
 use Rattle.std.proofs.Common.{ℕ, ◌<◌, Bool, true, List, [], ◌∷◌, refl, sym, subst, arith}
 use Rattle.link_timers.specs.declared.role.Role.{Role}
 use Rattle.link_timers.specs.declared.role.Role.TheVariants.{Dte}
-use Rattle.packet_channel.specs.Flow.{modulus, modulo_8}
-use Rattle.packet_channel.specs.declared.flow.Flow.{Flow}
-use Rattle.packet_channel.proofs.Windows.{window_below}
+use Rattle.data_transfer.specs.Flow.{modulus, modulo_8}
+use Rattle.data_transfer.specs.declared.flow.Flow.{Flow}
+use Rattle.data_transfer.proofs.Windows.{window_below}
 use Rattle.packet_layer.specs.Params.{AreParams}
 use Rattle.packet_laws.specs.Layers.Acts.{World, Act, start, after, run}
 use Rattle.packet_laws.specs.Layers.Counts.{AllCounts, AllAgree}

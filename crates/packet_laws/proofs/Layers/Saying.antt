@@ -1,10 +1,10 @@
 -- What goes to the link from a channel is named in its epoch.
 use Rattle.std.proofs.Common.{◌≡◌, ℕ, ◌<◌, Bool, true, false, not, List, [], ◌∷◌, ◌++◌, length, slice_get, Option, Some, None, refl, sym, ap, ◌∙◌, arith, true≢false}
-use Rattle.packet_channel.specs.Flow.{modulus, shown}
-use Rattle.packet_channel.specs.declared.flow.Flow.{Flow}
-use Rattle.packet_channel.specs.Packets.{Datum, Body}
-use Rattle.packet_channel.specs.Packets.Body.{Data, ReceiveReady, ReceiveNotReady}
-use Rattle.packet_channel.specs.Traffic.{Traffic, Said, says, says_interrupt, says_data, says_flow, flow_told, window_open, ready_or_not}
+use Rattle.data_transfer.specs.Flow.{modulus, shown}
+use Rattle.data_transfer.specs.declared.flow.Flow.{Flow}
+use Rattle.data_transfer.specs.Packets.{Datum, Body}
+use Rattle.data_transfer.specs.Packets.Body.{Data, ReceiveReady, ReceiveNotReady}
+use Rattle.data_transfer.specs.Traffic.{Traffic, Said, says, says_interrupt, says_data, says_flow, flow_told, window_open, ready_or_not}
 use Rattle.packet_channel.specs.Channel.{CallState, Channel, in_transfer, has_flow, ChannelNext, next_of}
 use Rattle.packet_laws.specs.History.{Epoch}
 use Rattle.packet_laws.specs.Counts.{NamesCounts}

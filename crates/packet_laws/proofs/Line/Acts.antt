@@ -2,10 +2,10 @@
 use Rattle.std.proofs.Common.{◌≡◌, ℕ, Bool, true, false, cond, ◌==◌, List, Option, Some, None, refl, sym, ap, subst, ◌∙◌, arith, true≢false}
 use Rattle.link_timers.specs.declared.role.Role.{Role}
 use Rattle.link_timers.specs.declared.role.Role.TheVariants.{Dte, Dce}
-use Rattle.packet_channel.specs.declared.flow.Flow.{Flow}
-use Rattle.packet_channel.specs.Packets.{CallParts, Body}
-use Rattle.packet_channel.specs.Packets.Body.{Call, Accepted, Clear, Reset}
-use Rattle.packet_channel.specs.Traffic.{says}
+use Rattle.data_transfer.specs.declared.flow.Flow.{Flow}
+use Rattle.data_transfer.specs.Packets.{CallParts, Body}
+use Rattle.data_transfer.specs.Packets.Body.{Call, Accepted, Clear, Reset}
+use Rattle.data_transfer.specs.Traffic.{says}
 use Rattle.packet_channel.specs.Channel.{Channel, Step, Request, Refusal, requested, refusal, refused_if, carried_out, unless, ended, entered}
 use Rattle.packet_channel.specs.Channel.CallState.{Transfer, OwnClear}
 use Rattle.packet_channel.specs.Channel.Request.{Accept, Clearing, Resetting, Sending, Interrupting, Stopping, Taking, Releasing, Confirming}

@@ -1,8 +1,8 @@
 -- In a use in which anything was done one end accepted a call, and the other one had placed it.
 use Rattle.std.proofs.Common.{◌≡◌, ℕ, Bool, true, false, ◌&&◌, ◌||◌, List, is_some, refl, sym, ap, subst, ◌∙◌}
 use Rattle.link_timers.specs.declared.role.Role.{Role}
-use Rattle.packet_channel.specs.declared.flow.Flow.{Flow}
-use Rattle.packet_channel.specs.Packets.{Body}
+use Rattle.data_transfer.specs.declared.flow.Flow.{Flow}
+use Rattle.data_transfer.specs.Packets.{Body}
 use Rattle.packet_laws.specs.History.{Epoch, History}
 use Rattle.packet_channel.specs.Channel.{Channel}
 use Rattle.packet_channel.specs.Channel.CallState.{Transfer}

@@ -2,10 +2,10 @@
 use Rattle.std.proofs.Common.{◌≡◌, ℕ, zero, suc, ◌<◌, ◌≤◌, Bool, true, false, cond, ◌&&◌, ◌==◌, [], ◌∷◌, replicate, slice_get, Option, Some, None, refl, sym, ap, subst, ◌∙◌, arith}
 use Rattle.link_timers.specs.declared.role.Role.{Role}
 use Rattle.link_timers.specs.declared.role.Role.TheVariants.{Dte, Dce}
-use Rattle.packet_channel.specs.Flow.{modulus}
-use Rattle.packet_channel.specs.declared.flow.Flow.{Flow}
-use Rattle.packet_channel.specs.Packets.{CallParts}
-use Rattle.packet_channel.specs.Packets.Body.{Restart}
+use Rattle.data_transfer.specs.Flow.{modulus}
+use Rattle.data_transfer.specs.declared.flow.Flow.{Flow}
+use Rattle.data_transfer.specs.Packets.{CallParts}
+use Rattle.data_transfer.specs.Packets.Body.{Restart}
 use Rattle.packet_channel.specs.Channel.{closed_channel}
 use Rattle.packet_layer.specs.Layer.{nth_channel, made, standing_channels}
 use Rattle.packet_laws.specs.History.{History, empty_epoch, new_history, in_whole_use}

@@ -2,8 +2,8 @@
 use Rattle.std.proofs.Common.{◌≡◌, ℕ, suc, ◌+◌, ◌≤◌, Bool, true, false, cond, ◌||◌, ◌==◌, List, ◌∷◌, ◌++◌, drop, Option, Some, refl, sym, ap, subst, ◌∙◌, arith}
 use Rattle.std.proofs.lemmas.Bool.{eq-eqb}
 use Rattle.link_timers.specs.declared.role.Role.{Role}
-use Rattle.packet_channel.specs.Packets.{Body, Packet}
-use Rattle.packet_channel.specs.Packets.Body.{RestartConfirmation}
+use Rattle.data_transfer.specs.Packets.{Body, Packet}
+use Rattle.data_transfer.specs.Packets.Body.{RestartConfirmation}
 use Rattle.packet_channel.specs.Channel.{Channel, received}
 use Rattle.packet_layer.specs.Layer.{Phase, Layer, channel_of}
 use Rattle.packet_laws.specs.History.{Epoch, History}
@@ -24,7 +24,7 @@ use Rattle.packet_laws.proofs.Line.Using.{holds_at}
 use Rattle.packet_laws.proofs.Line.Answering.{one_answers, is_accepted}
 use Rattle.link_timers.specs.declared.role.Role.TheVariants.{Dte, Dce}
 use Rattle.link_timers.specs.Role.{other_of}
-use Rattle.packet_channel.specs.declared.flow.Flow.{Flow}
+use Rattle.data_transfer.specs.declared.flow.Flow.{Flow}
 
 way_aligned : (flow : Flow) (x y : Inner) (p q : Mark) (o b : List Body) → Way flow x y o b → Aligned (marked p x.epoch) (marked q y.epoch)
 way_aligned flow x y p q o b w = record {

@@ -4,9 +4,9 @@ use Rattle.std.proofs.Common.{◌≡◌, ℕ, zero, suc, ◌<◌, ◌≤◌, Boo
 use Rattle.std.proofs.lemmas.Bool.{eq-eqb, cases_eq}
 use Rattle.link_timers.specs.declared.role.Role.{Role}
 use Rattle.link_timers.specs.Role.{other_of}
-use Rattle.packet_channel.specs.declared.flow.Flow.{Flow}
-use Rattle.packet_channel.specs.Packets.{Body, Packet}
-use Rattle.packet_channel.specs.Packets.Body.{Restart, RestartConfirmation}
+use Rattle.data_transfer.specs.declared.flow.Flow.{Flow}
+use Rattle.data_transfer.specs.Packets.{Body, Packet}
+use Rattle.data_transfer.specs.Packets.Body.{Restart, RestartConfirmation}
 use Rattle.packet_channel.specs.Channel.{Channel}
 use Rattle.packet_layer.specs.Layer.{Layer, nth_channel, channel_of, with_nth, with_owed, passes_limit, is_full, set_if}
 use Rattle.packet_laws.specs.History.{History}

@@ -3,9 +3,9 @@ use Rattle.std.proofs.Common.{◌≡◌, ℕ, zero, suc, ◌<◌, ◌≤◌, Boo
 use Rattle.std.proofs.lemmas.Bool.{eq-eqb, ne_eqb, eqb-true, cases_eq}
 use Rattle.link_timers.specs.declared.role.Role.{Role}
 use Rattle.link_timers.specs.Role.{other_of}
-use Rattle.packet_channel.specs.declared.flow.Flow.{Flow}
-use Rattle.packet_channel.specs.Packets.{CallParts, Body, Packet}
-use Rattle.packet_channel.specs.Packets.Body.{Restart}
+use Rattle.data_transfer.specs.declared.flow.Flow.{Flow}
+use Rattle.data_transfer.specs.Packets.{CallParts, Body, Packet}
+use Rattle.data_transfer.specs.Packets.Body.{Restart}
 use Rattle.packet_channel.specs.Channel.{Channel, Step, Request, closed_channel, requested, clear_error}
 use Rattle.packet_layer.specs.Layer as layer
 use Rattle.packet_layer.specs.Layer.{Layer, Timer, channel_of, with_nth, on_found, call, placed_on, channel_given, request, on_timer, expired, unread, runs, link_down, start_cause}

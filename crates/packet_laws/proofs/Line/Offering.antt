@@ -3,9 +3,9 @@ use Rattle.std.proofs.Common.{◌≡◌, ℕ, zero, suc, ◌<◌, ◌≤◌, Boo
 use Rattle.std.proofs.lemmas.Bool.{ne_eqb, cases_eq}
 use Rattle.std.proofs.lemmas.List.{drop-append-le}
 use Rattle.link_timers.specs.declared.role.Role.{Role}
-use Rattle.packet_channel.specs.declared.flow.Flow.{Flow}
-use Rattle.packet_channel.specs.Packets.{Body, Packet}
-use Rattle.packet_channel.specs.Traffic.{says}
+use Rattle.data_transfer.specs.declared.flow.Flow.{Flow}
+use Rattle.data_transfer.specs.Packets.{Body, Packet}
+use Rattle.data_transfer.specs.Traffic.{says}
 use Rattle.packet_channel.specs.Channel.{Channel, has_flow, moved}
 use Rattle.packet_layer.specs.Layer.{Phase, Layer, Next, ChannelNext, channel_of, with_nth, next_packet, next_in, next_restart, serve, serve_found, next_of, next_owed, next_number, packet_of}
 use Rattle.packet_layer.specs.Layer.Phase.{NoSession, OwnRestart, PacketReady}

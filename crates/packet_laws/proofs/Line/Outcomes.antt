@@ -3,9 +3,9 @@ use Rattle.std.proofs.Common.{◌≡◌, ℕ, zero, suc, Bool, true, false, cond
 use Rattle.std.proofs.lemmas.Bool.{ne_eqb, cases_eq}
 use Rattle.link_timers.specs.declared.role.Role.{Role}
 use Rattle.link_timers.specs.declared.role.Role.TheVariants.{Dte, Dce}
-use Rattle.packet_channel.specs.declared.flow.Flow.{Flow}
-use Rattle.packet_channel.specs.Packets.{CallParts, Body, Reason}
-use Rattle.packet_channel.specs.Packets.Body.{Call, Clear, Restart}
+use Rattle.data_transfer.specs.declared.flow.Flow.{Flow}
+use Rattle.data_transfer.specs.Packets.{CallParts, Body, Reason}
+use Rattle.data_transfer.specs.Packets.Body.{Call, Clear, Restart}
 use Rattle.packet_channel.specs.Channel.{CallState, Channel, Step, Request, requested, clear_error, closed_channel, error_cause, in_transfer}
 use Rattle.packet_channel.specs.Channel.CallState.{OwnClear}
 use Rattle.packet_layer.specs.Layer.{Phase, Layer, Timer, nth_channel, channel_of, after_step, owing, on_found, with_owed, passes_limit, unread, restarting, all_closed, placing, placed_on, call, channel_given, free_channel, lowest_free, highest_free, is_free, is_ready, either_of, raised, itself_if, request, runs, runs_at, expired, on_timer, waits_for_call, waits_for_clear}
@@ -248,7 +248,7 @@ request_outcome flow role x y link b rest l c d r role_is flow_is g s p =
 
 clear_any : (flow : Flow) (role : Role) (rown own : Bool) (s : Stage) (rs : Bool) (n : Whole) (owed : List Body) (cause diagnostic : ℕ) (test : CallState → Bool) → rown ≡ false → test OwnClear ≡ false
     → test (stored (in_any rown own s rs n)).state ≡ true → Laters (in_any rown own s rs n)
-    → Act flow role (in_any rown own s rs n) owed (record (shown (stored (in_any rown own s rs n)) owed) { state = OwnClear; resetting = false; traffic = Rattle.packet_channel.specs.Traffic.fresh }) (Some (Clear cause diagnostic)) (λ st. next_use_of st)
+    → Act flow role (in_any rown own s rs n) owed (record (shown (stored (in_any rown own s rs n)) owed) { state = OwnClear; resetting = false; traffic = Rattle.data_transfer.specs.Traffic.fresh }) (Some (Clear cause diagnostic)) (λ st. next_use_of st)
 clear_any flow role true own s rs n owed cause diagnostic test r never e l = absurd (true≢false r)
 clear_any flow role false true s rs n owed cause diagnostic test r never e l = absurd (true≢false (sym e ∙ never))
 clear_any flow role false false s rs n owed cause diagnostic test r never e l = clear_act flow role s rs n owed cause diagnostic l

@@ -3,9 +3,9 @@ use Rattle.std.proofs.Common.{◌≡◌, ℕ, Bool, true, false, cond, List, [],
 use Rattle.std.proofs.lemmas.Bool.{eq-eqb}
 use Rattle.link_timers.specs.declared.role.Role.{Role}
 use Rattle.link_timers.specs.Role.{other_of}
-use Rattle.packet_channel.specs.declared.flow.Flow.{Flow}
-use Rattle.packet_channel.specs.Packets.{Body, Packet}
-use Rattle.packet_channel.specs.Traffic.{Traffic}
+use Rattle.data_transfer.specs.declared.flow.Flow.{Flow}
+use Rattle.data_transfer.specs.Packets.{Body, Packet}
+use Rattle.data_transfer.specs.Traffic.{Traffic}
 use Rattle.packet_channel.specs.Channel.{Channel}
 use Rattle.packet_laws.specs.History.{Epoch, History}
 use Rattle.packet_laws.specs.Line.{Line}

@@ -1,9 +1,9 @@
 -- Worked runs of a line, by computation.
 use Rattle.std.proofs.Common.{◌≡◌, ℕ, zero, suc, true, false, List, [], ◌∷◌, ◌++◌, ◌+◌, Some, refl, length, None, arith}
-use Rattle.packet_channel.specs.Flow.{modulo_8, modulo_128}
-use Rattle.packet_channel.specs.Packets.{CallParts, Datum, Body, Packet, Reason}
-use Rattle.packet_channel.specs.Packets.Body.{Call, Accepted, Data, ReceiveReady, Reset, Restart}
-use Rattle.packet_channel.specs.Packets.Note.{Incoming, Connected, Closed, Covered}
+use Rattle.data_transfer.specs.Flow.{modulo_8, modulo_128}
+use Rattle.data_transfer.specs.Packets.{CallParts, Datum, Body, Packet, Reason}
+use Rattle.data_transfer.specs.Packets.Body.{Call, Accepted, Data, ReceiveReady, Reset, Restart}
+use Rattle.data_transfer.specs.Packets.Note.{Incoming, Connected, Closed, Covered}
 use Rattle.link_timers.specs.declared.role.Role.TheVariants.{Dte, Dce}
 use Rattle.packet_channel.specs.Channel.{CallState, Refusal, closed_channel}
 use Rattle.packet_channel.specs.Channel.Request.{Accept, Clearing, Resetting, Sending, Taking, Releasing}

@@ -2,9 +2,9 @@
 -- goes with it.
 use Rattle.std.proofs.Common.{◌≡◌, ℕ, suc, ◌+◌, ◌<◌, Bool, true, false, cond, ◌&&◌, ◌==◌, List, refl, sym, ap, subst, ◌∙◌, arith, Option, Some, None}
 use Rattle.link_timers.specs.declared.role.Role.{Role}
-use Rattle.packet_channel.specs.declared.flow.Flow.{Flow}
-use Rattle.packet_channel.specs.Packets.{CallParts, Body}
-use Rattle.packet_channel.specs.Traffic.{Traffic, Taken, Heard, fresh, front, may_release}
+use Rattle.data_transfer.specs.declared.flow.Flow.{Flow}
+use Rattle.data_transfer.specs.Packets.{CallParts, Body}
+use Rattle.data_transfer.specs.Traffic.{Traffic, Taken, Heard, fresh, front, may_release}
 use Rattle.packet_channel.specs.Channel.{CallState, Channel, Request}
 use Rattle.packet_channel.specs.Channel.CallState.{Ready, OwnWaiting, FarWaiting, Transfer, Collision, OwnClear}
 use Rattle.packet_layer.specs.Layer.{Phase}

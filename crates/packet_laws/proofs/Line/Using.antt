@@ -3,8 +3,8 @@ use Rattle.std.proofs.Common.{◌≡◌, ℕ, ◌<◌, Bool, true, false, cond, 
 use Rattle.std.proofs.lemmas.Bool.{ne_eqb}
 use Rattle.link_timers.specs.declared.role.Role.{Role}
 use Rattle.link_timers.specs.declared.role.Role.TheVariants.{Dte, Dce}
-use Rattle.packet_channel.specs.declared.flow.Flow.{Flow}
-use Rattle.packet_channel.specs.Packets.{CallParts}
+use Rattle.data_transfer.specs.declared.flow.Flow.{Flow}
+use Rattle.data_transfer.specs.Packets.{CallParts}
 use Rattle.packet_channel.specs.Channel.{Channel}
 use Rattle.packet_laws.specs.History.{Epoch, History, empty_epoch}
 use Rattle.packet_laws.specs.Line.{Line}

@@ -3,8 +3,8 @@ use Rattle.std.proofs.Common.{◌≡◌, ℕ, ◌≤◌, Bool, true, false, ◌&
 use Rattle.std.proofs.lemmas.Bool.{eqb-true, cases_eq}
 use Rattle.link_timers.specs.declared.role.Role.{Role}
 use Rattle.link_timers.specs.declared.role.Role.TheVariants.{Dte, Dce}
-use Rattle.packet_channel.specs.Packets.{CallParts, Body, Reason}
-use Rattle.packet_channel.specs.Packets.Body.{Restart}
+use Rattle.data_transfer.specs.Packets.{CallParts, Body, Reason}
+use Rattle.data_transfer.specs.Packets.Body.{Restart}
 use Rattle.packet_channel.specs.Channel.{CallState, Channel, Step, Request, requested, clear_error, closed_channel, in_transfer, error_cause}
 use Rattle.packet_channel.specs.Channel.CallState.{Ready, OwnWaiting, FarWaiting, Transfer, Collision, OwnClear}
 use Rattle.packet_layer.specs.Layer.{Phase, Layer, Timer, channel_of, after_step, owing, on_found, with_owed, passes_limit, set_if, is_full, unread, restarting, all_closed, placing, placed_on, call, channel_given, is_free, is_ready, request, runs, runs_at, expired, on_timer, waits_for_call, waits_for_clear}

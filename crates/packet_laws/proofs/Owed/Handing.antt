@@ -2,9 +2,9 @@
 use Rattle.std.proofs.Common.{◌≡◌, ℕ, ◌≤◌, Bool, true, false, cond, ◌||◌, ◌==◌, List, [], ◌∷◌, ◌++◌, length, Option, Some, None, refl, sym, ap, subst, ◌∙◌, arith, true≢false, inl, inr}
 use Rattle.std.proofs.lemmas.Bool.{ne_eqb, cases_eq}
 use Rattle.link_timers.specs.declared.role.Role.{Role}
-use Rattle.packet_channel.specs.declared.flow.Flow.{Flow}
-use Rattle.packet_channel.specs.Packets.{Body, Packet}
-use Rattle.packet_channel.specs.Traffic.{says}
+use Rattle.data_transfer.specs.declared.flow.Flow.{Flow}
+use Rattle.data_transfer.specs.Packets.{Body, Packet}
+use Rattle.data_transfer.specs.Traffic.{says}
 use Rattle.packet_channel.specs.Channel.{CallState, Channel, has_flow, moved}
 use Rattle.packet_channel.specs.Channel.CallState.{Ready, OwnWaiting, FarWaiting, Transfer, Collision, OwnClear}
 use Rattle.packet_layer.specs.Layer.{Layer, Next, ChannelNext, channel_of, with_nth, next_packet, next_of, next_owed, packet_of}

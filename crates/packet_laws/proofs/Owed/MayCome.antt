@@ -3,8 +3,8 @@
 use Rattle.std.proofs.Common.{◌≡◌, ℕ, ◌+◌, ◌≤◌, ◌⊎◌, Bool, true, false, List, [], ◌∷◌, ◌++◌, length, refl, ap, arith, ◌||◌, true≢false, inl, inr, length-append}
 use Rattle.link_timers.specs.declared.role.Role.{Role}
 use Rattle.link_timers.specs.declared.role.Role.TheVariants.{Dte, Dce}
-use Rattle.packet_channel.specs.Packets.{Body}
-use Rattle.packet_channel.specs.Packets.Body.{Call, Accepted, Clear, ClearConfirmation, Data, Interrupt, InterruptConfirmation, ReceiveReady, ReceiveNotReady, Reset, ResetConfirmation}
+use Rattle.data_transfer.specs.Packets.{Body}
+use Rattle.data_transfer.specs.Packets.Body.{Call, Accepted, Clear, ClearConfirmation, Data, Interrupt, InterruptConfirmation, ReceiveReady, ReceiveNotReady, Reset, ResetConfirmation}
 use Rattle.packet_channel.specs.Channel.{CallState}
 use Rattle.packet_channel.specs.Channel.CallState.{Ready, OwnWaiting, FarWaiting, Transfer, Collision, OwnClear}
 use Rattle.packet_laws.proofs.Handshakes.Handshake.{Kind}

@@ -2,9 +2,9 @@
 use Rattle.std.proofs.Common.{◌≡◌, ℕ, ◌≤◌, Bool, true, false, cond, not, List, [], ◌∷◌, ◌++◌, length, drop, Option, Some, None, refl, sym, ap, subst, ◌∙◌, append_assoc, append-nil, arith, inl, inr}
 use Rattle.link_timers.specs.declared.role.Role.{Role}
 use Rattle.link_timers.specs.Role.{other_of}
-use Rattle.packet_channel.specs.declared.flow.Flow.{Flow}
-use Rattle.packet_channel.specs.Packets.{Body}
-use Rattle.packet_channel.specs.Packets.Body.{Restart, RestartConfirmation}
+use Rattle.data_transfer.specs.declared.flow.Flow.{Flow}
+use Rattle.data_transfer.specs.Packets.{Body}
+use Rattle.data_transfer.specs.Packets.Body.{Restart, RestartConfirmation}
 use Rattle.packet_channel.specs.Channel.{CallState, Channel}
 use Rattle.packet_channel.specs.Channel.CallState.{Ready}
 use Rattle.packet_layer.specs.Layer.{Phase, channel_of}

@@ -4,9 +4,9 @@ use Rattle.std.proofs.lemmas.Bool.{eq-eqb, eqb-true, ne_eqb, cases_eq}
 use Rattle.std.proofs.lemmas.Option.{slice_get_within}
 use Rattle.link_timers.specs.declared.role.Role.{Role}
 use Rattle.link_timers.specs.Role.{other_of}
-use Rattle.packet_channel.specs.declared.flow.Flow.{Flow}
-use Rattle.packet_channel.specs.Packets.{CallParts, Body, Packet, Received}
-use Rattle.packet_channel.specs.Packets.Body.{Restart}
+use Rattle.data_transfer.specs.declared.flow.Flow.{Flow}
+use Rattle.data_transfer.specs.Packets.{CallParts, Body, Packet, Received}
+use Rattle.data_transfer.specs.Packets.Body.{Restart}
 use Rattle.packet_channel.specs.Channel.{CallState, Channel, Request, closed_channel}
 use Rattle.packet_layer.specs.Layer.{Phase, Layer, Next, Timer, nth_channel, channel_of, call, request, on_timer, on_packet, next_packet, link_down, channel_given, start_cause}
 use Rattle.packet_layer.specs.Layer.Phase.{NoSession, OwnRestart}

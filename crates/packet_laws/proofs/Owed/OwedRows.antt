@@ -1,9 +1,9 @@
 -- Worked runs of a line with one channel on which as much is owed as may be, by computation.
 use Rattle.std.proofs.Common.{◌≡◌, ℕ, zero, suc, true, false, List, [], ◌∷◌, ◌++◌, Option, Some, refl}
 use Rattle.link_timers.specs.declared.role.Role.TheVariants.{Dce}
-use Rattle.packet_channel.specs.Flow.{modulo_8}
-use Rattle.packet_channel.specs.Packets.{CallParts, Body, Received}
-use Rattle.packet_channel.specs.Packets.Body.{Call, Accepted, Clear, Reset, Restart}
+use Rattle.data_transfer.specs.Flow.{modulo_8}
+use Rattle.data_transfer.specs.Packets.{CallParts, Body, Received}
+use Rattle.data_transfer.specs.Packets.Body.{Call, Accepted, Clear, Reset, Restart}
 use Rattle.packet_channel.specs.Channel.{Channel, CallState}
 use Rattle.packet_channel.specs.Channel.Request.{Accept, Clearing, Resetting}
 use Rattle.packet_layer.specs.Layer.{Layer, channel_of, made, link_up, on_packet}

@@ -1,8 +1,8 @@
 -- A line of which the requests for a relink are taken back: what happens to a line happens to it too, as long as only the restart
 -- timer asks for a relink, or nothing does. Histories and notes may differ, which no event reads.
 use Rattle.std.proofs.Common.{◌≡◌, ℕ, zero, suc, Bool, true, false, cond, ◌==◌, List, [], ◌∷◌, length, Option, Some, None, is_some, refl, sym, ap, subst, ◌∙◌}
-use Rattle.packet_channel.specs.Packets.{CallParts, Body, Packet, Received, Note}
-use Rattle.packet_channel.specs.Packets.Body.{Restart, RestartConfirmation}
+use Rattle.data_transfer.specs.Packets.{CallParts, Body, Packet, Received, Note}
+use Rattle.data_transfer.specs.Packets.Body.{Restart, RestartConfirmation}
 use Rattle.packet_channel.specs.Channel.{Channel, Step, Request, requested, received, clear_error}
 use Rattle.packet_layer.specs.Layer.{Phase, Layer, Next, Timer, channel_of, call, channel_given, placed_on, placing, request, on_found, on_channel, on_timer, expired, runs, runs_at, restart_packet, on_packet, unread, next_packet, next_in, next_restart, next_number, next_of, serve, serve_found, link_down, in_own_restart, waits_for_call}
 use Rattle.packet_layer.specs.Layer.Phase.{NoSession, OwnRestart, PacketReady}

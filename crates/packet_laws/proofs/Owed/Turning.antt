@@ -2,10 +2,10 @@
 use Rattle.std.proofs.Common.{◌≡◌, ℕ, ◌+◌, ◌≤◌, ◌⊎◌, Bool, true, false, List, [], ◌∷◌, ◌++◌, length, Option, Some, None, refl, sym, ap, subst, arith, inl, inr}
 use Rattle.link_timers.specs.declared.role.Role.{Role}
 use Rattle.link_timers.specs.declared.role.Role.TheVariants.{Dte, Dce}
-use Rattle.packet_channel.specs.declared.flow.Flow.{Flow}
-use Rattle.packet_channel.specs.Packets.{CallParts, Body}
-use Rattle.packet_channel.specs.Packets.Body.{Call, Accepted, Clear, Reset}
-use Rattle.packet_channel.specs.Traffic.{Traffic}
+use Rattle.data_transfer.specs.declared.flow.Flow.{Flow}
+use Rattle.data_transfer.specs.Packets.{CallParts, Body}
+use Rattle.data_transfer.specs.Packets.Body.{Call, Accepted, Clear, Reset}
+use Rattle.data_transfer.specs.Traffic.{Traffic}
 use Rattle.packet_channel.specs.Channel.{CallState, Step, Request, Refusal, requested, refusal, unless, quiet, moved, clear_error}
 use Rattle.packet_channel.specs.Channel.CallState.{Ready, OwnWaiting, FarWaiting, Transfer, Collision, OwnClear}
 use Rattle.packet_channel.specs.Channel.Request.{Accept, Clearing, Resetting, Sending, Interrupting, Stopping, Taking, Releasing, Confirming}

@@ -3,7 +3,7 @@ use Rattle.std.proofs.Common.{◌≡◌, ℕ, zero, suc, Bool, true, false, List
 use Rattle.std.specs.Prelude.{◌↔◌, ◌&&◌, ◌==◌, length, Option, Some, None, IfSome, IsSome}
 use Rattle.link_timers.specs.declared.role.Role.{Role}
 use Rattle.link_timers.specs.declared.role.Role.TheVariants.{Dte, Dce}
-use Rattle.packet_channel.specs.declared.flow.Flow.{Flow}
+use Rattle.data_transfer.specs.declared.flow.Flow.{Flow}
 use Rattle.packet_codec.specs.declared.packet_type.PacketType.TheVariants as types
 use Rattle.call_states.specs.declared.state.CallState.TheVariants as states
 use Rattle.call_states.specs.declared.table.CallNote.TheVariants.{Nothing}
@@ -12,8 +12,8 @@ use Rattle.call_states.specs.declared.table.UserAct.{UserAct}
 use Rattle.call_states.specs.declared.table.UserAct.TheVariants as acts
 use Rattle.call_states.specs.Table.{call_step}
 use Rattle.reset_restart.specs.declared.reset.ResetEvent.TheVariants.{UserReset}
-use Rattle.packet_channel.specs.Packets.{CallParts, Body}
-use Rattle.packet_channel.specs.Traffic.{Traffic}
+use Rattle.data_transfer.specs.Packets.{CallParts, Body}
+use Rattle.data_transfer.specs.Traffic.{Traffic}
 use Rattle.packet_channel.specs.Channel.{CallState, Channel, Request, refusal, requested}
 use Rattle.packet_channel.specs.Channel.CallState.{Ready, Transfer}
 use Rattle.packet_layer.specs.Layer.{Phase, Layer, nth_channel, channel_given, free_channel, lowest_free, highest_free, is_free, is_ready, raised, either_of, itself_if, placing}

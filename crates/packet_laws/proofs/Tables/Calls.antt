@@ -3,14 +3,14 @@ use Rattle.std.proofs.Common.{◌≡◌, ℕ, Bool, true, false, List, refl, sym
 use Rattle.std.specs.Prelude.{◌≢◌, Option, Some, None}
 use Rattle.link_timers.specs.declared.role.Role.{Role}
 use Rattle.link_timers.specs.declared.role.Role.TheVariants.{Dte, Dce}
-use Rattle.packet_channel.specs.declared.flow.Flow.{Flow}
+use Rattle.data_transfer.specs.declared.flow.Flow.{Flow}
 use Rattle.call_states.specs.declared.table.CallNote.TheVariants.{InDataTransfer}
 use Rattle.call_states.specs.declared.table.CallStep.{CallStep}
 use Rattle.reset_restart.specs.declared.reset.ResetStep.{ResetStep}
-use Rattle.packet_channel.specs.Packets.{Body, Received}
-use Rattle.packet_channel.specs.Packets.{Body as body}
-use Rattle.packet_channel.specs.Packets.Received.{Whole, Unknown, Faulty}
-use Rattle.packet_channel.specs.Traffic.{Traffic}
+use Rattle.data_transfer.specs.Packets.{Body, Received}
+use Rattle.data_transfer.specs.Packets.{Body as body}
+use Rattle.data_transfer.specs.Packets.Received.{Whole, Unknown, Faulty}
+use Rattle.data_transfer.specs.Traffic.{Traffic}
 use Rattle.packet_channel.specs.Channel.{CallState, Channel}
 use Rattle.packet_channel.specs.Channel.CallState.{Ready, OwnWaiting, FarWaiting, Transfer, Collision, OwnClear}
 use Rattle.packet_laws.specs.Tables.States.{channel_named, body_read}

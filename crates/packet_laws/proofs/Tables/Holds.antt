@@ -5,7 +5,7 @@ use Rattle.reset_restart.specs.declared.reset.ResetEvent.TheVariants.{UserReset}
 use Rattle.reset_restart.specs.Restart.{restart_step}
 use Rattle.call_states.specs.declared.table.UserAct.{UserAct}
 use Rattle.call_states.specs.declared.table.UserAct.TheVariants as acts
-use Rattle.packet_channel.specs.Packets.Received.{Whole}
+use Rattle.data_transfer.specs.Packets.Received.{Whole}
 use Rattle.packet_channel.specs.Channel.{Channel, Request, requested}
 use Rattle.packet_layer.specs.Layer.{Layer, channel_of, after_step, on_found, on_packet, request, placing, placed_on, refusal_at}
 use Rattle.packet_laws.specs.Tables.States.{restart_state, type_of, channel_named, body_read, packet_asked}

@@ -4,14 +4,14 @@ use Rattle.std.proofs.Common.{◌≡◌, ℕ, Bool, true, false, List, refl, ap,
 use Rattle.std.specs.Prelude.{Option, Some, None, IfSome}
 use Rattle.link_timers.specs.declared.role.Role.{Role}
 use Rattle.link_timers.specs.declared.role.Role.TheVariants.{Dte, Dce}
-use Rattle.packet_channel.specs.declared.flow.Flow.{Flow}
+use Rattle.data_transfer.specs.declared.flow.Flow.{Flow}
 use Rattle.call_states.specs.declared.table.CallNote.TheVariants.{InDataTransfer}
 use Rattle.call_states.specs.declared.table.CallStep.{CallStep}
 use Rattle.reset_restart.specs.declared.reset.ResetStep.{ResetStep}
-use Rattle.packet_channel.specs.Packets.{Body, Received}
-use Rattle.packet_channel.specs.Packets.{Body as body}
-use Rattle.packet_channel.specs.Packets.Received.{Whole, Unknown, Faulty}
-use Rattle.packet_channel.specs.Traffic.{Traffic, Heard, hears}
+use Rattle.data_transfer.specs.Packets.{Body, Received}
+use Rattle.data_transfer.specs.Packets.{Body as body}
+use Rattle.data_transfer.specs.Packets.Received.{Whole, Unknown, Faulty}
+use Rattle.data_transfer.specs.Traffic.{Traffic, Heard, hears}
 use Rattle.packet_channel.specs.Channel.{CallState, Channel, received, after_heard}
 use Rattle.packet_channel.specs.Channel.CallState.{Ready, OwnWaiting, FarWaiting, Transfer, Collision, OwnClear}
 use Rattle.packet_laws.specs.Tables.States.{call_state, channel_named, body_read}

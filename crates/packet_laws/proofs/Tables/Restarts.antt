@@ -7,11 +7,11 @@ use Rattle.link_timers.specs.declared.role.Role.TheVariants.{Dte, Dce}
 use Rattle.packet_codec.specs.declared.packet_type.PacketType.{PacketType}
 use Rattle.packet_codec.specs.declared.packet_type.PacketType.TheVariants as types
 use Rattle.packet_codec.specs.Reading.{is_on_channel}
-use Rattle.packet_channel.specs.declared.flow.Flow.{Flow}
+use Rattle.data_transfer.specs.declared.flow.Flow.{Flow}
 use Rattle.reset_restart.specs.Restart.{restart_step}
-use Rattle.packet_channel.specs.Packets.{Body, Packet, Received, Note}
-use Rattle.packet_channel.specs.Packets.{Body as body}
-use Rattle.packet_channel.specs.Packets.Received.{Whole, Unknown, Faulty}
+use Rattle.data_transfer.specs.Packets.{Body, Packet, Received, Note}
+use Rattle.data_transfer.specs.Packets.{Body as body}
+use Rattle.data_transfer.specs.Packets.Received.{Whole, Unknown, Faulty}
 use Rattle.packet_channel.specs.Channel.{Channel, Step, error_cause, received, unreadable}
 use Rattle.packet_layer.specs.Layer.{Phase, Layer, restart_packet, on_channel, unread, on_packet}
 use Rattle.packet_layer.specs.Layer.Phase.{PacketReady, OwnRestart, NoSession}

@@ -1,10 +1,10 @@
 -- What P(S) and P(R) name on the channels of a packet layer: places and counts of the present epochs.
 use Rattle.std.specs.Prelude.{◌≡◌, ℕ, ◌+◌, ◌<◌, ◌≤◌, Bool, false, List, Option, Some, slice_get}
-use Rattle.packet_channel.specs.Flow.{modulus, shown}
-use Rattle.packet_channel.specs.declared.flow.Flow.{Flow}
-use Rattle.packet_channel.specs.Packets.{Body, Packet}
-use Rattle.packet_channel.specs.Packets.Body.{Data, ReceiveReady, ReceiveNotReady}
-use Rattle.packet_channel.specs.Traffic.{Traffic, fresh}
+use Rattle.data_transfer.specs.Flow.{modulus, shown}
+use Rattle.data_transfer.specs.declared.flow.Flow.{Flow}
+use Rattle.data_transfer.specs.Packets.{Body, Packet}
+use Rattle.data_transfer.specs.Packets.Body.{Data, ReceiveReady, ReceiveNotReady}
+use Rattle.data_transfer.specs.Traffic.{Traffic, fresh}
 use Rattle.packet_channel.specs.Channel.{CallState, Channel, in_transfer}
 use Rattle.packet_layer.specs.Layer.{nth_channel}
 use Rattle.packet_laws.specs.History.{Epoch, empty_epoch}

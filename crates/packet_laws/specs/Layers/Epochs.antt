@@ -2,12 +2,12 @@
 -- its channel, and begins anew with each reset and each end of a call.
 use Rattle.std.specs.Prelude.{ℕ, Bool, true, false, if◌then◌else◌, ◌==◌, Option, Some, None}
 use Rattle.link_timers.specs.declared.role.Role.{Role}
-use Rattle.packet_channel.specs.declared.flow.Flow.{Flow}
-use Rattle.packet_channel.specs.Packets.{Body, Received}
-use Rattle.packet_channel.specs.Packets.Body.{Clear, ClearConfirmation, Reset, ResetConfirmation, Restart}
-use Rattle.packet_channel.specs.Packets.Body.{RestartConfirmation}
-use Rattle.packet_channel.specs.Packets.Received.{Whole, Unknown, Faulty}
-use Rattle.packet_channel.specs.Traffic.{Traffic, Heard, hears}
+use Rattle.data_transfer.specs.declared.flow.Flow.{Flow}
+use Rattle.data_transfer.specs.Packets.{Body, Received}
+use Rattle.data_transfer.specs.Packets.Body.{Clear, ClearConfirmation, Reset, ResetConfirmation, Restart}
+use Rattle.data_transfer.specs.Packets.Body.{RestartConfirmation}
+use Rattle.data_transfer.specs.Packets.Received.{Whole, Unknown, Faulty}
+use Rattle.data_transfer.specs.Traffic.{Traffic, Heard, hears}
 use Rattle.packet_channel.specs.Channel.{CallState, Channel, Request, Refusal, refusal, requested, received, unreadable}
 use Rattle.packet_channel.specs.Channel.CallState.{Transfer}
 use Rattle.packet_layer.specs.Layer.{Phase, Layer, Timer, channel_of, runs}

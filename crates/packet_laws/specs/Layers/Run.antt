@@ -1,9 +1,9 @@
 -- A run of a packet layer, by computation: it meets what the law asks for.
 use Rattle.std.specs.Prelude.{◌≡◌, ℕ, zero, suc, ◌*◌, ◌%◌, true, false, List, [], ◌∷◌, ◌++◌, Some}
 use Rattle.link_timers.specs.declared.role.Role.TheVariants.{Dte}
-use Rattle.packet_channel.specs.Flow.{modulo_8, modulo_128}
-use Rattle.packet_channel.specs.Packets.{Datum, Body}
-use Rattle.packet_channel.specs.Packets.Body.{Data, ReceiveReady}
+use Rattle.data_transfer.specs.Flow.{modulo_8, modulo_128}
+use Rattle.data_transfer.specs.Packets.{Datum, Body}
+use Rattle.data_transfer.specs.Packets.Body.{Data, ReceiveReady}
 use Rattle.packet_channel.specs.Channel.Request.{Sending, Taking, Releasing}
 use Rattle.packet_layer.specs.Layer.{next_packet}
 use Rattle.packet_layer.specs.Params.{AreParams}

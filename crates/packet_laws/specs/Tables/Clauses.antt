@@ -12,9 +12,9 @@ use Rattle.reset_restart.specs.declared.restart.RestartStep.{RestartStep}
 use Rattle.reset_restart.specs.Restart.{restart_step}
 use Rattle.packet_codec.specs.declared.packet_type.PacketType.{PacketType}
 use Rattle.packet_codec.specs.Reading.{is_on_channel}
-use Rattle.packet_channel.specs.Packets.{CallParts, Body, Packet, Received}
-use Rattle.packet_channel.specs.Packets.Received.{Whole}
-use Rattle.packet_channel.specs.Traffic.{hears}
+use Rattle.data_transfer.specs.Packets.{CallParts, Body, Packet, Received}
+use Rattle.data_transfer.specs.Packets.Received.{Whole}
+use Rattle.data_transfer.specs.Traffic.{hears}
 use Rattle.packet_channel.specs.Channel.{Channel, Step, Request, after_heard}
 use Rattle.packet_layer.specs.Layer.{Phase, Layer, channel_of, channel_given, after_step, unread, on_packet, call}
 use Rattle.packet_layer.specs.Layer.{request, request_refusal}

@@ -15,10 +15,10 @@ use Rattle.packet_codec.specs.ClearCause as clear_cause
 use Rattle.packet_codec.specs.ResetCause as reset_cause
 use Rattle.packet_codec.specs.RestartCause as restart_cause
 use Rattle.packet_codec.specs.Diagnostic.{no_information}
-use Rattle.packet_channel.specs.Packets.{Body, Reason}
-use Rattle.packet_channel.specs.Packets.Body.{Call, Clear, Reset, Restart}
-use Rattle.packet_channel.specs.Packets.Note.{Incoming, Connected, Closed, WasReset}
-use Rattle.packet_channel.specs.Packets.Reason.{FarEnd, LocalFault, FarRestart, Cancelled}
+use Rattle.data_transfer.specs.Packets.{Body, Reason}
+use Rattle.data_transfer.specs.Packets.Body.{Call, Clear, Reset, Restart}
+use Rattle.data_transfer.specs.Packets.Note.{Incoming, Connected, Closed, WasReset}
+use Rattle.data_transfer.specs.Packets.Reason.{FarEnd, LocalFault, FarRestart, Cancelled}
 use Rattle.packet_channel.specs.Channel.{Channel, Step, quiet, closed_channel, error_cause, in_transfer}
 use Rattle.packet_layer.specs.Layer.{Layer, with_owed, passes_limit, set_if, closing_notes, unread}
 use Rattle.packet_laws.specs.Tables.States.{call_state, reset_state, restart_state, type_of}

@@ -10,8 +10,8 @@ use Rattle.reset_restart.specs.declared.reset.ResetEvent.{ResetEvent}
 use Rattle.reset_restart.specs.declared.reset.ResetEvent.TheVariants as reset_events
 use Rattle.reset_restart.specs.declared.reset.ResetStep.{ResetStep}
 use Rattle.reset_restart.specs.Reset.{reset_step}
-use Rattle.packet_channel.specs.Packets.{Received}
-use Rattle.packet_channel.specs.Packets.Received.{Whole, Unknown, Faulty}
+use Rattle.data_transfer.specs.Packets.{Received}
+use Rattle.data_transfer.specs.Packets.Received.{Whole, Unknown, Faulty}
 use Rattle.packet_channel.specs.Channel.{Channel, in_transfer}
 use Rattle.packet_laws.specs.Tables.States.{call_state, reset_state, type_of}
 

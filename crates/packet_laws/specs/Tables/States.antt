@@ -13,9 +13,9 @@ use Rattle.reset_restart.specs.declared.reset.ResetState.{ResetState}
 use Rattle.reset_restart.specs.declared.reset.ResetState.TheVariants as resets
 use Rattle.reset_restart.specs.declared.restart.RestartState.{RestartState}
 use Rattle.reset_restart.specs.declared.restart.RestartState.TheVariants as restarts
-use Rattle.packet_channel.specs.Packets.{Body, Received}
-use Rattle.packet_channel.specs.Packets.Received.{Whole, Unknown, Faulty}
-use Rattle.packet_channel.specs.Octets.{content_of}
+use Rattle.data_transfer.specs.Packets.{Body, Received}
+use Rattle.data_transfer.specs.Packets.Received.{Whole, Unknown, Faulty}
+use Rattle.data_transfer.specs.Octets.{content_of}
 use Rattle.packet_channel.specs.Channel as channel
 use Rattle.packet_channel.specs.Channel.{Request}
 use Rattle.packet_layer.specs.Layer.{Phase}

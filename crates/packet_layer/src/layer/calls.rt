@@ -2,25 +2,26 @@
 ghost use Rattle.std.specs.Prelude.{◌≤◌, ◌≡◌, ◌<◌, ◌+◌, true, false, Some, None, MatchResult, MatchOption, length};
 ghost use Rattle.flow_window.specs.Pool.{IsIn, Holds, Balances};
 ghost use Rattle.packet_channel.specs.Answers.{WhenSending, handed_back};
-ghost use Rattle.packet_channel.specs.Held.{Loses, Takes};
+ghost use Rattle.data_transfer.specs.Held.{Loses, Takes};
 ghost use Rattle.packet_layer.specs.Held.{HasRoom, most_held, plain};
 ghost use Rattle.packet_codec.specs.Packet.{IsCallValue};
 ghost use Rattle.packet_codec.specs.View.{call_view};
 ghost use Rattle.packet_channel.specs.Channel.{Request as asked};
 ghost use Rattle.packet_layer.specs.Layer as machine;
-ghost use Rattle.packet_channel.specs.Octets.{parts_of};
-ghost use Rattle.packet_channel.specs.Packets.{Datum};
-ghost use Rattle.packet_channel.specs.Traffic.Taken.{TakenPacket};
+ghost use Rattle.data_transfer.specs.Octets.{parts_of};
+ghost use Rattle.data_transfer.specs.Packets.{Datum};
+ghost use Rattle.data_transfer.specs.Traffic.Taken.{TakenPacket};
 ghost use Rattle.packet_layer.specs.RequestView.{request_of, bare_request_of, refusal_of, call_refusal_of};
-ghost use Rattle.packet_channel.specs.TakenView.{maybe_taken, maybe_taken_in, maybe_buffers_in};
+ghost use Rattle.data_transfer.specs.TakenView.{maybe_taken, maybe_taken_in, maybe_buffers_in};
 ghost use Rattle.packet_layer.specs.Free.{IsFreeAt};
 
 use crate::fault::CallFault;
 use crate::layer::Layer;
 use crate::restart::Phase;
+use data_transfer::{Taken, TakenBuf};
 use flow_window::pool::{BufNo, Pool};
 use link_timers::Role;
-use packet_channel::{BareRequest, Channel, ChannelFault, RefusedBuf, Request, Taken, TakenBuf};
+use packet_channel::{BareRequest, Channel, ChannelFault, RefusedBuf, Request};
 use packet_codec::{CallBuf, CallData};
 
 fn lowest_free(channels: &[Channel]) -> Option<usize>

@@ -7,7 +7,7 @@ ghost use Rattle.packet_codec.specs.Reading.{named_channel};
 ghost use Rattle.packet_codec.specs.View.{content_view};
 ghost use Rattle.packet_layer.specs.Layer as machine;
 ghost use Rattle.packet_channel.specs.Channel.{received};
-ghost use Rattle.packet_channel.specs.Octets.{body_of, unreadable_as};
+ghost use Rattle.data_transfer.specs.Octets.{body_of, unreadable_as};
 ghost use Rattle.packet_layer.specs.Events.{on_octets, after_hearing};
 
 use crate::layer::Layer;

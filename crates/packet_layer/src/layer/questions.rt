@@ -6,13 +6,14 @@ ghost use Rattle.std.specs.List.{list_all};
 ghost use Rattle.packet_layer.specs.Layer as machine;
 ghost use Rattle.packet_layer.specs.Interrupting.{may_interrupt};
 ghost use Rattle.packet_layer.specs.RequestView.{refusal_of};
-ghost use Rattle.packet_channel.specs.Flow.{IsFlow};
-ghost use Rattle.packet_channel.specs.TakenView.{maybe_front};
+ghost use Rattle.data_transfer.specs.Flow.{IsFlow};
+ghost use Rattle.data_transfer.specs.TakenView.{maybe_front};
 
 use crate::layer::Layer;
+use data_transfer::{Flow, Front};
 use flow_window::pool::Pool;
 use link_timers::Role;
-use packet_channel::{Channel, ChannelFault, Flow, Front};
+use packet_channel::{Channel, ChannelFault};
 
 impl Layer {
     /// Whether certainly no packet goes to the link next, so that none need be asked for.

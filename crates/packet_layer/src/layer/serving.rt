@@ -103,7 +103,7 @@ impl Layer {
     }
 
     // What one channel has. Where that is nothing, the channel need not be served again.
-    #[tactic(auto, using(packet_channel::proofs::Windows::window_small))]
+    #[tactic(auto, using(data_transfer::proofs::Windows::window_small))]
     fn serve_channel(&mut self, place: usize, buf: &mut PacketBuf, pool: &mut Pool) -> bool
         requires place { place < length self.old.layer.channels }
         requires holds { Holds pool.old self.old.held }

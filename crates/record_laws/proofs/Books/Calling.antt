@@ -6,7 +6,7 @@ use Rattle.epochs.specs.Epoch.{nothing_sent, nothing_taken}
 use Rattle.link_timers.specs.declared.role.Role.{Role}
 use Rattle.link_timers.specs.declared.role.Role.TheVariants.{Dte}
 use Rattle.link_timers.specs.Role.{other_of}
-use Rattle.packet_channel.specs.Packets.{CallParts}
+use Rattle.data_transfer.specs.Packets.{CallParts}
 use Rattle.std.specs.Option.{IsSome}
 use Rattle.call_records.specs.Records.{new_record}
 use Rattle.call_records.specs.Book.{Slot, address_of}

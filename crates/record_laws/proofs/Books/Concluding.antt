@@ -8,9 +8,9 @@ use Rattle.link_timers.specs.Role.{other_of}
 use Rattle.epochs.specs.Item.{DataPacket}
 use Rattle.epochs.specs.Prefix.{IsListPrefix}
 use Rattle.epochs.specs.Epoch.{SentEpoch, TakenEpoch, nothing_sent, nothing_taken, taken_epoch, IsEmpty, IsAligned, AreAligned}
-use Rattle.epochs.proofs.Matches.{aligned-match}
+use Rattle.epochs.proofs.MatchedLists.{aligned-match}
 use Rattle.std.proofs.lemmas.List.{length-map}
-use Rattle.packet_channel.specs.Packets.{Datum}
+use Rattle.data_transfer.specs.Packets.{Datum}
 use Rattle.packet_laws.specs.History.{Epoch}
 use Rattle.packet_laws.specs.Law.{Aligned, HasNoLogs}
 use Rattle.call_records.specs.Records.{RecordValue, PairValue, taken_epochs}

@@ -3,8 +3,8 @@ use Rattle.std.specs.Prelude.{◌≡◌, ℕ, zero, suc, ◌+◌, ◌≤◌, ◌
 use Rattle.std.proofs.Common.{inl, inr, refl, sym, ap, subst, ◌∙◌, arith}
 use Rattle.std.proofs.lemmas.Option.{none-some}
 use Rattle.link_timers.specs.declared.role.Role.{Role}
-use Rattle.packet_channel.specs.Packets.{Note, Reason}
-use Rattle.packet_channel.specs.Packets.Note.{Closed}
+use Rattle.data_transfer.specs.Packets.{Note, Reason}
+use Rattle.data_transfer.specs.Packets.Note.{Closed}
 use Rattle.packet_channel.specs.Channel.{CallState, Channel, closed_channel}
 use Rattle.packet_channel.specs.Channel.CallState.{Ready, OwnWaiting, FarWaiting, Transfer, Collision, OwnClear}
 use Rattle.packet_layer.specs.Layer.{nth_channel, channel_of, closing_notes, had_call}

@@ -3,10 +3,10 @@ use Rattle.std.specs.Prelude.{◌≡◌, ℕ, ◌+◌, ◌≤◌, ◌⊎◌, Boo
 use Rattle.std.proofs.Common.{inl, inr, refl, sym, ap, subst, ◌∙◌, arith}
 use Rattle.std.proofs.lemmas.Option.{same_Some}
 use Rattle.std.proofs.lemmas.Bool.{eq-eqb, lt-ltb}
-use Rattle.packet_channel.specs.Packets.{CallParts, Packet, Body, Reason}
-use Rattle.packet_channel.specs.Packets.Body.{Call, Restart, RestartConfirmation}
-use Rattle.packet_channel.specs.Packets.Reason.{FarRestart, LocalFault}
-use Rattle.packet_channel.specs.Packets.Received.{Whole}
+use Rattle.data_transfer.specs.Packets.{CallParts, Packet, Body, Reason}
+use Rattle.data_transfer.specs.Packets.Body.{Call, Restart, RestartConfirmation}
+use Rattle.data_transfer.specs.Packets.Reason.{FarRestart, LocalFault}
+use Rattle.data_transfer.specs.Packets.Received.{Whole}
 use Rattle.packet_channel.specs.Channel.{CallState, Channel, Step, closed_channel, received}
 use Rattle.packet_channel.specs.Channel.CallState.{Ready, OwnWaiting}
 use Rattle.packet_layer.specs.Layer.{Phase, Layer, nth_channel, channel_of, closing_notes, unread, restart_packet, on_found, on_channel, on_packet, after_step, owing}

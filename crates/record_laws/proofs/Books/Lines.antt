@@ -5,10 +5,10 @@ use Rattle.std.proofs.lemmas.Bool.{ltb-true}
 use Rattle.link_timers.specs.declared.role.Role.{Role}
 use Rattle.link_timers.specs.declared.role.Role.TheVariants.{Dte, Dce}
 use Rattle.link_timers.specs.Role.{other_of}
-use Rattle.packet_channel.specs.Flow.{modulus}
-use Rattle.packet_channel.specs.declared.flow.Flow.{Flow}
+use Rattle.data_transfer.specs.Flow.{modulus}
+use Rattle.data_transfer.specs.declared.flow.Flow.{Flow}
 use Rattle.pad_editing.specs.Edited.{Step}
-use Rattle.packet_channel.specs.Packets.{Packet, Datum}
+use Rattle.data_transfer.specs.Packets.{Packet, Datum}
 use Rattle.packet_layer.specs.Layer.{link_up, runs, channel_given}
 use Rattle.packet_laws.specs.History.{Epoch}
 use Rattle.packet_laws.specs.Law.{Holds, HasNoLogs, Aligned}

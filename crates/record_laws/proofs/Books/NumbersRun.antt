@@ -4,9 +4,9 @@ use Rattle.std.proofs.Common.{◌≡◌, ℕ, zero, suc, ◌+◌, ◌<◌, ◌�
 use Rattle.std.specs.Prelude.{◌&&◌}
 use Rattle.std.proofs.lemmas.Bool.{and_parts}
 use Rattle.epochs.specs.Item.{DataPacket}
-use Rattle.packet_channel.specs.Flow.{modulo_128}
-use Rattle.packet_channel.specs.Packets.{Packet}
-use Rattle.packet_channel.specs.Packets.Body.{Data}
+use Rattle.data_transfer.specs.Flow.{modulo_128}
+use Rattle.data_transfer.specs.Packets.{Packet}
+use Rattle.data_transfer.specs.Packets.Body.{Data}
 use Rattle.packet_channel.specs.Channel.Request.{Sending, Taking, Releasing}
 use Rattle.packet_laws.specs.Line.{Line, End, Event, turned, accepts, arrives_in, offers, happens, next_of_session}
 use Rattle.packet_laws.specs.Line.Event.{Up, Down, Calls, Requests, Expires, Offers, Arrives}

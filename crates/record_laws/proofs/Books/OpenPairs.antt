@@ -5,8 +5,8 @@ use Rattle.std.proofs.lemmas.Option.{none-some, slice_get_within}
 use Rattle.link_timers.specs.declared.role.Role.{Role}
 use Rattle.link_timers.specs.declared.role.Role.TheVariants.{Dte, Dce}
 use Rattle.link_timers.specs.Role.{other_of}
-use Rattle.packet_channel.specs.Flow.{modulus}
-use Rattle.packet_channel.specs.declared.flow.Flow.{Flow}
+use Rattle.data_transfer.specs.Flow.{modulus}
+use Rattle.data_transfer.specs.declared.flow.Flow.{Flow}
 use Rattle.packet_laws.specs.History.{History}
 use Rattle.packet_laws.specs.Law.{Holds, epoch_now}
 use Rattle.packet_laws.specs.Counted.{IsCounted}

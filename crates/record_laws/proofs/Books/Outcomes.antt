@@ -7,12 +7,12 @@ use Rattle.link_timers.specs.declared.role.Role.{Role}
 use Rattle.link_timers.specs.declared.role.Role.TheVariants.{Dte, Dce}
 use Rattle.epochs.specs.Item.{DataPacket}
 use Rattle.epochs.specs.Epoch.{SentEpoch, TakenEpoch, nothing_sent, nothing_taken}
-use Rattle.packet_channel.specs.Packets.{CallParts, Datum, Body}
-use Rattle.packet_channel.specs.Packets.Body.{Call, Accepted, Clear, ClearConfirmation, Data, Interrupt, InterruptConfirmation, ReceiveReady, ReceiveNotReady, Reset, ResetConfirmation}
-use Rattle.packet_channel.specs.Packets.Note.{Covered}
-use Rattle.packet_channel.specs.Traffic.{Traffic, Heard, Taken, front, may_release, in_flight, unreleased, interrupted, covers, keeps, arrives, partner_says, hears, covering}
-use Rattle.packet_channel.specs.Traffic.Heard.{Keeps, Confirms, Wrong}
-use Rattle.packet_channel.specs.Traffic.Taken.{TakenInterrupt, TakenPacket}
+use Rattle.data_transfer.specs.Packets.{CallParts, Datum, Body}
+use Rattle.data_transfer.specs.Packets.Body.{Call, Accepted, Clear, ClearConfirmation, Data, Interrupt, InterruptConfirmation, ReceiveReady, ReceiveNotReady, Reset, ResetConfirmation}
+use Rattle.data_transfer.specs.Packets.Note.{Covered}
+use Rattle.data_transfer.specs.Traffic.{Traffic, Heard, Taken, front, may_release, in_flight, unreleased, interrupted, covers, keeps, arrives, partner_says, hears, covering}
+use Rattle.data_transfer.specs.Traffic.Heard.{Keeps, Confirms, Wrong}
+use Rattle.data_transfer.specs.Traffic.Taken.{TakenInterrupt, TakenPacket}
 use Rattle.packet_channel.specs.Channel.{CallState, Channel, Request, Refusal, received, received_in, after_heard, in_own_reset, in_flow_ready, carried_out, refusal, refused_if, may_accept, in_transfer}
 use Rattle.packet_channel.specs.Channel.Request.{Accept, Clearing, Resetting, Sending, Interrupting, Stopping, Taking, Releasing, Confirming}
 use Rattle.packet_channel.specs.Channel.CallState.{Ready, OwnWaiting, FarWaiting, Transfer, Collision, OwnClear}
@@ -29,8 +29,8 @@ use Rattle.link_timers.specs.Role.{other_of}
 use Rattle.record_laws.specs.Books.Told.{carried, all_came_by}
 use Rattle.record_laws.proofs.Books.Invariant.{HasEpochs, HasSent, HasTaken, sent_as, taken_as, own_sent, own_taken, sent_of, taken_of, passed_sent, passed_taken, nth_sent, nth_taken, all_sent, all_taken}
 use Rattle.std.proofs.lemmas.List.{length-map}
-use Rattle.packet_channel.specs.Flow.{modulus, shown, ahead_shown}
-use Rattle.packet_channel.specs.declared.flow.Flow.{Flow}
+use Rattle.data_transfer.specs.Flow.{modulus, shown, ahead_shown}
+use Rattle.data_transfer.specs.declared.flow.Flow.{Flow}
 use Rattle.record_laws.proofs.Books.Invariant.{CallStatus}
 use Rattle.record_laws.proofs.Books.Invariant.CallStatus.{Idle, OwnCall, FarCall, Open}
 use Rattle.record_laws.proofs.Books.Carrying.{SameHead}
@@ -476,7 +476,7 @@ got_heard : (x : Role) (d : ℕ) (ch : Channel) (came : CallParts → Type 0) �
     → Outcome x d ch (after_heard x d ch h).channel (λ st. opened (after_heard x d ch h).owes (heard_history Transfer false h st)) (λ b. all_told x (after_heard x d ch h).notes b) (λ b l. all_came_by x (after_heard x d ch h).notes b l) came
 got_heard x d ch came e (Keeps n t) fits = got_keeps (n == 0) x d n ch t came e fits (λ h. eqb-true n 0 h)
 got_heard x d ch came e (Confirms t) fits = stays refl (grown_same (λ z. z) (λ z. refl)) (λ b. refl) (λ b l. refl)
-got_heard x d ch came e (Wrong diagnostic) fits = resets x d ch (record ch { resetting = true; traffic = Rattle.packet_channel.specs.Traffic.fresh }) (λ b. all_told x (after_heard x d ch (Wrong diagnostic)).notes b) (λ b l. all_came_by x (after_heard x d ch (Wrong diagnostic)).notes b l) came e e (λ b. refl) (λ b l. refl)
+got_heard x d ch came e (Wrong diagnostic) fits = resets x d ch (record ch { resetting = true; traffic = Rattle.data_transfer.specs.Traffic.fresh }) (λ b. all_told x (after_heard x d ch (Wrong diagnostic)).notes b) (λ b l. all_came_by x (after_heard x d ch (Wrong diagnostic)).notes b l) came e e (λ b. refl) (λ b l. refl)
 
 got_ready_flow : (x : Role) (flow : Flow) (d : ℕ) (ch : Channel) → status_of x ch.state ≡ Open → (body : Body) → GotIn false x flow d ch body
 got_ready_flow x flow d ch e (Clear cause diagnostic) = ends refl next_use (λ b. refl) (λ b l. refl)

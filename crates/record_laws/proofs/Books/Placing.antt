@@ -4,8 +4,8 @@ use Rattle.std.proofs.Common.{inl, inr, refl, sym, ap, subst, ◌∙◌, arith, 
 use Rattle.std.proofs.lemmas.Option.{none-some, same_Some}
 use Rattle.std.proofs.lemmas.Bool.{ne_eqb}
 use Rattle.link_timers.specs.declared.role.Role.{Role}
-use Rattle.packet_channel.specs.Packets.{CallParts, Note}
-use Rattle.packet_channel.specs.Packets.Reason.{LinkLost, LocalFault}
+use Rattle.data_transfer.specs.Packets.{CallParts, Note}
+use Rattle.data_transfer.specs.Packets.Reason.{LinkLost, LocalFault}
 use Rattle.packet_channel.specs.Channel.{CallState, Channel, clear_error, in_transfer}
 use Rattle.packet_channel.specs.Channel.CallState.{Ready}
 use Rattle.packet_layer.specs.Layer as layer

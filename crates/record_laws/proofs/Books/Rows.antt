@@ -2,8 +2,8 @@
 use Rattle.std.specs.Prelude.{is_some}
 use Rattle.std.proofs.Common.{◌≡◌, ℕ, ◌<◌, ◌≤◌, true, false, List, [], ◌∷◌, Some, None, refl, arith}
 use Rattle.epochs.specs.Epoch.{nothing_sent, nothing_taken}
-use Rattle.packet_channel.specs.Flow.{modulo_8}
-use Rattle.packet_channel.specs.Packets.{CallParts, Datum}
+use Rattle.data_transfer.specs.Flow.{modulo_8}
+use Rattle.data_transfer.specs.Packets.{CallParts, Datum}
 use Rattle.packet_channel.specs.Channel.Request.{Accept, Resetting, Sending, Taking, Releasing}
 use Rattle.packet_laws.specs.Line.Happening.{Here, There}
 use Rattle.packet_laws.specs.Line.Event.{Up, Calls, Requests, Offers, Arrives}

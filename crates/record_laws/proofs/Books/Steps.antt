@@ -5,7 +5,7 @@ use Rattle.std.specs.Option.{IsSome}
 use Rattle.link_timers.specs.declared.role.Role.{Role}
 use Rattle.link_timers.specs.declared.role.Role.TheVariants.{Dte, Dce}
 use Rattle.link_timers.specs.Role.{other_of}
-use Rattle.packet_channel.specs.Packets.{CallParts}
+use Rattle.data_transfer.specs.Packets.{CallParts}
 use Rattle.packet_layer.specs.Layer.{channel_of}
 use Rattle.packet_laws.specs.History.{Epoch, History, placed, with_call}
 use Rattle.packet_laws.specs.Law.{IsBegun, IsUnused}

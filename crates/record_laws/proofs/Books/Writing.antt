@@ -5,8 +5,8 @@ use Rattle.std.proofs.lemmas.Option.{none-some, same_Some}
 use Rattle.link_timers.specs.declared.role.Role.{Role}
 use Rattle.link_timers.specs.declared.role.Role.TheVariants.{Dte, Dce}
 use Rattle.link_timers.specs.Role.{other_of}
-use Rattle.packet_channel.specs.Packets.{Note, Reason}
-use Rattle.packet_channel.specs.Packets.Note.{Closed}
+use Rattle.data_transfer.specs.Packets.{Note, Reason}
+use Rattle.data_transfer.specs.Packets.Note.{Closed}
 use Rattle.packet_channel.specs.Channel.{Channel}
 use Rattle.packet_layer.specs.Layer.{closing_notes, had_call}
 use Rattle.call_records.specs.Records.{RecordValue, PairValue, with_closed}

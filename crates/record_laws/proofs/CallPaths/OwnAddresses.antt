@@ -6,8 +6,8 @@ use Rattle.std.proofs.lemmas.List.{length-set}
 use Rattle.link_timers.specs.declared.role.Role.{Role}
 use Rattle.link_timers.specs.declared.role.Role.TheVariants.{Dte, Dce}
 use Rattle.link_timers.specs.Role.{other_of}
-use Rattle.packet_channel.specs.Packets.{CallParts}
-use Rattle.packet_channel.specs.Packets.Note.{Incoming}
+use Rattle.data_transfer.specs.Packets.{CallParts}
+use Rattle.data_transfer.specs.Packets.Note.{Incoming}
 use Rattle.packet_channel.specs.Channel.Request.{Accept}
 use Rattle.call_records.specs.Records.{RecordValue, HopValue, PairValue, new_record, with_closed, with_hop}
 use Rattle.call_records.specs.Book.{Book, Side, Slot, free_slot, side_of, nth_slot, with_nth, found_slot, slot_at, with_slot, with_change, changed, with_record, with_pair, address_of, calling_from, closes, answers}

@@ -4,9 +4,9 @@ use Rattle.std.specs.Prelude.{slice_get}
 use Rattle.std.specs.List.{Contains}
 use Rattle.link_timers.specs.declared.role.Role.{Role}
 use Rattle.link_timers.specs.declared.role.Role.TheVariants.{Dte, Dce}
-use Rattle.packet_channel.specs.Packets.{Datum}
+use Rattle.data_transfer.specs.Packets.{Datum}
 use Rattle.epochs.specs.Epoch.{IsAligned}
-use Rattle.epochs.proofs.Matches.{aligned-match}
+use Rattle.epochs.proofs.MatchedLists.{aligned-match}
 use Rattle.epochs.proofs.Confirms.{confirms_itself}
 use Rattle.call_records.specs.Records.{RecordValue, new_record}
 use Rattle.call_records.specs.Book.{packet_of}

@@ -3,7 +3,7 @@ use Rattle.std.proofs.Common.{◌≡◌, ℕ, zero, suc, inl, inr, Bool, true, f
 use Rattle.std.specs.Prelude.{slice_get, map}
 use Rattle.link_timers.specs.declared.role.Role.{Role}
 use Rattle.link_timers.specs.Role.{other_of}
-use Rattle.packet_channel.specs.Packets.{CallParts}
+use Rattle.data_transfer.specs.Packets.{CallParts}
 use Rattle.call_records.specs.Records.{RecordValue, with_closed}
 use Rattle.call_records.specs.Book.{Book, Slot, slot_at, side_of, with_slot, with_change, with_record, with_pair, changed, comes, answers, closes, places_from}
 use Rattle.call_records.specs.Closing.{closes_if, closes_present, closed_from, all_closed}

@@ -5,7 +5,7 @@ use Rattle.link_timers.specs.declared.role.Role.{Role}
 use Rattle.link_timers.specs.declared.role.Role.TheVariants.{Dte, Dce}
 use Rattle.epochs.specs.Epoch.{IsAligned}
 use Rattle.epochs.proofs.Confirms.{confirms_itself}
-use Rattle.packet_channel.specs.Packets.{Datum}
+use Rattle.data_transfer.specs.Packets.{Datum}
 use Rattle.call_records.specs.Book.{packet_of}
 use Rattle.record_laws.specs.Books.Rest.{NothingMissing}
 use Rattle.record_laws.specs.Registers.Promise.{PairHolds, HasRecords}

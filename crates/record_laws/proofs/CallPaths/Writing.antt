@@ -3,7 +3,7 @@ use Rattle.std.proofs.Common.{◌≡◌, ℕ, zero, suc, Bool, true, false, List
 use Rattle.std.proofs.lemmas.Option.{none-some}
 use Rattle.link_timers.specs.declared.role.Role.{Role}
 use Rattle.link_timers.specs.Role.{other_of}
-use Rattle.packet_channel.specs.Packets.{CallParts}
+use Rattle.data_transfer.specs.Packets.{CallParts}
 use Rattle.call_records.specs.Records.{RecordValue, new_record, with_closed}
 use Rattle.call_records.specs.Book.{Book, Slot, side_of, slot_at, with_slot, with_record, changed, address_of, calling_from, places_from, comes, answers, closes}
 use Rattle.call_records.specs.Closing.{closes_if, closes_present, closed_from, all_closed}

@@ -5,7 +5,7 @@ use Rattle.std.proofs.lemmas.Option.{none-some, slice_get_within}
 use Rattle.std.proofs.lemmas.List.{set-set, append_assoc, append-nil}
 use Rattle.link_timers.specs.declared.role.Role.{Role}
 use Rattle.link_timers.specs.declared.role.Role.TheVariants.{Dte, Dce}
-use Rattle.packet_channel.specs.Packets.Note.{Incoming}
+use Rattle.data_transfer.specs.Packets.Note.{Incoming}
 use Rattle.packet_channel.specs.Channel.Request.{Accept}
 use Rattle.call_records.specs.Records.{RecordValue, PairValue}
 use Rattle.call_records.specs.Book.{Book, Slot, free_slot, found_slot, nth_slot, side_of, new_book, made_book}

@@ -4,9 +4,9 @@ use Rattle.std.specs.Prelude.{slice_get}
 use Rattle.std.proofs.lemmas.Option.{none-some, same_Some}
 use Rattle.link_timers.specs.declared.role.Role.TheVariants.{Dte, Dce}
 use Rattle.epochs.specs.Epoch.{nothing_sent, nothing_taken}
-use Rattle.packet_channel.specs.Flow.{modulo_8}
-use Rattle.packet_channel.specs.Packets.Note.{Incoming, Connected}
-use Rattle.packet_channel.specs.Traffic.Taken.{TakenPacket}
+use Rattle.data_transfer.specs.Flow.{modulo_8}
+use Rattle.data_transfer.specs.Packets.Note.{Incoming, Connected}
+use Rattle.data_transfer.specs.Traffic.Taken.{TakenPacket}
 use Rattle.packet_channel.specs.Channel.Request.{Accept, Sending, Taking}
 use Rattle.call_records.specs.Records.{RecordValue}
 use Rattle.call_records.specs.Book.{Book, packet_of}

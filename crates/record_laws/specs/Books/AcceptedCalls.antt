@@ -3,8 +3,8 @@ use Rattle.std.specs.Prelude.{◌≡◌, ℕ, ◌<◌, ◌≤◌, Bool, true, Li
 use Rattle.link_timers.specs.declared.role.Role.{Role}
 use Rattle.link_timers.specs.declared.role.Role.TheVariants.{Dce}
 use Rattle.link_timers.specs.Role.{other_of}
-use Rattle.packet_channel.specs.Flow.{modulus, modulo_8}
-use Rattle.packet_channel.specs.declared.flow.Flow.{Flow}
+use Rattle.data_transfer.specs.Flow.{modulus, modulo_8}
+use Rattle.data_transfer.specs.declared.flow.Flow.{Flow}
 use Rattle.packet_channel.specs.Channel.Request.{Clearing}
 use Rattle.packet_laws.specs.History.{Epoch}
 use Rattle.packet_laws.specs.Line.{Line}

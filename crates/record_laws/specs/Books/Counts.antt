@@ -4,8 +4,8 @@
 use Rattle.std.specs.Prelude.{◌≡◌, ℕ, ◌<◌, ◌≤◌, ◌⊎◌, Bool, List, [], ◌∷◌, ◌++◌, length, map, slice_get, Some}
 use Rattle.link_timers.specs.declared.role.Role.{Role}
 use Rattle.epochs.specs.Epoch.{SentEpoch, TakenEpoch}
-use Rattle.packet_channel.specs.Flow.{modulus}
-use Rattle.packet_channel.specs.declared.flow.Flow.{Flow}
+use Rattle.data_transfer.specs.Flow.{modulus}
+use Rattle.data_transfer.specs.declared.flow.Flow.{Flow}
 use Rattle.packet_laws.specs.History.{Epoch, empty_epoch}
 use Rattle.packet_laws.specs.Line.{End}
 use Rattle.call_records.specs.Records.{RecordValue}

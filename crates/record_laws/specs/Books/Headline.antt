@@ -10,8 +10,8 @@ use Rattle.packet_layer.specs.Layer.{Layer, channel_of, had_call}
 use Rattle.epochs.specs.Epoch.{Epoch, IsEmpty, AreAligned}
 use Rattle.epochs.specs.Match.{Match}
 use Rattle.epochs.specs.Confirmed.{Confirmed, Confirms, sent_confirmed, taken_confirmed, all_taken}
-use Rattle.packet_channel.specs.Flow.{modulus}
-use Rattle.packet_channel.specs.declared.flow.Flow.{Flow}
+use Rattle.data_transfer.specs.Flow.{modulus}
+use Rattle.data_transfer.specs.declared.flow.Flow.{Flow}
 use Rattle.call_records.specs.Records.{RecordValue, PairValue, sent_epochs, taken_epochs}
 use Rattle.call_records.specs.Book.{Book, Slot, side_of, slot_at}
 use Rattle.record_laws.specs.Books.Told.{World, Move, after_all, all_callers, made_callers, AreAllowed, start}

@@ -3,11 +3,11 @@ use Rattle.std.specs.Prelude.{ℕ, ◌≤◌, Bool, if◌then◌else◌, List, [
 use Rattle.link_timers.specs.declared.role.Role.{Role}
 use Rattle.link_timers.specs.declared.role.Role.TheVariants.{Dte, Dce}
 use Rattle.link_timers.specs.Role.{other_of}
-use Rattle.packet_channel.specs.declared.flow.Flow.{Flow}
+use Rattle.data_transfer.specs.declared.flow.Flow.{Flow}
 use Rattle.pad_editing.specs.Edited.{Step}
-use Rattle.packet_channel.specs.Packets.{Packet, Note}
-use Rattle.packet_channel.specs.Packets.Note.{Incoming}
-use Rattle.packet_channel.specs.Packets.Received.{Whole}
+use Rattle.data_transfer.specs.Packets.{Packet, Note}
+use Rattle.data_transfer.specs.Packets.Note.{Incoming}
+use Rattle.data_transfer.specs.Packets.Received.{Whole}
 use Rattle.packet_layer.specs.Layer.{Layer, runs, link_up, link_down, on_packet, on_timer, channel_given}
 use Rattle.packet_layer.specs.Layer.{request_refusal, front_on}
 use Rattle.packet_laws.specs.Line.{Line, Event, Happening, turned, start_line, may_begin, next_of_session, after_one}

@@ -2,8 +2,8 @@
 -- of the DTE goes on, and that of the DCE is cancelled. Its caller's path keeps its hop; it is in no pair.
 use Rattle.std.specs.Prelude.{◌≡◌, true, false, List, [], ◌∷◌, Some, None}
 use Rattle.link_timers.specs.declared.role.Role.TheVariants.{Dte, Dce}
-use Rattle.packet_channel.specs.Packets.Note.{Incoming, Closed}
-use Rattle.packet_channel.specs.Packets.Reason.{FarEnd, Cancelled}
+use Rattle.data_transfer.specs.Packets.Note.{Incoming, Closed}
+use Rattle.data_transfer.specs.Packets.Reason.{FarEnd, Cancelled}
 use Rattle.packet_channel.specs.Channel.Request.{Accept}
 use Rattle.call_records.specs.Records.{new_record}
 use Rattle.call_records.specs.Writes.Write.{Told, Placed, Asked, Cleared}

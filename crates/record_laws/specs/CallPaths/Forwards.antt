@@ -3,7 +3,7 @@
 use Rattle.std.specs.Prelude.{◌≡◌, ℕ, false, ◌⊎◌, List, [], ◌∷◌, slice_get, Some}
 use Rattle.epochs.specs.Confirmed.{Confirms}
 use Rattle.epochs.specs.ConfirmedLaws.{AreEmpty}
-use Rattle.packet_channel.specs.Packets.{CallParts}
+use Rattle.data_transfer.specs.Packets.{CallParts}
 use Rattle.call_records.specs.Records.{RecordValue}
 use Rattle.call_records.specs.Book.{slot_at, address_of}
 use Rattle.call_records.specs.Register.{LinePlan, book_at}

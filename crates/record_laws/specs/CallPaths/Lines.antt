@@ -4,8 +4,8 @@ use Rattle.std.specs.Prelude.{◌≡◌, ℕ, ◌<◌, ◌≤◌, Bool, if◌the
 use Rattle.std.specs.Prelude.{Option, Some}
 use Rattle.link_timers.specs.declared.role.Role.{Role}
 use Rattle.link_timers.specs.declared.role.Role.TheVariants.{Dte, Dce}
-use Rattle.packet_channel.specs.Flow.{modulus}
-use Rattle.packet_channel.specs.declared.flow.Flow.{Flow}
+use Rattle.data_transfer.specs.Flow.{modulus}
+use Rattle.data_transfer.specs.declared.flow.Flow.{Flow}
 use Rattle.packet_layer.specs.Layer.{channel_given, request_refusal, front_on}
 use Rattle.packet_laws.specs.Line.{Line, Event, turned}
 use Rattle.packet_laws.specs.Line.Event.{Calls, Requests}

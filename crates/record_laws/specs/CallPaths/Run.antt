@@ -6,10 +6,10 @@ use Rattle.std.specs.Prelude.{Option, Some, None}
 use Rattle.link_timers.specs.declared.role.Role.{Role}
 use Rattle.link_timers.specs.declared.role.Role.TheVariants.{Dte, Dce}
 use Rattle.epochs.specs.Epoch.{SentEpoch, TakenEpoch}
-use Rattle.packet_channel.specs.Packets.{CallParts, Datum}
-use Rattle.packet_channel.specs.Packets.Note.{Incoming, Connected, Closed, WasReset, Covered}
-use Rattle.packet_channel.specs.Packets.Reason.{FarEnd}
-use Rattle.packet_channel.specs.Traffic.Taken.{TakenPacket}
+use Rattle.data_transfer.specs.Packets.{CallParts, Datum}
+use Rattle.data_transfer.specs.Packets.Note.{Incoming, Connected, Closed, WasReset, Covered}
+use Rattle.data_transfer.specs.Packets.Reason.{FarEnd}
+use Rattle.data_transfer.specs.Traffic.Taken.{TakenPacket}
 use Rattle.packet_channel.specs.Channel.Request.{Accept, Resetting, Sending, Taking, Releasing}
 use Rattle.call_records.specs.Records.{RecordValue, HopValue, new_record}
 use Rattle.call_records.specs.Book.{packet_of}

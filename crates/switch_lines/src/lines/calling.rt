@@ -4,7 +4,7 @@ ghost use Rattle.std.specs.Option.{option_to_list};
 ghost use Rattle.address_routes.specs.Routes.{line_for};
 ghost use Rattle.packet_codec.specs.Packet.{IsCallValue};
 ghost use Rattle.packet_codec.specs.View.{call_view};
-ghost use Rattle.packet_channel.specs.Octets.{parts_of};
+ghost use Rattle.data_transfer.specs.Octets.{parts_of};
 ghost use Rattle.switch_lines.specs.Calling.{answer_of};
 ghost use Rattle.switch_lines.specs.NewJoins.{join_of};
 ghost use Rattle.switch_lines.specs.Switch.{answer, answer_on, answered, route_from, forwarded, place_call, with_join};

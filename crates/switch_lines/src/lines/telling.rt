@@ -1,7 +1,7 @@
 //! What the other leg of a join is told of a channel (X.25 4.1 to 4.4).
 ghost use Rattle.std.specs.Prelude.{◌≡◌};
 ghost use Rattle.packet_channel.specs.NoteView.{reason_of};
-ghost use Rattle.packet_channel.specs.Packets.{Note as note};
+ghost use Rattle.data_transfer.specs.Packets.{Note as note};
 ghost use Rattle.switch_lines.specs.Relay.{told};
 
 use crate::lines::Lines;

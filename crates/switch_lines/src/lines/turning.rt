@@ -3,8 +3,8 @@
 ghost use Rattle.std.specs.Prelude.{◌≡◌, ◌<◌, ◌≤◌, [], ◌∷◌, Some, length, map, slice_get};
 ghost use Rattle.std.specs.Bool.{OnTrue};
 ghost use Rattle.packet_channel.specs.Channel.{Request as ask_for};
-ghost use Rattle.packet_channel.specs.Packets.{Datum};
-ghost use Rattle.packet_channel.specs.TakenView.{maybe_front, maybe_taken};
+ghost use Rattle.data_transfer.specs.Packets.{Datum};
+ghost use Rattle.data_transfer.specs.TakenView.{maybe_front, maybe_taken};
 ghost use Rattle.switch_joins.specs.Direction.{carried};
 ghost use Rattle.switch_joins.specs.Joins.{gathered_by};
 ghost use Rattle.switch_joins.specs.Turning.{nothing_gathered, all_made, turned};

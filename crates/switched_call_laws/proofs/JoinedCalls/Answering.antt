@@ -6,8 +6,8 @@ use Rattle.std.proofs.lemmas.Bool.{eq-eqb}
 use Rattle.link_timers.specs.declared.role.Role.{Role}
 use Rattle.link_timers.specs.declared.role.Role.TheVariants.{Dce}
 use Rattle.packet_codec.specs.Diagnostic.{no_information}
-use Rattle.packet_channel.specs.Packets.{CallParts, Note}
-use Rattle.packet_channel.specs.Packets.Note.{Incoming, Connected, Closed, WasReset, InterruptConfirmed, Covered}
+use Rattle.data_transfer.specs.Packets.{CallParts, Note}
+use Rattle.data_transfer.specs.Packets.Note.{Incoming, Connected, Closed, WasReset, InterruptConfirmed, Covered}
 use Rattle.packet_channel.specs.Channel.{CallState, Channel, had_call, is_ready, is_free}
 use Rattle.packet_channel.specs.Channel.Request.{Clearing}
 use Rattle.packet_layer.specs.Layer.{Layer, channel_of, channel_given}

@@ -26,9 +26,9 @@ use Rattle.switched_call_laws.proofs.SwitchRecords.Acts.{acts_write}
 use Rattle.std.specs.Prelude.{◌+◌, is_some}
 use Rattle.std.proofs.Common.{ap₂, true≢false, arith}
 use Rattle.link_timers.specs.declared.role.Role.{Role}
-use Rattle.packet_channel.specs.Packets.{Note, Reason}
-use Rattle.packet_channel.specs.Packets.Note.{Incoming, Connected, Closed, WasReset, InterruptConfirmed, Covered}
-use Rattle.packet_channel.specs.Packets.Reason.{LinkLost}
+use Rattle.data_transfer.specs.Packets.{Note, Reason}
+use Rattle.data_transfer.specs.Packets.Note.{Incoming, Connected, Closed, WasReset, InterruptConfirmed, Covered}
+use Rattle.data_transfer.specs.Packets.Reason.{LinkLost}
 use Rattle.packet_channel.specs.Channel.{Channel, had_call}
 use Rattle.packet_layer.specs.Layer.{channel_of}
 use Rattle.call_records.specs.Records.{RecordValue}

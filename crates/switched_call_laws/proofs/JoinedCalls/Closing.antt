@@ -6,8 +6,8 @@ use Rattle.std.proofs.lemmas.Bool.{eqb-true, eq-eqb}
 use Rattle.link_timers.specs.declared.role.Role.{Role}
 use Rattle.link_timers.specs.declared.role.Role.TheVariants.{Dte, Dce}
 use Rattle.epochs.specs.Epoch.{SentEpoch, TakenEpoch}
-use Rattle.packet_channel.specs.Packets.{Note}
-use Rattle.packet_channel.specs.Packets.{CallParts}
+use Rattle.data_transfer.specs.Packets.{Note}
+use Rattle.data_transfer.specs.Packets.{CallParts}
 use Rattle.record_laws.proofs.Books.Writing.{closed_else, slot_changed}
 use Rattle.packet_channel.specs.Channel.{CallState, Channel, Refusal, refused_if, may_clear, had_call}
 use Rattle.packet_channel.specs.Channel.CallState.{Ready, OwnWaiting, FarWaiting, Transfer, Collision, OwnClear}

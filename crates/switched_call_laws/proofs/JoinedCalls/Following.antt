@@ -10,11 +10,11 @@ use Rattle.lapb.specs.declared.note.Note as link_note
 use Rattle.lapb.specs.declared.note.Note.TheVariants.{Nothing, Up, Down}
 use Rattle.lapb.specs.Machine.{Octets, on_t1, can_offer}
 use Rattle.lapb.specs.Octets.{on_octets}
-use Rattle.packet_channel.proofs.Windows.{window_below}
-use Rattle.packet_channel.specs.declared.flow.Flow.{Flow}
-use Rattle.packet_channel.specs.Packets.{CallParts, Note, Packet, Received}
-use Rattle.packet_channel.specs.Packets.Note.{Incoming, Connected, Closed, WasReset, InterruptConfirmed, Covered}
-use Rattle.packet_channel.specs.Octets.{heard}
+use Rattle.data_transfer.proofs.Windows.{window_below}
+use Rattle.data_transfer.specs.declared.flow.Flow.{Flow}
+use Rattle.data_transfer.specs.Packets.{CallParts, Note, Packet, Received}
+use Rattle.data_transfer.specs.Packets.Note.{Incoming, Connected, Closed, WasReset, InterruptConfirmed, Covered}
+use Rattle.data_transfer.specs.Octets.{heard}
 use Rattle.packet_channel.specs.Channel.{CallState, Channel, Request, may_accept, in_transfer, requested}
 use Rattle.packet_channel.specs.Channel.Request.{Accept, Clearing, Resetting, Sending, Interrupting, Stopping, Taking, Releasing, Confirming}
 use Rattle.packet_layer.specs.Layer.{Layer, Timer, channel_of, channel_given, next_packet, unread}

@@ -7,9 +7,9 @@ use Rattle.link_timers.specs.declared.role.Role.{Role}
 use Rattle.lapb.specs.declared.note.Note as link_note
 use Rattle.lapb.specs.declared.note.Note.TheVariants.{Nothing, Up, Down}
 use Rattle.lapb.specs.Machine as link
-use Rattle.packet_channel.specs.Packets.{CallParts, Note, Reason}
-use Rattle.packet_channel.specs.Packets.Note.{Incoming, Connected, Closed, WasReset, InterruptConfirmed, Covered}
-use Rattle.packet_channel.specs.Packets.Reason.{LinkLost, LocalFault}
+use Rattle.data_transfer.specs.Packets.{CallParts, Note, Reason}
+use Rattle.data_transfer.specs.Packets.Note.{Incoming, Connected, Closed, WasReset, InterruptConfirmed, Covered}
+use Rattle.data_transfer.specs.Packets.Reason.{LinkLost, LocalFault}
 use Rattle.packet_channel.specs.Channel.{CallState, Channel, had_call, clear_error}
 use Rattle.packet_channel.specs.Channel.Request.{Clearing}
 use Rattle.packet_layer.specs.Layer.{Layer, Timer, channel_of, closing_notes, on_found, runs, unread}

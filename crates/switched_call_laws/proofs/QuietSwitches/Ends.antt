@@ -4,7 +4,7 @@ use Rattle.std.specs.Prelude.{◌≡◌, ℕ, zero, suc, cond, [], is_some}
 use Rattle.std.proofs.Common.{refl, ◌∙◌, arith}
 use Rattle.lapb.specs.Machine.{can_offer, timing, settle}
 use Rattle.line_end.specs.End.{without_frames}
-use Rattle.packet_channel.specs.Packets.{CallParts}
+use Rattle.data_transfer.specs.Packets.{CallParts}
 use Rattle.packet_channel.specs.Channel.{Request}
 use Rattle.packet_layer.specs.Layer.{next_packet}
 use Rattle.packet_end.specs.PacketEnd.{PacketEnd, begun, asked, called, relinked, with_next, offered, all_offered, settled}

@@ -1,9 +1,9 @@
 -- The steps of an event of a switch behind the first two: no time passes, no frame comes and no timer runs out.
 use Rattle.std.specs.Prelude.{ℕ, zero, suc, ◌*◌, Bool, true, false, if◌then◌else◌, List, [], ◌∷◌, ◌++◌, length, slice_get, Option, Some, None}
 use Rattle.std.specs.List.{list_any}
-use Rattle.packet_channel.specs.Packets.{CallParts, Note}
-use Rattle.packet_channel.specs.Packets.Note.{Incoming, Connected, Closed, WasReset, InterruptConfirmed, Covered}
-use Rattle.packet_channel.specs.Traffic.{Taken}
+use Rattle.data_transfer.specs.Packets.{CallParts, Note}
+use Rattle.data_transfer.specs.Packets.Note.{Incoming, Connected, Closed, WasReset, InterruptConfirmed, Covered}
+use Rattle.data_transfer.specs.Traffic.{Taken}
 use Rattle.packet_channel.specs.Channel.{Request}
 use Rattle.address_routes.specs.Routes.{RouteMap}
 use Rattle.switch_joins.specs.declared.channels.SwitchChannel.{SwitchChannel}

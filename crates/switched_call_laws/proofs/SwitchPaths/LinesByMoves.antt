@@ -9,7 +9,7 @@ use Rattle.record_laws.specs.CallPaths.World.{Origin}
 use Rattle.record_laws.specs.CallPaths.Lines.{AreRecorded, BookCallsHold}
 use Rattle.record_laws.proofs.CallPaths.Moves.{recorded_calls}
 use Rattle.switched_call_laws.specs.SwitchPaths.Sight.{network_line}
-use Rattle.packet_channel.proofs.Windows.{window_below}
+use Rattle.data_transfer.proofs.Windows.{window_below}
 use Rattle.switched_call_laws.specs.SwitchPaths.Network.{IsOther}
 
 -- this own line of a switch is the one of the network

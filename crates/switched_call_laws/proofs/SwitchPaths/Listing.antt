@@ -5,8 +5,8 @@ use Rattle.std.proofs.Common.{inl, inr, refl, sym, ap, subst, ◌∙◌, arith, 
 use Rattle.std.proofs.lemmas.Option.{none-some, same_Some}
 use Rattle.std.proofs.lemmas.Bool.{eqb-true, eq-eqb}
 use Rattle.link_timers.specs.declared.role.Role.{Role}
-use Rattle.packet_channel.specs.Packets.{Note}
-use Rattle.packet_channel.specs.Packets.Note.{Incoming, Connected, Closed, WasReset, InterruptConfirmed, Covered}
+use Rattle.data_transfer.specs.Packets.{Note}
+use Rattle.data_transfer.specs.Packets.Note.{Incoming, Connected, Closed, WasReset, InterruptConfirmed, Covered}
 use Rattle.packet_laws.specs.Readable.{Every}
 use Rattle.call_records.specs.Book.{Book, told}
 use Rattle.call_records.specs.Writes.{Write, written_by}

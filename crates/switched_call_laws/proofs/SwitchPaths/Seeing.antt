@@ -6,7 +6,7 @@ use Rattle.std.proofs.lemmas.Bool.{eq-eqb}
 use Rattle.link_timers.specs.declared.role.Role.{Role}
 use Rattle.link_timers.specs.declared.role.Role.TheVariants.{Dte, Dce}
 use Rattle.link_timers.specs.Role.{other_of}
-use Rattle.packet_channel.specs.Packets.{CallParts}
+use Rattle.data_transfer.specs.Packets.{CallParts}
 use Rattle.packet_channel.specs.Channel.{Request, Refusal}
 use Rattle.packet_channel.specs.Channel.Request.{Accept, Clearing, Resetting, Sending, Interrupting, Stopping, Taking, Releasing, Confirming}
 use Rattle.packet_layer.specs.Layer.{Layer, channel_of, front_at, request_refusal}
@@ -42,7 +42,7 @@ use Rattle.switched_call_laws.proofs.JoinedCalls.Following.{Joining, Sends, IsQu
 use Rattle.switched_call_laws.proofs.JoinedCalls.Steady.{Paired, Mutual}
 use Rattle.switched_call_laws.proofs.SwitchPaths.Accepting.{theirs_stay, pairs_stay, accepted_pair, accepted_records, goes_on_still, accepts_still, accepts_silent, not_of_user, at_switch, user_accepts}
 use Rattle.switched_call_laws.proofs.SwitchPaths.Silence.{SentNothing, AllSilent, changed_was, Silent, pushed_silent, nothing_yet, silent_own}
-use Rattle.packet_channel.specs.Traffic.{Taken}
+use Rattle.data_transfer.specs.Traffic.{Taken}
 use Rattle.switched_call_laws.proofs.JoinedCalls.Closing.{if_apart, records_at}
 use Rattle.record_laws.specs.CallPaths.World.{Origin, placing, Join, World, Plan, AreAddressed, Event, after_event, MayHappen, IsSwitchEnd, AllPlaceNone, all_traced, calling_on, with_join}
 use Rattle.record_laws.specs.CallPaths.World.Event.{Writes, SwitchWrites, Joins}

@@ -7,10 +7,10 @@ use Rattle.link_timers.specs.declared.role.Role.TheVariants.{Dce}
 use Rattle.epochs.specs.Epoch.{Epoch, SentEpoch, nothing_sent, sent_epoch, IsEmpty}
 use Rattle.epochs.specs.Confirmed.{sent_confirmed}
 use Rattle.epochs.specs.ConfirmedLaws.{AreEmpty}
-use Rattle.packet_channel.specs.Packets.{Note}
-use Rattle.packet_channel.specs.Packets.Note.{Incoming, Connected, Closed, WasReset, InterruptConfirmed, Covered}
-use Rattle.packet_channel.specs.Traffic.{Taken}
-use Rattle.packet_channel.specs.Traffic.Taken.{TakenInterrupt, TakenPacket}
+use Rattle.data_transfer.specs.Packets.{Note}
+use Rattle.data_transfer.specs.Packets.Note.{Incoming, Connected, Closed, WasReset, InterruptConfirmed, Covered}
+use Rattle.data_transfer.specs.Traffic.{Taken}
+use Rattle.data_transfer.specs.Traffic.Taken.{TakenInterrupt, TakenPacket}
 use Rattle.packet_channel.specs.Channel.{Request, Refusal}
 use Rattle.packet_channel.specs.Channel.Request.{Accept, Clearing, Resetting, Sending, Interrupting, Stopping, Taking, Releasing, Confirming}
 use Rattle.call_records.specs.Records.{RecordValue, with_taken, with_interrupt_taken, with_released, with_covered, with_epoch, with_closed, changed_at}

@@ -9,9 +9,9 @@ use Rattle.std.proofs.lemmas.Cmp.{nat_list_cmp_total}
 use Rattle.link_timers.specs.declared.role.Role.TheVariants.{Dte, Dce}
 use Rattle.lapb.specs.Machine.{Octets}
 use Rattle.packet_codec.specs.ClearCause.{invalid_facility}
-use Rattle.packet_channel.proofs.Windows.{window_below}
-use Rattle.packet_channel.specs.Packets.{CallParts, Note}
-use Rattle.packet_channel.specs.Packets.Note.{Incoming, Connected}
+use Rattle.data_transfer.proofs.Windows.{window_below}
+use Rattle.data_transfer.specs.Packets.{CallParts, Note}
+use Rattle.data_transfer.specs.Packets.Note.{Incoming, Connected}
 use Rattle.packet_channel.specs.Channel.{Channel, in_transfer}
 use Rattle.packet_layer.specs.Layer.{Layer, channel_of}
 use Rattle.packet_end.specs.PacketEnd.{received, at_rest}

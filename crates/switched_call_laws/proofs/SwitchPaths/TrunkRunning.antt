@@ -8,7 +8,7 @@ use Rattle.link_timers.specs.declared.role.Role.TheVariants.{Dte, Dce}
 use Rattle.packet_codec.specs.Address.{MayBeDigits}
 use Rattle.packet_codec.specs.Digits.{digits_or_none}
 use Rattle.packet_end.specs.Params.{AreParams}
-use Rattle.packet_channel.specs.Flow.{modulo_8}
+use Rattle.data_transfer.specs.Flow.{modulo_8}
 use Rattle.packet_layer.specs.Layer.{Layer}
 use Rattle.packet_laws.specs.Readable.{AreOctets}
 use Rattle.address_routes.specs.Routes.{RouteMap, line_for}

@@ -17,13 +17,13 @@ use Rattle.packet_codec.specs.declared.packet.Numbering.{Numbering}
 use Rattle.packet_codec.specs.Packet.{PacketValue, ContentValue, IsContentOn}
 use Rattle.packet_codec.specs.Reading.{reading, named_channel}
 use Rattle.packet_codec.proofs.Forms.{Found, found}
-use Rattle.packet_channel.specs.declared.flow.Flow.{Flow}
-use Rattle.packet_channel.specs.Packets.{Body, Received, Note, Reason}
-use Rattle.packet_channel.specs.Packets.Body.{Call, Accepted, Clear, ClearConfirmation, Data, Interrupt, InterruptConfirmation, ReceiveReady, ReceiveNotReady, Reset, ResetConfirmation, Restart, RestartConfirmation}
-use Rattle.packet_channel.specs.Packets.Received.{Whole, Unknown, Faulty}
-use Rattle.packet_channel.specs.Packets.Note.{Incoming, Connected, Closed, WasReset, InterruptConfirmed, Covered}
-use Rattle.packet_channel.specs.Packets.Reason.{LinkLost, FarRestart, LocalFault}
-use Rattle.packet_channel.specs.Traffic.{Heard, hears as hears_in}
+use Rattle.data_transfer.specs.declared.flow.Flow.{Flow}
+use Rattle.data_transfer.specs.Packets.{Body, Received, Note, Reason}
+use Rattle.data_transfer.specs.Packets.Body.{Call, Accepted, Clear, ClearConfirmation, Data, Interrupt, InterruptConfirmation, ReceiveReady, ReceiveNotReady, Reset, ResetConfirmation, Restart, RestartConfirmation}
+use Rattle.data_transfer.specs.Packets.Received.{Whole, Unknown, Faulty}
+use Rattle.data_transfer.specs.Packets.Note.{Incoming, Connected, Closed, WasReset, InterruptConfirmed, Covered}
+use Rattle.data_transfer.specs.Packets.Reason.{LinkLost, FarRestart, LocalFault}
+use Rattle.data_transfer.specs.Traffic.{Heard, hears as hears_in}
 use Rattle.packet_channel.specs.Channel.{CallState, Channel, Step, received_in, unreadable_in, clear_error, after_heard, in_flow_ready, in_own_reset}
 use Rattle.packet_channel.specs.Channel.CallState.{Ready, OwnWaiting, FarWaiting, Transfer, Collision, OwnClear}
 use Rattle.packet_layer.specs.Layer.{Layer, Phase, Timer, channel_of, closing_notes, had_call, on_found, on_channel, on_received, restart_packet, unread, runs, expired as layer_expired}
@@ -36,7 +36,7 @@ use Rattle.switched_call_laws.proofs.SwitchRecords.Octets.{accepts_octets}
 use Rattle.switched_call_laws.specs.SwitchRecords.Kept.{ReadsOctets}
 use Rattle.switch_laws.specs.Steps.{Happening, does}
 use Rattle.switch_laws.specs.Steps.Happening.{Brings, RunsOut, Relinks}
-use Rattle.packet_channel.specs.Octets.{heard, heard_by, body_of, unreadable_as}
+use Rattle.data_transfer.specs.Octets.{heard, heard_by, body_of, unreadable_as}
 use Rattle.packet_laws.specs.Readable.{CanBePlaced, IfAny, AreOctets}
 use Rattle.packet_laws.proofs.Call.Saying.{by_cond}
 

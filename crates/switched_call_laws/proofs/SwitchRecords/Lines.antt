@@ -5,9 +5,9 @@ use Rattle.std.proofs.lemmas.Option.{none-some, same_Some}
 use Rattle.std.proofs.lemmas.Bool.{eqb-true, eq-eqb}
 use Rattle.link_timers.specs.declared.role.Role.{Role}
 use Rattle.packet_codec.specs.Diagnostic.{no_information}
-use Rattle.packet_channel.specs.Packets.{CallParts, Body, Packet, Received, Reason}
-use Rattle.packet_channel.specs.Packets.Body.{Restart, RestartConfirmation}
-use Rattle.packet_channel.specs.Packets.Received.{Whole, Unknown, Faulty}
+use Rattle.data_transfer.specs.Packets.{CallParts, Body, Packet, Received, Reason}
+use Rattle.data_transfer.specs.Packets.Body.{Restart, RestartConfirmation}
+use Rattle.data_transfer.specs.Packets.Received.{Whole, Unknown, Faulty}
 use Rattle.packet_channel.specs.Channel.{CallState, Channel, Step, Request, Refusal, received, unreadable, clear_error, refusal, requested, carried_out, unless, owing, closed_channel, had_call, placing, is_free, is_ready}
 use Rattle.packet_layer.specs.Layer.{Layer, Phase, Timer, nth_channel, channel_of, with_nth, on_found, on_channel, on_received, on_timer, expired, restart_packet, unread, runs, link_up, link_down, request, request_refusal, refusal_at, placed_on as layer_placed_on, channel_given, next_packet, closing_notes}
 use Rattle.packet_layer.specs.Layer.Phase.{NoSession, OwnRestart, PacketReady}

@@ -4,7 +4,7 @@ use Rattle.std.proofs.Common.{refl, subst, arith}
 use Rattle.std.proofs.lemmas.Option.{none-some, same_Some}
 use Rattle.link_timers.specs.declared.role.Role.TheVariants.{Dte, Dce}
 use Rattle.epochs.proofs.Confirms.{confirms_itself}
-use Rattle.packet_channel.specs.Flow.{modulo_8}
+use Rattle.data_transfer.specs.Flow.{modulo_8}
 use Rattle.packet_layer.specs.Layer.{Layer}
 use Rattle.call_records.specs.Book.{made_book}
 use Rattle.switch_lines.specs.Lines.{SwitchLine}

@@ -6,8 +6,8 @@ use Rattle.std.specs.List.{list_all}
 use Rattle.link_timers.specs.declared.role.Role.{Role}
 use Rattle.link_timers.specs.declared.role.Role.TheVariants.{Dte, Dce}
 use Rattle.lapb.specs.Machine.{Octets}
-use Rattle.packet_channel.specs.Packets.{CallParts}
-use Rattle.packet_channel.specs.Packets.Note.{Incoming, Connected}
+use Rattle.data_transfer.specs.Packets.{CallParts}
+use Rattle.data_transfer.specs.Packets.Note.{Incoming, Connected}
 use Rattle.packet_channel.specs.Channel.{Request}
 use Rattle.packet_channel.specs.Channel.Request.{Accept, Sending, Taking, Releasing}
 use Rattle.packet_layer.specs.Layer.{channel_given, request_refusal, front_on}

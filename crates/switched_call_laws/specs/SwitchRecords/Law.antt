@@ -3,7 +3,7 @@ use Rattle.std.specs.Prelude.{◌≡◌, ℕ, false, List, [], Some}
 use Rattle.link_timers.specs.declared.role.Role.{Role}
 use Rattle.link_timers.specs.Role.{other_of}
 use Rattle.link_timers.specs.declared.timers.TimerId.{TimerId}
-use Rattle.packet_channel.specs.declared.flow.Flow.{Flow}
+use Rattle.data_transfer.specs.declared.flow.Flow.{Flow}
 use Rattle.packet_layer.specs.Layer.{Layer, made}
 use Rattle.packet_laws.specs.Readable.{Every, AreOctets}
 use Rattle.call_records.specs.Records.{RecordValue}

@@ -1,9 +1,9 @@
 -- A call through a switch of two lines, act by act: what its two books have then.
 use Rattle.std.specs.Prelude.{◌≡◌, ℕ, ◌==◌, if◌then◌else◌, zero, false, List, [], ◌∷◌, Some, None}
 use Rattle.epochs.specs.Epoch.{nothing_sent, nothing_taken}
-use Rattle.packet_channel.specs.Packets.{CallParts, Body}
-use Rattle.packet_channel.specs.Packets.Body.{Call, Accepted, Data, ReceiveReady, Restart, Reset}
-use Rattle.packet_channel.specs.Packets.Received.{Whole}
+use Rattle.data_transfer.specs.Packets.{CallParts, Body}
+use Rattle.data_transfer.specs.Packets.Body.{Call, Accepted, Data, ReceiveReady, Restart, Reset}
+use Rattle.data_transfer.specs.Packets.Received.{Whole}
 use Rattle.packet_channel.specs.Channel.Request.{Accept, Taking, Sending, Releasing, Resetting}
 use Rattle.packet_laws.specs.Readable.{Every, AreOctets}
 use Rattle.packet_end.specs.PacketEnd.{made}

@@ -2,7 +2,7 @@
 use Rattle.std.specs.Prelude.{◌≡◌, ℕ, Bool, true, ◌==◌, if◌then◌else◌, List, [], ◌∷◌, slice_get, Option, Some, None}
 use Rattle.link_timers.specs.declared.role.Role.{Role}
 use Rattle.link_timers.specs.declared.role.Role.TheVariants.{Dce}
-use Rattle.packet_channel.specs.Traffic.{may_release}
+use Rattle.data_transfer.specs.Traffic.{may_release}
 use Rattle.packet_channel.specs.Channel.{Channel, Request}
 use Rattle.packet_channel.specs.Channel.Request.{Releasing}
 use Rattle.packet_layer.specs.Layer.{Layer, channel_of, channel_given, request_refusal, front_at, link_down}

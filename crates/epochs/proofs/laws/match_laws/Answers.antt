@@ -1,4 +1,4 @@
-use Rattle.epochs.proofs.Matches.{match-refl, match-trans, match-grows, match-opens, match-both_open, aligned-match}
+use Rattle.epochs.proofs.MatchedLists.{match-refl, match-trans, match-grows, match-opens, match-both_open, aligned-match}
 use Rattle.epochs.proofs.Rising.{match-rising}
 use Rattle.epochs.proofs.Placing.{rising-match}
 use Rattle.epochs.proofs.laws.match_laws.Goals as goal

@@ -1,7 +1,7 @@
 use Rattle.std.proofs.Common.{◌≡◌, ◌∙◌, ◌<◌, ◌-◌, ℕ, List, true, false, length, take, drop, sym, ap, arith, length-drop}
-use Rattle.packet_channel.specs.Cutting.{cut}
-use Rattle.packet_channel.proofs.Pieces.{some_full, one_full, cut_more, full_of}
-use Rattle.packet_channel.specs.Packets.{Datum}
+use Rattle.data_transfer.specs.Cutting.{cut}
+use Rattle.data_transfer.proofs.Pieces.{some_full, one_full, cut_more, full_of}
+use Rattle.data_transfer.specs.Packets.{Datum}
 use Rattle.packet_host.specs.Saying.{message}
 use Rattle.call_records.specs.Book.{Book, sends}
 use Rattle.call_records.specs.Room.{BookState}

@@ -1,5 +1,5 @@
 use Rattle.std.proofs.Common.{◌≡◌, ◌≤◌, ◌-◌, length}
-use Rattle.packet_channel.specs.Cutting.{full_packets, cut}
+use Rattle.data_transfer.specs.Cutting.{full_packets, cut}
 use Rattle.packet_host.specs.Saying.{message}
 use Rattle.epochs.specs.Packets.{places_of}
 use Rattle.line_nodes.specs.Turn.{all_sent}

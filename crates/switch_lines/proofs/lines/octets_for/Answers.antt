@@ -1,5 +1,5 @@
 use Rattle.std.proofs.Common.{◌∙◌, ap, arith}
-use Rattle.packet_channel.proofs.Windows.{size_most}
+use Rattle.data_transfer.proofs.Windows.{size_most}
 use Rattle.switch_lines.specs.Making.{greatest_info}
 use Rattle.switch_lines.proofs.Changing.{there}
 use Rattle.switch_lines.proofs.Making.{one_info_more, all_taken}

@@ -1,7 +1,7 @@
 use Rattle.std.proofs.Common.{◌≡◌, ℕ, ◌∙◌, ◌++◌, ◌∷◌, [], Some, ap, map, length, arith}
 use Rattle.link_timers.specs.declared.role.Role.{Role}
 use Rattle.packet_codec.specs.Packet.{CallValue}
-use Rattle.packet_channel.specs.Octets.{parts_of}
+use Rattle.data_transfer.specs.Octets.{parts_of}
 use Rattle.call_records.specs.Records.{RecordValue}
 use Rattle.call_records.specs.Book.{Book, Side, Slot, nth_slot, side_of, address_of, comes}
 use Rattle.call_records.specs.Room.{BookState}

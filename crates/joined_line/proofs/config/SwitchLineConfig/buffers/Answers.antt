@@ -1,5 +1,5 @@
 use Rattle.std.proofs.Common.{arith}
-use Rattle.packet_channel.proofs.Windows.{window_small}
+use Rattle.data_transfer.proofs.Windows.{window_small}
 use Rattle.joined_line.proofs.Making.{small}
 use Rattle.joined_line.proofs.config.SwitchLineConfig.buffers.Goals as goal
 

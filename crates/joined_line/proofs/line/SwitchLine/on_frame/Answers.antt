@@ -1,5 +1,5 @@
 use Rattle.std.proofs.Common.{◌≡◌, List, [], ap, ap₂, ◌∙◌}
-use Rattle.packet_channel.specs.Packets.{Note}
+use Rattle.data_transfer.specs.Packets.{Note}
 use Rattle.packet_end.specs.PacketEnd.{PacketEnd, received}
 use Rattle.packet_end.specs.Pooled.{PooledEnd}
 use Rattle.joined_line.specs.Line.{SwitchLine, with_end, quieted}

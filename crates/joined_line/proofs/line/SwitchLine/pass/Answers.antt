@@ -1,5 +1,5 @@
 use Rattle.std.proofs.Common.{ap, arith, [], ◌∷◌, false, length}
-use Rattle.packet_channel.specs.Packets.{Datum}
+use Rattle.data_transfer.specs.Packets.{Datum}
 use Rattle.switch_joins.specs.Direction.{carried}
 use Rattle.switch_joins.specs.Joins.{joined_with, nth_joined}
 use Rattle.switch_joins.specs.Turning.{all_made}

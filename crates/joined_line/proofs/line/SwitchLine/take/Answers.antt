@@ -1,7 +1,7 @@
 use Rattle.std.proofs.Common.{[]}
 use Rattle.joined_line.proofs.Sharing.{out_holds, handed_back}
 use Rattle.flow_window.proofs.Weights.{balances_same}
-use Rattle.packet_channel.specs.TakenView.{buffers_in}
+use Rattle.data_transfer.specs.TakenView.{buffers_in}
 use Rattle.joined_line.proofs.line.SwitchLine.take.Goals as goal
 
 pub take_out-requires : goal.take_out-requires

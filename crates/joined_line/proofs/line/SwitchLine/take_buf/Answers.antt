@@ -1,5 +1,5 @@
 use Rattle.joined_line.proofs.Sharing.{end_loses}
-use Rattle.packet_channel.specs.TakenView.{maybe_buffers_in}
+use Rattle.data_transfer.specs.TakenView.{maybe_buffers_in}
 use Rattle.joined_line.proofs.line.SwitchLine.take_buf.Goals as goal
 
 pub returns-clause-held : goal.returns-clause-held

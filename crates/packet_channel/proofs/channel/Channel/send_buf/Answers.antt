@@ -1,8 +1,9 @@
 use Rattle.std.proofs.Common.{ap, ◌∙◌, ◌≤◌, refl, sym, subst, List, ℕ, length}
 use Rattle.packet_channel.specs.ChannelView.{channel_of}
-use Rattle.packet_channel.specs.Held.{Channel as Holder, Kept, datum_in}
-use Rattle.packet_channel.specs.Packets.{Datum}
-use Rattle.packet_channel.specs.Traffic.{queue}
+use Rattle.data_transfer.specs.Held.{Kept, datum_in}
+use Rattle.packet_channel.specs.Held.{Channel as Holder}
+use Rattle.data_transfer.specs.Packets.{Datum}
+use Rattle.data_transfer.specs.Traffic.{queue}
 use Rattle.packet_channel.proofs.Fitting.{fits_queued}
 use Rattle.packet_channel.proofs.Sending.{queued}
 use Rattle.packet_channel.proofs.channel.Channel.send_buf.Goals as goal

@@ -1,6 +1,6 @@
 use Rattle.std.proofs.Common.{sym, ap, ◌∙◌, inl, length, arith}
 use Rattle.packet_codec.specs.View.{call_view}
-use Rattle.packet_channel.specs.Octets.{parts_of}
+use Rattle.data_transfer.specs.Octets.{parts_of}
 use Rattle.packet_layer.specs.Held.{Layer}
 use Rattle.packet_layer.proofs.Flows.{flow_call}
 use Rattle.packet_end.specs.Params.{info_of}

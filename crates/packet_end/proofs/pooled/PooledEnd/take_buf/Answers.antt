@@ -1,6 +1,6 @@
 use Rattle.std.proofs.Common.{refl, sym, ap, ◌∙◌, inl}
 use Rattle.packet_channel.specs.Channel.Request.{Taking}
-use Rattle.packet_channel.specs.TakenView.{maybe_buffers_in}
+use Rattle.data_transfer.specs.TakenView.{maybe_buffers_in}
 use Rattle.packet_layer.proofs.Flows.{flow_request}
 use Rattle.packet_end.specs.Params.{info_of}
 use Rattle.packet_end.proofs.Pools.{layer_loses}

@@ -1,8 +1,8 @@
 use Rattle.std.proofs.Common.{◌≡◌, ◌∙◌, ◌<◌, true, List, ℕ, length, take, drop, false, sym, ap, arith, rules, tests}
-use Rattle.packet_channel.specs.Cutting.{cut}
-use Rattle.packet_channel.proofs.Pieces.{some_full, one_full, cut_more, full_of}
+use Rattle.data_transfer.specs.Cutting.{cut}
+use Rattle.data_transfer.proofs.Pieces.{some_full, one_full, cut_more, full_of}
 use Rattle.packet_channel.specs.Channel.{Request}
-use Rattle.packet_channel.specs.Packets.{Datum}
+use Rattle.data_transfer.specs.Packets.{Datum}
 use Rattle.packet_end.specs.PacketEnd.{PacketEnd, asked}
 use Rattle.packet_host.specs.Saying.{message, queued}
 use Rattle.packet_host.proofs.host.saying.queue.Goals as goal

@@ -1,5 +1,5 @@
 use Rattle.std.proofs.Common.{◌≡◌, ◌-◌}
-use Rattle.packet_channel.specs.Cutting.{full_packets, cut}
+use Rattle.data_transfer.specs.Cutting.{full_packets, cut}
 use Rattle.packet_host.specs.Saying.{message, queued}
 use Rattle.packet_host.proofs.host.saying.queue.Given as goal
 

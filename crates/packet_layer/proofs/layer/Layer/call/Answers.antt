@@ -8,7 +8,7 @@ use Rattle.packet_layer.specs.LayerView.{layer_of}
 use Rattle.packet_layer.proofs.Placed.{placed, fits_kept, borrowed, plain_at, plain_set, buffers_same}
 use Rattle.packet_codec.specs.Packet.{CallValue}
 use Rattle.packet_codec.specs.View.{call_view}
-use Rattle.packet_channel.specs.Octets.{parts_of}
+use Rattle.data_transfer.specs.Octets.{parts_of}
 use Rattle.packet_layer.specs.RestartView.{phase_of}
 use Rattle.packet_layer.proofs.Places.{kept, call_done, free_ready}
 use Rattle.std.specs.Prelude.{true}

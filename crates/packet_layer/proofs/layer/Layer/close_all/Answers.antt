@@ -3,7 +3,7 @@ use Rattle.std.proofs.lemmas.List.{length-map}
 use Rattle.flow_window.specs.Pool.{Buffer, Balances}
 use Rattle.packet_channel.specs.Held.{Channel as Holder}
 use Rattle.packet_channel.specs.NoteView.{reason_of}
-use Rattle.packet_channel.specs.Packets.{Note}
+use Rattle.data_transfer.specs.Packets.{Note}
 use Rattle.packet_layer.specs.Held.{Layer as Held, buffers, plain, AllFit}
 use Rattle.packet_layer.specs.Layer.{closing_notes}
 use Rattle.packet_layer.specs.LayerView.{layer_of}

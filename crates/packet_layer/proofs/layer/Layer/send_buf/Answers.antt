@@ -1,7 +1,7 @@
 use Rattle.std.proofs.Common.{◌≡◌, ◌∙◌, ap, Some}
 use Rattle.std.specs.Prelude.{slice_get}
 use Rattle.packet_channel.specs.Answers.{handed_back}
-use Rattle.packet_channel.specs.Held.{Kept}
+use Rattle.data_transfer.specs.Held.{Kept}
 use Rattle.packet_layer.specs.LayerView.{layer_of}
 use Rattle.packet_layer.proofs.Placed.{placed, own_gain, few_after, plain_at, plain_set}
 use Rattle.packet_layer.proofs.Places.{sent, sent_answer, sent_back}

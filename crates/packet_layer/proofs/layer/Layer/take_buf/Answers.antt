@@ -2,7 +2,7 @@ use Rattle.std.proofs.Common.{◌≡◌, ◌∙◌, ap, sym, subst, Some, ◌<�
 use Rattle.std.specs.Prelude.{slice_get}
 use Rattle.packet_layer.specs.Held.{Layer as Held}
 use Rattle.packet_layer.specs.LayerView.{layer_of}
-use Rattle.packet_channel.proofs.Fitting.{front_short}
+use Rattle.data_transfer.proofs.Short.{front_short}
 use Rattle.packet_layer.proofs.Placed.{placed, own_loss, few_after, borrowed, plain_at, plain_set, fits_at}
 use Rattle.packet_layer.proofs.Places.{taking_done, front_there}
 use Rattle.packet_layer.proofs.Silence.{layer_touched}

@@ -2,7 +2,7 @@ use Rattle.std.proofs.Common.{◌≡◌, ◌∙◌, ap, sym, subst, Some, ◌<�
 use Rattle.std.specs.Prelude.{slice_get}
 use Rattle.packet_codec.specs.View.{content_view}
 use Rattle.packet_layer.specs.Layer.{set_if}
-use Rattle.packet_channel.specs.Octets.{body_of}
+use Rattle.data_transfer.specs.Octets.{body_of}
 use Rattle.packet_layer.specs.Held.{Layer as Held}
 use Rattle.packet_layer.specs.LayerView.{layer_of}
 use Rattle.packet_layer.proofs.Placed.{placed, own_held, own_room, own_balance, rw_fits, borrowed, plain_at, plain_set, few_after}

@@ -4,7 +4,7 @@ use Rattle.packet_layer.specs.Layer.{set_if}
 use Rattle.packet_layer.specs.LayerView.{layer_of}
 use Rattle.packet_layer.specs.RestartView.{phase_of}
 use Rattle.packet_layer.specs.Events.{after_hearing}
-use Rattle.packet_channel.specs.Octets.{unreadable_as}
+use Rattle.data_transfer.specs.Octets.{unreadable_as}
 use Rattle.packet_layer.proofs.Places.{unreadable_taken}
 use Rattle.packet_layer.proofs.Placed.{placed, plain_at, plain_set, own_held, own_balance, few_after}
 use Rattle.packet_layer.proofs.Silence.{layer_stepped}

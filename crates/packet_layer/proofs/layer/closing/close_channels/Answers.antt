@@ -1,6 +1,6 @@
 use Rattle.std.proofs.Common.{◌≡◌, ◌∙◌, ◌+◌, ◌++◌, ◌<◌, ◌≤◌, [], List, ap, sym, Some, length, drop, set, subst, arith}
 use Rattle.std.specs.Prelude.{slice_get}
-use Rattle.packet_channel.specs.Packets.{Note, Closed}
+use Rattle.data_transfer.specs.Packets.{Note, Closed}
 use Rattle.flow_window.specs.Pool.{Holds, Balances}
 use Rattle.flow_window.proofs.Weights.{balances_then, holds_after}
 use Rattle.packet_channel.specs.Held.{Channel as Holder}

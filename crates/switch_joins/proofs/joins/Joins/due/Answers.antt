@@ -1,6 +1,6 @@
 use Rattle.std.proofs.Common.{◌≡◌, true, false, length, subst}
 use Rattle.std.specs.Prelude.{MatchOption}
-use Rattle.packet_channel.specs.Held.{are_short}
+use Rattle.data_transfer.specs.Held.{are_short}
 use Rattle.switch_joins.specs.Joins.{gathered_by}
 use Rattle.switch_joins.specs.Turning.{turned}
 use Rattle.switch_joins.proofs.Held.{own_place, own_holds, own_nth}

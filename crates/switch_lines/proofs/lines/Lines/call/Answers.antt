@@ -1,6 +1,6 @@
 use Rattle.std.proofs.Common.{arith, ap}
 use Rattle.packet_codec.specs.View.{call_view}
-use Rattle.packet_channel.specs.Octets.{parts_of}
+use Rattle.data_transfer.specs.Octets.{parts_of}
 use Rattle.packet_end.specs.PacketEnd as end
 use Rattle.switch_lines.specs.Switch.{with_end}
 use Rattle.switch_lines.specs.Pooled.{PooledLine}

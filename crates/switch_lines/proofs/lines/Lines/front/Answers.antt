@@ -1,6 +1,6 @@
 use Rattle.std.proofs.Common.{ap, sym, arith, ◌∙◌}
 use Rattle.std.specs.Prelude.{Option}
-use Rattle.packet_channel.specs.TakenView.{maybe_front}
+use Rattle.data_transfer.specs.TakenView.{maybe_front}
 use Rattle.switch_lines.specs.Lines.{SwitchLine, front_of_line}
 use Rattle.switch_lines.specs.Pooled.{plain}
 use Rattle.switch_lines.proofs.Pooled.{one_seen, plain_length, serves_one}

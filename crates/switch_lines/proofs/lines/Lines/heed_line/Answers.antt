@@ -1,7 +1,7 @@
 use Rattle.std.proofs.Common.{◌≡◌, ap, ap₂, ◌∙◌, sym, arith, length, length-drop, List, Option}
 use Rattle.std.specs.Prelude.{slice_get}
 use Rattle.std.specs.Option.{option_or}
-use Rattle.packet_channel.specs.Packets.{Note}
+use Rattle.data_transfer.specs.Packets.{Note}
 use Rattle.packet_channel.specs.NoteView.{note_of}
 use Rattle.packet_end.specs.PacketEnd.{without_first_note}
 use Rattle.switch_lines.specs.Lines.{SwitchLine, changed}

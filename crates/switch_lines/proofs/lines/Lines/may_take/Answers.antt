@@ -1,8 +1,8 @@
 use Rattle.std.proofs.Common.{◌≡◌, ◌<◌, List, length, get_or, ap, ap₂, sym, subst, ◌∙◌, map, Option, Some, nat_le, true, false}
-use Rattle.packet_channel.specs.Held.{are_short}
-use Rattle.packet_channel.specs.declared.taken.Front.{Front}
+use Rattle.data_transfer.specs.Held.{are_short}
+use Rattle.data_transfer.specs.declared.taken.Front.{Front}
 use Rattle.packet_channel.specs.Channel.Request.{Sending}
-use Rattle.packet_channel.specs.Packets.{Datum}
+use Rattle.data_transfer.specs.Packets.{Datum}
 use Rattle.switch_joins.specs.Joins.{gathered_by}
 use Rattle.switch_joins.specs.Turning.{Sizes, Gathered, turned}
 use Rattle.switch_lines.specs.Lines.{SwitchLine, joined_on, nth_joined, size_of_line, takes_at}

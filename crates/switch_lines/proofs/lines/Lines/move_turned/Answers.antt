@@ -1,7 +1,7 @@
 use Rattle.std.proofs.Common.{ap, sym, subst, arith, ◌∙◌, List, length, Option, Some}
 use Rattle.packet_channel.specs.Channel.Request.{Taking}
-use Rattle.packet_channel.specs.TakenView.{taken_of}
-use Rattle.packet_channel.specs.Traffic.{Taken as TakenValue}
+use Rattle.data_transfer.specs.TakenView.{taken_of}
+use Rattle.data_transfer.specs.Traffic.{Taken as TakenValue}
 use Rattle.switch_lines.specs.Lines.{SwitchLine}
 use Rattle.switch_lines.specs.ByPlace.{MovesFront}
 use Rattle.switch_lines.proofs.Relaying.{turned_on, asked_length}

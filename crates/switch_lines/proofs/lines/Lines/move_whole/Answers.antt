@@ -1,10 +1,10 @@
 use Rattle.std.proofs.Common.{◌≤◌, ◌<◌, ◌∙◌, ℕ, Bool, [], ◌∷◌, ap, ap₂, length, set, List, Option, Some, refl, sym, subst, arith}
 use Rattle.std.specs.Prelude.{◌+◌}
 use Rattle.flow_window.specs.Pool.{weight}
-use Rattle.packet_channel.specs.Held.{datum_in}
+use Rattle.data_transfer.specs.Held.{datum_in}
 use Rattle.packet_channel.specs.Channel.Request.{Taking, Sending, Interrupting}
-use Rattle.packet_channel.specs.TakenView.{taken_in, buffers_in}
-use Rattle.packet_channel.specs.Traffic.{Taken as TakenValue}
+use Rattle.data_transfer.specs.TakenView.{taken_in, buffers_in}
+use Rattle.data_transfer.specs.Traffic.{Taken as TakenValue}
 use Rattle.packet_end.specs.PacketEnd.{asked}
 use Rattle.switch_joins.specs.Direction.{carried}
 use Rattle.switch_joins.proofs.ChannelSets.{not_of_join}

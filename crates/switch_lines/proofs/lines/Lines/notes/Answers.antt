@@ -2,7 +2,7 @@ use Rattle.std.proofs.Common.{arith, ◌∙◌, ap, sym, subst, drop, List, Opti
 use Rattle.packet_end.specs.PacketEnd.{without_first_note}
 use Rattle.switch_lines.specs.Switch.{with_end, notes_of}
 use Rattle.std.specs.Prelude.{slice_get}
-use Rattle.packet_channel.specs.Packets.{Note}
+use Rattle.data_transfer.specs.Packets.{Note}
 use Rattle.switch_lines.specs.Lines.{SwitchLine}
 use Rattle.switch_lines.specs.Touched.{IsSettled, IsTaken}
 use Rattle.switch_lines.specs.Pooled.{PooledLine}

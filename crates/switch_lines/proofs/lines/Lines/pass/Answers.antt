@@ -1,5 +1,5 @@
 use Rattle.std.proofs.Common.{arith, ap, sym, ◌∙◌, [], ◌∷◌, false, Option}
-use Rattle.packet_channel.specs.Packets.{Datum}
+use Rattle.data_transfer.specs.Packets.{Datum}
 use Rattle.switch_joins.specs.Direction.{carried}
 use Rattle.switch_joins.specs.Joins.{gathered_by}
 use Rattle.switch_joins.specs.Turning.{all_made}

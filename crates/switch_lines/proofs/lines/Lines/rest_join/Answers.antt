@@ -1,5 +1,5 @@
 use Rattle.std.proofs.Common.{◌≡◌, ◌∙◌, refl, subst, sym, true, List, Some}
-use Rattle.packet_channel.specs.Traffic.{Taken}
+use Rattle.data_transfer.specs.Traffic.{Taken}
 use Rattle.switch_joins.specs.ChannelSet.{has, is_small}
 use Rattle.switch_lines.specs.Lines.{SwitchLine, same_place, front_at}
 use Rattle.switch_lines.specs.Waiting.{NothingElseMoves}

@@ -1,6 +1,6 @@
 use Rattle.std.proofs.Common.{◌≡◌, ◌+◌, ◌*◌, ◌≤◌, ap, ◌∙◌, sym, subst, length, arith}
 use Rattle.flow_window.specs.Pool.{Pool, weight}
-use Rattle.packet_channel.proofs.Windows.{size_most}
+use Rattle.data_transfer.proofs.Windows.{size_most}
 use Rattle.packet_layer.specs.Held.{Layer, most_held}
 use Rattle.layer_tests.proofs.Packets.Stations.{made_most, replicated}
 use Rattle.layer_tests.proofs.packet.station.Station.new.Goals as goal

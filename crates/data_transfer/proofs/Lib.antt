@@ -1,0 +1,4 @@
+pub mod Queues
+pub mod Short
+pub mod Windows
+pub mod Pieces

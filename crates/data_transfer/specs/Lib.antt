@@ -1,0 +1,9 @@
+pub mod Packets
+pub mod Flow
+pub mod Traffic
+pub mod Held
+pub mod Octets
+pub mod TakenView
+pub mod TrafficView
+pub mod HeardView
+pub mod Cutting

@@ -1,0 +1,165 @@
+//! What goes to the link in data transfer: the interrupt confirmation, the interrupt, data within the window, RR or RNR
+//! if the partner does not know the present P(R) or whether this end is stopped (X.25 4.3, 4.4).
+ghost use Rattle.std.specs.Bool.{OnFalse};
+ghost use Rattle.std.specs.Prelude.{◌≡◌, ℕ, ◌<◌, ◌≤◌, ◌+◌, true, length, is_some};
+ghost use Rattle.flow_window.specs.Pool.{Holds, Balances};
+ghost use Rattle.data_transfer.specs.Held.{are_short};
+ghost use Rattle.data_transfer.specs.Traffic as machine;
+ghost use Rattle.data_transfer.specs.Octets.{written, ReadsAs};
+
+use crate::flow::Flow;
+use crate::traffic::Traffic;
+use crate::traffic::numbers::shown;
+use flow_window::pool::Pool;
+use packet_codec::{Content, DataPacket, Packet, PacketBuf, write_packet};
+
+impl Traffic {
+    /// Writes the next packet, if there is one, with a window of at most 32.
+    pub fn next_packet(
+        &mut self,
+        flow: Flow,
+        channel: u8,
+        buf: &mut PacketBuf,
+        pool: &mut Pool,
+    ) -> bool
+        requires window { flow.window ≤ 32 }
+        requires channel { 0 < channel }
+        requires holds { Holds pool.old self.old.held }
+        ensures traffic { self.new.traffic ≡ (machine.says flow self.old.traffic).traffic }
+        ensures said { result ≡ is_some (machine.says flow self.old.traffic).body }
+        ensures octets { buf.new.items ≡ written flow channel (machine.says flow self.old.traffic).body buf.old.items }
+        ensures reads_back { are_short flow.size self.old.traffic.waiting ≡ true
+            → ReadsAs flow channel (machine.says flow self.old.traffic).body buf.new.items }
+        ensures pool { Balances pool.old self.old.held pool.new self.new.held }
+        ensures most { length self.new.held ≤ 8 + length self.new.traffic.arrived }
+        ensures arrived { self.new.traffic.arrived ≡ self.old.traffic.arrived }
+        ensures short { (size : ℕ) → are_short size self.old.traffic.waiting ≡ true
+            → are_short size self.new.traffic.waiting ≡ true }
+        ensures same { OnFalse result (self.new ≡ self.old) }
+    {
+        if !self.confirmation_due {
+            return self.next_interrupt(flow, channel, buf, pool);
+        }
+        let packet = Packet {
+            numbering: flow.numbering,
+            channel: u16::from(channel),
+            content: Content::InterruptConfirmation,
+        };
+        write_packet(&packet, buf);
+        self.confirmation_due = false;
+        true
+    }
+
+    fn next_interrupt(
+        &mut self,
+        flow: Flow,
+        channel: u8,
+        buf: &mut PacketBuf,
+        pool: &mut Pool,
+    ) -> bool
+        requires window { flow.window ≤ 32 }
+        requires channel { 0 < channel }
+        requires holds { Holds pool.old self.old.held }
+        ensures traffic { self.new.traffic
+            ≡ (machine.says_interrupt flow self.old.traffic.interrupt_waiting self.old.traffic).traffic }
+        ensures said { result
+            ≡ is_some (machine.says_interrupt flow self.old.traffic.interrupt_waiting self.old.traffic).body }
+        ensures octets { buf.new.items
+            ≡ written flow channel (machine.says_interrupt flow self.old.traffic.interrupt_waiting self.old.traffic).body
+            buf.old.items }
+        ensures reads_back { are_short flow.size self.old.traffic.waiting ≡ true
+            → ReadsAs flow channel (machine.says_interrupt flow self.old.traffic.interrupt_waiting self.old.traffic).body buf.new.items }
+        ensures pool { Balances pool.old self.old.held pool.new self.new.held }
+        ensures most { length self.new.held ≤ 8 + length self.new.traffic.arrived }
+        ensures arrived { self.new.traffic.arrived ≡ self.old.traffic.arrived }
+        ensures short { (size : ℕ) → are_short size self.old.traffic.waiting ≡ true
+            → are_short size self.new.traffic.waiting ≡ true }
+        ensures same { OnFalse result (self.new ≡ self.old) }
+    {
+        let Some(interrupt) = &self.interrupt_waiting else {
+            return self.next_data(flow, channel, buf, pool);
+        };
+        let packet = Packet {
+            numbering: flow.numbering,
+            channel: u16::from(channel),
+            content: Content::Interrupt(interrupt.octets()),
+        };
+        write_packet(&packet, buf);
+        self.interrupt_waiting = None;
+        self.interrupt_unconfirmed = true;
+        true
+    }
+
+    #[tactic(auto, using(crate::proofs::Short::short_rest, crate::proofs::Short::short_first))]
+    fn next_data(&mut self, flow: Flow, channel: u8, buf: &mut PacketBuf, pool: &mut Pool) -> bool
+        requires window { flow.window ≤ 32 }
+        requires channel { 0 < channel }
+        requires holds { Holds pool.old self.old.held }
+        ensures traffic { self.new.traffic
+            ≡ (machine.says_data flow self.old.traffic.waiting self.old.traffic).traffic }
+        ensures said { result ≡ is_some (machine.says_data flow self.old.traffic.waiting self.old.traffic).body }
+        ensures octets { buf.new.items
+            ≡ written flow channel (machine.says_data flow self.old.traffic.waiting self.old.traffic).body buf.old.items }
+        ensures reads_back { are_short flow.size self.old.traffic.waiting ≡ true
+            → ReadsAs flow channel (machine.says_data flow self.old.traffic.waiting self.old.traffic).body buf.new.items }
+        ensures pool { Balances pool.old self.old.held pool.new self.new.held }
+        ensures most { length self.new.held ≤ 8 + length self.new.traffic.arrived }
+        ensures arrived { self.new.traffic.arrived ≡ self.old.traffic.arrived }
+        ensures short { (size : ℕ) → are_short size self.old.traffic.waiting ≡ true
+            → are_short size self.new.traffic.waiting ≡ true }
+        ensures same { OnFalse result (self.new ≡ self.old) }
+    {
+        if self.send.unacknowledged() >= flow.window || self.partner_busy {
+            return self.next_flow(flow, channel, buf);
+        }
+        let Some(data) = self.waiting.front() else {
+            return self.next_flow(flow, channel, buf);
+        };
+        let packet = DataPacket {
+            qualified: data.qualified(),
+            delivery: data.delivery(),
+            more: data.more(),
+            send: shown(flow.numbering, self.send.next_number()),
+            receive: shown(flow.numbering, self.released.number()),
+            user_data: data.octets(pool),
+        };
+        let packet = Packet {
+            numbering: flow.numbering,
+            channel: u16::from(channel),
+            content: Content::Data(packet),
+        };
+        write_packet(&packet, buf);
+        let _ = self.send.take_number();
+        self.waiting.drop_front(pool);
+        self.untold = false;
+        true
+    }
+
+    fn next_flow(&mut self, flow: Flow, channel: u8, buf: &mut PacketBuf) -> bool
+        requires { 0 < channel }
+        ensures traffic { self.new ≡ record self.old { traffic = (machine.says_flow flow self.old.traffic).traffic } }
+        ensures said { result ≡ is_some (machine.says_flow flow self.old.traffic).body }
+        ensures octets { buf.new.items ≡ written flow channel (machine.says_flow flow self.old.traffic).body buf.old.items }
+        ensures reads_back { ReadsAs flow channel (machine.says_flow flow self.old.traffic).body buf.new.items }
+        ensures same { OnFalse result (self.new ≡ self.old) }
+    {
+        if !self.untold && self.told_stopped == self.stopped {
+            return false;
+        }
+        let receive = shown(flow.numbering, self.released.number());
+        let content = if self.stopped {
+            Content::ReceiveNotReady(receive)
+        } else {
+            Content::ReceiveReady(receive)
+        };
+        let packet = Packet {
+            numbering: flow.numbering,
+            channel: u16::from(channel),
+            content,
+        };
+        write_packet(&packet, buf);
+        self.untold = false;
+        self.told_stopped = self.stopped;
+        true
+    }
+}

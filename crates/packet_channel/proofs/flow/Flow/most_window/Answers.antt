@@ -1,5 +1,0 @@
-use Rattle.std.proofs.Common.{rules, tests}
-use Rattle.packet_channel.proofs.flow.Flow.most_window.Goals as goal
-
-pub returns-in-Modulo128 : goal.returns-in-Modulo128
-returns-in-Modulo128 c = search (rules, tests)

@@ -1,5 +1,0 @@
-use Rattle.std.proofs.Common.{rules, tests}
-use Rattle.packet_channel.proofs.traffic.Traffic.is_delivered.Goals as goal
-
-pub returns : goal.returns
-returns c = search (rules, tests)
