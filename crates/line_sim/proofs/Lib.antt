@@ -1,3 +1,5 @@
+mod Making
+mod Made
 mod Registered
 pub mod CanBeServed
 pub mod Events

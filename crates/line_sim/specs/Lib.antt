@@ -1,3 +1,4 @@
+pub mod Making
 pub mod Between
 pub mod Runs
 pub mod Expiries

@@ -16,6 +16,7 @@ ghost use Rattle.line_sim.specs.Receipts.{IsTakenBeyond};
 ghost use Rattle.net_nodes.specs.Questions.{net_confirmed, net_rests};
 ghost use Rattle.line_sim.specs.Runs.{IsMadeBy};
 
+use crate::making::made_nodes;
 use call_records::{Pair, Record, all_match};
 use frame_codec::FrameBuf;
 use frame_lines::{Direction, Line};
@@ -81,7 +82,7 @@ impl<L: Line> Net<L> {
         ensures headline { IfOk result (λ net. L.service.faithful → NetworkPromise net) }
     {
         let plan = plan_of(alloc, config)?;
-        let nodes = Nodes::new(alloc, &plan, lines)?;
+        let nodes = made_nodes(alloc, &plan, lines)?;
         Ok(Net {
             nodes,
             arrived: FrameBuf::new(),

@@ -5,5 +5,3 @@ mod LineEndEvents
 mod UserNodeEvents
 mod Empties
 mod Passing
-mod Making
-pub mod Made

@@ -6,4 +6,3 @@ pub mod Switching
 pub mod Happening
 pub mod Due
 pub mod Questions
-pub mod Making

@@ -7,7 +7,6 @@ ghost use Rattle.net_nodes.specs.Places.{IsStanding, IsPlaceOf, user_at, own_lin
 ghost use Rattle.net_nodes.specs.Happening.{Happens};
 
 mod asking;
-mod making;
 mod questions;
 mod serving;
 mod switching;
@@ -56,6 +55,20 @@ impl<L: Line> Model for Nodes<L> {
 }
 
 impl<L: Line> Nodes<L> {
+    ghost use Rattle.call_records.specs.RegisterView.{register_of};
+
+    /// These nodes, on these lines, with a register of their calls.
+    pub fn new(nodes: Vec<NetNode>, lines: Vec<NetLine<L>>, register: Register) -> Self
+        ensures { result
+            ≡ record { nodes = nodes.items; lines = lines.items; register = register_of register } }
+    {
+        Nodes {
+            nodes,
+            lines,
+            register,
+        }
+    }
+
     /// The end of its line that the node with users of this place is.
     fn end_of(&self, place: usize) -> Result<LineSide, StepFault>
         requires { IsStanding self.now }

@@ -19,8 +19,8 @@ use Rattle.placed_nodes.specs.Making.{waiting, waiting_switch, begun_to, AreNew}
 use Rattle.net_events.proofs.Lists.{within}
 use Rattle.placed_nodes.proofs.NewNodes.{not_before, waits, has_begun}
 use Rattle.placed_nodes.proofs.Plans.{node_of_end}
-use Rattle.net_nodes.specs.Making.{begun, begun_node, users_frames, frames_put, ArePutSoFar, LineHasBegun, HaveBegun}
-use Rattle.net_nodes.specs.Making.{HasEnds, Begins}
+use Rattle.line_sim.specs.Making.{begun, begun_node, users_frames, frames_put, ArePutSoFar, LineHasBegun, HaveBegun}
+use Rattle.line_sim.specs.Making.{HasEnds, Begins}
 
 -- ---- which nodes have begun
 

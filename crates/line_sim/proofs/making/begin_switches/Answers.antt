@@ -4,10 +4,10 @@ use Rattle.net_events.proofs.Users.{not_switch}
 use Rattle.net_events.specs.Network.{PlacedSwitch, NetNode, NetLine, Switching}
 use Rattle.net_events.proofs.Lists.{there}
 use Rattle.placed_nodes.specs.Making.{waiting_switch}
-use Rattle.net_nodes.specs.Making.{CanBegin, HaveBegun, HaveNodesBegun}
+use Rattle.line_sim.specs.Making.{CanBegin, HaveBegun, HaveNodesBegun}
 use Rattle.net_nodes.proofs.SwitchTurns.{switch_is}
-use Rattle.net_nodes.proofs.Made.{no_switch_yet, can_begin, IsNext, NextUser, NextSwitch, next_is, switch_more, user_more, is_made}
-use Rattle.net_nodes.proofs.nodes.making.begin_switches.Goals as goal
+use Rattle.line_sim.proofs.Made.{no_switch_yet, can_begin, IsNext, NextUser, NextSwitch, next_is, switch_more, user_more, is_made}
+use Rattle.line_sim.proofs.making.begin_switches.Goals as goal
 
 pub loop-place-init : goal.loop-place-init
 loop-place-init g c = record {

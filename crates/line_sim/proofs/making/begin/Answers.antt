@@ -5,8 +5,8 @@ use Rattle.net_events.specs.Network.{NetNode}
 use Rattle.net_config.specs.NetPlan.{NewLine}
 use Rattle.record_laws.proofs.Books.Basics.{set_elsewhere}
 use Rattle.net_events.proofs.Lists.{found, within}
-use Rattle.net_nodes.specs.Making.{begun_node, users_frames}
-use Rattle.net_nodes.proofs.nodes.making.begin.Goals as goal
+use Rattle.line_sim.specs.Making.{begun_node, users_frames}
+use Rattle.line_sim.proofs.making.begin.Goals as goal
 
 pub returns : goal.returns
 returns g c = λ dte dce dte_there dce_there.

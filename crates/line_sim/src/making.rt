@@ -5,14 +5,14 @@ ghost use Rattle.net_config.specs.NetPlan.{IsPlan};
 ghost use Rattle.net_events.specs.Opening.{IsMade};
 ghost use Rattle.net_config.specs.declared.fault.MakeFault.TheVariants as make_fault_is;
 ghost use Rattle.net_config.specs.Plan.{StandsAlone};
-ghost use Rattle.net_nodes.specs.Making.{HaveBegun, HasEnds, PutsFirst, Begins, CanBegin, SwitchBegins, IsMadeOf};
+ghost use Rattle.line_sim.specs.Making.{HaveBegun, HasEnds, PutsFirst, Begins, CanBegin, SwitchBegins, IsMadeOf};
 ghost use Rattle.placed_nodes.specs.Making.{AreNew};
 
-use crate::nodes::Nodes;
 use frame_lines::{Direction, Line};
 use line_end::MOST_FRAMES;
 use net_config::{MakeFault, NetPlan, NewLine};
 use net_events::Puts;
+use net_nodes::Nodes;
 use net_turns::{NetLine, put_frames, put_lines};
 use placed_nodes::{Equipment, NetNode, new_nodes, new_register};
 use std::alloc::{AllocError, Global};
@@ -144,24 +144,22 @@ fn begin_switches<L: Line>(
     Ok(())
 }
 
-impl<L: Line> Nodes<L> {
-    /// Makes the nodes of a plan on these lines, each of which is emptied first. Both ends of a line that is not
-    /// standing send a first frame. It is refused for want of memory.
-    pub fn new(alloc: Global, plan: &NetPlan, lines: Vec<L>) -> Result<Self, MakeFault>
-        requires plan { IsPlan plan.now }
-        requires alone { StandsAlone plan.now }
-        requires count { vec_len lines ≡ length plan.now.lines }
-        ensures ok { IfOk result (IsMade L.service plan.now) }
-        ensures err { IfErr result (λ fault. fault ≡ make_fault_is.OutOfMemory) }
-    {
-        let mut nodes = new_nodes(alloc, plan)?;
-        let mut lines = begin_lines(alloc, plan, &mut nodes, lines)?;
-        begin_switches(alloc, plan, &mut nodes, &mut lines)?;
-        let register = new_register(alloc, plan)?;
-        Ok(Nodes {
-            nodes,
-            lines,
-            register,
-        })
-    }
+/// Makes the nodes of a plan on these lines, each of which is emptied first. Both ends of a line that is not standing
+/// send a first frame. It is refused for want of memory.
+pub(crate) fn made_nodes<L: Line>(
+    alloc: Global,
+    plan: &NetPlan,
+    lines: Vec<L>,
+) -> Result<Nodes<L>, MakeFault>
+    requires plan { IsPlan plan.now }
+    requires alone { StandsAlone plan.now }
+    requires count { vec_len lines ≡ length plan.now.lines }
+    ensures ok { IfOk result (IsMade L.service plan.now) }
+    ensures err { IfErr result (λ fault. fault ≡ make_fault_is.OutOfMemory) }
+{
+    let mut nodes = new_nodes(alloc, plan)?;
+    let mut lines = begin_lines(alloc, plan, &mut nodes, lines)?;
+    begin_switches(alloc, plan, &mut nodes, &mut lines)?;
+    let register = new_register(alloc, plan)?;
+    Ok(Nodes::new(nodes, lines, register))
 }

@@ -2,7 +2,7 @@ use Rattle.std.proofs.Common.{◌≡◌, ℕ, List, length, sym, ap, ◌∙◌, 
 use Rattle.net_events.specs.Network.{PlacedSwitch}
 use Rattle.placed_nodes.specs.NodeView.{kind_of}
 use Rattle.net_turns.specs.Switching.{CanPut}
-use Rattle.net_nodes.proofs.nodes.making.begin_switch.Goals as goal
+use Rattle.line_sim.proofs.making.begin_switch.Goals as goal
 
 pub put_lines-requires : goal.put_lines-requires
 put_lines-requires g c =

@@ -1,7 +1,7 @@
 -- The switches so far put their frames.
 use Rattle.std.proofs.Common.{length}
-use Rattle.net_nodes.specs.Making.{HaveBegun, HaveNodesBegun}
-use Rattle.net_nodes.proofs.nodes.making.begin_switches.Given as goal
+use Rattle.line_sim.specs.Making.{HaveBegun, HaveNodesBegun}
+use Rattle.line_sim.proofs.making.begin_switches.Given as goal
 
 abbrev pub invariant-loop-place : goal.invariant-loop-place
 invariant-loop-place g l = record {

@@ -29,9 +29,9 @@ use Rattle.net_events.proofs.Lists.{within, at_index}
 use Rattle.placed_nodes.proofs.NewNodes.{not_before, has_begun}
 use Rattle.placed_nodes.proofs.Plans.{never_both, same_new_switch, node_of_end, own_line_of, own_there, config_at, configs_count}
 use Rattle.net_turns.specs.Switching.{LinePut}
-use Rattle.net_nodes.specs.Making.{frames_put, put_at, first_end, ArePutSoFar, LineHasBegun, HaveBegun, CanBegin}
-use Rattle.net_nodes.specs.Making.{SwitchBegins, switch_to, HaveNodesBegun, IsMadeOf}
-use Rattle.net_nodes.proofs.Making.{same_before, none_yet, now_put}
+use Rattle.line_sim.specs.Making.{frames_put, put_at, first_end, ArePutSoFar, LineHasBegun, HaveBegun, CanBegin}
+use Rattle.line_sim.specs.Making.{SwitchBegins, switch_to, HaveNodesBegun, IsMadeOf}
+use Rattle.line_sim.proofs.Making.{same_before, none_yet, now_put}
 
 -- a node with users is as it is made
 user_made : (plan : NetPlan) (nodes : List NetNode) → AreNew (length plan.lines) plan nodes → (place : ℕ) (n : NewNode) → slice_get plan.nodes place ≡ Some (PlannedUser n)

@@ -2,11 +2,11 @@ use Rattle.std.proofs.Common.{◌≡◌, ℕ, ◌<◌, suc, ◌++◌, [], ◌∷
 use Rattle.link_timers.specs.declared.role.Role.TheVariants.{Dte, Dce}
 use Rattle.net_events.specs.Network.{NetLine}
 use Rattle.net_config.specs.NetPlan.{NewLine, NetPlan}
-use Rattle.net_nodes.specs.Making.{HaveBegun}
+use Rattle.line_sim.specs.Making.{HaveBegun}
 use Rattle.placed_nodes.specs.Making.{AreNew}
 use Rattle.net_events.proofs.Lists.{there, at_index}
-use Rattle.net_nodes.proofs.Making.{none_begun, ends_of, one_more, first_frames, begun_so_far, line_more}
-use Rattle.net_nodes.proofs.nodes.making.begin_lines.Goals as goal
+use Rattle.line_sim.proofs.Making.{none_begun, ends_of, one_more, first_frames, begun_so_far, line_more}
+use Rattle.line_sim.proofs.making.begin_lines.Goals as goal
 
 pub loop-line-init : goal.loop-line-init
 loop-line-init g c =
