@@ -1,5 +1,6 @@
 //! Reading of the command words.
 ghost use Rattle.std.specs.Prelude.{◌≡◌, [], map, false, Ok, Err, None, Option, string_bytes, IfOk, MatchOption};
+ghost use Rattle.clap.specs.declared.builder.command.Command.{out-Command};
 ghost use Rattle.clap.specs.Words.{app_of, rule_of, subcommand_rows_of, with_subcommand};
 ghost use Rattle.command_words.specs.Invocations.{Asks, Found, file_option, played, program};
 ghost use Rattle.command_words.specs.declared.invocation.Invocation.{Invocation};
@@ -49,10 +50,17 @@ fn add_mode<'a>(
     ensures { IfOk result
         (λ with_mode. app_of with_mode ≡ with_subcommand (app_of command.entry) (played name.entry.now).top) }
 {
-    let mode = Command::new(alloc, name)
+    command.subcommand(mode(alloc, name)?)
+}
+
+/// A mode, which has its two files.
+fn mode<'a>(alloc: Global, name: &'a str) -> Result<Command<'a>, AllocError>
+    ensures app { IfOk result (λ mode. app_of mode ≡ played name.entry.now) }
+    ensures local { IfOk result (λ mode. (out-Command mode).has_globals ≡ false) }
+{
+    Command::new(alloc, name)
         .arg(file_option(alloc, "net"))?
-        .arg(file_option(alloc, "script"))?;
-    command.subcommand(mode)
+        .arg(file_option(alloc, "script"))
 }
 
 /// An option that has to be given, with the name of a file.

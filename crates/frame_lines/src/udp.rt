@@ -36,12 +36,17 @@ impl UdpLine<UdpSocket> {
     {
         let dte = UdpSocket::bind(net, (Ipv4Addr::LOCALHOST, 0))?;
         let dce = UdpSocket::bind(net, (Ipv4Addr::LOCALHOST, 0))?;
-        dte.connect(dce.local_addr()?)?;
-        dce.connect(dte.local_addr()?)?;
-        dte.set_nonblocking(true)?;
-        dce.set_nonblocking(true)?;
+        connect(&dte, &dce)?;
         UdpLine::over(alloc, dte, dce)
     }
+}
+
+/// Lets two sockets know each other alone, and not wait.
+fn connect(dte: &UdpSocket, dce: &UdpSocket) -> Result<(), SocketFault> {
+    dte.connect(dce.local_addr()?)?;
+    dce.connect(dte.local_addr()?)?;
+    dte.set_nonblocking(true)?;
+    Ok(dce.set_nonblocking(true)?)
 }
 
 impl<D: Datagrams> UdpLine<D> {

@@ -1,8 +1,8 @@
 //! Little books, write by write.
 ghost use Rattle.std.specs.Prelude.{◌≡◌, ◌≤◌};
 
-use epochs::{Packet, matches};
 use call_records::{Book, Pair, Record, all_match};
+use epochs::{Packet, matches};
 use link_timers::Role;
 use packet_codec::{Address, CallBuf, CallData};
 use packet_layer::{LayerNote, Reason};

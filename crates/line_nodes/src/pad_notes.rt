@@ -11,8 +11,8 @@ ghost use Rattle.pad_ports.specs.TakenView.{taken_of as pad_taken_of};
 ghost use Rattle.line_nodes.specs.PadWriting.{writes_of, without_notes};
 ghost use Rattle.line_nodes.specs.PadRoom.{HasRoom, HaveRoom, written};
 
-use epochs::Packet;
 use call_records::{Book, EditStep};
+use epochs::Packet;
 use link_timers::Role;
 use packet_layer::Front;
 use x25_pad::{ChannelNote, Pad, PadData, PadTaken};

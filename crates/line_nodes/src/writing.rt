@@ -15,10 +15,10 @@ use crate::attachment::Attachment;
 use crate::node::Node;
 use crate::note::{HostNote, list_note};
 use crate::pad_notes::write_pad_notes;
-use epochs::Packet;
 use call_records::Book;
-use link_timers::Role;
 use data_transfer::full_packets;
+use epochs::Packet;
+use link_timers::Role;
 use packet_end::MOST_NOTES;
 use packet_host::{Host, HostRequest};
 

@@ -5,8 +5,8 @@ mod making;
 mod net;
 mod running;
 
-pub use epochs::{Epoch, Interrupt, Packet, Passed, matches};
 pub use call_records::{EditStep, Hop, Pair, Record};
+pub use epochs::{Epoch, Interrupt, Packet, Passed, matches};
 pub use frame_lines::{Direction, FRAMES_IN_FLIGHT, Line, MemLine, mem_lines};
 pub use line_nodes::{HostNote, NodeFault, NoteKind, TerminalEvent};
 pub use net::Net;

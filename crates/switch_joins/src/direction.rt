@@ -14,8 +14,8 @@ use crate::plan::{self, Outline};
 use crate::sizes::Sizes;
 use crate::turned::Turned;
 use arrayvec::ArrayVec;
-use flow_window::pool::Pool;
 use data_transfer::UserData;
+use flow_window::pool::Pool;
 use std::marker::Model;
 
 /// The most packets of a call that are taken and not released: no window is larger.

@@ -16,8 +16,8 @@ use crate::direction::Direction;
 use crate::plan::{self, Outline};
 use crate::sizes::Sizes;
 use crate::turned::Turned;
-use flow_window::pool::Pool;
 use data_transfer::UserData;
+use flow_window::pool::Pool;
 use std::marker::Model;
 
 /// What a channel is joined to: the other channel, and whether the call came in here.

@@ -19,8 +19,8 @@ use crate::join::{ChannelJoin, Joined};
 use crate::plan::{self, Outline};
 use crate::sizes::Sizes;
 use crate::turned::Turned;
-use flow_window::pool::Pool;
 use data_transfer::UserData;
+use flow_window::pool::Pool;
 use std::alloc::{AllocError, Global};
 use std::marker::Model;
 

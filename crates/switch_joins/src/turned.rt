@@ -11,8 +11,8 @@ use crate::gathering::Gathering;
 use crate::plan::{Outline, Plan, pieces};
 use crate::sizes::Sizes;
 use arrayvec::ArrayVec;
-use flow_window::pool::Pool;
 use data_transfer::UserData;
+use flow_window::pool::Pool;
 use packet_channel::Request;
 use std::marker::Model;
 

@@ -1,4 +1,5 @@
-use Rattle.std.proofs.Common.{[]}
+use Rattle.std.proofs.lemmas.Grind.{common_steps}
+use Rattle.std.proofs.Common.{[], arith}
 use Rattle.joined_line.proofs.Sharing.{out_holds, handed_back}
 use Rattle.flow_window.proofs.Weights.{balances_same}
 use Rattle.data_transfer.specs.TakenView.{buffers_in}
@@ -17,3 +18,9 @@ pub returns-clause-pool : goal.returns-clause-pool
 returns-clause-pool c =
     handed_back c.self.inside c.args.self.now c.args.pool.now c.take_out.new.pool (buffers_in c.in_ok-taken.taken) c.take_buf.new.self c.self.view_is
     c.in_ok-taken.ensures.held c.take_out.ensures.pool
+
+pub returns-clause-within : goal.returns-clause-within
+returns-clause-within c = grind (arith, common_steps)
+
+pub returns-in_err-taken-clause-within : goal.returns-in_err-taken-clause-within
+returns-in_err-taken-clause-within c = grind (arith, common_steps)

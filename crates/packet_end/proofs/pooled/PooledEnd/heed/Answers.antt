@@ -1,4 +1,5 @@
-use Rattle.std.proofs.Common.{ap, rules, tests}
+use Rattle.std.proofs.lemmas.Grind.{common_steps}
+use Rattle.std.proofs.Common.{ap, rules, tests, arith}
 use Rattle.packet_layer.specs.Held.{Layer}
 use Rattle.packet_end.proofs.Pools.{served, layer_holds, layer_balanced}
 use Rattle.packet_end.proofs.pooled.PooledEnd.heed.Goals as goal
@@ -30,3 +31,9 @@ returns-clause-pool c =
 
 pub returns-clause-end : goal.returns-clause-end
 returns-clause-end c = search (rules, tests)
+
+pub returns-clause-within : goal.returns-clause-within
+returns-clause-within c = grind (arith, common_steps)
+
+pub returns-in-Nothing-clause-within : goal.returns-in-Nothing-clause-within
+returns-in-Nothing-clause-within c = grind (arith, common_steps)

@@ -1,3 +1,4 @@
+use Rattle.std.proofs.lemmas.Grind.{common_steps}
 use Rattle.std.proofs.Common.{◌≡◌, ◌++◌, ◌∙◌, false, ap, inl, sym, subst, arith, ℕ, List}
 use Rattle.std.specs.Prelude.{◌+◌, is_some}
 use Rattle.flow_window.proofs.Weights.{balances_then}
@@ -119,3 +120,12 @@ returns-then-not-next_packet-clause-end c =
     ∙ ap (λ (x : PooledEnd). record x { held = a.line.held ++ c.next_packet.new.self.held }) c.self.view_is
     ∙ ap (λ (e : PacketEnd). record c.args.self.now { end = e; held = a.line.held ++ c.next_packet.new.self.held })
     (sym (no_packet 1 c.args.self.now.end (ap (λ (x : PooledEnd). is_some (next_packet x.end.layer).packet) (sym c.self.view_is) ∙ silent)))
+
+pub returns-clause-within : goal.returns-clause-within
+returns-clause-within c = grind (arith, common_steps)
+
+pub returns-then-not-has_room-clause-within : goal.returns-then-not-has_room-clause-within
+returns-then-not-has_room-clause-within c = grind (arith, common_steps)
+
+pub returns-then-not-next_packet-clause-within : goal.returns-then-not-next_packet-clause-within
+returns-then-not-next_packet-clause-within c = grind (arith, common_steps)

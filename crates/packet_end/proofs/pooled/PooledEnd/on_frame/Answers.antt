@@ -1,4 +1,5 @@
-use Rattle.std.proofs.Common.{◌++◌, ◌∙◌, ap, inl, sym}
+use Rattle.std.proofs.lemmas.Grind.{common_steps}
+use Rattle.std.proofs.Common.{◌++◌, ◌∙◌, ap, inl, sym, arith}
 use Rattle.std.specs.Prelude.{◌+◌}
 use Rattle.flow_window.proofs.Weights.{balances_then}
 use Rattle.packet_layer.specs.Held.{Layer, most_held}
@@ -111,3 +112,6 @@ returns-in_default-clause-pool c =
     let mid = c.on_frame-received.new.pool in
     balances_then c.args.pool.now mid c.heed.new.pool x.held (new.held ++ a.layer.held) c.heed.new.self.held
     (line_balanced a x c.args.pool.now mid new c.self.view_is c.on_frame-received.ensures.pool) c.heed.ensures.pool
+
+pub returns-in-Some-clause-within : goal.returns-in-Some-clause-within
+returns-in-Some-clause-within c = grind (arith, common_steps)

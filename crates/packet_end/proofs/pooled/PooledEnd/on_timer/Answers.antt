@@ -1,4 +1,5 @@
-use Rattle.std.proofs.Common.{◌≡◌, ◌≢◌, ◌++◌, ◌∙◌, ap, refl, rules, sym, true}
+use Rattle.std.proofs.lemmas.Grind.{common_steps}
+use Rattle.std.proofs.Common.{◌≡◌, ◌≢◌, ◌++◌, ◌∙◌, ap, refl, rules, sym, true, arith}
 use Rattle.std.specs.Prelude.{ℕ, ◌+◌, Bool, Option, Some, cond}
 use Rattle.link_timers.specs.declared.timers.TimerId.{TimerId}
 use Rattle.link_timers.specs.declared.timers.TimerId.TheVariants.{T1, T10, T20, T11, T12, T13, T21, T22, T23, Idle}
@@ -97,3 +98,12 @@ returns c =
           (layer_balanced a c.args.self.now c.args.pool.now c.on_timer.new.pool new c.self-2.view_is c.on_timer.ensures.pool);
       within = rw c.gather.ensures.layer (within a.line new c.self-2.invariant.line c.on_timer.ensures.few);
     }
+
+pub returns-in_default-on_t1-clause-within : goal.returns-in_default-on_t1-clause-within
+returns-in_default-on_t1-clause-within c = grind (arith, common_steps)
+
+pub returns-in_default-timer_named : goal.returns-in_default-timer_named
+returns-in_default-timer_named c = grind (arith, common_steps)
+
+pub returns-then-not-is_running : goal.returns-then-not-is_running
+returns-then-not-is_running c = grind (arith, common_steps)

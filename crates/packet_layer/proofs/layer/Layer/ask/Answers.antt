@@ -1,9 +1,10 @@
-use Rattle.std.proofs.Common.{◌∙◌, ◌≤◌, ap, sym, subst, length}
+use Rattle.std.proofs.lemmas.Grind.{common_steps}
+use Rattle.std.proofs.Common.{◌∙◌, ◌≤◌, ap, sym, subst, length, arith}
 use Rattle.flow_window.specs.Pool.{Balances}
 use Rattle.packet_layer.specs.Held.{Layer as Held, most_held}
 use Rattle.packet_layer.specs.RequestView.{request_of}
 use Rattle.packet_layer.proofs.Asked.{IsAt, is_at, done, allowed, refused, told, when_sending}
-use Rattle.packet_layer.proofs.Placed.{own_held, own_room, own_balance, few_after}
+use Rattle.packet_layer.proofs.Placed.{own_held, own_room, own_balance, few_after, own_few}
 use Rattle.packet_layer.proofs.Silence.{layer_touched}
 use Rattle.packet_layer.proofs.layer.Layer.ask.Goals as goal
 
@@ -88,3 +89,18 @@ returns-clause-few c =
     subst (λ (x : Held). length x.held ≤ most_held x.layer) (sym c.relink_if.ensures)
     (few_after c.self.inside.flow c.self.inside.channels.items c.in-Some.place c.index_mut-channel.result.now c.request.new.self
     c.self.invariant.fits (at_ok c).there c.request.ensures.fits)
+
+pub index_mut-channel-requires : goal.index_mut-channel-requires
+index_mut-channel-requires c = grind (arith, common_steps)
+
+pub insert-requires : goal.insert-requires
+insert-requires c = grind (arith, common_steps)
+
+pub returns-clause-most : goal.returns-clause-most
+returns-clause-most c = grind (arith, common_steps)
+
+pub returns-in_default-clause-few : goal.returns-in_default-clause-few
+returns-in_default-clause-few c = grind (arith, own_few)
+
+pub returns-in_err-relink-clause-most : goal.returns-in_err-relink-clause-most
+returns-in_err-relink-clause-most c = grind (arith, common_steps)

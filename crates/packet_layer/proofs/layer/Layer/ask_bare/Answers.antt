@@ -1,4 +1,5 @@
-use Rattle.std.proofs.Common.{◌∙◌, ap}
+use Rattle.std.proofs.lemmas.Grind.{common_steps}
+use Rattle.std.proofs.Common.{◌∙◌, ap, arith}
 use Rattle.packet_channel.proofs.Fitting.{fits_same}
 use Rattle.packet_layer.specs.Held.{Layer as Held}
 use Rattle.packet_layer.specs.RequestView.{bare_request_of}
@@ -67,3 +68,15 @@ pub returns-in_err-relink-clause-held : goal.returns-in_err-relink-clause-held
 returns-in_err-relink-clause-held c =
     same_held c.self.inside c.args.self.now c.args.channel c.in-Some.place c.index_mut-channel.result.now
     c.bare_request.new.self (at_err c) c.bare_request.ensures.held
+
+pub index_mut-channel-requires : goal.index_mut-channel-requires
+index_mut-channel-requires c = grind (arith, common_steps)
+
+pub insert-requires : goal.insert-requires
+insert-requires c = grind (arith, common_steps)
+
+pub returns-clause-most : goal.returns-clause-most
+returns-clause-most c = grind (arith, common_steps)
+
+pub returns-in_err-relink-clause-most : goal.returns-in_err-relink-clause-most
+returns-in_err-relink-clause-most c = grind (arith, common_steps)

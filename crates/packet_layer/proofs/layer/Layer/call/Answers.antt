@@ -1,4 +1,5 @@
-use Rattle.std.proofs.Common.{◌≡◌, ◌∙◌, ◌+◌, ap, sym, subst, Some, ◌<◌, length, set}
+use Rattle.std.proofs.lemmas.Grind.{common_steps}
+use Rattle.std.proofs.Common.{◌≡◌, ◌∙◌, ◌+◌, ap, sym, subst, Some, ◌<◌, length, set, arith}
 use Rattle.std.specs.Prelude.{slice_get, Bool}
 use Rattle.packet_channel.specs.Held.{Channel as Holder}
 use Rattle.packet_layer.specs.Layer as machine
@@ -61,3 +62,12 @@ invariant_of-self-else-place_call c =
     let held = c.index_mut-channel.result.now in
     let there = placed a c.args.self.now c.in-Some.place held c.self.view_is c.in-Some.ensures.1.there c.index_mut-channel.ensures.value in
     layer_touched a c.insert.new.self c.in-Some.place held c.place_call.new.self c.self.inside.relink c.self.invariant c.insert.ensures there (fits_kept a.flow held c.place_call.new.self _ c.place_call.ensures.channel)
+
+pub index_mut-channel-requires : goal.index_mut-channel-requires
+index_mut-channel-requires c = grind (arith, common_steps)
+
+pub insert-requires : goal.insert-requires
+insert-requires c = grind (arith, common_steps)
+
+pub returns-clause-most : goal.returns-clause-most
+returns-clause-most c = grind (arith, common_steps)

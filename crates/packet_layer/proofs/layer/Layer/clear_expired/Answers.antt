@@ -1,9 +1,10 @@
-use Rattle.std.proofs.Common.{ap, sym, ◌∙◌}
+use Rattle.std.proofs.lemmas.Grind.{common_steps}
+use Rattle.std.proofs.Common.{ap, sym, ◌∙◌, arith}
 use Rattle.packet_layer.specs.Held.{Layer as Held}
 use Rattle.packet_layer.specs.Layer.{set_if}
 use Rattle.packet_layer.specs.LayerView.{layer_of}
 use Rattle.packet_layer.proofs.Places.{expiry_taken}
-use Rattle.packet_layer.proofs.Placed.{placed, plain_at, plain_set, own_held, own_balance, few_after}
+use Rattle.packet_layer.proofs.Placed.{placed, plain_at, plain_set, own_held, own_balance, few_after, few, own_few}
 use Rattle.packet_layer.proofs.Silence.{layer_stepped}
 use Rattle.packet_layer.proofs.layer.Layer.clear_expired.Goals as goal
 
@@ -48,3 +49,15 @@ returns-clause-few c =
     let there = placed a c.args.self.now c.in-Some.place held c.self.view_is c.in-Some.ensures.1 c.index_mut-channel.ensures.value in
     rw c.relink_if.ensures (few_after a.flow a.channels.items c.in-Some.place held c.expire-relink.new.self c.self.invariant.fits there
     (c.expire-relink.ensures.fits a.flow))
+
+pub index_mut-channel-requires : goal.index_mut-channel-requires
+index_mut-channel-requires c = grind (arith, common_steps)
+
+pub insert-requires : goal.insert-requires
+insert-requires c = grind (arith, common_steps)
+
+pub returns-clause-most : goal.returns-clause-most
+returns-clause-most c = grind (arith, common_steps)
+
+pub returns-in_default-clause-few : goal.returns-in_default-clause-few
+returns-in_default-clause-few c = grind (arith, own_few, few)

@@ -1,3 +1,5 @@
+use Rattle.std.proofs.Common.{arith}
+use Rattle.std.proofs.lemmas.Grind.{elements}
 use Rattle.packet_layer.proofs.Placed.{own_few, few}
 use Rattle.packet_layer.proofs.layer.Layer.next_packet.Goals as goal
 
@@ -13,3 +15,15 @@ returns-clause-few c = c.serve.ensures.few
 
 pub serve-requires-clause-few : goal.serve-requires-clause-few
 serve-requires-clause-few c = own_few c.self.inside c.args.self.now c.self.invariant c.self.view_is
+
+pub returns-clause-heard : goal.returns-clause-heard
+returns-clause-heard c = grind (arith, elements)
+
+pub returns-clause-layer : goal.returns-clause-layer
+returns-clause-layer c = grind (arith, elements)
+
+pub returns-clause-octets : goal.returns-clause-octets
+returns-clause-octets c = grind (arith, elements)
+
+pub returns-clause-said : goal.returns-clause-said
+returns-clause-said c = grind (arith, elements)

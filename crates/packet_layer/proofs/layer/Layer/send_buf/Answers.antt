@@ -1,9 +1,10 @@
-use Rattle.std.proofs.Common.{◌≡◌, ◌∙◌, ap, Some}
+use Rattle.std.proofs.lemmas.Grind.{common_steps}
+use Rattle.std.proofs.Common.{◌≡◌, ◌∙◌, ap, Some, arith}
 use Rattle.std.specs.Prelude.{slice_get}
 use Rattle.packet_channel.specs.Answers.{handed_back}
 use Rattle.data_transfer.specs.Held.{Kept}
 use Rattle.packet_layer.specs.LayerView.{layer_of}
-use Rattle.packet_layer.proofs.Placed.{placed, own_gain, few_after, plain_at, plain_set}
+use Rattle.packet_layer.proofs.Placed.{placed, own_gain, few_after, plain_at, plain_set, own_few}
 use Rattle.packet_layer.proofs.Places.{sent, sent_answer, sent_back}
 use Rattle.packet_layer.proofs.Silence.{layer_touched}
 use Rattle.packet_layer.proofs.layer.Layer.send_buf.Goals as goal
@@ -59,3 +60,15 @@ invariant_of-self c =
     let held = c.index_mut-channel.result.now in
     let there = placed a c.args.self.now c.in-Some.place held c.self.view_is c.in-Some.ensures.1 c.index_mut-channel.ensures.value in
     layer_touched a c.insert.new.self c.in-Some.place held c.send_buf.new.self c.self.inside.relink c.self.invariant c.insert.ensures there c.send_buf.ensures.fits
+
+pub index_mut-channel-requires : goal.index_mut-channel-requires
+index_mut-channel-requires c = grind (arith, common_steps)
+
+pub insert-requires : goal.insert-requires
+insert-requires c = grind (arith, common_steps)
+
+pub returns-clause-most : goal.returns-clause-most
+returns-clause-most c = grind (arith, common_steps)
+
+pub returns-in_default-clause-few : goal.returns-in_default-clause-few
+returns-in_default-clause-few c = grind (arith, own_few)

@@ -1,4 +1,5 @@
-use Rattle.std.proofs.Common.{◌≡◌, ◌+◌, true, false, Some, set, sym}
+use Rattle.std.proofs.lemmas.Grind.{common_steps}
+use Rattle.std.proofs.Common.{◌≡◌, ◌+◌, true, false, Some, set, sym, arith}
 use Rattle.std.specs.Prelude.{slice_get}
 use Rattle.packet_layer.specs.Held.{plain}
 use Rattle.packet_layer.specs.Layer.{serve}
@@ -103,3 +104,15 @@ next_packet-requires-clause-holds c =
     c.requires.holds
     (placed c.self.inside c.args.self.now c.args.place c.index_mut-channel.result.now c.self.view_is c.requires.place
     c.index_mut-channel.ensures.value)
+
+pub index_mut-channel-requires : goal.index_mut-channel-requires
+index_mut-channel-requires c = grind (arith, common_steps)
+
+pub remove-requires : goal.remove-requires
+remove-requires c = grind (arith, common_steps)
+
+pub returns-else-next_packet-clause-most : goal.returns-else-next_packet-clause-most
+returns-else-next_packet-clause-most c = grind (arith, common_steps)
+
+pub returns-then-next_packet-clause-most : goal.returns-then-next_packet-clause-most
+returns-then-next_packet-clause-most c = grind (arith, common_steps)

@@ -1,9 +1,10 @@
-use Rattle.std.proofs.Common.{◌≡◌, ◌∙◌, ap, sym, subst, Some, ◌<◌, length}
+use Rattle.std.proofs.lemmas.Grind.{common_steps}
+use Rattle.std.proofs.Common.{◌≡◌, ◌∙◌, ap, sym, subst, Some, ◌<◌, length, arith}
 use Rattle.std.specs.Prelude.{slice_get}
 use Rattle.packet_layer.specs.Held.{Layer as Held}
 use Rattle.packet_layer.specs.LayerView.{layer_of}
 use Rattle.data_transfer.proofs.Short.{front_short}
-use Rattle.packet_layer.proofs.Placed.{placed, own_loss, few_after, borrowed, plain_at, plain_set, fits_at}
+use Rattle.packet_layer.proofs.Placed.{placed, own_loss, few_after, borrowed, plain_at, plain_set, fits_at, own_few}
 use Rattle.packet_layer.proofs.Places.{taking_done, front_there}
 use Rattle.packet_layer.proofs.Silence.{layer_touched}
 use Rattle.packet_layer.proofs.layer.Layer.take_buf.Goals as goal
@@ -58,3 +59,15 @@ returns-clause-short c =
     let front = front_there l c.args.channel c.in_ok-place.place held.channel (c.in_ok-place.ensures.0 ∙ c.from.ensures) found in
     rw (← c.self.view_is) (λ d first. front_short a.flow.size held.channel.traffic.interrupt_arrived held.channel.traffic.arrived d
     (sym front ∙ first) (fits_at a.flow a.channels.items c.in_ok-place.place held c.self.invariant.fits there).arrived_short)
+
+pub index_mut-channel-requires : goal.index_mut-channel-requires
+index_mut-channel-requires c = grind (arith, common_steps)
+
+pub insert-requires : goal.insert-requires
+insert-requires c = grind (arith, common_steps)
+
+pub returns-clause-most : goal.returns-clause-most
+returns-clause-most c = grind (arith, common_steps)
+
+pub returns-in_err-place-clause-few : goal.returns-in_err-place-clause-few
+returns-in_err-place-clause-few c = grind (arith, own_few)

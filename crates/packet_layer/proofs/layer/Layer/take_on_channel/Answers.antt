@@ -1,11 +1,12 @@
-use Rattle.std.proofs.Common.{◌≡◌, ◌∙◌, ap, sym, subst, Some, ◌<◌, length}
+use Rattle.std.proofs.lemmas.Grind.{common_steps}
+use Rattle.std.proofs.Common.{◌≡◌, ◌∙◌, ap, sym, subst, Some, ◌<◌, length, arith}
 use Rattle.std.specs.Prelude.{slice_get}
 use Rattle.packet_codec.specs.View.{content_view}
 use Rattle.packet_layer.specs.Layer.{set_if}
 use Rattle.data_transfer.specs.Octets.{body_of}
 use Rattle.packet_layer.specs.Held.{Layer as Held}
 use Rattle.packet_layer.specs.LayerView.{layer_of}
-use Rattle.packet_layer.proofs.Placed.{placed, own_held, own_room, own_balance, rw_fits, borrowed, plain_at, plain_set, few_after}
+use Rattle.packet_layer.proofs.Placed.{placed, own_held, own_room, own_balance, rw_fits, borrowed, plain_at, plain_set, few_after, few, own_few}
 use Rattle.packet_layer.specs.RestartView.{phase_of}
 use Rattle.packet_layer.proofs.Places.{packet_taken}
 use Rattle.packet_layer.proofs.Silence.{layer_stepped}
@@ -63,3 +64,18 @@ returns-clause-few c =
     let there = placed a c.args.self.now c.in-Some.place held c.self.view_is c.in-Some.ensures.1 c.index_mut-channel.ensures.value in
     rw c.relink_if.ensures (few_after a.flow a.channels.items c.in-Some.place held c.take_packet-relink.new.self c.self.invariant.fits there
     (rw_fits a.flow c.end-end.result.flow held c.take_packet-relink.new.self (c.end-end.ensures.flow ∙ ap (λ (x : Held). x.layer.flow) (sym c.self.view_is)) c.take_packet-relink.ensures.fits))
+
+pub index_mut-channel-requires : goal.index_mut-channel-requires
+index_mut-channel-requires c = grind (arith, common_steps)
+
+pub insert-requires : goal.insert-requires
+insert-requires c = grind (arith, common_steps)
+
+pub returns-clause-most : goal.returns-clause-most
+returns-clause-most c = grind (arith, common_steps)
+
+pub returns-in_default : goal.returns-in_default
+returns-in_default c = grind (arith, own_few, few)
+
+pub returns-in_default-place-clause-few : goal.returns-in_default-place-clause-few
+returns-in_default-place-clause-few c = grind (arith, own_few, few)

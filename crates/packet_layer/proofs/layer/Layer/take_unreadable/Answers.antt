@@ -1,4 +1,5 @@
-use Rattle.std.proofs.Common.{ap, sym, ◌∙◌}
+use Rattle.std.proofs.lemmas.Grind.{common_steps}
+use Rattle.std.proofs.Common.{ap, sym, ◌∙◌, arith}
 use Rattle.packet_layer.specs.Held.{Layer as Held}
 use Rattle.packet_layer.specs.Layer.{set_if}
 use Rattle.packet_layer.specs.LayerView.{layer_of}
@@ -6,7 +7,7 @@ use Rattle.packet_layer.specs.RestartView.{phase_of}
 use Rattle.packet_layer.specs.Events.{after_hearing}
 use Rattle.data_transfer.specs.Octets.{unreadable_as}
 use Rattle.packet_layer.proofs.Places.{unreadable_taken}
-use Rattle.packet_layer.proofs.Placed.{placed, plain_at, plain_set, own_held, own_balance, few_after}
+use Rattle.packet_layer.proofs.Placed.{placed, plain_at, plain_set, own_held, own_balance, few_after, few, own_few}
 use Rattle.packet_layer.proofs.Silence.{layer_stepped}
 use Rattle.packet_layer.proofs.layer.Layer.take_unreadable.Goals as goal
 
@@ -52,3 +53,18 @@ returns-clause-few c =
     let there = placed a c.args.self.now c.in-Some-place.place held c.self.view_is c.in-Some-place.ensures.1 c.index_mut-channel.ensures.value in
     rw c.relink_if.ensures (few_after a.flow a.channels.items c.in-Some-place.place held c.take_unreadable-relink.new.self c.self.invariant.fits there
     (c.take_unreadable-relink.ensures.fits a.flow))
+
+pub index_mut-channel-requires : goal.index_mut-channel-requires
+index_mut-channel-requires c = grind (arith, common_steps)
+
+pub insert-requires : goal.insert-requires
+insert-requires c = grind (arith, common_steps)
+
+pub returns-clause-most : goal.returns-clause-most
+returns-clause-most c = grind (arith, common_steps)
+
+pub returns-in_default : goal.returns-in_default
+returns-in_default c = grind (arith, own_few, few)
+
+pub returns-in_default-place-clause-few : goal.returns-in_default-place-clause-few
+returns-in_default-place-clause-few c = grind (arith, own_few, few)
