@@ -4,3 +4,6 @@ use Rattle.net_config.proofs.plan.new_routes.Goals as goal
 
 pub loop-route-preserved : goal.loop-route-preserved
 loop-route-preserved c = grind (arith, common_steps)
+
+pub returns-clause-ok : goal.returns-clause-ok
+returns-clause-ok c = grind (arith, common_steps)

@@ -1,3 +1,4 @@
+use Rattle.std.proofs.lemmas.Grind.{elements}
 -- One line more.
 use Rattle.std.proofs.Common.{◌≡◌, ◌⊎◌, inl, inr, arith, sym, subst, ap, ◌∙◌, length}
 use Rattle.std.specs.Prelude.{slice_get}
@@ -23,3 +24,6 @@ returns c = record {
   most = omega (arith, c.if-lines-gt-MOST_LINES.false);
   each = λ n x at. c.loop-line.invariant n x (let within = slice_get_within c.args.lines.now n x at in omega (arith, within, c.loop-line-test.false)) at;
 }
+
+pub returns-in_err-check : goal.returns-in_err-check
+returns-in_err-check c = grind (arith, elements)

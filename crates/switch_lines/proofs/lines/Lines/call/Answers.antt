@@ -1,3 +1,4 @@
+use Rattle.std.proofs.lemmas.Grind.{common_steps, elements}
 use Rattle.std.proofs.Common.{arith, ap}
 use Rattle.packet_codec.specs.View.{call_view}
 use Rattle.data_transfer.specs.Octets.{parts_of}
@@ -37,3 +38,12 @@ invariant_of-self c =
       pooled = pooled_same c.self.inside.pool (with_end (λ e. end.called e (parts_of (call_view c.args.call.now)))) c.self.inside.lines.items c.args.line c.index_mut.result.now c.call.new.self
           c.self.invariant.pooled (omega arith) c.index_mut.ensures.value c.call.ensures.line;
     }
+
+pub returns-clause-answer : goal.returns-clause-answer
+returns-clause-answer c = grind (arith, elements)
+
+pub returns-clause-err : goal.returns-clause-err
+returns-clause-err c = grind (arith, common_steps)
+
+pub returns-then-line-len-clause-answer : goal.returns-then-line-len-clause-answer
+returns-then-line-len-clause-answer c = grind (arith, elements)

@@ -1,4 +1,5 @@
-use Rattle.std.proofs.Common.{◌≡◌, ◌<◌, List, length, get_or, ap, ap₂, sym, subst, ◌∙◌, map, Option, Some, nat_le, true, false}
+use Rattle.std.proofs.lemmas.Grind.{common_steps, elements}
+use Rattle.std.proofs.Common.{◌≡◌, ◌<◌, List, length, get_or, ap, ap₂, sym, subst, ◌∙◌, map, Option, Some, nat_le, true, false, arith}
 use Rattle.data_transfer.specs.Held.{are_short}
 use Rattle.data_transfer.specs.declared.taken.Front.{Front}
 use Rattle.packet_channel.specs.Channel.Request.{Sending}
@@ -74,3 +75,21 @@ returns-in-None-clause-takes c =
     ∙ long_stays ls other far.line (made c.sizes-sizes.result (gathered_by (nth_joined c.index-near.result.now.line.joined place.channel))) there
     (subst (λ k. are_short k (made c.sizes-sizes.result (gathered_by (nth_joined c.index-near.result.now.line.joined place.channel))) ≡ false) size
     (c.in-None.ensures d e)))
+
+pub index-near-requires : goal.index-near-requires
+index-near-requires c = grind (arith, elements)
+
+pub returns-in-Interrupt-clause-there : goal.returns-in-Interrupt-clause-there
+returns-in-Interrupt-clause-there c = grind (arith, common_steps)
+
+pub returns-in-Some-packets_due-clause-there : goal.returns-in-Some-packets_due-clause-there
+returns-in-Some-packets_due-clause-there c = grind (arith, common_steps)
+
+pub returns-in_default-clause-takes : goal.returns-in_default-clause-takes
+returns-in_default-clause-takes c = grind (arith, elements)
+
+pub sizes-sizes-requires-clause-other : goal.sizes-sizes-requires-clause-other
+sizes-sizes-requires-clause-other c = grind (arith, common_steps)
+
+pub sizes-sizes-requires-clause-there : goal.sizes-sizes-requires-clause-there
+sizes-sizes-requires-clause-there c = grind (arith, elements)

@@ -1,3 +1,4 @@
+use Rattle.std.proofs.lemmas.Grind.{common_steps}
 use Rattle.std.proofs.Common.{◌≤◌, ◌<◌, ◌∙◌, ℕ, Bool, [], ◌∷◌, ap, ap₂, length, set, List, Option, Some, refl, sym, subst, arith}
 use Rattle.std.specs.Prelude.{◌+◌}
 use Rattle.flow_window.specs.Pool.{weight}
@@ -198,3 +199,12 @@ pass-requires c =
     ap (λ (ls : List SwitchLine). gathered_by (joined_at ls c.args.place)) (sent ∙ ap (λ (ls : List SwitchLine). ask q (Sending d) ls) taken)
     ∙ ap gathered_by (joined_asked q (Sending d) c.args.place (ask c.args.place Taking c.args.self.now) ∙ joined_asked c.args.place Taking c.args.place c.args.self.now)
     ∙ c.requires.nothing
+
+pub index_mut-requires : goal.index_mut-requires
+index_mut-requires c = grind (arith, common_steps)
+
+pub index_mut-requires-in-Some-Data : goal.index_mut-requires-in-Some-Data
+index_mut-requires-in-Some-Data c = grind (arith, common_steps)
+
+pub insert-requires-in-Some-Data : goal.insert-requires-in-Some-Data
+insert-requires-in-Some-Data c = grind (arith, common_steps)

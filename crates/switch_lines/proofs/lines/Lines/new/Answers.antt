@@ -1,3 +1,4 @@
+use Rattle.std.proofs.lemmas.Grind.{common_steps}
 use Rattle.std.proofs.Common.{◌≡◌, ◌∙◌, [], ◌∷◌, ◌++◌, ap, ap₂, length, map, nat_lt, true≢false, sym, arith}
 use Rattle.std.proofs.lemmas.List.{map_more}
 use Rattle.flow_window.specs.Pool.{Pool}
@@ -59,3 +60,6 @@ pub returns : goal.returns
 returns c =
     ap plain (c.loop-line.invariant.made ∙ ap (map made_pooled) (all_taken c.args.lines.now c.loop-line.line-index
     (omega (arith, c.loop-line-test.false)))) ∙ plain_made c.args.lines.now
+
+pub first-touched-requires : goal.first-touched-requires
+first-touched-requires c = grind (arith, common_steps)

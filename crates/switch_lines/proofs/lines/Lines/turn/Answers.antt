@@ -1,3 +1,4 @@
+use Rattle.std.proofs.lemmas.Grind.{common_steps}
 use Rattle.std.proofs.Common.{◌<◌, List, length, map, set, ap, ap₂, refl, arith, ◌∙◌, Option, Bool}
 use Rattle.std.specs.Prelude.{slice_get}
 use Rattle.packet_channel.specs.Channel.Request.{Sending}
@@ -136,3 +137,21 @@ returns c =
     one_changed (kept_on c.args.place.channel f) ys (plain ys) n c.index_mut-2.result.now c.carry.new.self refl here c.index_mut-2.ensures.value c.carry.ensures.line
     ∙ ap (λ (xs : List SwitchLine). kept_at c.args.place f xs) sent
     ∙ ap₂ (λ (b : Bool) (t : Turn). kept_at c.args.place (carried b t) (ask_all c.args.other (map Sending t.made) ls)) c.delivery.ensures turns
+
+pub index-near-requires : goal.index-near-requires
+index-near-requires c = grind (arith, common_steps)
+
+pub index_mut-requires : goal.index_mut-requires
+index_mut-requires c = grind (arith, common_steps)
+
+pub index_mut-requires-2 : goal.index_mut-requires-2
+index_mut-requires-2 c = grind (arith, common_steps)
+
+pub insert-requires : goal.insert-requires
+insert-requires c = grind (arith, common_steps)
+
+pub sizes_of-sizes-requires-clause-other : goal.sizes_of-sizes-requires-clause-other
+sizes_of-sizes-requires-clause-other c = grind (arith, common_steps)
+
+pub sizes_of-sizes-requires-clause-there : goal.sizes_of-sizes-requires-clause-there
+sizes_of-sizes-requires-clause-there c = grind (arith, common_steps)

@@ -1,0 +1,9 @@
+use Rattle.std.proofs.Common.{arith}
+use Rattle.std.proofs.lemmas.Grind.{elements}
+use Rattle.switch_lines.proofs.lines.other_of.Goals as goal
+
+pub returns : goal.returns
+returns c = grind (arith, elements)
+
+pub returns-in_err-get : goal.returns-in_err-get
+returns-in_err-get c = grind (arith, elements)
