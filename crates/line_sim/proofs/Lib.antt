@@ -1,4 +1,4 @@
-mod Making
+mod LinesBegin
 mod Made
 mod Registered
 pub mod CanBeServed

@@ -31,7 +31,7 @@ use Rattle.placed_nodes.proofs.Plans.{never_both, same_new_switch, node_of_end, 
 use Rattle.net_turns.specs.Switching.{LinePut}
 use Rattle.line_sim.specs.Making.{frames_put, put_at, first_end, ArePutSoFar, LineHasBegun, HaveBegun, CanBegin}
 use Rattle.line_sim.specs.Making.{SwitchBegins, switch_to, HaveNodesBegun, IsMadeOf}
-use Rattle.line_sim.proofs.Making.{same_before, none_yet, now_put}
+use Rattle.line_sim.proofs.LinesBegin.{same_before, none_yet, now_put}
 
 -- a node with users is as it is made
 user_made : (plan : NetPlan) (nodes : List NetNode) → AreNew (length plan.lines) plan nodes → (place : ℕ) (n : NewNode) → slice_get plan.nodes place ≡ Some (PlannedUser n)

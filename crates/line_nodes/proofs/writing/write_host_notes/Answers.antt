@@ -1,3 +1,4 @@
+use Rattle.std.proofs.lemmas.Grind.{common_steps, elements}
 use Rattle.std.proofs.Common.{◌≡◌, ◌∙◌, ◌++◌, ◌≤◌, ap, ap₂, drop, List, length, arith, subst, sym}
 use Rattle.data_transfer.specs.Packets.{Note}
 use Rattle.packet_channel.specs.NoteView.{note_of}
@@ -44,3 +45,21 @@ loop-preserved c =
           let count = ap (λ (ns : List Note). length ns) rest in
           omega (arith, count, fewer.places, invariant.places, c.list_note.ensures.capacity, c.list_note.new.notes.ok, c.loop.notes.ok);
     }
+
+pub returns-clause-book : goal.returns-clause-book
+returns-clause-book c = grind (arith, common_steps)
+
+pub returns-clause-host : goal.returns-clause-host
+returns-clause-host c = grind (arith, common_steps)
+
+pub returns-clause-notes : goal.returns-clause-notes
+returns-clause-notes c = grind (arith, common_steps)
+
+pub returns-in_default-clause-book : goal.returns-in_default-clause-book
+returns-in_default-clause-book c = grind (arith, elements)
+
+pub returns-in_default-clause-host : goal.returns-in_default-clause-host
+returns-in_default-clause-host c = grind (arith, elements)
+
+pub returns-in_default-clause-notes : goal.returns-in_default-clause-notes
+returns-in_default-clause-notes c = grind (arith, elements)

@@ -1,5 +1,6 @@
+use Rattle.std.proofs.lemmas.Grind.{common_steps}
 -- An octet more is read, all are, or one is none.
-use Rattle.std.proofs.Common.{rules, ◌≡◌, List, ℕ, [], ◌∷◌, ◌++◌, Some, None, refl, sym, ap, ◌∙◌, append_assoc}
+use Rattle.std.proofs.Common.{rules, ◌≡◌, List, ℕ, [], ◌∷◌, ◌++◌, Some, None, refl, sym, ap, ◌∙◌, append_assoc, arith}
 use Rattle.std.proofs.lemmas.List.{append-nil}
 use Rattle.net_files.specs.Cuts.{before, behind}
 use Rattle.net_files.specs.Texts.{octets_of}
@@ -51,3 +52,12 @@ returns-clause-read c =
     ∙ sym (plain_added c.loop-escape.octets.items c.loop-escape.rest.now c.add_plain.new.octets.items None
     c.in_ok-escape.ensures.plain rest)
     ∙ all_spelled c.add_plain.new.octets.items
+
+pub returns-clause-behind : goal.returns-clause-behind
+returns-clause-behind c = grind (arith, common_steps)
+
+pub returns-in_err-octet-clause-behind : goal.returns-in_err-octet-clause-behind
+returns-in_err-octet-clause-behind c = grind (arith, common_steps)
+
+pub returns-in_err-push-clause-behind : goal.returns-in_err-push-clause-behind
+returns-in_err-push-clause-behind c = grind (arith, common_steps)

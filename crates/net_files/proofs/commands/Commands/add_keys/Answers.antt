@@ -1,3 +1,4 @@
+use Rattle.std.proofs.lemmas.Grind.{common_steps}
 use Rattle.std.proofs.Common.{◌≡◌, ◌-◌, length, arith}
 use Rattle.net_files.specs.Texts.{octets_of}
 use Rattle.net_files.proofs.Kept.{with_spelled}
@@ -22,3 +23,6 @@ returns c =
     rw (c.push_reserved.ensures.items, c.in_ok-reserve.ensures.items, ← c.self.view_is)
     (with_spelled i.entries.items i.events.items i.octets.items c.args.node c.args.terminal count c.add_text.new.octets.items
     (octets_of c.args.text.now) c.self.invariant c.in_default.ensures.read many).1
+
+pub invariant_of-self-in-Err : goal.invariant_of-self-in-Err
+invariant_of-self-in-Err c = grind (arith, common_steps)
