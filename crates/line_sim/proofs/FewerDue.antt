@@ -13,7 +13,7 @@ use Rattle.frame_lines.specs.Lines.{LineService}
 use Rattle.switch_lines.specs.Lines.{SwitchLine}
 use Rattle.switch_lines.specs.Switch.{due_on}
 use Rattle.net_events.specs.Network.{PlacedNode, PlacedSwitch, NetNode, User, Switching, Network, StandsAtLines}
-use Rattle.net_events.proofs.Users.{same_user, not_both}
+use Rattle.net_events.proofs.Users.{same_user, not_both, same_switch}
 use Rattle.net_events.specs.NextDue.{DueTimer, first_on, due_on_lines, due_at, due_of, due_from, next_due}
 use Rattle.network_laws.specs.DueCount.{all_due}
 use Rattle.net_events.specs.declared.answer.Answer.{Answer}
@@ -27,7 +27,6 @@ use Rattle.net_config.specs.Plan.{is_line}
 use Rattle.net_nodes.specs.Steps.{ExpireStep}
 use Rattle.net_nodes.specs.Happening.{Happens}
 use Rattle.network_laws.proofs.Switched.FewerAny.{fewer_any, fewer_at_switch}
-use Rattle.network_laws.proofs.Switched.NodesAtEnds.{same_switch}
 use Rattle.line_sim.specs.Between.{IsBetweenEvents}
 use Rattle.line_sim.specs.Expiries.{FewerDue}
 use Rattle.line_sim.proofs.CanBeServed.{standing}

@@ -15,7 +15,7 @@ use Rattle.net_events.specs.NodeEvents.{Expires, turn_of}
 use Rattle.net_events.specs.OneLine.{direction_of}
 use Rattle.net_events.specs.Network.{PlacedNode, PlacedSwitch, NetNode, User, Switching, NetLine, Network, place_at}
 use Rattle.net_events.specs.Network.{net_turn, HappenedAt}
-use Rattle.net_events.proofs.Users.{same_user, not_both}
+use Rattle.net_events.proofs.Users.{same_user, not_both, same_switch}
 use Rattle.net_events.specs.declared.answer.Answer.{Answer}
 use Rattle.net_events.specs.declared.event.Event.{Event}
 use Rattle.net_events.specs.declared.event.Event.TheVariants.{Expire}
@@ -26,7 +26,6 @@ use Rattle.net_nodes.specs.Steps.{ExpireStep}
 use Rattle.net_nodes.specs.Happening.{Happens}
 use Rattle.network_laws.specs.Switched.Idle.{IsAsBefore}
 use Rattle.network_laws.proofs.Switched.IdleExpiry.{idle_expiry}
-use Rattle.network_laws.proofs.Switched.NodesAtEnds.{same_switch}
 use Rattle.line_sim.specs.Between.{IsBetweenEvents}
 use Rattle.line_sim.specs.Expiries.{DoesNotRun, IdleExpiry}
 use Rattle.line_sim.proofs.CanBeServed.{standing}

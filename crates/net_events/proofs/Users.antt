@@ -1,4 +1,5 @@
--- Nodes with users: in a plan without a switch both nodes of each line are; and no node is both such a node and a switch.
+-- Nodes with users and switches: in a plan without a switch both nodes of each line have users. No node is both, and at
+-- a place is one node.
 use Rattle.std.proofs.Common.{◌≡◌, ◌≢◌, ℕ, List, [], Some, ap, ◌∙◌, subst}
 use Rattle.std.specs.Prelude.{slice_get}
 use Rattle.std.proofs.lemmas.Option.{same_Some}
@@ -66,6 +67,17 @@ user_is a b e = ap (user_or a) e
 
 pub same_user : (a b : PlacedNode) → Some (User a) ≡ Some (User b) → a ≡ b
 same_user a b e = user_is a b (same_Some (User a) (User b) e)
+
+switch_or : PlacedSwitch → NetNode → PlacedSwitch
+switch_or other (User n) = other
+switch_or other (Switching n) = n
+
+pub switch_is : (a b : PlacedSwitch) → Switching a ≡ Switching b → a ≡ b
+unfolding switch_or
+switch_is a b e = ap (switch_or a) e
+
+pub same_switch : (a b : PlacedSwitch) → Some (Switching a) ≡ Some (Switching b) → a ≡ b
+same_switch a b e = switch_is a b (same_Some (Switching a) (Switching b) e)
 
 abbrev IsUser : NetNode → Type 0
 IsUser (User n) = Unit {0}

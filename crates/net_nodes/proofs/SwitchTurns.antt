@@ -15,7 +15,7 @@ use Rattle.frame_lines.specs.declared.line.Direction.TheVariants.{FromDte, FromD
 use Rattle.frame_lines.specs.Lines.{Flights, LineService, flying, without_first}
 use Rattle.switch_lines.specs.Lines.{SwitchLine, role_on}
 use Rattle.net_events.specs.OneLine.{direction_to}
-use Rattle.net_events.proofs.Users.{not_both}
+use Rattle.net_events.proofs.Users.{not_both, same_switch}
 use Rattle.net_events.specs.AtSwitch.{SwitchEvent, Hears, Expires, Relinks, Restarts, HasOwnLine, switched, joins_of, switch_drained, all_handed, LinesServed}
 use Rattle.net_events.specs.Network.{PlacedSwitch, NetNode, User, Switching, NetLine, Network, StandsAtLines, place_at, own_role}
 use Rattle.net_events.specs.declared.answer.Answer.{Answer}
@@ -31,17 +31,6 @@ use Rattle.net_turns.specs.Switching.{HasRoom, CanPut}
 use Rattle.net_nodes.specs.Switching.{CanSwitch, SwitchActed}
 use Rattle.net_events.proofs.Lists.{within}
 use Rattle.net_turns.proofs.Switching.{heard_lines, expired_lines, relinked_lines, restarted_lines}
-
-switch_or : PlacedSwitch → NetNode → PlacedSwitch
-switch_or other (User n) = other
-switch_or other (Switching n) = n
-
-pub switch_is : (a b : PlacedSwitch) → Switching a ≡ Switching b → a ≡ b
-unfolding switch_or
-switch_is a b e = ap (switch_or a) e
-
-pub same_switch : (a b : PlacedSwitch) → Some (Switching a) ≡ Some (Switching b) → a ≡ b
-same_switch a b e = switch_is a b (same_Some (Switching a) (Switching b) e)
 
 -- what never fails is answered
 pub answered : {D E A : Type 0} {P : Type 0} (r : Result D E) (a : A) (Q : Result A E → Type 0) → MatchResult r (λ _. P) (λ _. ⊥) → (P → Q (Ok a)) → Q (result_and r (Ok a))

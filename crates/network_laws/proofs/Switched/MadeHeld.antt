@@ -25,7 +25,7 @@ use Rattle.switched_call_laws.proofs.SwitchPaths.Begins.{network_holds}
 use Rattle.record_laws.specs.CallPaths.World.{made_world}
 use Rattle.record_laws.specs.CallPaths.Lines.{free_book}
 use Rattle.net_events.specs.Network.{PlacedSwitch, NetNode, Switching, NetLine, Network, place_at}
-use Rattle.net_events.proofs.Users.{not_both}
+use Rattle.net_events.proofs.Users.{not_both, same_switch}
 use Rattle.net_config.specs.NetPlan.{NewSwitch, Planned, PlannedUser, PlannedSwitch, NewLine, NetPlan, IsEndPlan, IsKindOfLine, IsLinePlan, HasEndAt, IsPlan, switch_places}
 use Rattle.net_events.specs.Opening.{AreSent, IsMade, role_on_line, line_plan, placed_new, placed_switch, new_at, new_dte, new_dce}
 use Rattle.network_laws.specs.IsLine.{IsLine, line_of}
@@ -38,7 +38,7 @@ use Rattle.network_laws.specs.Switched.Plans.{IsPlanOf, has_users, goes_on_at}
 use Rattle.network_laws.specs.Switched.IsSwitched.{ends_state, line_between, LineStands, IsHeld, IsSwitched, of_users, with_switches}
 use Rattle.network_laws.specs.Switched.Laws.{MadeLaw}
 use Rattle.network_laws.proofs.Switched.Addressed.{made_addressed}
-use Rattle.network_laws.proofs.Switched.NodesAtEnds.{AreApart, same_at, are_apart, same_switch}
+use Rattle.network_laws.proofs.Switched.NodesAtEnds.{AreApart, same_at, are_apart}
 use Rattle.network_laws.proofs.Switched.MadePlan.{find_switch, end_place, is_user, end_is_user, line_there, switch_there, goes_on, digits_of, plan_of, are_addressed, is_tree, dce_role, dte_role, are_between}
 use Rattle.network_laws.proofs.Switched.MadeStanding.{MayStand, Stood, all_stand, made_stood}
 use Rattle.network_laws.proofs.Switched.MadeStands.{net_line, line_planned, as_dte, at_dte, at_dce, is_new_dte, stands_made, nodes_made}

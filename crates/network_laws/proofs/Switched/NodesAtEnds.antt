@@ -13,15 +13,6 @@ use Rattle.net_events.specs.Network.{PlacedNode, PlacedSwitch, NetNode, User, Sw
 use Rattle.net_events.proofs.Users.{user_is, same_user, not_switch, not_both}
 use Rattle.network_laws.specs.Switched.IsSwitched.{IsEndOf, EndStands, IsUserThere, LineStands}
 
--- ---- a node that is a switch
-
-abbrev switch_or : PlacedSwitch → NetNode → PlacedSwitch
-switch_or other (User n) = other
-switch_or other (Switching n) = n
-
-pub same_switch : (a b : PlacedSwitch) → Some (Switching a) ≡ Some (Switching b) → a ≡ b
-same_switch a b e = ap (switch_or a) (same_Some (Switching a) (Switching b) e)
-
 -- ---- one node stands at an end
 
 -- no own line of a switch is another one of its lines too

@@ -30,7 +30,8 @@ use Rattle.network_laws.specs.IsLine.{NodeHolds, IsLine}
 use Rattle.network_laws.proofs.Shapes.{writes_stay}
 use Rattle.network_laws.specs.Switched.Plans.{has_users, goes_on_at, IsPlanOf}
 use Rattle.network_laws.specs.Switched.IsSwitched.{ends_state, line_between, EndStands, LineStands, IsSwitchAt, IsHeld, IsSwitched}
-use Rattle.network_laws.proofs.Switched.NodesAtEnds.{same_switch, same_place, same_end, are_apart}
+use Rattle.net_events.proofs.Users.{same_switch}
+use Rattle.network_laws.proofs.Switched.NodesAtEnds.{same_place, same_end, are_apart}
 use Rattle.network_laws.proofs.Switched.OwnLines.{own_or_none, line_named, none_other, role_of_own}
 use Rattle.network_laws.proofs.Switched.SwitchMoving.{addresses_stay, MayCome, Moved, moved}
 use Rattle.network_laws.proofs.Switched.SwitchSending.{Sent, all_sent}

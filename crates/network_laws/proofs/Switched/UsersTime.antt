@@ -27,13 +27,13 @@ use Rattle.switched_call_laws.proofs.SwitchPaths.Listing.{if_same, if_else}
 use Rattle.switched_call_laws.proofs.SwitchPaths.Elsewhere.{own_end, other_end}
 use Rattle.record_laws.specs.CallPaths.World.{Plan}
 use Rattle.net_events.specs.Network.{PlacedSwitch, NetNode, User, Switching, NetLine, Network, Stands, place_at, own_role, StandsAtLines, elapsed_node, all_elapsed}
-use Rattle.net_events.proofs.Users.{not_switch, not_both}
+use Rattle.net_events.proofs.Users.{not_switch, not_both, same_switch}
 use Rattle.network_laws.specs.IsLine.{IsLine, IsKept}
 use Rattle.network_laws.proofs.Lines.{elapsed_lines}
 use Rattle.network_laws.proofs.Opened.{mapped, unmapped}
 use Rattle.network_laws.specs.Switched.Plans.{IsPlanOf, has_users}
 use Rattle.network_laws.specs.Switched.IsSwitched.{ends_state, line_between, IsEndOf, EndStands, IsUserThere, LineStands, IsSwitchAt, IsHeld, IsSwitched}
-use Rattle.network_laws.proofs.Switched.NodesAtEnds.{same_switch, AreApart, same_end, same_at, are_apart}
+use Rattle.network_laws.proofs.Switched.NodesAtEnds.{AreApart, same_end, same_at, are_apart}
 use Rattle.network_laws.proofs.Switched.UsersHeld.{sighted}
 use Rattle.network_laws.proofs.Switched.UsersEvents.{book_of}
 use Rattle.network_laws.proofs.Switched.OwnLines.{line_named, none_other, own_or_none, same_role, other_role_is, own_of_switch, role_of_own, switch_there, if_here, if_there}

@@ -5,7 +5,7 @@ use Rattle.net_events.specs.EventView.{switch_event_of}
 use Rattle.net_events.specs.Network.{PlacedSwitch, Switching}
 use Rattle.placed_nodes.specs.NodeView.{kind_of}
 use Rattle.net_turns.specs.Switching.{CanPut, SwitchServed}
-use Rattle.net_nodes.proofs.SwitchTurns.{switch_is}
+use Rattle.net_events.proofs.Users.{switch_is}
 use Rattle.net_nodes.proofs.nodes.switching.serve_switch_of.Goals as goal
 
 pub serve_switch-requires-clause-has_line : goal.serve_switch-requires-clause-has_line
