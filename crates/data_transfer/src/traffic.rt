@@ -88,7 +88,8 @@ impl Traffic {
         })
     }
 
-    /// Begins anew, as a call or a reset does. The buffers of both queues go back.
+    /// Empties the queues and restarts the numbers, for a call that begins and for a reset. The buffers of both queues
+    /// go back to the pool.
     #[tactic(auto, using(flow_window::proofs::Weights::weight_append))]
     pub fn clear(&mut self, pool: &mut Pool)
         requires { Holds pool.old self.old.held }
@@ -141,6 +142,7 @@ impl Traffic {
         self.interrupt_waiting.is_some() || self.interrupt_unconfirmed
     }
 
+    /// Lets an interrupt wait to be sent. One that waited already is replaced.
     pub fn queue_interrupt(&mut self, interrupt: InterruptData)
         ensures { self.new ≡ record self.old { traffic = machine.queue_interrupt interrupt self.old.traffic } }
     {

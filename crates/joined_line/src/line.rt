@@ -159,7 +159,7 @@ impl SwitchLine {
         self.joined.set(channel, joined, pool);
     }
 
-    /// The direction from a joined channel begins anew. What is gathered from there is dropped.
+    /// Restarts the direction from a joined channel. What is gathered from there is dropped.
     pub fn renew(&mut self, channel: u8, pool: &mut Pool)
         requires { Serves pool.old self.old.held self.old.claim.share self.old.claim.info }
         ensures line { self.new.line ≡ kept_on channel (λ v. new_direction) self.old.line }

@@ -20,6 +20,6 @@ expires role n id b = if node_runs n id then told role (expired n id) b else unc
 abbrev pub relinks : Role → NodeState → Book → Turn
 relinks role n b = told role (relinked n) b
 
--- the node begins anew: its calls are over for it, of which nothing is told
+-- the node restarts: its calls are over for it, of which nothing is told
 abbrev pub restarts : Role → NodeState → Book → Turn
 restarts role n b = unchanged (restarted n) (all_closed role b)

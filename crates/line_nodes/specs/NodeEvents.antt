@@ -25,7 +25,7 @@ abbrev pub relinked : NodeState → NodeState
 relinked (Pad p) = Pad (pad.after_relink p)
 relinked (Host e) = Host (host.after_relink e)
 
--- the node begins anew: its calls are over for it, of which nothing is told
+-- the node restarts: its calls are over for it, of which nothing is told
 abbrev pub restarted : NodeState → NodeState
 restarted (Pad p) = Pad (pad.restarted p)
 restarted (Host e) = Host (end.restarted e)

@@ -15,7 +15,7 @@ use Rattle.line_nodes.specs.LineTurns.{hears, expires, relinks, restarts}
 use Rattle.line_nodes.specs.declared.terminal.TerminalEvent.{TerminalEvent}
 use Rattle.net_events.specs.OneLine.{LineState, node_at, with_turn, direction_of, direction_to}
 
--- a frame arrives, a timer expires, the link is given up, or the node begins anew; the user of a host calls an address,
+-- a frame arrives, a timer expires, the link is given up, or the node restarts; the user of a host calls an address,
 -- asks something of a call, refuses a call that came in, says or takes something; something happens at a terminal of a
 -- PAD
 pub data NodeEvent : Type 0 where
@@ -55,7 +55,7 @@ IsFor (AtTerminal terminal event) n = HasTerminal n terminal
 IsFor _ n = Unit {0}
 
 -- what the event takes from the line before the node has its turn: the frame that arrives, which was the first one in
--- flight to it; all frames where the node begins anew; else nothing
+-- flight to it; all frames if the node restarts; else nothing
 abbrev pub LeftBy : NodeEvent → Role → (before between : Flights) → Type 0
 LeftBy (Hears octets) role before between =
     (slice_get (flying (direction_to role) before) 0 ≡ Some octets)

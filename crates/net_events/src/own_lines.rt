@@ -2,7 +2,7 @@
 ghost use Rattle.std.specs.Prelude.{◌≡◌};
 ghost use Rattle.net_events.specs.AtSwitch.{network_line};
 
-/// The line of the network that is an own line of a switch.
+/// The number in the network of an own line of a switch, and 0 if the switch has no such line.
 pub fn network_line(lines: &[usize], own: usize) -> usize
     ensures { result ≡ network_line lines.now own }
 {

@@ -196,7 +196,7 @@ made = record { node_count = refl; nodes = node_made; line_count = refl; lines =
 holds : IsNetwork memory_service network
 holds = made_network memory_service plan network planned users (made)
 
--- ---- the host at the DCE of the second line begins anew: its line loses all frames, and it sends its first one
+-- ---- the host at the DCE of the second line restarts: its line loses all frames, and it sends its first one
 
 abbrev anew : Network
 anew = with_turn_at 1 (net_line 2 3 NewHost) 3 (placed_new (node 1 Dce) params) (net_turn Restarts 1 Dce (placed_new (node 1 Dce) params) network)

@@ -1,5 +1,5 @@
 //! One logical channel of the packet layer: the state of its call, the control packets that it owes to the link, what its
-//! user asks, and what a packet from the link makes of it (X.25 sections 4 and 5). Its data in transfer are below.
+//! user asks, and what a packet from the link makes of it (X.25 sections 4 and 5). The crate data_transfer has its data.
 #![tactic(auto)]
 
 mod channel;

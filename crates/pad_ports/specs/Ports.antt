@@ -121,7 +121,7 @@ is_taken (input.Taken asked) = true
 abbrev pub key_input : ℕ → AtLine → keys.Input
 key_input o a = keys.after_octet o (line.condition a.port.call a.line) a.port.terminal
 
--- a key: the idle timer begins anew
+-- a key: the idle timer restarts
 abbrev pub after_key : ℕ → AtLine → AtLine
 after_key o a =
     handles (key_input o a).answer (key o a.port.terminal.settings.params)

@@ -85,7 +85,7 @@ impl ChannelJoin {
         };
     }
 
-    /// The direction from here begins anew, if the channel is joined. What is gathered is dropped.
+    /// Restarts the direction from here, if the channel is joined. What is gathered is dropped.
     pub(crate) fn renew(&mut self, pool: &mut Pool)
         requires { Holds pool.old (buffers_of self.old) }
         ensures joined { joined_in self.new ≡ joined_with (λ v. new_direction) (joined_in self.old) }

@@ -157,7 +157,7 @@ pub event_fits : (routes : RouteMap) (n : ℕ) (what : Happening) (ls : List Swi
 event_fits routes n what ls h =
     fit_each (finished routes n (acted routes n (does what) (all_begun ls))) (finished_fits routes n _ (acted_fits routes n what (all_begun ls) (begun_fits ls (fit_list ls h))))
 
--- ---- ends that are new or begin anew
+-- ---- ends that are new or restart
 
 none_kept : (k : ℕ) (xs : List Octets) → length xs ≡ 0 → length xs ≤ k
 none_kept k xs e = omega (arith, e)

@@ -21,7 +21,7 @@ use Rattle.switch_laws.specs.Steps.Happening.{Brings, RunsOut, Relinks}
 use Rattle.switch_laws.specs.EventSteps.{event_acts}
 use Rattle.switch_laws.specs.Joined.{IsSwitch, Reached, HasRelayedAll}
 
--- a frame comes on a line, a timer of a line expires, the link of a line is set up anew, the switch begins anew, ticks
+-- a frame comes on a line, a timer of a line expires, the link of a line is set up anew, the switch restarts, ticks
 -- pass, a frame of a line is taken
 pub data Event : Type 0 where
   Arrives : (line : ℕ) → (octets : List ℕ) → Event

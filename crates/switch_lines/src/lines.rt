@@ -266,7 +266,7 @@ impl Lines {
         }
     }
 
-    // The direction from a joined channel begins anew. What is gathered from there is dropped.
+    // Restarts the direction from a joined channel. What is gathered from there is dropped.
     fn renew(&mut self, place: SwitchChannel)
         ensures { self.new ≡ kept_at place (λ v. new_direction) self.old }
     {

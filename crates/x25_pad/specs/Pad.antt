@@ -217,7 +217,7 @@ idle_due (Some number) = Some (Idle number)
 abbrev pub due : PadState → Option TimerId
 due p = end.either_timer (end.due p.line.end) (idle_due (position (λ q. port.is_due q) p.ports))
 
--- the PAD begins anew, without a call
+-- the PAD restarts, without a call
 abbrev pub restarted : PadState → PadState
 restarted p = record {
   line = record { end = end.restarted p.line.end; notes = [] };

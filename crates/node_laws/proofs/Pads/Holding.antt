@@ -448,7 +448,7 @@ sent_law role p b h place records of = record {
   sent = λ i r at node. sent_so role p b h r (of i r at node);
 }
 
--- an event that begins anew, whatever is left of the last one
+-- an event that restarts, whatever is left of the last one
 begins_anew : (event : PadEvent) (role : Role) (p : PadState) (b : Book) (h : PadHolds role p b) → PadTypes role (after_event event (without_notes p)) (noted role (after_event event (without_notes p)).line.notes b)
     → IsCourse role (record { pad = drained (after_event event (without_notes p)); book = noted role (after_event event (without_notes p)).line.notes b; occasions = λ n. grown h.occasions event (without_notes p) role b n })
     → PadHolds role (after_event event (without_notes p)) (noted role (after_event event (without_notes p)).line.notes b)

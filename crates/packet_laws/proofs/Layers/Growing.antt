@@ -109,7 +109,7 @@ covers Transfer false h e = hears_more h e
 covers Transfer true h e = stays e
 covers _ resetting h e = stays e
 
--- ---- or begins anew
+-- ---- or restarts
 
 abbrev GoesOn : Epoch → Epoch → Type 0
 GoesOn before now = (now ≡ empty_epoch) ⊎ Grows before now

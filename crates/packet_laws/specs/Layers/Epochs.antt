@@ -1,5 +1,5 @@
 -- The present epoch of each channel of a packet layer, which no layer stores: it grows by what is asked and heard on
--- its channel, and begins anew with each reset and each end of a call.
+-- its channel, and restarts with each reset and each end of a call.
 use Rattle.std.specs.Prelude.{ℕ, Bool, true, false, if◌then◌else◌, ◌==◌, Option, Some, None}
 use Rattle.link_timers.specs.declared.role.Role.{Role}
 use Rattle.data_transfer.specs.declared.flow.Flow.{Flow}
@@ -17,7 +17,7 @@ use Rattle.packet_laws.specs.History.{Epoch, empty_epoch, logged, logged_heard}
 
 -- ---- on one channel
 
--- an epoch begins anew where this end owes the packet that asks for a reset or a clear, or the one that confirms it
+-- an epoch restarts where this end owes the packet that asks for a reset or a clear, or the one that confirms it
 abbrev pub begun_by : Option Body → Epoch → Epoch
 begun_by (Some (Clear cause diagnostic)) e = empty_epoch
 begun_by (Some ClearConfirmation) e = empty_epoch

@@ -81,7 +81,7 @@ either-quiet n id s q false = all-keep all_frames_out s.lines out-keep q
 pub timer-quiet : TimerQuietLaw
 timer-quiet n id s q = either-quiet n id s q (timer_runs (slice_get s.lines n) id)
 
--- ---- lines that are new or begin anew
+-- ---- lines that are new or restart
 
 all-quiet : {X : Type 0} (f : X → SwitchLine) (xs : List X) → ((x : X) → IsQuiet (Host (all_frames_out (f x)).end)) → AreQuiet (map all_frames_out (map f xs))
 all-quiet f [] h n x e = absurd (none-some x e)
