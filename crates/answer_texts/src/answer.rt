@@ -88,7 +88,7 @@ fn add_place(line: &mut Vec<u8>, node: &str, sign: u8, number: u16) -> Result<()
     line.extend_from_slice(digits.format(number).as_bytes())
 }
 
-/// Adds what was taken, if anything, behind a space, and ends the line.
+/// Adds what was taken, if anything, after a space, and ends the line.
 fn add_taken(line: &mut Vec<u8>, front: Option<Front>, octets: &[u8]) -> Result<(), AllocError>
     ensures { OnOk result (line.new.items ≡ line.old.items ++ (32 ∷ taken_text front octets.now ++ 10 ∷ [])) }
 {
@@ -110,7 +110,7 @@ fn add_taken(line: &mut Vec<u8>, front: Option<Front>, octets: &[u8]) -> Result<
     }
 }
 
-/// Adds octets between quotes, behind others, and ends the line.
+/// Adds octets between quotes, after others, and ends the line.
 fn add_quoted(line: &mut Vec<u8>, before: &[u8], octets: &[u8]) -> Result<(), AllocError>
     ensures { OnOk result (line.new.items ≡ line.old.items ++ (before.now ++ (quoted octets.now ++ 10 ∷ []))) }
 {
@@ -213,7 +213,7 @@ fn way_of(direction: Direction) -> &'static str
     }
 }
 
-/// Adds octets in hexadecimal, each behind a space.
+/// Adds octets in hexadecimal, each after a space.
 fn add_spaced(text: &mut Vec<u8>, octets: &[u8]) -> Result<(), AllocError>
     ensures { OnOk result (text.new.items ≡ text.old.items ++ flat_map spaced octets.now) }
 {

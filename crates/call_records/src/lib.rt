@@ -1,5 +1,5 @@
-//! The book of a line: the records of the calls' two ends, and which two of them make a call. And whether what the ends of
-//! calls took matches what the other ends sent.
+//! The book of a line: the records of the calls' two ends, and which two of them make a call. The register of many
+//! lines is here too, and whether what the ends of calls took matches what the other ends sent.
 #![tactic(auto)]
 
 mod book;

@@ -1,5 +1,5 @@
 //! The register of a network of lines.
-ghost use Rattle.std.specs.Prelude.{◌≡◌, ◌≤◌, ◌<◌, false, true, [], ◌∷◌, set, length, slice_get, IfOk, OnOk};
+ghost use Rattle.std.specs.Prelude.{◌≡◌, ◌≤◌, ◌<◌, false, true, [], ◌∷◌, set, length, slice_get, IfOk, OnOk, OnErr};
 ghost use Rattle.packet_codec.specs.Digits.{digits_or_none};
 ghost use Rattle.call_records.specs.Register.{empty_register, made_register, with_free_line, book_at, holder_at};
 ghost use Rattle.call_records.specs.Register.{handed_on};
@@ -73,7 +73,7 @@ impl Register {
     }
 
     /// Adds a line between two nodes, with an address if it has any, and with channels from 1 on, all of them free.
-    /// Without the memory there is no line more.
+    /// Without the memory the register is as before.
     pub fn add_line(
         &mut self,
         alloc: Global,
@@ -90,6 +90,7 @@ impl Register {
           channels = channels;
           standing = false;
         }) (register_of self.old)) }
+        ensures err { OnErr result (register_of self.new ≡ register_of self.old) }
         ensures closed { IsClosed self.new }
     {
         let ends = Ends::new(alloc, dte_node, dce_node, address, channels)?;

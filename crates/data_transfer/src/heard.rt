@@ -2,7 +2,7 @@
 /// What a packet of data transfer was (X.25 4.3, 4.4).
 #[derive(Clone, Copy)]
 pub enum Heard {
-    /// The packet is kept, and its P(R) newly covers so many packets.
+    /// The packet is in order, and its P(R), if it has one, newly covers so many packets.
     Keeps(u8),
     /// The packet confirms the interrupt.
     Confirms,

@@ -63,7 +63,7 @@ impl Model for Traffic {
 impl Traffic {
     ghost use Rattle.data_transfer.specs.TakenView.{maybe_taken_in, maybe_buffers_in, maybe_front};
 
-    /// The data transfer of a call that begins.
+    /// The data transfer of a call that begins. `AllocError` comes for want of memory.
     pub fn new(alloc: Global) -> Result<Self, AllocError>
         ensures { IfOk result (λ t. t ≡ record { traffic = machine.fresh; held = [] }) }
     {
@@ -149,7 +149,7 @@ impl Traffic {
         self.interrupt_waiting = Some(interrupt);
     }
 
-    /// Sets the state that RNR and RR tell.
+    /// Tells the far end to stop, by RNR, or to go on, by RR.
     pub fn stop(&mut self, stopped: bool)
         ensures { self.new ≡ record self.old { traffic = machine.stopping stopped self.old.traffic } }
     {
@@ -187,8 +187,7 @@ impl Traffic {
         Some(TakenBuf::Data(packet))
     }
 
-    /// Lets P(R) pass so many more of the packets that were taken. Nothing happens where fewer are taken and not
-    /// released.
+    /// Lets P(R) pass so many more of the packets that were taken. Nothing happens if fewer are taken and not released.
     pub fn release(&mut self, count: u8)
         ensures { self.new ≡ record self.old {
           traffic = if machine.may_release count self.old.traffic
@@ -210,7 +209,7 @@ impl Traffic {
         self.expected.ahead_of(&self.released)
     }
 
-    /// Owes the confirmation of the interrupt that was taken. Nothing happens where none is.
+    /// Owes the confirmation of the interrupt that was taken. Nothing happens if none was.
     pub fn confirm_interrupt(&mut self)
         ensures { self.new ≡ record self.old {
           traffic = if self.old.traffic.interrupt_taken

@@ -1,4 +1,4 @@
--- Packets that are written one behind the other, read and added.
+-- Packets that are written one after the other, read and added.
 use Rattle.std.proofs.Common.{◌≡◌, ℕ, zero, suc, ◌+◌, ◌-◌, ◌/◌, ◌%◌, ◌≤◌, Bool, true, false, List, [], ◌∷◌, ◌++◌, length, take, drop, slice_index_or, refl, sym, ap, ap₂, subst, ◌∙◌, arith}
 use Rattle.std.specs.Prelude.{Result, Ok, Err, IsOk, is_ok, if◌then◌else◌, Option, Some, None, MatchOption}
 use Rattle.std.specs.List.{flat_map}
@@ -62,7 +62,7 @@ read_back (p ∷ ps) = rw (
   read_back ps,
 ) refl
 
--- one behind the others
+-- one after the others
 all_with : (ps : List DataPacket) (p : DataPacket) → flat_map written (ps ++ p ∷ []) ≡ flat_map written ps ++ written p
 all_with [] p = ap (λ xs. first_octet p ∷ second_octet p ∷ xs) (append_nil p.octets) where
   append_nil : (xs : List ℕ) → xs ++ [] ≡ xs

@@ -1,4 +1,4 @@
--- The packets and interrupts of all epochs of a call, one behind the other, and where in them each epoch ended.
+-- The packets and interrupts of all epochs of a call, one after the other, and where in them each epoch ended.
 use Rattle.std.specs.Prelude.{ℕ, ◌-◌, ◌≤◌, List, [], ◌∷◌, take, drop}
 use Rattle.epochs.specs.Item.{DataPacket}
 use Rattle.epochs.specs.Passed.{Part, Epochs}

@@ -32,8 +32,9 @@ pub fn confirmation_laws()
     ensures relay { RelayConfirms }
 {}
 
-/// That one pass over taken and sent epochs finds whether they match, as a contract: it does nothing. An empty taken
-/// epoch is dropped; each other one comes of the first sent epoch left that it begins, and later ones of later ones.
+/// One pass over taken and sent epochs finds whether they match: a contract, whose function does nothing. An empty
+/// taken epoch is dropped; each other one comes of the first sent epoch left that it begins, and later ones of later
+/// ones.
 pub fn decision_law()
     ensures decides { OnePassDecides }
 {}

@@ -14,9 +14,9 @@ use crate::items::Items;
 use crate::packets::PacketsIter;
 use crate::passed::Passed;
 
-/// Whether what one end of a call took matches what the other end sent: each epoch in which anything was taken begins a
-/// sent one, later ones later ones, and no two the same one. The items and the interrupts alone count, and where a
-/// packet ends does not.
+/// Whether what one end of a call took matches what the other end sent. Each epoch in which anything was taken begins a
+/// sent one. Later ones begin later ones, and no two begin the same one. Only the items and the interrupts count, and
+/// not how they are cut into packets.
 pub fn matches(taken: &Passed, sent: &Passed) -> bool
     ensures { IsTrue result ↔ Match (epochs_in taken.now.epochs) (epochs_in sent.now.epochs) }
 {

@@ -9,7 +9,7 @@ use std::marker::Model;
 /// How many octets of user data a place has.
 const PLACE: usize = 128;
 
-/// How many octets a packet takes as it is written, beside its own.
+/// How many octets a packet takes as it is written, besides its own.
 const HEAD: usize = 2;
 
 /// A Data packet that passed on a call: at most 1,024 octets, and the bits M, Q and D (X.25 4.3).
@@ -30,7 +30,7 @@ impl Packet<'_> {
     }
 }
 
-/// Data packets in order, one written behind the other: of each its length and its bits M, Q and D in two octets, and
+/// Data packets in order, one written after the other: of each its length and its bits M, Q and D in two octets, and
 /// then its octets.
 #[derive(Drop)]
 pub(crate) struct Packets {

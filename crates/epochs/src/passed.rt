@@ -174,8 +174,8 @@ impl Passed {
         self.counted = 0;
     }
 
-    /// Gives back what room there is beyond what passed, as far as there is memory for it. Where nothing passed, all of
-    /// it goes to the spare ones, if they are not too many.
+    /// Gives back what room there is beyond what passed, as far as there is memory for it. If nothing passed, all of it
+    /// goes to the spare ones, if they are not too many.
     pub fn give_back(&mut self, alloc: Global, spare: &mut Vec<Passed>) -> Result<(), AllocError>
         ensures same { self.new.epochs ≡ self.old.epochs }
         ensures fits { OnOk result (HasNoSpare self.new) }

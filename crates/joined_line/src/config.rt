@@ -30,7 +30,7 @@ impl SwitchLineConfig {
         self.params.buffers() + usize::from(self.params.channels)
     }
 
-    /// `BadConfig` comes where a parameter is out of its range, or the line stands.
+    /// `BadConfig` comes if a parameter is out of its range, or the line is standing.
     pub fn check(&self) -> Result<(), EndFault>
         ensures { MatchResult result
             (λ _. IsLineConfig self.now)

@@ -62,7 +62,7 @@ impl Model for SwitchLine {
     ghost invariant = { IsLine };
 }
 
-// Puts a packet that lies in a buffer into the send queue of a channel. Where it is refused its buffer goes back.
+// Puts a packet that lies in a buffer into the send queue of a channel. If it is refused, its buffer goes back.
 fn send_on(line: &mut PooledEnd, channel: u8, packet: KeptPacket, pool: &mut Pool)
     requires { IsIn packet.buffer pool.old }
     ensures line { line.new ≡ record line.old {
@@ -185,7 +185,7 @@ impl SwitchLine {
         self.joined.goes_whole(channel, sizes)
     }
 
-    /// How many packets a packet from a channel makes due; `None` where one of them is longer than the size of the line
+    /// How many packets a packet from a channel makes due; `None` if one of them is longer than the size of the line
     /// that they go to.
     pub fn packets_due(
         &self,
@@ -246,7 +246,7 @@ impl SwitchLine {
         }
     }
 
-    /// Whether it is a trunk.
+    /// Whether the line is a trunk.
     pub fn is_trunk(&self) -> bool
         ensures { result ≡ is_trunk (Some self.now.line) }
     {
@@ -280,7 +280,7 @@ impl SwitchLine {
         self.end.is_running(id)
     }
 
-    /// Takes an expiry of a timer.
+    /// Takes an expiry of a timer. If the timer does not run, nothing happens.
     pub fn on_timer(&mut self, id: TimerId, pool: &mut Pool)
         requires read { self.old.line.end.notes ≡ [] }
         requires pool { Serves pool.old self.old.held self.old.claim.share self.old.claim.info }
@@ -293,14 +293,14 @@ impl SwitchLine {
         self.end.on_timer(id, pool);
     }
 
-    /// Whether the link has to be set up anew.
+    /// Whether the link has to be set up again.
     pub fn must_relink(&self) -> bool
         ensures { result ≡ self.now.line.end.layer.relink }
     {
         self.end.must_relink()
     }
 
-    /// Sets the link up anew.
+    /// Sets the link up again.
     pub fn relink(&mut self, pool: &mut Pool)
         requires read { self.old.line.end.notes ≡ [] }
         requires pool { Serves pool.old self.old.held self.old.claim.share self.old.claim.info }
@@ -377,7 +377,7 @@ impl SwitchLine {
         }
     }
 
-    /// Puts a packet that lies in a buffer into the send queue of a channel. Where it is refused its buffer goes back.
+    /// Puts a packet that lies in a buffer into the send queue of a channel. If it is refused, its buffer goes back.
     pub fn send_packet(&mut self, channel: u8, packet: KeptPacket, pool: &mut Pool)
         requires { IsIn packet.buffer pool.old }
         ensures line { self.new.line
@@ -411,7 +411,8 @@ impl SwitchLine {
         self.end.may_interrupt(channel)
     }
 
-    /// Places a call on a free channel.
+    /// Places a call on a free channel, and answers the channel. `NotReady` comes if the restart is not done, then
+    /// `NoChannel` if no channel is free.
     pub fn call(&mut self, call: &CallData<'_>) -> Result<u8, CallFault>
         requires { IsCallValue (call_view call.now) }
         ensures answer { MatchResult result
@@ -446,7 +447,7 @@ impl SwitchLine {
         self.end.settle(pool);
     }
 
-    /// Begins anew: no link is up, and no call is left.
+    /// Restarts the line: no link is up, and no call is left.
     pub fn restart(&mut self, pool: &mut Pool)
         requires { Serves pool.old self.old.held self.old.claim.share self.old.claim.info }
         ensures line { self.new.line ≡ without_joins self.old.line }
@@ -476,7 +477,7 @@ impl SwitchLine {
         self.end.waiting_frames()
     }
 
-    /// Lets ticks pass.
+    /// Lets ticks pass, each a twentieth of a second: each timer that runs has so many less left, at least 0.
     pub fn elapse(&mut self, ticks: u16)
         ensures { self.new ≡ on_line (with_end (λ e. end.elapsed e ticks)) self.old }
     {

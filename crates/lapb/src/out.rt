@@ -152,7 +152,7 @@ impl LinkOut {
         self.set_timer(ran, runs, false);
     }
 
-    /// What becomes of T1, which ran before or not and is to run now or not, perhaps anew.
+    /// What becomes of T1, which ran before or not and is to run now or not, perhaps from its start.
     pub(crate) fn set_timer(&mut self, ran: bool, runs: bool, anew: bool)
         ensures { self.new ≡ record self.old { timer = timing_after self.old.timer (timing_by ran runs anew) } }
     {

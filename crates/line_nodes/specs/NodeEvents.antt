@@ -1,4 +1,4 @@
--- What comes to a node from its line, and what it makes of the node.
+-- The events of a line at a node.
 use Rattle.std.specs.Prelude.{ℕ, Bool, List}
 use Rattle.link_timers.specs.declared.timers.TimerId.{TimerId}
 use Rattle.packet_end.specs.PacketEnd as end

@@ -119,8 +119,8 @@ impl Node {
         }
     }
 
-    /// Whether the node is a host with a call on the channel in which no packet that asks for delivery confirmation (D = 1)
-    /// still waits for the P(R) that covers it (X.25 4.3.3).
+    /// Whether the node is a host, and the channel has a call in data transfer in which each packet sent with D = 1
+    /// since the last reset is covered by a P(R) (X.25 4.3.3).
     pub fn confirmed(&self, channel: u8) -> bool
         ensures { result ≡ node_confirmed (node_of self.now) channel }
     {

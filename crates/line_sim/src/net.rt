@@ -123,10 +123,10 @@ impl<L: Line> Net<L> {
         self.nodes.is_at_rest()
     }
 
-    /// Whether the host of this place has a call on the channel in which each packet with D = 1 since the last reset
-    /// was covered (X.25 4.3.3). At any other node the answer is no. If it is yes, on faithful lines, the record of
-    /// that call has all these packets as covered, and the other end of the call took all that was sent up to the last
-    /// of them.
+    /// Whether the host of this place has a call in data transfer on the channel in which each packet with D = 1 since
+    /// the last reset was covered (X.25 4.3.3). At any other node the answer is no. If the answer is yes, on faithful
+    /// lines, the record of that call has all these packets as covered. The other end of the call then took all that
+    /// was sent up to the last of them.
     pub fn confirmed(&self, node: usize, channel: u16) -> bool
         ensures exact { result ≡ net_confirmed node channel self.now }
         ensures delivered { L.service.faithful → result ≡ true → IsDelivered node channel self.now }

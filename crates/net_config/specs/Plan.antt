@@ -1,4 +1,4 @@
--- What a network is made with.
+-- How a configuration becomes a plan.
 use Rattle.std.specs.Prelude.{true, ◌≡◌, ◌==◌, ℕ, suc, Bool, List, [], ◌∷◌, map, length, slice_get, Some}
 use Rattle.std.specs.Prelude.{is_none}
 use Rattle.std.specs.Prelude.{if◌then◌else◌, string_bytes, Result, Ok, Err}

@@ -43,9 +43,13 @@ const BYTE_ORDER_MARK: &str = "\u{FEFF}";
 
 /// Reads a network: the tables `node`, `line` and `route`, in order.
 ///
-/// `NetText` comes if the text is no TOML document or begins with a byte order mark, a key is unknown, missing or of
-/// the wrong type, a number is not 0 to 65,535, or a name, address, kind, profile or list of parameters has another
-/// form. `OutOfMemory` comes for want of memory. What the values mean is tested when the network is made.
+/// `OutOfMemory` comes for want of memory. What the values mean is tested when the network is made. `NetText` comes if
+/// one of these holds:
+///
+/// - The text is no TOML document, or begins with a byte order mark.
+/// - A key is unknown, missing or of the wrong type.
+/// - A number is not 0 to 65,535.
+/// - A name, address, kind, profile or list of parameters has another form.
 pub fn read_net(alloc: Global, text: &str) -> Result<Config, ProgFault>
     ensures spelled { Makes (Spells text.now) result }
     ensures marked { begins_with_mark text.now ≡ true → IsErrOf result ProgFault.NetText }

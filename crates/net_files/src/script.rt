@@ -36,9 +36,15 @@ pub struct Script {
 /// Reads a script for a network: a command a line, of words with one space between them. Empty lines are skipped.
 ///
 /// `OutOfMemory` comes for want of memory. `Script` has the number of the first line that is no command, counted from
-/// 1: the word is unknown, words are missing or too many, a node has no such name, a number is not 0 to 65,535, an
-/// address is not 1 to 15 digits, a text has a backslash that begins no octet, or the user data of a call is more than
-/// 16 octets. What a number means, as of a terminal or a channel, is tested when the event comes.
+/// 1. What a number means, as of a terminal or a channel, is tested when the event comes. A line is no command if one
+/// of these holds:
+///
+/// - The word is unknown, or words are missing or too many.
+/// - No node has the name.
+/// - A number is not 0 to 65,535.
+/// - An address is not 1 to 15 digits.
+/// - A text has a backslash that begins no octet.
+/// - The user data of a call has more than 16 octets.
 pub fn read_script(alloc: Global, text: &[u8], config: &Config) -> Result<Script, ProgFault>
     ensures script { IfOk result (IsScript config.now text.now) }
     ensures fault { IfErr result (IsScriptFault config.now text.now) }

@@ -148,7 +148,7 @@ fn place_of(names: &[String], word: &[u8]) -> Option<usize>
     names.iter().position(|name| name.as_bytes() == word)
 }
 
-/// The octets before the first one of a kind, and those behind it if there is one.
+/// The octets before the first one of a kind, and those after it if there is one.
 pub(crate) fn cut(octets: &[u8], at: u8) -> (&[u8], Option<&[u8]>)
     ensures before { result.0.now ≡ before at octets.entry.now }
     ensures behind { option_map (λ s. s.now) result.1 ≡ behind at octets.entry.now }

@@ -36,9 +36,9 @@ const BAD_WORDS: u8 = 2;
 /// has on the built-in network; with `sim --net FILE --script FILE` that of a file on the network of another, over
 /// lines in memory; with `run` and the same words over pairs of sockets.
 ///
-/// Gives the status to end with: 0 at the end of the script, 1 if a fault ended the run, which is told on `err`, and 2
-/// if the words are others, which is told there too. Faults are looked for in this order: the words, the network file,
-/// its text, the script file or the input, its lines, the sockets, the network's values, the writing.
+/// Gives the status to end with: 0 at the end of the script, 1 if a fault ended the run, 2 if the words are others.
+/// `err` is told of 1 and 2. Faults are looked for in this order: the words, the network file, its text, the script
+/// file or the input, its lines, the sockets, the network's values, the writing.
 pub fn perform<S: Files + net::Net, R: Read, W: Write, E: Write>(
     system: &S,
     alloc: Global,

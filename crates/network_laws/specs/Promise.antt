@@ -1,4 +1,4 @@
--- What a network promises.
+-- What each line of a network promises.
 use Rattle.std.specs.Prelude.{◌≡◌, ℕ, true, false, length, slice_get, Some, is_some}
 use Rattle.link_timers.specs.declared.role.Role.{Role}
 use Rattle.link_timers.specs.declared.role.Role.TheVariants.{Dte}

@@ -5,9 +5,9 @@ ghost use Rattle.network_laws.specs.PadRun.{PadRunLaw};
 
 use frame_lines::Line;
 
-/// The law of one line of a network with the two nodes at its ends, over definitions alone: what holds of it holds from
-/// the making on, whatever happens at either node and on the line, refused or not; and if it holds, what one end of
-/// each call took matches what the other one sent, and a PAD's calls carry what its terminal typed (X.25 2.4, 3, 4;
+/// The law of one line of a network with the two nodes at its ends, over definitions alone. What holds of the line
+/// holds from the making on, whatever happens at either node and on the line, refused or not. If it holds, what one end
+/// of each call took matches what the other one sent, and a PAD's calls carry what its terminal typed (X.25 2.4, 3, 4;
 /// X.3).
 pub fn one_line_law<L: Line>()
     ensures made { MadeLaw L.service }
@@ -19,9 +19,10 @@ pub fn one_line_law<L: Line>()
 {}
 
 /// The law of the course of events that leads to a PAD on a line, over definitions alone. It begins when the line is
-/// made. An event at the PAD, with the octets of a frame as they arrive, makes it go on by this event, and one at the
-/// other end by what is written there; time goes on, and a loss is no event of it. Each record of the PAD has sent what
-/// was typed, and of itself what its occasions in this course ask for (X.3; X.28 3.3; X.29 4.4).
+/// made. An event at the PAD, with the octets of a frame as they arrive, makes the course go on by this event. An event
+/// at the other end makes it go on by what is written there. Time goes on, and a loss is no event of the course. Each
+/// record of the PAD has sent what was typed, and of itself what its occasions in this course ask for (X.3; X.28 3.3;
+/// X.29 4.4).
 pub fn line_course_law<L: Line>()
     ensures made { MadeCourse }
     ensures event { EventCourse L.service }
@@ -30,11 +31,12 @@ pub fn line_course_law<L: Line>()
     ensures sent { SentCourse }
 {}
 
-/// Two runs of a PAD and a host on a line, by computation. The law of the line speaks of both from the making on. One
-/// is dialled, connected, typed with a deletion, a parameter read by the host (X.29), reset; the other, on a standing
-/// call, is a reset while text is held, a frame that is lost and sent again after a poll, a break, the command INT,
-/// cleared. Records and pair are what was typed, answered and told, with the occasions of what the PAD said of itself.
-/// What the terminal is shown are its echo and the service signals (X.28).
+/// Two runs of a PAD and a host on a line, by computation. The law of the line speaks of both from the making on. In
+/// the first a call is dialled and connected, text is typed with a deletion, the host reads a parameter (X.29), and the
+/// call is reset. In the second, on a standing call, there is a reset while text is held, a frame that is lost and sent
+/// again after a poll, a break, the command INT and a clear. Records and pair are what was typed, answered and told,
+/// with the occasions of what the PAD said of itself. What the terminal is shown are its echo and the service signals
+/// (X.28).
 pub fn pad_run_law()
     ensures { PadRunLaw }
 {}

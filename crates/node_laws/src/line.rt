@@ -3,11 +3,11 @@
 ghost use Rattle.node_laws.specs.Lines.Law.{LineEndsLaw, ActLaw, LossLaw};
 ghost use Rattle.node_laws.specs.Lines.Rest.{RestLaw};
 
-/// The law of a line with both its ends, over definitions alone: whatever is called at them, whatever timers expire,
-/// whichever frames are lost and however often an end restarts, the two packet layers go through what happens to two
-/// layers on a line whose link accepts in each session the packets offered in it, in order. So the law of such a line
-/// holds of them: what an end takes in an epoch of a call begins the list of what the other end sent in it, and no
-/// packet that arrives is a procedure error (X.25 2.4, 3, 4).
+/// The law of a line with both its ends, over definitions alone. It holds whatever is called at the ends, whatever
+/// timers expire, whichever frames are lost and however often an end restarts. The two packet layers go through what
+/// happens to two layers on a line whose link accepts in each session the packets offered in it, in order. So the law
+/// of such a line holds of them: what an end takes in an epoch of a call begins the list of what the other end sent in
+/// it, and no packet that arrives is a procedure error (X.25 2.4, 3, 4).
 pub fn line_ends_law()
     ensures law { LineEndsLaw }
 

@@ -111,14 +111,14 @@ impl Channel {
         self.state.in_transfer() && self.resetting
     }
 
-    /// Whether there is a call in which no reset is unconfirmed.
+    /// Whether there is a call in data transfer in which no reset is unconfirmed.
     pub(crate) fn has_flow(&self) -> bool
         ensures { result ≡ machine.has_flow self.now.channel }
     {
         self.state.in_transfer() && !self.resetting
     }
 
-    /// Free places of the send queue.
+    /// How many packets may be sent: 0 if no call is in data transfer or the own reset is not confirmed.
     pub fn room(&self) -> u8
         ensures { result ≡ (if machine.has_flow self.now.channel
             then 8 - length self.now.channel.traffic.waiting else 0) }
@@ -130,7 +130,8 @@ impl Channel {
         }
     }
 
-    /// Whether an interrupt may be sent: there is a call in which no reset is unconfirmed, and no interrupt is pending.
+    /// Whether an interrupt may be sent: there is a call in data transfer in which no reset is unconfirmed, and no
+    /// interrupt is pending.
     pub fn may_interrupt(&self) -> bool
         ensures { result ≡ (machine.has_flow self.now.channel
             && not (traffic.interrupt_pending self.now.channel.traffic)) }
@@ -160,7 +161,7 @@ impl Channel {
         self.traffic.take_buf()
     }
 
-    /// Whether there is a call in which each packet with D = 1 is covered.
+    /// Whether there is a call in data transfer in which each packet with D = 1 is covered.
     pub fn is_confirmed(&self) -> bool
         ensures { result ≡ (machine.in_transfer self.now.channel.state
             && (self.now.channel.traffic.undelivered == 0)) }

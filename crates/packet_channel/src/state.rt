@@ -137,7 +137,7 @@ pub struct End {
     pub channel: u8,
 }
 
-/// The cause of a procedure error: a DTE sends that it began (X.25 5.2.3, 5.4.3, 5.5.1).
+/// The cause of a procedure error: a DCE sends this one, a DTE 0 (X.25 5.2.3, 5.4.3, 5.5.1).
 pub fn error_cause(role: Role, cause: u8) -> u8
     ensures { result ≡ machine.error_cause role cause }
 {

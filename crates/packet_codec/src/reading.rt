@@ -11,14 +11,18 @@ use crate::fault::PacketFault;
 use crate::packet::{Content, DataPacket, MAX_INTERRUPT, Numbering, Packet};
 use crate::packet_type::PacketType;
 
-/// The packet that the octets say; its own octets are borrowed from them (X.25 5). A Data packet of the line has at
+/// The packet that the octets say (X.25 5). Its own octets are borrowed from them. A Data packet of the line has at
 /// most `size` octets of user data.
 ///
-/// The faults are tested in the order of `PacketFault`: fewer than three octets are `TooShort`; another format than the
-/// numbering's is `BadFormatId`; octets that name no type, a Q bit outside Data, a D bit outside Data and Call, and a
-/// channel that does not go with the type are `UnknownType`; octets too many or too few for the type are `BadLength`; a
-/// Call without a called address and a digit above 9 are `BadAddress`; more than `size` octets of user data are
-/// `DataTooLong`.
+/// The first of these faults is answered:
+///
+/// - `TooShort`: there are fewer than three octets.
+/// - `BadFormatId`: the format is not that of the numbering.
+/// - `UnknownType`: the octets name no type, Q is outside Data, D is outside Data and Call, or the channel does not go
+///   with the type.
+/// - `BadLength`: the octets are too many or too few for the type.
+/// - `BadAddress`: a Call has no called address or a digit above 9.
+/// - `DataTooLong`: there are more than `size` octets of user data.
 pub fn read_packet(bytes: &[u8], numbering: Numbering, size: u16) -> Result<Packet<'_>, PacketFault>
     // Which answer it is.
     ensures exact { answer_view result ≡ reading numbering size bytes.now }

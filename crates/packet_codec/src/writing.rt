@@ -15,9 +15,9 @@ use arrayvec::ArrayVec;
 
 /// Writes the packet's octets in place of what the buffer has (X.25 5).
 ///
-/// The packet has a spelling: it is on channel 0 if it is a Restart or its confirmation and on a channel from 1 to
-/// 4,095 otherwise, its numbers are below the modulus of its numbering, and it has no more octets than its type may
-/// have, with at most 1,024 of user data in a Data packet.
+/// The packet has a spelling. A Restart and its confirmation are on channel 0, all other packets on 1 to 4,095. The
+/// numbers are below the modulus of the numbering. The packet has no more octets than its type may have, a Data packet
+/// at most 1,024 of user data.
 pub fn write_packet(packet: &Packet, buf: &mut PacketBuf)
     requires { IsPacket MAX_USER_DATA (view packet.now) }
     ensures octets { buf.new.items ≡ spelling (view packet.now) }

@@ -24,9 +24,9 @@ use packet_layer::{CallFault, ChannelFault, Front, LayerNote, Request, Taken};
 use std::alloc::Global;
 use std::marker::Model;
 
-/// A host at one end of a line, in either role. Each call that changes it is one event, whose frames are then taken by
-/// `out` and whose notes by `notes`, before the next one; after it they are gone, a frame as if the line had lost it. A
-/// call that is refused changes nothing.
+/// A host at one end of a line, in either role. Each call that changes the host, but `elapse` and what takes, is one
+/// event. Its frames are then taken by `out` and its notes by `notes`. After the next event they are gone, a frame as
+/// if the line had lost it. A call that is refused changes nothing.
 #[derive(Drop)]
 pub struct Host {
     end: PacketEnd,
@@ -152,8 +152,12 @@ impl Host {
 
     /// Sends an interrupt of 1 to 32 octets on the channel (X.25 4.3.7).
     ///
-    /// `NoCall` comes if no call is in data transfer, then `Resetting` while the own reset is not confirmed, `TooLong`
-    /// for no octets or more than 32, `InterruptPending` while the last interrupt is not confirmed.
+    /// The first of these faults is answered:
+    ///
+    /// - `NoCall`: no call is in data transfer.
+    /// - `Resetting`: the own reset is not confirmed.
+    /// - `TooLong`: there are no octets, or more than 32.
+    /// - `InterruptPending`: the last interrupt is not confirmed.
     pub fn interrupt(&mut self, channel: u8, octets: &[u8]) -> Result<(), ChannelFault>
         ensures answer { MatchResult result
             (λ _. machine.request_refusal self.old.layer channel (ask.Interrupting octets.now) ≡ None)
@@ -236,8 +240,8 @@ impl Host {
         Some(front)
     }
 
-    /// Whether the channel has a call in which no packet of the present epoch that asks for delivery confirmation (D =
-    /// 1) still waits for the P(R) that covers it (X.25 4.3.3).
+    /// Whether the channel has a call in data transfer in which each packet sent with D = 1 since the last reset is
+    /// covered by a P(R) (X.25 4.3.3).
     pub fn confirmed(&self, channel: u8) -> bool
         ensures { result ≡ machine.confirmed self.now.layer channel }
     {

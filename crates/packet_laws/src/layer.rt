@@ -10,7 +10,7 @@ ghost use Rattle.packet_laws.specs.Layers.Run.{RunLaw};
 pub fn layer_law()
     ensures made { MadeLaw }
 
-    // Each call keeps it, of whichever epochs it holds: they grow, or a reset or the end of a call begins one anew.
+    // Each call keeps it, of whichever epochs it holds: they grow, or a reset or the end of a call begins a new one.
     ensures calls { CallsLaw }
     ensures grows { GrowsLaw }
     ensures named { NamedLaw }

@@ -1,5 +1,5 @@
-//! The packet layer of one line: its logical channels, restart, call set-up and clearing, data transfer, interrupts,
-//! resets (X.25 sections 3 to 5).
+//! The packet layer of one line: all its logical channels, their turns at the link, restart and timers (X.25 sections 3
+//! to 5).
 #![tactic(auto)]
 
 mod fault;

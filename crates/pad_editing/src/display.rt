@@ -17,13 +17,12 @@ pub struct Display;
 
 impl Display {
     /// Lays octets out for a terminal that is at a column, and gives the column that it is then at (X.3 3.9, 3.10,
-    /// 3.13,
-    /// 3.14).
+    /// 3.13, 3.14).
     ///
     /// A graphic character at the column of parameter 10 goes to a new line. A carriage return and a line feed have the
-    /// NULs of parameters 9 and 14 after them, and a carriage return a line feed if parameter 13 asks for it, in output
-    /// or in echo. The column counts graphic characters since the carriage return, up to 65,535; a backspace takes one
-    /// back.
+    /// NULs of parameters 9 and 14 after them. A carriage return also has a line feed after it if parameter 13 asks for
+    /// it, in output or in echo. The column counts graphic characters since the carriage return, up to 65,535. A
+    /// backspace takes one back.
     pub fn text<const N: usize>(
         octets: &[u8],
         echo: bool,

@@ -5,11 +5,11 @@ ghost use Rattle.pad_ports.specs.Ports.{channel_of};
 /// What a terminal learns of the call on a channel.
 #[derive(Clone, Copy)]
 pub enum CallNote {
-    /// It is connected.
+    /// The call is connected.
     Connected(u8),
-    /// It was cleared, with this cause.
+    /// The call was cleared, with this cause.
     Cleared(u8, u8),
-    /// It was reset, with this cause.
+    /// The call was reset, with this cause.
     Reset(u8, u8),
 }
 

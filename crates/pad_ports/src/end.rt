@@ -79,7 +79,7 @@ impl PadEnd {
         self.end.on_frame(octets);
     }
 
-    /// Takes an expiry of a timer. Where the timer does not run nothing happens.
+    /// Takes an expiry of a timer. If the timer does not run, nothing happens.
     pub fn on_timer(&mut self, id: TimerId)
         requires { self.old.notes ≡ [] }
         ensures end { self.new ≡ spec.after_timer self.old id }
@@ -116,7 +116,7 @@ impl PadEnd {
         self.end.finish();
     }
 
-    /// Takes the next frame that goes out, if there is one. Where there is none `frame` stays.
+    /// Takes the next frame that goes out, if there is one. If there is none, `frame` stays.
     pub fn out(&mut self, frame: &mut FrameBuf) -> bool
         ensures frame { OnTrue result (self.old.line.frames ≡ frame.new ∷ self.new.line.frames) }
         ensures nothing { OnFalse result (self.old.line.frames ≡ []) }
@@ -134,7 +134,7 @@ impl PadEnd {
         self.end.notes()
     }
 
-    /// Lets ticks pass.
+    /// Lets ticks pass, each a twentieth of a second: each timer that runs has so many less left, at least 0.
     pub fn elapse(&mut self, ticks: u16)
         ensures { self.new ≡ spec.elapsed self.old ticks }
     {

@@ -110,7 +110,7 @@ impl PadLine {
         self.ask(channel, &Request::Interrupt(&[INTERRUPT_OCTET]), note);
     }
 
-    /// Places a call of an address with user data behind the protocol, and answers its channel.
+    /// Places a call of an address with user data after the protocol, and answers its channel.
     pub(crate) fn place(&mut self, address: Address, user_data: &[u8]) -> Result<u8, CallFault>
         requires room { length self.old.notes < MOST_NOTES }
         requires fits { length user_data.now ≤ 12 }

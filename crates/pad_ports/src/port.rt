@@ -19,7 +19,7 @@ pub struct Port {
     terminal: Terminal,
     /// The logical channel of its call, connected or being set up.
     call: Option<u8>,
-    /// The ticks left of the idle timer, where it runs.
+    /// The ticks left of the idle timer, if it runs.
     idle_left: Option<u16>,
 }
 
@@ -34,8 +34,8 @@ impl Model for Port {
 }
 
 impl Port {
-    /// A port whose terminal has these initial parameters, and the call that stands on a channel or none.
-    /// `AllocError` comes for want of memory.
+    /// A port whose terminal has these initial parameters, and the standing call of a channel, or none. `AllocError`
+    /// comes for want of memory.
     pub fn new(alloc: Global, params: Params, standing: Option<u8>) -> Result<Port, AllocError>
         ensures { IfOk result (λ port. port ≡ spec.new_port params standing) }
     {
@@ -47,7 +47,7 @@ impl Port {
         })
     }
 
-    /// Begins anew, without a call.
+    /// Restarts the terminal, without a call.
     pub fn restart(&mut self)
         ensures { self.new ≡ spec.restarted self.old }
     {
@@ -78,7 +78,7 @@ impl Port {
         self.call = Some(channel);
     }
 
-    /// Learns what became of its call.
+    /// Takes what became of the terminal's call.
     pub fn learn(&mut self, note: CallNote)
         ensures { self.new ≡ spec.learns note self.old }
     {
@@ -102,7 +102,7 @@ impl Port {
         self.idle_left = brought(self.terminal.idle_time(), self.idle_left);
     }
 
-    /// Lets ticks pass.
+    /// Lets ticks pass, each a twentieth of a second: an idle timer that runs has so many less left, at least 0.
     pub fn elapse(&mut self, ticks: u16)
         ensures { self.new ≡ spec.elapsed ticks self.old }
     {

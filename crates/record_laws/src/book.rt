@@ -5,9 +5,10 @@ ghost use Rattle.record_laws.specs.Books.Counts.{CountsLaw};
 ghost use Rattle.record_laws.specs.Books.Delivery.{DeliveryLaw};
 ghost use Rattle.record_laws.specs.Books.Open.{OpenLaw};
 
-/// The law of the book of a line, over the definitions alone: whatever is called at the two ends of a line whose
-/// sessions come in rising order, the epochs that one end of a pair took match those that the other end sent, both
-/// ways; the nodes and addresses of a pair are right; no record is in two pairs, and each that took anything is in one.
+/// The law of the book of a line, over the definitions alone. It holds whatever is called at the two ends of a line
+/// whose sessions come in rising order. The epochs that one end of a pair took match those that the other end sent,
+/// both ways. The nodes and addresses of a pair are right. No record is in two pairs, and each that took anything is in
+/// one.
 pub fn book_law()
     ensures book { BookLaw }
 

@@ -12,7 +12,7 @@ ghost use Rattle.record_laws.specs.CallPaths.Paths.{MadePathsLaw, PathsLaw};
 ghost use Rattle.record_laws.specs.CallPaths.TrunkRun.{TrunkRunLaw};
 ghost use Rattle.record_laws.specs.CallPaths.Collision.{CollisionLaw};
 
-/// The law of calls through switches, over definitions alone: beside the register there is a whole one, which has a
+/// The law of calls through switches, over definitions alone. Besides the register there is a whole one, which has a
 /// record of each leg of each switch too. Whatever happens, the register has what the whole one has of the ends with
 /// users. If all lines hold and all joins relay, each pair of the register holds over a path of any length.
 pub fn path_law()
@@ -37,8 +37,8 @@ pub fn path_law()
 {}
 
 /// At the ends with users the register has what the books of the lines have, but for numbers and for the own addresses
-/// of callers: channels, present and open records, and pairs of calls that came in; and each of its records is one of
-/// such an end.
+/// of callers. These are channels, present and open records, and pairs of calls that came in. Each record of the
+/// register is one of such an end.
 pub fn end_law()
     ensures ends { EndLaw }
     ensures users { UserLaw }
@@ -55,19 +55,18 @@ pub fn own_address_law()
     ensures run { OwnRun }
 {}
 
-/// The addresses of the two records of each join: a switch that places a call onward with the called address that the
-/// call has, with the address of the line that it came on as the calling one, and on the line of its route, has these
-/// addresses in the records of its joins from then on, whatever is written. So of the joins the relay alone has to be
-/// shown.
+/// The addresses of the two records of each join. A switch places a call onward on the line of its route, with the
+/// called address that the call has. Its calling address is that of the line on which the call came. The records of the
+/// join have these addresses from then on, whatever is written. So of the joins the relay alone has to be shown.
 pub fn forward_law()
     ensures made { MadeForwardLaw }
     ensures events { ForwardLaw }
     ensures joins { RelayedLaw }
 {}
 
-/// The whole register and the books of the lines: from free lines on, and whatever is written at one of them, each
-/// record of the whole register comes from where that of the line's book comes from; and if the calls of each line
-/// hold, so do those of the whole register.
+/// The whole register and the books of the lines, from free lines on and whatever is written at one of them. Each
+/// record of the whole register comes from the place from which that of the line's book comes. If the calls of each
+/// line hold, so do those of the whole register.
 pub fn lines_law()
     ensures made { MadeLinesLaw }
     ensures traces { TraceLaw }

@@ -1,4 +1,4 @@
--- What a switch makes of a packet of one line for another line, where their packet sizes differ (X.25 4.3.4): it cuts
+-- What a switch makes of a packet of one line for another line, if their packet sizes differ (X.25 4.3.4): it cuts
 -- packets for a smaller size, and joins full ones whose message goes on for a greater size.
 use Rattle.std.specs.Prelude.{◌≡◌, ℕ, ◌+◌, ◌≤◌, Bool, true, false, not, ◌&&◌, ◌==◌, nat_lt, nat_le, if◌then◌else◌}
 use Rattle.std.specs.Prelude.{List, [], ◌∷◌, ◌++◌, length}

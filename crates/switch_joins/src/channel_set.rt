@@ -25,7 +25,7 @@ impl ChannelSet {
         }
     }
 
-    /// Adds a channel.
+    /// Adds a channel, if its line and its number are below their limits.
     pub fn insert(&mut self, place: SwitchChannel)
         ensures { (p : SwitchChannel) → has self.new p ≡ (has self.old p || (is_small place && same_place p place)) }
     {
@@ -64,7 +64,7 @@ impl ChannelSet {
         }
     }
 
-    /// The first channel of a line from one up to below another.
+    /// The first channel of a line, from one number up to below another.
     pub fn first_between(&self, line: usize, first: u8, end: u8) -> Option<u8>
         requires line { line < 64 }
         requires order { first ≤ end }

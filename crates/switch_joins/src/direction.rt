@@ -71,7 +71,7 @@ impl Direction {
         }
     }
 
-    /// Begins anew, as after a reset.
+    /// Restarts the direction, as after a reset.
     pub(crate) fn renew(&mut self, pool: &mut Pool)
         requires { Holds pool.old (buffers_in self.old.gathered) }
         ensures direction { self.new ≡ record { held = []; outstanding = 0; gathered = None } }
@@ -101,7 +101,7 @@ impl Direction {
         self.gathered.is_none()
     }
 
-    /// How many packets a packet makes due; `None` where one of them is longer than the size of the far line.
+    /// How many packets a packet makes due; `None` if one of them is longer than the size of the far line.
     pub(crate) fn due(&self, sizes: Sizes, packet: Outline, pool: &Pool) -> Option<usize>
         requires { Holds pool.now (buffers_in self.now.gathered) }
         ensures { (d : DataPacket) → outline_of d ≡ packet → MatchOption result

@@ -118,7 +118,7 @@ impl ChannelJoin {
         }
     }
 
-    /// How many packets a packet makes due; `None` where one of them is longer than the size of the far line.
+    /// How many packets a packet makes due; `None` if one of them is longer than the size of the far line.
     pub(crate) fn due(&self, sizes: Sizes, packet: Outline, pool: &Pool) -> Option<usize>
         requires { Holds pool.now (buffers_of self.now) }
         ensures { (d : DataPacket) → outline_of d ≡ packet → MatchOption result

@@ -27,7 +27,7 @@ pub(crate) struct Plan {
 }
 
 impl Plan {
-    /// The plan for a packet, where so many octets are gathered, with Q or without.
+    /// The plan for a packet, if so many octets are gathered, with Q or without.
     #[tactic(auto, using(crate::proofs::Planning::waits_some, crate::proofs::Planning::rest_fits))]
     pub(crate) fn new(sizes: Sizes, gathered: usize, qualified: bool, packet: Outline) -> Plan
         requires { gathered ≤ 1024 }
@@ -64,8 +64,8 @@ impl Plan {
     }
 }
 
-/// How many packets a packet makes due, where so many octets are gathered, with Q or without; `None` where one of them
-/// is longer than the size of the line that they go to.
+/// How many packets a packet makes due, if so many octets are gathered, with Q or without; `None` if one of them is
+/// longer than the size of the line that they go to.
 pub(crate) fn due(sizes: Sizes, gathered: usize, qualified: bool, packet: Outline) -> Option<usize>
     requires { gathered ≤ 1024 }
     ensures { (g : Gathered) → (d : DataPacket) → length g.octets ≡ gathered → g.qualified ≡ qualified
@@ -81,7 +81,7 @@ pub(crate) fn due(sizes: Sizes, gathered: usize, qualified: bool, packet: Outlin
     Some(usize::from(plan.gathered_first) + pieces(plan.rest_waits, rest, plan.size))
 }
 
-// How many octets are left beside what goes first.
+// How many octets are left after what goes first.
 fn rest_length(gathered_first: bool, gathered: usize, length: usize) -> usize
     requires gathered { gathered ≤ 1024 }
     requires length { length ≤ 65535 }

@@ -47,7 +47,7 @@ impl Model for Turned {
     ghost invariant = { IsTurned };
 }
 
-// Octets, and others behind them.
+// Octets, and others after them.
 fn together(octets: &[u8], others: &[u8]) -> ArrayVec<u8, MOST_OCTETS>
     requires { length octets.now + length others.now ≤ 1024 }
     ensures { result.items ≡ octets.now ++ others.now }
@@ -86,7 +86,7 @@ fn first_piece(
 }
 
 impl Turned {
-    /// What becomes of a packet, where these octets are gathered, with Q or without.
+    /// What becomes of a packet, if these octets are gathered, with Q or without.
     pub(crate) fn new(sizes: Sizes, gathered: &[u8], qualified: bool, packet: &UserData) -> Turned
         requires { length gathered.now ≤ 1024 }
         ensures { result ≡ turned sizes (record { octets = gathered.now; qualified = qualified }) packet.now }

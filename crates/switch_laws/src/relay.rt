@@ -18,22 +18,22 @@ pub fn relay_law()
     ensures { RelayLaw }
 {}
 
-/// Both directions of a join: the clause holds from the connection on, over each relay, over all that comes on a leg
-/// and leaves it in data transfer, whatever was sent there, and over all that goes to its line; a reset of one leg
+/// Both directions of a join. The clause holds from the connection on, over each relay, over all that comes on a leg
+/// and leaves it in data transfer, whatever was sent there, and over all that goes to its line. A reset of one leg
 /// begins new epochs of both, also if both are reset at once (X.25 4.4.3).
 pub fn join_law()
     ensures { JoinLaw }
 {}
 
-/// All joins of a switch, whatever its partners send and in any order: the clause of the relay holds for each of them
-/// over the relay on all lines and over all that a line brings; after the relay nothing waits on a leg that the other
-/// leg takes; and both legs of a join begin and end together.
+/// All joins of a switch, whatever its partners send and in any order. The clause of the relay holds for each of them,
+/// over the relay on all lines and over all that a line brings. After the relay nothing waits on a leg that the other
+/// leg takes. Both legs of a join begin and end together.
 pub fn switch_law()
     ensures { SwitchLaw }
 {}
 
 /// What becomes of a call that comes in, with the causes for which it is cleared in their order, and with which calling
-/// address it goes on; and a channel has a call exactly while it is joined, and then the other leg has one too.
+/// address it goes on. A channel has a call exactly while it is joined, and then the other leg has one too.
 pub fn pair_law()
     ensures { PairLaw }
 {}
@@ -51,15 +51,15 @@ pub fn concern_law()
 {}
 
 /// What happens on one line of a switch leaves each join of two other lines untouched, with what the switch keeps for
-/// it and the channels of both its legs; or one of the two lines was set up again in the event, and there a fifth
-/// packet came to be owed.
+/// it and the channels of both legs. Else one of the two lines was set up again in the event, and a fifth packet came
+/// to be owed there.
 pub fn isolation_law()
     ensures { IsolationLaw }
 {}
 
-/// What waits to go out on each line after an event is the frames of the event's steps, all of them and in order: the
-/// answer to what happened there, what is sent if the link is set up again, and what goes at the end. They are nine at
-/// most, since no link is set up twice at the end of an event.
+/// What waits to go out on each line after an event is the frames of the event's steps, all of them and in order. They
+/// are the answer to what happened there, what is sent if the link is set up again, and what goes at the end. They are
+/// nine at most, since no link is set up twice at the end of an event.
 pub fn sent_law()
     ensures { SentLaw }
 {}
@@ -71,9 +71,8 @@ pub fn switch_events_law()
     ensures { EventLaw }
 {}
 
-/// A run of one join, and a switch of two lines without calls; a run of a join between lines of 128 and 256 octets, with
-/// packets that are cut and gathered; and a run of a switch with a trunk at which it is the DTE: they meet what the laws
-/// above ask for.
+/// Runs that meet what the laws above ask for: one join; a switch of two lines without calls; a join between lines of
+/// 128 and 256 octets, with packets that are cut and gathered; a switch with a trunk at which it is the DTE.
 pub fn run_law()
     ensures join { RunLaw }
     ensures sizes { SizesRunLaw }

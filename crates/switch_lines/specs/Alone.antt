@@ -1,4 +1,4 @@
--- What is left to do at the end of an event where nothing waits on joins of other lines: only those of these lines are
+-- What is left to do at the end of an event if nothing waits on joins of other lines: only those of these lines are
 -- relayed.
 use Rattle.std.specs.Prelude.{ℕ, zero, suc, ◌*◌, if◌then◌else◌, List, length, map}
 use Rattle.std.specs.List.{list_any}

@@ -1,4 +1,4 @@
-//! The lines of a switch of an X.25 network: it joins calls of its lines and relays between their two legs.
+//! All lines of a switch together: calls of two lines are joined, and what is taken on one leg is relayed to the other.
 #![tactic(auto)]
 
 mod config;

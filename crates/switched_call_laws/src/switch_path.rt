@@ -15,8 +15,8 @@ pub fn switch_path_law()
     ensures { SwitchPathLaw }
 {}
 
-/// A switch of two lines with a line between users beside it, as they are made, after a first frame to the switch and
-/// after a call on the other line, meets what the law asks for; and so does a line alone, without a switch.
+/// A switch of two lines, and a line between users, as they are made, after a first frame to the switch and after a
+/// call on the other line, meets what the law asks for; and so does a line alone, without a switch.
 pub fn run_law()
     ensures { RunLaw }
 {}

@@ -27,9 +27,9 @@ pub struct NotAFrame;
 
 /// Reads a line of a trace: the frame that it has, or `None` if it does not begin with a number and a space.
 ///
-/// `NotAFrame` comes if it begins so and is no frame: the number has more than 5 digits, no sign of a direction
-/// follows, or what follows that is not octets, each a space and two hexadecimal digits, or is longer than a frame may
-/// be.
+/// `NotAFrame` comes if the line begins so and is no frame: the number has more than 5 digits, no sign of a direction
+/// follows, or no octets follow that sign. Each octet is a space and two hexadecimal digits, and there are no more of
+/// them than a frame may have.
 pub fn read_line(line: &[u8]) -> Result<Option<TracedFrame<'_>>, NotAFrame>
     ensures frame { IfOk result (λ frame. IfSome frame (λ f. line.now ≡ frame_line f.line.now f.direction f.octets)) }
     ensures fits { IfOk result (λ frame. IfSome frame (λ f. length f.line.now ≤ 5)) }

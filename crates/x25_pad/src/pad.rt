@@ -26,9 +26,9 @@ const STANDING_CHANNEL: u8 = 1;
 
 /// A PAD at the DTE's end of a line, for up to 16 terminals.
 ///
-/// Each call that changes it is one event, whose notes are then taken by `notes`, or read by `first_note` and dropped
-/// by `drop_note`, and whose frames are taken by `out`, before the next one; after it they are gone, a frame as if the
-/// line had lost it.
+/// Each call that changes the PAD, but `elapse` and what takes, is one event. Its notes are then taken by `notes`, or
+/// read by `first_note` and dropped by `drop_note`, and its frames are taken by `out`. After the next event they are
+/// gone, a frame as if the line had lost it.
 #[derive(Drop)]
 pub struct Pad {
     line: PadLine,
@@ -53,7 +53,7 @@ impl Pad {
     /// the call on channel 1. It takes all the memory that it ever uses.
     ///
     /// `BadConfig` comes if a parameter of the line or the number of terminals is out of its range, or the packet size
-    /// of the line is not 128, and then `OutOfMemory` for want of memory.
+    /// of the line is not 128. Then `OutOfMemory` comes for want of memory.
     pub fn new(alloc: Global, config: PadConfig) -> Result<Pad, EndFault>
         ensures { MatchResult result
             (λ pad. IsConfig config × (pad ≡ made config))

@@ -30,12 +30,12 @@ use switch_lines::{
     Lines, MOST_FRAMES, MOST_LINES, NewJoin, SwitchChannel, SwitchConfig, check_lines,
 };
 
-/// A switch: the DCE or the DTE on each of up to 64 lines, of which it joins calls (X.25 3 to 5). A call that comes in on
-/// one line goes on to the line of its route, and all that happens on the one is relayed to the other. A line without an
-/// address is a trunk: a switch is at its other end too.
+/// A switch: the DCE or the DTE on each of up to 64 lines, of which it joins calls (X.25 3 to 5). A call that comes in
+/// on one line goes on to the line of its route, and all that happens on the one is relayed to the other. A line
+/// without an address is a trunk: a switch is at its other end too.
 ///
-/// Each call that changes it is one event, whose frames are then taken by `out`, before the next one; after it they are
-/// gone, as if the line had lost them.
+/// Each call that changes the switch, but `elapse` and `out`, is one event. Its frames are then taken by `out`. After
+/// the next event they are gone, as if the line had lost them.
 #[derive(Drop)]
 pub struct Switch {
     routes: Routes,
@@ -96,9 +96,9 @@ impl Switch {
     /// more than one.
     ///
     /// Each join of two other lines is as it was, unless one of the two was set up again, since a fifth packet came to
-    /// be owed there. After the event nothing waits that the other leg or the link takes, each new join is by its
-    /// route, and a packet with D = 1 was released only if all that it made due was covered there. On each line all
-    /// frames of the event wait.
+    /// be owed there. After the event nothing waits that the other leg or the link takes. Each new join is by its
+    /// route. A packet with D = 1 was released only if all that it made due was covered there. On each line all frames
+    /// of the event wait.
     pub fn on_frame(&mut self, line: usize, octets: &[u8]) -> Option<NewJoin>
         requires { line < length self.old.lines }
         ensures join { option_to_list result ≡ new_joins line octets.now self.old }

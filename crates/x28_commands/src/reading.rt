@@ -20,10 +20,14 @@ pub const LINE_LIMIT: usize = 64;
 
 /// Reads a command line, without the octet that ended it (X.28 3.2).
 ///
-/// A line of more than 64 octets is `TooLong`. Else one that begins with no keyword, or that has something after a
-/// keyword that stands alone, is `Unknown`; one whose numbers or pairs are wrong or missing is `BadNumber`; a selection
-/// with no address of 1 to 15 digits, or with something else after it than `D` or `P` and graphic characters, is
-/// `BadAddress`; more than 18 entries or 12 octets of user data are `TooLong`.
+/// The faults are:
+///
+/// - `TooLong`: the line has more than 64 octets, which is looked for first, or more than 18 entries, or more than 12
+///   octets of user data.
+/// - `Unknown`: the line begins with no keyword, or something follows a keyword without arguments.
+/// - `BadNumber`: numbers or pairs are wrong or missing.
+/// - `BadAddress`: a selection has no address of 1 to 15 digits, or something else after it than `D` or `P` and graphic
+///   characters.
 pub fn read_command(line: &[u8]) -> Result<Command, CommandFault>
     // Which answer it is.
     ensures exact { result ≡ command_of line.now }

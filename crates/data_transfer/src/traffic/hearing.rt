@@ -19,7 +19,7 @@ use flow_window::pool::Pool;
 use packet_codec::{DataPacket, Numbering, diagnostic};
 
 impl Traffic {
-    /// Takes a Data packet, with a window of at most 32. It is kept in a buffer.
+    /// Takes a Data packet, with a window of at most 32. One in order is kept in a buffer.
     #[tactic(auto, using(flow_window::proofs::Weights::weight_append, crate::proofs::Short::short_append))]
     pub fn hear_data(&mut self, flow: Flow, packet: &DataPacket<'_>, pool: &mut Pool) -> Heard
         requires window { flow.window ≤ 32 }
@@ -51,7 +51,7 @@ impl Traffic {
         Heard::Keeps(newly)
     }
 
-    /// Takes RR, or RNR where the partner is busy.
+    /// Takes RR, or RNR if the partner is busy.
     pub fn hear_ready(&mut self, flow: Flow, receive: u8, busy: bool) -> Heard
         requires { receive < modulus flow.numbering }
         ensures heard { heard_of result self.new.traffic

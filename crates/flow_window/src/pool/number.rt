@@ -8,7 +8,7 @@ use std::marker::Model;
 
 /// The number of a buffer in use. There is one for each of them: it cannot be cloned.
 ///
-/// Contracts see the octets that were put into the buffer beside its number.
+/// Contracts see the octets that were put into the buffer along with its number.
 #[derive(Drop)]
 pub struct BufNo {
     number: usize,

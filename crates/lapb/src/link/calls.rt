@@ -79,7 +79,7 @@ impl Link {
         // For every session that agrees with the link.
         ensures named { NamesAfterOctets self.old.link bytes.now }
 
-        // The packet that is accepted stands behind the control octet.
+        // The packet that is accepted is after the control octet.
         ensures packet { (packet : machine.Octets) → (on_octets self.old.link bytes.now).accepted ≡ Some packet
             → packet ≡ drop 2 bytes.now }
     {

@@ -59,7 +59,7 @@ impl Link {
         }
     }
 
-    // After an I frame T1 runs only where it ran before or starts anew, so that it is not asked whether it ran.
+    // After an I frame T1 runs only if it ran before or starts again. So it is not asked whether it ran.
     #[inline(always)]
     fn end_frame(&mut self, frame: &Frame<'_>, out: &mut LinkOut)
         requires { HasNumbers (content_of frame.now.kind) }

@@ -245,8 +245,7 @@ impl Link {
 }
 
 /// The low half of the control octet of a supervisory frame, and what the frame does: it makes the partner busy, or
-/// sets
-/// V(S) back to N(R).
+/// sets V(S) back to N(R).
 #[derive(Clone, Copy)]
 struct Supervisory {
     low: u8,

@@ -101,8 +101,8 @@ impl<L: Line> Nodes<L> {
         self.are_lines_empty() && self.are_nodes_at_rest()
     }
 
-    /// Whether the node of this place is a host with a call on the channel in which each packet with D = 1 since the
-    /// last reset was covered (X.25 4.3.3).
+    /// Whether the node of this place is a host, and the channel has a call in data transfer in which each packet sent
+    /// with D = 1 since the last reset was covered by a P(R) (X.25 4.3.3).
     pub fn confirmed(&self, node: usize, channel: u16) -> bool
         ensures { result ≡ net_confirmed node channel self.now }
     {

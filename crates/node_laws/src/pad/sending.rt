@@ -3,13 +3,16 @@ ghost use Rattle.node_laws.specs.Pads.RecordClauses.{SentLaw, KeyHolds, BreakHol
 ghost use Rattle.node_laws.specs.Pads.RecordClauses.{TimerHolds, RestartHolds, TimeHolds, DrainedHolds, FarHolds};
 ghost use Rattle.node_laws.specs.Pads.RecordClauses.{MadeHolds};
 
-/// The law of a PAD and of the book of its line, over definitions alone. On each call of each terminal the user items
-/// of all sent epochs, one after the other, are for each block that the editing rules make of the steps of that call
-/// its octets and an end; the qualified items are an answer to each message taken that asks for one, and an indication
-/// of each break that asks for one; and each interrupt is that of a break or of a command. Text that is held stays over
-/// a reset, and is dropped when the call ends. It holds at the making, and after each event at either end, whatever
-/// octets arrive as frames, whichever timers expire, and whatever is written at the other end (X.3; X.28 3.2, 3.3; X.29
-/// 4.4).
+/// The law of a PAD and of the book of its line, over definitions alone. It holds at the making, and after each event
+/// at either end, whatever octets arrive as frames, whichever timers expire, and whatever is written at the other end
+/// (X.3; X.28 3.2, 3.3; X.29 4.4). On each call of each terminal:
+///
+/// - The user items of all sent epochs, one after the other, are the blocks that the editing rules make of the steps of
+///   that call: for each block its octets and an end.
+/// - The qualified items are an answer to each message taken that asks for one, and an indication of each break that
+///   asks for one.
+/// - Each interrupt is that of a break or of a command.
+/// - Text that is held stays over a reset, and is dropped when the call ends.
 pub fn pad_records_law()
     ensures sent { SentLaw }
     ensures made { MadeHolds }

@@ -37,18 +37,25 @@ pub enum Request<'a> {
         cause: u8,
         diagnostic: u8,
     },
-    /// A Data packet with its bits M, Q and D goes into the send queue (X.25 4.3). `NoCall` comes if no call is in data
-    /// transfer, then `Resetting` while the own reset is not confirmed, `QueueFull` if 8 packets wait, `TooLong` for
-    /// more octets than a packet of the line may have.
+    /// A Data packet with its bits M, Q and D goes into the send queue (X.25 4.3). The first of these faults is
+    /// answered:
+    ///
+    /// - `NoCall`: no call is in data transfer.
+    /// - `Resetting`: the own reset is not confirmed.
+    /// - `QueueFull`: 8 packets wait.
+    /// - `TooLong`: there are more octets than a packet of the line may have.
     Send {
         octets: &'a [u8],
         more: bool,
         qualified: bool,
         delivery: bool,
     },
-    /// An interrupt of 1 to 32 octets goes (X.25 4.3.7). `NoCall` comes if no call is in data transfer, then
-    /// `Resetting` while the own reset is not confirmed, `TooLong` for no octets or more than 32, `InterruptPending`
-    /// while the last interrupt is not confirmed.
+    /// An interrupt of 1 to 32 octets goes (X.25 4.3.7). The first of these faults is answered:
+    ///
+    /// - `NoCall`: no call is in data transfer.
+    /// - `Resetting`: the own reset is not confirmed.
+    /// - `TooLong`: there are no octets, or more than 32.
+    /// - `InterruptPending`: the last interrupt is not confirmed.
     Interrupt(&'a [u8]),
     /// The far end is asked by RNR to send no more data, or by RR to send again (X.25 4.4.1.4, 4.4.1.5). `NoCall` comes
     /// if no call is in data transfer.

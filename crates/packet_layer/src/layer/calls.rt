@@ -210,9 +210,12 @@ impl Layer {
 
     /// Puts a Data packet with its bits M, Q and D into the send queue of the channel (X.25 4.3).
     ///
-    /// `NoCall` comes if no call is in data transfer, then `Resetting` while the own reset is not confirmed,
-    /// `QueueFull` if 8 packets wait, `TooLong` for more octets than a packet of the line may have. A packet that is
-    /// refused changes nothing.
+    /// A packet that is refused changes nothing. The first of these faults is answered:
+    ///
+    /// - `NoCall`: no call is in data transfer.
+    /// - `Resetting`: the own reset is not confirmed.
+    /// - `QueueFull`: 8 packets wait.
+    /// - `TooLong`: there are more octets than a packet of the line may have.
     pub fn send(
         &mut self,
         channel: u8,
@@ -287,8 +290,12 @@ impl Layer {
 
     /// Sends an interrupt of 1 to 32 octets on the channel (X.25 4.3.7).
     ///
-    /// `NoCall` comes if no call is in data transfer, then `Resetting` while the own reset is not confirmed, `TooLong`
-    /// for no octets or more than 32, `InterruptPending` while the last interrupt is not confirmed.
+    /// The first of these faults is answered:
+    ///
+    /// - `NoCall`: no call is in data transfer.
+    /// - `Resetting`: the own reset is not confirmed.
+    /// - `TooLong`: there are no octets, or more than 32.
+    /// - `InterruptPending`: the last interrupt is not confirmed.
     pub fn interrupt(&mut self, channel: u8, octets: &[u8]) -> Result<(), ChannelFault>
         ensures answer { MatchResult result
             (λ _. machine.request_refusal self.old.layer channel (asked.Interrupting octets.now) ≡ None)

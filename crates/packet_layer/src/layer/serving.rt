@@ -11,10 +11,15 @@ use flow_window::pool::Pool;
 use packet_codec::PacketBuf;
 
 impl Layer {
-    /// Writes the packet that goes to the link next in place of what the buffer has, if there is one: restart packets
-    /// first, and then what the channels have, round from the one after the one served last. Of a channel go the
-    /// control packets that it owes, the interrupt confirmation, the interrupt, data within the window, and RR or RNR
-    /// if the partner does not know the present P(R) or whether this end is stopped.
+    /// Writes the packet that goes to the link next, if there is one, in place of what the buffer has. Restart packets
+    /// go first. Then the channels take turns, from the one after the channel that was served last. A channel sends, in
+    /// this order:
+    ///
+    /// - the control packets that it owes;
+    /// - the interrupt confirmation;
+    /// - the interrupt;
+    /// - data within the window;
+    /// - RR or RNR, if the partner does not know the present P(R) or whether this end is stopped.
     pub fn next_packet(&mut self, buf: &mut PacketBuf, pool: &mut Pool) -> bool
         requires holds { Holds pool.old self.old.held }
         ensures layer { self.new.layer ≡ (machine.next_packet self.old.layer).layer }

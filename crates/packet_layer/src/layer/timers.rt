@@ -34,9 +34,9 @@ impl Layer {
         }
     }
 
-    /// Whether the timer is to run: T20 of a DTE or T10 of a DCE while its restart is not confirmed, and by channel
-    /// T21 or T11 while its call is not answered, T22 or T12 while its reset and T23 or T13 while its clear is not
-    /// confirmed. No other timer is one of the layer's.
+    /// Whether the timer is to run. T20 of a DTE or T10 of a DCE runs while the restart is not confirmed. By channel,
+    /// T21 or T11 runs while the call is not answered, T22 or T12 while the reset is not confirmed, T23 or T13 while
+    /// the clear is not. No other timer is one of the layer's.
     pub fn runs(&self, id: TimerId) -> bool
         ensures { result ≡ runs_named self.now.layer (timer_named self.now.layer.role id) }
     {

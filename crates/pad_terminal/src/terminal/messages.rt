@@ -18,7 +18,7 @@ impl Terminal {
     /// Takes a message of the far end, the octets of a qualified packet (X.29 4.4).
     ///
     /// A message may set parameters, ask for their values, or do both; its reply tells the values in force, or with bit
-    /// 8 of the reference why a parameter was refused. Setting alone tells the refused ones alone. No pairs stand for
+    /// 8 of the reference why a parameter was refused. Setting alone tells the refused ones alone. An empty list means
     /// all parameters: they are put to their initial values, or told. An invitation to clear ends the call. What is no
     /// message is answered by an error; indications and errors are not answered.
     #[tactic(auto, unfolding(crate::specs::Messages::after_octets))]
