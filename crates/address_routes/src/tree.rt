@@ -131,13 +131,10 @@ impl Tree {
         ensures memory { vec_capacity self.old.nodes ≤ vec_capacity self.new.nodes }
     {
         let child = NodeNo(self.nodes.len() as u16);
-        let added = self.nodes.push(Node {
+        self.nodes.push_reserved(Node {
             next: [None; 10],
             line: None,
         });
-        if added.is_err() {
-            unreachable!()
-        }
         let parent = &mut self.nodes[usize::from(node.0)];
         parent.next[usize::from(digit)] = Some(child);
         child

@@ -1,9 +1,10 @@
 -- Which timers are among those that have no ticks left.
-use Rattle.std.proofs.Common.{◌≡◌, ◌≢◌, ℕ, zero, suc, ◌+◌, ◌-◌, ◌<◌, ◌≤◌, ◌⊎◌, ◌↔◌, List, [], ◌∷◌, length, get_or, refl, sym, ◌∙◌, ap, subst, arith, Contains, inl, inr, ne_eqb, nat_eq, false}
-use Rattle.std.specs.Prelude.{Option, Some, None, MatchOption}
+use Rattle.std.proofs.Common.{◌≡◌, ℕ, zero, suc, ◌+◌, ◌-◌, ◌<◌, ◌≤◌, ◌⊎◌, ◌↔◌, List, [], ◌∷◌, length, get_or, refl, sym, ◌∙◌, ap, subst, arith, Contains, inl, inr, ne_eqb, nat_eq, false}
+use Rattle.std.specs.Prelude.{Option, Some, None}
 use Rattle.std.proofs.lemmas.Bool.{cases_lt}
 use Rattle.link_timers.specs.declared.timers.TimerId.{TimerId}
-use Rattle.link_timers.specs.Timers.{Places, place_of, timer_at, IsTimer, left_of, due_from, due_timers, first_of}
+use Rattle.link_timers.specs.Timers.{Places, place_of, timer_at, IsTimer, left_of, due_from, due_timers}
+use Rattle.link_timers.specs.Timers.{first_t11, first_t12, first_t13, first_t21, first_t22, first_t23, first_idle, places}
 use Rattle.link_timers.proofs.PlaceLaws.{
   has_place,
   timer_or_none,
@@ -19,42 +20,43 @@ use Rattle.link_timers.proofs.PlaceLaws.{
 }
 
 -- the place of the timer at a place
-pub place_back : (place : ℕ) → place < 211 → place_of (timer_at place) ≡ place
-place_back place below = first (cases_lt place 3) (cases_lt place 35) (cases_lt place 67) (cases_lt place 99)
-    (cases_lt place 131)
-    (cases_lt place 163) (cases_lt place 195)
+pub place_back : (place : ℕ) → place < places → place_of (timer_at place) ≡ place
+place_back place below =
+    first (cases_lt place first_t11) (cases_lt place first_t12) (cases_lt place first_t13) (cases_lt place first_t21)
+    (cases_lt place first_t22) (cases_lt place first_t23) (cases_lt place first_idle)
   where
-    early : (p : ℕ) → p < 3 → place_of (timer_at p) ≡ p
+    early : (p : ℕ) → p < first_t11 → place_of (timer_at p) ≡ p
     early zero within = refl
     early (suc zero) within = refl
     early (suc (suc zero)) within = refl
     early (suc (suc (suc p))) within = absurd (omega arith)
 
-    first : (place < 3) ⊎ (3 ≤ place) → (place < 35) ⊎ (35 ≤ place) → (place < 67) ⊎ (67 ≤ place) → (place < 99) ⊎
-        (99 ≤ place) → (place < 131) ⊎ (131 ≤ place) → (place < 163) ⊎ (163 ≤ place) → (place < 195) ⊎ (195 ≤
-        place) → place_of (timer_at place) ≡ place
+    first : (place < first_t11) ⊎ (first_t11 ≤ place) → (place < first_t12) ⊎ (first_t12 ≤ place) →
+        (place < first_t13) ⊎ (first_t13 ≤ place) → (place < first_t21) ⊎ (first_t21 ≤ place) →
+        (place < first_t22) ⊎ (first_t22 ≤ place) → (place < first_t23) ⊎ (first_t23 ≤ place) →
+        (place < first_idle) ⊎ (first_idle ≤ place) → place_of (timer_at place) ≡ place
     first (inl few) b c d e f g = early place few
     first (inr least) (inl most) c d e f g =
-        ap place_of (at_T11 place least most) ∙ place_within 3 1 32 (place - 2) (omega arith) (omega arith)
-        ∙ omega arith
+        ap place_of (at_T11 place least most)
+        ∙ place_within first_t11 1 32 (place - first_t11 + 1) (omega arith) (omega arith) ∙ omega arith
     first (inr a) (inr least) (inl most) d e f g =
-        ap place_of (at_T12 place least most) ∙ place_within 35 1 32 (place - 34) (omega arith) (omega arith)
-        ∙ omega arith
+        ap place_of (at_T12 place least most)
+        ∙ place_within first_t12 1 32 (place - first_t12 + 1) (omega arith) (omega arith) ∙ omega arith
     first (inr a) (inr b) (inr least) (inl most) e f g =
-        ap place_of (at_T13 place least most) ∙ place_within 67 1 32 (place - 66) (omega arith) (omega arith)
-        ∙ omega arith
+        ap place_of (at_T13 place least most)
+        ∙ place_within first_t13 1 32 (place - first_t13 + 1) (omega arith) (omega arith) ∙ omega arith
     first (inr a) (inr b) (inr c) (inr least) (inl most) f g =
-        ap place_of (at_T21 place least most) ∙ place_within 99 1 32 (place - 98) (omega arith) (omega arith)
-        ∙ omega arith
+        ap place_of (at_T21 place least most)
+        ∙ place_within first_t21 1 32 (place - first_t21 + 1) (omega arith) (omega arith) ∙ omega arith
     first (inr a) (inr b) (inr c) (inr d) (inr least) (inl most) g =
-        ap place_of (at_T22 place least most) ∙ place_within 131 1 32 (place - 130) (omega arith) (omega arith)
-        ∙ omega arith
+        ap place_of (at_T22 place least most)
+        ∙ place_within first_t22 1 32 (place - first_t22 + 1) (omega arith) (omega arith) ∙ omega arith
     first (inr a) (inr b) (inr c) (inr d) (inr e) (inr least) (inl most) =
-        ap place_of (at_T23 place least most) ∙ place_within 163 1 32 (place - 162) (omega arith) (omega arith)
-        ∙ omega arith
+        ap place_of (at_T23 place least most)
+        ∙ place_within first_t23 1 32 (place - first_t23 + 1) (omega arith) (omega arith) ∙ omega arith
     first (inr a) (inr b) (inr c) (inr d) (inr e) (inr f) (inr least) =
-        ap place_of (at_Idle place least) ∙ place_within 195 0 15 (place - 195) (omega arith) (omega arith)
-        ∙ omega arith
+        ap place_of (at_Idle place least)
+        ∙ place_within first_idle 0 15 (place - first_idle) (omega arith) (omega arith) ∙ omega arith
 
 -- a timer that has some left is passed over
 passed : (place n : ℕ) (timers : Places) → due_from place (Some (suc n) ∷ timers) ≡ due_from (place + 1) timers
@@ -128,7 +130,7 @@ list_of_due place (Some zero ∷ timers) (suc k) within left =
     in
     (suc later.0, omega (arith, later.1), later.2)
 
-member_of_list : (timers : Places) (id : TimerId) → length timers ≡ 211 → Contains (due_timers timers) id →
+member_of_list : (timers : Places) (id : TimerId) → length timers ≡ places → Contains (due_timers timers) id →
     left_of timers id ≡ Some 0
 member_of_list timers id whole h =
     let due = due_of_list 0 timers id h in
@@ -137,11 +139,11 @@ member_of_list timers id whole h =
     let at_id : place_of id ≡ due.at = ap place_of (sym is) ∙ place_back due.at (omega (arith, due.within)) in
     ap (λ p. get_or timers p None) at_id ∙ due.none_left
 
-list_of_member : (timers : Places) (id : TimerId) → length timers ≡ 211 → left_of timers id ≡ Some 0 → Contains
+list_of_member : (timers : Places) (id : TimerId) → length timers ≡ places → left_of timers id ≡ Some 0 → Contains
     (due_timers timers) id
 list_of_member timers id whole left = go (timer_or_none id)
   where
-    go : (place_of id ≡ 211) ⊎ IsTimer id → Contains (due_timers timers) id
+    go : (place_of id ≡ places) ⊎ IsTimer id → Contains (due_timers timers) id
     go (inl none) = let past = past_end timers (place_of id) (omega arith) in absurd (cc)
     go (inr is) =
         let has = has_place id is in
@@ -150,29 +152,9 @@ list_of_member timers id whole left = go (timer_or_none id)
         id) (omega (arith, has.below)) left)
 
 -- the list has exactly the timers with none left
-pub due_members : (timers : Places) (due : List TimerId) → due ≡ due_timers timers → length timers ≡ 211 → (id :
+pub due_members : (timers : Places) (due : List TimerId) → due ≡ due_timers timers → length timers ≡ places → (id :
     TimerId) → Contains due id ↔ (left_of timers id ≡ Some 0)
 due_members timers due is whole id = (
   λ h. member_of_list timers id whole (subst (λ ids. Contains ids id) is h),
   λ left. subst (λ ids. Contains ids id) (sym is) (list_of_member timers id whole left),
 )
-
-nothing : (ids : List TimerId) (id : TimerId) → ids ≡ [] → Contains ids id → ⊥
-nothing [] id e h = absurd (omega (arith, h.1))
-nothing (x ∷ ids) id e h = absurd (cc)
-
--- the first of them has none left, and where there is no first one no timer has
-pub first_due : (timers : Places) (first : Option TimerId) → first ≡ first_of (due_timers timers) → length timers ≡
-    211 → MatchOption first ((id : TimerId) → left_of timers id ≢ Some 0) (λ id. left_of timers id ≡ Some 0)
-first_due timers first is whole = go first (due_timers timers) is refl
-  where
-    go : (chosen : Option TimerId) (ids : List TimerId) → chosen ≡ first_of ids → due_timers timers ≡ ids →
-        MatchOption chosen ((id : TimerId) → left_of timers id ≢ Some 0) (λ id. left_of timers id ≡ Some 0)
-    go None [] e all =
-        λ id left. nothing (due_timers timers) id all (list_of_member timers id whole left)
-    go None (x ∷ ids) e all = absurd (cc)
-    go (Some id) [] e all = absurd (cc)
-    go (Some id) (x ∷ ids) e all =
-        let same : x ≡ id = cc in
-        let at : Contains (x ∷ ids) id = (0, omega arith, same) in
-        member_of_list timers id whole (subst (λ l. Contains l id) (sym all) at)

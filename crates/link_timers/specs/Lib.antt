@@ -1,5 +1,4 @@
 pub mod Role
 pub mod Timers
 pub mod Running
-pub mod PlaceSet
 pub mod ChannelTimers

@@ -1,3 +1,4 @@
+-- The roles of the two ends of a line.
 use Rattle.link_timers.specs.declared.role.Role.{Role}
 use Rattle.link_timers.specs.declared.role.Role.TheVariants.{Dte, Dce}
 

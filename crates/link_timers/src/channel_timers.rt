@@ -46,8 +46,8 @@ impl ChannelTimers {
         }
     }
 
-    /// Lets the timer of a channel run or not: one that is to run and does not starts with this many ticks left, one
-    /// that is not to run stops, and one that runs as it is to goes on.
+    /// Makes the timer run or not. If it is to run and does not, it starts with this many ticks left. If it is not to
+    /// run, it stops. If it runs already, it goes on.
     pub fn bring(&mut self, channel: u8, runs: bool, ticks: u16)
         requires { channel ≤ 32 }
         ensures timers { self.new ≡ brought_on ticks runs channel self.old }

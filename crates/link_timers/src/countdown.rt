@@ -43,8 +43,8 @@ impl Countdown {
         self.left = None;
     }
 
-    /// Lets the countdown run or not: one that is to run and does not starts with so many ticks left, one that is not to
-    /// run stops, and one that runs as it is to goes on.
+    /// Makes the timer run or not. If it is to run and does not, it starts with this many ticks left. If it is not to
+    /// run, it stops. If it runs already, it goes on.
     pub fn bring(&mut self, runs: bool, ticks: u16)
         ensures { self.new ≡ brought_as ticks runs self.old }
     {

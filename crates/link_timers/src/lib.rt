@@ -3,7 +3,6 @@
 
 mod channel_timers;
 mod countdown;
-mod places;
 mod role;
 mod timers;
 

@@ -7,14 +7,11 @@ ghost use Rattle.std.specs.Prelude.{
   ◌<◌,
   ◌+◌,
   ◌↔◌,
-  true,
-  false,
   length,
   Some,
   None,
   is_some,
   MatchOption,
-  IsTrue,
   Contains,
 };
 ghost use Rattle.link_timers.specs.declared.timers.TimerId.{TimerId};
@@ -31,10 +28,8 @@ ghost use Rattle.link_timers.specs.Timers.{
   lowered,
   after_ticks,
   due_timers,
-  first_of,
 };
 
-use crate::places::PlaceSet;
 use arrayvec::ArrayVec;
 use std::marker::Model;
 
@@ -92,16 +87,12 @@ pub const MOST_TIMERS: usize = FIRST_IDLE + TERMINALS as usize;
 #[derive(Drop)]
 pub struct Timers {
     left: [Option<u16>; MOST_TIMERS],
-    /// The places of those that run.
-    running: PlaceSet,
 }
 
 impl Model for Timers {
-    ghost use Rattle.std.specs.Prelude.{ℕ, List, Option};
+    ghost use Rattle.std.specs.Prelude.{◌≡◌, ℕ, length, List, Option};
     ghost use Rattle.std.specs.Coded.{coded_list, coded_option, coded_ℕ};
     ghost use Rattle.link_timers.specs.Timers.{places};
-    ghost use Rattle.link_timers.specs.Running.{AreCounts};
-    ghost use Rattle.link_timers.specs.PlaceSet.{has};
 
     ghost Value = { List (Option ℕ) };
 
@@ -109,7 +100,7 @@ impl Model for Timers {
 
     ghost view = { λ t. t.left };
 
-    ghost invariant = { λ t. AreCounts places t.left (λ n. has t.running n) };
+    ghost invariant = { λ t. length t.left ≡ places };
 }
 
 impl Timers {
@@ -120,7 +111,6 @@ impl Timers {
     {
         Timers {
             left: [None; MOST_TIMERS],
-            running: PlaceSet::new(),
         }
     }
 
@@ -136,7 +126,6 @@ impl Timers {
     {
         if let Some(place) = place(id) {
             self.left[place] = Some(ticks);
-            self.running.insert(place);
         }
     }
 
@@ -153,29 +142,23 @@ impl Timers {
     pub fn is_running(&self, id: TimerId) -> bool
         ensures { result ≡ is_some (left_of self.now id) }
     {
-        self.running_place(id).is_some()
+        match place(id) {
+            Some(place) => self.left[place].is_some(),
+            None => false,
+        }
     }
 
-    /// Whether no timer runs.
-    pub fn is_empty(&self) -> bool
-        ensures { IsTrue result ↔ ((id : TimerId) → left_of self.now id ≡ None) }
-    {
-        self.running.is_empty()
-    }
-
-    /// Takes an expiry of a timer: whether it ran, and it is stopped.
+    /// Stops a timer that expired, and says whether it was running.
     pub fn fire(&mut self, id: TimerId) -> bool
         ensures ran { result ≡ is_some (left_of self.old id) }
         ensures places { self.new ≡ stopped self.old id }
         ensures left { left_of self.new id ≡ None }
         ensures others { (other : TimerId) → other ≢ id → left_of self.new other ≡ left_of self.old other }
     {
-        let Some(place) = self.running_place(id) else {
-            return false;
-        };
-        self.left[place] = None;
-        self.running.remove(place);
-        true
+        match place(id) {
+            Some(place) => self.left[place].take().is_some(),
+            None => false,
+        }
     }
 
     /// Lets ticks pass: each timer that runs has so many less, not below 0. Those that have none left run until they
@@ -184,15 +167,13 @@ impl Timers {
         ensures places { self.new ≡ after_ticks self.old ticks }
         ensures left { (id : TimerId) → left_of self.new id ≡ lowered ticks (left_of self.old id) }
     {
-        let mut running = self.running;
-        while let Some(place) = running.take_first() {
-            self.left[place] = lower_one(self.left[place], ticks);
+        for left in self.left.iter_mut() {
+            *left = lower_one(*left, ticks);
         }
     }
 
     /// Lets ticks pass as `elapse` does, and gives the timers that have none left then, in the order of [`TimerId`]
     /// and then by number.
-    #[tactic(auto, using(crate::proofs::DueLaws::due_members))]
     pub fn tick(&mut self, ticks: u16) -> ArrayVec<TimerId, MOST_TIMERS>
         ensures places { self.new ≡ after_ticks self.old ticks }
         ensures left { (id : TimerId) → left_of self.new id ≡ lowered ticks (left_of self.old id) }
@@ -202,36 +183,13 @@ impl Timers {
         ensures members { (id : TimerId) → Contains result.items id ↔ (left_of self.new id ≡ Some 0) }
     {
         self.elapse(ticks);
-        due_in(&self.left)
-    }
-
-    /// The first timer that has no tick left, in the order of `tick`.
-    #[tactic(auto, using(crate::proofs::DueLaws::first_due))]
-    pub fn due(&self) -> Option<TimerId>
-        ensures first { result ≡ first_of (due_timers self.now) }
-
-        // It runs and has no tick left; where there is none, no timer that runs has no tick left.
-        ensures member { MatchOption result ((id : TimerId) → left_of self.now id ≢ Some 0)
-            (λ id. left_of self.now id ≡ Some 0) }
-    {
-        let mut running = self.running;
-        while let Some(place) = running.take_first() {
-            if self.left[place] == Some(0) {
-                return Some(timer(place));
+        let mut due = ArrayVec::new();
+        for (place, left) in self.left.iter().enumerate() {
+            if *left == Some(0) {
+                due.push(timer(place));
             }
         }
-        None
-    }
-
-    // The place of a timer, if it runs.
-    fn running_place(&self, id: TimerId) -> Option<usize>
-        ensures { MatchOption result (left_of self.now id ≡ None) (λ place. (place ≡ place_of id) × (place < places)
-            × (is_some (left_of self.now id) ≡ true)) }
-    {
-        match place(id) {
-            Some(place) if self.left[place].is_some() => Some(place),
-            _ => None,
-        }
+        due
     }
 }
 
@@ -239,19 +197,6 @@ pub(crate) fn lower_one(left: Option<u16>, ticks: u16) -> Option<u16>
     ensures { result ≡ lowered ticks left }
 {
     Some(left?.saturating_sub(ticks))
-}
-
-fn due_in(timers: &[Option<u16>]) -> ArrayVec<TimerId, MOST_TIMERS>
-    requires { length timers.now ≡ places }
-    ensures { result.items ≡ due_timers timers.now }
-{
-    let mut due = ArrayVec::new();
-    for (place, left) in timers.iter().enumerate() {
-        if *left == Some(0) {
-            due.push(timer(place));
-        }
-    }
-    due
 }
 
 // The place of a timer, if there is its channel or terminal.

@@ -1,8 +1,7 @@
-use Rattle.std.specs.Prelude.{Some}
-use Rattle.link_timers.proofs.RunningLaws.{others_stay}
+use Rattle.link_timers.proofs.PlaceLaws.{others_stay}
 use Rattle.link_timers.proofs.timers.Timers.start.Goals as goal
 
 pub returns-in-Some-clause-others : goal.returns-in-Some-clause-others
 returns-in-Some-clause-others c =
-    others_stay c.self.inside.left c.args.self.now c.in-Some.place c.args.id (Some c.args.ticks) c.self.view_is
-    c.in-Some.ensures.0 c.self.invariant.whole
+    others_stay c.self.inside.left c.args.self.now c.in-Some.place c.args.id _ c.self.view_is
+    c.in-Some.ensures.0 c.self.invariant

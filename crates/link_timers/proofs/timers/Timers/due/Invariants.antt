@@ -1,9 +1,0 @@
-use Rattle.link_timers.specs.PlaceSet.{has, size}
-use Rattle.link_timers.proofs.RunningLaws.{IsPassed}
-use Rattle.link_timers.proofs.timers.Timers.due.Given as goal
-
-abbrev pub invariant-loop-place : goal.invariant-loop-place
-invariant-loop-place l = IsPassed l.self-inside.left (λ n. has l.self-inside.running n) (λ n. has l.running n)
-
-abbrev pub decreases-loop-place : goal.decreases-loop-place
-decreases-loop-place l = size l.running
