@@ -92,14 +92,6 @@ impl KeptPacket {
         }
     }
 
-    /// The number of the buffer.
-    pub fn into_buffer(self) -> BufNo
-        ensures value { result ≡ self.buffer }
-        ensures fits { length self.buffer.octets ≤ 1024 }
-    {
-        self.buffer
-    }
-
     /// Copies the packet out, and gives its buffer back.
     pub fn take_out(self, pool: &mut Pool) -> UserData
         requires { IsIn self.buffer pool.old }

@@ -72,11 +72,8 @@ fn send_on(line: &mut PooledEnd, channel: u8, packet: KeptPacket, pool: &mut Poo
     ensures pool { Balances pool.old (packet.buffer ∷ line.old.held) pool.new line.new.held }
     ensures within { length line.new.held < line.new.share }
 {
-    let (more, qualified, delivery) = (packet.more(), packet.qualified(), packet.delivery());
-    let buffer = packet.into_buffer();
-    let sent = line.send_buf(channel, buffer, more, qualified, delivery, pool);
-    if let Err(refused) = sent {
-        pool.free(refused.buffer);
+    if let Err(refused) = line.send_buf(channel, packet, pool) {
+        refused.packet.give_back(pool);
     }
 }
 

@@ -33,10 +33,10 @@ Answers role flow old r (Err fault) new = Refused role flow old r fault new
 abbrev pub sending : Kept → Request
 sending p = Request.Sending (datum_in p)
 
--- the buffer that comes back is the one that was to be sent
+-- the packet that comes back is the one that was to be sent
 pub record RefusedIn (role : Role) (flow : Flow) (old : Channel) (p : Kept) (given : RefusedBuf) (new : Channel) : Type 0 where
   pub refused : Refused role flow old (sending p) given.fault new
-  pub back : given.buffer ≡ p.buffer
+  pub back : given.packet ≡ p
 
 abbrev pub BufAnswers : Role → Flow → Channel → Kept → Result Unit RefusedBuf → Channel → Type 0
 BufAnswers role flow old p (Ok _) new = CarriedOut role flow old (sending p) false new
@@ -44,4 +44,4 @@ BufAnswers role flow old p (Err refused) new = RefusedIn role flow old p refused
 
 abbrev pub handed_back : Result Unit RefusedBuf → List Buffer
 handed_back (Ok _) = []
-handed_back (Err refused) = refused.buffer ∷ []
+handed_back (Err refused) = refused.packet.buffer ∷ []

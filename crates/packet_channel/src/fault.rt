@@ -1,6 +1,6 @@
 //! Why a request on a channel is refused.
 
-use flow_window::pool::BufNo;
+use data_transfer::KeptPacket;
 use thiserror::Error;
 
 /// Why a request on a channel was refused, in the order in which the faults are tested.
@@ -23,9 +23,9 @@ pub enum ChannelFault {
     InterruptPending,
 }
 
-/// A buffer that is not taken to be sent, and why.
+/// A packet in its buffer that is not taken to be sent, and why.
 #[derive(Drop)]
 pub struct RefusedBuf {
     pub fault: ChannelFault,
-    pub buffer: BufNo,
+    pub packet: KeptPacket,
 }

@@ -205,6 +205,6 @@ sent_answer l c place ch new p (Ok _) e found done = refused_at l c place ch (se
 sent_answer l c place ch new p (Err given) e found done = refused_at l c place ch (sending p) e found ∙ done.refused.first
 
 pub sent_back : (role : Role) (flow : Flow) (ch new : Channel) (p : Kept) (result : Result Unit RefusedBuf) →
-    BufAnswers role flow ch p result new → MatchResult result (λ _. Unit {0}) (λ given. given.buffer ≡ p.buffer)
+    BufAnswers role flow ch p result new → MatchResult result (λ _. Unit {0}) (λ given. given.packet ≡ p)
 sent_back role flow ch new p (Ok _) done = tt
 sent_back role flow ch new p (Err given) done = done.back

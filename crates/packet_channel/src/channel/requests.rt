@@ -15,7 +15,7 @@ use crate::control::Control;
 use crate::fault::{ChannelFault, RefusedBuf};
 use crate::state::CallState;
 use data_transfer::{Flow, InterruptData, KeptPacket, SEND_QUEUE};
-use flow_window::pool::{BufNo, Pool};
+use flow_window::pool::Pool;
 use link_timers::Role;
 use packet_codec::MAX_INTERRUPT;
 
@@ -210,29 +210,21 @@ impl Channel {
     }
 
     /// Puts a Data packet that lies in a buffer into the send queue, as `Request::Send` does with octets: the faults
-    /// are the same, and with them the buffer comes back.
+    /// are the same, and with them the packet comes back.
     pub fn send_buf(
         &mut self,
         flow: Flow,
-        buffer: BufNo,
-        more: bool,
-        qualified: bool,
-        delivery: bool,
+        packet: KeptPacket,
         pool: &Pool,
     ) -> Result<(), RefusedBuf>
-        requires most { flow.size ≤ 1024 }
-        requires lies { IsIn buffer pool.now }
-        ensures answer { (role : RoleValue)
-            → BufAnswers role flow self.old.channel
-            (record { buffer = buffer; more = more; qualified = qualified; delivery = delivery }) result
-            self.new.channel }
-        ensures held { Takes self.old.held buffer (handed_back result) self.new.held }
+        requires { IsIn packet.buffer pool.now }
+        ensures answer { (role : RoleValue) → BufAnswers role flow self.old.channel packet result self.new.channel }
+        ensures held { Takes self.old.held packet.buffer (handed_back result) self.new.held }
         ensures fits { Fits flow self.old → Fits flow self.new }
     {
-        if let Err(fault) = self.check_send(flow, pool.octets(&buffer)) {
-            return Err(RefusedBuf { fault, buffer });
+        if let Err(fault) = self.check_send(flow, packet.octets(pool)) {
+            return Err(RefusedBuf { fault, packet });
         }
-        let packet = KeptPacket::new(buffer, more, qualified, delivery);
         self.traffic.queue(packet);
         Ok(())
     }

@@ -4,7 +4,7 @@ ghost use Rattle.flow_window.specs.Pool.{IsIn, Holds, Balances};
 ghost use Rattle.packet_codec.specs.Packet.{IsCallValue};
 ghost use Rattle.packet_codec.specs.View.{call_view};
 ghost use Rattle.packet_channel.specs.Answers.{handed_back};
-ghost use Rattle.packet_layer.specs.Held.{Loses, Takes};
+ghost use Rattle.data_transfer.specs.Held.{Loses, Takes, datum_in};
 ghost use Rattle.packet_channel.specs.Channel.{Request as ask};
 ghost use Rattle.packet_layer.specs.Layer as machine;
 ghost use Rattle.data_transfer.specs.Octets.{parts_of};
@@ -16,9 +16,9 @@ ghost use Rattle.packet_end.specs.PacketEnd.{asked, called};
 ghost use Rattle.packet_end.specs.Pooled.{Serves};
 
 use crate::pooled::PooledEnd;
-use flow_window::pool::{BufNo, Pool};
+use flow_window::pool::Pool;
 use packet_codec::CallData;
-use packet_layer::{CallFault, ChannelFault, Front, RefusedBuf, Request, TakenBuf};
+use packet_layer::{CallFault, ChannelFault, Front, KeptPacket, RefusedBuf, Request, TakenBuf};
 
 impl PooledEnd {
     /// Places a call on a free channel, a DTE on the highest one and a DCE on the lowest (X.25 4.1.2), and answers the
@@ -79,35 +79,28 @@ impl PooledEnd {
     }
 
     /// Puts a Data packet that lies in a buffer into the send queue of the channel: `Request::Send` has each refusal.
-    /// With a refusal the number of the buffer comes back.
+    /// With a refusal the packet comes back.
     pub fn send_buf(
         &mut self,
         channel: u8,
-        buffer: BufNo,
-        more: bool,
-        qualified: bool,
-        delivery: bool,
+        packet: KeptPacket,
         pool: &Pool,
     ) -> Result<(), RefusedBuf>
-        requires { IsIn buffer pool.now }
-        ensures answer { let asks = ask.Sending
-            (record { octets = buffer.octets; more = more; qualified = qualified; delivery = delivery }) in
+        requires { IsIn packet.buffer pool.now }
+        ensures answer { let asks = ask.Sending (datum_in packet) in
             MatchResult result
             (λ _. machine.request_refusal self.old.end.layer channel asks ≡ None)
             (λ refused. machine.request_refusal self.old.end.layer channel asks ≡ Some (refusal_of refused.fault)) }
-        ensures back { MatchResult result (λ _. Unit {0}) (λ refused. refused.buffer ≡ buffer) }
+        ensures back { MatchResult result (λ _. Unit {0}) (λ refused. refused.packet ≡ packet) }
         ensures end { self.new ≡ record self.old {
-          end = asked self.old.end channel
-              (ask.Sending
-              (record { octets = buffer.octets; more = more; qualified = qualified; delivery = delivery }));
+          end = asked self.old.end channel (ask.Sending (datum_in packet));
           held = self.new.held;
         } }
-        ensures held { Takes self.old.held buffer (handed_back result) self.new.held }
+        ensures held { Takes self.old.held packet.buffer (handed_back result) self.new.held }
         ensures within { length self.new.held < self.new.share }
     {
         self.touched.touch();
-        self.layer
-            .send_buf(channel, buffer, more, qualified, delivery, pool)
+        self.layer.send_buf(channel, packet, pool)
     }
 
     /// What `take_buf` would give on the channel, if anything: an interrupt, or a Data packet of so many octets with M, Q

@@ -2,7 +2,7 @@
 ghost use Rattle.std.specs.Prelude.{◌≤◌, ◌≡◌, ◌<◌, ◌+◌, true, false, Some, None, MatchResult, MatchOption, length};
 ghost use Rattle.flow_window.specs.Pool.{IsIn, Holds, Balances};
 ghost use Rattle.packet_channel.specs.Answers.{WhenSending, handed_back};
-ghost use Rattle.data_transfer.specs.Held.{Loses, Takes};
+ghost use Rattle.data_transfer.specs.Held.{Loses, Takes, datum_in};
 ghost use Rattle.packet_layer.specs.Held.{HasRoom, most_held, plain};
 ghost use Rattle.packet_codec.specs.Packet.{IsCallValue};
 ghost use Rattle.packet_codec.specs.View.{call_view};
@@ -18,8 +18,8 @@ ghost use Rattle.packet_layer.specs.Free.{IsFreeAt};
 use crate::fault::CallFault;
 use crate::layer::Layer;
 use crate::restart::Phase;
-use data_transfer::{Taken, TakenBuf};
-use flow_window::pool::{BufNo, Pool};
+use data_transfer::{KeptPacket, Taken, TakenBuf};
+use flow_window::pool::Pool;
 use link_timers::Role;
 use packet_channel::{BareRequest, Channel, ChannelFault, RefusedBuf, Request};
 use packet_codec::{CallBuf, CallData};
@@ -251,41 +251,34 @@ impl Layer {
         )
     }
 
-    /// Puts a Data packet into the send queue as `send` does, with octets that lie in a buffer in use. The faults are
-    /// those of `send`, and with a fault the number of the buffer comes back.
+    /// Puts a Data packet that lies in a buffer in use into the send queue, as `send` does with octets. The faults are
+    /// those of `send`, and with a fault the packet comes back.
     #[tactic(auto, using(crate::proofs::Placed::own_few))]
     pub fn send_buf(
         &mut self,
         channel: u8,
-        buffer: BufNo,
-        more: bool,
-        qualified: bool,
-        delivery: bool,
+        packet: KeptPacket,
         pool: &Pool,
     ) -> Result<(), RefusedBuf>
-        requires { IsIn buffer pool.now }
-        ensures answer { let asks = asked.Sending
-            (record { octets = buffer.octets; more = more; qualified = qualified; delivery = delivery }) in
+        requires { IsIn packet.buffer pool.now }
+        ensures answer { let asks = asked.Sending (datum_in packet) in
             MatchResult result
             (λ _. machine.request_refusal self.old.layer channel asks ≡ None)
             (λ refused. machine.request_refusal self.old.layer channel asks ≡ Some (refusal_of refused.fault)) }
-        ensures back { MatchResult result (λ _. Unit {0}) (λ refused. refused.buffer ≡ buffer) }
-        ensures layer { self.new.layer
-            ≡ machine.request self.old.layer channel
-            (asked.Sending
-            (record { octets = buffer.octets; more = more; qualified = qualified; delivery = delivery })) }
-        ensures held { Takes self.old.held buffer (handed_back result) self.new.held }
+        ensures back { MatchResult result (λ _. Unit {0}) (λ refused. refused.packet ≡ packet) }
+        ensures layer { self.new.layer ≡ machine.request self.old.layer channel (asked.Sending (datum_in packet)) }
+        ensures held { Takes self.old.held packet.buffer (handed_back result) self.new.held }
         ensures most { most_held self.new.layer ≡ most_held self.old.layer }
         ensures few { length self.new.held ≤ most_held self.new.layer }
     {
         let Some(place) = self.place(u16::from(channel)) else {
             let fault = ChannelFault::NoCall;
-            return Err(RefusedBuf { fault, buffer });
+            return Err(RefusedBuf { fault, packet });
         };
         let flow = self.flow;
         self.to_serve.insert(place);
         let channel = &mut self.channels[place];
-        channel.send_buf(flow, buffer, more, qualified, delivery, pool)
+        channel.send_buf(flow, packet, pool)
     }
 
     /// Sends an interrupt of 1 to 32 octets on the channel (X.25 4.3.7).

@@ -1,6 +1,5 @@
 use Rattle.std.proofs.Common.{refl, sym, ap, ◌∙◌, inl}
-use Rattle.packet_channel.specs.Answers.{handed_back}
-use Rattle.packet_channel.specs.Channel.Request.{Sending}
+use Rattle.packet_channel.specs.Answers.{handed_back, sending}
 use Rattle.packet_layer.proofs.Flows.{flow_request}
 use Rattle.packet_end.specs.Params.{info_of}
 use Rattle.packet_end.proofs.Pools.{layer_takes}
@@ -14,27 +13,17 @@ invariant_of-self c =
       line = c.self.invariant.line;
       layer = c.send_buf.ensures.few;
       info = rw c.send_buf.ensures.layer
-          (c.self.invariant.info ∙ ap info_of (sym (flow_request e.layer.layer c.args.channel (Sending (record {
-            octets = c.args.buffer.octets;
-            more = c.args.more;
-            qualified = c.args.qualified;
-            delivery = c.args.delivery;
-          })))));
+          (c.self.invariant.info ∙ ap info_of (sym (flow_request e.layer.layer c.args.channel (sending c.args.packet))));
       agree = rw c.send_buf.ensures.layer
           (others_agree e.layer.layer _ e.timers e.touched c.touch.new.self c.self.invariant.agree
           (λ n out. (
             sym (c.touch.ensures.others n) ∙ out,
-            request_alike e.layer.layer c.args.channel n (Sending (record {
-              octets = c.args.buffer.octets;
-              more = c.args.more;
-              qualified = c.args.qualified;
-              delivery = c.args.delivery;
-            })) refl,
+            request_alike e.layer.layer c.args.channel n (sending c.args.packet) refl,
           )));
       finished = inl c.touch.ensures.touched;
     }
 
 pub returns-clause-held : goal.returns-clause-held
 returns-clause-held c =
-    layer_takes c.self.inside c.args.self.now c.args.buffer (handed_back c.send_buf.result) c.send_buf.new.self
+    layer_takes c.self.inside c.args.self.now c.args.packet.buffer (handed_back c.send_buf.result) c.send_buf.new.self
     c.self.view_is c.send_buf.ensures.held

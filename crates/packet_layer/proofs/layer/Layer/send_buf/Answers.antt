@@ -2,7 +2,6 @@ use Rattle.std.proofs.lemmas.Grind.{common_steps}
 use Rattle.std.proofs.Common.{◌≡◌, ◌∙◌, ap, Some, arith}
 use Rattle.std.specs.Prelude.{slice_get}
 use Rattle.packet_channel.specs.Answers.{handed_back}
-use Rattle.data_transfer.specs.Held.{Kept}
 use Rattle.packet_layer.specs.LayerView.{layer_of}
 use Rattle.packet_layer.proofs.Placed.{placed, own_gain, few_after, plain_at, plain_set, own_few}
 use Rattle.packet_layer.proofs.Places.{sent, sent_answer, sent_back}
@@ -15,11 +14,10 @@ returns-clause-layer c =
     let l = layer_of a in
     let held = c.index_mut-channel.result.now in
     let ch = held.channel in
-    let p : Kept = record { buffer = c.args.buffer; more = c.args.more; qualified = c.args.qualified; delivery = c.args.delivery } in
     let there = placed a c.args.self.now c.in-Some.place held c.self.view_is c.in-Some.ensures.1 c.index_mut-channel.ensures.value in
     let found : slice_get l.channels c.in-Some.place ≡ Some ch = plain_at a.channels.items c.in-Some.place held there in
     rw (← c.self.view_is) (ap (λ chs. record l { channels = chs }) (plain_set a.channels.items c.in-Some.place c.send_buf.new.self)
-    ∙ sent l c.args.channel c.in-Some.place ch c.send_buf.new.self.channel p c.send_buf.result (c.in-Some.ensures.0 ∙ c.from.ensures) found
+    ∙ sent l c.args.channel c.in-Some.place ch c.send_buf.new.self.channel c.args.packet c.send_buf.result (c.in-Some.ensures.0 ∙ c.from.ensures) found
     (c.send_buf.ensures.answer l.role))
 
 pub returns-clause-answer : goal.returns-clause-answer
@@ -27,16 +25,14 @@ returns-clause-answer c =
     let a = c.self.inside in
     let l = layer_of a in
     let held = c.index_mut-channel.result.now in
-    let p : Kept = record { buffer = c.args.buffer; more = c.args.more; qualified = c.args.qualified; delivery = c.args.delivery } in
     let there = placed a c.args.self.now c.in-Some.place held c.self.view_is c.in-Some.ensures.1 c.index_mut-channel.ensures.value in
     let found = plain_at a.channels.items c.in-Some.place held there in
-    rw (← c.self.view_is) (sent_answer l c.args.channel c.in-Some.place held.channel c.send_buf.new.self.channel p c.send_buf.result
+    rw (← c.self.view_is) (sent_answer l c.args.channel c.in-Some.place held.channel c.send_buf.new.self.channel c.args.packet c.send_buf.result
     (c.in-Some.ensures.0 ∙ c.from.ensures) found (c.send_buf.ensures.answer l.role))
 
 pub returns-clause-back : goal.returns-clause-back
 returns-clause-back c =
-    let p : Kept = record { buffer = c.args.buffer; more = c.args.more; qualified = c.args.qualified; delivery = c.args.delivery } in
-    sent_back c.self.inside.role c.self.inside.flow c.index_mut-channel.result.now.channel c.send_buf.new.self.channel p c.send_buf.result
+    sent_back c.self.inside.role c.self.inside.flow c.index_mut-channel.result.now.channel c.send_buf.new.self.channel c.args.packet c.send_buf.result
     (c.send_buf.ensures.answer c.self.inside.role)
 
 pub returns-clause-held : goal.returns-clause-held
@@ -44,7 +40,7 @@ returns-clause-held c =
     let a = c.self.inside in
     let held = c.index_mut-channel.result.now in
     let there = placed a c.args.self.now c.in-Some.place held c.self.view_is c.in-Some.ensures.1 c.index_mut-channel.ensures.value in
-    own_gain a c.args.self.now c.args.buffer (handed_back c.send_buf.result) c.in-Some.place held c.send_buf.new.self c.self.view_is there
+    own_gain a c.args.self.now c.args.packet.buffer (handed_back c.send_buf.result) c.in-Some.place held c.send_buf.new.self c.self.view_is there
     c.send_buf.ensures.held
 
 pub returns-clause-few : goal.returns-clause-few
