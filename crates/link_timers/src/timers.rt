@@ -161,9 +161,8 @@ impl Timers {
         }
     }
 
-    /// Lets ticks pass: each timer that runs has so many less, not below 0. Those that have none left run until they
-    /// are fired.
-    pub fn elapse(&mut self, ticks: u16)
+    // Each timer that runs has so many ticks less, not below 0.
+    fn elapse(&mut self, ticks: u16)
         ensures places { self.new ≡ after_ticks self.old ticks }
         ensures left { (id : TimerId) → left_of self.new id ≡ lowered ticks (left_of self.old id) }
     {
@@ -172,8 +171,8 @@ impl Timers {
         }
     }
 
-    /// Lets ticks pass as `elapse` does, and gives the timers that have none left then, in the order of [`TimerId`]
-    /// and then by number.
+    /// Lets ticks pass: each timer that runs has so many less left, not below 0. Gives the timers that have none left
+    /// then, in the order of [`TimerId`] and then by number. They run until they are fired.
     pub fn tick(&mut self, ticks: u16) -> ArrayVec<TimerId, MOST_TIMERS>
         ensures places { self.new ≡ after_ticks self.old ticks }
         ensures left { (id : TimerId) → left_of self.new id ≡ lowered ticks (left_of self.old id) }
