@@ -2,6 +2,7 @@
 ghost use Rattle.std.specs.Prelude.{
   ◌≡◌,
   ◌≤◌,
+  ◌<◌,
   ◌+◌,
   length,
   replicate,
@@ -24,7 +25,7 @@ use slot::Slot;
 use std::alloc::{AllocError, Global};
 use std::marker::Model;
 
-/// Buffers of one size, numbered from 0. A number is given by `put`, and once until it is freed.
+/// Buffers of one size, numbered from 0. A number is given by `put` or `place`, and once until it is freed.
 #[derive(Drop)]
 pub struct Pool {
     size: usize,
@@ -80,6 +81,23 @@ impl Pool {
         let slot = &mut self.slots[number];
         slot.fill(octets);
         Some(BufNo::of(number, slot))
+    }
+
+    /// Puts octets into a buffer as `put` does, where one is not in use, and gives its number.
+    pub fn place(&mut self, octets: &[u8]) -> BufNo
+        requires fits { length octets.now ≤ self.old.size }
+        requires room { in_use self.old < length self.old.places }
+        ensures put { (result.octets ≡ octets.now) × (slice_get self.old.places result.number ≡ Some None)
+            × (self.new ≡ record self.old {
+              places = slice_set self.old.places result.number (Some octets.now);
+            }) }
+        ensures weights { (w : Buffer → ℕ) → pooled w self.new ≡ pooled w self.old + w result }
+        ensures size { length self.new.places ≡ length self.old.places }
+    {
+        let Some(b) = self.put(octets) else {
+            unreachable!();
+        };
+        b
     }
 
     /// The octets that were put into a buffer.

@@ -44,9 +44,7 @@ impl Traffic {
             return Heard::Wrong(diagnostic::INVALID_RECEIVE_NUMBER);
         };
         self.expected = self.expected.next();
-        let Some(buffer) = pool.put(packet.user_data) else {
-            unreachable!();
-        };
+        let buffer = pool.place(packet.user_data);
         self.arrived.push(KeptPacket::new(buffer, packet.more, packet.qualified, packet.delivery));
         Heard::Keeps(newly)
     }

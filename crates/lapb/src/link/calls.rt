@@ -211,10 +211,7 @@ impl Link {
         let room = self.room();
         self.queue.give_back_any(pool);
         room?;
-        let Some(b) = pool.put(packet) else {
-            unreachable!();
-        };
-        self.queue.push(b);
+        self.queue.push(pool.place(packet));
         Ok(())
     }
 

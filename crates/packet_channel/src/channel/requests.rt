@@ -201,9 +201,7 @@ impl Channel {
         ensures fits { Fits flow self.old → Fits flow self.new }
     {
         self.check_send(flow, octets)?;
-        let Some(buffer) = pool.put(octets) else {
-            unreachable!();
-        };
+        let buffer = pool.place(octets);
         self.traffic
             .queue(KeptPacket::new(buffer, more, qualified, delivery));
         Ok(false)

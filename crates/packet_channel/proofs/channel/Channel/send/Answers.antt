@@ -24,7 +24,7 @@ returns-clause-answer c role =
     (ap (λ (x : Holder). x.channel) c.self.view_is)
     (c.queue.ensures.traffic
     ∙ ap (λ (p : Kept). queue (datum_in p) t) c.new.ensures
-    ∙ ap (λ (o : List ℕ). queue (record d { octets = o }) t) c.in-Some.ensures.put.0)
+    ∙ ap (λ (o : List ℕ). queue (record d { octets = o }) t) c.place-buffer.ensures.put.0)
 
 pub returns-clause-fits : goal.returns-clause-fits
 returns-clause-fits c =
@@ -33,6 +33,6 @@ returns-clause-fits c =
     fits_queued c.args.flow c.args.self.now _ d
     (c.queue.ensures.traffic
     ∙ ap (λ (p : Kept). queue (datum_in p) t) c.new.ensures
-    ∙ ap (λ (o : List ℕ). queue (record d { octets = o }) t) c.in-Some.ensures.put.0
+    ∙ ap (λ (o : List ℕ). queue (record d { octets = o }) t) c.place-buffer.ensures.put.0
     ∙ ap (λ (x : Holder). queue d x.channel.traffic) c.self.view_is)
     c.queue.ensures.most c.in_ok-check_send.ensures.fits.2
