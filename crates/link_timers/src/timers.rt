@@ -2,12 +2,9 @@
 ghost use Rattle.std.specs.Prelude.{
   ◌≡◌,
   ◌≢◌,
-  ℕ,
   ◌≤◌,
   ◌<◌,
-  ◌+◌,
   ◌↔◌,
-  length,
   Some,
   None,
   is_some,

@@ -17,7 +17,8 @@ fn fires_once(timers: &mut Timers) -> bool {
 
 // Whether timer 1 is due after one tick more, and is not once it is stopped.
 fn is_stopped(timers: &mut Timers) -> bool {
-    let due = timers.tick(1).as_slice() == [TimerId::T1].as_slice() && timers.is_running(TimerId::T1);
+    let due = timers.tick(1).as_slice() == [TimerId::T1].as_slice()
+        && timers.is_running(TimerId::T1);
     timers.stop(TimerId::T1);
     due && !timers.is_running(TimerId::T1) && !timers.fire(TimerId::T1) && timers.tick(1).is_empty()
 }
