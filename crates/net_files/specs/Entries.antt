@@ -1,4 +1,4 @@
--- What is at the keys of a table of a TOML document: nothing where the value has another type or form. A key that
+-- What the keys of a TOML table have: nothing if the value has another type or form. A key that
 -- may be left out has something that holds then, one that may not has nothing.
 use Rattle.std.specs.Prelude.{ℕ, ℤ, pos, negsuc, ◌==◌, Bool, true, not, ◌&&◌, nat_le, if◌then◌else◌, List, length}
 use Rattle.std.specs.Prelude.{bytes_eq, Option, Some, None}

@@ -1,4 +1,4 @@
--- The places of the nodes of a network.
+-- Places of the nodes of a network.
 use Rattle.std.specs.Prelude.{◌≡◌, ℕ, ◌<◌, ◌⊎◌, Bool, false, length, slice_get, Option, Some, None, is_none}
 use Rattle.link_timers.specs.declared.role.Role.{Role}
 use Rattle.node_laws.specs.Quiet.{IsQuiet}
