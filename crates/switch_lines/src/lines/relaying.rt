@@ -34,7 +34,7 @@ impl Lines {
     }
 
     // All that waits on a channel goes to the other leg of its join, as far as that one takes it. Answers whether that
-    // was seen, in as many moves as a queue has places.
+    // was seen, in as many moves as a leg can have waiting.
     fn relay_channel(&mut self, place: SwitchChannel) -> bool
         ensures lines { self.new ≡ relayed most_moves place self.old }
         ensures stuck { OnTrue result (IsStuck self.new place) }
