@@ -16,9 +16,6 @@ network_congestion = 5
 abbrev pub out_of_order : ℕ
 out_of_order = 9
 
-abbrev pub access_barred : ℕ
-access_barred = 11
-
 abbrev pub not_obtainable : ℕ
 not_obtainable = 13
 

@@ -10,8 +10,6 @@ pub const INVALID_FACILITY: u8 = 3;
 pub const NETWORK_CONGESTION: u8 = 5;
 /// The called end is not ready.
 pub const OUT_OF_ORDER: u8 = 9;
-/// The called end takes no call from the caller.
-pub const ACCESS_BARRED: u8 = 11;
 /// The address is not given to anyone.
 pub const NOT_OBTAINABLE: u8 = 13;
 /// A procedure error at the far end.
