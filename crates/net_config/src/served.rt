@@ -21,7 +21,7 @@ fn is_from(least: u16, most: u16, value: u16) -> bool
     least <= value && value <= most
 }
 
-/// Whether a node has the name.
+/// Whether the node has the name.
 fn is_named(name: &str, node: &NodeConfig) -> bool
     ensures { result ≡ is_named name.now node.now }
 {
