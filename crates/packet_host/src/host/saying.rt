@@ -19,7 +19,6 @@ const MOST_OCTETS: usize = 1_024;
 const MOST_QUALIFIED: usize = 128;
 
 impl Host {
-    #[tactic(auto, using(crate::proofs::Taken::all_said))]
     /// Says octets on the channel: full packets of the line's size with M = 1, then the rest with M = 0 and, if asked
     /// for, D; no octets are one empty packet. Q is on all of them (X.25 4.3.3 to 4.3.6). At most 1,024 octets, with Q
     /// 128.
@@ -27,6 +26,7 @@ impl Host {
     /// `NoCall` comes if no call is in data transfer, then `Resetting` while the own reset is not confirmed,
     /// `QueueFull` if the send queue has fewer places than the packets need (never more than 8, and with Q one); then
     /// `TooLong`.
+    #[tactic(auto, using(crate::proofs::Taken::all_said))]
     pub fn say(
         &mut self,
         channel: u8,
