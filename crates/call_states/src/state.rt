@@ -27,7 +27,7 @@ pub enum CallState {
 
 impl CallState {
     /// The state after a call of this end: p2 for a DTE, p3 for a DCE.
-    pub fn own_waiting(role: Role) -> CallState
+    pub(crate) fn own_waiting(role: Role) -> CallState
         ensures { result ≡ state_of role OwnWaiting }
     {
         match role {
@@ -37,7 +37,7 @@ impl CallState {
     }
 
     /// The state after a call of the other end: p3 for a DTE, p2 for a DCE.
-    pub fn far_waiting(role: Role) -> CallState
+    pub(crate) fn far_waiting(role: Role) -> CallState
         ensures { result ≡ state_of role FarWaiting }
     {
         match role {
@@ -47,7 +47,7 @@ impl CallState {
     }
 
     /// The state in which this end clears: p6 for a DTE, p7 for a DCE.
-    pub fn own_clear(role: Role) -> CallState
+    pub(crate) fn own_clear(role: Role) -> CallState
         ensures { result ≡ state_of role OwnClear }
     {
         match role {

@@ -1,5 +1,5 @@
 //! Room for the octets of one frame.
-ghost use Rattle.std.specs.Prelude.{◌≡◌, ◌≤◌, ◌<◌, ◌+◌, List, [], ◌∷◌, ◌++◌, length, take, drop, ℕ, IsTrue, ◌↔◌};
+ghost use Rattle.std.specs.Prelude.{◌≡◌, ◌≤◌, ◌<◌, ◌+◌, List, [], ◌∷◌, ◌++◌, length, take, drop, ℕ};
 ghost use Rattle.frame_codec.specs.Spelling.{most_octets};
 
 use std::marker::Model;
@@ -56,13 +56,6 @@ impl FrameBuf {
         ensures fits { result ≤ most_octets }
     {
         self.len
-    }
-
-    /// Whether there is no octet.
-    pub fn is_empty(&self) -> bool
-        ensures { IsTrue result ↔ (self.now ≡ []) }
-    {
-        self.len == 0
     }
 
     /// Empties the buffer.

@@ -7,8 +7,8 @@ use frame_codec::FrameBuf;
 use std::alloc::{AllocError, Global};
 use std::marker::Model;
 
-/// The frames on their way in one direction, in order, up to 64. Each is written into a place that was made once, and
-/// stays there until it is taken. If all were taken, the next one comes into the first place.
+/// The frames on their way in one direction, in order, up to [`FRAMES_IN_FLIGHT`]. Each is written into a place that
+/// was made once, and stays there until it is taken. If all were taken, the next one comes into the first place.
 #[derive(Drop)]
 pub(crate) struct Flying {
     taken: usize,
@@ -19,6 +19,7 @@ pub(crate) struct Flying {
 impl Model for Flying {
     ghost use Rattle.std.specs.Prelude.{◌≡◌, ◌≤◌, ◌-◌, ℕ, List, length, take, drop};
     ghost use Rattle.std.specs.Coded.{coded_list, coded_ℕ};
+    ghost use Rattle.frame_lines.specs.declared.memory.TheConstants.{FRAMES_IN_FLIGHT};
 
     ghost Value = { List (List ℕ) };
 
@@ -26,7 +27,8 @@ impl Model for Flying {
 
     ghost view = { λ f. drop f.taken (take f.end f.places.items) };
 
-    ghost invariant = { λ f. (f.taken ≤ f.end - 1) × (f.end ≤ 64) × (length f.places.items ≡ 64) };
+    ghost invariant = { λ f. (f.taken ≤ f.end - 1) × (f.end ≤ FRAMES_IN_FLIGHT)
+        × (length f.places.items ≡ FRAMES_IN_FLIGHT) };
 }
 
 impl Flying {
@@ -60,10 +62,10 @@ impl Flying {
         self.end == 0
     }
 
-    /// Adds a frame behind the others, if there are fewer than 64.
+    /// Adds a frame behind the others, if there are fewer than [`FRAMES_IN_FLIGHT`].
     pub(crate) fn put(&mut self, frame: &FrameBuf)
-        ensures room { length self.old < 64 → self.new ≡ self.old ++ frame.now ∷ [] }
-        ensures beyond { 64 ≤ length self.old → self.new ≡ self.old }
+        ensures room { length self.old < FRAMES_IN_FLIGHT → self.new ≡ self.old ++ frame.now ∷ [] }
+        ensures beyond { FRAMES_IN_FLIGHT ≤ length self.old → self.new ≡ self.old }
     {
         if self.end == FRAMES_IN_FLIGHT {
             make_room(self.places.as_mut_slice(), &mut self.taken, &mut self.end);
@@ -103,13 +105,13 @@ impl Flying {
 #[inline(never)]
 fn make_room(places: &mut [FrameBuf], taken: &mut usize, end: &mut usize)
     requires taken { taken.old < end.old }
-    requires end { end.old ≤ 64 }
-    requires places { length places.old ≡ 64 }
+    requires end { end.old ≤ FRAMES_IN_FLIGHT }
+    requires places { length places.old ≡ FRAMES_IN_FLIGHT }
     ensures frames { drop taken.new (take end.new places.new) ≡ drop taken.old (take end.old places.old) }
     ensures taken { taken.new < end.new }
-    ensures end { end.new ≤ 64 }
-    ensures places { length places.new ≡ 64 }
-    ensures full { end.new ≡ 64 → taken.new ≡ 0 }
+    ensures end { end.new ≤ FRAMES_IN_FLIGHT }
+    ensures places { length places.new ≡ FRAMES_IN_FLIGHT }
+    ensures full { end.new ≡ FRAMES_IN_FLIGHT → taken.new ≡ 0 }
 {
     places.rotate_left(*taken);
     *end -= *taken;

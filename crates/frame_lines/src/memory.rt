@@ -13,7 +13,8 @@ use std::marker::Model;
 /// How many frames a memory line holds for each direction.
 pub const FRAMES_IN_FLIGHT: usize = 64;
 
-/// A line in memory, which holds 64 frames for each direction: a frame put beyond these is lost. It is faithful.
+/// A line in memory, which holds [`FRAMES_IN_FLIGHT`] frames for each direction: a frame put beyond these is lost. It
+/// is faithful.
 #[derive(Drop)]
 pub struct MemLine {
     from_dte: Flying,
@@ -46,9 +47,9 @@ impl Line for MemLine {
 
     fn put(&mut self, direction: Direction, frame: &FrameBuf)
         ensures puts { IsPut memory_service direction frame.now self.old self.new }
-        ensures room { length (flying direction self.old) < 64
+        ensures room { length (flying direction self.old) < FRAMES_IN_FLIGHT
             → self.new ≡ with_flying direction (flying direction self.old ++ frame.now ∷ []) self.old }
-        ensures beyond { 64 ≤ length (flying direction self.old) → self.new ≡ self.old }
+        ensures beyond { FRAMES_IN_FLIGHT ≤ length (flying direction self.old) → self.new ≡ self.old }
     {
         match direction {
             Direction::FromDte => self.from_dte.put(frame),

@@ -11,4 +11,4 @@ pub use config::{Config, LineConfig, NodeConfig, NodeKind, RouteConfig, Setting,
 pub use fault::MakeFault;
 pub use parts::{NewKind, NewLine, NewNode, NewRoute, NewSwitch};
 pub use plan::{NetPlan, Planned, PlannedKind, find_own, plan_of};
-pub use served::{has_dte, has_end, is_named, is_route_of, is_served, place_of};
+pub use served::is_served;

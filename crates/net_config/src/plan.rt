@@ -96,7 +96,7 @@ fn initial_params(pad: &TerminalsConfig) -> Params
     params
 }
 
-/// The place of the line that ends at the node of this name.
+/// The number of the line that ends at the node of this name.
 fn find_line(lines: &[LineConfig], name: &str) -> Option<usize>
     ensures { result ≡ position (has_end name.now) lines.now }
 {
@@ -121,7 +121,7 @@ fn role_of(lines: &[LineConfig], name: &str) -> Role
     }
 }
 
-/// A node with users, which is made so where it is a DTE.
+/// Plans a PAD or host at its line. `kind` counts only if it is the DTE.
 fn new_user(lines: &[LineConfig], name: &str, kind: NewKind) -> Planned
     ensures { result ≡ planned_value (planned_is.User (new_user lines.now name.now (kind_value kind))) }
 {

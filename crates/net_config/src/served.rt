@@ -21,22 +21,22 @@ fn is_from(least: u16, most: u16, value: u16) -> bool
     least <= value && value <= most
 }
 
-/// Whether a node has the name.
-pub fn is_named(name: &str, node: &NodeConfig) -> bool
+/// Whether the node has the name.
+fn is_named(name: &str, node: &NodeConfig) -> bool
     ensures { result ≡ is_named name.now node.now }
 {
     node.name.as_str() == name
 }
 
 /// Whether the node of this name is the line's DTE.
-pub fn has_dte(name: &str, line: &LineConfig) -> bool
+pub(crate) fn has_dte(name: &str, line: &LineConfig) -> bool
     ensures { result ≡ has_dte name.now line.now }
 {
     line.dte.as_str() == name
 }
 
 /// Whether the node of this name is at an end of the line.
-pub fn has_end(name: &str, line: &LineConfig) -> bool
+pub(crate) fn has_end(name: &str, line: &LineConfig) -> bool
     ensures { result ≡ has_end name.now line.now }
 {
     has_dte(name, line) || line.dce.as_str() == name
@@ -49,7 +49,7 @@ fn find_node(nodes: &[NodeConfig], name: &str) -> Option<usize>
 }
 
 /// The place of the node of this name, 0 if there is none.
-pub fn place_of(nodes: &[NodeConfig], name: &str) -> usize
+pub(crate) fn place_of(nodes: &[NodeConfig], name: &str) -> usize
     ensures { result ≡ place_of (is_named name.now) nodes.now }
 {
     find_node(nodes, name).unwrap_or(0)
@@ -139,7 +139,7 @@ fn count_routes(routes: &[RouteConfig], name: &str) -> usize
 }
 
 /// Whether the route is one of the switch of this name.
-pub fn is_route_of(name: &str, route: &RouteConfig) -> bool
+pub(crate) fn is_route_of(name: &str, route: &RouteConfig) -> bool
     ensures { result ≡ is_route_of name.now route.now }
 {
     route.switch.as_str() == name

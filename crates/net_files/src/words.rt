@@ -141,7 +141,7 @@ impl<'a> Words<'a> {
     }
 }
 
-/// The place of the first of these names that a word is.
+/// The index of the first of these names that a word is.
 fn place_of(names: &[String], word: &[u8]) -> Option<usize>
     ensures { result ≡ position (λ name. bytes_eq (string_bytes name) word.now) names.now }
 {
@@ -160,7 +160,7 @@ pub(crate) fn cut(octets: &[u8], at: u8) -> (&[u8], Option<&[u8]>)
     }
 }
 
-/// The place of the first octet of this value.
+/// The index of the first octet of this value.
 fn first_place(octets: &[u8], at: u8) -> Option<usize>
     ensures { result ≡ position (λ octet. octet == at) octets.now }
 {

@@ -20,7 +20,7 @@ ghost use Rattle.net_turns.specs.Users.{host_fault, user_fault};
 use crate::hosts::{MOST_TAKEN, ask_host};
 use crate::room::make_room;
 use crate::send::put_frames;
-use crate::terminals::{MOST_TEXT, at_terminal};
+use crate::terminals::at_terminal;
 use call_records::{Book, Register};
 use frame_lines::{Direction, Line};
 use line_nodes::{Attachment, Node, TerminalEvent, write_notes};
@@ -28,7 +28,7 @@ use link_timers::Role;
 use net_events::{Answer, HostEvent, LineEvent, Outcome, StepFault, UserEvent};
 use packet_host::Host;
 use std::alloc::AllocError;
-use x25_pad::Pad;
+use x25_pad::{MOST_TEXT, Pad};
 
 /// An event needs room in the book for no more writes than this: those of a message of eight packets.
 pub const MOST_WRITES: usize = 8;

@@ -8,10 +8,7 @@ ghost use Rattle.net_turns.specs.Outcomes.{pad_outcome};
 use arrayvec::ArrayVec;
 use line_nodes::TerminalEvent;
 use net_events::Outcome;
-use x25_pad::Pad;
-
-/// A terminal shows no more octets at once than this.
-pub(crate) const MOST_TEXT: usize = 3200;
+use x25_pad::{MOST_TEXT, Pad};
 
 /// Something happens at a terminal of a PAD: gives the outcome, and adds what the terminal shows to the text.
 #[inline(always)]

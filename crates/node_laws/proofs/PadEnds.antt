@@ -19,8 +19,8 @@ use Rattle.pad_terminal.specs.declared.answers.InputAnswer.{InputAnswer}
 use Rattle.pad_terminal.specs.declared.answers.InputAnswer.TheVariants as input
 use Rattle.pad_terminal.specs.declared.answers.Reply.{Reply}
 use Rattle.pad_terminal.specs.declared.answers.Reply.TheVariants as reply
-use Rattle.pad_terminal.specs.declared.answers.Request.{Request}
-use Rattle.pad_terminal.specs.declared.answers.Request.TheVariants as request
+use Rattle.pad_terminal.specs.declared.answers.TerminalRequest.{TerminalRequest}
+use Rattle.pad_terminal.specs.declared.answers.TerminalRequest.TheVariants as request
 use Rattle.pad_ports.specs.Line as line
 use Rattle.pad_ports.specs.Ports as port
 use Rattle.pad_ports.specs.Ports.{PortState, AtLine}
@@ -43,14 +43,14 @@ module _ (P : PacketEnd → Type 0) (asks : (e : PacketEnd) (channel : ℕ) (r :
   send_at : (octets : List ℕ) (qualified : Bool) (call : ℕ) (a : AtLine) → At a → At (port.sends octets qualified call a)
   send_at octets qualified call a h = asks a.line.end call (ask.Sending (line.datum octets qualified)) h
 
-  does_at : (r : Request) (a : AtLine) → At a → At (port.does r a)
+  does_at : (r : TerminalRequest) (a : AtLine) → At a → At (port.does r a)
   does_at (request.Call s) a h = places a.line.end (line.call_parts s.address s.user_data.items) h
   does_at request.Clear a h = clear_at a h
   does_at request.Interrupt a h =
       on_call_at port.interrupts a.port.call a (λ call. asks a.line.end call (ask.Interrupting (line.interrupt_octet ∷ [])) h) h
   does_at request.Reset a h = on_call_at port.resets a.port.call a (λ call. asks a.line.end call (ask.Resetting 0 0) h) h
 
-  asked_at : (o : Option Request) (a : AtLine) → At a → At (port.does_asked o a)
+  asked_at : (o : Option TerminalRequest) (a : AtLine) → At a → At (port.does_asked o a)
   asked_at None a h = h
   asked_at (Some r) a h = does_at r a h
 

@@ -1,7 +1,6 @@
 //! Packets.
 
 use crate::address::Address;
-use crate::packet_type::PacketType;
 use arrayvec::ArrayVec;
 
 /// The most octets of a packet that is written.
@@ -116,31 +115,4 @@ pub struct DataPacket<'a> {
     pub receive: u8,
     /// At most as many octets as the line carries.
     pub user_data: &'a [u8],
-}
-
-impl<'a> Content<'a> {
-    ghost use Rattle.std.specs.Prelude.{◌≡◌};
-    ghost use Rattle.packet_codec.specs.PacketType.{content_type};
-    ghost use Rattle.packet_codec.specs.View.{content_view};
-
-    /// The type of a packet that says this.
-    pub fn packet_type(&self) -> PacketType
-        ensures { result ≡ content_type (content_view self.now) }
-    {
-        match self {
-            Content::CallRequest(_) => PacketType::CallRequest,
-            Content::CallAccepted => PacketType::CallAccepted,
-            Content::ClearRequest { .. } => PacketType::ClearRequest,
-            Content::ClearConfirmation => PacketType::ClearConfirmation,
-            Content::Data(_) => PacketType::Data,
-            Content::Interrupt(_) => PacketType::Interrupt,
-            Content::InterruptConfirmation => PacketType::InterruptConfirmation,
-            Content::ReceiveReady(_) => PacketType::ReceiveReady,
-            Content::ReceiveNotReady(_) => PacketType::ReceiveNotReady,
-            Content::ResetRequest { .. } => PacketType::ResetRequest,
-            Content::ResetConfirmation => PacketType::ResetConfirmation,
-            Content::RestartRequest { .. } => PacketType::RestartRequest,
-            Content::RestartConfirmation => PacketType::RestartConfirmation,
-        }
-    }
 }

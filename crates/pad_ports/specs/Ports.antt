@@ -24,8 +24,8 @@ use Rattle.pad_terminal.specs.declared.answers.InputAnswer.{InputAnswer}
 use Rattle.pad_terminal.specs.declared.answers.InputAnswer.TheVariants as input
 use Rattle.pad_terminal.specs.declared.answers.Reply.{Reply}
 use Rattle.pad_terminal.specs.declared.answers.Reply.TheVariants as reply
-use Rattle.pad_terminal.specs.declared.answers.Request.{Request}
-use Rattle.pad_terminal.specs.declared.answers.Request.TheVariants as request
+use Rattle.pad_terminal.specs.declared.answers.TerminalRequest.{TerminalRequest}
+use Rattle.pad_terminal.specs.declared.answers.TerminalRequest.TheVariants as request
 use Rattle.pad_ports.specs.Notes.{Edited}
 use Rattle.pad_ports.specs.Line as line
 use Rattle.pad_ports.specs.declared.call.CallNote.{CallNote}
@@ -82,13 +82,13 @@ places selection a = record {
   line = line.placed selection.address selection.user_data.items a.line;
 }
 
-abbrev pub does : Request → AtLine → AtLine
+abbrev pub does : TerminalRequest → AtLine → AtLine
 does (request.Call selection) a = places selection a
 does request.Clear a = on_call clears a.port.call a
 does request.Interrupt a = on_call interrupts a.port.call a
 does request.Reset a = on_call resets a.port.call a
 
-abbrev pub does_asked : Option Request → AtLine → AtLine
+abbrev pub does_asked : Option TerminalRequest → AtLine → AtLine
 does_asked None a = a
 does_asked (Some r) a = does r a
 

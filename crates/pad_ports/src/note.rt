@@ -18,9 +18,14 @@ pub const TOLD_NOTES: usize = 64;
 /// The most notes before an event ends: those that the packet layer told, and the answer to a call that came in.
 pub const EARLY_NOTES: usize = TOLD_NOTES + 1;
 
-/// The most notes of one event: the early ones, at most 32 that the packet layer tells at the end, and a few of the PAD
-/// itself.
-pub const MOST_NOTES: usize = EARLY_NOTES + 39;
+/// The most notes that the packet layer tells as an event ends: one step of the layer.
+const TOLD_AT_END: usize = 32;
+
+/// Places for notes that no event fills.
+const SPARE_NOTES: usize = 7;
+
+/// Places for the notes of one event: the early ones, those that the packet layer tells at the end, and some to spare.
+pub const MOST_NOTES: usize = EARLY_NOTES + TOLD_AT_END + SPARE_NOTES;
 
 /// What happened at a PAD, with the logical channel.
 #[derive(Drop)]

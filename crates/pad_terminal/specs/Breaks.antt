@@ -10,8 +10,8 @@ use Rattle.pad_terminal.specs.Calls.{prompted}
 use Rattle.pad_terminal.specs.declared.answers.BreakAnswer.{BreakAnswer}
 use Rattle.pad_terminal.specs.declared.answers.BreakAnswer.TheVariants.{Dropped, Taken}
 use Rattle.pad_terminal.specs.declared.answers.CallCondition.{CallCondition}
-use Rattle.pad_terminal.specs.declared.answers.Request.{Request}
-use Rattle.pad_terminal.specs.declared.answers.Request.TheVariants as request
+use Rattle.pad_terminal.specs.declared.answers.TerminalRequest.{TerminalRequest}
+use Rattle.pad_terminal.specs.declared.answers.TerminalRequest.TheVariants as request
 use Rattle.pad_terminal.specs.declared.mode.Mode.TheVariants.{CommandState}
 
 -- an indication of break goes out: where the break resets the call too it would be lost
@@ -19,7 +19,7 @@ abbrev pub indicates : List ℕ → Bool
 indicates params = acts_on_break params action.Indication && not (acts_on_break params action.Reset)
 
 -- an interrupt or a reset, where it may be sent; of the two the reset
-abbrev pub request_of : List ℕ → CallCondition → Option Request
+abbrev pub request_of : List ℕ → CallCondition → Option TerminalRequest
 request_of params call =
     if acts_on_break params action.Reset
     then (if call.reset_pending then None else Some request.Reset)

@@ -16,8 +16,8 @@ use Rattle.pad_terminal.specs.Settings.{Change, after_pairs, refused, readings, 
 use Rattle.pad_terminal.specs.Terminal.{TerminalState, has_call, is_connected}
 use Rattle.pad_terminal.specs.Calls.{signalled, ended}
 use Rattle.pad_terminal.specs.declared.answers.CallCondition.{CallCondition}
-use Rattle.pad_terminal.specs.declared.answers.Request.{Request}
-use Rattle.pad_terminal.specs.declared.answers.Request.TheVariants as request
+use Rattle.pad_terminal.specs.declared.answers.TerminalRequest.{TerminalRequest}
+use Rattle.pad_terminal.specs.declared.answers.TerminalRequest.TheVariants as request
 use Rattle.pad_terminal.specs.declared.mode.Mode.{Mode}
 use Rattle.pad_terminal.specs.declared.mode.Mode.TheVariants.{Free, CallSetUp, DataTransfer, CommandState}
 use Rattle.pad_terminal.specs.declared.settings.Setting.{Setting}
@@ -31,7 +31,7 @@ pub record CommandEffect : Type 0 where
 abbrev pub answered : Signal → TerminalState → CommandEffect
 answered s t = record { terminal = t; outcome = record { answer = Some s; request = None } }
 
-abbrev pub unanswered : Option Request → TerminalState → CommandEffect
+abbrev pub unanswered : Option TerminalRequest → TerminalState → CommandEffect
 unanswered r t = record { terminal = t; outcome = record { answer = None; request = r } }
 
 abbrev pub in_error : TerminalState → CommandEffect
@@ -71,7 +71,7 @@ abbrev pub may_interrupt : CallCondition → TerminalState → Bool
 may_interrupt call t = is_connected t.mode && call.may_interrupt
 
 -- a request, where it may be made
-abbrev pub asked : Bool → Request → Outcome
+abbrev pub asked : Bool → TerminalRequest → Outcome
 asked may r =
     if may then record { answer = Some signal.Acknowledgement; request = Some r }
     else record { answer = Some signal.Error; request = None }
@@ -132,5 +132,5 @@ after_line line call t =
     let effect = effect_of_line (command_of line) call t in
     completed effect.outcome.answer effect.terminal
 
-unfoldable pub request_of_line : List ℕ → CallCondition → TerminalState → Option Request
+unfoldable pub request_of_line : List ℕ → CallCondition → TerminalState → Option TerminalRequest
 request_of_line line call t = (effect_of_line (command_of line) call t).outcome.request

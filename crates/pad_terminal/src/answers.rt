@@ -17,7 +17,7 @@ pub struct CallCondition {
 
 /// What a terminal asks of its PAD.
 #[derive(Drop)]
-pub enum Request {
+pub enum TerminalRequest {
     /// A call to the selected address. The terminal is then setting up the call: if it cannot be placed the PAD says so
     /// by `on_cleared`.
     Call(Selection),
@@ -37,7 +37,7 @@ pub enum InputAnswer {
     /// The editor took the input, with the parameters in force. A block that it ended is to be sent in one Data packet.
     Edited(Option<Block>),
     /// The terminal took the input otherwise, and may ask something of the PAD.
-    Taken(Option<Request>),
+    Taken(Option<TerminalRequest>),
 }
 
 /// What became of a break.
@@ -53,7 +53,7 @@ pub enum BreakAnswer {
 #[derive(Drop)]
 pub struct BreakRequests {
     /// An interrupt or a reset.
-    pub request: Option<Request>,
+    pub request: Option<TerminalRequest>,
     /// The indication of break, to be sent in one qualified Data packet.
     pub indication: Option<Message>,
 }

@@ -27,12 +27,13 @@ pub(crate) struct LineKey {
 
 impl Model for CommandLine {
     ghost use Rattle.std.specs.Prelude.{ℕ, List, ◌≤◌, length};
+    ghost use Rattle.pad_terminal.specs.declared.command_line.TheConstants.{HELD_LIMIT};
 
     ghost Value = { List ℕ };
 
     ghost view = { λ l. l.octets.items };
 
-    ghost invariant = { λ l. length l.octets.items ≤ 65 };
+    ghost invariant = { λ l. length l.octets.items ≤ HELD_LIMIT };
 }
 
 impl CommandLine {
@@ -68,7 +69,7 @@ impl CommandLine {
     }
 
     /// Takes a key: a carriage return or a plus sign ends the line, the characters of parameters 16 to 18 edit it, and
-    /// any other is added while fewer than 65 octets are held.
+    /// any other is added while fewer than [`HELD_LIMIT`] octets are held.
     pub(crate) fn key(&mut self, octet: u8, params: &Params) -> LineKey
         ensures line { self.new ≡ (after_key params.now octet self.old).line }
         ensures echo { result.echo ≡ (after_key params.now octet self.old).echo }

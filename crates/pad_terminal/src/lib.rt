@@ -12,7 +12,7 @@ mod output;
 mod settings;
 mod terminal;
 
-pub use answers::{BreakAnswer, BreakRequests, CallCondition, InputAnswer, Reply, Request};
+pub use answers::{BreakAnswer, BreakRequests, CallCondition, InputAnswer, Reply, TerminalRequest};
 pub use mode::Mode;
 pub use output::TEXT_LIMIT;
 pub use terminal::Terminal;

@@ -32,7 +32,7 @@ impl Mode {
     }
 
     /// Whether keys are edited and sent.
-    pub fn is_data_transfer(self) -> bool
+    pub(crate) fn is_data_transfer(self) -> bool
         ensures { result ≡ is_data_transfer self }
     {
         matches!(self, Mode::DataTransfer)

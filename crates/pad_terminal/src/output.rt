@@ -12,13 +12,10 @@ use pad_editing::{Display, OCTET_LIMIT};
 use std::alloc::{AllocError, Global};
 use std::marker::Model;
 use x3_params::Params;
-use x28_commands::{Signal, write_signal};
+use x28_commands::{SIGNAL_LIMIT, Signal, write_signal};
 
 /// How many octets of text may wait to be shown at a terminal.
 pub const TEXT_LIMIT: usize = 1024;
-
-/// The longest service signal.
-const SIGNAL_LIMIT: usize = 160;
 
 /// The text that waits to be shown at a terminal, of which the oldest octets give way, and the column that the terminal
 /// is at after it.

@@ -53,9 +53,9 @@ inserted sets x p new within line channel adds = by_line (cases_eq p.line x.line
         ∙ sym (ap (λ (b : Bool). at sets p || (is_small x && (b && (p.channel == x.channel)))) (ne_eqb p.line x.line apart) ∙ or_and_no (at sets p) (is_small x))
 
 -- a channel is neither this one nor the one that it is joined to
-abbrev pub IsApart : (p place : SwitchChannel) → (other : Option SwitchChannel) → Type 0
-IsApart p place None = Unit {0}
-IsApart p place (Some other) = (is_small place ≡ true → p ≢ place) × (is_small other ≡ true → p ≢ other)
+abbrev pub IsApart : (p leg : SwitchChannel) → (other : Option SwitchChannel) → Type 0
+IsApart p leg None = Unit {0}
+IsApart p leg (Some other) = (is_small leg ≡ true → p ≢ leg) × (is_small other ≡ true → p ≢ other)
 
 -- a channel that is not in a set after a join was added
 pub not_of_join : (s t : ChannelSet) (x : SwitchChannel) (other : Option SwitchChannel) → ((q : SwitchChannel) → has t q ≡ (has s q || is_of_join q x other))

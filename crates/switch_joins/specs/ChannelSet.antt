@@ -19,6 +19,6 @@ abbrev pub is_small : SwitchChannel → Bool
 is_small p = nat_lt p.line 64 && nat_lt p.channel 63
 
 -- what a join adds: both of its channels, each if it can be in a set
-abbrev pub is_of_join : (p place : SwitchChannel) → (other : Option SwitchChannel) → Bool
-is_of_join p place None = false
-is_of_join p place (Some other) = is_small place && same_place p place || is_small other && same_place p other
+abbrev pub is_of_join : (p leg : SwitchChannel) → (other : Option SwitchChannel) → Bool
+is_of_join p leg None = false
+is_of_join p leg (Some other) = is_small leg && same_place p leg || is_small other && same_place p other

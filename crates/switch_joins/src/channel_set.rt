@@ -26,41 +26,41 @@ impl ChannelSet {
     }
 
     /// Adds a channel, if its line and its number are below their limits.
-    pub fn insert(&mut self, place: SwitchChannel)
-        ensures { (p : SwitchChannel) → has self.new p ≡ (has self.old p || (is_small place && same_place p place)) }
+    pub fn insert(&mut self, leg: SwitchChannel)
+        ensures { (p : SwitchChannel) → has self.new p ≡ (has self.old p || (is_small leg && same_place p leg)) }
     {
-        if place.line < MOST_LINES && place.channel < END_OF_CHANNELS {
-            self.by_line[place.line].insert(usize::from(place.channel));
+        if leg.line < MOST_LINES && leg.channel < END_OF_CHANNELS {
+            self.by_line[leg.line].insert(usize::from(leg.channel));
         }
     }
 
     /// Adds a channel, if this is so.
-    pub fn insert_if(&mut self, place: SwitchChannel, is_so: bool)
+    pub fn insert_if(&mut self, leg: SwitchChannel, is_so: bool)
         ensures { (p : SwitchChannel) → has self.new p
-            ≡ (has self.old p || (is_so && (is_small place && same_place p place))) }
+            ≡ (has self.old p || (is_so && (is_small leg && same_place p leg))) }
     {
         if is_so {
-            self.insert(place);
+            self.insert(leg);
         }
     }
 
     /// Adds a joined channel and the one that it is joined to.
-    pub fn insert_join(&mut self, place: SwitchChannel, other: Option<SwitchChannel>)
-        ensures { (p : SwitchChannel) → has self.new p ≡ (has self.old p || is_of_join p place other) }
+    pub fn insert_join(&mut self, leg: SwitchChannel, other: Option<SwitchChannel>)
+        ensures { (p : SwitchChannel) → has self.new p ≡ (has self.old p || is_of_join p leg other) }
     {
         if let Some(other) = other {
-            self.insert(place);
+            self.insert(leg);
             self.insert(other);
         }
     }
 
     /// Takes a channel out, if it is there.
-    pub fn remove(&mut self, place: SwitchChannel)
+    pub fn remove(&mut self, leg: SwitchChannel)
         ensures { (p : SwitchChannel) → has self.new p
-            ≡ (has self.old p && not (is_small place && same_place p place)) }
+            ≡ (has self.old p && not (is_small leg && same_place p leg)) }
     {
-        if place.line < MOST_LINES && place.channel < END_OF_CHANNELS {
-            self.by_line[place.line].remove(usize::from(place.channel));
+        if leg.line < MOST_LINES && leg.channel < END_OF_CHANNELS {
+            self.by_line[leg.line].remove(usize::from(leg.channel));
         }
     }
 

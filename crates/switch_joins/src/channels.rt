@@ -1,4 +1,4 @@
-//! Channels by place.
+//! Channels of a switch's lines.
 
 /// The most lines of a switch.
 pub const MOST_LINES: usize = 64;

@@ -12,8 +12,8 @@ ghost use Rattle.switch_laws.specs.TrunkRun.{TrunkRunLaw};
 /// One direction of a join, over the definitions of the layer and of the switch alone. What the switch sends on the far
 /// leg, with what it gathers after that, is what it takes on the near leg, item by item, and packet by packet between
 /// lines of one size. A packet with D = 1 is released only when the far leg's P(R) covers all that it made due. What
-/// ends a sequence of packets leaves nothing gathered. After 33 moves nothing waits on the near leg that the far leg
-/// takes (X.25 4.3.3, 4.3.4).
+/// ends a sequence of packets leaves nothing gathered. After as many moves as a leg can have waiting (`most_moves`)
+/// nothing waits on the near leg that the far leg takes (X.25 4.3.3, 4.3.4).
 pub fn relay_law()
     ensures { RelayLaw }
 {}

@@ -99,10 +99,10 @@ fn octets_for(lines: &[SwitchLineConfig]) -> u16
 }
 
 // The channel that a channel is joined to, if it is.
-fn other_of(lines: &[SwitchLine], place: SwitchChannel) -> Option<SwitchChannel>
-    ensures { result ≡ other_at (plain lines.now) place }
+fn other_of(lines: &[SwitchLine], leg: SwitchChannel) -> Option<SwitchChannel>
+    ensures { result ≡ other_at (plain lines.now) leg }
 {
-    lines.get(place.line)?.other(place.channel)
+    lines.get(leg.line)?.other(leg.channel)
 }
 
 // The channel that a join leads to, if there is one.
@@ -218,10 +218,10 @@ impl Lines {
     }
 
     /// The channel that a channel is joined to, if it is.
-    pub fn other(&self, place: SwitchChannel) -> Option<SwitchChannel>
-        ensures { result ≡ other_at self.now place }
+    pub fn other(&self, leg: SwitchChannel) -> Option<SwitchChannel>
+        ensures { result ≡ other_at self.now leg }
     {
-        other_of(&self.lines, place)
+        other_of(&self.lines, leg)
     }
 
     // Whether a line is there and is a trunk.
@@ -232,67 +232,64 @@ impl Lines {
     }
 
     // Joins a channel, or ends its join. What is gathered from there is dropped.
-    fn set_joined(&mut self, place: SwitchChannel, joined: Option<Joined>)
-        ensures { self.new ≡ with_joined place (option_map begun joined) self.old }
+    fn set_joined(&mut self, leg: SwitchChannel, joined: Option<Joined>)
+        ensures { self.new ≡ with_joined leg (option_map begun joined) self.old }
     {
-        if place.line < self.lines.len() {
-            self.to_relay
-                .insert_join(place, other_of(&self.lines, place));
-            self.to_relay.insert_join(place, joined_to(&joined));
-            self.lines[place.line].set_joined(place.channel, joined, &mut self.pool);
+        if leg.line < self.lines.len() {
+            self.to_relay.insert_join(leg, other_of(&self.lines, leg));
+            self.to_relay.insert_join(leg, joined_to(&joined));
+            self.lines[leg.line].set_joined(leg.channel, joined, &mut self.pool);
         }
     }
 
     // Asks something of a call. What is refused changes nothing.
-    fn ask(&mut self, place: SwitchChannel, request: &Request<'_>)
-        ensures { self.new ≡ ask place (request_of request.now) self.old }
+    fn ask(&mut self, leg: SwitchChannel, request: &Request<'_>)
+        ensures { self.new ≡ ask leg (request_of request.now) self.old }
     {
-        if place.line < self.lines.len() {
-            self.touched.insert(place.line);
-            self.to_relay
-                .insert_join(place, other_of(&self.lines, place));
-            self.lines[place.line].ask(place.channel, request, &mut self.pool);
+        if leg.line < self.lines.len() {
+            self.touched.insert(leg.line);
+            self.to_relay.insert_join(leg, other_of(&self.lines, leg));
+            self.lines[leg.line].ask(leg.channel, request, &mut self.pool);
         }
     }
 
     // What `take` would give.
-    fn front(&self, place: SwitchChannel) -> Option<Front>
-        ensures { result ≡ maybe_front (front_at self.now place) }
+    fn front(&self, leg: SwitchChannel) -> Option<Front>
+        ensures { result ≡ maybe_front (front_at self.now leg) }
     {
-        if place.line < self.lines.len() {
-            self.lines[place.line].front(place.channel, &self.pool)
+        if leg.line < self.lines.len() {
+            self.lines[leg.line].front(leg.channel, &self.pool)
         } else {
             None
         }
     }
 
     // Restarts the direction from a joined channel. What is gathered from there is dropped.
-    fn renew(&mut self, place: SwitchChannel)
-        ensures { self.new ≡ kept_at place (λ v. new_direction) self.old }
+    fn renew(&mut self, leg: SwitchChannel)
+        ensures { self.new ≡ kept_at leg (λ v. new_direction) self.old }
     {
-        if place.line < self.lines.len() {
-            self.to_relay
-                .insert_join(place, other_of(&self.lines, place));
-            self.lines[place.line].renew(place.channel, &mut self.pool);
+        if leg.line < self.lines.len() {
+            self.to_relay.insert_join(leg, other_of(&self.lines, leg));
+            self.lines[leg.line].renew(leg.channel, &mut self.pool);
         }
     }
 
     // P(R) covers so many packets more of the channel that a channel is joined to.
-    fn cover(&mut self, place: SwitchChannel, count: u8)
-        ensures { self.new ≡ kept_at place (covered_by count) self.old }
+    fn cover(&mut self, leg: SwitchChannel, count: u8)
+        ensures { self.new ≡ kept_at leg (covered_by count) self.old }
     {
-        if place.line < self.lines.len() {
-            self.lines[place.line].cover(place.channel, count);
+        if leg.line < self.lines.len() {
+            self.lines[leg.line].cover(leg.channel, count);
         }
     }
 
     // Releases what may be released of the packets taken on a joined channel.
-    fn release(&mut self, place: SwitchChannel)
-        ensures { self.new ≡ freed_at place self.old }
+    fn release(&mut self, leg: SwitchChannel)
+        ensures { self.new ≡ freed_at leg self.old }
     {
-        if place.line < self.lines.len() {
-            self.touched.insert(place.line);
-            self.lines[place.line].release(place.channel, &mut self.pool);
+        if leg.line < self.lines.len() {
+            self.touched.insert(leg.line);
+            self.lines[leg.line].release(leg.channel, &mut self.pool);
         }
     }
 }

@@ -59,7 +59,7 @@ fn cut(text: &[u8]) -> (&[u8], Option<&[u8]>)
     }
 }
 
-/// The place of the first line feed.
+/// The index of the first line feed.
 fn first_line_feed(text: &[u8]) -> Option<usize>
     ensures { result ≡ line_feed text.now }
 {

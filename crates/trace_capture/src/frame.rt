@@ -62,7 +62,7 @@ fn number_end(line: &[u8]) -> usize
     first_no_digit(line).unwrap_or(line.len())
 }
 
-/// The place of the first octet that is no digit.
+/// The index of the first octet that is no digit.
 fn first_no_digit(line: &[u8]) -> Option<usize>
     ensures { result ≡ position (λ octet. not (is_ascii_digit octet)) line.now }
 {

@@ -21,8 +21,8 @@ use Rattle.pad_terminal.specs.declared.answers.InputAnswer.{InputAnswer}
 use Rattle.pad_terminal.specs.declared.answers.InputAnswer.TheVariants as input
 use Rattle.pad_terminal.specs.declared.answers.Reply.{Reply}
 use Rattle.pad_terminal.specs.declared.answers.Reply.TheVariants as reply
-use Rattle.pad_terminal.specs.declared.answers.Request.{Request}
-use Rattle.pad_terminal.specs.declared.answers.Request.TheVariants as request
+use Rattle.pad_terminal.specs.declared.answers.TerminalRequest.{TerminalRequest}
+use Rattle.pad_terminal.specs.declared.answers.TerminalRequest.TheVariants as request
 use Rattle.pad_ports.specs.Line as line
 use Rattle.pad_ports.specs.Ports as port
 use Rattle.pad_ports.specs.Ports.{PortState, AtLine}
@@ -54,7 +54,7 @@ on_call_same : (act : ℕ → AtLine → AtLine) (o : Option ℕ) (a : AtLine) �
 on_call_same act None a h = refl
 on_call_same act (Some call) a h = h call
 
-does_same : (o : Option Request) (a : AtLine) → SameAt a (port.does_asked o a)
+does_same : (o : Option TerminalRequest) (a : AtLine) → SameAt a (port.does_asked o a)
 does_same None a = refl
 does_same (Some (request.Call s)) a = refl
 does_same (Some request.Clear) a = on_call_same port.clears a.port.call a (λ call. refl)

@@ -226,9 +226,9 @@ impl Switch {
     }
 
     /// The channel to which the call on a channel is joined, if there is a call.
-    pub fn joins(&self, place: SwitchChannel) -> Option<SwitchChannel>
-        ensures { result ≡ option_map (λ j. j.other) (joined_at self.now.lines place) }
+    pub fn joins(&self, leg: SwitchChannel) -> Option<SwitchChannel>
+        ensures { result ≡ option_map (λ j. j.other) (joined_at self.now.lines leg) }
     {
-        self.lines.other(place)
+        self.lines.other(leg)
     }
 }

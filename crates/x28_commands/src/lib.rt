@@ -16,4 +16,4 @@ pub use fault::CommandFault;
 pub use reading::{LINE_LIMIT, read_command, read_pairs};
 pub use selection::hides_echo;
 pub use signal::{ParameterValue, Signal};
-pub use writing::write_signal;
+pub use writing::{SIGNAL_LIMIT, write_signal};

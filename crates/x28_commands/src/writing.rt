@@ -8,13 +8,17 @@ ghost use Rattle.x28_commands.specs.Signals as spec;
 use crate::signal::{ParameterValue, Signal};
 use arrayvec::ArrayVec;
 
+/// Room for any service signal. It has at most 157 octets: two new lines have 4, the word at most 9, and each of 18
+/// parameters at most 8 with its comma.
+pub const SIGNAL_LIMIT: usize = 160;
+
 /// Writes a service signal as the terminal gets it, between two new lines; the prompt has one before it, and an
 /// acknowledgement is one (X.28 3.5).
 #[tactic(auto, unfolding(crate::specs::Signals::signal_text))]
 pub fn write_signal<const N: usize>(signal: &Signal, out: &mut ArrayVec<u8, N>)
-    requires { array_vec_len out.old + 160 ≤ N }
+    requires { array_vec_len out.old + SIGNAL_LIMIT ≤ N }
     ensures text { out.new.items ≡ out.old.items ++ spec.signal_text signal.now }
-    ensures room { array_vec_len out.new ≤ array_vec_len out.old + 160 }
+    ensures room { array_vec_len out.new ≤ array_vec_len out.old + SIGNAL_LIMIT }
 {
     match signal {
         Signal::Acknowledgement => append(b"\r\n", out),

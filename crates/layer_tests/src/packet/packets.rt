@@ -2,7 +2,7 @@
 
 use packet_codec::{
     Address, AddressFault, CallBuf, CallData, Content, Numbering, PacketBuf, PacketFault,
-    PacketType, logical_channel, read_packet, write_packet,
+    logical_channel, read_packet, write_packet,
 };
 
 // How the third octet and those behind it number packets: bits 6 and 5 of the first octet say it.
@@ -198,8 +198,7 @@ fn addresses_have_digits(rt: HostRuntime) {
 // Whether octets are RR on channel 1.
 fn is_ready(octets: &[u8]) -> bool {
     match read_packet(octets, Numbering::Modulo8, 128) {
-        Ok(packet) => packet.content.packet_type() == PacketType::ReceiveReady
-            && packet.channel == 1,
+        Ok(packet) => matches!(packet.content, Content::ReceiveReady(_)) && packet.channel == 1,
         Err(_) => false,
     }
 }

@@ -37,8 +37,8 @@ use Rattle.pad_terminal.specs.declared.answers.InputAnswer.{InputAnswer}
 use Rattle.pad_terminal.specs.declared.answers.InputAnswer.TheVariants as input
 use Rattle.pad_terminal.specs.declared.answers.Reply.{Reply}
 use Rattle.pad_terminal.specs.declared.answers.Reply.TheVariants as reply
-use Rattle.pad_terminal.specs.declared.answers.Request.{Request}
-use Rattle.pad_terminal.specs.declared.answers.Request.TheVariants as request
+use Rattle.pad_terminal.specs.declared.answers.TerminalRequest.{TerminalRequest}
+use Rattle.pad_terminal.specs.declared.answers.TerminalRequest.TheVariants as request
 use Rattle.pad_ports.specs.Line as line
 use Rattle.pad_ports.specs.Line.{last_incoming, all_learnt, learnt_of}
 use Rattle.pad_ports.specs.Ports as port
@@ -64,13 +64,13 @@ module _ (left : Option ℕ) (times : LayerTimers) (t1 : Option ℕ) where
   placed_stays None refusal p = refl
   placed_stays (Some channel) refusal p = refl
 
-  does_stays : (r : Request) (a : AtLine) → Stays a → Stays (port.does r a)
+  does_stays : (r : TerminalRequest) (a : AtLine) → Stays a → Stays (port.does r a)
   does_stays (request.Call s) a h = (placed_stays (channel_given a.line.end.layer a.line.end.layer.phase) (call_refusal a.line.end.layer a.line.end.layer.phase) a.port ∙ h.0, h.1, h.2)
   does_stays request.Clear a h = on_call_stays port.clears a.port.call a (λ call. h) h
   does_stays request.Interrupt a h = on_call_stays port.interrupts a.port.call a (λ call. h) h
   does_stays request.Reset a h = on_call_stays port.resets a.port.call a (λ call. h) h
 
-  asked_stays : (o : Option Request) (a : AtLine) → Stays a → Stays (port.does_asked o a)
+  asked_stays : (o : Option TerminalRequest) (a : AtLine) → Stays a → Stays (port.does_asked o a)
   asked_stays None a h = h
   asked_stays (Some r) a h = does_stays r a h
 

@@ -36,8 +36,8 @@ use Rattle.pad_terminal.specs.declared.answers.InputAnswer.{InputAnswer}
 use Rattle.pad_terminal.specs.declared.answers.InputAnswer.TheVariants as input
 use Rattle.pad_terminal.specs.declared.answers.Reply.{Reply}
 use Rattle.pad_terminal.specs.declared.answers.Reply.TheVariants as reply
-use Rattle.pad_terminal.specs.declared.answers.Request.{Request}
-use Rattle.pad_terminal.specs.declared.answers.Request.TheVariants as request
+use Rattle.pad_terminal.specs.declared.answers.TerminalRequest.{TerminalRequest}
+use Rattle.pad_terminal.specs.declared.answers.TerminalRequest.TheVariants as request
 use Rattle.line_nodes.specs.PadWriting.{without_notes}
 use Rattle.pad_ports.specs.Notes as notes
 use Rattle.pad_ports.specs.Notes.{ChannelNote, unless_refused}
@@ -146,7 +146,7 @@ module _ (role : Role) where
   placed_split ns None address h = mute_splits ns [] h tt
   placed_split ns (Some channel) address h = mute_splits ns (notes.Placed channel address ∷ []) h (tt, tt)
 
-  does_split : (o : Option Request) (a : AtLine) → PlainAt a → SplitsAt (port.does_asked o a)
+  does_split : (o : Option TerminalRequest) (a : AtLine) → PlainAt a → SplitsAt (port.does_asked o a)
   does_split None a h = plain_splits a.line.notes h
   does_split (Some (request.Call s)) a h = placed_split a.line.notes (channel_given a.line.end.layer a.line.end.layer.phase) s.address h
   does_split (Some request.Clear) a h = clears_split a.port.call a h
@@ -177,7 +177,7 @@ module _ (role : Role) where
       (record a { port = record a.port { terminal = (port.key_input octet a).terminal; idle_left = None } }) (nothing_plain a.line.notes e)
 
   -- a break asks for no other request
-  abbrev PlainRequest : Option Request → Type 0
+  abbrev PlainRequest : Option TerminalRequest → Type 0
   PlainRequest None = Unit {0}
   PlainRequest (Some request.Interrupt) = Unit {0}
   PlainRequest (Some request.Reset) = Unit {0}
@@ -191,7 +191,7 @@ module _ (role : Role) where
   either P true x y f g = f
   either P false x y f g = g
 
-  does_plain : (o : Option Request) → PlainRequest o → (a : AtLine) → PlainAt a → PlainAt (port.does_asked o a)
+  does_plain : (o : Option TerminalRequest) → PlainRequest o → (a : AtLine) → PlainAt a → PlainAt (port.does_asked o a)
   does_plain None p a h = h
   does_plain (Some (request.Call s)) p a h = absurd p
   does_plain (Some request.Clear) p a h = absurd p

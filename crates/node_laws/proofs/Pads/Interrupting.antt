@@ -31,8 +31,8 @@ use Rattle.pad_terminal.specs.declared.answers.InputAnswer.{InputAnswer}
 use Rattle.pad_terminal.specs.declared.answers.InputAnswer.TheVariants as input
 use Rattle.pad_terminal.specs.declared.answers.Reply.{Reply}
 use Rattle.pad_terminal.specs.declared.answers.Reply.TheVariants as reply
-use Rattle.pad_terminal.specs.declared.answers.Request.{Request}
-use Rattle.pad_terminal.specs.declared.answers.Request.TheVariants as request
+use Rattle.pad_terminal.specs.declared.answers.TerminalRequest.{TerminalRequest}
+use Rattle.pad_terminal.specs.declared.answers.TerminalRequest.TheVariants as request
 use Rattle.pad_ports.specs.Notes as notes
 use Rattle.pad_ports.specs.Notes.{ChannelNote, unless_refused}
 use Rattle.pad_ports.specs.Line as line
@@ -58,11 +58,11 @@ interrupts_kind test = record {
 }
 
 -- something else is asked for
-abbrev IsOther : Option Request → Type 0
+abbrev IsOther : Option TerminalRequest → Type 0
 IsOther (Some request.Interrupt) = ⊥
 IsOther _ = Unit {0}
 
-other_says : (f : ChannelNote → Octets) → IsKind f → (o : Option Request) → IsOther o → (a : AtLine) → all_in f (port.does_asked o a).line.notes ≡ all_in f a.line.notes
+other_says : (f : ChannelNote → Octets) → IsKind f → (o : Option TerminalRequest) → IsOther o → (a : AtLine) → all_in f (port.does_asked o a).line.notes ≡ all_in f a.line.notes
 other_says f kind None other a = refl
 other_says f kind (Some (request.Call s)) other a = placed_says f kind a.line.notes (channel_given a.line.end.layer a.line.end.layer.phase) s.address
 other_says f kind (Some request.Clear) other a = clears_says f kind a.port.call a
@@ -188,7 +188,7 @@ line_goes test line t x nothing = by (command_of line)
     by : (r : Result Command CommandFault) → all_in (interrupt_in test) (port.does_asked (effect_of_line r (condition x.port.call x.line) t).outcome.request x).line.notes
         ≡ all_interrupts (if meets test x.port.call then (if asks_for_interrupt r && is_connected t.mode && not (is_pending x.port.call x.line) then HadCommand ∷ [] else []) else [])
     by (Ok command.Interrupt) =
-        ap (λ (o : Option Request). all_in (interrupt_in test) (port.does_asked o x).line.notes)
+        ap (λ (o : Option TerminalRequest). all_in (interrupt_in test) (port.does_asked o x).line.notes)
         (asked_request (commands.may_interrupt (condition x.port.call x.line) t))
         ∙ command_goes test x (is_connected t.mode) (condition x.port.call x.line).may_interrupt (may_is x.port.call x.line) nothing
     by (Ok command.Empty) = unasked_by command.Empty tt (meets test x.port.call)
@@ -308,7 +308,7 @@ break_request test x params nothing =
     request_goes test x nothing (acts_on_break params action.Reset) (acts_on_break params action.Interrupt) (condition_of x).reset_pending (condition_of x).may_interrupt (may_is x.port.call x.line)
     ∙ break_occasion (meets test x.port.call) params (is_pending x.port.call x.line)
 
-break_goes : (test : ℕ → Bool) (connected asks full : Bool) (r : Option Request) (m : Message) (os : List Occasion) (x : AtLine) → x.line.notes ≡ []
+break_goes : (test : ℕ → Bool) (connected asks full : Bool) (r : Option TerminalRequest) (m : Message) (os : List Occasion) (x : AtLine) → x.line.notes ≡ []
     → all_in (interrupt_in test) (port.does_asked r x).line.notes ≡ all_interrupts (if meets test x.port.call then os else [])
     → all_in (interrupt_in test) (port.answers_break (break_answer_by connected asks full r m) x).line.notes
     ≡ all_interrupts (if meets test x.port.call then (if connected && port.is_break_taken (break_answer_by connected asks full r m) then os else []) else [])

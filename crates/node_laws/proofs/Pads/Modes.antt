@@ -30,8 +30,8 @@ use Rattle.pad_terminal.specs.declared.answers.InputAnswer.{InputAnswer}
 use Rattle.pad_terminal.specs.declared.answers.InputAnswer.TheVariants as input
 use Rattle.pad_terminal.specs.declared.answers.Reply.{Reply}
 use Rattle.pad_terminal.specs.declared.answers.Reply.TheVariants as reply
-use Rattle.pad_terminal.specs.declared.answers.Request.{Request}
-use Rattle.pad_terminal.specs.declared.answers.Request.TheVariants as request
+use Rattle.pad_terminal.specs.declared.answers.TerminalRequest.{TerminalRequest}
+use Rattle.pad_terminal.specs.declared.answers.TerminalRequest.TheVariants as request
 use Rattle.pad_terminal.specs.declared.mode.Mode.{Mode}
 use Rattle.pad_terminal.specs.declared.mode.Mode.TheVariants.{Free, CallSetUp, DataTransfer, CommandState}
 use Rattle.node_laws.specs.Pads.Sending.{IsOfPad}
@@ -50,7 +50,7 @@ pub same_twice : (t u w : TerminalState) → Same t u → Same u w → Same t w
 same_twice t u w f g = (g.0 ∙ f.0, g.1 ∙ f.1)
 
 -- what is asked goes with the terminal
-abbrev pub Follows : Option Request → TerminalState → TerminalState → Type 0
+abbrev pub Follows : Option TerminalRequest → TerminalState → TerminalState → Type 0
 Follows None t u = Same t u
 Follows (Some (request.Call s)) t u = (has_call t.mode ≡ false) × (u.held ≡ t.held) × (has_call u.mode ≡ true)
 Follows (Some request.Clear) t u = (u.held ≡ []) × (has_call u.mode ≡ false)
@@ -87,7 +87,7 @@ EffectFollows t e = Follows e.outcome.request t (completed e.outcome.answer e.te
 none_asked : (t : TerminalState) (answer : Option Signal) (u : TerminalState) → Same t u → EffectFollows t (record { terminal = u; outcome = record { answer = answer; request = None } })
 none_asked t answer u h = same_twice t u (completed answer u) h (completed_same answer u)
 
-asked_follows : (t : TerminalState) (r : Request) → Follows (Some r) t (completed (Some signal.Acknowledgement) t) → (may : Bool) → EffectFollows t (record { terminal = t; outcome = commands.asked may r })
+asked_follows : (t : TerminalState) (r : TerminalRequest) → Follows (Some r) t (completed (Some signal.Acknowledgement) t) → (may : Bool) → EffectFollows t (record { terminal = t; outcome = commands.asked may r })
 asked_follows t r h true = h
 asked_follows t r h false = none_asked t (Some signal.Error) t (refl, refl)
 
@@ -126,7 +126,7 @@ line_follows line call t = by (command_of line)
     by (Ok c) = effect_follows c call t
     by (Err fault) = none_asked t (Some signal.Error) t (refl, refl)
 
-follows_from : (o : Option Request) (t t' u : TerminalState) → Same t t' → Follows o t' u → Follows o t u
+follows_from : (o : Option TerminalRequest) (t t' u : TerminalState) → Same t t' → Follows o t' u → Follows o t u
 follows_from None t t' u s h = same_twice t t' u s h
 follows_from (Some (request.Call x)) t t' u s h = (sym s.1 ∙ h.0, h.1 ∙ s.0, h.2)
 follows_from (Some request.Clear) t t' u s h = h

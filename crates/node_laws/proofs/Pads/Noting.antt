@@ -20,8 +20,8 @@ use Rattle.pad_terminal.specs.declared.answers.InputAnswer.{InputAnswer}
 use Rattle.pad_terminal.specs.declared.answers.InputAnswer.TheVariants as input
 use Rattle.pad_terminal.specs.declared.answers.Reply.{Reply}
 use Rattle.pad_terminal.specs.declared.answers.Reply.TheVariants as reply
-use Rattle.pad_terminal.specs.declared.answers.Request.{Request}
-use Rattle.pad_terminal.specs.declared.answers.Request.TheVariants as request
+use Rattle.pad_terminal.specs.declared.answers.TerminalRequest.{TerminalRequest}
+use Rattle.pad_terminal.specs.declared.answers.TerminalRequest.TheVariants as request
 use Rattle.pad_ports.specs.Line as line
 use Rattle.pad_ports.specs.Notes as notes
 use Rattle.pad_ports.specs.Notes.{ChannelNote}
@@ -81,7 +81,7 @@ module _ (before : Option ℕ) where
       nothing P (n ∷ ns) k = (k.0, nothing P ns k.1)
 
   -- what the terminal asks of the call that it has
-  does_of : (r : Option Request) (a : AtLine) → a.port.call ≡ before → OfOne a → OfCall (port.does_asked r a)
+  does_of : (r : Option TerminalRequest) (a : AtLine) → a.port.call ≡ before → OfOne a → OfCall (port.does_asked r a)
   does_of None a e h = any_after a.port.call a.line.notes h
   does_of (Some (request.Call s)) a e h =
       placed_of (channel_given a.line.end.layer a.line.end.layer.phase) (call_refusal a.line.end.layer a.line.end.layer.phase) s a h

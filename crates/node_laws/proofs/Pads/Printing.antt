@@ -24,8 +24,8 @@ use Rattle.pad_terminal.specs.declared.answers.BreakAnswer.{BreakAnswer}
 use Rattle.pad_terminal.specs.declared.answers.BreakAnswer.TheVariants as break_answer
 use Rattle.pad_terminal.specs.declared.answers.Reply.{Reply}
 use Rattle.pad_terminal.specs.declared.answers.Reply.TheVariants as reply
-use Rattle.pad_terminal.specs.declared.answers.Request.{Request}
-use Rattle.pad_terminal.specs.declared.answers.Request.TheVariants as request
+use Rattle.pad_terminal.specs.declared.answers.TerminalRequest.{TerminalRequest}
+use Rattle.pad_terminal.specs.declared.answers.TerminalRequest.TheVariants as request
 use Rattle.pad_ports.specs.Notes as notes
 use Rattle.pad_ports.specs.Line as line
 use Rattle.pad_ports.specs.Ports as port
@@ -47,7 +47,7 @@ either P false x y f g = g
 
 request_follows : (params : List ℕ) (call : CallCondition) (t u : TerminalState) → Same t u → Follows (breaks.request_of params call) t u
 request_follows params call t u s =
-    let P : Option Request → Type 0 = λ o. Follows o t u in
+    let P : Option TerminalRequest → Type 0 = λ o. Follows o t u in
     either P (acts_on_break params action.Reset) _ _ (either P call.reset_pending None (Some request.Reset) s s) (either P _ (Some request.Interrupt) None s s)
 
 abbrev AnswerFollows : BreakAnswer → TerminalState → TerminalState → Type 0

@@ -28,8 +28,8 @@ use Rattle.pad_terminal.specs.declared.answers.InputAnswer.{InputAnswer}
 use Rattle.pad_terminal.specs.declared.answers.InputAnswer.TheVariants as input
 use Rattle.pad_terminal.specs.declared.answers.Reply.{Reply}
 use Rattle.pad_terminal.specs.declared.answers.Reply.TheVariants as reply
-use Rattle.pad_terminal.specs.declared.answers.Request.{Request}
-use Rattle.pad_terminal.specs.declared.answers.Request.TheVariants as request
+use Rattle.pad_terminal.specs.declared.answers.TerminalRequest.{TerminalRequest}
+use Rattle.pad_terminal.specs.declared.answers.TerminalRequest.TheVariants as request
 use Rattle.pad_ports.specs.Notes as notes
 use Rattle.pad_ports.specs.Notes.{ChannelNote, unless_refused}
 use Rattle.pad_ports.specs.Line as line
@@ -167,7 +167,7 @@ module _ (f : ChannelNote → Octets) (kind : IsKind f) where
   interrupts_say silent (Some call) a =
       silent_unless f a.line.notes _ (notes.Interrupted call (line.interrupt_octet ∷ [])) (silent call (line.interrupt_octet ∷ []))
 
-  does_says : NoInterrupts f → (o : Option Request) (a : AtLine) → all_in f (port.does_asked o a).line.notes ≡ all_in f a.line.notes
+  does_says : NoInterrupts f → (o : Option TerminalRequest) (a : AtLine) → all_in f (port.does_asked o a).line.notes ≡ all_in f a.line.notes
   does_says silent None a = refl
   does_says silent (Some (request.Call s)) a = placed_says a.line.notes (channel_given a.line.end.layer a.line.end.layer.phase) s.address
   does_says silent (Some request.Clear) a = clears_says a.port.call a
@@ -306,17 +306,17 @@ has_room None l size e = absurd (true≢false e)
 has_room (Some call) l size e = (e, size)
 
 -- what a break asks for beside an indication
-data IsBeside : Option Request → Type 0 where
+data IsBeside : Option TerminalRequest → Type 0 where
   nothing_beside : IsBeside None
   interrupt_beside : IsBeside (Some request.Interrupt)
 
-abbrev pub break_answer_by : (connected asks full : Bool) → Option Request → Message → BreakAnswer
+abbrev pub break_answer_by : (connected asks full : Bool) → Option TerminalRequest → Message → BreakAnswer
 break_answer_by connected asks full r m =
     if connected && asks && full then break_answer.Dropped
     else if connected then break_answer.Taken (record { request = r; indication = if asks then Some m else None })
     else break_answer.Taken (record { request = None; indication = None })
 
-tells_beside : (test : ℕ → Bool) (r : Option Request) (m : Message) (o : Option ℕ) (x : AtLine) → x.port.call ≡ o → IsBeside r → IsShort m → HasRoom o x.line
+tells_beside : (test : ℕ → Bool) (r : Option TerminalRequest) (m : Message) (o : Option ℕ) (x : AtLine) → x.port.call ≡ o → IsBeside r → IsShort m → HasRoom o x.line
     → all_in (told_in test) (port.tells (Some m) (port.does_asked r x)).line.notes ≡ all_in (told_in test) x.line.notes ++ (if meets test o then octets_of m ∷ [] else [])
 tells_beside test None m o x is nothing_beside short free =
     subst (λ (c : Option ℕ). all_in (told_in test) (port.on_call (port.sends (octets_of m) true) c x).line.notes ≡ all_in (told_in test) x.line.notes ++ (if meets test o then octets_of m ∷ [] else []))
@@ -344,7 +344,7 @@ tells_beside test (Some request.Interrupt) m o x is interrupt_beside short free 
         ∙ ap (λ (l : Octets). l ++ (if meets test (Some call) then octets_of m ∷ [] else []))
         (silent_unless (told_in test) x.line.notes _ (notes.Interrupted call (line.interrupt_octet ∷ [])) refl))
 
-break_by : (test : ℕ → Bool) (connected asks full : Bool) (r : Option Request) (m : Message) (os : List Occasion) (x : AtLine) → x.line.notes ≡ [] → told_octets os ≡ map octets_of (if asks then m ∷ [] else [])
+break_by : (test : ℕ → Bool) (connected asks full : Bool) (r : Option TerminalRequest) (m : Message) (os : List Occasion) (x : AtLine) → x.line.notes ≡ [] → told_octets os ≡ map octets_of (if asks then m ∷ [] else [])
     → IsShort m → (asks ≡ true → IsBeside r) → (full ≡ false → HasRoom x.port.call x.line)
     → all_in (told_in test) (port.answers_break (break_answer_by connected asks full r m) x).line.notes
     ≡ told_octets (if meets test x.port.call then (if connected && port.is_break_taken (break_answer_by connected asks full r m) then os else []) else [])

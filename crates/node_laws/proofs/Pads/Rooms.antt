@@ -29,8 +29,8 @@ use Rattle.pad_terminal.specs.declared.answers.InputAnswer.{InputAnswer}
 use Rattle.pad_terminal.specs.declared.answers.InputAnswer.TheVariants as input
 use Rattle.pad_terminal.specs.declared.answers.Reply.{Reply}
 use Rattle.pad_terminal.specs.declared.answers.Reply.TheVariants as reply
-use Rattle.pad_terminal.specs.declared.answers.Request.{Request}
-use Rattle.pad_terminal.specs.declared.answers.Request.TheVariants as request
+use Rattle.pad_terminal.specs.declared.answers.TerminalRequest.{TerminalRequest}
+use Rattle.pad_terminal.specs.declared.answers.TerminalRequest.TheVariants as request
 use Rattle.line_nodes.specs.PadRoom.{HaveRoom}
 use Rattle.pad_ports.specs.Notes.{ChannelNote, all_told, unless_refused}
 use Rattle.pad_ports.specs.Notes as notes
@@ -144,7 +144,7 @@ module _ (q : PortState) (e : PacketEnd) (told : e.notes ≡ []) where
   on_call_fits act None f = (fits_none, told)
   on_call_fits act (Some call) f = f call
 
-  does_fits : (r : Request) → FitsAt (port.does r (bare q e))
+  does_fits : (r : TerminalRequest) → FitsAt (port.does r (bare q e))
   does_fits (request.Call s) = (fits_placed (channel_given e.layer e.layer.phase) s.address, told)
   does_fits request.Clear =
       on_call_fits port.clears q.call (λ call. (fits_cleared (request_refusal e.layer call (ask.Clearing 0 0)) call, told))
@@ -154,7 +154,7 @@ module _ (q : PortState) (e : PacketEnd) (told : e.notes ≡ []) where
   does_fits request.Reset =
       on_call_fits port.resets q.call (λ call. (fits_reset (request_refusal e.layer call (ask.Resetting 0 0)) call, told))
 
-  asked_fits : (o : Option Request) → FitsAt (port.does_asked o (bare q e))
+  asked_fits : (o : Option TerminalRequest) → FitsAt (port.does_asked o (bare q e))
   asked_fits None = (fits_none, told)
   asked_fits (Some r) = does_fits r
 

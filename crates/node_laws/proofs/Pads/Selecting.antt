@@ -25,8 +25,8 @@ use Rattle.pad_terminal.specs.Calls.{ended}
 use Rattle.pad_terminal.specs.declared.mode.Mode.TheVariants.{CallSetUp}
 use Rattle.pad_terminal.specs.Terminal.{TerminalState, has_call}
 use Rattle.pad_terminal.specs.declared.answers.CallCondition.{CallCondition}
-use Rattle.pad_terminal.specs.declared.answers.Request.{Request}
-use Rattle.pad_terminal.specs.declared.answers.Request.TheVariants as request
+use Rattle.pad_terminal.specs.declared.answers.TerminalRequest.{TerminalRequest}
+use Rattle.pad_terminal.specs.declared.answers.TerminalRequest.TheVariants as request
 use Rattle.pad_ports.specs.Line.{call_parts}
 
 -- ---- a selection
@@ -79,17 +79,17 @@ form_fits (worded k text few h a) s e = arguments_fit a s e
 
 -- ---- what a terminal asks
 
-abbrev pub Fits : Request → Type 0
+abbrev pub Fits : TerminalRequest → Type 0
 Fits (request.Call s) = IsSelection s
 Fits request.Clear = Unit {0}
 Fits request.Interrupt = Unit {0}
 Fits request.Reset = Unit {0}
 
-abbrev pub FitsAny : Option Request → Type 0
+abbrev pub FitsAny : Option TerminalRequest → Type 0
 FitsAny None = Unit {0}
 FitsAny (Some r) = Fits r
 
-asked_fits : (may : Bool) (r : Request) → Fits r → FitsAny (asked may r).request
+asked_fits : (may : Bool) (r : TerminalRequest) → Fits r → FitsAny (asked may r).request
 asked_fits true r h = h
 asked_fits false r h = tt
 

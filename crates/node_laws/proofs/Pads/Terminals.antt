@@ -31,8 +31,8 @@ use Rattle.pad_terminal.specs.declared.answers.BreakAnswer.{BreakAnswer}
 use Rattle.pad_terminal.specs.declared.answers.BreakAnswer.TheVariants as break_answer
 use Rattle.pad_terminal.specs.declared.answers.Reply.{Reply}
 use Rattle.pad_terminal.specs.declared.answers.Reply.TheVariants as reply
-use Rattle.pad_terminal.specs.declared.answers.Request.{Request}
-use Rattle.pad_terminal.specs.declared.answers.Request.TheVariants as request
+use Rattle.pad_terminal.specs.declared.answers.TerminalRequest.{TerminalRequest}
+use Rattle.pad_terminal.specs.declared.answers.TerminalRequest.TheVariants as request
 use Rattle.pad_ports.specs.Notes.{Edited}
 use Rattle.pad_ports.specs.Line as line
 use Rattle.pad_ports.specs.Ports as port
@@ -102,13 +102,13 @@ module _ (s : Setting) (b : Book) (role : Role) (you : PacketEnd) (going coming 
   on_call_runs act None a f h = h
   on_call_runs act (Some call) a f h = f call
 
-  places_runs : (a : AtLine) (asked : Request) → Fits asked → RunsAt a → RunsAt (port.does asked a)
+  places_runs : (a : AtLine) (asked : TerminalRequest) → Fits asked → RunsAt a → RunsAt (port.does asked a)
   places_runs a (request.Call selection) fits h = placed_runs s b role you going coming selection a.line fits h
   places_runs a request.Clear fits h = on_call_runs port.clears a.port.call a (λ call. cleared_runs s b role you going coming call a.line h) h
   places_runs a request.Interrupt fits h = on_call_runs port.interrupts a.port.call a (λ call. interrupted_runs s b role you going coming call a.line h) h
   places_runs a request.Reset fits h = on_call_runs port.resets a.port.call a (λ call. reset_runs s b role you going coming call a.line h) h
 
-  asked_any : (o : Option Request) (a : AtLine) → FitsAny o → RunsAt a → RunsAt (port.does_asked o a)
+  asked_any : (o : Option TerminalRequest) (a : AtLine) → FitsAny o → RunsAt a → RunsAt (port.does_asked o a)
   asked_any None a fits h = h
   asked_any (Some r) a fits h = places_runs a r fits h
 

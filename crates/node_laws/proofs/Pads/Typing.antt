@@ -21,8 +21,8 @@ use Rattle.pad_terminal.specs.Terminal.{TerminalState, has_call}
 use Rattle.pad_terminal.specs.Calls as calls
 use Rattle.pad_terminal.specs.declared.answers.InputAnswer.{InputAnswer}
 use Rattle.pad_terminal.specs.declared.answers.InputAnswer.TheVariants as input
-use Rattle.pad_terminal.specs.declared.answers.Request.{Request}
-use Rattle.pad_terminal.specs.declared.answers.Request.TheVariants as request
+use Rattle.pad_terminal.specs.declared.answers.TerminalRequest.{TerminalRequest}
+use Rattle.pad_terminal.specs.declared.answers.TerminalRequest.TheVariants as request
 use Rattle.pad_ports.specs.Notes as notes
 use Rattle.pad_ports.specs.Notes.{ChannelNote}
 use Rattle.pad_ports.specs.Line as line
@@ -272,7 +272,7 @@ module _ (role : Role) (b : Book) (Others : ℕ → List ℕ → Type 0) where
 
   -- ---- what is asked
 
-  pub does_holds : (o : Option Request) (a : AtLine) (u : TerminalState) (left : Option ℕ) → Follows o a.port.terminal u → AtHolds a
+  pub does_holds : (o : Option TerminalRequest) (a : AtLine) (u : TerminalState) (left : Option ℕ) → Follows o a.port.terminal u → AtHolds a
       → AtHolds (port.does_asked o (record { port = record { terminal = u; call = a.port.call; idle_left = left }; line = a.line }))
   does_holds None a u left f h = terminal_same a u left f h
   does_holds (Some (request.Call s)) a u left f h =

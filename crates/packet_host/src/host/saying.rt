@@ -19,7 +19,6 @@ const MOST_OCTETS: usize = 1_024;
 const MOST_QUALIFIED: usize = 128;
 
 impl Host {
-    #[tactic(auto, using(crate::proofs::Taken::all_said))]
     /// Says octets on the channel: full packets of the line's size with M = 1, then the rest with M = 0 and, if asked
     /// for, D. No octets are one empty packet. Q is on all packets (X.25 4.3.3 to 4.3.6). At most 1,024 octets are
     /// said, with Q 128.
@@ -31,6 +30,7 @@ impl Host {
     /// - `QueueFull`: the send queue has fewer places than the packets need. They never need more than 8, and with Q
     ///   one.
     /// - `TooLong`: there are more octets than may be said.
+    #[tactic(auto, using(crate::proofs::Taken::all_said))]
     pub fn say(
         &mut self,
         channel: u8,

@@ -9,7 +9,7 @@ use crate::port::Port;
 use packet_codec::clear_cause::{NETWORK_CONGESTION, OUT_OF_ORDER};
 use packet_layer::CallFault;
 use pad_editing::Block;
-use pad_terminal::{BreakAnswer, BreakRequests, InputAnswer, Request};
+use pad_terminal::{BreakAnswer, BreakRequests, InputAnswer, TerminalRequest};
 use x3_params::Params;
 use x28_commands::Selection;
 use x29_messages::{Message, MessageBuf, write_message};
@@ -165,7 +165,7 @@ impl Port {
     }
 
     // Does what the terminal asks for, if anything.
-    fn ask_for(&mut self, request: Option<Request>, line: &mut PadLine)
+    fn ask_for(&mut self, request: Option<TerminalRequest>, line: &mut PadLine)
         requires { length line.old.notes + 1 ≤ MOST_NOTES }
         ensures port { self.new ≡ (spec.does_asked request (record { port = self.old; line = line.old })).port }
         ensures line { line.new ≡ (spec.does_asked request (record { port = self.old; line = line.old })).line }
@@ -174,10 +174,10 @@ impl Port {
     {
         match request {
             None => {}
-            Some(Request::Call(selection)) => self.place_call(&selection, line),
-            Some(Request::Clear) => self.clear_call(line),
-            Some(Request::Interrupt) => self.interrupt(line),
-            Some(Request::Reset) => self.reset_call(line),
+            Some(TerminalRequest::Call(selection)) => self.place_call(&selection, line),
+            Some(TerminalRequest::Clear) => self.clear_call(line),
+            Some(TerminalRequest::Interrupt) => self.interrupt(line),
+            Some(TerminalRequest::Reset) => self.reset_call(line),
         }
     }
 

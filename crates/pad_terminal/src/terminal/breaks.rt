@@ -2,7 +2,7 @@
 ghost use Rattle.std.specs.Prelude.{◌≡◌};
 ghost use Rattle.pad_terminal.specs.Breaks as spec;
 
-use crate::answers::{BreakAnswer, BreakRequests, CallCondition, Request};
+use crate::answers::{BreakAnswer, BreakRequests, CallCondition, TerminalRequest};
 use crate::terminal::Terminal;
 use x3_params::{BreakAction, Params};
 use x29_messages::{Message, Pairs};
@@ -64,17 +64,17 @@ fn indicates(params: &Params) -> bool
 }
 
 // A reset, or else an interrupt, where it may be asked for.
-fn request(params: &Params, call: CallCondition) -> Option<Request>
+fn request(params: &Params, call: CallCondition) -> Option<TerminalRequest>
     ensures { result ≡ spec.request_of params.now call }
 {
     if params.acts_on_break(BreakAction::Reset) {
         if call.reset_pending {
             None
         } else {
-            Some(Request::Reset)
+            Some(TerminalRequest::Reset)
         }
     } else if params.acts_on_break(BreakAction::Interrupt) && call.may_interrupt {
-        Some(Request::Interrupt)
+        Some(TerminalRequest::Interrupt)
     } else {
         None
     }

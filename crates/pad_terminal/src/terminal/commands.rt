@@ -4,7 +4,7 @@ ghost use Rattle.x28_commands.specs.Reading.{command_of};
 ghost use Rattle.pad_terminal.specs.Commands as spec;
 ghost use Rattle.pad_terminal.specs.Terminal.{has_call};
 
-use crate::answers::{CallCondition, Request};
+use crate::answers::{CallCondition, TerminalRequest};
 use crate::mode::Mode;
 use crate::settings::{Report, Setting, refused};
 use crate::terminal::Terminal;
@@ -16,7 +16,7 @@ use x28_commands::{Command, ENTRY_LIMIT, ParameterValue, Selection, Signal, read
 #[derive(Drop)]
 struct Outcome {
     answer: Option<Signal>,
-    request: Option<Request>,
+    request: Option<TerminalRequest>,
 }
 
 impl Outcome {
@@ -31,7 +31,7 @@ impl Outcome {
     }
 
     // Asks the PAD, and answers by a new line alone.
-    fn acknowledged(request: Request) -> Outcome
+    fn acknowledged(request: TerminalRequest) -> Outcome
         ensures { result ≡ record { answer = Some Signal.Acknowledgement; request = Some request } }
     {
         Outcome {
@@ -41,7 +41,7 @@ impl Outcome {
     }
 
     // Asks the PAD, without an answer.
-    fn unanswered(request: Option<Request>) -> Outcome
+    fn unanswered(request: Option<TerminalRequest>) -> Outcome
         ensures { result ≡ record { answer = None; request = request } }
     {
         Outcome {
@@ -55,7 +55,7 @@ impl Terminal {
     // Carries a line out (X.28 3.2): shows what answers it, and comes back to data transfer where a command within a
     // call was done. What the PAD is asked is the result.
     #[tactic(auto, unfolding(crate::specs::Commands::after_line, crate::specs::Commands::request_of_line))]
-    pub(crate) fn carry_out(&mut self, line: &[u8], call: CallCondition) -> Option<Request>
+    pub(crate) fn carry_out(&mut self, line: &[u8], call: CallCondition) -> Option<TerminalRequest>
         ensures terminal { self.new ≡ spec.after_line line.now call self.old }
         ensures request { result ≡ spec.request_of_line line.now call self.old }
     {
@@ -93,8 +93,8 @@ impl Terminal {
             Command::Empty => Outcome::unanswered(None),
             Command::Status => Outcome::answered(self.status()),
             Command::Clear => self.clear_call(),
-            Command::Interrupt => ask(self.may_interrupt(call), Request::Interrupt),
-            Command::Reset => ask(self.may_reset(call), Request::Reset),
+            Command::Interrupt => ask(self.may_interrupt(call), TerminalRequest::Interrupt),
+            Command::Reset => ask(self.may_reset(call), TerminalRequest::Reset),
             Command::Profile(number) => self.take_profile(Profile::numbered(number)),
             Command::Read(numbers) => {
                 Outcome::answered(parameters(&self.settings.read_all(numbers.as_slice())))
@@ -129,7 +129,7 @@ impl Terminal {
             return Outcome::answered(Signal::Error);
         }
         self.end_call(&Signal::ClearConfirmation);
-        Outcome::unanswered(Some(Request::Clear))
+        Outcome::unanswered(Some(TerminalRequest::Clear))
     }
 
     fn may_reset(&self, call: CallCondition) -> bool
@@ -163,12 +163,12 @@ impl Terminal {
             return Outcome::answered(Signal::Error);
         }
         self.mode = Mode::CallSetUp;
-        Outcome::unanswered(Some(Request::Call(selection)))
+        Outcome::unanswered(Some(TerminalRequest::Call(selection)))
     }
 }
 
 // A request, where it may be made.
-fn ask(may: bool, request: Request) -> Outcome
+fn ask(may: bool, request: TerminalRequest) -> Outcome
     ensures { result ≡ spec.asked may request }
 {
     if may {

@@ -20,20 +20,20 @@ impl Lines {
     pub(super) fn answer(
         &mut self,
         routes: &Routes,
-        place: SwitchChannel,
+        leg: SwitchChannel,
         call: &CallData<'_>,
     ) -> Option<NewJoin>
         requires { IsCallValue (call_view call.now) }
         ensures join { option_to_list result
-            ≡ join_of (answer routes.now self.old place.line (parts_of (call_view call.now))) place }
+            ≡ join_of (answer routes.now self.old leg.line (parts_of (call_view call.now))) leg }
         ensures lines { let parts = parts_of (call_view call.now) in
-            self.new ≡ answered (answer routes.now self.old place.line parts) place parts self.old }
+            self.new ≡ answered (answer routes.now self.old leg.line parts) leg parts self.old }
     {
-        match self.forward(routes, place.line, call) {
+        match self.forward(routes, leg.line, call) {
             Ok(other) => {
-                self.join(place, other);
+                self.join(leg, other);
                 Some(NewJoin {
-                    came_in: place,
+                    came_in: leg,
                     placed: other,
                 })
             }
@@ -42,7 +42,7 @@ impl Lines {
                     cause,
                     diagnostic: diagnostic::NO_INFORMATION,
                 };
-                self.ask(place, &request);
+                self.ask(leg, &request);
                 None
             }
         }

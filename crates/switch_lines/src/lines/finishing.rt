@@ -58,9 +58,8 @@ impl Lines {
     {
         self.touched.insert(line);
         let channel = named_in(octets);
-        let place = SwitchChannel { line, channel };
-        self.to_relay
-            .insert_join(place, other_of(&self.lines, place));
+        let leg = SwitchChannel { line, channel };
+        self.to_relay.insert_join(leg, other_of(&self.lines, leg));
         self.lines[line].on_frame(octets, &mut self.pool);
         self.heed_line(routes, line)
     }

@@ -15,32 +15,32 @@ const MOST_WAITING: usize = 33;
 impl Lines {
     // What waits first on a joined channel is taken there and goes on to the other leg, unless that one would refuse some
     // of what it makes due. Answers whether it was.
-    fn relay_one(&mut self, place: SwitchChannel) -> bool
-        ensures lines { self.new ≡ moved place self.old }
-        ensures stuck { OnFalse result (IsStuck self.old place) }
+    fn relay_one(&mut self, leg: SwitchChannel) -> bool
+        ensures lines { self.new ≡ moved leg self.old }
+        ensures stuck { OnFalse result (IsStuck self.old leg) }
     {
-        let Some(other) = self.other(place) else {
+        let Some(other) = self.other(leg) else {
             return false;
         };
-        let Some(front) = self.front(place) else {
+        let Some(front) = self.front(leg) else {
             return false;
         };
-        if !self.may_take(place, other, front) {
+        if !self.may_take(leg, other, front) {
             return false;
         }
-        self.move_front(place, other);
-        self.release(place);
+        self.move_front(leg, other);
+        self.release(leg);
         true
     }
 
     // All that waits on a channel goes to the other leg of its join, as far as that one takes it. Answers whether that
-    // was seen, in as many moves as a queue has places.
-    fn relay_channel(&mut self, place: SwitchChannel) -> bool
-        ensures lines { self.new ≡ relayed most_moves place self.old }
-        ensures stuck { OnTrue result (IsStuck self.new place) }
+    // was seen, in as many moves as a leg can have waiting.
+    fn relay_channel(&mut self, leg: SwitchChannel) -> bool
+        ensures lines { self.new ≡ relayed most_moves leg self.old }
+        ensures stuck { OnTrue result (IsStuck self.new leg) }
     {
         for _ in 0..MOST_WAITING {
-            if !self.relay_one(place) {
+            if !self.relay_one(leg) {
                 return true;
             }
         }
@@ -48,48 +48,48 @@ impl Lines {
     }
 
     // Nothing that waits on a joined channel and on the other leg of its join can go on: that join is not to be relayed.
-    fn rest_join(&mut self, place: SwitchChannel, other: SwitchChannel)
-        requires joined { other_at self.old place ≡ Some other }
-        requires back { other_at self.old other ≡ Some place }
-        requires stuck { IsStuck self.old place }
+    fn rest_join(&mut self, leg: SwitchChannel, other: SwitchChannel)
+        requires joined { other_at self.old leg ≡ Some other }
+        requires back { other_at self.old other ≡ Some leg }
+        requires stuck { IsStuck self.old leg }
         requires other_stuck { IsStuck self.old other }
         ensures { self.new ≡ self.old }
     {
-        let waits = self.front(place).is_some();
+        let waits = self.front(leg).is_some();
         let other_waits = self.front(other).is_some();
         self.refusing.insert_if(other, waits);
-        self.refusing.insert_if(place, other_waits);
-        self.to_relay.remove(place);
+        self.refusing.insert_if(leg, other_waits);
+        self.to_relay.remove(leg);
         self.to_relay.remove(other);
     }
 
     // A channel that is not joined is not to be relayed.
-    fn forget(&mut self, place: SwitchChannel)
-        requires { other_at self.old place ≡ None }
+    fn forget(&mut self, leg: SwitchChannel)
+        requires { other_at self.old leg ≡ None }
         ensures { self.new ≡ self.old }
     {
-        self.to_relay.remove(place);
+        self.to_relay.remove(leg);
     }
 
     // Whether a channel is joined to another one.
-    fn is_joined_to(&self, place: SwitchChannel, other: SwitchChannel) -> bool
-        ensures { OnTrue result (other_at self.now place ≡ Some other) }
+    fn is_joined_to(&self, leg: SwitchChannel, other: SwitchChannel) -> bool
+        ensures { OnTrue result (other_at self.now leg ≡ Some other) }
     {
-        self.other(place) == Some(other)
+        self.other(leg) == Some(other)
     }
 
     // All that waits on a joined channel and on the other leg of its join goes on.
-    fn relay_join(&mut self, place: SwitchChannel)
-        ensures { self.new ≡ relayed_from (both_legs (joined_at self.old place) place) self.old }
+    fn relay_join(&mut self, leg: SwitchChannel)
+        ensures { self.new ≡ relayed_from (both_legs (joined_at self.old leg) leg) self.old }
     {
-        let Some(other) = self.other(place) else {
-            self.forget(place);
+        let Some(other) = self.other(leg) else {
+            self.forget(leg);
             return;
         };
-        let all = self.relay_channel(place);
+        let all = self.relay_channel(leg);
         let all_back = self.relay_channel(other);
-        if all && all_back && self.is_joined_to(other, place) {
-            self.rest_join(place, other);
+        if all && all_back && self.is_joined_to(other, leg) {
+            self.rest_join(leg, other);
         }
     }
 

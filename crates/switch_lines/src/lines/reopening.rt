@@ -42,9 +42,9 @@ fn reopen_line(
 {
     let mut next = 0;
     while let Some(channel) = refusing.first_between(line, next, END_OF_CHANNELS) {
-        let place = SwitchChannel { line, channel };
-        to_relay.insert_join(place, other_of(lines, place));
-        refusing.remove(place);
+        let leg = SwitchChannel { line, channel };
+        to_relay.insert_join(leg, other_of(lines, leg));
+        refusing.remove(leg);
         next = channel + 1;
     }
 }

@@ -12,10 +12,10 @@ use switch_joins::SwitchChannel;
 impl Lines {
     // The call on a channel was accepted there.
     #[tactic(auto, using(crate::proofs::Telling::tells_connected, crate::proofs::Telling::tells_no_one))]
-    pub(super) fn tell_connected(&mut self, place: SwitchChannel)
-        ensures { self.new ≡ told (note.Connected place.channel) place self.old }
+    pub(super) fn tell_connected(&mut self, leg: SwitchChannel)
+        ensures { self.new ≡ told (note.Connected leg.channel) leg self.old }
     {
-        if let Some(other) = self.other(place) {
+        if let Some(other) = self.other(leg) {
             self.ask(other, &Request::Accept);
         }
     }
@@ -24,19 +24,19 @@ impl Lines {
     #[tactic(auto, using(crate::proofs::Telling::tells_closed, crate::proofs::Telling::tells_no_one))]
     pub(super) fn tell_closed(
         &mut self,
-        place: SwitchChannel,
+        leg: SwitchChannel,
         cause: u8,
         diagnostic: u8,
         reason: Reason,
     )
         ensures { self.new
-            ≡ told (note.Closed place.channel cause diagnostic (reason_of reason)) place self.old }
+            ≡ told (note.Closed leg.channel cause diagnostic (reason_of reason)) leg self.old }
     {
-        let Some(other) = self.other(place) else {
+        let Some(other) = self.other(leg) else {
             return;
         };
-        let trunk = self.is_trunk(place.line);
-        self.set_joined(place, None);
+        let trunk = self.is_trunk(leg.line);
+        self.set_joined(leg, None);
         self.set_joined(other, None);
         let request = Request::Clear {
             cause: far_clear_cause(trunk, reason, cause),
@@ -49,15 +49,15 @@ impl Lines {
     #[tactic(auto, using(crate::proofs::Telling::tells_reset, crate::proofs::Telling::tells_no_one))]
     pub(super) fn tell_reset(
         &mut self,
-        place: SwitchChannel,
+        leg: SwitchChannel,
         cause: u8,
         diagnostic: u8,
         reason: Reason,
     )
         ensures { self.new
-            ≡ told (note.WasReset place.channel cause diagnostic (reason_of reason)) place self.old }
+            ≡ told (note.WasReset leg.channel cause diagnostic (reason_of reason)) leg self.old }
     {
-        let Some(other) = self.other(place) else {
+        let Some(other) = self.other(leg) else {
             return;
         };
         let request = Request::Reset {
@@ -65,16 +65,16 @@ impl Lines {
             diagnostic: far_diagnostic(reason, diagnostic),
         };
         self.ask(other, &request);
-        self.renew(place);
+        self.renew(leg);
         self.renew(other);
     }
 
     // The interrupt that was sent on a channel is confirmed there: so is the one that was taken on the other leg.
     #[tactic(auto, using(crate::proofs::Telling::tells_confirmed, crate::proofs::Telling::tells_no_one))]
-    pub(super) fn tell_confirmed(&mut self, place: SwitchChannel)
-        ensures { self.new ≡ told (note.InterruptConfirmed place.channel) place self.old }
+    pub(super) fn tell_confirmed(&mut self, leg: SwitchChannel)
+        ensures { self.new ≡ told (note.InterruptConfirmed leg.channel) leg self.old }
     {
-        if let Some(other) = self.other(place) {
+        if let Some(other) = self.other(leg) {
             self.ask(other, &Request::ConfirmInterrupt);
         }
     }
@@ -82,10 +82,10 @@ impl Lines {
     // A P(R) newly covered so many packets that were sent on a channel: what waited for that is released on the other
     // leg.
     #[tactic(auto, using(crate::proofs::Telling::tells_covered, crate::proofs::Telling::tells_no_one))]
-    pub(super) fn tell_covered(&mut self, place: SwitchChannel, count: u8)
-        ensures { self.new ≡ told (note.Covered place.channel count) place self.old }
+    pub(super) fn tell_covered(&mut self, leg: SwitchChannel, count: u8)
+        ensures { self.new ≡ told (note.Covered leg.channel count) leg self.old }
     {
-        if let Some(other) = self.other(place) {
+        if let Some(other) = self.other(leg) {
             self.cover(other, count);
             self.release(other);
         }

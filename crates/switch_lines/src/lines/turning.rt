@@ -19,29 +19,29 @@ use packet_layer::{Front, Request, Taken, TakenBuf, UserData};
 use switch_joins::{Outline, Sizes, SwitchChannel};
 
 // The packet sizes of the lines of two channels.
-fn sizes_of(lines: &[SwitchLine], place: SwitchChannel, other: SwitchChannel) -> Sizes
-    requires there { place.line < length lines.now }
+fn sizes_of(lines: &[SwitchLine], leg: SwitchChannel, other: SwitchChannel) -> Sizes
+    requires there { leg.line < length lines.now }
     requires other { other.line < length lines.now }
-    ensures sizes { result ≡ sizes_at (plain lines.now) place other }
+    ensures sizes { result ≡ sizes_at (plain lines.now) leg other }
     ensures fits { (far : PooledLine) → slice_get lines.now other.line ≡ Some far → result.far ≤ far.claim.info }
 {
-    Sizes::new(lines[place.line].size(), lines[other.line].size())
+    Sizes::new(lines[leg.line].size(), lines[other.line].size())
 }
 
 impl Lines {
     // The packet sizes of the lines of two channels.
-    fn sizes(&self, place: SwitchChannel, other: SwitchChannel) -> Sizes
-        requires there { place.line < length self.now }
+    fn sizes(&self, leg: SwitchChannel, other: SwitchChannel) -> Sizes
+        requires there { leg.line < length self.now }
         requires other { other.line < length self.now }
-        ensures { result ≡ sizes_at self.now place other }
+        ensures { result ≡ sizes_at self.now leg other }
     {
-        sizes_of(&self.lines, place, other)
+        sizes_of(&self.lines, leg, other)
     }
 
     // Whether the other leg of a join takes every packet that the first one on a channel makes due.
-    pub(super) fn may_take(&self, place: SwitchChannel, other: SwitchChannel, front: Front) -> bool
-        requires { maybe_front (front_at self.now place) ≡ Some front }
-        ensures takes { TakesFront result self.now place other }
+    pub(super) fn may_take(&self, leg: SwitchChannel, other: SwitchChannel, front: Front) -> bool
+        requires { maybe_front (front_at self.now leg) ≡ Some front }
+        ensures takes { TakesFront result self.now leg other }
         ensures there { OnTrue result (other.line < length self.now) }
     {
         let Some(far) = self.lines.get(other.line) else {
@@ -61,9 +61,9 @@ impl Lines {
                     qualified,
                     delivery,
                 };
-                let sizes = self.sizes(place, other);
-                let near = &self.lines[place.line];
-                match near.packets_due(place.channel, sizes, packet, &self.pool) {
+                let sizes = self.sizes(leg, other);
+                let near = &self.lines[leg.line];
+                match near.packets_due(leg.channel, sizes, packet, &self.pool) {
                     Some(due) => due <= usize::from(far.room(other.channel)),
                     None => false,
                 }
@@ -72,32 +72,32 @@ impl Lines {
     }
 
     // What waits first on a joined channel is taken there, and goes on to the other leg.
-    pub(super) fn move_front(&mut self, place: SwitchChannel, other: SwitchChannel)
-        requires there { place.line < length self.old }
+    pub(super) fn move_front(&mut self, leg: SwitchChannel, other: SwitchChannel)
+        requires there { leg.line < length self.old }
         requires other { other.line < length self.old }
-        requires joined { other_at self.old place ≡ Some other }
-        ensures { MovesFront (front_at self.old place) place other self.old self.new }
+        requires joined { other_at self.old leg ≡ Some other }
+        ensures { MovesFront (front_at self.old leg) leg other self.old self.new }
     {
-        let sizes = self.sizes(place, other);
-        if self.lines[place.line].goes_whole(place.channel, sizes) {
-            self.move_whole(place, other);
+        let sizes = self.sizes(leg, other);
+        if self.lines[leg.line].goes_whole(leg.channel, sizes) {
+            self.move_whole(leg, other);
         } else {
-            self.move_turned(place, other);
+            self.move_turned(leg, other);
         }
     }
 
     // The same where a packet goes on as it is, in its buffer.
-    fn move_whole(&mut self, place: SwitchChannel, other: SwitchChannel)
-        requires there { place.line < length self.old }
+    fn move_whole(&mut self, leg: SwitchChannel, other: SwitchChannel)
+        requires there { leg.line < length self.old }
         requires other { other.line < length self.old }
-        requires joined { other_at self.old place ≡ Some other }
-        requires whole { (sizes_at self.old place other).near ≡ (sizes_at self.old place other).far }
-        requires nothing { gathered_by (joined_at self.old place) ≡ nothing_gathered }
-        ensures { MovesFront (front_at self.old place) place other self.old self.new }
+        requires joined { other_at self.old leg ≡ Some other }
+        requires whole { (sizes_at self.old leg other).near ≡ (sizes_at self.old leg other).far }
+        requires nothing { gathered_by (joined_at self.old leg) ≡ nothing_gathered }
+        ensures { MovesFront (front_at self.old leg) leg other self.old self.new }
     {
-        self.touched.insert(place.line);
-        self.to_relay.insert_join(place, Some(other));
-        match self.lines[place.line].take_buf(place.channel) {
+        self.touched.insert(leg.line);
+        self.to_relay.insert_join(leg, Some(other));
+        match self.lines[leg.line].take_buf(leg.channel) {
             Some(TakenBuf::Interrupt(interrupt)) => {
                 self.ask(other, &Request::Interrupt(interrupt.octets()));
             }
@@ -105,64 +105,62 @@ impl Lines {
                 let delivery = packet.delivery();
                 self.touched.insert(other.line);
                 self.lines[other.line].send_packet(other.channel, packet, &mut self.pool);
-                self.pass(place, delivery);
+                self.pass(leg, delivery);
             }
             None => {}
         }
     }
 
     // A packet was taken on a joined channel, with D = 1 or without, and went on as it is.
-    fn pass(&mut self, place: SwitchChannel, delivery: bool)
-        requires { gathered_by (joined_at self.old place) ≡ nothing_gathered }
-        ensures { (d : Datum) → self.new ≡ kept_at place (carried delivery (all_made (d ∷ []))) self.old }
+    fn pass(&mut self, leg: SwitchChannel, delivery: bool)
+        requires { gathered_by (joined_at self.old leg) ≡ nothing_gathered }
+        ensures { (d : Datum) → self.new ≡ kept_at leg (carried delivery (all_made (d ∷ []))) self.old }
     {
-        if place.line < self.lines.len() {
-            self.lines[place.line].pass(place.channel, delivery);
+        if leg.line < self.lines.len() {
+            self.lines[leg.line].pass(leg.channel, delivery);
         }
     }
 
     // What waits first on a joined channel is taken there, and what it makes due goes on to the other leg.
-    fn move_turned(&mut self, place: SwitchChannel, other: SwitchChannel)
-        requires there { place.line < length self.old }
+    fn move_turned(&mut self, leg: SwitchChannel, other: SwitchChannel)
+        requires there { leg.line < length self.old }
         requires other { other.line < length self.old }
-        ensures { MovesFront (front_at self.old place) place other self.old self.new }
+        ensures { MovesFront (front_at self.old leg) leg other self.old self.new }
     {
-        match self.take(place) {
+        match self.take(leg) {
             Some(Taken::Interrupt(interrupt)) => {
                 self.ask(other, &Request::Interrupt(interrupt.octets()));
             }
-            Some(Taken::Data(packet)) => self.turn(place, other, &packet),
+            Some(Taken::Data(packet)) => self.turn(leg, other, &packet),
             None => {}
         }
     }
 
     // Takes what waits first on a channel, if anything.
-    fn take(&mut self, place: SwitchChannel) -> Option<Taken>
-        requires { place.line < length self.old }
-        ensures taken { maybe_taken result ≡ front_at self.old place }
-        ensures lines { self.new ≡ ask place ask_for.Taking self.old }
+    fn take(&mut self, leg: SwitchChannel) -> Option<Taken>
+        requires { leg.line < length self.old }
+        ensures taken { maybe_taken result ≡ front_at self.old leg }
+        ensures lines { self.new ≡ ask leg ask_for.Taking self.old }
     {
-        self.touched.insert(place.line);
-        self.to_relay
-            .insert_join(place, other_of(&self.lines, place));
-        self.lines[place.line].take(place.channel, &mut self.pool)
+        self.touched.insert(leg.line);
+        self.to_relay.insert_join(leg, other_of(&self.lines, leg));
+        self.lines[leg.line].take(leg.channel, &mut self.pool)
     }
 
     // What a packet that was taken on a joined channel makes due is sent on the other leg, and what is left is gathered.
-    fn turn(&mut self, place: SwitchChannel, other: SwitchChannel, packet: &UserData)
-        requires there { place.line < length self.old }
+    fn turn(&mut self, leg: SwitchChannel, other: SwitchChannel, packet: &UserData)
+        requires there { leg.line < length self.old }
         requires other { other.line < length self.old }
-        ensures { let turn = turned (sizes_at self.old place other) (gathered_by (joined_at self.old place)) packet.now in
-            self.new ≡ kept_at place (carried packet.now.delivery turn)
+        ensures { let turn = turned (sizes_at self.old leg other) (gathered_by (joined_at self.old leg)) packet.now in
+            self.new ≡ kept_at leg (carried packet.now.delivery turn)
             (ask_all other (map ask_for.Sending turn.made) self.old) }
     {
-        let sizes = sizes_of(&self.lines, place, other);
-        let near = &self.lines[place.line];
-        let turned = near.turned(place.channel, sizes, packet, &self.pool);
+        let sizes = sizes_of(&self.lines, leg, other);
+        let near = &self.lines[leg.line];
+        let turned = near.turned(leg.channel, sizes, packet, &self.pool);
         self.touched.insert(other.line);
         self.lines[other.line].send_all(other.channel, &turned, &mut self.pool);
-        self.to_relay
-            .insert_join(place, other_of(&self.lines, place));
-        self.lines[place.line].carry(place.channel, packet.delivery(), &turned, &mut self.pool);
+        self.to_relay.insert_join(leg, other_of(&self.lines, leg));
+        self.lines[leg.line].carry(leg.channel, packet.delivery(), &turned, &mut self.pool);
     }
 }

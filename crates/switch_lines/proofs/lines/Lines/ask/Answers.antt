@@ -10,39 +10,39 @@ use Rattle.switch_lines.proofs.Calmer.{request_apart}
 use Rattle.switch_lines.proofs.Moving.{one_stirred}
 use Rattle.switch_lines.proofs.lines.Lines.ask.Goals as goal
 
-pub returns-then-place-len : goal.returns-then-place-len
-returns-then-place-len c =
-    one_changed (with_end (λ e. end.asked e c.args.place.channel (request_of c.args.request.now)))
-    c.self.inside.lines.items c.args.self.now c.args.place.line
+pub returns-then-leg-len : goal.returns-then-leg-len
+returns-then-leg-len c =
+    one_changed (with_end (λ e. end.asked e c.args.leg.channel (request_of c.args.request.now)))
+    c.self.inside.lines.items c.args.self.now c.args.leg.line
     c.index_mut.result.now c.ask.new.self c.self.view_is (omega arith) c.index_mut.ensures.value c.ask.ensures.line
 
-pub returns-else-place-len : goal.returns-else-place-len
-returns-else-place-len c =
-    none_changed (with_end (λ e. end.asked e c.args.place.channel (request_of c.args.request.now)))
-    c.self.inside.lines.items c.args.self.now c.args.place.line
+pub returns-else-leg-len : goal.returns-else-leg-len
+returns-else-leg-len c =
+    none_changed (with_end (λ e. end.asked e c.args.leg.channel (request_of c.args.request.now)))
+    c.self.inside.lines.items c.args.self.now c.args.leg.line
     c.self.view_is (omega arith)
 
 pub invariant_of-self : goal.invariant_of-self
 invariant_of-self c =
     let xs = c.self.inside.lines.items in
     record {
-      most = count_kept xs c.args.place.line 64 c.ask.new.self c.self.invariant.most;
-      rest = one_touched c.self.inside.touched c.insert.new.self c.self.inside.untaken xs c.args.place.line
+      most = count_kept xs c.args.leg.line 64 c.ask.new.self c.self.invariant.most;
+      rest = one_touched c.self.inside.touched c.insert.new.self c.self.inside.untaken xs c.args.leg.line
           c.ask.new.self (omega arith) c.insert.ensures c.self.invariant.rest;
       moves = one_stirred c.self.inside.to_relay c.insert_join.new.self c.self.inside.refusing
-          (with_end (λ e. end.asked e c.args.place.channel (request_of c.args.request.now))) xs c.deref.result.now
-          c.args.place.line c.args.place.channel c.other_of.result c.index_mut.result.now c.ask.new.self (omega arith)
+          (with_end (λ e. end.asked e c.args.leg.channel (request_of c.args.request.now))) xs c.deref.result.now
+          c.args.leg.line c.args.leg.channel c.other_of.result c.index_mut.result.now c.ask.new.self (omega arith)
           c.index_mut.ensures.value c.ask.ensures.line c.deref.ensures.value c.other_of.ensures
-          (not_of_join c.self.inside.to_relay c.insert_join.new.self c.args.place c.other_of.result c.insert_join.ensures)
+          (not_of_join c.self.inside.to_relay c.insert_join.new.self c.args.leg c.other_of.result c.insert_join.ensures)
           (λ l d. refl)
-          (λ l d small apart. (refl, request_apart l.end.layer c.args.place.channel d (request_of c.args.request.now) apart))
+          (λ l d small apart. (refl, request_apart l.end.layer c.args.leg.channel d (request_of c.args.request.now) apart))
           c.self.invariant.moves;
-      pooled = pooled_set c.self.inside.pool c.ask.new.pool c.self.inside.lines.items c.args.place.line c.index_mut.result.now c.ask.new.self
+      pooled = pooled_set c.self.inside.pool c.ask.new.pool c.self.inside.lines.items c.args.leg.line c.index_mut.result.now c.ask.new.self
           c.self.invariant.pooled (omega arith) c.index_mut.ensures.value c.ask.ensures.pool c.ask.ensures.claim
           c.ask.ensures.within;
     }
 
 pub ask-requires : goal.ask-requires
 ask-requires c =
-    serves_one c.self.inside.pool c.self.inside.lines.items c.args.place.line c.index_mut.result.now c.self.invariant.pooled (omega arith)
+    serves_one c.self.inside.pool c.self.inside.lines.items c.args.leg.line c.index_mut.result.now c.self.invariant.pooled (omega arith)
     c.index_mut.ensures.value

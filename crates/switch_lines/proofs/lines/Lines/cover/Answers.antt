@@ -9,29 +9,29 @@ use Rattle.switch_lines.proofs.Moving.{one_calm}
 use Rattle.switch_lines.proofs.Waiting.{kept_leads}
 use Rattle.switch_lines.proofs.lines.Lines.cover.Goals as goal
 
-pub returns-then-place-len : goal.returns-then-place-len
-returns-then-place-len c =
-    one_changed (kept_on c.args.place.channel (covered_by c.args.count)) c.self.inside.lines.items c.args.self.now c.args.place.line
+pub returns-then-leg-len : goal.returns-then-leg-len
+returns-then-leg-len c =
+    one_changed (kept_on c.args.leg.channel (covered_by c.args.count)) c.self.inside.lines.items c.args.self.now c.args.leg.line
     c.index_mut.result.now c.cover.new.self c.self.view_is (omega arith) c.index_mut.ensures.value (ap (λ (p : PooledLine). p.line) c.cover.ensures)
 
-pub returns-else-place-len : goal.returns-else-place-len
-returns-else-place-len c =
-    none_changed (kept_on c.args.place.channel (covered_by c.args.count)) c.self.inside.lines.items c.args.self.now c.args.place.line
+pub returns-else-leg-len : goal.returns-else-leg-len
+returns-else-leg-len c =
+    none_changed (kept_on c.args.leg.channel (covered_by c.args.count)) c.self.inside.lines.items c.args.self.now c.args.leg.line
     c.self.view_is (omega arith)
 
 pub invariant_of-self : goal.invariant_of-self
 invariant_of-self c =
     let xs = c.self.inside.lines.items in
-    let n = c.args.place.line in
+    let n = c.args.leg.line in
     let new = c.cover.new.self in
-    let f = kept_on c.args.place.channel (covered_by c.args.count) in
+    let f = kept_on c.args.leg.channel (covered_by c.args.count) in
     record {
       most = count_kept xs n 64 new c.self.invariant.most;
       rest = joins_of_one c.self.inside.touched c.self.inside.untaken xs n c.index_mut.result.now new (omega arith)
           c.index_mut.ensures.value (ap (λ (p : PooledLine). p.line.end) c.cover.ensures) c.self.invariant.rest;
       moves = one_calm c.self.inside.to_relay c.self.inside.refusing f xs n c.index_mut.result.now new (omega arith)
           c.index_mut.ensures.value (ap (λ (p : PooledLine). p.line) c.cover.ensures)
-          (λ l d. (kept_leads (covered_by c.args.count) l.joined c.args.place.channel d (λ j e. refl), same_layer l.end.layer d))
+          (λ l d. (kept_leads (covered_by c.args.count) l.joined c.args.leg.channel d (λ j e. refl), same_layer l.end.layer d))
           c.self.invariant.moves;
       pooled = pooled_same c.self.inside.pool f xs n c.index_mut.result.now new c.self.invariant.pooled (omega arith)
           c.index_mut.ensures.value c.cover.ensures;

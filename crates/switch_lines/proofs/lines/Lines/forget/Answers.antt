@@ -14,6 +14,6 @@ invariant_of-self c =
       most = c.self.invariant.most;
       rest = c.self.invariant.rest;
       moves = subst (λ (ks : List SwitchLine). NothingElseMoves c.remove.new.self r ks) (sym c.self.view_is)
-          (forgotten s c.remove.new.self r ls c.args.place c.requires c.remove.ensures moves);
+          (forgotten s c.remove.new.self r ls c.args.leg c.requires c.remove.ensures moves);
       pooled = c.self.invariant.pooled;
     }

@@ -9,18 +9,18 @@ use Rattle.switch_joins.proofs.Slots.{get_outside}
 
 pub front-requires : goal.front-requires
 front-requires c =
-    (serves_one c.self.inside.pool c.self.inside.lines.items c.args.place.line c.index.result.now c.self.invariant.pooled
+    (serves_one c.self.inside.pool c.self.inside.lines.items c.args.leg.line c.index.result.now c.self.invariant.pooled
     (omega arith) c.index.ensures).holds
 
-pub returns-then-place-len : goal.returns-then-place-len
-returns-then-place-len c =
+pub returns-then-leg-len : goal.returns-then-leg-len
+returns-then-leg-len c =
     c.front.ensures
-    ∙ ap (λ (o : Option SwitchLine). maybe_front (front_of_line o c.args.place.channel))
-    (one_seen c.self.inside.lines.items c.args.self.now c.args.place.line c.index.result.now c.self.view_is (omega arith)
+    ∙ ap (λ (o : Option SwitchLine). maybe_front (front_of_line o c.args.leg.channel))
+    (one_seen c.self.inside.lines.items c.args.self.now c.args.leg.line c.index.result.now c.self.view_is (omega arith)
     c.index.ensures)
 
-pub returns-else-place-len : goal.returns-else-place-len
-returns-else-place-len c =
+pub returns-else-leg-len : goal.returns-else-leg-len
+returns-else-leg-len c =
     let long = plain_length c.self.inside.lines.items in
-    rw (← c.self.view_is) (sym (ap (λ (o : Option SwitchLine). maybe_front (front_of_line o c.args.place.channel))
-    (get_outside (plain c.self.inside.lines.items) c.args.place.line (omega (arith, long)))))
+    rw (← c.self.view_is) (sym (ap (λ (o : Option SwitchLine). maybe_front (front_of_line o c.args.leg.channel))
+    (get_outside (plain c.self.inside.lines.items) c.args.leg.line (omega (arith, long)))))

@@ -14,8 +14,8 @@ use Rattle.switch_lines.proofs.lines.Lines.may_take.Goals as goal
 
 pub packets_due-requires : goal.packets_due-requires
 packets_due-requires c =
-    (serves_one c.self.inside.pool c.self.inside.lines.items c.args.place.line c.index-near.result.now c.self.invariant.pooled
-    (seen_within c.self.inside.lines.items c.args.self.now c.args.place.line c.self.view_is (front_there c.args.self.now c.args.place c.args.front (sym c.requires)))
+    (serves_one c.self.inside.pool c.self.inside.lines.items c.args.leg.line c.index-near.result.now c.self.invariant.pooled
+    (seen_within c.self.inside.lines.items c.args.self.now c.args.leg.line c.self.view_is (front_there c.args.self.now c.args.leg c.args.front (sym c.requires)))
     c.index-near.ensures).holds
 
 pub returns-in-Interrupt-clause-takes : goal.returns-in-Interrupt-clause-takes
@@ -25,7 +25,7 @@ returns-in-Interrupt-clause-takes c =
     let other = c.args.other in
     let less = subst (λ (ps : List PooledLine). other.line < length ps) c.deref.ensures.value c.in-Some.ensures.lookup.3.0 in
     let is = subst (λ (ps : List PooledLine). far ≡ get_or ps other.line far) c.deref.ensures.value c.in-Some.ensures.lookup.1 in
-    interrupt_goes c.may_interrupt.result c.args.self.now c.args.place other far.line (c.requires ∙ ap (λ (f : Front). Some f) c.in-Interrupt.is)
+    interrupt_goes c.may_interrupt.result c.args.self.now c.args.leg other far.line (c.requires ∙ ap (λ (f : Front). Some f) c.in-Interrupt.is)
     (one_seen items c.args.self.now other.line far c.self.view_is less is) c.may_interrupt.ensures
 
 pub returns-in-Some-packets_due-clause-takes : goal.returns-in-Some-packets_due-clause-takes
@@ -34,23 +34,23 @@ returns-in-Some-packets_due-clause-takes c =
     let ls = c.args.self.now in
     let far = c.in-Some.far.now in
     let other = c.args.other in
-    let place = c.args.place in
+    let leg = c.args.leg in
     let less = subst (λ (ps : List PooledLine). other.line < length ps) c.deref.ensures.value c.in-Some.ensures.lookup.3.0 in
     let is = subst (λ (ps : List PooledLine). far ≡ get_or ps other.line far) c.deref.ensures.value c.in-Some.ensures.lookup.1 in
     let there = one_seen items ls other.line far c.self.view_is less is in
-    let here = one_seen items ls place.line c.index-near.result.now c.self.view_is
-    (seen_within items ls place.line c.self.view_is (front_there ls place c.args.front (sym c.requires))) c.index-near.ensures in
-    let near = ap (λ (o : Option SwitchLine). gathered_by (joined_on o place.channel)) here in
+    let here = one_seen items ls leg.line c.index-near.result.now c.self.view_is
+    (seen_within items ls leg.line c.self.view_is (front_there ls leg c.args.front (sym c.requires))) c.index-near.ensures in
+    let near = ap (λ (o : Option SwitchLine). gathered_by (joined_on o leg.channel)) here in
     let size = ap (λ (s : Sizes). s.far) c.sizes-sizes.ensures ∙ sym (ap (λ (o : Option SwitchLine). size_of_line o) there) in
-    packet_goes (nat_le c.in-Some-packets_due.due c.from.result) ls place other c.in-Data.length c.in-Data.more c.in-Data.qualified c.in-Data.delivery
+    packet_goes (nat_le c.in-Some-packets_due.due c.from.result) ls leg other c.in-Data.length c.in-Data.more c.in-Data.qualified c.in-Data.delivery
     (c.requires ∙ ap (λ (f : Front). Some f) c.in-Data.is)
     (λ d e.
     let due = c.in-Some-packets_due.ensures d e in
     let made : Sizes → Gathered → List Datum = λ s g. (turned s g d).made in
     let same = ap₂ made (sym c.sizes-sizes.ensures) (sym near) in
     ap (λ (ds : List Datum). takes_at ls other (map Sending ds)) same
-    ∙ counted_goes ls other far.line (made c.sizes-sizes.result (gathered_by (nth_joined c.index-near.result.now.line.joined place.channel))) c.in-Some-packets_due.due c.from.result there
-    (subst (λ k. are_short k (made c.sizes-sizes.result (gathered_by (nth_joined c.index-near.result.now.line.joined place.channel))) ≡ true) size due.0, due.1)
+    ∙ counted_goes ls other far.line (made c.sizes-sizes.result (gathered_by (nth_joined c.index-near.result.now.line.joined leg.channel))) c.in-Some-packets_due.due c.from.result there
+    (subst (λ k. are_short k (made c.sizes-sizes.result (gathered_by (nth_joined c.index-near.result.now.line.joined leg.channel))) ≡ true) size due.0, due.1)
     (c.from.ensures ∙ c.room.ensures))
 
 pub returns-in-None-clause-takes : goal.returns-in-None-clause-takes
@@ -59,21 +59,21 @@ returns-in-None-clause-takes c =
     let ls = c.args.self.now in
     let far = c.in-Some.far.now in
     let other = c.args.other in
-    let place = c.args.place in
+    let leg = c.args.leg in
     let less = subst (λ (ps : List PooledLine). other.line < length ps) c.deref.ensures.value c.in-Some.ensures.lookup.3.0 in
     let is = subst (λ (ps : List PooledLine). far ≡ get_or ps other.line far) c.deref.ensures.value c.in-Some.ensures.lookup.1 in
     let there = one_seen items ls other.line far c.self.view_is less is in
-    let here = one_seen items ls place.line c.index-near.result.now c.self.view_is
-    (seen_within items ls place.line c.self.view_is (front_there ls place c.args.front (sym c.requires))) c.index-near.ensures in
-    let near = ap (λ (o : Option SwitchLine). gathered_by (joined_on o place.channel)) here in
+    let here = one_seen items ls leg.line c.index-near.result.now c.self.view_is
+    (seen_within items ls leg.line c.self.view_is (front_there ls leg c.args.front (sym c.requires))) c.index-near.ensures in
+    let near = ap (λ (o : Option SwitchLine). gathered_by (joined_on o leg.channel)) here in
     let size = ap (λ (s : Sizes). s.far) c.sizes-sizes.ensures ∙ sym (ap (λ (o : Option SwitchLine). size_of_line o) there) in
-    packet_goes false ls place other c.in-Data.length c.in-Data.more c.in-Data.qualified c.in-Data.delivery
+    packet_goes false ls leg other c.in-Data.length c.in-Data.more c.in-Data.qualified c.in-Data.delivery
     (c.requires ∙ ap (λ (f : Front). Some f) c.in-Data.is)
     (λ d e.
     let made : Sizes → Gathered → List Datum = λ s g. (turned s g d).made in
     ap (λ (ds : List Datum). takes_at ls other (map Sending ds)) (ap₂ made (sym c.sizes-sizes.ensures) (sym near))
-    ∙ long_stays ls other far.line (made c.sizes-sizes.result (gathered_by (nth_joined c.index-near.result.now.line.joined place.channel))) there
-    (subst (λ k. are_short k (made c.sizes-sizes.result (gathered_by (nth_joined c.index-near.result.now.line.joined place.channel))) ≡ false) size
+    ∙ long_stays ls other far.line (made c.sizes-sizes.result (gathered_by (nth_joined c.index-near.result.now.line.joined leg.channel))) there
+    (subst (λ k. are_short k (made c.sizes-sizes.result (gathered_by (nth_joined c.index-near.result.now.line.joined leg.channel))) ≡ false) size
     (c.in-None.ensures d e)))
 
 pub index-near-requires : goal.index-near-requires

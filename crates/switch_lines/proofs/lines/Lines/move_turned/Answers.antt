@@ -10,19 +10,19 @@ use Rattle.switch_lines.proofs.lines.Lines.move_turned.Goals as goal
 pub turn-requires-clause-there : goal.turn-requires-clause-there
 turn-requires-clause-there c =
     let same = ap (λ (ls : List SwitchLine). length ls) c.take.ensures.lines in
-    let long = asked_length c.args.place Taking c.args.self.now in
+    let long = asked_length c.args.leg Taking c.args.self.now in
     omega (arith, same, long, c.requires.there)
 
 pub turn-requires-clause-other : goal.turn-requires-clause-other
 turn-requires-clause-other c =
     let same = ap (λ (ls : List SwitchLine). length ls) c.take.ensures.lines in
-    let long = asked_length c.args.place Taking c.args.self.now in
+    let long = asked_length c.args.leg Taking c.args.self.now in
     omega (arith, same, long, c.requires.other)
 
 pub returns-in-Some-Data : goal.returns-in-Some-Data
 returns-in-Some-Data c =
     let front = ap (λ x. Some (taken_of x)) (sym c.in-Some-Data.field-0-is) ∙ c.in-Some-Data.ensures.taken in
-    subst (λ (o : Option TakenValue). MovesFront o c.args.place c.args.other c.args.self.now c.turn.new.self) front (
-      c.turn.ensures ∙ turned_on c.in-Some-Data.packet c.args.self.now c.take.new.self c.args.place c.args.other c.in-Some-Data.ensures.lines,
+    subst (λ (o : Option TakenValue). MovesFront o c.args.leg c.args.other c.args.self.now c.turn.new.self) front (
+      c.turn.ensures ∙ turned_on c.in-Some-Data.packet c.args.self.now c.take.new.self c.args.leg c.args.other c.in-Some-Data.ensures.lines,
       tt,
     )

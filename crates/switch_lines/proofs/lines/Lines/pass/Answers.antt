@@ -17,28 +17,28 @@ use Rattle.switch_lines.proofs.lines.Lines.pass.Goals as goal
 abbrev any_packet : Datum
 any_packet = record { octets = []; more = false; qualified = false; delivery = false }
 
-pub returns-then-place-len : goal.returns-then-place-len
-returns-then-place-len c d =
-    one_changed (kept_on c.args.place.channel (carried c.args.delivery (all_made (d ∷ [])))) c.self.inside.lines.items c.args.self.now c.args.place.line
+pub returns-then-leg-len : goal.returns-then-leg-len
+returns-then-leg-len c d =
+    one_changed (kept_on c.args.leg.channel (carried c.args.delivery (all_made (d ∷ [])))) c.self.inside.lines.items c.args.self.now c.args.leg.line
     c.index_mut.result.now c.pass.new.self c.self.view_is (omega arith) c.index_mut.ensures.value (ap (λ (p : PooledLine). p.line) (c.pass.ensures d))
 
-pub returns-else-place-len : goal.returns-else-place-len
-returns-else-place-len c d =
-    none_changed (kept_on c.args.place.channel (carried c.args.delivery (all_made (d ∷ [])))) c.self.inside.lines.items c.args.self.now c.args.place.line
+pub returns-else-leg-len : goal.returns-else-leg-len
+returns-else-leg-len c d =
+    none_changed (kept_on c.args.leg.channel (carried c.args.delivery (all_made (d ∷ [])))) c.self.inside.lines.items c.args.self.now c.args.leg.line
     c.self.view_is (omega arith)
 
 pub pass-requires : goal.pass-requires
 pass-requires c =
-    let seen = one_seen c.self.inside.lines.items c.args.self.now c.args.place.line c.index_mut.result.now c.self.view_is (omega arith) c.index_mut.ensures.value in
-    ap (λ (o : Option SwitchLine). gathered_by (joined_on o c.args.place.channel)) seen ∙ c.requires
+    let seen = one_seen c.self.inside.lines.items c.args.self.now c.args.leg.line c.index_mut.result.now c.self.view_is (omega arith) c.index_mut.ensures.value in
+    ap (λ (o : Option SwitchLine). gathered_by (joined_on o c.args.leg.channel)) seen ∙ c.requires
 
 pub invariant_of-self : goal.invariant_of-self
 invariant_of-self c =
     let xs = c.self.inside.lines.items in
-    let n = c.args.place.line in
+    let n = c.args.leg.line in
     let new = c.pass.new.self in
     let old = c.index_mut.result.now in
-    let channel = c.args.place.channel in
+    let channel = c.args.leg.channel in
     let f = kept_on channel (carried c.args.delivery (all_made (any_packet ∷ []))) in
     let same = c.pass.ensures any_packet in
     let seen = one_seen xs c.args.self.now n old c.self.view_is (omega arith) c.index_mut.ensures.value in

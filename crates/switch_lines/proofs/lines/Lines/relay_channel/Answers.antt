@@ -12,22 +12,22 @@ loop-init c = refl
 
 pub loop-preserved : goal.loop-preserved
 loop-preserved c =
-    ap (λ (ls : List SwitchLine). relayed (33 - (c.loop.counter + 1)) c.args.place ls) c.relay_one.ensures.lines
-    ∙ one_moved 33 c.loop.counter c.args.place c.loop.self c.loop-test.true ∙ c.loop.invariant
+    ap (λ (ls : List SwitchLine). relayed (33 - (c.loop.counter + 1)) c.args.leg ls) c.relay_one.ensures.lines
+    ∙ one_moved 33 c.loop.counter c.args.leg c.loop.self c.loop-test.true ∙ c.loop.invariant
 
 pub returns-clause-lines : goal.returns-clause-lines
 returns-clause-lines c =
     let over : 33 - c.loop.counter ≡ 0 = omega (arith, c.loop-test.false) in
-    ap (λ (n : ℕ). relayed n c.args.place c.loop.self) (sym over) ∙ c.loop.invariant
+    ap (λ (n : ℕ). relayed n c.args.leg c.loop.self) (sym over) ∙ c.loop.invariant
 
 pub returns-then-not-relay_one-clause-lines : goal.returns-then-not-relay_one-clause-lines
 returns-then-not-relay_one-clause-lines c =
     let stuck = c.if-not-relay_one.ensures.stuck in
-    c.relay_one.ensures.lines ∙ stuck_unmoved c.loop.self c.args.place stuck
-    ∙ sym (stuck_unrelayed c.loop.self c.args.place (33 - c.loop.counter) stuck) ∙ c.loop.invariant
+    c.relay_one.ensures.lines ∙ stuck_unmoved c.loop.self c.args.leg stuck
+    ∙ sym (stuck_unrelayed c.loop.self c.args.leg (33 - c.loop.counter) stuck) ∙ c.loop.invariant
 
 pub returns-then-not-relay_one-clause-stuck : goal.returns-then-not-relay_one-clause-stuck
 returns-then-not-relay_one-clause-stuck c =
     let stuck = c.if-not-relay_one.ensures.stuck in
-    subst (λ (ls : List SwitchLine). IsStuck ls c.args.place)
-    (sym (c.relay_one.ensures.lines ∙ stuck_unmoved c.loop.self c.args.place stuck)) stuck
+    subst (λ (ls : List SwitchLine). IsStuck ls c.args.leg)
+    (sym (c.relay_one.ensures.lines ∙ stuck_unmoved c.loop.self c.args.leg stuck)) stuck

@@ -15,8 +15,8 @@ still_joined ls ms ks p q x first second =
 
 pub rest_join-requires-clause-joined : goal.rest_join-requires-clause-joined
 rest_join-requires-clause-joined c =
-    still_joined c.args.self.now c.relay_channel-all.new.self c.relay_channel-all_back.new.self c.args.place
-    c.in-Some.other c.args.place c.relay_channel-all.ensures.lines c.relay_channel-all_back.ensures.lines
+    still_joined c.args.self.now c.relay_channel-all.new.self c.relay_channel-all_back.new.self c.args.leg
+    c.in-Some.other c.args.leg c.relay_channel-all.ensures.lines c.relay_channel-all_back.ensures.lines
     ∙ sym c.in-Some.ensures
 
 pub rest_join-requires-clause-back : goal.rest_join-requires-clause-back
@@ -24,5 +24,5 @@ rest_join-requires-clause-back c = c.if-is_joined_to.ensures
 
 pub rest_join-requires-clause-stuck : goal.rest_join-requires-clause-stuck
 rest_join-requires-clause-stuck c =
-    subst (λ (ls : List SwitchLine). IsStuck ls c.args.place) (sym c.relay_channel-all_back.ensures.lines)
-    (relayed_stuck most_moves c.in-Some.other c.args.place c.relay_channel-all.new.self c.if-all.ensures.stuck)
+    subst (λ (ls : List SwitchLine). IsStuck ls c.args.leg) (sym c.relay_channel-all_back.ensures.lines)
+    (relayed_stuck most_moves c.in-Some.other c.args.leg c.relay_channel-all.new.self c.if-all.ensures.stuck)

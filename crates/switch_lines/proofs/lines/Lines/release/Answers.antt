@@ -6,32 +6,32 @@ use Rattle.switch_lines.proofs.Moving.{one_calm}
 use Rattle.switch_lines.proofs.Waiting.{freed_calm}
 use Rattle.switch_lines.proofs.lines.Lines.release.Goals as goal
 
-pub returns-then-place-len : goal.returns-then-place-len
-returns-then-place-len c =
-    one_changed (freed_on c.args.place.channel) c.self.inside.lines.items c.args.self.now c.args.place.line
+pub returns-then-leg-len : goal.returns-then-leg-len
+returns-then-leg-len c =
+    one_changed (freed_on c.args.leg.channel) c.self.inside.lines.items c.args.self.now c.args.leg.line
     c.index_mut.result.now c.release.new.self c.self.view_is (omega arith) c.index_mut.ensures.value c.release.ensures.line
 
-pub returns-else-place-len : goal.returns-else-place-len
-returns-else-place-len c =
-    none_changed (freed_on c.args.place.channel) c.self.inside.lines.items c.args.self.now c.args.place.line
+pub returns-else-leg-len : goal.returns-else-leg-len
+returns-else-leg-len c =
+    none_changed (freed_on c.args.leg.channel) c.self.inside.lines.items c.args.self.now c.args.leg.line
     c.self.view_is (omega arith)
 
 pub invariant_of-self : goal.invariant_of-self
 invariant_of-self c =
     let xs = c.self.inside.lines.items in
     record {
-      most = count_kept xs c.args.place.line 64 c.release.new.self c.self.invariant.most;
-      rest = one_touched c.self.inside.touched c.insert.new.self c.self.inside.untaken xs c.args.place.line
+      most = count_kept xs c.args.leg.line 64 c.release.new.self c.self.invariant.most;
+      rest = one_touched c.self.inside.touched c.insert.new.self c.self.inside.untaken xs c.args.leg.line
           c.release.new.self (omega arith) c.insert.ensures c.self.invariant.rest;
-      moves = one_calm c.self.inside.to_relay c.self.inside.refusing (freed_on c.args.place.channel) xs c.args.place.line c.index_mut.result.now
+      moves = one_calm c.self.inside.to_relay c.self.inside.refusing (freed_on c.args.leg.channel) xs c.args.leg.line c.index_mut.result.now
           c.release.new.self (omega arith) c.index_mut.ensures.value c.release.ensures.line
-          (λ l d. freed_calm c.args.place.channel l d) c.self.invariant.moves;
-      pooled = pooled_set c.self.inside.pool c.release.new.pool c.self.inside.lines.items c.args.place.line c.index_mut.result.now c.release.new.self
+          (λ l d. freed_calm c.args.leg.channel l d) c.self.invariant.moves;
+      pooled = pooled_set c.self.inside.pool c.release.new.pool c.self.inside.lines.items c.args.leg.line c.index_mut.result.now c.release.new.self
           c.self.invariant.pooled (omega arith) c.index_mut.ensures.value c.release.ensures.pool c.release.ensures.claim
           c.release.ensures.within;
     }
 
 pub release-requires : goal.release-requires
 release-requires c =
-    serves_one c.self.inside.pool c.self.inside.lines.items c.args.place.line c.index_mut.result.now c.self.invariant.pooled (omega arith)
+    serves_one c.self.inside.pool c.self.inside.lines.items c.args.leg.line c.index_mut.result.now c.self.invariant.pooled (omega arith)
     c.index_mut.ensures.value

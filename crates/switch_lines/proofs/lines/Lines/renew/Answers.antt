@@ -11,31 +11,31 @@ use Rattle.switch_lines.proofs.Moving.{one_stirred}
 use Rattle.switch_lines.proofs.Waiting.{leads, kept_other}
 use Rattle.switch_lines.proofs.lines.Lines.renew.Goals as goal
 
-pub returns-then-place-len : goal.returns-then-place-len
-returns-then-place-len c =
-    one_changed (kept_on c.args.place.channel (λ v. new_direction)) c.self.inside.lines.items c.args.self.now c.args.place.line
+pub returns-then-leg-len : goal.returns-then-leg-len
+returns-then-leg-len c =
+    one_changed (kept_on c.args.leg.channel (λ v. new_direction)) c.self.inside.lines.items c.args.self.now c.args.leg.line
     c.index_mut.result.now c.renew.new.self c.self.view_is (omega arith) c.index_mut.ensures.value c.renew.ensures.line
 
-pub returns-else-place-len : goal.returns-else-place-len
-returns-else-place-len c =
-    none_changed (kept_on c.args.place.channel (λ v. new_direction)) c.self.inside.lines.items c.args.self.now c.args.place.line
+pub returns-else-leg-len : goal.returns-else-leg-len
+returns-else-leg-len c =
+    none_changed (kept_on c.args.leg.channel (λ v. new_direction)) c.self.inside.lines.items c.args.self.now c.args.leg.line
     c.self.view_is (omega arith)
 
 pub invariant_of-self : goal.invariant_of-self
 invariant_of-self c =
     let xs = c.self.inside.lines.items in
-    let n = c.args.place.line in
+    let n = c.args.leg.line in
     let new = c.renew.new.self in
     record {
       most = count_kept xs n 64 new c.self.invariant.most;
       rest = joins_of_one c.self.inside.touched c.self.inside.untaken xs n c.index_mut.result.now new (omega arith)
           c.index_mut.ensures.value (ap (λ (l : SwitchLine). l.end) c.renew.ensures.line) c.self.invariant.rest;
       moves = one_stirred c.self.inside.to_relay c.insert_join.new.self c.self.inside.refusing
-          (kept_on c.args.place.channel (λ v. new_direction)) xs c.deref.result.now n c.args.place.channel c.other_of.result
+          (kept_on c.args.leg.channel (λ v. new_direction)) xs c.deref.result.now n c.args.leg.channel c.other_of.result
           c.index_mut.result.now new (omega arith) c.index_mut.ensures.value c.renew.ensures.line c.deref.ensures.value c.other_of.ensures
-          (not_of_join c.self.inside.to_relay c.insert_join.new.self c.args.place c.other_of.result c.insert_join.ensures)
-          (λ l d. kept_other (λ v. new_direction) l.joined c.args.place.channel d)
-          (λ l d small apart. (ap leads (nth_apart l.joined c.args.place.channel d _ apart), same_layer l.end.layer d))
+          (not_of_join c.self.inside.to_relay c.insert_join.new.self c.args.leg c.other_of.result c.insert_join.ensures)
+          (λ l d. kept_other (λ v. new_direction) l.joined c.args.leg.channel d)
+          (λ l d small apart. (ap leads (nth_apart l.joined c.args.leg.channel d _ apart), same_layer l.end.layer d))
           c.self.invariant.moves;
       pooled = pooled_set c.self.inside.pool c.renew.new.pool xs n c.index_mut.result.now new c.self.invariant.pooled (omega arith)
           c.index_mut.ensures.value c.renew.ensures.pool c.renew.ensures.claim c.renew.ensures.within;
@@ -43,5 +43,5 @@ invariant_of-self c =
 
 pub renew-requires : goal.renew-requires
 renew-requires c =
-    serves_one c.self.inside.pool c.self.inside.lines.items c.args.place.line c.index_mut.result.now c.self.invariant.pooled (omega arith)
+    serves_one c.self.inside.pool c.self.inside.lines.items c.args.leg.line c.index_mut.result.now c.self.invariant.pooled (omega arith)
     c.index_mut.ensures.value

@@ -9,41 +9,41 @@ use Rattle.switch_lines.proofs.Touched.{count_kept}
 use Rattle.switch_lines.proofs.Moving.{one_joined}
 use Rattle.switch_lines.proofs.lines.Lines.set_joined.Goals as goal
 
-pub returns-then-place-len : goal.returns-then-place-len
-returns-then-place-len c =
-    one_changed (λ l. record l { joined = with_nth_joined l.joined c.args.place.channel (option_map begun c.args.joined) })
-    c.self.inside.lines.items c.args.self.now c.args.place.line
+pub returns-then-leg-len : goal.returns-then-leg-len
+returns-then-leg-len c =
+    one_changed (λ l. record l { joined = with_nth_joined l.joined c.args.leg.channel (option_map begun c.args.joined) })
+    c.self.inside.lines.items c.args.self.now c.args.leg.line
     c.index_mut.result.now c.set_joined.new.self c.self.view_is (omega arith) c.index_mut.ensures.value
     c.set_joined.ensures.line
 
-pub returns-else-place-len : goal.returns-else-place-len
-returns-else-place-len c =
-    none_changed (λ l. record l { joined = with_nth_joined l.joined c.args.place.channel (option_map begun c.args.joined) })
-    c.self.inside.lines.items c.args.self.now c.args.place.line
+pub returns-else-leg-len : goal.returns-else-leg-len
+returns-else-leg-len c =
+    none_changed (λ l. record l { joined = with_nth_joined l.joined c.args.leg.channel (option_map begun c.args.joined) })
+    c.self.inside.lines.items c.args.self.now c.args.leg.line
     c.self.view_is (omega arith)
 
 pub invariant_of-self : goal.invariant_of-self
 invariant_of-self c =
     let xs = c.self.inside.lines.items in
-    let n = c.args.place.line in
+    let n = c.args.leg.line in
     let new = c.set_joined.new.self in
     record {
       most = count_kept xs n 64 new c.self.invariant.most;
       rest = joins_of_one c.self.inside.touched c.self.inside.untaken xs n c.index_mut.result.now new (omega arith)
           c.index_mut.ensures.value
           (ap (λ (l : SwitchLine). l.end) c.set_joined.ensures.line) c.self.invariant.rest;
-      moves = one_joined c.self.inside.to_relay c.insert_join-then-place-len.new.self c.self.inside.refusing xs n c.args.place.channel
+      moves = one_joined c.self.inside.to_relay c.insert_join-then-leg-len.new.self c.self.inside.refusing xs n c.args.leg.channel
           (option_map begun c.args.joined) c.joined_to.result c.index_mut.result.now new (omega arith)
           (omega (arith, c.self.invariant.most)) c.index_mut.ensures.value
           c.set_joined.ensures.line c.set_joined.ensures.few c.joined_to.ensures
           (λ p out.
-          let second = not_of_join c.insert_join.new.self c.insert_join-then-place-len.new.self c.args.place c.joined_to.result
-          c.insert_join-then-place-len.ensures p out in
-          let first = not_of_join c.self.inside.to_relay c.insert_join.new.self c.args.place c.other_of.result
+          let second = not_of_join c.insert_join.new.self c.insert_join-then-leg-len.new.self c.args.leg c.joined_to.result
+          c.insert_join-then-leg-len.ensures p out in
+          let first = not_of_join c.self.inside.to_relay c.insert_join.new.self c.args.leg c.other_of.result
           c.insert_join.ensures p second.0 in (
             first.0,
-            subst (λ (o : Option SwitchChannel). IsApart p c.args.place o)
-                (c.other_of.ensures ∙ ap (λ (ys : List PooledLine). other_at (plain ys) c.args.place) c.deref.ensures.value) first.1,
+            subst (λ (o : Option SwitchChannel). IsApart p c.args.leg o)
+                (c.other_of.ensures ∙ ap (λ (ys : List PooledLine). other_at (plain ys) c.args.leg) c.deref.ensures.value) first.1,
             second.1,
           ))
           c.self.invariant.moves;
@@ -53,5 +53,5 @@ invariant_of-self c =
 
 pub set_joined-requires : goal.set_joined-requires
 set_joined-requires c =
-    serves_one c.self.inside.pool c.self.inside.lines.items c.args.place.line c.index_mut.result.now c.self.invariant.pooled (omega arith)
+    serves_one c.self.inside.pool c.self.inside.lines.items c.args.leg.line c.index_mut.result.now c.self.invariant.pooled (omega arith)
     c.index_mut.ensures.value

@@ -25,8 +25,8 @@ use Rattle.switch_lines.proofs.lines.Lines.turn.Goals as goal
 pub turned-turned-requires : goal.turned-turned-requires
 turned-turned-requires c =
     let xs = c.self.inside.lines.items in
-    (serves_one c.self.inside.pool xs c.args.place.line c.index-near.result.now c.self.invariant.pooled
-    (seen_within xs c.args.self.now c.args.place.line c.self.view_is c.requires.there) c.index-near.ensures).holds
+    (serves_one c.self.inside.pool xs c.args.leg.line c.index-near.result.now c.self.invariant.pooled
+    (seen_within xs c.args.self.now c.args.leg.line c.self.view_is c.requires.there) c.index-near.ensures).holds
 
 pub send_all-requires-clause-pool : goal.send_all-requires-clause-pool
 send_all-requires-clause-pool c =
@@ -44,7 +44,7 @@ pub carry-requires-clause-pool : goal.carry-requires-clause-pool
 carry-requires-clause-pool c =
     let xs = c.self.inside.lines.items in
     let m = c.args.other.line in
-    let n = c.args.place.line in
+    let n = c.args.leg.line in
     let new = c.send_all.new.self in
     let inside = seen_within xs c.args.self.now m c.self.view_is c.requires.other in
     let are = pooled_set c.self.inside.pool c.send_all.new.pool xs m c.index_mut.result.now new c.self.invariant.pooled inside
@@ -57,7 +57,7 @@ pub carry-requires-clause-room : goal.carry-requires-clause-room
 carry-requires-clause-room c =
     let xs = c.self.inside.lines.items in
     let m = c.args.other.line in
-    let n = c.args.place.line in
+    let n = c.args.leg.line in
     let new = c.send_all.new.self in
     let inside = seen_within xs c.args.self.now m c.self.view_is c.requires.other in
     let are = pooled_set c.self.inside.pool c.send_all.new.pool xs m c.index_mut.result.now new c.self.invariant.pooled inside
@@ -75,7 +75,7 @@ carry-requires-clause-size c =
     let at = there xs m old inside c.index_mut.ensures.value in
     let fits = c.sizes_of-sizes.ensures.fits old (ap (λ (ps : List PooledLine). slice_get ps m) c.deref.ensures.value ∙ at) in
     let info = info_there c.self.inside.pool.size xs m old c.self.invariant.pooled.within at in
-    let left = turned_left c.sizes_of-sizes.result (gathered_by (nth_joined c.index-near.result.now.line.joined c.args.place.channel)) c.args.packet.now in
+    let left = turned_left c.sizes_of-sizes.result (gathered_by (nth_joined c.index-near.result.now.line.joined c.args.leg.channel)) c.args.packet.now in
     let is = ap (λ (t : Turn). length t.left.octets) c.turned-turned.ensures in
     omega (arith, fits, info, left, is, c.send_all.ensures.pool.size)
 
@@ -83,12 +83,12 @@ pub invariant_of-self : goal.invariant_of-self
 invariant_of-self c =
     let xs = c.self.inside.lines.items in
     let m = c.args.other.line in
-    let n = c.args.place.line in
+    let n = c.args.leg.line in
     let new = c.send_all.new.self in
     let last = c.carry.new.self in
     let ys = set xs m new in
     let qs = map Sending c.turned-turned.result.made in
-    let f = kept_on c.args.place.channel (carried c.delivery.result c.turned-turned.result) in
+    let f = kept_on c.args.leg.channel (carried c.delivery.result c.turned-turned.result) in
     let inside = seen_within xs c.args.self.now m c.self.view_is c.requires.other in
     let kept = count_written xs m new in
     let here : n < length ys = omega (arith, kept, seen_within xs c.args.self.now n c.self.view_is c.requires.there) in
@@ -97,11 +97,11 @@ invariant_of-self c =
       rest = joins_of_one c.insert.new.self c.self.inside.untaken ys n c.index_mut-2.result.now last here c.index_mut-2.ensures.value
           (ap (λ (l : SwitchLine). l.end) c.carry.ensures.line)
           (one_touched c.self.inside.touched c.insert.new.self c.self.inside.untaken xs m new inside c.insert.ensures c.self.invariant.rest);
-      moves = one_stirred c.self.inside.to_relay c.insert_join.new.self c.self.inside.refusing f ys c.deref-2.result.now n c.args.place.channel
+      moves = one_stirred c.self.inside.to_relay c.insert_join.new.self c.self.inside.refusing f ys c.deref-2.result.now n c.args.leg.channel
           c.other_of.result c.index_mut-2.result.now last here c.index_mut-2.ensures.value c.carry.ensures.line c.deref-2.ensures.value c.other_of.ensures
-          (not_of_join c.self.inside.to_relay c.insert_join.new.self c.args.place c.other_of.result c.insert_join.ensures)
-          (λ l d. kept_other (carried c.delivery.result c.turned-turned.result) l.joined c.args.place.channel d)
-          (λ l d small apart. (ap leads (nth_apart l.joined c.args.place.channel d _ apart), same_layer l.end.layer d))
+          (not_of_join c.self.inside.to_relay c.insert_join.new.self c.args.leg c.other_of.result c.insert_join.ensures)
+          (λ l d. kept_other (carried c.delivery.result c.turned-turned.result) l.joined c.args.leg.channel d)
+          (λ l d small apart. (ap leads (nth_apart l.joined c.args.leg.channel d _ apart), same_layer l.end.layer d))
           (one_calm c.self.inside.to_relay c.self.inside.refusing (asked_on c.args.other.channel qs) xs m c.index_mut.result.now new inside
           c.index_mut.ensures.value c.send_all.ensures.line
           (λ l d. (ap (λ js. leads (nth_joined js d)) (asked_joined c.args.other.channel qs l), asked_calm c.args.other.channel qs l d (all_sent c.turned-turned.result.made)))
@@ -117,7 +117,7 @@ returns c =
     let xs = c.self.inside.lines.items in
     let ls = c.args.self.now in
     let m = c.args.other.line in
-    let n = c.args.place.line in
+    let n = c.args.leg.line in
     let new = c.send_all.new.self in
     let ys = set xs m new in
     let turn = c.turned-turned.result in
@@ -130,13 +130,13 @@ returns c =
     ∙ asks_changed c.args.other qs ls in
     let f = carried c.delivery.result turn in
     let seen = one_seen xs ls n c.index-near.result.now c.self.view_is near c.index-near.ensures in
-    let sizes = c.sizes_of-sizes.ensures.sizes ∙ ap (λ (ps : List PooledLine). sizes_at (plain ps) c.args.place c.args.other) c.deref.ensures.value
-    ∙ ap (λ (xs : List SwitchLine). sizes_at xs c.args.place c.args.other) c.self.view_is in
+    let sizes = c.sizes_of-sizes.ensures.sizes ∙ ap (λ (ps : List PooledLine). sizes_at (plain ps) c.args.leg c.args.other) c.deref.ensures.value
+    ∙ ap (λ (xs : List SwitchLine). sizes_at xs c.args.leg c.args.other) c.self.view_is in
     let turns = c.turned-turned.ensures ∙ ap₂ (λ (s : Sizes) (g : Gathered). turned s g c.args.packet.now) sizes
-    (ap (λ (o : Option SwitchLine). gathered_by (joined_on o c.args.place.channel)) seen) in
-    one_changed (kept_on c.args.place.channel f) ys (plain ys) n c.index_mut-2.result.now c.carry.new.self refl here c.index_mut-2.ensures.value c.carry.ensures.line
-    ∙ ap (λ (xs : List SwitchLine). kept_at c.args.place f xs) sent
-    ∙ ap₂ (λ (b : Bool) (t : Turn). kept_at c.args.place (carried b t) (ask_all c.args.other (map Sending t.made) ls)) c.delivery.ensures turns
+    (ap (λ (o : Option SwitchLine). gathered_by (joined_on o c.args.leg.channel)) seen) in
+    one_changed (kept_on c.args.leg.channel f) ys (plain ys) n c.index_mut-2.result.now c.carry.new.self refl here c.index_mut-2.ensures.value c.carry.ensures.line
+    ∙ ap (λ (xs : List SwitchLine). kept_at c.args.leg f xs) sent
+    ∙ ap₂ (λ (b : Bool) (t : Turn). kept_at c.args.leg (carried b t) (ask_all c.args.other (map Sending t.made) ls)) c.delivery.ensures turns
 
 pub index-near-requires : goal.index-near-requires
 index-near-requires c = grind (arith, common_steps)
