@@ -202,7 +202,7 @@ impl Traffic {
     }
 
     /// How many packets came and are not released.
-    pub fn unreleased(&self) -> u8
+    pub(crate) fn unreleased(&self) -> u8
         ensures value { result ≡ machine.unreleased self.now.traffic }
         ensures most { result < 128 }
     {

@@ -68,7 +68,7 @@ impl Layer {
     }
 
     /// Whether a timer of the channel is to run: of the own call, the own reset or the own clear.
-    pub fn waits_on(&self, channel: u8) -> bool
+    pub(crate) fn waits_on(&self, channel: u8) -> bool
         ensures { result ≡ (machine.runs self.now.layer (machine.Timer.CallTimer channel)
             || (machine.runs self.now.layer (machine.Timer.ResetTimer channel)
             || machine.runs self.now.layer (machine.Timer.ClearTimer channel))) }
