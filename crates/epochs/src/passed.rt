@@ -100,7 +100,7 @@ impl Passed {
     }
 
     /// The epoch of this number, from 0, of those that ended.
-    pub(crate) fn before(&self, number: usize) -> Option<Epoch<'_>>
+    pub fn before(&self, number: usize) -> Option<Epoch<'_>>
         ensures { option_map part_of result ≡ slice_get self.now.epochs.before number }
     {
         let ends = self.ends.as_slice();
