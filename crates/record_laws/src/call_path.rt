@@ -55,9 +55,10 @@ pub fn own_address_law()
     ensures run { OwnRun }
 {}
 
-/// The addresses of the two records of each join. A switch places a call onward on the line of its route, with the
-/// called address that the call has. Its calling address is that of the line on which the call came. The records of the
-/// join have these addresses from then on, whatever is written. So of the joins the relay alone has to be shown.
+/// The addresses of the two records of each join. Let a switch place a call onward on the line of its route, with the
+/// called address that the call has, and with the address of the line that it came on as the calling one. Then the
+/// records of the join have these addresses from then on, whatever is written. So of the joins the relay alone has to
+/// be shown.
 pub fn forward_law()
     ensures made { MadeForwardLaw }
     ensures events { ForwardLaw }

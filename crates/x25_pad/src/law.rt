@@ -1,8 +1,8 @@
 //! The law of the blocks that a PAD sends.
 ghost use Rattle.x25_pad.specs.Law.{KeyBlocksAreTaken, IdleBlocksAreTaken};
 
-/// The editor and the packet layer of a PAD stay in step: the send queue of the call takes each block that a key or an
-/// idle time ends. The law is the contract of this function, which does nothing.
+/// The editor and the packet layer of a PAD stay in step. If a key or an idle time ends a block that fits into a packet
+/// of the line, the send queue of the call takes it. The law is the contract of this function, which does nothing.
 pub fn block_law()
     ensures keys { KeyBlocksAreTaken }
     ensures idle_times { IdleBlocksAreTaken }
