@@ -17,6 +17,8 @@ mod pads;
 #[cfg(test)]
 mod routes;
 #[cfg(test)]
+mod socket_ends;
+#[cfg(test)]
 mod sockets;
 #[cfg(test)]
 mod switch_steps;
