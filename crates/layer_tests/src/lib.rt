@@ -15,6 +15,8 @@ mod packet;
 #[cfg(test)]
 mod pads;
 #[cfg(test)]
+mod presence;
+#[cfg(test)]
 mod routes;
 #[cfg(test)]
 mod socket_ends;

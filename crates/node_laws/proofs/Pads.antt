@@ -26,3 +26,4 @@ pub mod Interrupting
 pub mod Saying
 pub mod Spoken
 pub mod Holding
+pub mod Presence

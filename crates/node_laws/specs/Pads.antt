@@ -10,3 +10,4 @@ pub mod Own
 pub mod Noting
 pub mod Expiry
 pub mod Rooms
+pub mod Presence
