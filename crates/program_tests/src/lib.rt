@@ -10,6 +10,8 @@ mod losses;
 #[cfg(test)]
 mod records;
 #[cfg(test)]
+mod socket_ends;
+#[cfg(test)]
 mod sockets;
 #[cfg(test)]
 mod streams;

@@ -1,6 +1,6 @@
 use Rattle.std.proofs.Common.{◌≡◌, ℕ, List, ◌++◌, length}
 use Rattle.std.specs.Io.KnownBytes.{Appends}
-use Rattle.net_player.proofs.output.write_octets.Given as goal
+use Rattle.octet_streams.proofs.writing.write_all.Given as goal
 
 -- what is gone from the text is written
 abbrev pub invariant-loop-rest : goal.invariant-loop-rest

@@ -1,6 +1,6 @@
 use Rattle.std.proofs.Common.{◌≡◌, ◌+◌, ◌<◌, length, arith, ap, vec_len}
-use Rattle.command_words.proofs.WholeRead.{read_whole}
-use Rattle.command_words.proofs.bounded.read_all.Goals as goal
+use Rattle.octet_streams.proofs.WholeRead.{read_whole}
+use Rattle.octet_streams.proofs.reading.read_all.Goals as goal
 
 pub returns-in-Ok-clause-whole : goal.returns-in-Ok-clause-whole
 returns-in-Ok-clause-whole g c =

@@ -1,5 +1,5 @@
 use Rattle.std.specs.Io.KnownBytes.{Keeps}
-use Rattle.net_player.proofs.output.write_some.Given as goal
+use Rattle.octet_streams.proofs.writing.write_some.Given as goal
 
 -- nothing is written yet
 abbrev pub invariant-loop : goal.invariant-loop
