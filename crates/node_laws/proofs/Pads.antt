@@ -26,3 +26,7 @@ pub mod Interrupting
 pub mod Saying
 pub mod Spoken
 pub mod Holding
+pub mod EventCourses
+pub mod Steps
+pub mod Owners
+pub mod TypedSteps
