@@ -1,9 +1,10 @@
 -- One client's side of a terminal.
-use Rattle.std.specs.Prelude.{ℕ, Bool, List, [], ◌∷◌, ◌++◌, ◌+◌, ◌&&◌, nat_lt, nat_le, length}
+use Rattle.std.specs.Prelude.{ℕ, Bool, true, List, [], ◌∷◌, ◌++◌, ◌+◌, ◌==◌, ◌&&◌, nat_lt, nat_le, length}
 use Rattle.circular_buffer.specs.Buffer.{Buffer, buffer}
 use Rattle.service_ports.specs.declared.command.Command.TheVariants.{Will}
 use Rattle.service_ports.specs.declared.input.TelnetReader.{TelnetReader}
 use Rattle.service_ports.specs.declared.input.Key.{Key}
+use Rattle.service_ports.specs.declared.input.Key.TheVariants.{Octet, Break}
 use Rattle.service_ports.specs.declared.input.Heard.{Heard}
 use Rattle.service_ports.specs.declared.input.Heard.TheVariants.{Nothing, Typed, Answered}
 use Rattle.service_ports.specs.Reading.{new_reader, reads}
@@ -34,6 +35,11 @@ takes_octet port =
 abbrev pub after_octets : PortState → List ℕ → PortState
 after_octets port [] = port
 after_octets port (octet ∷ octets) = after_octets (after_octet port octet) octets
+
+-- whether a key is a break or of this octet
+abbrev pub is_break_or : (octet : ℕ) → Key → Bool
+is_break_or octet (Octet typed) = typed == octet
+is_break_or octet Break = true
 
 -- how many keys may wait to be typed, and how many octets to be written
 abbrev pub key_places : ℕ

@@ -54,6 +54,13 @@ impl TelnetOutput {
         self.after_return = false;
     }
 
+    /// How many octets wait.
+    pub fn len(&self) -> usize
+        ensures { result ≡ length self.now.octets }
+    {
+        self.octets.len()
+    }
+
     /// How many octets more it has room for.
     pub fn room(&self) -> usize
         ensures { result + length self.now.octets ≡ self.now.capacity }

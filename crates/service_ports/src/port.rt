@@ -1,8 +1,8 @@
 //! One client's side of a terminal.
-ghost use Rattle.std.specs.Prelude.{◌≡◌, ◌+◌, ◌*◌, ◌≤◌, ◌<◌, [], ◌∷◌, ◌++◌, true, false, nat_le, length, take, drop, slice_get, IfOk};
+ghost use Rattle.std.specs.Prelude.{◌≡◌, ◌+◌, ◌*◌, ◌≤◌, ◌<◌, [], ◌∷◌, ◌++◌, true, false, nat_le, length, take, drop, slice_get, position, IfOk};
 ghost use Rattle.std.specs.Bool.{OnTrue, OnFalse};
 ghost use Rattle.circular_buffer.specs.Buffer.{buffer};
-ghost use Rattle.service_ports.specs.Ports.{begun, after_octet, after_octets, takes_octet};
+ghost use Rattle.service_ports.specs.Ports.{begun, after_octet, after_octets, is_break_or, takes_octet};
 ghost use Rattle.service_ports.specs.Writing.{with_text, with_command};
 
 use crate::command::{Command, ECHO, SUPPRESS_GO_AHEAD};
@@ -119,6 +119,27 @@ impl Port {
         self.keys.front().copied()
     }
 
+    /// The place of the first key that waits and is a break or of this octet.
+    pub fn find_key(&self, octet: u8) -> Option<usize>
+        ensures { result ≡ position (is_break_or octet) self.now.keys.items }
+    {
+        self.keys.iter().position(|key| is_break_or(*key, octet))
+    }
+
+    /// How many keys wait to be typed.
+    pub fn waiting_keys(&self) -> usize
+        ensures { result ≡ length self.now.keys.items }
+    {
+        self.keys.len()
+    }
+
+    /// How many octets wait to be written.
+    pub fn waiting_octets(&self) -> usize
+        ensures { result ≡ length self.now.output.octets }
+    {
+        self.output.len()
+    }
+
     /// Drops the first `count` keys, which were typed or are not to be; all, if there are fewer.
     pub fn drop_keys(&mut self, count: usize)
         ensures { self.new ≡ record self.old { keys = buffer (drop count self.old.keys.items) self.old.keys.capacity } }
@@ -167,5 +188,15 @@ impl Port {
         } }
     {
         self.output.written(count);
+    }
+}
+
+/// Whether a key is a break or of this octet.
+fn is_break_or(key: Key, octet: u8) -> bool
+    ensures { result ≡ is_break_or octet key }
+{
+    match key {
+        Key::Octet(typed) => typed == octet,
+        Key::Break => true,
     }
 }
