@@ -3,3 +3,4 @@ pub mod Options
 pub mod Reading
 pub mod Writing
 pub mod Ports
+pub mod ClientForm

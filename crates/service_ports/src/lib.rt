@@ -3,11 +3,13 @@
 
 mod command;
 mod input;
+mod law;
 mod options;
 mod output;
 mod port;
 
 pub use command::Command;
 pub use input::{Heard, Key, TelnetReader};
+pub use law::telnet_law;
 pub use output::TelnetOutput;
 pub use port::Port;
