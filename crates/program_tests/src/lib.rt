@@ -8,3 +8,5 @@ mod captures;
 mod records;
 #[cfg(test)]
 mod streams;
+#[cfg(test)]
+mod terminals;
