@@ -1,5 +1,5 @@
-//! Worked examples of the layers and the nodes: of the link, of lines over sockets, of packets and their state tables, of what
-//! a terminal of a PAD types and is shown, of hosts, PADs and switches, of routes, and of the books of lines.
+//! Worked examples of the layers and the nodes: of the link, of packets and their state tables, of what a terminal of a
+//! PAD types and is shown, of hosts, PADs and switches, of routes, and of the books of lines.
 #![tactic(auto)]
 
 #[cfg(test)]
@@ -18,10 +18,6 @@ mod pads;
 mod presence;
 #[cfg(test)]
 mod routes;
-#[cfg(test)]
-mod socket_ends;
-#[cfg(test)]
-mod sockets;
 #[cfg(test)]
 mod switch_steps;
 #[cfg(test)]

@@ -6,6 +6,8 @@ pub mod Holds
 pub mod RecordClauses
 pub mod Happening
 pub mod Courses
+pub mod EventCourses
+pub mod Typed
 pub mod Own
 pub mod Noting
 pub mod Expiry

@@ -11,7 +11,7 @@ ghost use Rattle.node_laws.specs.Pads.Clauses.{KeyLaw, BreakLaw, IdleLaw, PrintL
 ghost use Rattle.node_laws.specs.Pads.Clauses.{FrameLaw, TimerLaw, RelinkLaw, RestartLaw, TimeLaw, MakingLaw};
 
 pub use expiry::pad_expiry_law;
-pub use occasions::occasion_law;
+pub use occasions::{event_course_law, occasion_law, typed_law};
 pub use own::own_text_law;
 pub use presence::presence_law;
 pub use room::pad_room_law;

@@ -130,7 +130,8 @@ link_up l =
     (record (all_closed LinkLost (unread l)) { owed = []; relink = false })
 
 abbrev pub link_down : Layer → Layer
-link_down l = record (all_closed LinkLost (unread l)) { phase = NoSession; owed = []; relink = false }
+link_down l =
+    record (all_closed LinkLost (unread l)) { phase = NoSession; owed = []; served_last = 0; relink = false }
 
 -- ---- packets from the link
 

@@ -48,14 +48,15 @@ use Rattle.pad_ports.specs.Ports.{PortState, AtLine}
 use Rattle.pad_ports.specs.declared.line.PadLine.{PadLine}
 use Rattle.x25_pad.specs.Pad as pad
 use Rattle.x25_pad.specs.Pad.{PadState, acted, at_port}
-use Rattle.x25_pad.specs.Making.{made}
+use Rattle.x25_pad.specs.Making.{made, IsConfig}
+use Rattle.x25_pad.specs.declared.config.PadConfig.{PadConfig}
 use Rattle.node_laws.specs.Pads.Occasions.{Occasion, TookMessage, HadBreak, HadCommand, messages_taken, answer_in, asks_indication, told_at, all_told, all_interrupts}
 use Rattle.node_laws.specs.Pads.Sending.{qualified_messages, IsOfPad, OfPadLaw, HasTyped, HasSaid}
 use Rattle.node_laws.specs.Pads.Holds.{TextOf, PadTypes, HaveSaid}
 use Rattle.node_laws.specs.Pads.Standing.{drained}
 use Rattle.node_laws.specs.Pads.RecordClauses.{SentLaw, MadeHolds, KeyHolds, BreakHolds, PrintHolds, LeavingHolds, ArrivalHolds, FrameHolds, RelinkHolds, TimerHolds, RestartHolds, TimeHolds, DrainedHolds, FarHolds}
 use Rattle.node_laws.specs.Pads.Happening.{PadEvent, HasKey, HasBreak, HasIdleTime, HasPrinting, HasLeaving, HasArrival, HasFrame, HasExpiry, HasRelink, HasRestart, HasTicks, after_event, by_key, by_break, by_printing, occasions_of, meets, at_terminal, is_record, grown, writes_after, OccasionLaw}
-use Rattle.node_laws.specs.Pads.Courses.{Happening, Here, There, Course, happened, IsCourse, begins, goes_on, CourseLaw, IsSeenAs, IsRecordOf, HasSentIn, PadHolds}
+use Rattle.node_laws.specs.Pads.Courses.{Happening, Here, There, Course, happened, beginning, IsCourse, begins, goes_on, CourseLaw, IsSeenAs, IsRecordOf, HasSentIn, PadHolds}
 use Rattle.node_laws.proofs.Pads.Asking.{noted, noted_append}
 use Rattle.node_laws.proofs.Pads.Begins.{made_types}
 use Rattle.node_laws.proofs.Pads.PadBooks.{key_types, break_types, print_types, leaving_types, arrival_types, frame_types, relink_types, timer_types, idle_types, restart_types, time_types, drained_types, far_types}
@@ -316,7 +317,7 @@ module _ (role : Role) where
 -- ---- occasions of a record
 
 -- a record that is not there is that of no call
-unheld : (role : Role) (p : PadState) (b : Book) → PadTypes role p b → (n : ℕ) → slice_get b.records n ≡ None → (channel : ℕ) → test_of n (side_of role b) channel ≡ false
+pub unheld : (role : Role) (p : PadState) (b : Book) → PadTypes role p b → (n : ℕ) → slice_get b.records n ≡ None → (channel : ℕ) → test_of n (side_of role b) channel ≡ false
 unheld role p b h n e channel = by (slot_at role channel b).present refl
   where
     by : (o : Option ℕ) → (slot_at role channel b).present ≡ o → is_record n o ≡ false
@@ -569,10 +570,10 @@ made_kept role c dte_node dce_node channels differ config = record {
 
 -- ---- every list of events
 
-record Stands (role : Role) (s : Course) : Type 0 where
-  nothing : s.pad.line.notes ≡ []
-  types : PadTypes role s.pad s.book
-  said : HaveSaid s.occasions role s.book
+pub record Stands (role : Role) (s : Course) : Type 0 where
+  pub nothing : s.pad.line.notes ≡ []
+  pub types : PadTypes role s.pad s.book
+  pub said : HaveSaid s.occasions role s.book
 
 event_types : (event : PadEvent) (role : Role) (p : PadState) (b : Book) → p.line.notes ≡ [] → PadTypes role p b → PadTypes role (after_event event p) (all_written role (writes_after event p) b)
 event_types (HasKey number octet) role p b none h = key_types role p number octet b h
@@ -588,7 +589,7 @@ event_types HasRestart role p b none h = restart_types role p b h
 event_types (HasTicks ticks) role p b none h =
     subst (λ (ns : List ChannelNote). PadTypes role (pad.elapsed ticks p) (noted role ns b)) (sym none) (time_types role p ticks b h)
 
-stands_after : (role : Role) (h : Happening) (s : Course) → Stands role s → Stands role (happened role h s)
+pub stands_after : (role : Role) (h : Happening) (s : Course) → Stands role s → Stands role (happened role h s)
 stands_after role (Here event) s h = record {
   nothing = refl;
   types = drained_types role (after_event event s.pad) (all_written role (writes_after event s.pad) s.book) (event_types event role s.pad s.book h.nothing h.types);
@@ -600,12 +601,15 @@ stands_after role (There writes) s h = record {
   said = far_said s.occasions role (TextOf s.pad.ports) writes s.book h.types.book h.said;
 }
 
-all_stand : (role : Role) (s : Course) → IsCourse role s → Stands role s
-all_stand role _ (begins c dte_node dce_node channels differ config) = record {
+pub stands_first : (role : Role) (c : PadConfig) (dte_node dce_node channels : ℕ) → (dte_node ≡ dce_node → ⊥) → IsConfig c → Stands role (beginning c dte_node dce_node channels)
+stands_first role c dte_node dce_node channels differ config = record {
   nothing = refl;
   types = drained_types role (made c) (made_book dte_node dce_node channels c.line.standing) (made_types role c dte_node dce_node channels differ config);
   said = new_said role dte_node dce_node channels c.line.standing;
 }
+
+all_stand : (role : Role) (s : Course) → IsCourse role s → Stands role s
+all_stand role _ (begins c dte_node dce_node channels differ config) = stands_first role c dte_node dce_node channels differ config
 all_stand role _ (goes_on {s = s} led h) = stands_after role h s (all_stand role s led)
 
 pub course_is : CourseLaw

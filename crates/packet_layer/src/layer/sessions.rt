@@ -48,6 +48,7 @@ impl Layer {
         self.notes.clear();
         self.close_all(Reason::LinkLost, pool);
         self.phase = Phase::NoSession;
+        self.served_last = 0;
         self.owed.clear();
         self.relink = false;
     }

@@ -115,7 +115,7 @@ fn carries_frames_in_order_and_loses_what_is_in_flight(rt: HostRuntime) -> Resul
 
 /// How a partner fails at a call.
 #[derive(Clone, Copy)]
-enum Failure {
+pub(crate) enum Failure {
     SendFails,
     SendIsShort,
     ReceiveFails,
@@ -124,7 +124,7 @@ enum Failure {
 
 /// A socket that carries, but for one call.
 #[derive(Drop)]
-struct Failing {
+pub(crate) struct Failing {
     socket: UdpSocket,
     failure: Failure,
     /// The number of the call that fails, of those that are left; 0 for none.
@@ -169,7 +169,7 @@ impl Datagrams for Failing {
 
 /// A line over two sockets, of which the one at the DTE's end fails at its call of one number, and that at the DCE's at
 /// that of another.
-fn failing_line<N: Net>(
+pub(crate) fn failing_line<N: Net>(
     net: &N,
     alloc: Global,
     failure: Failure,

@@ -53,9 +53,23 @@ fn fault_of<N: Net>(
 #[test]
 fn both_ends_are_on_this_machine_and_a_fault_is_told_as_it_came(rt: HostRuntime) {
     const OTHER: Ipv4Addr = Ipv4Addr::UNSPECIFIED;
-    assert!(rt; fault_of(&rt, rt.alloc(), Ipv4Addr::LOCALHOST, io::ErrorKind::AddrNotAvailable).is_none());
-    assert!(rt; fault_of(&rt, rt.alloc(), OTHER, io::ErrorKind::AddrNotAvailable) == Some(SocketFault::Socket));
-    assert!(rt; fault_of(&rt, rt.alloc(), OTHER, io::ErrorKind::OutOfMemory) == Some(SocketFault::OutOfMemory));
+    assert!(rt;
+        fault_of(
+            &rt,
+            rt.alloc(),
+            Ipv4Addr::LOCALHOST,
+            io::ErrorKind::AddrNotAvailable
+        )
+        .is_none()
+    );
+    assert!(rt;
+        fault_of(&rt, rt.alloc(), OTHER, io::ErrorKind::AddrNotAvailable)
+            == Some(SocketFault::Socket)
+    );
+    assert!(rt;
+        fault_of(&rt, rt.alloc(), OTHER, io::ErrorKind::OutOfMemory)
+            == Some(SocketFault::OutOfMemory)
+    );
 }
 
 /// A partner for whom so many datagrams wait, each of one octet; the receive fails that leaves so many of them.
