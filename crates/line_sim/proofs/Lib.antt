@@ -1,6 +1,6 @@
 mod LinesBegin
 mod Made
-mod Registered
+pub mod Registered
 pub mod CanBeServed
 pub mod Events
 mod FewerDue
