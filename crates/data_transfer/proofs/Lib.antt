@@ -2,3 +2,4 @@ pub mod Queues
 pub mod Short
 pub mod Windows
 pub mod Pieces
+pub mod Unsent

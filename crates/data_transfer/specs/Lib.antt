@@ -7,3 +7,4 @@ pub mod TakenView
 pub mod TrafficView
 pub mod HeardView
 pub mod Cutting
+pub mod Unsent

@@ -1,5 +1,5 @@
-//! Worked examples of the layers and the nodes: of the link, of lines over sockets, of packets and their state tables, of what
-//! a terminal of a PAD types and is shown, of hosts, PADs and switches, of routes, and of the books of lines.
+//! Worked examples of the layers and the nodes: of the link, of packets and their state tables, of what a terminal of a
+//! PAD types and is shown, of hosts, PADs and switches, of routes, and of the books of lines.
 #![tactic(auto)]
 
 #[cfg(test)]
@@ -15,9 +15,9 @@ mod packet;
 #[cfg(test)]
 mod pads;
 #[cfg(test)]
-mod routes;
+mod presence;
 #[cfg(test)]
-mod sockets;
+mod routes;
 #[cfg(test)]
 mod switch_steps;
 #[cfg(test)]

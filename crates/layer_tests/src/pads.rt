@@ -13,11 +13,12 @@ use std::alloc::Global;
 use x3_params::{Params, Profile};
 use x25_pad::{Pad, PadConfig};
 
-fn new_pad(alloc: Global, line: EndParams) -> Result<Pad, EndFault> {
+/// A PAD of so many terminals on a line.
+pub(crate) fn new_pad(alloc: Global, line: EndParams, terminals: u8) -> Result<Pad, EndFault> {
     let config = PadConfig {
         line,
         params: Params::profile(Profile::Simple, 14),
-        terminals: 1,
+        terminals,
     };
     Pad::new(alloc, config)
 }
@@ -33,7 +34,7 @@ const WIDE: EndParams = EndParams {
 };
 
 fn is_refused(alloc: Global, line: EndParams) -> bool {
-    new_pad(alloc, line).err() == Some(EndFault::BadConfig)
+    new_pad(alloc, line, 1).err() == Some(EndFault::BadConfig)
 }
 
 #[test]
@@ -87,7 +88,7 @@ fn is_written(alloc: Global) -> bool {
 }
 
 fn is_typed(alloc: Global, book: &mut Book) -> bool {
-    match new_pad(alloc, STANDING) {
+    match new_pad(alloc, STANDING, 1) {
         Ok(mut pad) => writes_keys(&mut pad, book),
         Err(_) => false,
     }

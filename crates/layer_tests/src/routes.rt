@@ -20,6 +20,15 @@ const LOOKUPS: &[Lookup] = &[
     (b"3", None, 1),
 ];
 
+// The same where a prefix begins the next one, and that a third.
+const NESTED: &[Lookup] = &[
+    (b"2001", Some(LineNo(3)), 5),
+    (b"20015", Some(LineNo(3)), 5),
+    (b"2002", Some(LineNo(2)), 4),
+    (b"21", Some(LineNo(1)), 2),
+    (b"3", None, 1),
+];
+
 fn is_found(routes: &Routes, lookup: &Lookup) -> bool {
     let (digits, line, looks) = *lookup;
     match Address::read(digits) {
@@ -35,6 +44,21 @@ fn are_found(routes: &Routes, lookups: &[Lookup]) -> bool {
         found = found && is_found(routes, lookup);
     }
     found
+}
+
+// Whether of three prefixes, of which each begins the next, the longest is taken.
+fn takes_the_longest_of_three(routes: &mut Routes) -> bool {
+    adds(routes, b"2", 1, None)
+        && adds(routes, b"20", 2, None)
+        && adds(routes, b"2001", 3, None)
+        && are_found(routes, NESTED)
+}
+
+fn nest(alloc: Global) -> bool {
+    match Routes::new(alloc) {
+        Ok(mut routes) => takes_the_longest_of_three(&mut routes),
+        Err(_) => false,
+    }
 }
 
 // Whether the route of the longest prefix is taken, and a prefix has one route.
@@ -72,5 +96,5 @@ fn follow_the_rules(alloc: Global) -> bool {
 
 #[test]
 fn the_longest_of_256_prefixes_is_taken(rt: HostRuntime) {
-    assert!(rt; follow_the_rules(rt.alloc()));
+    assert!(rt; nest(rt.alloc()) && follow_the_rules(rt.alloc()));
 }

@@ -8,6 +8,7 @@ use frame_codec::FrameBuf;
 use lapb::LinkParams;
 use link_timers::{Role, TimerId};
 use packet_codec::PacketBuf;
+use packet_end::EndParams;
 use std::alloc::Global;
 use x25_switch::{Switch, SwitchChannel, SwitchConfig, SwitchLineConfig};
 
@@ -22,6 +23,12 @@ pub(crate) enum Step<'a> {
     Hears(usize, &'a [u8]),
     /// No packet more.
     HearsNothing(usize),
+    /// A frame arrives at the switch on a line, whoever sent it.
+    Arrives(usize, &'a [u8]),
+    /// The next frame that the switch sent on a line.
+    Gets(usize, &'a [u8]),
+    /// No frame more.
+    GetsNothing(usize),
     /// What a channel is joined to, by line and channel.
     Joined(usize, u8, Option<(usize, u8)>),
     /// An expiry, and whether the timer ran.
@@ -70,9 +77,27 @@ const TRUNK: SwitchLineConfig = SwitchLineConfig {
     address: None,
 };
 
-// Lines 1 and 2 are those of the users 2 and 4. Line 0 is that of the user 1, or the trunk.
-fn lines(has_trunk: bool) -> [SwitchLineConfig; 3] {
-    let first = if has_trunk { TRUNK } else { user_line(b"1") };
+/// What line 0 is.
+#[derive(Clone, Copy)]
+pub(crate) enum FirstLine {
+    /// The line of the user 1.
+    User,
+    /// The same, on which the switch may have one packet unacknowledged.
+    OnePacket,
+    /// A trunk, of which the switch is the DTE.
+    Trunk,
+}
+
+// Lines 1 and 2 are those of the users 2 and 4.
+fn lines(first: FirstLine) -> [SwitchLineConfig; 3] {
+    let first = match first {
+        FirstLine::User => user_line(b"1"),
+        FirstLine::OnePacket => SwitchLineConfig {
+            params: EndParams { k: 1, ..LINE },
+            ..user_line(b"1")
+        },
+        FirstLine::Trunk => TRUNK,
+    };
     [first, user_line(b"2"), user_line(b"4")]
 }
 
@@ -129,9 +154,9 @@ fn add_partner(alloc: Global, role: Role, partners: &mut Vec<Partner>) -> bool {
 }
 
 impl Bench {
-    /// A new switch of three users' lines, or of a trunk and two users' lines.
-    pub(crate) fn new(alloc: Global, has_trunk: bool) -> Option<Bench> {
-        match new_switch(alloc, &lines(has_trunk)) {
+    /// A new switch of such a line and of those of two users.
+    pub(crate) fn new(alloc: Global, first: FirstLine) -> Option<Bench> {
+        match new_switch(alloc, &lines(first)) {
             Some(switch) => Some(Bench {
                 switch,
                 partners: Vec::new(alloc),
@@ -204,11 +229,17 @@ impl Bench {
     // Does a step, and answers whether it is as the example says.
     fn takes(&mut self, step: Step<'_>) -> bool {
         match step {
-            Step::Send(line, _) | Step::Hears(line, _) | Step::HearsNothing(line) => {
-                self.partner_takes(line, step)
-            }
+            Step::Send(line, _)
+            | Step::Hears(line, _)
+            | Step::HearsNothing(line)
+            | Step::Gets(line, _)
+            | Step::GetsNothing(line) => self.partner_takes(line, step),
             Step::Flow => {
                 self.flow();
+                true
+            }
+            Step::Arrives(line, octets) => {
+                self.arrive(line, octets);
                 true
             }
             Step::Joined(line, channel, other) => self.is_joined(line, channel, other),
@@ -245,7 +276,9 @@ impl Partner {
             Step::Send(_, packet) => self.send(packet),
             Step::Hears(_, packet) => self.hears(packet),
             Step::HearsNothing(_) => self.heard.is_empty(),
-            _ => false,
+            Step::Gets(_, octets) => self.gets(octets),
+            Step::GetsNothing(_) => self.coming.is_empty(),
+            Step::Flow | Step::Arrives(..) | Step::Joined(..) | Step::Expires(..) => false,
         }
     }
 
@@ -260,6 +293,10 @@ impl Partner {
 
     fn hears(&mut self, packet: &[u8]) -> bool {
         !self.heard.is_empty() && self.heard.remove(0).as_slice() == packet
+    }
+
+    fn gets(&mut self, octets: &[u8]) -> bool {
+        !self.coming.is_empty() && self.coming.remove(0).as_slice() == octets
     }
 }
 

@@ -1,7 +1,7 @@
 //! Calls through a switch, whose partners send any packet.
 
-use crate::switch_steps::{Bench, Step};
-use Step::{Expires, Flow, Hears, HearsNothing, Joined, Send};
+use crate::switch_steps::{Bench, FirstLine, Step};
+use Step::{Arrives, Expires, Flow, Gets, GetsNothing, Hears, HearsNothing, Joined, Send};
 use link_timers::{Role, TimerId};
 use std::alloc::Global;
 use std::process::Abort;
@@ -19,6 +19,8 @@ enum Beginning {
     InACall,
     // line 0 is a trunk, of which the switch is the DTE, and there is a call over it
     OnATrunk,
+    // line 0 takes one packet at a time, and there is a call between the other lines
+    BesideACall,
 }
 
 // The links and the packet layers of the lines of three users come up.
@@ -64,8 +66,22 @@ const TRUNK: &[Step] = &[
     Hears(1, &[0x10, 0x04, 0x0f]),
 ];
 
+// A call from channel 4 of line 1 to the address 4, which is accepted.
+const CALL_BESIDE: &[Step] = &[
+    Send(1, &[0x10, 0x04, 0x0b, 0x01, 0x40, 0x00]),
+    Flow,
+    Hears(2, &[0x10, 0x01, 0x0b, 0x11, 0x42, 0x00]),
+    Send(2, &[0x10, 0x01, 0x0f]),
+    Flow,
+    Hears(1, &[0x10, 0x04, 0x0f]),
+];
+
 fn users() -> &'static [Step<'static>] {
     USERS
+}
+
+fn a_call_beside() -> &'static [Step<'static>] {
+    CALL_BESIDE
 }
 
 fn a_call() -> &'static [Step<'static>] {
@@ -92,9 +108,17 @@ fn play(rt: &impl Abort, alloc: Global, examples: &[Example<'_>]) {
 
 // Whether the steps of an example fit at a new switch.
 fn holds(alloc: Global, example: &Example<'_>) -> bool {
-    match Bench::new(alloc, matches!(example.begins, Beginning::OnATrunk)) {
+    match Bench::new(alloc, first_line(example.begins)) {
         Some(mut bench) => begins(alloc, &mut bench, example.begins) && bench.fits(example.steps),
         None => false,
+    }
+}
+
+fn first_line(begins: Beginning) -> FirstLine {
+    match begins {
+        Beginning::Up | Beginning::InACall => FirstLine::User,
+        Beginning::OnATrunk => FirstLine::Trunk,
+        Beginning::BesideACall => FirstLine::OnePacket,
     }
 }
 
@@ -105,6 +129,9 @@ fn begins(alloc: Global, bench: &mut Bench, begins: Beginning) -> bool {
             bench.begin(alloc, Role::Dte) && bench.fits(users()) && bench.fits(a_call())
         }
         Beginning::OnATrunk => bench.begin(alloc, Role::Dce) && bench.fits(a_trunk()),
+        Beginning::BesideACall => {
+            bench.begin(alloc, Role::Dte) && bench.fits(users()) && bench.fits(a_call_beside())
+        }
     }
 }
 
@@ -123,6 +150,16 @@ const CAUSES: &[Example] = &[
             Send(0, &[0x10, 0x03, 0x0b, 0x01, 0x30, 0x00]),
             Flow,
             Hears(0, &[0x10, 0x03, 0x13, 0x0d, 0x00]),
+        ],
+    },
+    Example {
+        rule: "a call with a facility is cleared, though its address has a route",
+        begins: Beginning::Up,
+        steps: &[
+            Send(0, &[0x10, 0x04, 0x0b, 0x04, 0x20, 0x01, 0x02, 0x01, 0x01]),
+            Flow,
+            Hears(0, &[0x10, 0x04, 0x13, 0x03, 0x00]),
+            HearsNothing(1),
         ],
     },
     Example {
@@ -339,7 +376,89 @@ fn errors() -> &'static [Example<'static>] {
     ERRORS
 }
 
+// Packets that cannot be read, in a call, with what then goes to lines 0 and 1.
+const UNREADABLE: &[Example] = &[
+    Example {
+        rule: "a packet of no type comes on a channel in a call",
+        begins: Beginning::InACall,
+        steps: &[
+            Send(0, &[0x10, 0x04, 0xf1]),
+            Flow,
+            Hears(0, &[0x10, 0x04, 0x1b, 0x05, 0x1b]),
+            Hears(1, RESET),
+            HearsNothing(0),
+            HearsNothing(1),
+        ],
+    },
+    Example {
+        rule: "data come on a channel that the line does not have",
+        begins: Beginning::InACall,
+        steps: &[
+            Send(0, &[0x10, 0x09, 0x00]),
+            Flow,
+            HearsNothing(0),
+            HearsNothing(1),
+        ],
+    },
+    Example {
+        rule: "a call comes on channel 0",
+        begins: Beginning::InACall,
+        steps: &[
+            Send(0, &[0x10, 0x00, 0x0b]),
+            Flow,
+            HearsNothing(0),
+            HearsNothing(1),
+        ],
+    },
+    Example {
+        rule: "a packet has two octets",
+        begins: Beginning::InACall,
+        steps: &[
+            Send(0, &[0x10, 0x04]),
+            Flow,
+            HearsNothing(0),
+            HearsNothing(1),
+            Joined(0, 4, Some((1, 1))),
+        ],
+    },
+];
+
+fn unreadable() -> &'static [Example<'static>] {
+    UNREADABLE
+}
+
+// A line that relinks because five packets are owed on it.
+const OWED: &[Example] = &[Example {
+    rule: "a fifth owed packet ends the session of its line, and no call between others",
+    begins: Beginning::BesideACall,
+    steps: &[
+        Arrives(0, &[0x01, 0x22, 0x10, 0x03, 0x13, 0x00, 0x00]),
+        Gets(0, &[0x03, 0x42, 0x10, 0x03, 0x17]),
+        Arrives(0, &[0x01, 0x24, 0x10, 0x03, 0x13, 0x00, 0x00]),
+        Gets(0, &[0x01, 0x61]),
+        Arrives(0, &[0x01, 0x26, 0x10, 0x03, 0x13, 0x00, 0x00]),
+        Gets(0, &[0x01, 0x81]),
+        Arrives(0, &[0x01, 0x28, 0x10, 0x03, 0x13, 0x00, 0x00]),
+        Gets(0, &[0x01, 0xa1]),
+        Arrives(0, &[0x01, 0x2a, 0x10, 0x03, 0x13, 0x00, 0x00]),
+        Gets(0, &[0x01, 0xc1]),
+        Arrives(0, &[0x01, 0x2c, 0x10, 0x03, 0x13, 0x00, 0x00]),
+        Gets(0, &[0x01, 0x0f]),
+        GetsNothing(0),
+        GetsNothing(1),
+        GetsNothing(2),
+        Joined(1, 4, Some((2, 1))),
+        Joined(2, 1, Some((1, 4))),
+    ],
+}];
+
+fn owed() -> &'static [Example<'static>] {
+    OWED
+}
+
 #[test]
 fn errors_of_one_leg_go_on(rt: HostRuntime) {
     play(&rt, rt.alloc(), errors());
+    play(&rt, rt.alloc(), unreadable());
+    play(&rt, rt.alloc(), owed());
 }

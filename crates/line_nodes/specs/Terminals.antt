@@ -8,7 +8,7 @@ use Rattle.call_records.specs.Book.{Book}
 use Rattle.line_nodes.specs.Node.{NodeState, Pad, Host}
 use Rattle.line_nodes.specs.Turn.{Turn, unchanged, told}
 use Rattle.line_nodes.specs.declared.terminal.TerminalEvent.{TerminalEvent}
-use Rattle.line_nodes.specs.declared.terminal.TerminalEvent.TheVariants.{Key, Break, Idle, Print}
+use Rattle.line_nodes.specs.declared.terminal.TerminalEvent.TheVariants.{Key, Break, Idle, Print, Leaves, Arrives}
 
 -- the PAD after it; the end of an idle time is nothing where its timer does not run
 abbrev pub after_terminal : (terminal : ℕ) → TerminalEvent → PadState → PadState
@@ -16,6 +16,8 @@ after_terminal terminal (Key octet) p = terminal_event terminal (port.after_key 
 after_terminal terminal Break p = terminal_event terminal port.after_break p
 after_terminal terminal Idle p = pad.after_idle terminal p
 after_terminal terminal Print p = terminal_event terminal port.after_print p
+after_terminal terminal Leaves p = terminal_event terminal port.after_leaving p
+after_terminal terminal Arrives p = terminal_event terminal port.after_arrival p
 
 -- whether it was taken, and not dropped
 abbrev pub is_taken : (terminal : ℕ) → TerminalEvent → PadState → Bool
@@ -23,6 +25,8 @@ is_taken terminal (Key octet) p = pad.key_taken terminal octet p
 is_taken terminal Break p = pad.break_taken terminal p
 is_taken terminal Idle p = pad.idle_taken terminal p
 is_taken terminal Print p = true
+is_taken terminal Leaves p = true
+is_taken terminal Arrives p = true
 
 -- what the terminal shows then
 abbrev pub text_shown : (terminal : ℕ) → TerminalEvent → PadState → List ℕ

@@ -11,4 +11,9 @@ pub enum TerminalEvent {
     Idle,
     /// What waits at the terminal is shown, and then what comes next on its call.
     Print,
+    /// The terminal leaves (X.28 3.1), and is then absent. Its call is cleared as by the command CLR. What it typed, what
+    /// waits to be shown and its parameters are dropped.
+    Leaves,
+    /// The terminal arrives (X.28 3.1), and is then present without a call. If it is present already, nothing happens.
+    Arrives,
 }

@@ -7,7 +7,8 @@ use Rattle.net_events.specs.declared.event.Event.{Event}
 use Rattle.net_events.specs.declared.event.Event.TheVariants.{Deliver}
 use Rattle.net_events.specs.Network.{Network}
 use Rattle.net_nodes.specs.Happening.{FindsNoFrame, FindNoFrames}
-use Rattle.net_player.specs.InTurn.{InTurn, Writes}
+use Rattle.net_player.specs.InTurn.{InTurn}
+use Rattle.octet_streams.specs.Written.{Writes}
 use Rattle.answer_texts.specs.Answers.{Names, frames_text}
 use Rattle.net_player.specs.Playing.{Tells, Flowing, Delivers, has_arrived, deliveries_from, Passes, Flows}
 use Rattle.net_player.specs.Playing.Delivers.{at_limit, arrives, finds_none}
@@ -17,8 +18,9 @@ use Rattle.net_player.specs.InTurn.StopsInTurn.{here}
 use Rattle.net_player.specs.Stopping.{DeliveryStops, PassStops, FlowStops}
 use Rattle.net_player.specs.Stopping.FlowStops.{behind}
 use Rattle.net_files.specs.declared.fault.ProgFault.{ProgFault}
-use Rattle.net_player.proofs.Turns.{in_turn_append, in_turn_one, writes_append, writes_nothing}
+use Rattle.net_player.proofs.Turns.{in_turn_append, in_turn_one}
 use Rattle.net_player.proofs.Parts.{stops_behind}
+use Rattle.octet_streams.proofs.Written.{writes_append, writes_nothing}
 
 -- no more may be delivered
 pub delivers_at_limit : {L : LineService} {names : Names} {traces : Bool} {e : Event} {s : Network} (left : ℕ) → left ≡ 0

@@ -4,4 +4,5 @@ pub mod Parts
 pub mod Deliveries
 pub mod Expiries
 pub mod Failing
+pub mod Endings
 pub mod Typing

@@ -1,11 +1,10 @@
 -- Things of which one stops, and parts of texts.
 use Rattle.std.proofs.Common.{◌≡◌, ◌≢◌, ℕ, suc, ◌<◌, List, [], ◌∷◌, ◌++◌, length, take, drop, get_or, Option, sym, ap, ◌∙◌, subst, append_assoc, take-append-drop, drop-cons, refl}
-use Rattle.std.proofs.Common.{Result, Ok, Err, IfErr, IfOk, OnOk}
-use Rattle.std.specs.Io.KnownBytes.{Appends}
-use Rattle.std.proofs.KnownBytes.{Appends-trans}
+use Rattle.std.proofs.Common.{Result, Ok, Err, IfErr, IfOk}
 use Rattle.net_files.specs.declared.fault.ProgFault.{ProgFault}
 use Rattle.net_files.specs.declared.fault.ProgFault.TheVariants as fault_is
-use Rattle.net_player.specs.InTurn.{InTurn, StopsInTurn, Writes}
+use Rattle.octet_streams.specs.Written.{IsShortFrontOf}
+use Rattle.net_player.specs.InTurn.{InTurn, StopsInTurn}
 use Rattle.net_player.specs.InTurn.InTurn.{nothing, then}
 use Rattle.net_player.specs.InTurn.StopsInTurn.{here, later}
 use Rattle.net_player.specs.Stopping.{IsPartOf}
@@ -57,27 +56,16 @@ told_before {fault} {part} {whole} more told = record {
   refused = λ is empty. told.refused is (front_empty told.rest more empty);
 }
 
+-- a front of a text was written, and the rest was refused
+pub told_short : {fault : ProgFault} {part whole : List ℕ} → IsShortFrontOf whole part → IsPartOf whole fault part
+told_short short = record { rest = short.rest; front = short.front; refused = λ is. short.short }
+
 not_write : fault_is.OutOfMemory ≢ fault_is.Write
 not_write same = cc same
 
 -- the front of a text was written, and then memory was wanted
 pub told_front : (part rest : List ℕ) → IsPartOf (part ++ rest) fault_is.OutOfMemory part
 told_front part rest = record { rest = rest; front = refl; refused = λ is empty. not_write is }
-
--- a text is known to be written, and it is of this kind
-pub writes_known : {Whole : List ℕ → Type 0} {a b : Option (List ℕ)} (text : List ℕ)
-    → Whole text → Appends a b text → Writes a b Whole
-writes_known text kind appended = record { text = text; appended = appended; kind = kind }
-
--- a text was written behind a known one
-pub writes_behind : {Rest Whole : List ℕ → Type 0} {a b c : Option (List ℕ)} (first : List ℕ)
-    → ((rest : List ℕ) → Rest rest → Whole (first ++ rest))
-    → Appends a b first → Writes b c Rest → Writes a c Whole
-writes_behind {Rest} {Whole} {a} {b} {c} first whole appended rest = record {
-  text = first ++ rest.text;
-  appended = Appends-trans a b c first rest.text appended rest.appended;
-  kind = whole rest.text rest.kind;
-}
 
 -- what is said of an error, or where there is none, says this too
 pub if_err_as : {T E : Type 0} (result : Result T E) {P Q : E → Type 0} → ((e : E) → P e → Q e) → IfErr result P → IfErr result Q
@@ -93,7 +81,3 @@ if_err_and (Err e) is one other = is e one other
 pub if_ok_as : {T E : Type 0} (result : Result T E) {P Q : T → Type 0} → ((x : T) → P x → Q x) → IfOk result P → IfOk result Q
 if_ok_as (Ok x) is said = is x said
 if_ok_as (Err e) is said = tt
-
-pub on_ok_as : {T E : Type 0} (result : Result T E) {P Q : Type 0} → (P → Q) → OnOk result P → OnOk result Q
-on_ok_as (Ok x) is said = is said
-on_ok_as (Err e) is said = tt

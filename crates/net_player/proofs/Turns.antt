@@ -1,8 +1,7 @@
--- One thing more is done behind others, and one text more is written behind others.
+-- One thing more is done behind others.
 use Rattle.std.proofs.Common.{◌≡◌, ℕ, List, [], ◌∷◌, ◌++◌, ◌+◌, ◌<◌, take, get_or, length, Option, Some, None, sym, ap, ◌∙◌, subst, append_assoc}
 use Rattle.std.proofs.lemmas.List.{append-nil, take_more}
-use Rattle.std.specs.Io.KnownBytes.{Appends}
-use Rattle.net_player.specs.InTurn.{InTurn, Writes}
+use Rattle.net_player.specs.InTurn.{InTurn}
 use Rattle.net_player.specs.InTurn.InTurn.{nothing, then}
 
 -- things that are done, and others after them
@@ -36,44 +35,3 @@ pub in_turn_next : {X S : Type 0} {Does : X → S → List ℕ → S → Type 0}
 in_turn_next {X} {S} {Does} {s} {mid} {t} {first} {text} xs i x within there done does =
     let P : X → Type 0 = λ y. Does y mid text t in
     in_turn_more xs i x within done (subst P there does)
-
-pub appends_nothing : (known : Option (List ℕ)) → Appends known known []
-appends_nothing None = tt
-appends_nothing (Some xs) = sym (append-nil xs)
-
-pub appends_append : (a b c : Option (List ℕ)) (first rest : List ℕ)
-    → Appends a b first → Appends b c rest → Appends a c (first ++ rest)
-appends_append None b c first rest p q = tt
-appends_append (Some xs) (Some ys) None first rest p q = q
-appends_append (Some xs) None c first rest p q = absurd p
-appends_append (Some xs) (Some ys) (Some zs) first rest p q = q ∙ ap (λ w. w ++ rest) p ∙ append_assoc xs first rest
-
--- nothing was written
-pub writes_nothing : {Kind : List ℕ → Type 0} (known : Option (List ℕ)) → Kind [] → Writes known known Kind
-writes_nothing known kind = record { text = []; appended = appends_nothing known; kind = kind }
-
--- a text was written behind another one
-pub writes_append : {First Rest Whole : List ℕ → Type 0} (a b c : Option (List ℕ))
-    → ((first rest : List ℕ) → First first → Rest rest → Whole (first ++ rest))
-    → Writes a b First → Writes b c Rest → Writes a c Whole
-writes_append a b c joined first rest = record {
-  text = first.text ++ rest.text;
-  appended = appends_append a b c first.text rest.text first.appended rest.appended;
-  kind = joined first.text rest.text first.kind rest.kind;
-}
-
--- a text of one kind is a text of another
-pub writes_as : {First Whole : List ℕ → Type 0} {a b : Option (List ℕ)}
-    → ((text : List ℕ) → First text → Whole text) → Writes a b First → Writes a b Whole
-writes_as is written =
-    record { text = written.text; appended = written.appended; kind = is written.text written.kind }
-
--- a known text was written behind another one
-pub writes_then : {First Whole : List ℕ → Type 0} {a b c : Option (List ℕ)} (text : List ℕ)
-    → ((first : List ℕ) → First first → Whole (first ++ text))
-    → Writes a b First → Appends b c text → Writes a c Whole
-writes_then {First} {Whole} {a} {b} {c} text whole first appended = record {
-  text = first.text ++ text;
-  appended = appends_append a b c first.text text first.appended appended;
-  kind = whole first.text first.kind;
-}

@@ -1,8 +1,13 @@
 -- What the program does on its words and its input.
 use Rattle.std.specs.Prelude.{◌≡◌, ◌≤◌, ◌<◌, ◌⊎◌, ℕ, false, List, length, [], ◌∷◌, ◌++◌, Option, Some, None}
 use Rattle.std.specs.Prelude.{IfSome, IsUtf8, codes, decimal}
+use Rattle.std.specs.Io.KnownBytes.{Keeps}
 use Rattle.frame_lines.specs.Lines.{LineService, memory_service}
 use Rattle.frame_lines.specs.Sockets.{socket_service}
+use Rattle.frame_lines.specs.declared.fault.SocketFault.{SocketFault}
+use Rattle.frame_lines.specs.declared.fault.SocketFault.TheVariants as socket_fault_is
+use Rattle.octet_streams.specs.declared.reading.ReadFault.{ReadFault}
+use Rattle.octet_streams.specs.declared.reading.ReadFault.TheVariants as read_fault_is
 use Rattle.command_words.specs.declared.invocation.Mode.{Mode}
 use Rattle.command_words.specs.declared.invocation.Mode.TheVariants.{Sim, Run}
 use Rattle.command_words.specs.declared.invocation.Invocation.{Invocation}
@@ -19,7 +24,7 @@ use Rattle.net_files.specs.declared.fault.ProgFault.TheVariants as fault_is
 use Rattle.net_files.specs.declared.script.Script.{Script}
 use Rattle.net_files.specs.Networks.{Spells}
 use Rattle.net_files.specs.Scripts.{IsScript, IsScriptFault}
-use Rattle.net_player.specs.InTurn.{Writes}
+use Rattle.octet_streams.specs.Written.{Writes}
 use Rattle.net_player.specs.Playing.{Plays}
 use Rattle.net_player.specs.Stopping.{IsPlayFault, PlayStops}
 
@@ -55,6 +60,11 @@ pub data PlayFails (mode : Mode) (config : Config) (script : Script) (before aft
 abbrev pub making_fault : MakeFault → ProgFault
 making_fault make_fault_is.BadConfig = fault_is.BadConfig
 making_fault make_fault_is.OutOfMemory = fault_is.OutOfMemory
+
+-- why a line over sockets is not made
+abbrev pub socket_fault : SocketFault → ProgFault
+socket_fault socket_fault_is.OutOfMemory = fault_is.OutOfMemory
+socket_fault socket_fault_is.Socket = fault_is.Socket
 
 -- ---- the texts of both
 
@@ -129,6 +139,13 @@ pub data Fails (words : List (List ℕ)) (left before after : Option (List ℕ))
   unplayed : {fault : ProgFault} (asked : Option Invocation)
       → Asks words asked → AskedFails asked left before after fault → Fails words left before after fault
 
+-- the run ended in this fault: it failed, or all was played and the output refused what was left in its buffer; what
+-- was told before the buffer was emptied is told after it
+pub data EndsIn (words : List (List ℕ)) (left before after : Option (List ℕ)) : ProgFault → Type 0 where
+  failed : {fault : ProgFault} (told : Option (List ℕ))
+      → Fails words left before told fault → Keeps told after → EndsIn words left before after fault
+  unwritten : Performs words left before after → EndsIn words left before after fault_is.Write
+
 -- the words ask for nothing
 abbrev pub AskNothing : List (List ℕ) → Type 0
 AskNothing words = (asked : Option Invocation) → ¬ Asks words asked
@@ -138,6 +155,12 @@ AskNothing words = (asked : Option Invocation) → ¬ Asks words asked
 -- a text cannot be had: memory was wanted, or it cannot be read or is too long
 abbrev pub IsReadFault : ProgFault → Type 0
 IsReadFault fault = (fault ≡ fault_is.OutOfMemory) ⊎ (fault ≡ fault_is.File)
+
+-- why a text cannot be had
+abbrev pub reading_fault : ReadFault → ProgFault
+reading_fault read_fault_is.OutOfMemory = fault_is.OutOfMemory
+reading_fault read_fault_is.TooLong = fault_is.File
+reading_fault read_fault_is.Failed = fault_is.File
 
 -- the line of a fault: its number, and the line of the script where it is one
 abbrev pub fault_line : ProgFault → List ℕ
@@ -151,7 +174,3 @@ fault_line fault_is.File = codes "fault 7" ++ 10 ∷ []
 
 abbrev pub bad_words : List ℕ
 bad_words = codes "bad words" ++ 10 ∷ []
-
--- a part is a front of the whole, perhaps nothing
-abbrev pub IsFrontOf : (whole part : List ℕ) → Type 0
-IsFrontOf whole part = (rest : List ℕ) × (whole ≡ part ++ rest)

@@ -10,4 +10,4 @@ pub use line_sim::{
     NodeKind, Pair, Passed, Record, RunFault, StepFault, TerminalEvent, run,
 };
 pub use player::play;
-pub use program::{finish, perform, refuse_words};
+pub use program::{perform, refuse_words};

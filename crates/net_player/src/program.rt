@@ -1,24 +1,26 @@
 //! The program.
-ghost use Rattle.std.specs.Prelude.{◌≡◌, ◌≢◌, ◌≤◌, ◌<◌, ◌⊎◌, [], Ok, true, false, OnOk, IfOk, IfErr, IsOk, IsErr};
+ghost use Rattle.std.specs.Prelude.{◌≡◌, ◌≢◌, ◌≤◌, ◌<◌, ◌⊎◌, [], Ok, true, false, OnOk, IfOk, IfErr};
 ghost use Rattle.std.specs.Prelude.{MatchResult, IsUtf8, length, map, string_bytes};
 ghost use Rattle.std.specs.IoError.{error_kind};
-ghost use Rattle.std.specs.Io.KnownBytes.{Appends};
-ghost use Rattle.net_player.specs.InTurn.{Writes};
+ghost use Rattle.std.specs.Io.Buffered.{writer_contents, writer_inner, writer_buffer};
+ghost use Rattle.std.specs.Io.KnownBytes.{Appends, Keeps};
+ghost use Rattle.octet_streams.specs.Written.{Writes, IsFrontOf};
 ghost use Rattle.net_player.specs.Stopping.{IsPartOf};
 ghost use Rattle.net_player.specs.Programs.{PlaysOn, PlayFails, IsFirst, IsLeftOf, IsOfFile, PlaysTexts, TextsFail};
-ghost use Rattle.net_player.specs.Programs.{Performs, Fails, AskNothing, IsReadFault, fault_line, bad_words};
-ghost use Rattle.net_player.specs.Programs.{IsFrontOf, making_fault};
+ghost use Rattle.net_player.specs.Programs.{Performs, Fails, EndsIn, AskNothing, IsReadFault, fault_line, bad_words};
+ghost use Rattle.net_player.specs.Programs.{making_fault, reading_fault, socket_fault};
 
 use crate::output::write;
 use crate::player::play;
-use command_words::{Invocation, Mode, WordsFault, read_all, read_words};
+use command_words::{Invocation, Mode, WordsFault, read_words};
 use frame_lines::{SocketFault, UdpLine};
 use itoa::Buffer;
 use line_sim::{Config, MakeFault, Net};
 use net_files::{FIRST, ProgFault, Script, read_net, read_script};
+use octet_streams::{ReadFault, read_all};
 use std::alloc::Global;
 use std::fs::{File, Files};
-use std::io::{ErrorKind, Read, Write};
+use std::io::{BufWriter, ErrorKind, Read, Write};
 use std::net::UdpSocket;
 use std::{io, net, str};
 
@@ -39,29 +41,52 @@ const BAD_WORDS: u8 = 2;
 /// Gives the status to end with: 0 at the end of the script, 1 if a fault ended the run, 2 if the words are others.
 /// `err` is told of 1 and 2. Faults are looked for in this order: the words, the network file, its text, the script
 /// file or the input, its lines, the sockets, the network's values, the writing.
-pub fn perform<S: Files + net::Net, R: Read, W: Write, E: Write>(
+///
+/// With status 0 the writer behind the buffer `out` took all that was printed. With status 1 it was given all that was
+/// printed.
+pub fn perform<S: Files + net::Net, R: Read, W: Write + Drop, E: Write>(
     system: &S,
     alloc: Global,
     words: &[String],
     input: &mut R,
-    out: &mut W,
+    out: &mut BufWriter<W>,
     err: &mut E,
 ) -> u8
     ensures status { result ≤ BAD_WORDS }
     ensures done { result ≡ DONE → Performs (map (λ word. string_bytes word) words.now) (R.remaining input.old)
-        (W.contents out.old) (W.contents out.new) × (E.contents err.new ≡ E.contents err.old) }
+        (writer_contents W.contents out.old) (W.contents (writer_inner out.new))
+        × (E.contents err.new ≡ E.contents err.old) }
     ensures fault { result ≡ FAULT → (fault : ProgFault)
-        × Fails (map (λ word. string_bytes word) words.now) (R.remaining input.old) (W.contents out.old)
-        (W.contents out.new) fault × Writes (E.contents err.old) (E.contents err.new) (IsFrontOf (fault_line fault)) }
+        × EndsIn (map (λ word. string_bytes word) words.now) (R.remaining input.old)
+        (writer_contents W.contents out.old) (writer_contents W.contents out.new) fault
+        × Writes (E.contents err.old) (E.contents err.new) (IsFrontOf (fault_line fault)) }
     ensures bad_words { result ≡ BAD_WORDS → AskNothing (map (λ word. string_bytes word) words.now)
-        × (W.contents out.new ≡ W.contents out.old)
+        × (writer_contents W.contents out.new ≡ writer_contents W.contents out.old)
         × Writes (E.contents err.old) (E.contents err.new) (IsFrontOf bad_words) }
     ensures no_words { words.now ≡ [] → result ≢ BAD_WORDS }
 {
     match run(system, alloc, words, input, out) {
-        Ok(true) => DONE,
+        Ok(true) => end_output(out, err),
         Ok(false) => tell_bad_words(err),
-        Err(fault) => tell_fault(fault, err),
+        Err(fault) => {
+            let _ = out.flush();
+            tell_fault(fault, err)
+        }
+    }
+}
+
+/// Hands the writer behind a buffer what is left in it, after a run that went to its end. Gives the status to end with:
+/// if the writer refuses that, the fault `Write` is told on `err`.
+fn end_output<W: Write + Drop, E: Write>(out: &mut BufWriter<W>, err: &mut E) -> u8
+    ensures status { result ≤ FAULT }
+    ensures kept { Keeps (writer_contents W.contents out.old) (writer_contents W.contents out.new) }
+    ensures done { result ≡ DONE → (writer_buffer out.new ≡ []) × (E.contents err.new ≡ E.contents err.old) }
+    ensures refused { result ≡ FAULT
+        → Writes (E.contents err.old) (E.contents err.new) (IsFrontOf (fault_line ProgFault.Write)) }
+{
+    match out.flush() {
+        Ok(()) => DONE,
+        Err(_) => tell_fault(ProgFault::Write, err),
     }
 }
 
@@ -106,20 +131,6 @@ pub fn refuse_words<E: Write>(error: &io::Error, err: &mut E) -> u8
     match error.kind() {
         ErrorKind::OutOfMemory => tell_fault(ProgFault::OutOfMemory, err),
         _ => tell_bad_words(err),
-    }
-}
-
-/// The status to end with, after the output was flushed. If that failed after a run that went to its end, it is that of
-/// the fault `Write`, which is told on `err`. Otherwise it is that of the run, and nothing is told.
-pub fn finish<E: Write>(status: u8, flushed: &io::Result<()>, err: &mut E) -> u8
-    ensures flushed { IsOk flushed.now → (result ≡ status) × (E.contents err.new ≡ E.contents err.old) }
-    ensures refused { IsErr flushed.now → status ≡ DONE → (result ≡ FAULT)
-        × Writes (E.contents err.old) (E.contents err.new) (IsFrontOf (fault_line ProgFault.Write)) }
-    ensures ended { status ≢ DONE → (result ≡ status) × (E.contents err.new ≡ E.contents err.old) }
-{
-    match flushed {
-        Err(_) if status == DONE => tell_fault(ProgFault::Write, err),
-        _ => status,
     }
 }
 
@@ -283,11 +294,21 @@ fn socket_lines<N: net::Net>(
     for _ in 0..count {
         match UdpLine::pair(system, alloc) {
             Ok(line) => lines.push(line)?,
-            Err(SocketFault::OutOfMemory) => return Err(ProgFault::OutOfMemory),
-            Err(SocketFault::Socket) => return Err(ProgFault::Socket),
+            Err(fault) => return Err(socket_fault(fault)),
         }
     }
     Ok(lines)
+}
+
+/// Why a line over sockets is not made.
+fn socket_fault(fault: SocketFault) -> ProgFault
+    ensures value { result ≡ socket_fault fault }
+    ensures kind { (result ≡ ProgFault.OutOfMemory) ⊎ (result ≡ ProgFault.Socket) }
+{
+    match fault {
+        SocketFault::OutOfMemory => ProgFault::OutOfMemory,
+        SocketFault::Socket => ProgFault::Socket,
+    }
 }
 
 /// Octets that have to be text, as a network file's have.
@@ -308,7 +329,7 @@ fn read_file<F: Files>(files: &F, alloc: Global, name: &str) -> Result<Vec<u8>, 
 {
     match File::open(files, name) {
         Ok(mut file) => read_text(alloc, &mut file),
-        Err(error) => Err(reading_fault(&error)),
+        Err(error) => Err(reading_fault(ReadFault::from(error))),
     }
 }
 
@@ -319,17 +340,17 @@ fn read_text<R: Read>(alloc: Global, input: &mut R) -> Result<Vec<u8>, ProgFault
 {
     match read_all(alloc, input, TEXT_OCTETS) {
         Ok(text) => Ok(text),
-        Err(error) => Err(reading_fault(&error)),
+        Err(fault) => Err(reading_fault(fault)),
     }
 }
 
 /// Why nothing is read of a file or of the input.
-fn reading_fault(error: &io::Error) -> ProgFault
-    ensures memory { error_kind error.now ≡ ErrorKind.OutOfMemory → result ≡ ProgFault.OutOfMemory }
-    ensures others { error_kind error.now ≢ ErrorKind.OutOfMemory → result ≡ ProgFault.File }
+fn reading_fault(fault: ReadFault) -> ProgFault
+    ensures value { result ≡ reading_fault fault }
+    ensures kind { IsReadFault result }
 {
-    match error.kind() {
-        ErrorKind::OutOfMemory => ProgFault::OutOfMemory,
-        _ => ProgFault::File,
+    match fault {
+        ReadFault::OutOfMemory => ProgFault::OutOfMemory,
+        ReadFault::TooLong | ReadFault::Failed => ProgFault::File,
     }
 }

@@ -11,7 +11,7 @@ use Rattle.x25_pad.specs.Pad.{PadState, answer_of}
 use Rattle.line_nodes.specs.Node.{NodeState, Pad, Host, end_of}
 use Rattle.line_nodes.specs.Terminals.{is_taken, text_shown}
 use Rattle.line_nodes.specs.declared.terminal.TerminalEvent.{TerminalEvent}
-use Rattle.line_nodes.specs.declared.terminal.TerminalEvent.TheVariants.{Print}
+use Rattle.line_nodes.specs.declared.terminal.TerminalEvent.TheVariants.{Print, Leaves, Arrives}
 use Rattle.line_nodes.specs.declared.fault.NodeFault.{NodeFault}
 use Rattle.line_nodes.specs.declared.fault.NodeFault.TheVariants.{Call, Channel}
 use Rattle.net_events.specs.NodeEvents.{NodeEvent, Hears, Calls, Asks, Refuses, Says}
@@ -54,6 +54,8 @@ pub record CalledOn (n : NodeState) (o : Outcome) : Type 0 where
 -- what a PAD answers to what happens at a terminal
 abbrev pub pad_outcome : (terminal : ℕ) → TerminalEvent → PadState → Outcome
 pad_outcome terminal Print p = Printed
+pad_outcome terminal Leaves p = Done
+pad_outcome terminal Arrives p = Done
 pad_outcome terminal event p = Typed (answer_of (is_taken terminal event p))
 
 abbrev pub AnsweredAt : (terminal : ℕ) → TerminalEvent → NodeState → Outcome → Type 0

@@ -34,6 +34,14 @@ pub(crate) fn at_terminal(
             show(pad, terminal, text);
             *outcome = Outcome::Printed;
         }
+        TerminalEvent::Leaves => {
+            pad.on_leaving(terminal);
+            *outcome = Outcome::Done;
+        }
+        TerminalEvent::Arrives => {
+            pad.on_arriving(terminal);
+            *outcome = Outcome::Done;
+        }
     }
 }
 

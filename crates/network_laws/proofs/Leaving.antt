@@ -23,7 +23,7 @@ use Rattle.line_nodes.specs.Turn.{told, unchanged}
 use Rattle.line_nodes.specs.Terminals.{after_terminal}
 use Rattle.line_nodes.specs.LineTurns.{expires}
 use Rattle.line_nodes.specs.declared.terminal.TerminalEvent.{TerminalEvent}
-use Rattle.line_nodes.specs.declared.terminal.TerminalEvent.TheVariants.{Key, Break, Idle, Print}
+use Rattle.line_nodes.specs.declared.terminal.TerminalEvent.TheVariants.{Key, Break, Idle, Print, Leaves, Arrives}
 use Rattle.net_events.specs.OneLine.{LineState, node_at}
 use Rattle.net_events.specs.NodeEvents.{NodeEvent, IsFor, turn_of}
 use Rattle.net_events.specs.NodeEvents.NodeEvent.{Hears, Expires, Relinks, Restarts, Calls, Asks, Refuses, Says}
@@ -115,6 +115,10 @@ typed-terminal p terminal Idle b q h =
     typed-told (pad.after_idle terminal p) b (pad_law.timer_kept Dte p (idle_timer terminal) b q.node.noted h)
 typed-terminal p terminal Print b q h =
     typed-told (pad.terminal_event terminal port.after_print p) b (pad_law.print_kept Dte p terminal b h)
+typed-terminal p terminal Leaves b q h =
+    typed-told (pad.terminal_event terminal port.after_leaving p) b (pad_law.leaving_kept Dte p terminal b h)
+typed-terminal p terminal Arrives b q h =
+    typed-told (pad.terminal_event terminal port.after_arrival p) b (pad_law.arrival_kept Dte p terminal b h)
 
 typed-pad : (event : NodeEvent) (p : PadState) (b : Book) → IsFor event (Pad p) → IsQuiet (Pad p) → PadHolds Dte p b
     → NodeHolds Dte (drained (turn_of event Dte (Pad p) b).node) (turn_of event Dte (Pad p) b).book

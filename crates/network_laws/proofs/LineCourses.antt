@@ -17,12 +17,12 @@ use Rattle.node_laws.specs.Pads.Courses.{Happening, Here, There, Course, happene
 use Rattle.node_laws.specs.Quiet.{IsQuiet}
 use Rattle.node_laws.proofs.Pads.Holding.{timer_drained, course_is}
 use Rattle.node_laws.specs.Pads.Standing.{drained}
-use Rattle.node_laws.specs.Pads.Happening.{PadEvent, HasKey, HasBreak, HasIdleTime, HasPrinting, HasFrame, HasExpiry, HasRelink, HasRestart, HasTicks, after_event, writes_after}
+use Rattle.node_laws.specs.Pads.Happening.{PadEvent, HasKey, HasBreak, HasIdleTime, HasPrinting, HasLeaving, HasArrival, HasFrame, HasExpiry, HasRelink, HasRestart, HasTicks, after_event, writes_after}
 use Rattle.line_nodes.specs.Node as node
 use Rattle.line_nodes.specs.Node.{NodeState, Pad, Host, sent_out}
 use Rattle.line_nodes.specs.Turn.{Turn, told}
 use Rattle.line_nodes.specs.LineTurns.{expires}
-use Rattle.line_nodes.specs.declared.terminal.TerminalEvent.TheVariants.{Key, Break, Idle, Print}
+use Rattle.line_nodes.specs.declared.terminal.TerminalEvent.TheVariants.{Key, Break, Idle, Print, Leaves, Arrives}
 use Rattle.line_nodes.proofs.Noted.{expires_told}
 use Rattle.frame_lines.specs.Lines.{LineService}
 use Rattle.net_events.specs.OneLine.{LineState}
@@ -83,6 +83,10 @@ pad_turn (AtTerminal number Idle) p b is q =
     record { event_is = HasIdleTime number; is = refl; turn = timer_turn (HasIdleTime number) p (idle_timer number) b q.node.noted refl refl }
 pad_turn (AtTerminal number Print) p b is q =
     record { event_is = HasPrinting number; is = refl; turn = told_turn (HasPrinting number) p (pad.terminal_event number port.after_print p) b refl refl }
+pad_turn (AtTerminal number Leaves) p b is q =
+    record { event_is = HasLeaving number; is = refl; turn = told_turn (HasLeaving number) p (pad.terminal_event number port.after_leaving p) b refl refl }
+pad_turn (AtTerminal number Arrives) p b is q =
+    record { event_is = HasArrival number; is = refl; turn = told_turn (HasArrival number) p (pad.terminal_event number port.after_arrival p) b refl refl }
 pad_turn (Calls address user_data) p b is q = absurd (let no = is.0 in cc)
 pad_turn (Asks channel r) p b is q = absurd (cc)
 pad_turn (Refuses channel) p b is q = absurd (cc)

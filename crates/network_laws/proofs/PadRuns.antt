@@ -20,7 +20,8 @@ use Rattle.frame_lines.specs.Lines.{Flights, no_flights, flying, with_flying, wi
 use Rattle.line_nodes.specs.Node.{NodeState, Pad, Host, is_pad, frames_of, end_of, drained}
 use Rattle.line_nodes.specs.Terminals.{after_terminal, HasTerminal}
 use Rattle.line_nodes.specs.declared.terminal.TerminalEvent.{TerminalEvent}
-use Rattle.line_nodes.specs.declared.terminal.TerminalEvent.TheVariants.{Key, Break, Idle, Print}
+use Rattle.line_nodes.specs.declared.terminal.TerminalEvent.TheVariants.{Key, Break, Idle, Print, Leaves}
+use Rattle.line_nodes.specs.declared.terminal.TerminalEvent.TheVariants as terminal_event
 use Rattle.net_events.specs.OneLine.{LineState, node_at, direction_to}
 use Rattle.net_events.specs.NodeEvents.{NodeEvent, Happened, IsFor, LeftBy, turn_of}
 use Rattle.net_events.specs.NodeEvents.NodeEvent.{Hears, Expires, Asks, Says, Takes, AtTerminal}
@@ -107,6 +108,8 @@ count_terminal number (Key octet) p = count_terminal_event number (port.after_ke
 count_terminal number Break p = count_terminal_event number port.after_break p
 count_terminal number Idle p = count_idle (pad.runs_idle_timer number p) number p
 count_terminal number Print p = count_terminal_event number port.after_print p
+count_terminal number Leaves p = count_terminal_event number port.after_leaving p
+count_terminal number terminal_event.Arrives p = count_terminal_event number port.after_arrival p
 
 count_answered : (o : Option ℕ) (p : PadState) → count (pad.answered o p) ≡ count p
 count_answered None p = refl

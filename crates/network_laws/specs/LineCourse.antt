@@ -12,10 +12,10 @@ use Rattle.node_laws.specs.Pads.Sending.{HasTyped, HasSaid}
 use Rattle.node_laws.specs.Pads.Holds.{node_at as node_of_end}
 use Rattle.node_laws.specs.Pads.Courses.{Happening, Here, There, Course, happened, beginning, IsCourse}
 use Rattle.node_laws.specs.Pads.Standing.{drained}
-use Rattle.node_laws.specs.Pads.Happening.{PadEvent, HasKey, HasBreak, HasIdleTime, HasPrinting, HasFrame, HasExpiry}
-use Rattle.node_laws.specs.Pads.Happening.{HasRelink, HasRestart, HasTicks}
+use Rattle.node_laws.specs.Pads.Happening.{PadEvent, HasKey, HasBreak, HasIdleTime, HasPrinting, HasLeaving, HasArrival}
+use Rattle.node_laws.specs.Pads.Happening.{HasFrame, HasExpiry, HasRelink, HasRestart, HasTicks}
 use Rattle.line_nodes.specs.Node.{Pad}
-use Rattle.line_nodes.specs.declared.terminal.TerminalEvent.TheVariants.{Key, Break, Idle, Print}
+use Rattle.line_nodes.specs.declared.terminal.TerminalEvent.TheVariants.{Key, Break, Idle, Print, Leaves, Arrives}
 use Rattle.frame_lines.specs.Lines.{Flights, LineService}
 use Rattle.net_events.specs.OneLine.{LineState}
 use Rattle.net_events.specs.NodeEvents.{NodeEvent, Hears, Expires, Relinks, Restarts, AtTerminal, Happened, turn_of}
@@ -41,6 +41,8 @@ at_pad (AtTerminal number (Key octet)) = Some (HasKey number octet)
 at_pad (AtTerminal number Break) = Some (HasBreak number)
 at_pad (AtTerminal number Idle) = Some (HasIdleTime number)
 at_pad (AtTerminal number Print) = Some (HasPrinting number)
+at_pad (AtTerminal number Leaves) = Some (HasLeaving number)
+at_pad (AtTerminal number Arrives) = Some (HasArrival number)
 at_pad _ = None
 
 -- at the other end it is what is written there

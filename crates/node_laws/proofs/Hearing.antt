@@ -23,7 +23,7 @@ use Rattle.line_nodes.specs.Terminals.{after_terminal}
 use Rattle.line_nodes.specs.LineTurns.{hears, relinks}
 use Rattle.line_nodes.specs.NodeEvents.{restarted}
 use Rattle.line_nodes.specs.declared.terminal.TerminalEvent.{TerminalEvent}
-use Rattle.line_nodes.specs.declared.terminal.TerminalEvent.TheVariants.{Key, Break, Idle, Print}
+use Rattle.line_nodes.specs.declared.terminal.TerminalEvent.TheVariants.{Key, Break, Idle, Print, Leaves, Arrives}
 use Rattle.node_laws.specs.Nodes.{IsNode, StandsAt, KeepsWith, KeepsBy}
 use Rattle.node_laws.specs.Clauses.{HearsLaw, ExpiresLaw, RelinksLaw, RestartsLaw, TerminalsLaw}
 use Rattle.node_laws.proofs.Turning.{told_keeps, unchanged_keeps, pad_stands, noted_keeps}
@@ -66,6 +66,8 @@ after_keeps s b l role p terminal (Key octet) kept h k = pad_law.key_keeps s b l
 after_keeps s b l role p terminal Break kept h k = pad_law.break_keeps s b l role p terminal kept h k
 after_keeps s b l role p terminal Idle kept h k = pad_law.idle_keeps s b l role p terminal kept h k
 after_keeps s b l role p terminal Print kept h k = pad_law.print_keeps s b l role p terminal kept h k
+after_keeps s b l role p terminal Leaves kept h k = pad_law.leaving_keeps s b l role p terminal kept h k
+after_keeps s b l role p terminal Arrives kept h k = pad_law.arrival_keeps s b l role p terminal kept h k
 
 pub terminals_keep : TerminalsLaw
 terminals_keep s b l role (Pad p) terminal event kept h k =

@@ -115,6 +115,9 @@ module _ (P : PacketEnd → Type 0) (asks : (e : PacketEnd) (channel : ℕ) (r :
   pub print_at : (a : AtLine) → At a → At (port.after_print a)
   print_at a h = next_at a.port.call (port.taken_of a) (port.with_terminal (calls.without_text a.port.terminal) a.port) a.line h
 
+  pub leaving_at : (a : AtLine) → At a → At (port.after_leaving a)
+  leaving_at a h = clear_at a h
+
   pub port_at : (number : ℕ) (act : AtLine → AtLine) (p : PadState) → ((a : AtLine) → At a → At (act a)) → P p.line.end
       → P (pad.at_port number act p).line.end
   port_at number act p f h = by (slice_get p.ports number)

@@ -29,11 +29,11 @@ use Rattle.line_nodes.specs.LineTurns.{hears, expires, relinks, restarts}
 use Rattle.line_nodes.specs.HostTurns.{host_calls, host_asks, host_refuses, host_says, host_takes, taken_turn}
 use Rattle.line_nodes.specs.declared.terminal.TerminalEvent.{TerminalEvent}
 use Rattle.line_nodes.specs.declared.terminal.TerminalEvent.TheVariants as event
-use Rattle.line_nodes.specs.declared.terminal.TerminalEvent.TheVariants.{Key, Break, Print}
+use Rattle.line_nodes.specs.declared.terminal.TerminalEvent.TheVariants.{Key, Break, Print, Leaves, Arrives}
 use Rattle.node_laws.specs.Quiet.{IsQuiet, LeavesQuiet}
 use Rattle.node_laws.proofs.QuietEnds.{IsUnread, received_unread, timer_unread, finished_unread, asked_unread, called_unread, calls_unread, asks_unread, refuses_unread, says_unread, takes_unread}
 use Rattle.node_laws.proofs.LineRecords.Relinking.{AsksNone, finished_asks, calls_ask, requests_ask, refuses_ask, says_ask, takes_ask, expiry_asks}
-use Rattle.node_laws.proofs.PadEnds.{key_at, idle_at, breaks_at, print_at, port_at, answered_at}
+use Rattle.node_laws.proofs.PadEnds.{key_at, idle_at, breaks_at, print_at, leaving_at, port_at, answered_at}
 
 -- ---- turns of any node
 
@@ -193,6 +193,12 @@ after_quiet role p terminal event.Idle b q =
 after_quiet role p terminal Print b q =
     noted_quiet role (pad.terminal_event terminal port.after_print p) b refl
     (terminal_unread terminal port.after_print p (print_at IsUnread asked_unread called_unread) q.unread) (terminal_settled terminal port.after_print p)
+after_quiet role p terminal Leaves b q =
+    noted_quiet role (pad.terminal_event terminal port.after_leaving p) b refl
+    (terminal_unread terminal port.after_leaving p (leaving_at IsUnread asked_unread called_unread) q.unread) (terminal_settled terminal port.after_leaving p)
+after_quiet role p terminal Arrives b q =
+    noted_quiet role (pad.terminal_event terminal port.after_arrival p) b refl
+    (terminal_unread terminal port.after_arrival p (λ a h. h) q.unread) (terminal_settled terminal port.after_arrival p)
 
 pub quiet-terminals : (role : Role) (n : NodeState) (terminal : ℕ) (event : TerminalEvent) (b : Book) → IsQuiet n → LeavesQuiet (at_terminal role n terminal event b)
 quiet-terminals role (Pad p) terminal event b q = after_quiet role p terminal event b q

@@ -7,7 +7,7 @@ use Rattle.call_records.specs.Room.{opening_notes}
 use Rattle.node_laws.proofs.LineRecords.Opening.{frame_opens, expiry_opens, relink_opens}
 use Rattle.node_laws.proofs.Pads.Rooms as pad_law
 use Rattle.line_nodes.specs.Node.{Pad, Host}
-use Rattle.line_nodes.specs.declared.terminal.TerminalEvent.TheVariants.{Key, Break, Idle, Print}
+use Rattle.line_nodes.specs.declared.terminal.TerminalEvent.TheVariants.{Key, Break, Idle, Print, Leaves, Arrives}
 use Rattle.node_laws.specs.Rooms.{NeedsTwoAtMost, HearingRoom, ExpiryRoom, RelinkRoom, RestartRoom, TerminalRoom}
 
 -- a host whose notes open one thing at most
@@ -42,3 +42,5 @@ terminal_room p terminal (Key octet) q = pad_law.key_room p terminal octet
 terminal_room p terminal Break q = pad_law.break_room p terminal
 terminal_room p terminal Idle q = pad_law.idle_room p terminal q.node.noted
 terminal_room p terminal Print q = pad_law.print_room p terminal
+terminal_room p terminal Leaves q = pad_law.leaving_room p terminal
+terminal_room p terminal Arrives q = pad_law.arrival_room p terminal

@@ -6,7 +6,10 @@ pub mod Holds
 pub mod RecordClauses
 pub mod Happening
 pub mod Courses
+pub mod EventCourses
+pub mod Typed
 pub mod Own
 pub mod Noting
 pub mod Expiry
 pub mod Rooms
+pub mod Presence

@@ -18,7 +18,8 @@ pub use expiry::expiry_law;
 pub use line::{line_ends_law, rest_law};
 pub use line_record::{event_law, host_law, line_record_law, opening_law};
 pub use pad::{
-    occasion_law, own_text_law, pad_expiry_law, pad_line_law, pad_records_law, pad_room_law,
+    event_course_law, occasion_law, own_text_law, pad_expiry_law, pad_line_law, pad_records_law,
+    pad_room_law, presence_law, typed_law,
 };
 pub use quiet::quiet_law;
 

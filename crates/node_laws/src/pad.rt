@@ -3,15 +3,17 @@
 mod expiry;
 mod occasions;
 mod own;
+mod presence;
 mod room;
 mod sending;
 
-ghost use Rattle.node_laws.specs.Pads.Clauses.{KeyLaw, BreakLaw, IdleLaw, PrintLaw, FrameLaw, TimerLaw, RelinkLaw};
-ghost use Rattle.node_laws.specs.Pads.Clauses.{RestartLaw, TimeLaw, MakingLaw};
+ghost use Rattle.node_laws.specs.Pads.Clauses.{KeyLaw, BreakLaw, IdleLaw, PrintLaw, LeavingLaw, ArrivalLaw};
+ghost use Rattle.node_laws.specs.Pads.Clauses.{FrameLaw, TimerLaw, RelinkLaw, RestartLaw, TimeLaw, MakingLaw};
 
 pub use expiry::pad_expiry_law;
-pub use occasions::occasion_law;
+pub use occasions::{event_course_law, occasion_law, typed_law};
 pub use own::own_text_law;
+pub use presence::presence_law;
 pub use room::pad_room_law;
 pub use sending::pad_records_law;
 
@@ -24,6 +26,8 @@ pub fn pad_line_law()
     ensures breaks { BreakLaw }
     ensures idle_times { IdleLaw }
     ensures prints { PrintLaw }
+    ensures leavings { LeavingLaw }
+    ensures arrivals { ArrivalLaw }
 
     // What comes from the line.
     ensures frames { FrameLaw }

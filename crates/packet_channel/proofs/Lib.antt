@@ -1,3 +1,4 @@
 pub mod Fitting
 pub mod Owing
 pub mod Sending
+pub mod Unsent

@@ -7,3 +7,4 @@ pub mod Done
 pub mod ChannelView
 pub mod RequestView
 pub mod Answers
+pub mod Unsent

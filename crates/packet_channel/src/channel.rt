@@ -9,6 +9,7 @@ ghost use Rattle.packet_channel.specs.Done.{IsDone};
 ghost use Rattle.data_transfer.specs.Held.{Loses};
 ghost use Rattle.packet_channel.specs.Held.{Fits};
 ghost use Rattle.packet_channel.specs.StateView.{state_of};
+ghost use Rattle.packet_channel.specs.Unsent.{ChannelHasSaidAll};
 ghost use Rattle.data_transfer.specs.Octets.{parts_of, written, ReadsAs};
 ghost use Rattle.data_transfer.specs.Packets.{Body as body};
 ghost use Rattle.data_transfer.specs.declared.flow.Flow.{Flow as FlowValue};
@@ -176,7 +177,7 @@ impl Channel {
         self.owed.is_empty() && self.traffic.is_at_rest()
     }
 
-    /// Writes the packet that goes to the link next, if there is one.
+    /// Writes the packet that goes to the link next, if there is one. If there is none, nothing that may go stays unsent.
     pub fn next_packet(
         &mut self,
         flow: Flow,
@@ -195,6 +196,7 @@ impl Channel {
         ensures reads_back { Fits flow self.old
             → ReadsAs flow channel (machine.next_of flow self.old.channel).body buf.new.items }
         ensures same { OnFalse result (self.new ≡ self.old) }
+        ensures unsent { OnFalse result (ChannelHasSaidAll flow self.new.channel) }
     {
         if let Some(control) = self.owed.first() {
             write_control(flow, channel, control, buf);

@@ -1,6 +1,6 @@
 -- What a request of the call on the channel at a place comes to.
 use Rattle.std.proofs.Common.{◌≡◌, ℕ, ◌+◌, ◌<◌, Bool, length, set, get_or, Some, None, sym, ap, ◌∙◌}
-use Rattle.std.specs.Prelude.{slice_get, Result, Ok, Err, MatchResult}
+use Rattle.std.specs.Prelude.{slice_get, List, Result, Ok, Err, MatchResult, OnErr}
 use Rattle.std.specs.Result.{IsErrAnd}
 use Rattle.packet_channel.specs.Answers.{CarriedOut, Refused, WhenSending}
 use Rattle.packet_channel.specs.Channel.{Request}
@@ -13,7 +13,7 @@ use Rattle.packet_layer.specs.Layer as machine
 use Rattle.packet_layer.specs.Layer.{Layer, set_if}
 use Rattle.packet_layer.specs.LayerView.{holding, layer_of}
 use Rattle.packet_layer.proofs.Placed.{placed, plain_at, plain_set, buffers_same}
-use Rattle.packet_layer.proofs.Places.{request_done, request_refused, refused_at}
+use Rattle.packet_layer.proofs.Places.{request_done, request_refused, refused_at, set_same}
 
 -- the channel of this number is at this place
 pub record IsAt (a : Inside) (x : Held) (c place : ℕ) (old : Holder) : Type 0 where
@@ -67,6 +67,22 @@ told a x c place old new r fault (Err e) same at is =
     ap (λ (x : Held). machine.request_refusal x.layer c r) (sym at.view)
     ∙ refused_at (layer_of a) c place old.channel r at.number (plain_at a.channels.items place old at.there)
     ∙ is.first ∙ ap (λ f. Some (refusal_of f)) (sym same)
+
+-- where the channel is as it was, so is the layer
+pub same_layer : (a : Inside) (x : Held) (c place : ℕ) (old new : Holder) → IsAt a x c place old → new ≡ old →
+    record { layer = changed a place new; held = buffers (set a.channels.items place new) } ≡ x
+same_layer a x c place old new at same =
+    ap (λ (chs : List Holder). record {
+      layer = record (layer_of a) { channels = plain chs };
+      held = buffers chs;
+    })
+    (ap (λ (ch : Holder). set a.channels.items place ch) same ∙ set_same a.channels.items place old at.there)
+    ∙ at.view
+
+-- what holds at an error holds of what tells it on
+pub on_err : {T E : Type 0} {P : Type 0} (result : Result T E) → P → OnErr result P
+on_err (Ok x) p = tt
+on_err (Err e) p = p
 
 -- a request that touches no packet
 pub same_held : (a : Inside) (x : Held) (c place : ℕ) (old new : Holder) → IsAt a x c place old →

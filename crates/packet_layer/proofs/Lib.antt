@@ -5,6 +5,7 @@ pub mod Closed
 pub mod Serving
 pub mod Silence
 pub mod Round
+pub mod Unsent
 pub mod Asked
 pub mod Served
 pub mod Flows

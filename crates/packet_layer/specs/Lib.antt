@@ -4,6 +4,7 @@ pub mod RequestView
 pub mod Params
 pub mod RestartView
 pub mod Silence
+pub mod Unsent
 pub mod LayerView
 pub mod Events
 pub mod TimerView

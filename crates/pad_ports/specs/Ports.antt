@@ -1,6 +1,6 @@
 -- A terminal at its port of the PAD: its call, its idle timer, and what it does at the line.
 use Rattle.std.specs.Prelude.{ℕ, ◌-◌, Bool, true, false, ◌&&◌, ◌==◌, if◌then◌else◌, List, [], ◌∷◌, ◌++◌}
-use Rattle.std.specs.Prelude.{Option, Some, None, is_some}
+use Rattle.std.specs.Prelude.{Option, Some, None, is_some, is_none}
 use Rattle.pad_editing.specs.Edited.{Step, key, idle}
 use Rattle.x28_commands.specs.declared.command.Selection.{Selection}
 use Rattle.x29_messages.specs.MessageForm.{octets_of}
@@ -299,3 +299,26 @@ new_port params standing =
 abbrev pub restarted : PortState → PortState
 restarted p =
     record { terminal = terminal.made p.terminal.settings.initial false; call = None; idle_left = None }
+
+-- ---- a terminal that leaves
+
+abbrev pub left : PortState → PortState
+left p = record { terminal = terminal.left p.terminal.settings.initial; call = None; idle_left = None }
+
+-- its call is cleared as by the command CLR, and nothing is left of what was typed, shown and set
+abbrev pub after_leaving : AtLine → AtLine
+after_leaving a =
+    let cleared = on_call clears a.port.call a in record cleared { port = left cleared.port }
+
+-- ---- a terminal that arrives
+
+abbrev pub arrived : PortState → PortState
+arrived p = with_terminal (terminal.arrived p.terminal) p
+
+-- that asks nothing of the line
+abbrev pub after_arrival : AtLine → AtLine
+after_arrival a = record a { port = arrived a.port }
+
+-- a call may be given to it: it has none, and its terminal is present
+abbrev pub is_free : PortState → Bool
+is_free p = terminal.is_present p.terminal.mode && is_none p.call

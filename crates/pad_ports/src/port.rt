@@ -1,5 +1,5 @@
 //! A terminal at its port of the PAD.
-ghost use Rattle.std.specs.Prelude.{◌≡◌, IfOk, is_none, is_some};
+ghost use Rattle.std.specs.Prelude.{◌≡◌, IfOk, is_some};
 ghost use Rattle.pad_ports.specs.Ports as spec;
 
 mod asking;
@@ -56,11 +56,18 @@ impl Port {
         self.idle_left = None;
     }
 
-    /// Whether there is no call.
-    pub fn is_free(&self) -> bool
-        ensures { result ≡ is_none self.now.call }
+    /// Takes that the terminal arrives (X.28 3.1). If it is present already, nothing happens.
+    pub fn arrive(&mut self)
+        ensures { self.new ≡ spec.arrived self.old }
     {
-        self.call.is_none()
+        self.terminal.arrive();
+    }
+
+    /// Whether the terminal is present and has no call.
+    pub fn is_free(&self) -> bool
+        ensures { result ≡ spec.is_free self.now }
+    {
+        self.terminal.mode().is_present() && self.call.is_none()
     }
 
     /// Whether its call is that on the channel.

@@ -1,11 +1,11 @@
 -- What a PAD does at a break (X.3 3.7).
-use Rattle.std.specs.Prelude.{ℕ, Bool, not, ◌&&◌, if◌then◌else◌, List, [], ◌∷◌, Option, Some, None}
+use Rattle.std.specs.Prelude.{ℕ, Bool, not, ◌&&◌, ◌||◌, if◌then◌else◌, List, [], ◌∷◌, Option, Some, None}
 use Rattle.x3_params.specs.Settings.{acts_on_break}
 use Rattle.x3_params.specs.declared.settings.BreakAction.TheVariants as action
 use Rattle.x29_messages.specs.declared.message.Message.{Message}
 use Rattle.x29_messages.specs.declared.message.Message.TheVariants.{IndicationOfBreak}
 use Rattle.pad_terminal.specs.Settings.{after_set}
-use Rattle.pad_terminal.specs.Terminal.{TerminalState, is_connected, is_data_transfer}
+use Rattle.pad_terminal.specs.Terminal.{TerminalState, is_present, is_connected, is_data_transfer}
 use Rattle.pad_terminal.specs.Calls.{prompted}
 use Rattle.pad_terminal.specs.declared.answers.BreakAnswer.{BreakAnswer}
 use Rattle.pad_terminal.specs.declared.answers.BreakAnswer.TheVariants.{Dropped, Taken}
@@ -47,9 +47,11 @@ discarding t =
     then record t { settings = after_set 8 1 t.settings }
     else t
 
--- without a connected call nothing happens; nor does anything where the indication has no place in the send queue
+-- without a connected call nothing happens; nor does anything where the indication has no place in the send queue, or the
+-- terminal is absent
 abbrev pub is_dropped : CallCondition → TerminalState → Bool
-is_dropped call t = is_connected t.mode && indicates t.settings.params && call.queue_full
+is_dropped call t =
+    not (is_present t.mode) || (is_connected t.mode && indicates t.settings.params && call.queue_full)
 
 abbrev pub after_break : CallCondition → TerminalState → TerminalState
 after_break call t =

@@ -5,7 +5,7 @@ use Rattle.x28_commands.specs.declared.signal.Signal.TheVariants.{Connected, Cle
 use Rattle.pad_terminal.specs.Output.{with_octets, with_signal, with_prompt, laid_out}
 use Rattle.pad_terminal.specs.Terminal.{TerminalState, has_call}
 use Rattle.pad_terminal.specs.declared.mode.Mode.{Mode}
-use Rattle.pad_terminal.specs.declared.mode.Mode.TheVariants.{Free, CallSetUp, DataTransfer, CommandState}
+use Rattle.pad_terminal.specs.declared.mode.Mode.TheVariants.{Absent, Free, CallSetUp, DataTransfer, CommandState}
 
 -- a service signal is shown
 abbrev pub signalled : Signal → TerminalState → TerminalState
@@ -27,6 +27,7 @@ without_call t = record t { settings = record t.settings { output_stopped = fals
 
 abbrev pub freed : Mode → TerminalState → TerminalState
 freed DataTransfer t = prompted Free t
+freed Absent t = record t { mode = Free }
 freed Free t = record t { mode = Free }
 freed CallSetUp t = record t { mode = Free }
 freed CommandState t = record t { mode = Free }

@@ -19,7 +19,7 @@ use Rattle.pad_terminal.specs.declared.answers.CallCondition.{CallCondition}
 use Rattle.pad_terminal.specs.declared.answers.TerminalRequest.{TerminalRequest}
 use Rattle.pad_terminal.specs.declared.answers.TerminalRequest.TheVariants as request
 use Rattle.pad_terminal.specs.declared.mode.Mode.{Mode}
-use Rattle.pad_terminal.specs.declared.mode.Mode.TheVariants.{Free, CallSetUp, DataTransfer, CommandState}
+use Rattle.pad_terminal.specs.declared.mode.Mode.TheVariants.{Absent, Free, CallSetUp, DataTransfer, CommandState}
 use Rattle.pad_terminal.specs.declared.settings.Setting.{Setting}
 use Rattle.pad_terminal.specs.declared.terminal.commands.Outcome.{Outcome}
 
@@ -114,6 +114,7 @@ is_error _ = false
 
 -- a command that is done ends the command state within a call
 abbrev pub mode_after : Option Signal → Mode → Mode
+mode_after answer Absent = Absent
 mode_after answer Free = Free
 mode_after answer CallSetUp = CallSetUp
 mode_after answer DataTransfer = DataTransfer

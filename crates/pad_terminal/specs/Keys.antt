@@ -7,7 +7,7 @@ use Rattle.pad_editing.specs.Echoes.{echo_of}
 use Rattle.pad_terminal.specs.Output.{with_octets, with_echo}
 use Rattle.pad_terminal.specs.CommandLine.{LineKey, is_echoed}
 use Rattle.pad_terminal.specs.CommandLine as line
-use Rattle.pad_terminal.specs.Terminal.{TerminalState, is_data_transfer, runs_idle_timer}
+use Rattle.pad_terminal.specs.Terminal.{TerminalState, is_present, is_data_transfer, runs_idle_timer}
 use Rattle.pad_terminal.specs.Calls.{prompted, go_on, stop}
 use Rattle.pad_terminal.specs.Commands.{after_line, request_of_line}
 use Rattle.pad_terminal.specs.declared.answers.CallCondition.{CallCondition}
@@ -86,9 +86,12 @@ only_adds_key o t =
     && (not (is_flow_control t.settings.params o)
     && (not (is_recall (recall_character t.settings.params) o) && only_adds t.settings.params o t.held))
 
+-- a key of data transfer, or else of the command line; of an absent terminal it is dropped
 abbrev pub after_octet : ℕ → CallCondition → TerminalState → Input
 after_octet o call t =
-    if is_data_transfer t.mode then after_data_key o call.queue_full t else after_command_key o call t
+    if is_data_transfer t.mode then after_data_key o call.queue_full t
+    else if is_present t.mode then after_command_key o call t
+    else record { terminal = t; answer = Dropped }
 
 -- ---- the idle timer
 

@@ -7,7 +7,7 @@ use Rattle.pad_terminal.specs.Output.{Output, no_output}
 use Rattle.pad_terminal.specs.Settings.{initial}
 use Rattle.pad_terminal.specs.declared.settings.Settings.{Settings}
 use Rattle.pad_terminal.specs.declared.mode.Mode.{Mode}
-use Rattle.pad_terminal.specs.declared.mode.Mode.TheVariants.{Free, CallSetUp, DataTransfer, CommandState}
+use Rattle.pad_terminal.specs.declared.mode.Mode.TheVariants.{Absent, Free, CallSetUp, DataTransfer, CommandState}
 
 -- its mode; the parameters, and whether the terminal stopped its output; the command line; the text that is held to be
 -- forwarded; what waits to be shown; and whether the PAD told the terminal to stop
@@ -30,8 +30,25 @@ made params standing = record {
   device_stopped = false;
 }
 
+-- the terminal has not left
+abbrev pub is_present : Mode → Bool
+is_present Absent = false
+is_present Free = true
+is_present CallSetUp = true
+is_present DataTransfer = true
+is_present CommandState = true
+
+-- as it is when it has left
+abbrev pub left : List ℕ → TerminalState
+left params = record (made params false) { mode = Absent }
+
+-- one that has left arrives, and is then without a call
+abbrev pub arrived : TerminalState → TerminalState
+arrived t = if is_present t.mode then t else record t { mode = Free }
+
 -- there is a call, or one is being set up
 abbrev pub has_call : Mode → Bool
+has_call Absent = false
 has_call Free = false
 has_call CallSetUp = true
 has_call DataTransfer = true
@@ -39,12 +56,14 @@ has_call CommandState = true
 
 -- there is a call, which is connected
 abbrev pub is_connected : Mode → Bool
+is_connected Absent = false
 is_connected Free = false
 is_connected CallSetUp = false
 is_connected DataTransfer = true
 is_connected CommandState = true
 
 abbrev pub is_data_transfer : Mode → Bool
+is_data_transfer Absent = false
 is_data_transfer Free = false
 is_data_transfer CallSetUp = false
 is_data_transfer DataTransfer = true

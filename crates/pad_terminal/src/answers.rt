@@ -32,7 +32,8 @@ pub enum TerminalRequest {
 /// What became of a key or of the end of an idle time.
 #[derive(Drop)]
 pub enum InputAnswer {
-    /// The input was dropped: it would have ended a block, which had no place in the send queue.
+    /// The input was dropped: it would have ended a block, which had no place in the send queue, or the terminal is
+    /// absent.
     Dropped,
     /// The editor took the input, with the parameters in force. A block that it ended is to be sent in one Data packet.
     Edited(Option<Block>),
@@ -43,7 +44,7 @@ pub enum InputAnswer {
 /// What became of a break.
 #[derive(Drop)]
 pub enum BreakAnswer {
-    /// The break was dropped: its indication had no place in the send queue.
+    /// The break was dropped: its indication had no place in the send queue, or the terminal is absent.
     Dropped,
     /// The break was taken.
     Taken(BreakRequests),

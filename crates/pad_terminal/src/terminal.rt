@@ -83,9 +83,26 @@ impl Terminal {
         self.device_stopped = false;
     }
 
+    /// The terminal leaves (X.28 3.1): it restarts, and is absent.
+    pub fn leave(&mut self)
+        ensures { self.new ≡ spec.left self.old.settings.initial }
+    {
+        self.restart();
+        self.mode = Mode::Absent;
+    }
+
+    /// The terminal arrives (X.28 3.1). If it is absent, it is then without a call. If it is present, nothing happens.
+    pub fn arrive(&mut self)
+        ensures { self.new ≡ spec.arrived self.old }
+    {
+        if !self.mode.is_present() {
+            self.mode = Mode::Free;
+        }
+    }
+
     // ---- questions
 
-    /// Whether there is a call, and where the terminal's keys go.
+    /// Whether the terminal is present, whether there is a call, and where its keys go.
     pub fn mode(&self) -> Mode
         ensures { result ≡ self.now.mode }
     {

@@ -7,6 +7,7 @@ use net_player::{
 };
 use packet_codec::Address;
 use std::alloc::Global;
+use std::process::Abort;
 
 /// Two hosts on one line of four channels.
 const PAIR: &str = r#"
@@ -91,14 +92,93 @@ prefix = "2"
 line = 1
 "#;
 
-/// What a record has: its node, the digits of its own address and of the far end's, how many epochs it sent and took
-/// before the last ones, the messages of these with how many are covered and released, whether it is closed, and how
-/// many steps of editing there were.
+/// A PAD and a host at a switch.
+const SMALL: &str = r#"
+[[node]]
+name = "pad"
+kind = "pad"
+
+[[node]]
+name = "host"
+kind = "host"
+
+[[node]]
+name = "s"
+kind = "switch"
+
+[[line]]
+dte = "pad"
+dce = "s"
+address = "1001"
+
+[[line]]
+dte = "host"
+dce = "s"
+address = "2001"
+
+[[route]]
+switch = "s"
+prefix = "1001"
+line = 0
+
+[[route]]
+switch = "s"
+prefix = "2001"
+line = 1
+"#;
+
+/// Two switches with a trunk between them, and a host at each.
+const TREE: &str = r#"
+[[node]]
+name = "h1"
+kind = "host"
+
+[[node]]
+name = "h2"
+kind = "host"
+
+[[node]]
+name = "s1"
+kind = "switch"
+
+[[node]]
+name = "s2"
+kind = "switch"
+
+[[line]]
+dte = "h1"
+dce = "s1"
+address = "1001"
+
+[[line]]
+dte = "s2"
+dce = "s1"
+
+[[line]]
+dte = "h2"
+dce = "s2"
+address = "2001"
+
+[[route]]
+switch = "s1"
+prefix = "2"
+line = 1
+
+[[route]]
+switch = "s2"
+prefix = "2"
+line = 2
+"#;
+
+/// What a record has: its node, the digits of its own address and of the far end's, the hops of its path by switch, line
+/// and channel, how many epochs it sent and took before the last ones, the messages of these with how many are covered
+/// and released, whether it is closed, and how many steps of editing there were.
 #[derive(Clone, Copy)]
 struct Kept {
     node: usize,
     own: &'static [u8],
     far: &'static [u8],
+    path: &'static [(usize, usize, u8)],
     resets: (usize, usize),
     sent: &'static [&'static [u8]],
     covered: usize,
@@ -113,6 +193,7 @@ const FRESH: Kept = Kept {
     node: 0,
     own: &[],
     far: &[],
+    path: &[],
     resets: (0, 0),
     sent: &[],
     covered: 0,
@@ -335,6 +416,7 @@ const CASES: [Case; 4] = [
         ],
         records: &[
             Kept {
+                path: &[(2, 1, 1)],
                 resets: (2, 2),
                 closed: true,
                 ..AT_FIRST
@@ -345,6 +427,7 @@ const CASES: [Case; 4] = [
                 ..AT_SECOND
             },
             Kept {
+                path: &[(2, 0, 1)],
                 taken: &[b"THREE"],
                 released: 1,
                 ..AT_SECOND
@@ -358,12 +441,204 @@ const CASES: [Case; 4] = [
     },
 ];
 
+/// The record of the PAD at the switch, with the one hop of its call.
+const AT_PAD: Kept = Kept {
+    path: &[(2, 1, 1)],
+    ..AT_FIRST
+};
+
+/// Resets that cross: each record has one epoch more for what its end begins or learns of.
+const RESETS: [Case; 4] = [
+    // Both ends of a line reset the call at once.
+    Case {
+        network: PAIR,
+        channels: [4, 4],
+        stages: &[Stage {
+            script: b"flow\ncall a 2001\nflow\nanswer b 4\nflow\nreset a 4\nreset b 4\nflow\n",
+            confirmed: [true, true],
+            finds_none: [true, true],
+        }],
+        pairs: &[FIRST_PAIR],
+        records: &[
+            Kept {
+                far: &[2, 0, 0, 1],
+                resets: (1, 1),
+                ..FRESH
+            },
+            Kept {
+                node: 1,
+                own: &[2, 0, 0, 1],
+                resets: (1, 1),
+                ..FRESH
+            },
+        ],
+    },
+    // Both hosts at a switch do.
+    Case {
+        network: SWITCHED,
+        channels: [4, 1],
+        stages: &[Stage {
+            script: b"flow\ncall h1 2001\nflow\nanswer h2 1\nflow\nreset h1 4\nreset h2 1\nflow\n",
+            confirmed: [true, true],
+            finds_none: [true, true],
+        }],
+        pairs: &[FIRST_PAIR],
+        records: &[
+            Kept {
+                path: &[(2, 1, 1)],
+                resets: (1, 1),
+                ..AT_FIRST
+            },
+            Kept {
+                resets: (1, 1),
+                ..AT_SECOND
+            },
+        ],
+    },
+    // A PAD and a host do.
+    Case {
+        network: SMALL,
+        channels: [4, 1],
+        stages: &[Stage {
+            script: b"flow\nkey pad 0 2001\\0D\nflow\nanswer host 1\nflow\nkey pad 0 \\10RESET\\0D\nreset host 1\nflow\n",
+            confirmed: [false, true],
+            finds_none: [true, true],
+        }],
+        pairs: &[FIRST_PAIR],
+        records: &[
+            Kept {
+                resets: (1, 1),
+                ..AT_PAD
+            },
+            Kept {
+                resets: (1, 1),
+                ..AT_SECOND
+            },
+        ],
+    },
+    // A PAD resets the call twice, and the host learns of one reset.
+    Case {
+        network: SMALL,
+        channels: [4, 1],
+        stages: &[
+            Stage {
+                script: b"flow\nkey pad 0 2001\\0D\nflow\nanswer host 1\nflow\nkey pad 0 \\10RESET\\0D\ndeliver 0 >\ndeliver 0 <\nkey pad 0 ONE\\0D\nkey pad 0 \\10RESET\\0D\n",
+                confirmed: [false, true],
+                finds_none: [false, true],
+            },
+            Stage {
+                script: b"deliver 0 >\ndeliver 0 <\ndeliver 0 >\ndeliver 0 <\ndeliver 0 >\ndeliver 0 <\ndeliver 0 >\ndeliver 0 <\ndeliver 0 >\ndeliver 0 <\ndeliver 0 >\ndeliver 0 <\n",
+                confirmed: [false, true],
+                finds_none: [true, true],
+            },
+            Stage {
+                script: b"key pad 0 TWO\\0D\nflow\ntake host 1\n",
+                confirmed: [false, true],
+                finds_none: [true, true],
+            },
+        ],
+        pairs: &[FIRST_PAIR],
+        records: &[
+            Kept {
+                resets: (2, 2),
+                sent: &[b"TWO\r"],
+                covered: 1,
+                steps: 8,
+                ..AT_PAD
+            },
+            Kept {
+                resets: (1, 1),
+                taken: &[b"TWO\r"],
+                released: 1,
+                ..AT_SECOND
+            },
+        ],
+    },
+];
+
+/// A message without octets, and one with D = 1 over a trunk.
+const MESSAGES: [Case; 2] = [
+    // The PAD takes a packet without octets.
+    Case {
+        network: SMALL,
+        channels: [4, 1],
+        stages: &[Stage {
+            script: b"flow\nkey pad 0 2001\\0D\nflow\nanswer host 1\nflow\nprint pad 0\nsay host 1 - \nflow\nprint pad 0\nflow\n",
+            confirmed: [false, true],
+            finds_none: [true, true],
+        }],
+        pairs: &[FIRST_PAIR],
+        records: &[
+            Kept {
+                taken: &[b""],
+                released: 1,
+                ..AT_PAD
+            },
+            Kept {
+                sent: &[b""],
+                covered: 1,
+                ..AT_SECOND
+            },
+        ],
+    },
+    // A packet with D = 1 is confirmed once the host beyond the trunk took it and its RR packet came.
+    Case {
+        network: TREE,
+        channels: [4, 1],
+        stages: &[
+            Stage {
+                script: b"flow\ncall h1 2001\nflow\nanswer h2 1\nflow\n",
+                confirmed: [true, true],
+                finds_none: [true, true],
+            },
+            Stage {
+                script: b"say h1 4 d HI\nflow\n",
+                confirmed: [false, true],
+                finds_none: [true, true],
+            },
+            Stage {
+                script: b"take h2 1\n",
+                confirmed: [false, true],
+                finds_none: [true, true],
+            },
+            Stage {
+                script: b"flow\n",
+                confirmed: [true, true],
+                finds_none: [true, true],
+            },
+        ],
+        pairs: &[FIRST_PAIR],
+        records: &[
+            Kept {
+                path: &[(2, 1, 1), (3, 2, 1)],
+                sent: &[b"HI"],
+                covered: 1,
+                ..AT_FIRST
+            },
+            Kept {
+                taken: &[b"HI"],
+                released: 1,
+                ..AT_SECOND
+            },
+        ],
+    },
+];
+
 /// Whether the address has these digits, or there is none where these are none.
 fn is_address(address: Option<Address>, digits: &[u8]) -> bool {
     match address {
         Some(address) => address.digits() == digits,
         None => digits.is_empty(),
     }
+}
+
+/// Whether the path has these hops.
+fn is_path(record: &Record, hops: &[(usize, usize, u8)]) -> bool {
+    let mut same = record.path.len() == hops.len();
+    for (hop, expected) in record.path.iter().zip(hops) {
+        same = same && (hop.switch, hop.line, hop.channel) == *expected;
+    }
+    same
 }
 
 /// Whether these messages passed in the epoch, a packet each, and so many of them count.
@@ -375,7 +650,7 @@ fn has_passed(epoch: Epoch<'_>, messages: &[&[u8]], count: usize) -> bool {
     } = epoch;
     let mut same = packets.len() == messages.len() && counted == count;
     for (packet, octets) in packets.zip(messages) {
-        same = same && packet.octets == *octets;
+        same = same && packet.octets == *octets && !packet.more;
     }
     same
 }
@@ -384,6 +659,7 @@ fn is_kept(record: &Record, kept: &Kept) -> bool {
     record.node == kept.node
         && is_address(record.own, kept.own)
         && is_address(record.far, kept.far)
+        && is_path(record, kept.path)
         && (record.sent.ended(), record.taken.ended()) == kept.resets
         && has_passed(record.sent.last(), kept.sent, kept.covered)
         && has_passed(record.taken.last(), kept.taken, kept.released)
@@ -412,6 +688,13 @@ fn plays(
 ) -> Result<(), ProgFault> {
     let script = read_script(alloc, script, config)?;
     play(alloc, net, &script, &mut Vec::new(alloc))
+}
+
+fn go_so(rt: &impl Abort, alloc: Global, cases: &[Case]) {
+    for case in cases {
+        let network = case.network;
+        assert!(rt; goes_so(alloc, case), "{network}");
+    }
 }
 
 /// Whether on the network of a case each stage goes so, and these are the pairs and records then.
@@ -467,16 +750,15 @@ fn find_none(net: &Net<MemLine>, [from_dte, from_dce]: [bool; 2]) -> bool {
     net.finds_none(0, Direction::FromDte) == from_dte
         && net.finds_none(0, Direction::FromDce) == from_dce
         && (net.next_with_frames(0) > 0) == (from_dte && from_dce)
-        && !net.finds_none(2, Direction::FromDte)
+        && !net.finds_none(3, Direction::FromDte)
         && net.next_with_frames(3) == 3
 }
 
 #[test]
 fn networks_keep_records_and_pairs_and_confirm_delivery(rt: HostRuntime) {
-    for case in &CASES {
-        let network = case.network;
-        assert!(rt; goes_so(rt.alloc(), case), "{network}");
-    }
+    go_so(&rt, rt.alloc(), &CASES);
+    go_so(&rt, rt.alloc(), &RESETS);
+    go_so(&rt, rt.alloc(), &MESSAGES);
 }
 
 /// CR at terminal 0 of a node.

@@ -1,6 +1,6 @@
 //! Readers and writers that refuse a call or are interrupted, texts of the greatest length, output in whole lines, and
-//! a flush that fails.
-use net_player::{finish, perform};
+//! output that is refused at the end.
+use net_player::perform;
 use std::alloc::{AllocError, Global};
 use std::fs::Files;
 use std::io::{BufWriter, Read, Write};
@@ -17,16 +17,35 @@ host/1 data - \"HELLO\\0D\"
 end rest
 ";
 
-/// Whether the program, on the script of an input, ends with this status and tells this.
-fn ends<F: Files + net::Net, R: Read, W: Write>(
+/// The writer, if the program, on the script of an input and through a buffer of so many octets before the writer, ends
+/// with this status and tells this.
+fn ends_buffered<F: Files + net::Net, R: Read, W: Write + Drop>(
     rt: &F,
     alloc: Global,
     input: &mut R,
-    out: &mut W,
+    (capacity, out): (usize, W),
     (status, told): (u8, &[u8]),
-) -> bool {
+) -> Option<W> {
+    let mut out = BufWriter::with_capacity(alloc, capacity, out).ok()?;
     let mut err = Vec::new(alloc);
-    perform(rt, alloc, &[], input, out, &mut err) == status && err.as_slice() == told
+    let ended = perform(rt, alloc, &[], input, &mut out, &mut err);
+    let (writer, _) = out.into_parts();
+    if ended == status && err.as_slice() == told {
+        Some(writer)
+    } else {
+        None
+    }
+}
+
+/// What `ends_buffered` gives without a buffer: the writer is given each text as it is made.
+fn ends<F: Files + net::Net, R: Read, W: Write + Drop>(
+    rt: &F,
+    alloc: Global,
+    input: &mut R,
+    out: W,
+    ended: (u8, &[u8]),
+) -> Option<W> {
+    ends_buffered(rt, alloc, input, (0, out), ended)
 }
 
 /// Whether the program ends so on this input, and prints this text.
@@ -37,11 +56,11 @@ fn ends_printing<F: Files + net::Net, R: Read>(
     printed: &[u8],
     ended: (u8, &[u8]),
 ) -> bool {
-    let mut out = Vec::new(alloc);
-    ends(rt, alloc, input, &mut out, ended) && out.as_slice() == printed
+    ends(rt, alloc, input, Vec::new(alloc), ended).is_some_and(|out| out.as_slice() == printed)
 }
 
-/// A writer that takes so many writes, and refuses those after them. It counts the writes that do not end with a line.
+/// A writer that takes so many writes, and refuses those after them, and then a flush too. It counts the writes that do
+/// not end with a line.
 #[derive(Drop)]
 struct Refusing {
     text: Vec<u8>,
@@ -76,6 +95,9 @@ impl Write for Refusing {
     }
 
     fn flush(&mut self) -> io::Result<()> {
+        if self.left == 0 {
+            return Err(io::Error::from(io::ErrorKind::BrokenPipe));
+        }
         Ok(())
     }
 }
@@ -83,8 +105,8 @@ impl Write for Refusing {
 /// How many writes the program makes for the script, if all that it prints is written.
 fn writes_of_all<F: Files + net::Net>(rt: &F, alloc: Global) -> Option<u32> {
     let mut input = SCRIPT;
-    let mut out = Refusing::new(alloc, 1_000);
-    if ends(rt, alloc, &mut input, &mut out, (0, b"")) && out.text.as_slice() == PRINTED {
+    let out = ends(rt, alloc, &mut input, Refusing::new(alloc, 1_000), (0, b""))?;
+    if out.text.as_slice() == PRINTED {
         1_000_u32.checked_sub(out.left)
     } else {
         None
@@ -94,8 +116,14 @@ fn writes_of_all<F: Files + net::Net>(rt: &F, alloc: Global) -> Option<u32> {
 /// Whether the program ends in the fault of a refused write after so many, with a part of what is printed.
 fn stops<F: Files + net::Net>(rt: &F, alloc: Global, writes: u32) -> bool {
     let mut input = SCRIPT;
-    let mut out = Refusing::new(alloc, writes);
-    ends(rt, alloc, &mut input, &mut out, (1, b"fault 5\n")) && out.has_a_part()
+    ends(
+        rt,
+        alloc,
+        &mut input,
+        Refusing::new(alloc, writes),
+        (1, b"fault 5\n"),
+    )
+    .is_some_and(|out| out.has_a_part())
 }
 
 #[test]
@@ -133,11 +161,11 @@ impl Write for Interrupted {
 /// Whether all that is printed comes out of a writer that is interrupted.
 fn prints_interrupted<F: Files + net::Net>(rt: &F, alloc: Global) -> bool {
     let mut input = SCRIPT;
-    let mut out = Interrupted {
+    let out = Interrupted {
         text: Vec::new(alloc),
         is_ready: false,
     };
-    ends(rt, alloc, &mut input, &mut out, (0, b"")) && out.text.as_slice() == PRINTED
+    ends(rt, alloc, &mut input, out, (0, b"")).is_some_and(|out| out.text.as_slice() == PRINTED)
 }
 
 #[test]
@@ -234,15 +262,11 @@ fn long(alloc: Global, line: &[u8], last: &[u8]) -> Result<Vec<u8>, AllocError> 
 
 /// Whether the program writes this for a script through a buffer of 1,000 octets, whole lines at a time.
 fn writes_whole<F: Files + net::Net>(rt: &F, alloc: Global, script: &[u8], printed: &[u8]) -> bool {
-    match BufWriter::with_capacity(alloc, 1_000, Refusing::new(alloc, 1_000)) {
-        Ok(mut out) => {
-            let mut input = script;
-            ends(rt, alloc, &mut input, &mut out, (0, b""))
-                && out.flush().is_ok()
-                && is_written_whole(out.get_ref(), printed)
-        }
-        Err(_) => false,
-    }
+    let mut input = script;
+    let out = (1_000, Refusing::new(alloc, 1_000));
+    ends_buffered(rt, alloc, &mut input, out, (0, b"")).is_some_and(|out| is_written_whole(
+        &out, printed,
+    ))
 }
 
 fn is_written_whole(out: &Refusing, printed: &[u8]) -> bool {
@@ -272,22 +296,33 @@ fn a_long_script_is_played_and_printed_in_whole_lines(rt: HostRuntime) {
     assert!(rt; plays_long(&rt, rt.alloc()) == Ok(true));
 }
 
-/// Whether of a flush that fails this is told, and the status is so, and of one that does not it stays as it was.
-fn ends_so(alloc: Global, status: u8, ended: u8, told: &[u8]) -> bool {
-    let refused = Err(io::Error::from(io::ErrorKind::BrokenPipe));
-    let mut err = Vec::new(alloc);
-    finish(status, &refused, &mut err) == ended
-        && err.as_slice() == told
-        && finish(status, &Ok(()), &mut err) == status
+/// Whether the program ends so with a script, through a buffer that has room for all that is printed, before a writer
+/// that takes so many writes; and the writer then has this.
+fn ends_at_the_end<F: Files + net::Net>(
+    rt: &F,
+    alloc: Global,
+    (script, writes): (&[u8], u32),
+    ended: (u8, &[u8]),
+    written: &[u8],
+) -> bool {
+    let mut input = script;
+    let out = (1_000, Refusing::new(alloc, writes));
+    ends_buffered(rt, alloc, &mut input, out, ended).is_some_and(|out| out.text.as_slice()
+        == written)
 }
 
 #[test]
-fn a_flush_that_fails_is_a_fault(rt: HostRuntime) {
-    const ENDS: [(u8, u8, &[u8]); 3] = [(0, 1, b"fault 5\n"), (1, 1, b""), (2, 2, b"")];
-    for (status, ended, told) in &ENDS {
+fn output_that_is_refused_at_the_end_is_a_fault(rt: HostRuntime) {
+    const ENDS: [(&[u8], u32, (u8, &[u8]), &[u8]); 4] = [
+        (SCRIPT, 0, (1, b"fault 5\n"), b""),
+        (SCRIPT, 1, (1, b"fault 5\n"), PRINTED),
+        (SCRIPT, 2, (0, b""), PRINTED),
+        (b"jump\n", 0, (1, b"fault 2 line 1\n"), b""),
+    ];
+    for (script, writes, ended, written) in &ENDS {
         assert!(rt;
-            ends_so(rt.alloc(), *status, *ended, told),
-            "status {status}"
+            ends_at_the_end(&rt, rt.alloc(), (*script, *writes), *ended, *written),
+            "{writes} writes"
         );
     }
 }

@@ -1,3 +1,4 @@
 pub mod Lines
 pub mod Octets
 pub mod FrameLines
+pub mod Converting

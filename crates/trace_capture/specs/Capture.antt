@@ -1,7 +1,6 @@
 -- Captures, as Wireshark reads them (pcapng): blocks of octets, numbers with their low octet first.
 use Rattle.std.specs.Prelude.{◌≡◌, ℕ, ◌+◌, ◌-◌, ◌%◌, List, [], ◌∷◌, ◌++◌, length, replicate, codes, false, Some}
-use Rattle.std.specs.Prelude.{true, Option, IfSome}
-use Rattle.std.specs.Io.KnownBytes.{Appends}
+use Rattle.std.specs.Prelude.{true, Option}
 use Rattle.std.specs.Int.{to_le_bytes, w16, w32}
 use Rattle.frame_lines.specs.declared.line.Direction.{Direction}
 use Rattle.frame_lines.specs.declared.line.Direction.TheVariants.{FromDte, FromDce}
@@ -81,14 +80,6 @@ pub record IsCapture (text capture : List ℕ) : Type 0 where
   pub are_lines : AreLines (Some text) lines
   pub count : ℕ
   pub has_blocks : HasBlocks lines count capture
-
--- the capture of all that a reader had left was written behind what was known to be written
-pub record Converts (left before after : Option (List ℕ)) : Type 0 where
-  pub text : List ℕ
-  pub read : IfSome left (λ octets. text ≡ octets)
-  pub capture : List ℕ
-  pub is_capture : IsCapture text capture
-  pub written : Appends before after capture
 
 -- ---- faults
 

@@ -1,5 +1,5 @@
 //! Why a trace gives no capture.
-use std::alloc::{AllocError, AllocFailed};
+use std::alloc::AllocError;
 use thiserror::Error;
 
 /// Why a trace gives no capture.
@@ -8,8 +8,11 @@ pub enum TraceFault {
     /// The line of this number, counted from 1, begins as that of a frame and is none.
     #[error("line {0} is no frame")]
     Line(u32),
-    /// The trace could not be read, or is too long.
-    #[error("the trace could not be read, or is too long")]
+    /// The trace has more than 67,108,864 octets.
+    #[error("the trace is too long")]
+    TooLong,
+    /// The trace could not be read.
+    #[error("the trace could not be read")]
     Input,
     /// The capture could not be written.
     #[error("the capture could not be written")]
@@ -26,12 +29,6 @@ impl From<AllocError> for TraceFault {
     ghost from_gives = { λ _ fault. fault ≡ OutOfMemory };
 
     fn from(_: AllocError) -> Self {
-        TraceFault::OutOfMemory
-    }
-}
-
-impl<T: Drop> From<AllocFailed<T>> for TraceFault {
-    fn from(_: AllocFailed<T>) -> Self {
         TraceFault::OutOfMemory
     }
 }

@@ -8,7 +8,7 @@ use Rattle.data_transfer.specs.declared.flow.Flow.{Flow}
 use Rattle.pad_editing.specs.Edited.{after_key}
 use Rattle.packet_channel.specs.Channel.{Channel, Request, Refusal, refused_if, in_transfer}
 use Rattle.packet_layer.specs.Layer.{room_at, channel_of, refusal_at, request_refusal}
-use Rattle.pad_terminal.specs.Terminal.{TerminalState, is_data_transfer, runs_idle_timer}
+use Rattle.pad_terminal.specs.Terminal.{TerminalState, is_present, is_data_transfer, runs_idle_timer}
 use Rattle.pad_terminal.specs.Keys.{Input, after_octet, after_data_key, after_command_key, after_ended}
 use Rattle.pad_terminal.specs.Keys.{after_idle_time, is_flow_control, is_recall}
 use Rattle.pad_terminal.specs.declared.answers.CallCondition.{CallCondition}
@@ -63,7 +63,7 @@ key_with_room : (o : ℕ) (call : CallCondition) (t : TerminalState) (block : Li
     (after_octet o call t).answer ≡ Edited (Some block) → call.queue_full ≡ false
 key_with_room o call t block h =
     picked (call.queue_full ≡ false) (is_data_transfer t.mode) (after_data_key o call.queue_full t)
-    (after_command_key o call t) (Edited (Some block))
+    (if is_present t.mode then after_command_key o call t else record { terminal = t; answer = Dropped }) (Edited (Some block))
     (λ typed.
     picked (call.queue_full ≡ false) (is_flow_control t.settings.params o) _ _ (Edited (Some block)) (λ no. cc)
     (λ other.
@@ -73,7 +73,10 @@ key_with_room o call t block h =
     edited_with_room (after_key t.settings.params o t.held).block call.queue_full _ _ block refl refl edited)
     other)
     typed)
-    (λ command. not_by_command (call.queue_full ≡ false) _ call _ block command)
+    (λ other.
+    picked (call.queue_full ≡ false) (is_present t.mode) (after_command_key o call t) _ (Edited (Some block))
+    (λ command. not_by_command (call.queue_full ≡ false) _ call _ block command) (λ no. cc)
+    other)
     h
 
 idle_with_room : (full : Bool) (t : TerminalState) (block : List ℕ) →

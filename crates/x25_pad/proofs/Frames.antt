@@ -88,6 +88,9 @@ break_same a =
     answers_same (port.break_answer_of a)
     (record a { port = port.with_terminal (breaks.after_break (line.condition a.port.call a.line) a.port.terminal) a.port })
 
+pub leaving_same : (a : AtLine) → SameAt a (port.after_leaving a)
+leaving_same a = on_call_same port.clears a.port.call a (λ call. refl)
+
 replies_same : (r : Reply) (a : AtLine) → SameAt a (port.replies r a)
 replies_same reply.Nothing a = refl
 replies_same (reply.Message m) a = tells_same (Some m) a

@@ -1,6 +1,6 @@
 -- A PAD at the DTE's end of a line, with its terminals at their ports: what each event makes of it.
 use Rattle.std.specs.Prelude.{◌≡◌, ℕ, ◌-◌, Bool, true, false, if◌then◌else◌, List, [], ◌∷◌, ◌++◌, map, fold, replicate}
-use Rattle.std.specs.Prelude.{length, slice_get, slice_set, position, drop, is_some, is_none, Option, Some, None}
+use Rattle.std.specs.Prelude.{length, slice_get, slice_set, position, drop, is_some, Option, Some, None}
 use Rattle.std.specs.Option.{option_map_or}
 use Rattle.link_timers.specs.declared.timers.TimerId.{TimerId}
 use Rattle.link_timers.specs.declared.timers.TimerId.TheVariants.{Idle}
@@ -67,8 +67,8 @@ abbrev pub holders : List PortState → List Note → List (Option ℕ)
 holders ports [] = []
 holders ports (note ∷ notes) = holder (about note) ports ∷ holders (all_heard (learnt_of note) ports) notes
 
--- a call that comes in is accepted for the first terminal without a call. If there is none it is cleared, and is no
--- terminal's
+-- a call that comes in is accepted for the first terminal that is present and has no call. If there is none it is
+-- cleared, and is no terminal's
 abbrev pub answered_at : Option ℕ → (channel : ℕ) → PadState → PadState
 answered_at None channel p = named None (record p { line = line.cleared channel p.line })
 answered_at (Some number) channel p = named (Some number) (record p {
@@ -77,7 +77,7 @@ answered_at (Some number) channel p = named (Some number) (record p {
 })
 
 abbrev pub first_free : List PortState → Option ℕ
-first_free ports = position (λ p. is_none p.call) ports
+first_free ports = position port.is_free ports
 
 abbrev pub answered : Option ℕ → PadState → PadState
 answered None p = p

@@ -5,7 +5,7 @@
 pub enum PadAnswer {
     /// The input was taken.
     Taken,
-    /// The input was dropped: what it would have sent had no place in the send queue.
+    /// The input was dropped: what it would have sent had no place in the send queue, or the terminal is absent.
     Dropped,
 }
 

@@ -1,8 +1,8 @@
 //! An X.25 network of PADs, hosts and switches, driven by a script.
 #![tactic(auto)]
 
-use net_player::{finish, perform, refuse_words};
-use std::io::{BufWriter, Stderr, Write};
+use net_player::{perform, refuse_words};
+use std::io::{BufWriter, Stderr};
 use std::process::ExitCode;
 use std::{env, io};
 
@@ -24,13 +24,7 @@ fn run(rt: &HostRuntime, err: &mut Stderr) -> io::Result<u8> {
 /// Runs the program on these words. Its output is written as many whole lines at a time as the buffer has room for.
 fn run_on(rt: &HostRuntime, words: &[String], err: &mut Stderr) -> io::Result<u8> {
     let mut out = BufWriter::new(rt.alloc(), io::writer(rt))?;
-    Ok(write_all(rt, words, &mut out, err))
-}
-
-/// Runs the program on these words, and writes all of its output.
-fn write_all<W: Write>(rt: &HostRuntime, words: &[String], out: &mut W, err: &mut Stderr) -> u8 {
-    let status = perform(rt, rt.alloc(), words, &mut rt.reader(), out, err);
-    finish(status, &out.flush(), err)
+    Ok(perform(rt, rt.alloc(), words, &mut rt.reader(), &mut out, err))
 }
 
 /// The command words, without the program's name.

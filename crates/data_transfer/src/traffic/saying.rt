@@ -6,6 +6,7 @@ ghost use Rattle.flow_window.specs.Pool.{Holds, Balances};
 ghost use Rattle.data_transfer.specs.Held.{are_short};
 ghost use Rattle.data_transfer.specs.Traffic as machine;
 ghost use Rattle.data_transfer.specs.Octets.{written, ReadsAs};
+ghost use Rattle.data_transfer.specs.Unsent.{HasSaidAll};
 
 use crate::flow::Flow;
 use crate::traffic::Traffic;
@@ -14,7 +15,8 @@ use flow_window::pool::Pool;
 use packet_codec::{Content, DataPacket, Packet, PacketBuf, write_packet};
 
 impl Traffic {
-    /// Writes the next packet, if there is one, with a window of at most 32.
+    /// Writes the next packet, if there is one, with a window of at most 32. If there is none, nothing that may go stays
+    /// unsent.
     pub fn next_packet(
         &mut self,
         flow: Flow,
@@ -36,6 +38,7 @@ impl Traffic {
         ensures short { (size : ℕ) → are_short size self.old.traffic.waiting ≡ true
             → are_short size self.new.traffic.waiting ≡ true }
         ensures same { OnFalse result (self.new ≡ self.old) }
+        ensures unsent { OnFalse result (HasSaidAll flow self.new.traffic) }
     {
         if !self.confirmation_due {
             return self.next_interrupt(flow, channel, buf, pool);

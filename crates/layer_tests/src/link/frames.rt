@@ -105,8 +105,12 @@ fn is_written_back(octets: &[u8], at: Role) -> bool {
     }
 }
 
-// An I frame of 146 octets, one more than an information field may have.
-const TOO_LONG: &[u8] =
+// I frames with as many octets of information as that line's may have, and with one more.
+pub(crate) const LONGEST: &[u8] =
+    b"\x01\x00AAAAAAAAAAAAAAAAAAAAAAAAAAAAAAAAAAAAAAAAAAAAAAAAAAAAAAAAAAAAAAAAAAAAAAAAAAAAAAAA\
+    AAAAAAAAAAAAAAAAAAAAAAAAAAAAAAAAAAAAAAAAAAAAAAAAAAAAAAAAAAAAAAAAA";
+
+pub(crate) const TOO_LONG: &[u8] =
     b"\x01\x00AAAAAAAAAAAAAAAAAAAAAAAAAAAAAAAAAAAAAAAAAAAAAAAAAAAAAAAAAAAAAAAAAAAAAAAAAAAAAAAA\
     AAAAAAAAAAAAAAAAAAAAAAAAAAAAAAAAAAAAAAAAAAAAAAAAAAAAAAAAAAAAAAAAAA";
 

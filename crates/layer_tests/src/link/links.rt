@@ -1,5 +1,6 @@
 //! Two links by the octets of their frames.
 use crate::link::fault::MakeFault;
+use crate::link::frames::{LONGEST, TOO_LONG};
 use crate::link::station::Station;
 use lapb::{Link, LinkOut, LinkParams, Note, OfferFault, Phase, Timing};
 use link_timers::Role;
@@ -283,6 +284,21 @@ const A_BAD_NUMBER: &[Turn] = &[Dce(Take(
     &[&[0x01, 0x87, 0x21, 0x00, 0x08]],
 ))];
 
+const A_FIELD_THAT_IS_NOT_ALLOWED: &[Turn] = &[Dce(Take(
+    &[0x01, 0x3F, 0x00],
+    Note::Down,
+    &[&[0x01, 0x97, 0x3F, 0x00, 0x03]],
+))];
+
+// The line's I frames have at most 145 octets of information.
+const THE_LONGEST_FIELD: &[Turn] = &[Dce(Accept(LONGEST, &[&[0x01, 0x21]]))];
+
+const A_FIELD_THAT_IS_TOO_LONG: &[Turn] = &[Dce(Take(
+    TOO_LONG,
+    Note::Down,
+    &[&[0x01, 0x87, 0x00, 0x00, 0x04]],
+))];
+
 const SET_UPS: &[Example] = &[
     (
         "a stale acknowledgement is ignored",
@@ -302,6 +318,15 @@ const FAULTS: &[Example] = &[
     ("a bad number is reported", A_BAD_NUMBER),
 ];
 
+const FIELDS: &[Example] = &[
+    (
+        "an information field that the frame cannot have is reported",
+        A_FIELD_THAT_IS_NOT_ALLOWED,
+    ),
+    ("the longest one is taken", THE_LONGEST_FIELD),
+    ("one octet more is reported", A_FIELD_THAT_IS_TOO_LONG),
+];
+
 fn set_ups() -> &'static [Example<'static>] {
     SET_UPS
 }
@@ -312,6 +337,10 @@ fn windows() -> &'static [Example<'static>] {
 
 fn faults() -> &'static [Example<'static>] {
     FAULTS
+}
+
+fn fields() -> &'static [Example<'static>] {
+    FIELDS
 }
 
 // The turns by which both ends come up.
@@ -328,6 +357,7 @@ fn links_are_set_up(rt: HostRuntime) {
 fn links_carry_packets_and_report_faults(rt: HostRuntime) {
     play(&rt, rt.alloc(), set_up(), windows());
     play(&rt, rt.alloc(), set_up(), faults());
+    play(&rt, rt.alloc(), set_up(), fields());
 }
 
 // Takes all frames of one end at the other, and the end of the event there. The packet that is expected next there is

@@ -36,7 +36,7 @@ narrowed role X Y b f h = record {
 -- ---- what stays
 
 -- the slots of an end stay, and each record stays where it is, of its node
-has_kept : (y : Role) (b b' : Book) → side_of y b' ≡ side_of y b
+pub has_kept : (y : Role) (b b' : Book) → side_of y b' ≡ side_of y b
     → ((n : ℕ) (r : RecordValue) → slice_get b.records n ≡ Some r → (r' : RecordValue) × (slice_get b'.records n ≡ Some r') × (r'.node ≡ r.node))
     → HasItsRecords y b → HasItsRecords y b'
 has_kept y b b' s keep h c n e =
@@ -199,7 +199,7 @@ far_holds role X b c f node h =
 
 -- ---- a slot changes
 
-slot_cases : (x : Role) (d : ℕ) (z : Slot) (b : Book) (y : Role) (c : ℕ)
+pub slot_cases : (x : Role) (d : ℕ) (z : Slot) (b : Book) (y : Role) (c : ℕ)
     → (slot_at y c (with_slot x d z b) ≡ slot_at y c b) ⊎ ((slot_at y c (with_slot x d z b) ≡ z) × (y ≡ x) × (c ≡ d))
 slot_cases Dte d z b Dte c =
     elim (nth_cases b.dte.slots d z c) [
@@ -214,7 +214,7 @@ slot_cases Dce d z b Dce c =
       | inr q ↦ inr (q.0, refl, q.1)
     ]
 
-slot_here : (x : Role) (d : ℕ) (z : Slot) (b : Book) → (slot_at x d (with_slot x d z b) ≡ z) ⊎ (slot_at x d (with_slot x d z b) ≡ free_slot)
+pub slot_here : (x : Role) (d : ℕ) (z : Slot) (b : Book) → (slot_at x d (with_slot x d z b) ≡ z) ⊎ (slot_at x d (with_slot x d z b) ≡ free_slot)
 slot_here Dte d z b = nth_here b.dte.slots d z
 slot_here Dce d z b = nth_here b.dce.slots d z
 
@@ -228,7 +228,7 @@ slot_node Dte d z b Dce = refl
 slot_node Dce d z b Dte = refl
 slot_node Dce d z b Dce = refl
 
-has_slot : (x : Role) (d : ℕ) (z : Slot) (b : Book) (y : Role) → ((n : ℕ) → z.present ≡ Some n → (r : RecordValue) × (slice_get b.records n ≡ Some r) × (r.node ≡ node_at x b))
+pub has_slot : (x : Role) (d : ℕ) (z : Slot) (b : Book) (y : Role) → ((n : ℕ) → z.present ≡ Some n → (r : RecordValue) × (slice_get b.records n ≡ Some r) × (r.node ≡ node_at x b))
     → HasItsRecords y b → HasItsRecords y (with_slot x d z b)
 has_slot x d z b y new h c n e =
     let there : (r : RecordValue) × (slice_get b.records n ≡ Some r) × (r.node ≡ node_at y b) =

@@ -26,9 +26,9 @@ use Rattle.pad_ports.specs.Ports.{AtLine}
 use Rattle.x25_pad.specs.Pad as pad
 use Rattle.x25_pad.specs.Pad.{PadState}
 use Rattle.node_laws.specs.Pads.Standing.{StandsAt, KeepsWith, KeepsBy, drained}
-use Rattle.node_laws.specs.Pads.Clauses.{KeyLaw, BreakLaw, IdleLaw, PrintLaw, FrameLaw, TimerLaw, RelinkLaw, RestartLaw, TimeLaw, MakingLaw}
+use Rattle.node_laws.specs.Pads.Clauses.{KeyLaw, BreakLaw, IdleLaw, PrintLaw, LeavingLaw, ArrivalLaw, FrameLaw, TimerLaw, RelinkLaw, RestartLaw, TimeLaw, MakingLaw}
 use Rattle.node_laws.proofs.Pads.Asking.{Runs, noted, noted_append, noted_told, gathered_runs, accepted_runs, cleared_runs}
-use Rattle.node_laws.proofs.Pads.Terminals.{key_runs, idle_runs, break_runs, print_runs, port_runs}
+use Rattle.node_laws.proofs.Pads.Terminals.{key_runs, idle_runs, break_runs, print_runs, leaving_runs, port_runs}
 
 -- ---- ends of a line
 
@@ -171,6 +171,13 @@ break_keeps s b l role p number kept h k =
 pub print_keeps : PrintLaw
 print_keeps s b l role p number kept h k =
     terminal_keeps s b l role k number port.after_print p kept h.end (print_runs s b role (end_at (other_of role) l) (coming_to (other_of role) l) (coming_to role l))
+
+pub leaving_keeps : LeavingLaw
+leaving_keeps s b l role p number kept h k =
+    terminal_keeps s b l role k number port.after_leaving p kept h.end (leaving_runs s b role (end_at (other_of role) l) (coming_to (other_of role) l) (coming_to role l))
+
+pub arrival_keeps : ArrivalLaw
+arrival_keeps s b l role p number kept h k = terminal_keeps s b l role k number port.after_arrival p kept h.end (λ a r. r)
 
 pub idle_keeps : IdleLaw
 idle_keeps s b l role p number kept h k = by (pad.runs_idle_timer number p)

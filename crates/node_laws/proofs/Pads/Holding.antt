@@ -48,17 +48,18 @@ use Rattle.pad_ports.specs.Ports.{PortState, AtLine}
 use Rattle.pad_ports.specs.declared.line.PadLine.{PadLine}
 use Rattle.x25_pad.specs.Pad as pad
 use Rattle.x25_pad.specs.Pad.{PadState, acted, at_port}
-use Rattle.x25_pad.specs.Making.{made}
+use Rattle.x25_pad.specs.Making.{made, IsConfig}
+use Rattle.x25_pad.specs.declared.config.PadConfig.{PadConfig}
 use Rattle.node_laws.specs.Pads.Occasions.{Occasion, TookMessage, HadBreak, HadCommand, messages_taken, answer_in, asks_indication, told_at, all_told, all_interrupts}
 use Rattle.node_laws.specs.Pads.Sending.{qualified_messages, IsOfPad, OfPadLaw, HasTyped, HasSaid}
 use Rattle.node_laws.specs.Pads.Holds.{TextOf, PadTypes, HaveSaid}
 use Rattle.node_laws.specs.Pads.Standing.{drained}
-use Rattle.node_laws.specs.Pads.RecordClauses.{SentLaw, MadeHolds, KeyHolds, BreakHolds, PrintHolds, FrameHolds, RelinkHolds, TimerHolds, RestartHolds, TimeHolds, DrainedHolds, FarHolds}
-use Rattle.node_laws.specs.Pads.Happening.{PadEvent, HasKey, HasBreak, HasIdleTime, HasPrinting, HasFrame, HasExpiry, HasRelink, HasRestart, HasTicks, after_event, by_key, by_break, by_printing, occasions_of, meets, at_terminal, is_record, grown, writes_after, OccasionLaw}
-use Rattle.node_laws.specs.Pads.Courses.{Happening, Here, There, Course, happened, IsCourse, begins, goes_on, CourseLaw, IsSeenAs, IsRecordOf, HasSentIn, PadHolds}
+use Rattle.node_laws.specs.Pads.RecordClauses.{SentLaw, MadeHolds, KeyHolds, BreakHolds, PrintHolds, LeavingHolds, ArrivalHolds, FrameHolds, RelinkHolds, TimerHolds, RestartHolds, TimeHolds, DrainedHolds, FarHolds}
+use Rattle.node_laws.specs.Pads.Happening.{PadEvent, HasKey, HasBreak, HasIdleTime, HasPrinting, HasLeaving, HasArrival, HasFrame, HasExpiry, HasRelink, HasRestart, HasTicks, after_event, by_key, by_break, by_printing, occasions_of, meets, at_terminal, is_record, grown, writes_after, OccasionLaw}
+use Rattle.node_laws.specs.Pads.Courses.{Happening, Here, There, Course, happened, beginning, IsCourse, begins, goes_on, CourseLaw, IsSeenAs, IsRecordOf, HasSentIn, PadHolds}
 use Rattle.node_laws.proofs.Pads.Asking.{noted, noted_append}
 use Rattle.node_laws.proofs.Pads.Begins.{made_types}
-use Rattle.node_laws.proofs.Pads.PadBooks.{key_types, break_types, print_types, frame_types, relink_types, timer_types, idle_types, restart_types, time_types, drained_types, far_types}
+use Rattle.node_laws.proofs.Pads.PadBooks.{key_types, break_types, print_types, leaving_types, arrival_types, frame_types, relink_types, timer_types, idle_types, restart_types, time_types, drained_types, far_types}
 use Rattle.node_laws.proofs.Pads.Modes.{ReplyFollows, octets_follow}
 use Rattle.node_laws.proofs.Pads.QualifiedPackets.{Octets, all_append, message_in, told_in, interrupt_in, all_in, IsKind, messages_kind, told_kind, told_octets}
 use Rattle.node_laws.proofs.Pads.Interrupting.{interrupts_kind}
@@ -302,6 +303,10 @@ module _ (role : Role) where
   event_splits (HasKey number octet) p e = terminal_splits number (port.after_key octet) (λ a none. key_splits octet a none) p
   event_splits (HasBreak number) p e = terminal_splits number port.after_break (λ a none. break_splits a none) p
   event_splits (HasPrinting number) p e = terminal_splits number port.after_print (λ a none. print_splits a none) p
+  event_splits (HasLeaving number) p e =
+      terminal_splits number port.after_leaving (λ a none. clears_split a.port.call a (nothing_plain a.line.notes none)) p
+  event_splits (HasArrival number) p e =
+      terminal_splits number port.after_arrival (λ a none. plain_splits a.line.notes (nothing_plain a.line.notes none)) p
   event_splits (HasIdleTime number) p e = idle_splits number p e
   event_splits (HasFrame octets) p e = line_splits (pad.with_end (received (pad.begun p).line.end octets) (pad.begun p)) refl
   event_splits (HasExpiry id) p e = timer_splits id p e
@@ -312,7 +317,7 @@ module _ (role : Role) where
 -- ---- occasions of a record
 
 -- a record that is not there is that of no call
-unheld : (role : Role) (p : PadState) (b : Book) → PadTypes role p b → (n : ℕ) → slice_get b.records n ≡ None → (channel : ℕ) → test_of n (side_of role b) channel ≡ false
+pub unheld : (role : Role) (p : PadState) (b : Book) → PadTypes role p b → (n : ℕ) → slice_get b.records n ≡ None → (channel : ℕ) → test_of n (side_of role b) channel ≡ false
 unheld role p b h n e channel = by (slot_at role channel b).present refl
   where
     by : (o : Option ℕ) → (slot_at role channel b).present ≡ o → is_record n o ≡ false
@@ -340,6 +345,8 @@ no_occasion : (event : PadEvent) (p : PadState) (test : ℕ → Bool) → ((chan
 no_occasion (HasKey number octet) p test none = none_at number test (by_key octet) (pad.begun p) none
 no_occasion (HasBreak number) p test none = none_at number test by_break (pad.begun p) none
 no_occasion (HasPrinting number) p test none = none_at number test by_printing (pad.begun p) none
+no_occasion (HasLeaving number) p test none = refl
+no_occasion (HasArrival number) p test none = refl
 no_occasion (HasIdleTime number) p test none = refl
 no_occasion (HasFrame octets) p test none = refl
 no_occasion (HasExpiry id) p test none = refl
@@ -421,6 +428,8 @@ occasions_grow (HasKey number octet) role p b os nothing types said = noted_said
 occasions_grow (HasBreak number) role p b os nothing types said = noted_said (HasBreak number) role p b os nothing types said
 occasions_grow (HasIdleTime number) role p b os nothing types said = noted_said (HasIdleTime number) role p b os nothing types said
 occasions_grow (HasPrinting number) role p b os nothing types said = noted_said (HasPrinting number) role p b os nothing types said
+occasions_grow (HasLeaving number) role p b os nothing types said = noted_said (HasLeaving number) role p b os nothing types said
+occasions_grow (HasArrival number) role p b os nothing types said = noted_said (HasArrival number) role p b os nothing types said
 occasions_grow (HasFrame octets) role p b os nothing types said = noted_said (HasFrame octets) role p b os nothing types said
 occasions_grow (HasExpiry id) role p b os nothing types said = noted_said (HasExpiry id) role p b os nothing types said
 occasions_grow HasRelink role p b os nothing types said = noted_said HasRelink role p b os nothing types said
@@ -467,6 +476,12 @@ break_kept role p number b h = begins_anew (HasBreak number) role p b h (break_t
 
 pub print_kept : PrintHolds
 print_kept role p number b h = begins_anew (HasPrinting number) role p b h (print_types role p number b h.typed) (goes_on h.led (Here (HasPrinting number)))
+
+pub leaving_kept : LeavingHolds
+leaving_kept role p number b h = begins_anew (HasLeaving number) role p b h (leaving_types role p number b h.typed) (goes_on h.led (Here (HasLeaving number)))
+
+pub arrival_kept : ArrivalHolds
+arrival_kept role p number b h = begins_anew (HasArrival number) role p b h (arrival_types role p number b h.typed) (goes_on h.led (Here (HasArrival number)))
 
 pub frame_kept : FrameHolds
 frame_kept role p octets b h = begins_anew (HasFrame octets) role p b h (frame_types role p octets b h.typed) (goes_on h.led (Here (HasFrame octets)))
@@ -555,15 +570,17 @@ made_kept role c dte_node dce_node channels differ config = record {
 
 -- ---- every list of events
 
-record Stands (role : Role) (s : Course) : Type 0 where
-  nothing : s.pad.line.notes ≡ []
-  types : PadTypes role s.pad s.book
-  said : HaveSaid s.occasions role s.book
+pub record Stands (role : Role) (s : Course) : Type 0 where
+  pub nothing : s.pad.line.notes ≡ []
+  pub types : PadTypes role s.pad s.book
+  pub said : HaveSaid s.occasions role s.book
 
 event_types : (event : PadEvent) (role : Role) (p : PadState) (b : Book) → p.line.notes ≡ [] → PadTypes role p b → PadTypes role (after_event event p) (all_written role (writes_after event p) b)
 event_types (HasKey number octet) role p b none h = key_types role p number octet b h
 event_types (HasBreak number) role p b none h = break_types role p number b h
 event_types (HasPrinting number) role p b none h = print_types role p number b h
+event_types (HasLeaving number) role p b none h = leaving_types role p number b h
+event_types (HasArrival number) role p b none h = arrival_types role p number b h
 event_types (HasIdleTime number) role p b none h = idle_types role p number b none h
 event_types (HasFrame octets) role p b none h = frame_types role p octets b h
 event_types (HasExpiry id) role p b none h = timer_types role p id b none h
@@ -572,7 +589,7 @@ event_types HasRestart role p b none h = restart_types role p b h
 event_types (HasTicks ticks) role p b none h =
     subst (λ (ns : List ChannelNote). PadTypes role (pad.elapsed ticks p) (noted role ns b)) (sym none) (time_types role p ticks b h)
 
-stands_after : (role : Role) (h : Happening) (s : Course) → Stands role s → Stands role (happened role h s)
+pub stands_after : (role : Role) (h : Happening) (s : Course) → Stands role s → Stands role (happened role h s)
 stands_after role (Here event) s h = record {
   nothing = refl;
   types = drained_types role (after_event event s.pad) (all_written role (writes_after event s.pad) s.book) (event_types event role s.pad s.book h.nothing h.types);
@@ -584,12 +601,15 @@ stands_after role (There writes) s h = record {
   said = far_said s.occasions role (TextOf s.pad.ports) writes s.book h.types.book h.said;
 }
 
-all_stand : (role : Role) (s : Course) → IsCourse role s → Stands role s
-all_stand role _ (begins c dte_node dce_node channels differ config) = record {
+pub stands_first : (role : Role) (c : PadConfig) (dte_node dce_node channels : ℕ) → (dte_node ≡ dce_node → ⊥) → IsConfig c → Stands role (beginning c dte_node dce_node channels)
+stands_first role c dte_node dce_node channels differ config = record {
   nothing = refl;
   types = drained_types role (made c) (made_book dte_node dce_node channels c.line.standing) (made_types role c dte_node dce_node channels differ config);
   said = new_said role dte_node dce_node channels c.line.standing;
 }
+
+all_stand : (role : Role) (s : Course) → IsCourse role s → Stands role s
+all_stand role _ (begins c dte_node dce_node channels differ config) = stands_first role c dte_node dce_node channels differ config
 all_stand role _ (goes_on {s = s} led h) = stands_after role h s (all_stand role s led)
 
 pub course_is : CourseLaw

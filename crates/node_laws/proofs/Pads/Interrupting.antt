@@ -18,7 +18,7 @@ use Rattle.x28_commands.specs.declared.command.Command.{Command}
 use Rattle.x28_commands.specs.declared.command.Command.TheVariants as command
 use Rattle.x28_commands.specs.declared.fault.CommandFault.{CommandFault}
 use Rattle.x29_messages.specs.declared.message.Message.{Message}
-use Rattle.pad_terminal.specs.Terminal.{TerminalState, has_call, is_connected, is_data_transfer, runs_idle_timer}
+use Rattle.pad_terminal.specs.Terminal.{TerminalState, is_present, has_call, is_connected, is_data_transfer, runs_idle_timer}
 use Rattle.pad_terminal.specs.CommandLine as command_line
 use Rattle.pad_terminal.specs.Commands as commands
 use Rattle.pad_terminal.specs.Commands.{effect_of_line, request_of_line}
@@ -238,18 +238,20 @@ ended_interrupts test octet a nothing (Some line) u same =
     ∙ ap (λ m. all_interrupts (if meets test a.port.call then (if asks_for_interrupt (command_of line) && is_connected m && not (is_pending a.port.call a.line) then HadCommand ∷ [] else []) else [])) same
 
 pub key_interrupts : (test : ℕ → Bool) (octet : ℕ) (a : AtLine) → IsSaidBy (interrupt_in test) all_interrupts test (port.after_key octet) (by_key octet) a
-key_interrupts test octet a nothing = by (is_data_transfer a.port.terminal.mode)
+key_interrupts test octet a nothing = by (is_data_transfer a.port.terminal.mode) (is_present a.port.terminal.mode)
   where
-    by : (v : Bool)
-        → (let i : keys.Input = if v then keys.after_data_key octet (condition_of a).queue_full a.port.terminal else keys.after_command_key octet (condition_of a) a.port.terminal in
+    by : (v present : Bool)
+        → (let i : keys.Input = if v then keys.after_data_key octet (condition_of a).queue_full a.port.terminal
+        else if present then keys.after_command_key octet (condition_of a) a.port.terminal else record { terminal = a.port.terminal; answer = input.Dropped } in
         all_in (interrupt_in test) (port.handles i.answer (key octet a.port.terminal.settings.params) (with_input a i)).line.notes
         ≡ all_interrupts (if meets test a.port.call then
-        by_line (if v then None else (command_line.after_key a.port.terminal.settings.params octet a.port.terminal.line).ended) (is_pending a.port.call a.line) a.port.terminal else []))
-    by true =
+        by_line (if v then None else if present then (command_line.after_key a.port.terminal.settings.params octet a.port.terminal.line).ended else None) (is_pending a.port.call a.line) a.port.terminal else []))
+    by true present =
         handles_other (interrupt_in test) (interrupts_kind test) (keys.after_data_key octet (condition_of a).queue_full a.port.terminal).answer (data_other octet (condition_of a).queue_full a.port.terminal)
         (key octet a.port.terminal.settings.params) (with_input a (keys.after_data_key octet (condition_of a).queue_full a.port.terminal))
         ∙ nothing_noted (interrupt_in test) a.line.notes nothing ∙ unmet (meets test a.port.call)
-    by false =
+    by false false = nothing_noted (interrupt_in test) a.line.notes nothing ∙ unmet (meets test a.port.call)
+    by false true =
         let k = command_line.after_key a.port.terminal.settings.params octet a.port.terminal.line in
         ended_interrupts test octet a nothing k.ended (keys.with_line k (command_line.is_echoed a.port.terminal.settings.params a.port.terminal.line) a.port.terminal) refl
 
@@ -262,6 +264,11 @@ pub idle_interrupts : (f : ChannelNote → Octets) → IsKind f → (a : AtLine)
 idle_interrupts f kind a =
     handles_other f kind (port.idle_input a).answer (idle_other (condition a.port.call a.line).queue_full a.port.terminal) (idle a.port.terminal.settings.params)
     (record a { port = record a.port { terminal = (port.idle_input a).terminal; idle_left = None } })
+
+-- ---- leaving
+
+pub leaving_says : (f : ChannelNote → Octets) → IsKind f → (a : AtLine) → all_in f (port.after_leaving a).line.notes ≡ all_in f a.line.notes
+leaving_says f kind a = other_says f kind (Some request.Clear) tt a
 
 -- ---- a break
 
@@ -308,29 +315,31 @@ break_request test x params nothing =
     request_goes test x nothing (acts_on_break params action.Reset) (acts_on_break params action.Interrupt) (condition_of x).reset_pending (condition_of x).may_interrupt (may_is x.port.call x.line)
     ∙ break_occasion (meets test x.port.call) params (is_pending x.port.call x.line)
 
-break_goes : (test : ℕ → Bool) (connected asks full : Bool) (r : Option TerminalRequest) (m : Message) (os : List Occasion) (x : AtLine) → x.line.notes ≡ []
+break_goes : (test : ℕ → Bool) (present connected asks full : Bool) (r : Option TerminalRequest) (m : Message) (os : List Occasion) (x : AtLine) → x.line.notes ≡ []
     → all_in (interrupt_in test) (port.does_asked r x).line.notes ≡ all_interrupts (if meets test x.port.call then os else [])
-    → all_in (interrupt_in test) (port.answers_break (break_answer_by connected asks full r m) x).line.notes
-    ≡ all_interrupts (if meets test x.port.call then (if connected && port.is_break_taken (break_answer_by connected asks full r m) then os else []) else [])
-break_goes test connected asks full r m os x nothing goes = by connected asks full
+    → all_in (interrupt_in test) (port.answers_break (break_answer_by present connected asks full r m) x).line.notes
+    ≡ all_interrupts (if meets test x.port.call then (if connected && port.is_break_taken (break_answer_by present connected asks full r m) then os else []) else [])
+break_goes test present connected asks full r m os x nothing goes = by present connected asks full
   where
     none : (v : Bool) → all_in (interrupt_in test) x.line.notes ≡ all_interrupts (if v then [] else [])
     none true = nothing_noted (interrupt_in test) x.line.notes nothing
     none false = nothing_noted (interrupt_in test) x.line.notes nothing
 
-    by : (k a f : Bool) → all_in (interrupt_in test) (port.answers_break (break_answer_by k a f r m) x).line.notes
-        ≡ all_interrupts (if meets test x.port.call then (if k && port.is_break_taken (break_answer_by k a f r m) then os else []) else [])
-    by false a f = none (meets test x.port.call)
-    by true true true = none (meets test x.port.call)
-    by true false f = goes
-    by true true false = tells_silent (interrupt_in test) (λ c octets. refl) (Some m) (port.does_asked r x) ∙ goes
+    by : (p k a f : Bool) → all_in (interrupt_in test) (port.answers_break (break_answer_by p k a f r m) x).line.notes
+        ≡ all_interrupts (if meets test x.port.call then (if k && port.is_break_taken (break_answer_by p k a f r m) then os else []) else [])
+    by false false a f = none (meets test x.port.call)
+    by false true a f = none (meets test x.port.call)
+    by true false a f = none (meets test x.port.call)
+    by true true true true = none (meets test x.port.call)
+    by true true false f = goes
+    by true true true false = tells_silent (interrupt_in test) (λ c octets. refl) (Some m) (port.does_asked r x) ∙ goes
 
 pub break_interrupts : (test : ℕ → Bool) (a : AtLine) → IsSaidBy (interrupt_in test) all_interrupts test port.after_break by_break a
 break_interrupts test a nothing =
     let t : TerminalState = a.port.terminal in
     let call : CallCondition = condition a.port.call a.line in
     let x : AtLine = record a { port = port.with_terminal (breaks.after_break call t) a.port } in
-    break_goes test (is_connected t.mode) (breaks.indicates t.settings.params) call.queue_full (breaks.request_of t.settings.params call) (indication t.settings.params)
+    break_goes test (is_present t.mode) (is_connected t.mode) (breaks.indicates t.settings.params) call.queue_full (breaks.request_of t.settings.params call) (indication t.settings.params)
     (HadBreak t.settings.params (is_pending a.port.call a.line) ∷ []) x nothing (break_request test x t.settings.params nothing)
 
 -- ---- printing

@@ -1,5 +1,5 @@
 -- Small facts of lists, slots and roles.
-use Rattle.std.proofs.Common.{◌≡◌, ℕ, zero, suc, ◌⊎◌, inl, inr, Bool, true, false, List, [], ◌∷◌, ◌++◌, length, set, Some, None, refl, sym, ap, ◌∙◌, true≢false}
+use Rattle.std.proofs.Common.{◌≡◌, ℕ, zero, suc, ◌⊎◌, inl, inr, Bool, true, false, List, [], ◌∷◌, ◌++◌, length, set, Option, Some, None, refl, sym, ap, ◌∙◌, true≢false}
 use Rattle.std.specs.Prelude.{slice_get}
 use Rattle.std.proofs.lemmas.Option.{none-some, same_Some}
 use Rattle.link_timers.specs.declared.role.Role.{Role}
@@ -24,6 +24,14 @@ get_pushed [] y zero x e = inr (sym (same_Some y x e))
 get_pushed [] y (suc i) x e = absurd (none-some x e)
 get_pushed (z ∷ xs) y zero x e = inl e
 get_pushed (z ∷ xs) y (suc i) x e = get_pushed xs y i x e
+
+-- what is in one list stays in another one, so nothing has gone
+pub still_none : {X : Type 0} (xs ys : List X) (n : ℕ) → ((x : X) → slice_get xs n ≡ Some x → (y : X) × (slice_get ys n ≡ Some y)) → slice_get ys n ≡ None → slice_get xs n ≡ None
+still_none {X} xs ys n kept none = by (slice_get xs n) refl
+  where
+    by : (o : Option X) → slice_get xs n ≡ o → slice_get xs n ≡ None
+    by None at = at
+    by (Some x) at = (let y = kept x at in absurd (none-some y.0 (sym none ∙ y.1)))
 
 -- ---- records that change
 

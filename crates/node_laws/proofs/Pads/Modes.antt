@@ -17,7 +17,7 @@ use Rattle.x29_messages.specs.Reading.{message_of}
 use Rattle.x29_messages.specs.declared.message.Message.{Message}
 use Rattle.x29_messages.specs.declared.message.Message.TheVariants as message
 use Rattle.x29_messages.specs.declared.fault.MessageFault.{MessageFault}
-use Rattle.pad_terminal.specs.Terminal.{TerminalState, has_call, is_connected, is_data_transfer, runs_idle_timer}
+use Rattle.pad_terminal.specs.Terminal.{TerminalState, is_present, arrived, has_call, is_connected, is_data_transfer, runs_idle_timer}
 use Rattle.pad_terminal.specs.Calls as calls
 use Rattle.pad_terminal.specs.CommandLine as command_line
 use Rattle.pad_terminal.specs.Commands as commands
@@ -33,7 +33,7 @@ use Rattle.pad_terminal.specs.declared.answers.Reply.TheVariants as reply
 use Rattle.pad_terminal.specs.declared.answers.TerminalRequest.{TerminalRequest}
 use Rattle.pad_terminal.specs.declared.answers.TerminalRequest.TheVariants as request
 use Rattle.pad_terminal.specs.declared.mode.Mode.{Mode}
-use Rattle.pad_terminal.specs.declared.mode.Mode.TheVariants.{Free, CallSetUp, DataTransfer, CommandState}
+use Rattle.pad_terminal.specs.declared.mode.Mode.TheVariants.{Absent, Free, CallSetUp, DataTransfer, CommandState}
 use Rattle.node_laws.specs.Pads.Sending.{IsOfPad}
 
 -- of one of two things, which is known
@@ -61,6 +61,7 @@ Follows (Some request.Reset) t u = Same t u
 
 freed_is : (m : Mode) (t : TerminalState) → ((calls.freed m t).held ≡ t.held) × (has_call (calls.freed m t).mode ≡ false)
 freed_is DataTransfer t = (refl, refl)
+freed_is Absent t = (refl, refl)
 freed_is Free t = (refl, refl)
 freed_is CallSetUp t = (refl, refl)
 freed_is CommandState t = (refl, refl)
@@ -71,6 +72,7 @@ ended_is s t = freed_is t.mode (calls.signalled s (calls.without_call t))
 -- ---- commands
 
 mode_stays : (answer : Option Signal) (m : Mode) → has_call (mode_after answer m) ≡ has_call m
+mode_stays answer Absent = refl
 mode_stays answer Free = refl
 mode_stays answer CallSetUp = refl
 mode_stays answer DataTransfer = refl
@@ -147,6 +149,7 @@ KeyFollows step t i = InputFollows i.answer step t i.terminal
 
 in_call : (m : Mode) → is_data_transfer m ≡ true → has_call m ≡ true
 in_call DataTransfer h = refl
+in_call Absent h = absurd (true≢false (sym h))
 in_call Free h = absurd (true≢false (sym h))
 in_call CallSetUp h = absurd (true≢false (sym h))
 in_call CommandState h = absurd (true≢false (sym h))
@@ -171,7 +174,9 @@ pub key_follows : (o : ℕ) (call : CallCondition) (t : TerminalState) → KeyFo
 key_follows o call t =
     let k = command_line.after_key t.settings.params o t.line in
     by_test (λ i. KeyFollows (key o t.settings.params) t i) (is_data_transfer t.mode) _ _ (λ h. data_follows o call.queue_full t (in_call t.mode h))
-    (λ h. ended_follows (key o t.settings.params) k.ended call t (keys.with_line k (command_line.is_echoed t.settings.params t.line) t) (refl, refl))
+    (λ h. by_test (λ i. KeyFollows (key o t.settings.params) t i) (is_present t.mode) _ _
+    (λ p. ended_follows (key o t.settings.params) k.ended call t (keys.with_line k (command_line.is_echoed t.settings.params t.line) t) (refl, refl))
+    (λ p. (refl, refl)))
 
 both_true : (a b : Bool) → (a && b) ≡ true → a ≡ true
 both_true true b h = refl
@@ -207,6 +212,18 @@ pub break_same : (call : CallCondition) (t : TerminalState) → Same t (breaks.a
 break_same call t =
     by_test (λ (u : TerminalState). Same t u) (is_connected t.mode && not (breaks.is_dropped call t)) _ _
     (λ h. same_twice t (breaks.escaped t) (breaks.discarding (breaks.escaped t)) (escaped_same t) (discarding_same (breaks.escaped t))) (λ h. (refl, refl))
+
+-- ---- a terminal that arrives
+
+absent_free : (m : Mode) → is_present m ≡ false → has_call m ≡ false
+absent_free Absent h = refl
+absent_free Free h = refl
+absent_free CallSetUp h = absurd (true≢false h)
+absent_free DataTransfer h = absurd (true≢false h)
+absent_free CommandState h = absurd (true≢false h)
+
+pub arrived_same : (t : TerminalState) → Same t (arrived t)
+arrived_same t = by_test (λ (u : TerminalState). Same t u) (is_present t.mode) _ _ (λ h. (refl, refl)) (λ h. (refl, sym (absent_free t.mode h)))
 
 -- ---- messages
 

@@ -174,5 +174,22 @@ print_notes a none =
     next_of a.port.call (port.taken_of a) a.port.call (port.with_terminal (calls.without_text a.port.terminal) a.port) a.line refl
     (none_yet (IsOfCall a.port.call a.port.call) a.line.notes none)
 
+leaving_notes : NotesOwnCall port.after_leaving
+leaving_notes a none = by a.port.call
+  where
+    by : (o : Option ℕ) → Every (IsOfCall o None) (port.on_call port.clears o a).line.notes
+    by None = none_yet (IsOfCall None None) a.line.notes none
+    by (Some call) = unless_of (Some call) None _ a.line.notes (notes.Cleared call) (none_yet (IsOfCall (Some call) None) a.line.notes none) (inl refl)
+
+arrival_notes : NotesOwnCall port.after_arrival
+arrival_notes a none = none_yet (IsOfCall a.port.call a.port.call) a.line.notes none
+
 pub own_notes : OwnNotesLaw
-own_notes = record { keys = key_notes; breaks = break_notes; idle_times = idle_notes; prints = print_notes }
+own_notes = record {
+  keys = key_notes;
+  breaks = break_notes;
+  idle_times = idle_notes;
+  prints = print_notes;
+  leavings = leaving_notes;
+  arrivals = arrival_notes;
+}

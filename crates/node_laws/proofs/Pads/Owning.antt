@@ -66,7 +66,7 @@ others_stay p number other act h = by (slice_get p.ports number)
     by None = refl
     by (Some found) = get_other p.ports number other (act (record { port = found; line = p.line })).port h
 
-changed_other : (ports : List PortState) (i j : ℕ) (f : PortState → PortState) → (j ≡ i → ⊥) → slice_get (changed_at i f ports) j ≡ slice_get ports j
+pub changed_other : (ports : List PortState) (i j : ℕ) (f : PortState → PortState) → (j ≡ i → ⊥) → slice_get (changed_at i f ports) j ≡ slice_get ports j
 changed_other ports i j f h = by (slice_get ports i)
   where
     by : (o : Option PortState) → slice_get (option_map_or (λ p. slice_set ports i (f p)) o ports) j ≡ slice_get ports j

@@ -1,5 +1,5 @@
 -- The events of a PAD keep what holds of it and of the book.
-use Rattle.std.specs.Prelude.{◌≡◌, ℕ, ◌⊎◌, Bool, true, false, cond, if◌then◌else◌, List, [], ◌∷◌, ◌++◌, map, slice_get, slice_set, is_none, Option, Some, None}
+use Rattle.std.specs.Prelude.{◌≡◌, ℕ, ◌⊎◌, Bool, true, false, ◌&&◌, cond, if◌then◌else◌, List, [], ◌∷◌, ◌++◌, map, slice_get, slice_set, is_none, Option, Some, None}
 use Rattle.std.specs.Option.{option_map, option_map_or}
 use Rattle.std.proofs.Common.{inl, inr, refl, sym, ap, subst, ◌∙◌, true≢false, arith}
 use Rattle.std.proofs.lemmas.Option.{none-some, same_Some, slice_get-map}
@@ -15,6 +15,7 @@ use Rattle.packet_end.proofs.Sizes.{asked_same, received_same, timer_same, finis
 use Rattle.record_laws.proofs.Books.Basics.{get_set}
 use Rattle.call_records.specs.Book.{Book}
 use Rattle.node_laws.proofs.LineRecords.WholeEvents.{all_offered_notes}
+use Rattle.pad_terminal.specs.Terminal.{is_present}
 use Rattle.pad_ports.specs.Notes as notes
 use Rattle.pad_ports.specs.Notes.{ChannelNote}
 use Rattle.pad_ports.specs.Line as line
@@ -38,7 +39,7 @@ use Rattle.node_laws.proofs.Pads.Ends.{EndTells, received_tells, received_last, 
 use Rattle.node_laws.proofs.Pads.Books.{narrowed, answers_holds, closes_holds, all_closed_holds, far_written}
 use Rattle.node_laws.proofs.Pads.Modes.{Same, resumed_same}
 use Rattle.node_laws.proofs.Pads.Typing.{AtHolds, Joined, port_same, same_channel, request_keeps}
-use Rattle.node_laws.proofs.Pads.Printing.{key_holds, break_holds, idle_holds, print_holds}
+use Rattle.node_laws.proofs.Pads.Printing.{key_holds, break_holds, idle_holds, print_holds, leaving_holds, arrival_holds}
 use Rattle.node_laws.proofs.Pads.Ports.{AreAlone, Back, on_back, alone_back, text_back, changed_port, found_at, HeardHolds, TextOrNew, all_are_heard}
 
 -- what it noted is written
@@ -219,9 +220,10 @@ module _ (role : Role) (b : Book) where
         (closes_holds role (TextOf p.ports) role channel (noted role p.line.notes b) (heard_book p.line (Some channel) p.ports h)) (heard_book p.line (Some channel) p.ports h);
   }
 
-  is_free : (o : Option ℕ) → is_none o ≡ true → o ≡ None
-  is_free None h = refl
-  is_free (Some call) h = absurd (true≢false (sym h))
+  is_free : (present : Bool) (o : Option ℕ) → (present && is_none o) ≡ true → o ≡ None
+  is_free present None h = refl
+  is_free true (Some call) h = absurd (true≢false (sym h))
+  is_free false (Some call) h = absurd (true≢false (sym h))
 
   accepts_it : (channel number : ℕ) (p : PadState) → pad.first_free p.ports ≡ Some number → p.line.end.layer.flow.size ≡ 128 → p.line.end.notes ≡ [] → p.line.end.layer.notes ≡ [] → Heard p.line (Some channel) p.ports
       → MidHolds (line.accepted channel p.line) (changed_at number (port.connects channel) p.ports)
@@ -255,8 +257,8 @@ module _ (role : Role) (b : Book) where
     book = narrowed role (TextOrNew (Some channel) p.ports) (TextOf (changed_at number (port.connects channel) p.ports)) _ texts accepted;
   }
     where
-      found : (x : PortState) × (slice_get p.ports number ≡ Some x) × (is_none x.call ≡ true)
-      found = found_at (λ (x : PortState). is_none x.call) p.ports number free
+      found : (x : PortState) × (slice_get p.ports number ≡ Some x) × (port.is_free x ≡ true)
+      found = found_at port.is_free p.ports number free
 
       cases : (j : ℕ) (q : PortState) → slice_get (changed_at number (port.connects channel) p.ports) j ≡ Some q → ((j ≡ number) × (q ≡ port.connects channel found.0)) ⊎ ((j ≡ number → ⊥) × (slice_get p.ports j ≡ Some q))
       cases j q at = changed_port p.ports number found.0 (port.connects channel) j q found.1 at
@@ -279,7 +281,7 @@ module _ (role : Role) (b : Book) where
       keeps c e = request_keeps role b (λ d t. ⊥) p.line.end.layer channel c Accept (λ cause diagnostic x. absurd cc) e
 
       nothing_held : found.0.terminal.held ≡ []
-      nothing_held = (let q = h.each number found.0 found.1 in q.empty (q.free (is_free found.0.call found.2)))
+      nothing_held = (let q = h.each number found.0 found.1 in q.empty (q.free (is_free (is_present found.0.terminal.mode) found.0.call found.2)))
 
       texts : (c : ℕ) (t : List ℕ) → TextOf (changed_at number (port.connects channel) p.ports) c t → TextOrNew (Some channel) p.ports c t
       texts c t x =
@@ -374,6 +376,12 @@ break_types role p number b h = terminal_holds role p b number port.after_break 
 
 pub print_types : (role : Role) (p : PadState) (number : ℕ) (b : Book) → PadTypes role p b → TypesAfter role b (pad.terminal_event number port.after_print p)
 print_types role p number b h = terminal_holds role p b number port.after_print (λ X a k. print_holds role b X a k) h
+
+pub leaving_types : (role : Role) (p : PadState) (number : ℕ) (b : Book) → PadTypes role p b → TypesAfter role b (pad.terminal_event number port.after_leaving p)
+leaving_types role p number b h = terminal_holds role p b number port.after_leaving (λ X a k. leaving_holds role b X a k) h
+
+pub arrival_types : (role : Role) (p : PadState) (number : ℕ) (b : Book) → PadTypes role p b → TypesAfter role b (pad.terminal_event number port.after_arrival p)
+arrival_types role p number b h = terminal_holds role p b number port.after_arrival (λ X a k. arrival_holds role b X a k) h
 
 pub frame_types : (role : Role) (p : PadState) (octets : Octets) (b : Book) → PadTypes role p b → TypesAfter role b (pad.after_frame p octets)
 frame_types role p octets b h =

@@ -15,7 +15,7 @@ use Rattle.call_records.specs.Book.{Book, takes}
 use Rattle.x3_params.specs.Settings.{acts_on_break}
 use Rattle.x3_params.specs.declared.settings.BreakAction.TheVariants as action
 use Rattle.x29_messages.specs.declared.message.Message.{Message}
-use Rattle.pad_terminal.specs.Terminal.{TerminalState, is_connected}
+use Rattle.pad_terminal.specs.Terminal.{TerminalState, is_connected, left, arrived}
 use Rattle.pad_terminal.specs.Breaks as breaks
 use Rattle.pad_terminal.specs.Calls as calls
 use Rattle.pad_terminal.specs.Messages as messages
@@ -36,7 +36,7 @@ use Rattle.node_laws.specs.Pads.Holds.{BookHolds}
 use Rattle.node_laws.proofs.Pads.Asking.{noted, noted_append}
 use Rattle.node_laws.proofs.Pads.Layers.{call_at, request_notes}
 use Rattle.node_laws.proofs.Pads.Books.{takes_holds, let_go_holds}
-use Rattle.node_laws.proofs.Pads.Modes.{Same, Follows, ReplyFollows, key_follows, idle_follows, break_same, octets_follow}
+use Rattle.node_laws.proofs.Pads.Modes.{Same, Follows, ReplyFollows, key_follows, idle_follows, break_same, arrived_same, octets_follow}
 use Rattle.node_laws.proofs.Pads.Typing.{AtHolds, Joined, terminal_same, does_holds, tells_holds, clears_holds, handles_holds, request_keeps}
 
 -- ---- what a break asks
@@ -92,6 +92,19 @@ module _ (role : Role) (b : Book) (Others : ℕ → List ℕ → Type 0) where
   idle_holds a h =
       handles_holds role b Others (port.idle_input a).answer (idle a.port.terminal.settings.params) a (port.idle_input a).terminal
       (idle_follows (line.condition a.port.call a.line).queue_full a.port.terminal) (λ text call is at short. idle_blocks a text call is at (omega (arith, short, h.size))) h
+
+  -- ---- leaving
+
+  pub leaving_holds : (a : AtLine) → Holds a → Holds (port.after_leaving a)
+  leaving_holds a h = by a.port.call (clears_holds role b Others a (left a.port.terminal.settings.initial) None refl refl h)
+    where
+      by : (o : Option ℕ) → Holds (port.on_call port.clears o (record { port = record { terminal = left a.port.terminal.settings.initial; call = o; idle_left = None }; line = a.line }))
+          → Holds (let cleared = port.on_call port.clears o a in record cleared { port = port.left cleared.port })
+      by None k = k
+      by (Some call) k = k
+
+  pub arrival_holds : (a : AtLine) → Holds a → Holds (port.after_arrival a)
+  arrival_holds a h = terminal_same role b Others a (arrived a.port.terminal) a.port.idle_left (arrived_same a.port.terminal) h
 
   -- ---- what is taken
 

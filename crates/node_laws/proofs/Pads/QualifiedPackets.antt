@@ -1,5 +1,5 @@
 -- What a PAD tells in an event, in packets with Q = 1, is what the occasions of the event ask for.
-use Rattle.std.specs.Prelude.{◌≡◌, ℕ, Bool, true, false, not, ◌&&◌, ◌==◌, if◌then◌else◌, List, [], ◌∷◌, ◌++◌, length, map, slice_get, Option, Some, None}
+use Rattle.std.specs.Prelude.{◌≡◌, ℕ, Bool, true, false, not, ◌&&◌, ◌||◌, ◌==◌, if◌then◌else◌, List, [], ◌∷◌, ◌++◌, length, map, slice_get, Option, Some, None}
 use Rattle.std.specs.Option.{option_map_or}
 use Rattle.std.proofs.Common.{refl, sym, ap, subst, ◌∙◌, ◌≤◌, true≢false, append_assoc, append-nil, arith}
 use Rattle.std.proofs.lemmas.Option.{none-some, same_Some}
@@ -17,7 +17,7 @@ use Rattle.x3_params.specs.Settings.{acts_on_break}
 use Rattle.x3_params.specs.declared.settings.BreakAction.TheVariants as action
 use Rattle.x29_messages.specs.MessageForm.{octets_of, pairs_octets}
 use Rattle.x29_messages.specs.declared.message.Message.{Message}
-use Rattle.pad_terminal.specs.Terminal.{TerminalState, may_show, is_connected}
+use Rattle.pad_terminal.specs.Terminal.{TerminalState, is_present, may_show, is_connected}
 use Rattle.pad_terminal.specs.Breaks as breaks
 use Rattle.pad_terminal.specs.Calls as calls
 use Rattle.pad_terminal.specs.Messages as messages
@@ -310,9 +310,9 @@ data IsBeside : Option TerminalRequest → Type 0 where
   nothing_beside : IsBeside None
   interrupt_beside : IsBeside (Some request.Interrupt)
 
-abbrev pub break_answer_by : (connected asks full : Bool) → Option TerminalRequest → Message → BreakAnswer
-break_answer_by connected asks full r m =
-    if connected && asks && full then break_answer.Dropped
+abbrev pub break_answer_by : (present connected asks full : Bool) → Option TerminalRequest → Message → BreakAnswer
+break_answer_by present connected asks full r m =
+    if not present || (connected && asks && full) then break_answer.Dropped
     else if connected then break_answer.Taken (record { request = r; indication = if asks then Some m else None })
     else break_answer.Taken (record { request = None; indication = None })
 
@@ -344,16 +344,18 @@ tells_beside test (Some request.Interrupt) m o x is interrupt_beside short free 
         ∙ ap (λ (l : Octets). l ++ (if meets test (Some call) then octets_of m ∷ [] else []))
         (silent_unless (told_in test) x.line.notes _ (notes.Interrupted call (line.interrupt_octet ∷ [])) refl))
 
-break_by : (test : ℕ → Bool) (connected asks full : Bool) (r : Option TerminalRequest) (m : Message) (os : List Occasion) (x : AtLine) → x.line.notes ≡ [] → told_octets os ≡ map octets_of (if asks then m ∷ [] else [])
+break_by : (test : ℕ → Bool) (present connected asks full : Bool) (r : Option TerminalRequest) (m : Message) (os : List Occasion) (x : AtLine) → x.line.notes ≡ [] → told_octets os ≡ map octets_of (if asks then m ∷ [] else [])
     → IsShort m → (asks ≡ true → IsBeside r) → (full ≡ false → HasRoom x.port.call x.line)
-    → all_in (told_in test) (port.answers_break (break_answer_by connected asks full r m) x).line.notes
-    ≡ told_octets (if meets test x.port.call then (if connected && port.is_break_taken (break_answer_by connected asks full r m) then os else []) else [])
-break_by test false asks full r m os x none e short beside free = unasked (meets test x.port.call) _ (nothing_noted (told_in test) x.line.notes none)
-break_by test true true true r m os x none e short beside free = unasked (meets test x.port.call) _ (nothing_noted (told_in test) x.line.notes none)
-break_by test true false full r m os x none e short beside free =
+    → all_in (told_in test) (port.answers_break (break_answer_by present connected asks full r m) x).line.notes
+    ≡ told_octets (if meets test x.port.call then (if connected && port.is_break_taken (break_answer_by present connected asks full r m) then os else []) else [])
+break_by test false false asks full r m os x none e short beside free = unasked (meets test x.port.call) _ (nothing_noted (told_in test) x.line.notes none)
+break_by test false true asks full r m os x none e short beside free = unasked (meets test x.port.call) _ (nothing_noted (told_in test) x.line.notes none)
+break_by test true false asks full r m os x none e short beside free = unasked (meets test x.port.call) _ (nothing_noted (told_in test) x.line.notes none)
+break_by test true true true true r m os x none e short beside free = unasked (meets test x.port.call) _ (nothing_noted (told_in test) x.line.notes none)
+break_by test true true false full r m os x none e short beside free =
     by_none (told_in test) told_octets (meets test x.port.call) (port.does_asked r x).line.notes os e refl
     (does_says (told_in test) (told_kind test) (λ c octets. refl) r x ∙ nothing_noted (told_in test) x.line.notes none)
-break_by test true true false r m os x none e short beside free =
+break_by test true true true false r m os x none e short beside free =
     tells_beside test r m x.port.call x refl (beside refl) short (free refl)
     ∙ ap (λ (l : Octets). l ++ (if meets test x.port.call then octets_of m ∷ [] else [])) (nothing_noted (told_in test) x.line.notes none)
     ∙ if_told (meets test x.port.call) os (octets_of m ∷ []) e
@@ -376,7 +378,7 @@ pub break_told : (test : ℕ → Bool) (a : AtLine) → a.line.end.layer.flow.si
 break_told test a size nothing =
     let t : TerminalState = a.port.terminal in
     let call : CallCondition = condition a.port.call a.line in
-    break_by test (is_connected t.mode) (breaks.indicates t.settings.params) call.queue_full (breaks.request_of t.settings.params call) (indication t.settings.params)
+    break_by test (is_present t.mode) (is_connected t.mode) (breaks.indicates t.settings.params) call.queue_full (breaks.request_of t.settings.params call) (indication t.settings.params)
     (HadBreak t.settings.params (is_pending a.port.call a.line) ∷ []) (record a { port = port.with_terminal (breaks.after_break call t) a.port }) nothing
     (ap (λ (ms : List Message). map octets_of ms) (append-nil _)) (indication_is_short t.settings.params) (λ e. request_beside t.settings.params call e) (λ e. has_room a.port.call a.line size e)
 

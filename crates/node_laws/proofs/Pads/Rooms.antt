@@ -40,7 +40,7 @@ use Rattle.pad_ports.specs.Ports as port
 use Rattle.pad_ports.specs.Ports.{PortState, AtLine}
 use Rattle.x25_pad.specs.Pad as pad
 use Rattle.x25_pad.specs.Pad.{PadState}
-use Rattle.node_laws.specs.Pads.Rooms.{NeedsTwoAtMost, KeyRoom, BreakRoom, PrintRoom, IdleRoom, FrameRoom, RelinkRoom, TimerRoom}
+use Rattle.node_laws.specs.Pads.Rooms.{NeedsTwoAtMost, KeyRoom, BreakRoom, PrintRoom, LeavingRoom, ArrivalRoom, IdleRoom, FrameRoom, RelinkRoom, TimerRoom}
 
 -- ---- lists of notes
 
@@ -281,6 +281,12 @@ break_room p number = terminal_room number port.after_break p
 pub print_room : PrintRoom
 print_room p number = terminal_room number port.after_print p
     (λ q e told. next_fits q.call (port.taken_of (bare q e)) (port.with_terminal (Rattle.pad_terminal.specs.Calls.without_text q.terminal) q) e told)
+
+pub leaving_room : LeavingRoom
+leaving_room p number = terminal_room number port.after_leaving p (λ q e told. does_fits q e told request.Clear)
+
+pub arrival_room : ArrivalRoom
+arrival_room p number = terminal_room number port.after_arrival p (λ q e told. (fits_none, told))
 
 paused_room : (p : PadState) (number : ℕ) → NeedsTwoAtMost (pad.terminal_event number port.after_idle p)
 paused_room p number = terminal_room number port.after_idle p

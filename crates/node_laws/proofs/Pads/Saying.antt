@@ -13,9 +13,9 @@ use Rattle.pad_ports.specs.Ports.{PortState, AtLine}
 use Rattle.x25_pad.specs.Pad as pad
 use Rattle.x25_pad.specs.Pad.{PadState}
 use Rattle.node_laws.specs.Pads.Occasions.{Occasion, TookMessage, HadBreak, HadCommand, messages_taken, told_at, all_told, interrupts_at, all_interrupts}
-use Rattle.node_laws.specs.Pads.Happening.{PadEvent, HasKey, HasBreak, HasIdleTime, HasPrinting, HasFrame, HasExpiry, HasRelink, HasRestart, HasTicks, after_event, occasions_of, by_key, by_break, by_printing}
+use Rattle.node_laws.specs.Pads.Happening.{PadEvent, HasKey, HasBreak, HasIdleTime, HasPrinting, HasLeaving, HasArrival, HasFrame, HasExpiry, HasRelink, HasRestart, HasTicks, after_event, occasions_of, by_key, by_break, by_printing}
 use Rattle.node_laws.proofs.Pads.QualifiedPackets.{Octets, message_in, told_in, interrupt_in, all_in, IsKind, messages_kind, told_kind, nothing_noted, key_says, told_octets, break_messages, break_told, print_told, print_messages, line_says, event_says, silent_says}
-use Rattle.node_laws.proofs.Pads.Interrupting.{interrupts_kind, key_interrupts, idle_interrupts, break_interrupts, print_interrupts}
+use Rattle.node_laws.proofs.Pads.Interrupting.{interrupts_kind, key_interrupts, idle_interrupts, leaving_says, break_interrupts, print_interrupts}
 
 -- ---- events
 
@@ -27,6 +27,12 @@ module _ (f : ChannelNote → Octets) (kind : IsKind f) where
       by : (v : Bool) → all_in f (if v then pad.terminal_event number port.after_idle p else p).line.notes ≡ []
       by true = silent_says f kind (λ os. []) refl (λ c. false) number port.after_idle (λ a. idle_interrupts f kind a) p
       by false = nothing_noted f p.line.notes none
+
+  leaving_silent : (number : ℕ) (p : PadState) → all_in f (pad.terminal_event number port.after_leaving p).line.notes ≡ []
+  leaving_silent number p = silent_says f kind (λ os. []) refl (λ c. false) number port.after_leaving (λ a. leaving_says f kind a) p
+
+  arrival_silent : (number : ℕ) (p : PadState) → all_in f (pad.terminal_event number port.after_arrival p).line.notes ≡ []
+  arrival_silent number p = silent_says f kind (λ os. []) refl (λ c. false) number port.after_arrival (λ a. refl) p
 
   expiry_says : (id : TimerId) (p : PadState) → p.line.notes ≡ [] → all_in f (pad.after_expiry p id).line.notes ≡ []
   expiry_says id p none = by (runs_at p.line.end id)
@@ -51,6 +57,8 @@ event_messages (HasBreak number) p none test =
     event_says (message_in test) (messages_kind test) messages_taken refl test number port.after_break by_break p (λ q. break_messages test (at q p))
 event_messages (HasPrinting number) p none test =
     event_says (message_in test) (messages_kind test) messages_taken refl test number port.after_print by_printing p (λ q. print_messages test (at q p))
+event_messages (HasLeaving number) p none test = leaving_silent (message_in test) (messages_kind test) number p
+event_messages (HasArrival number) p none test = arrival_silent (message_in test) (messages_kind test) number p
 event_messages (HasIdleTime number) p none test = idle_says (message_in test) (messages_kind test) number p none
 event_messages (HasFrame octets) p none test = line_says (message_in test) (messages_kind test) (pad.with_end (received (pad.begun p).line.end octets) (pad.begun p))
 event_messages (HasExpiry id) p none test = timer_says (message_in test) (messages_kind test) id p none
@@ -66,6 +74,8 @@ event_told (HasBreak number) p none size test =
     event_says (told_in test) (told_kind test) told_octets refl test number port.after_break by_break p (λ q. break_told test (at q p) size)
 event_told (HasPrinting number) p none size test =
     event_says (told_in test) (told_kind test) told_octets refl test number port.after_print by_printing p (λ q. print_told test (at q p) size)
+event_told (HasLeaving number) p none size test = leaving_silent (told_in test) (told_kind test) number p
+event_told (HasArrival number) p none size test = arrival_silent (told_in test) (told_kind test) number p
 event_told (HasIdleTime number) p none size test = idle_says (told_in test) (told_kind test) number p none
 event_told (HasFrame octets) p none size test = line_says (told_in test) (told_kind test) (pad.with_end (received (pad.begun p).line.end octets) (pad.begun p))
 event_told (HasExpiry id) p none size test = timer_says (told_in test) (told_kind test) id p none
@@ -80,6 +90,8 @@ event_interrupts (HasBreak number) p none test =
     event_says (interrupt_in test) (interrupts_kind test) all_interrupts refl test number port.after_break by_break p (λ q. break_interrupts test (at q p))
 event_interrupts (HasPrinting number) p none test =
     event_says (interrupt_in test) (interrupts_kind test) all_interrupts refl test number port.after_print by_printing p (λ q. print_interrupts test (at q p))
+event_interrupts (HasLeaving number) p none test = leaving_silent (interrupt_in test) (interrupts_kind test) number p
+event_interrupts (HasArrival number) p none test = arrival_silent (interrupt_in test) (interrupts_kind test) number p
 event_interrupts (HasIdleTime number) p none test = idle_says (interrupt_in test) (interrupts_kind test) number p none
 event_interrupts (HasFrame octets) p none test = line_says (interrupt_in test) (interrupts_kind test) (pad.with_end (received (pad.begun p).line.end octets) (pad.begun p))
 event_interrupts (HasExpiry id) p none test = timer_says (interrupt_in test) (interrupts_kind test) id p none

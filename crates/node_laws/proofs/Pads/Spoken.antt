@@ -229,11 +229,11 @@ same_test m n e = by (m == n) refl
     by true f = refl
     by false f = absurd (eqb-false m n f e)
 
-is_true : (n : ℕ) (o : Option ℕ) → o ≡ Some n → is_record n o ≡ true
+pub is_true : (n : ℕ) (o : Option ℕ) → o ≡ Some n → is_record n o ≡ true
 is_true n None e = absurd (none-some n e)
 is_true n (Some m) e = same_test m n (same_Some m n e)
 
-is_false : (n : ℕ) (o : Option ℕ) → (o ≡ Some n → ⊥) → is_record n o ≡ false
+pub is_false : (n : ℕ) (o : Option ℕ) → (o ≡ Some n → ⊥) → is_record n o ≡ false
 is_false n None ne = refl
 is_false n (Some m) ne = by (m == n) refl
   where
@@ -257,7 +257,7 @@ get_split (r ∷ rs) (suc n) f (suc m) r' e =
       ],
     )
 
-change_split : (o : Option ℕ) (f : RecordValue → RecordValue) (b : Book) (n : ℕ) (r' : RecordValue) → slice_get (with_change o f b).records n ≡ Some r'
+pub change_split : (o : Option ℕ) (f : RecordValue → RecordValue) (b : Book) (n : ℕ) (r' : RecordValue) → slice_get (with_change o f b).records n ≡ Some r'
     → (r : RecordValue) × (slice_get b.records n ≡ Some r) × (((o ≡ Some n) × (r' ≡ f r)) ⊎ ((o ≡ Some n → ⊥) × (r' ≡ r)))
 change_split None f b n r' e = (r', e, inr (λ k. none-some n k, refl))
 change_split (Some m) f b n r' e =

@@ -18,7 +18,7 @@ use Rattle.x3_params.specs.Settings.{acts_on_break, recall_character}
 use Rattle.x3_params.specs.declared.settings.BreakAction.TheVariants as action
 use Rattle.x29_messages.specs.MessageForm.{octets_of}
 use Rattle.x29_messages.specs.declared.message.Message.{Message}
-use Rattle.pad_terminal.specs.Terminal.{TerminalState, is_data_transfer, runs_idle_timer, may_show, is_connected}
+use Rattle.pad_terminal.specs.Terminal.{TerminalState, is_present, is_data_transfer, runs_idle_timer, may_show, is_connected}
 use Rattle.pad_terminal.specs.CommandLine as command_line
 use Rattle.pad_terminal.specs.Keys as keys
 use Rattle.pad_terminal.specs.Breaks as breaks
@@ -74,7 +74,7 @@ octet_fits : (o : ℕ) (call : CallCondition) (t : TerminalState) → InputFits 
 octet_fits o call t =
     let key = command_line.after_key t.settings.params o t.line in
     either InputFits (is_data_transfer t.mode) _ _ (data_fits o call.queue_full t)
-    (ended_fits key.ended call (keys.with_line key (command_line.is_echoed t.settings.params t.line) t))
+    (either InputFits (is_present t.mode) _ _ (ended_fits key.ended call (keys.with_line key (command_line.is_echoed t.settings.params t.line) t)) tt)
 
 idle_fits : (full : Bool) (t : TerminalState) → InputFits (keys.after_idle_time full t)
 idle_fits full t = either InputFits (runs_idle_timer t) _ _ (either InputFits full _ _ tt tt) tt
@@ -157,6 +157,11 @@ module _ (s : Setting) (b : Book) (role : Role) (you : PacketEnd) (going coming 
       break_answered (port.break_answer_of a)
       (record a { port = port.with_terminal (breaks.after_break (line.condition a.port.call a.line) a.port.terminal) a.port })
       (break_fits (line.condition a.port.call a.line) a.port.terminal) h
+
+  -- ---- leaving
+
+  pub leaving_runs : (a : AtLine) → RunsAt a → RunsAt (port.after_leaving a)
+  leaving_runs a h = places_runs a request.Clear tt h
 
   -- ---- what is taken
 

@@ -29,6 +29,18 @@ BreakLaw =
     (s : Setting) (b : Book) (l : Line) (role : Role) (p : PadState) (number : ℕ) (kept : List Bool)
     → StandsAt role l p → Kept s b l → KeepsBy s b role l kept (terminal_event number port.after_break p)
 
+-- the terminal leaves
+abbrev pub LeavingLaw : Type 0
+LeavingLaw =
+    (s : Setting) (b : Book) (l : Line) (role : Role) (p : PadState) (number : ℕ) (kept : List Bool)
+    → StandsAt role l p → Kept s b l → KeepsBy s b role l kept (terminal_event number port.after_leaving p)
+
+-- the terminal arrives
+abbrev pub ArrivalLaw : Type 0
+ArrivalLaw =
+    (s : Setting) (b : Book) (l : Line) (role : Role) (p : PadState) (number : ℕ) (kept : List Bool)
+    → StandsAt role l p → Kept s b l → KeepsBy s b role l kept (terminal_event number port.after_arrival p)
+
 -- the end of an idle time, whether the timer runs or not
 abbrev pub IdleLaw : Type 0
 IdleLaw =

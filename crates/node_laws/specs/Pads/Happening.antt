@@ -16,7 +16,7 @@ use Rattle.x28_commands.specs.Reading.{command_of}
 use Rattle.x28_commands.specs.declared.command.Command.{Command}
 use Rattle.x28_commands.specs.declared.command.Command.TheVariants as command
 use Rattle.x28_commands.specs.declared.fault.CommandFault.{CommandFault}
-use Rattle.pad_terminal.specs.Terminal.{TerminalState, is_connected, is_data_transfer}
+use Rattle.pad_terminal.specs.Terminal.{TerminalState, is_present, is_connected, is_data_transfer}
 use Rattle.pad_terminal.specs.Calls.{without_text}
 use Rattle.pad_terminal.specs.CommandLine as command_line
 use Rattle.pad_ports.specs.Line.{interrupt_octet}
@@ -31,13 +31,15 @@ use Rattle.node_laws.specs.Pads.Holds.{PadTypes, HaveSaid}
 
 -- ---- events
 
--- a key, a break, the end of an idle time, and printing, at the terminal of this number; a frame, an expiry of a timer,
--- a relink; a restart; ticks that pass
+-- a key, a break, the end of an idle time, printing, leaving, and arriving, at the terminal of this number; a frame, an
+-- expiry of a timer, a relink; a restart; ticks that pass
 pub data PadEvent : Type 0 where
   HasKey : (number octet : ℕ) → PadEvent
   HasBreak : (number : ℕ) → PadEvent
   HasIdleTime : (number : ℕ) → PadEvent
   HasPrinting : (number : ℕ) → PadEvent
+  HasLeaving : (number : ℕ) → PadEvent
+  HasArrival : (number : ℕ) → PadEvent
   HasFrame : Octets → PadEvent
   HasExpiry : TimerId → PadEvent
   HasRelink : PadEvent
@@ -49,6 +51,8 @@ after_event (HasKey number octet) p = terminal_event number (port.after_key octe
 after_event (HasBreak number) p = terminal_event number port.after_break p
 after_event (HasIdleTime number) p = after_idle number p
 after_event (HasPrinting number) p = terminal_event number port.after_print p
+after_event (HasLeaving number) p = terminal_event number port.after_leaving p
+after_event (HasArrival number) p = terminal_event number port.after_arrival p
 after_event (HasFrame octets) p = after_frame p octets
 after_event (HasExpiry id) p = after_timer p id
 after_event HasRelink p = after_relink p
@@ -57,10 +61,12 @@ after_event (HasTicks ticks) p = elapsed ticks p
 
 -- ---- the occasions of an event
 
--- the command line that a key ends, outside data transfer
+-- the command line that a key ends, outside data transfer, of a terminal that is present
 abbrev pub line_ended : ℕ → TerminalState → Option (List ℕ)
 line_ended octet t =
-    if is_data_transfer t.mode then None else (command_line.after_key t.settings.params octet t.line).ended
+    if is_data_transfer t.mode then None
+    else if is_present t.mode then (command_line.after_key t.settings.params octet t.line).ended
+    else None
 
 abbrev pub asks_for_interrupt : Result Command CommandFault → Bool
 asks_for_interrupt (Ok command.Interrupt) = true

@@ -4,7 +4,8 @@ use Rattle.packet_laws.specs.Readable.{Every}
 use Rattle.pad_ports.specs.Line.{about}
 use Rattle.pad_ports.specs.Notes.{ChannelNote, Told, Placed, Accepted, Cleared, WasReset, Edited, Sent}
 use Rattle.pad_ports.specs.Notes.{Interrupted, Took}
-use Rattle.pad_ports.specs.Ports.{AtLine, after_key, after_break, after_idle, after_print}
+use Rattle.pad_ports.specs.Ports.{AtLine, after_key, after_break, after_idle, after_print, after_leaving}
+use Rattle.pad_ports.specs.Ports.{after_arrival}
 
 -- the channel of a note
 abbrev pub channel_of : ChannelNote → ℕ
@@ -26,9 +27,11 @@ abbrev pub NotesOwnCall : (AtLine → AtLine) → Type 0
 NotesOwnCall act = (a : AtLine) → a.line.notes ≡ []
     → Every (IsOfCall a.port.call (act a).port.call) (act a).line.notes
 
--- of keys, breaks, idle times and printing
+-- of keys, breaks, idle times, printing, leaving and arriving
 pub record OwnNotesLaw : Type 0 where
   pub keys : (octet : ℕ) → NotesOwnCall (after_key octet)
   pub breaks : NotesOwnCall after_break
   pub idle_times : NotesOwnCall after_idle
   pub prints : NotesOwnCall after_print
+  pub leavings : NotesOwnCall after_leaving
+  pub arrivals : NotesOwnCall after_arrival

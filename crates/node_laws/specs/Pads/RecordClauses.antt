@@ -45,6 +45,14 @@ abbrev pub BreakHolds : Type 0
 BreakHolds = (role : Role) (p : PadState) (number : ℕ) (b : Book) → PadHolds role p b
     → HoldsAfter role b (terminal_event number port.after_break p)
 
+abbrev pub LeavingHolds : Type 0
+LeavingHolds = (role : Role) (p : PadState) (number : ℕ) (b : Book) → PadHolds role p b
+    → HoldsAfter role b (terminal_event number port.after_leaving p)
+
+abbrev pub ArrivalHolds : Type 0
+ArrivalHolds = (role : Role) (p : PadState) (number : ℕ) (b : Book) → PadHolds role p b
+    → HoldsAfter role b (terminal_event number port.after_arrival p)
+
 abbrev pub PrintHolds : Type 0
 PrintHolds = (role : Role) (p : PadState) (number : ℕ) (b : Book) → PadHolds role p b
     → HoldsAfter role b (terminal_event number port.after_print p)

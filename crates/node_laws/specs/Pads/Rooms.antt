@@ -22,6 +22,12 @@ BreakRoom = (p : PadState) (number : ℕ) → NeedsTwoAtMost (terminal_event num
 abbrev pub PrintRoom : Type 0
 PrintRoom = (p : PadState) (number : ℕ) → NeedsTwoAtMost (terminal_event number port.after_print p)
 
+abbrev pub LeavingRoom : Type 0
+LeavingRoom = (p : PadState) (number : ℕ) → NeedsTwoAtMost (terminal_event number port.after_leaving p)
+
+abbrev pub ArrivalRoom : Type 0
+ArrivalRoom = (p : PadState) (number : ℕ) → NeedsTwoAtMost (terminal_event number port.after_arrival p)
+
 -- where nothing is left to be written of the last event, since nothing happens where the timer does not run
 abbrev pub IdleRoom : Type 0
 IdleRoom = (p : PadState) (number : ℕ) → p.line.notes ≡ [] → NeedsTwoAtMost (after_idle number p)

@@ -1,6 +1,8 @@
 //! The law of what a PAD says of itself.
 ghost use Rattle.node_laws.specs.Pads.Happening.{OccasionLaw};
 ghost use Rattle.node_laws.specs.Pads.Courses.{CourseLaw};
+ghost use Rattle.node_laws.specs.Pads.EventCourses.{EventCourseLaw};
+ghost use Rattle.node_laws.specs.Pads.Typed.{TypedLaw};
 ghost use Rattle.node_laws.specs.Pads.Sending.{OfPadLaw};
 
 /// The law of what a PAD says of itself, over definitions alone. On each call the qualified packets that it sends are
@@ -12,4 +14,19 @@ pub fn occasion_law()
     ensures course { CourseLaw }
     // An answer is an indication of parameters or an error.
     ensures of_pad { OfPadLaw }
+{}
+
+/// The law of the course that a list of events makes, over definitions alone. It is made of these events at the PAD,
+/// each once and in order, from the making on. What else comes to be in the book of the line is not of the PAD. Each
+/// record of the PAD has sent what was typed, and of itself what its occasions in this course ask for (X.3; X.28 3.3;
+/// X.29 4.4).
+pub fn event_course_law()
+    ensures { EventCourseLaw }
+{}
+
+/// The law of what was typed on each call, over definitions alone. The steps of editing of a record are events of the
+/// course, in order: keys and ends of idle times of one terminal. When each came, the terminal had its call on a channel
+/// whose present record this was. So they came while the call stood. No two records share one (X.3 3.3, 3.4; X.28 3.5).
+pub fn typed_law()
+    ensures { TypedLaw }
 {}

@@ -1,5 +1,6 @@
 //! The law of the room that a PAD takes in the book of its line.
-ghost use Rattle.node_laws.specs.Pads.Rooms.{KeyRoom, BreakRoom, PrintRoom, IdleRoom, FrameRoom, RelinkRoom, TimerRoom};
+ghost use Rattle.node_laws.specs.Pads.Rooms.{KeyRoom, BreakRoom, PrintRoom, LeavingRoom, ArrivalRoom, IdleRoom};
+ghost use Rattle.node_laws.specs.Pads.Rooms.{FrameRoom, RelinkRoom, TimerRoom};
 
 /// How much an event of a PAD writes into the book of its line, over definitions alone, so that room for it can be made
 /// before: with room for two writes and for a pair all that the PAD notes is written. An event opens one record or
@@ -9,6 +10,8 @@ pub fn pad_room_law()
     ensures keys { KeyRoom }
     ensures breaks { BreakRoom }
     ensures prints { PrintRoom }
+    ensures leavings { LeavingRoom }
+    ensures arrivals { ArrivalRoom }
     ensures idle_times { IdleRoom }
 
     // What comes from the line, and the timers of the line and of the terminals.

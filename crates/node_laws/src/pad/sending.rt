@@ -1,7 +1,7 @@
 //! The law of what a PAD sends.
-ghost use Rattle.node_laws.specs.Pads.RecordClauses.{SentLaw, KeyHolds, BreakHolds, PrintHolds, FrameHolds, RelinkHolds};
-ghost use Rattle.node_laws.specs.Pads.RecordClauses.{TimerHolds, RestartHolds, TimeHolds, DrainedHolds, FarHolds};
-ghost use Rattle.node_laws.specs.Pads.RecordClauses.{MadeHolds};
+ghost use Rattle.node_laws.specs.Pads.RecordClauses.{SentLaw, KeyHolds, BreakHolds, PrintHolds, LeavingHolds, ArrivalHolds};
+ghost use Rattle.node_laws.specs.Pads.RecordClauses.{FrameHolds, RelinkHolds, TimerHolds, RestartHolds, TimeHolds, DrainedHolds};
+ghost use Rattle.node_laws.specs.Pads.RecordClauses.{FarHolds, MadeHolds};
 
 /// The law of a PAD and of the book of its line, over definitions alone. It holds at the making, and after each event
 /// at either end, whatever octets arrive as frames, whichever timers expire, and whatever is written at the other end
@@ -21,6 +21,8 @@ pub fn pad_records_law()
     ensures keys { KeyHolds }
     ensures breaks { BreakHolds }
     ensures prints { PrintHolds }
+    ensures leavings { LeavingHolds }
+    ensures arrivals { ArrivalHolds }
 
     // What comes from the line, and the timers of the line and of the terminals.
     ensures frames { FrameHolds }

@@ -1,5 +1,5 @@
 //! What the user asks of a channel (X.25 4.1 to 4.4).
-ghost use Rattle.std.specs.Prelude.{◌≡◌, ◌≤◌, ◌<◌, ℕ, length, true, Some, None, MatchResult, IfOk};
+ghost use Rattle.std.specs.Prelude.{◌≡◌, ◌≤◌, ◌<◌, ℕ, length, true, Some, None, MatchResult, IfOk, OnErr};
 ghost use Rattle.flow_window.specs.Pool.{IsIn, Holds, Balances, in_use};
 ghost use Rattle.link_timers.specs.declared.role.Role.{Role as RoleValue};
 ghost use Rattle.packet_channel.specs.Channel as machine;
@@ -94,6 +94,9 @@ impl Channel {
         ensures answer { Answers role flow self.old.channel (request_of request.now) result self.new.channel }
         ensures pool { Balances pool.old self.old.held pool.new self.new.held }
         ensures fits { Fits flow self.old → Fits flow self.new }
+
+        // What is refused changes nothing, in the pool too.
+        ensures kept { OnErr result ((self.new ≡ self.old) × (pool.new ≡ pool.old)) }
     {
         match request {
             Request::Accept => self.accept(role),
@@ -124,6 +127,7 @@ impl Channel {
         ensures held { self.new.held ≡ self.old.held }
         ensures arrived { self.new.channel.traffic.arrived ≡ self.old.channel.traffic.arrived }
         ensures waiting { self.new.channel.traffic.waiting ≡ self.old.channel.traffic.waiting }
+        ensures kept { OnErr result (self.new ≡ self.old) }
     {
         match request {
             BareRequest::Accept => self.accept(role),
@@ -140,6 +144,7 @@ impl Channel {
         ensures held { self.new.held ≡ self.old.held }
         ensures arrived { self.new.channel.traffic.arrived ≡ self.old.channel.traffic.arrived }
         ensures waiting { self.new.channel.traffic.waiting ≡ self.old.channel.traffic.waiting }
+        ensures kept { OnErr result (self.new ≡ self.old) }
     {
         if !self.state.may_accept(role) {
             return Err(ChannelFault::NoCall);
@@ -154,6 +159,7 @@ impl Channel {
             → Answers role flow self.old.channel (machine.Request.Clearing cause diagnostic) result self.new.channel }
         ensures pool { Balances pool.old self.old.held pool.new self.new.held }
         ensures fits { (flow : FlowValue) → Fits flow self.old → Fits flow self.new }
+        ensures kept { OnErr result ((self.new ≡ self.old) × (pool.new ≡ pool.old)) }
     {
         if !self.state.has_call() {
             return Err(ChannelFault::NoCall);
@@ -168,6 +174,7 @@ impl Channel {
             → Answers role flow self.old.channel (machine.Request.Resetting cause diagnostic) result self.new.channel }
         ensures pool { Balances pool.old self.old.held pool.new self.new.held }
         ensures fits { (flow : FlowValue) → Fits flow self.old → Fits flow self.new }
+        ensures kept { OnErr result ((self.new ≡ self.old) × (pool.new ≡ pool.old)) }
     {
         if !self.state.in_transfer() {
             return Err(ChannelFault::NoCall);
@@ -199,6 +206,7 @@ impl Channel {
             result self.new.channel }
         ensures pool { Balances pool.old self.old.held pool.new self.new.held }
         ensures fits { Fits flow self.old → Fits flow self.new }
+        ensures kept { OnErr result ((self.new ≡ self.old) × (pool.new ≡ pool.old)) }
     {
         self.check_send(flow, octets)?;
         let buffer = pool.place(octets);
@@ -257,6 +265,7 @@ impl Channel {
         ensures held { self.new.held ≡ self.old.held }
         ensures arrived { self.new.channel.traffic.arrived ≡ self.old.channel.traffic.arrived }
         ensures waiting { self.new.channel.traffic.waiting ≡ self.old.channel.traffic.waiting }
+        ensures kept { OnErr result (self.new ≡ self.old) }
     {
         if !self.state.in_transfer() {
             return Err(ChannelFault::NoCall);
@@ -280,6 +289,7 @@ impl Channel {
         ensures held { self.new.held ≡ self.old.held }
         ensures arrived { self.new.channel.traffic.arrived ≡ self.old.channel.traffic.arrived }
         ensures waiting { self.new.channel.traffic.waiting ≡ self.old.channel.traffic.waiting }
+        ensures kept { OnErr result (self.new ≡ self.old) }
     {
         if !self.state.in_transfer() {
             return Err(ChannelFault::NoCall);
@@ -294,6 +304,7 @@ impl Channel {
         ensures held { self.new.held ≡ self.old.held }
         ensures arrived { self.new.channel.traffic.arrived ≡ self.old.channel.traffic.arrived }
         ensures waiting { self.new.channel.traffic.waiting ≡ self.old.channel.traffic.waiting }
+        ensures kept { OnErr result (self.new ≡ self.old) }
     {
         if !self.state.in_transfer() {
             return Err(ChannelFault::NoCall);
@@ -308,6 +319,7 @@ impl Channel {
         ensures held { self.new.held ≡ self.old.held }
         ensures arrived { self.new.channel.traffic.arrived ≡ self.old.channel.traffic.arrived }
         ensures waiting { self.new.channel.traffic.waiting ≡ self.old.channel.traffic.waiting }
+        ensures kept { OnErr result (self.new ≡ self.old) }
     {
         if !self.state.in_transfer() {
             return Err(ChannelFault::NoCall);

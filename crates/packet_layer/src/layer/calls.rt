@@ -1,5 +1,5 @@
 //! What a user asks of the calls of a line (X.25 4.1 to 4.4).
-ghost use Rattle.std.specs.Prelude.{◌≤◌, ◌≡◌, ◌<◌, ◌+◌, true, false, Some, None, MatchResult, MatchOption, length};
+ghost use Rattle.std.specs.Prelude.{◌≤◌, ◌≡◌, ◌<◌, ◌+◌, true, false, Some, None, MatchResult, MatchOption, OnErr, length};
 ghost use Rattle.flow_window.specs.Pool.{IsIn, Holds, Balances};
 ghost use Rattle.packet_channel.specs.Answers.{WhenSending, handed_back};
 ghost use Rattle.data_transfer.specs.Held.{Loses, Takes, datum_in};
@@ -115,6 +115,9 @@ impl Layer {
         ensures pool { Balances pool.old self.old.held pool.new self.new.held }
         ensures most { most_held self.new.layer ≡ most_held self.old.layer }
         ensures few { length self.new.held ≤ most_held self.new.layer }
+
+        // What is refused changes nothing, in the pool too.
+        ensures kept { OnErr result ((self.new ≡ self.old) × (pool.new ≡ pool.old)) }
     {
         let Some(place) = self.place(u16::from(channel)) else {
             return Err(ChannelFault::NoCall);
@@ -137,6 +140,7 @@ impl Layer {
         ensures layer { self.new.layer ≡ machine.request self.old.layer channel (bare_request_of request.now) }
         ensures held { self.new.held ≡ self.old.held }
         ensures most { most_held self.new.layer ≡ most_held self.old.layer }
+        ensures kept { OnErr result (self.new ≡ self.old) }
     {
         let Some(place) = self.place(u16::from(channel)) else {
             return Err(ChannelFault::NoCall);
@@ -159,6 +163,7 @@ impl Layer {
         ensures layer { self.new.layer ≡ machine.request self.old.layer channel asked.Accept }
         ensures held { self.new.held ≡ self.old.held }
         ensures most { most_held self.new.layer ≡ most_held self.old.layer }
+        ensures kept { OnErr result (self.new ≡ self.old) }
     {
         self.ask_bare(channel, &BareRequest::Accept)
     }
@@ -181,6 +186,7 @@ impl Layer {
         ensures layer { self.new.layer ≡ machine.request self.old.layer channel (asked.Clearing cause diagnostic) }
         ensures pool { Balances pool.old self.old.held pool.new self.new.held }
         ensures most { most_held self.new.layer ≡ most_held self.old.layer }
+        ensures kept { OnErr result ((self.new ≡ self.old) × (pool.new ≡ pool.old)) }
     {
         self.ask(channel, &Request::Clear { cause, diagnostic }, pool)
     }
@@ -204,6 +210,7 @@ impl Layer {
         ensures layer { self.new.layer ≡ machine.request self.old.layer channel (asked.Resetting cause diagnostic) }
         ensures pool { Balances pool.old self.old.held pool.new self.new.held }
         ensures most { most_held self.new.layer ≡ most_held self.old.layer }
+        ensures kept { OnErr result ((self.new ≡ self.old) × (pool.new ≡ pool.old)) }
     {
         self.ask(channel, &Request::Reset { cause, diagnostic }, pool)
     }
@@ -238,6 +245,7 @@ impl Layer {
             (asked.Sending (record { octets = octets.now; more = more; qualified = qualified; delivery = delivery })) }
         ensures pool { Balances pool.old self.old.held pool.new self.new.held }
         ensures most { most_held self.new.layer ≡ most_held self.old.layer }
+        ensures kept { OnErr result ((self.new ≡ self.old) × (pool.new ≡ pool.old)) }
     {
         self.ask(
             channel,
@@ -297,6 +305,7 @@ impl Layer {
         ensures layer { self.new.layer ≡ machine.request self.old.layer channel (asked.Interrupting octets.now) }
         ensures held { self.new.held ≡ self.old.held }
         ensures most { most_held self.new.layer ≡ most_held self.old.layer }
+        ensures kept { OnErr result (self.new ≡ self.old) }
     {
         self.ask_bare(channel, &BareRequest::Interrupt(octets))
     }
@@ -311,6 +320,7 @@ impl Layer {
         ensures layer { self.new.layer ≡ machine.request self.old.layer channel (asked.Stopping true) }
         ensures held { self.new.held ≡ self.old.held }
         ensures most { most_held self.new.layer ≡ most_held self.old.layer }
+        ensures kept { OnErr result (self.new ≡ self.old) }
     {
         self.ask_bare(channel, &BareRequest::Stop(true))
     }
@@ -325,6 +335,7 @@ impl Layer {
         ensures layer { self.new.layer ≡ machine.request self.old.layer channel (asked.Stopping false) }
         ensures held { self.new.held ≡ self.old.held }
         ensures most { most_held self.new.layer ≡ most_held self.old.layer }
+        ensures kept { OnErr result (self.new ≡ self.old) }
     {
         self.ask_bare(channel, &BareRequest::Stop(false))
     }

@@ -1,9 +1,11 @@
 //! What goes to the link.
+ghost use Rattle.std.specs.Bool.{OnFalse};
 ghost use Rattle.std.specs.Prelude.{◌≡◌, ◌<◌, ◌≤◌, ◌+◌, ◌-◌, length, is_some};
 ghost use Rattle.flow_window.specs.Pool.{Holds, Balances};
 ghost use Rattle.packet_layer.specs.Held.{most_held};
 ghost use Rattle.packet_layer.specs.Layer as machine;
 ghost use Rattle.packet_layer.specs.Events.{written_packet, ReadsBack, IsHeard};
+ghost use Rattle.packet_layer.specs.Unsent.{LayerHasSaidAll};
 
 use crate::layer::Layer;
 use crate::restart::{Phase, write_restart};
@@ -20,6 +22,8 @@ impl Layer {
     /// - the interrupt;
     /// - data within the window;
     /// - RR or RNR, if the partner does not know the present P(R) or whether this end is stopped.
+    ///
+    /// If there is none, nothing that may go stays unsent.
     pub fn next_packet(&mut self, buf: &mut PacketBuf, pool: &mut Pool) -> bool
         requires holds { Holds pool.old self.old.held }
         ensures layer { self.new.layer ≡ (machine.next_packet self.old.layer).layer }
@@ -30,6 +34,7 @@ impl Layer {
         ensures pool { Balances pool.old self.old.held pool.new self.new.held }
         ensures most { most_held self.new.layer ≡ most_held self.old.layer }
         ensures few { length self.new.held ≤ most_held self.new.layer }
+        ensures unsent { OnFalse result (LayerHasSaidAll self.new.layer) }
     {
         if matches!(self.phase, Phase::NoSession) || self.relink {
             return false;

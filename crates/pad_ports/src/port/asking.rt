@@ -118,6 +118,20 @@ impl Port {
         }
     }
 
+    /// Takes that the terminal leaves (X.28 3.1), and is then absent. Its call is cleared as by the command CLR. What it
+    /// typed, what waits to be shown and its parameters are dropped.
+    pub fn leave(&mut self, line: &mut PadLine)
+        requires { length line.old.notes + 1 ≤ MOST_NOTES }
+        ensures port { self.new ≡ (spec.after_leaving (record { port = self.old; line = line.old })).port }
+        ensures line { line.new ≡ (spec.after_leaving (record { port = self.old; line = line.old })).line }
+        ensures room { length line.new.notes ≤ length line.old.notes + 1 }
+        ensures told { line.new.end.notes ≡ line.old.end.notes }
+    {
+        self.clear_call(line);
+        self.terminal.leave();
+        self.idle_left = None;
+    }
+
     // A key has edited the text: its step is noted.
     fn note_key(&self, octet: u8, params: Params, line: &mut PadLine)
         requires { length line.old.notes < MOST_NOTES }

@@ -15,12 +15,15 @@ impl Terminal {
     ///
     /// Without a connected call nothing happens. Parameter 7 says what it asks: a reset, unless one is pending; or else
     /// an interrupt, unless one or a reset is pending, and an indication of break. It may then escape to the command
-    /// state, and put parameter 8 to 1. `Dropped` comes if an indication would go out and the send queue is full: then
-    /// nothing happens.
+    /// state, and put parameter 8 to 1. `Dropped` comes if an indication would go out and the send queue is full, or if
+    /// the terminal is absent: then nothing happens.
     pub fn on_break(&mut self, call: CallCondition) -> BreakAnswer
         ensures terminal { self.new ≡ spec.after_break call self.old }
         ensures answer { result ≡ spec.answer_of call self.old }
     {
+        if !self.mode.is_present() {
+            return BreakAnswer::Dropped;
+        }
         if !self.mode.is_connected() {
             return BreakAnswer::Taken(BreakRequests {
                 request: None,

@@ -20,16 +20,18 @@ impl Terminal {
     /// In data transfer DC1 and DC3 let output go on and stop it, if parameter 12 is 1; the character of parameter 1
     /// recalls the PAD; any other key goes to the editor. `Dropped` comes if the key would end a block and the send
     /// queue is full: then it changes nothing, but that the terminal is told once by DC3 to stop, if parameter 5 is 1
-    /// (X.3 3.1, 3.5, 3.12). In all other modes a key goes to the command line, and no key is dropped; the line that it
-    /// ends is carried out (X.28 3.2).
+    /// (X.3 3.1, 3.5, 3.12). Of an absent terminal each key is dropped. In all other modes a key goes to the command
+    /// line, and no key is dropped; the line that it ends is carried out (X.28 3.2).
     pub fn on_key(&mut self, octet: u8, call: CallCondition) -> InputAnswer
         ensures terminal { self.new ≡ (spec.after_octet octet call self.old).terminal }
         ensures answer { result ≡ (spec.after_octet octet call self.old).answer }
     {
         if self.mode.is_data_transfer() {
             self.data_key(octet, call.queue_full)
-        } else {
+        } else if self.mode.is_present() {
             self.command_key(octet, call)
+        } else {
+            InputAnswer::Dropped
         }
     }
 

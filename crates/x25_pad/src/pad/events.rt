@@ -127,7 +127,7 @@ impl Pad {
         self.ports.iter().position(|port| port.is_free())
     }
 
-    // Accepts a call that came in, if one did, for the first terminal without a call, or else clears it.
+    // Accepts a call that came in, if one did, for the first terminal that is present and has no call, or else clears it.
     fn answer(&mut self, incoming: Option<u8>)
         requires room { length self.old.line.notes < MOST_NOTES }
         requires named { spec.IsEachNamed self.old }

@@ -20,7 +20,7 @@ impl Pad {
     /// Takes a key of a terminal (X.3 3; X.28 3.2).
     ///
     /// `Dropped` comes if the key would end a block and the send queue takes no packet: eight wait, or the own reset is
-    /// not confirmed.
+    /// not confirmed. It comes too if the terminal is absent: then the key does nothing.
     pub fn on_key(&mut self, terminal: u8, octet: u8) -> PadAnswer
         requires { terminal < length self.old.ports }
         ensures pad { self.new ≡ spec.terminal_event terminal (port.after_key octet) self.old }
@@ -39,8 +39,8 @@ impl Pad {
 
     /// Takes a break of a terminal (X.3 3.7).
     ///
-    /// `Dropped` comes if it would send an indication of break and the send queue takes no packet: then nothing
-    /// happens.
+    /// `Dropped` comes if it would send an indication of break and the send queue takes no packet, or if the terminal is
+    /// absent: then nothing happens.
     pub fn on_break(&mut self, terminal: u8) -> PadAnswer
         requires { terminal < length self.old.ports }
         ensures pad { self.new ≡ spec.terminal_event terminal port.after_break self.old }
@@ -54,6 +54,37 @@ impl Pad {
         let taken = self.break_in(terminal);
         self.finish();
         PadAnswer::of(taken)
+    }
+
+    /// Takes that a terminal leaves (X.28 3.1), and is then absent: it is given no call, and its keys and breaks are
+    /// dropped. Its call is cleared as by the command CLR. What it typed, what waits to be shown and its parameters are
+    /// dropped: it then has the initial ones.
+    pub fn on_leaving(&mut self, terminal: u8)
+        requires { terminal < length self.old.ports }
+        ensures pad { self.new ≡ spec.terminal_event terminal port.after_leaving self.old }
+        ensures nothing_kept_back { end.KeepsNothingBack self.new.line.end }
+        ensures frames { self.new.line.end.line.frames ≡ frames_at_terminal terminal port.after_leaving self.old }
+        ensures named { spec.IsEachNamed self.new }
+        ensures timers { TimersAgree self.new.line.end.layer self.new.line.end.timers }
+    {
+        self.begin();
+        self.leave(terminal);
+        self.finish();
+    }
+
+    /// Takes that a terminal arrives (X.28 3.1), and is then present without a call. If it is present already, nothing
+    /// happens.
+    pub fn on_arriving(&mut self, terminal: u8)
+        requires { terminal < length self.old.ports }
+        ensures pad { self.new ≡ spec.terminal_event terminal port.after_arrival self.old }
+        ensures nothing_kept_back { end.KeepsNothingBack self.new.line.end }
+        ensures frames { self.new.line.end.line.frames ≡ frames_at_terminal terminal port.after_arrival self.old }
+        ensures named { spec.IsEachNamed self.new }
+        ensures timers { TimersAgree self.new.line.end.layer self.new.line.end.timers }
+    {
+        self.begin();
+        self.arrive(terminal);
+        self.finish();
     }
 
     // What a key does at its terminal.
@@ -86,6 +117,34 @@ impl Pad {
         let taken = self.ports[usize::from(terminal)].break_in(&mut self.line);
         self.name_notes(Some(terminal));
         taken
+    }
+
+    // What leaving does at a terminal.
+    fn leave(&mut self, terminal: u8)
+        requires there { terminal < length self.old.ports }
+        requires room { length self.old.line.notes + 2 ≤ EARLY_NOTES }
+        requires named { self.old.noted_at ≡ [] }
+        ensures pad { self.new ≡ spec.at_port terminal port.after_leaving self.old }
+        ensures room { length self.new.line.notes ≤ length self.old.line.notes + 2 }
+        ensures told { self.new.line.end.notes ≡ self.old.line.end.notes }
+        ensures named { spec.IsEachNamed self.new }
+    {
+        self.ports[usize::from(terminal)].leave(&mut self.line);
+        self.name_notes(Some(terminal));
+    }
+
+    // What arriving does at a terminal.
+    fn arrive(&mut self, terminal: u8)
+        requires there { terminal < length self.old.ports }
+        requires room { length self.old.line.notes + 2 ≤ EARLY_NOTES }
+        requires named { self.old.noted_at ≡ [] }
+        ensures pad { self.new ≡ spec.at_port terminal port.after_arrival self.old }
+        ensures room { length self.new.line.notes ≤ length self.old.line.notes + 2 }
+        ensures told { self.new.line.end.notes ≡ self.old.line.end.notes }
+        ensures named { spec.IsEachNamed self.new }
+    {
+        self.ports[usize::from(terminal)].arrive();
+        self.name_notes(Some(terminal));
     }
 
     /// Takes the end of the idle time of a terminal (X.3 3.4). If its idle timer does not run, nothing happens.

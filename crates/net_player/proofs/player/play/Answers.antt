@@ -6,7 +6,8 @@ use Rattle.net_player.specs.InTurn.InTurn.{nothing}
 use Rattle.net_player.specs.InTurn.StopsInTurn.{here}
 use Rattle.net_player.specs.Stopping.PlayStops.{in_command, at_the_end}
 use Rattle.net_player.proofs.Parts.{stops_behind}
-use Rattle.net_player.proofs.Turns.{in_turn_append, in_turn_one, writes_nothing, writes_append, writes_then}
+use Rattle.net_player.proofs.Turns.{in_turn_append, in_turn_one}
+use Rattle.octet_streams.proofs.Written.{writes_append, writes_nothing, writes_then}
 use Rattle.net_player.proofs.player.play.Goals as goal
 
 -- the commands that are done, one more, and those that are left

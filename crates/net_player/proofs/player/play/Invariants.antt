@@ -1,6 +1,7 @@
 use Rattle.std.proofs.Common.{◌≡◌, ◌++◌, List, ℕ, false}
 use Rattle.net_files.specs.Commands.{CommandView}
-use Rattle.net_player.specs.InTurn.{InTurn, Writes}
+use Rattle.net_player.specs.InTurn.{InTurn}
+use Rattle.octet_streams.specs.Written.{Writes}
 use Rattle.net_player.specs.Playing.{DoesCommand, Played}
 use Rattle.net_player.proofs.player.play.Given as goal
 

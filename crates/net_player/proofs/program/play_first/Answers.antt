@@ -1,7 +1,8 @@
 use Rattle.std.proofs.Common.{refl, inl, inr}
 use Rattle.std.proofs.lemmas.Result.{err_from_is_err_and}
 use Rattle.net_player.specs.Programs.TextsFail.{no_memory, unread, no_network, bad_script, unplayed}
-use Rattle.net_player.proofs.Parts.{if_err_as, on_ok_as}
+use Rattle.net_player.proofs.Parts.{if_err_as}
+use Rattle.octet_streams.proofs.Written.{on_ok_as}
 use Rattle.net_player.proofs.program.play_first.Goals as goal
 
 pub returns-in_err-config-clause-failed : goal.returns-in_err-config-clause-failed

@@ -1,8 +1,8 @@
 use Rattle.std.proofs.Common.{◌++◌, [], ◌∷◌, codes, decimal}
 use Rattle.std.proofs.lemmas.Result.{err_from_is_err_and}
 use Rattle.std.proofs.KnownBytes.{Appends-trans}
-use Rattle.net_player.proofs.Parts.{told_before, told_behind, writes_behind, if_err_as, on_ok_as}
-use Rattle.net_player.proofs.Turns.{writes_as}
+use Rattle.net_player.proofs.Parts.{told_before, told_behind, if_err_as}
+use Rattle.octet_streams.proofs.Written.{on_ok_as, writes_as, writes_behind}
 use Rattle.net_player.proofs.program.write_script_fault.Goals as goal
 
 pub returns-in_err-write-clause-refused : goal.returns-in_err-write-clause-refused

@@ -1,7 +1,7 @@
 use Rattle.std.proofs.Common.{◌<◌, arith}
 use Rattle.std.proofs.lemmas.Bool.{OnTrue_at}
-use Rattle.net_player.proofs.Turns.{writes_nothing}
 use Rattle.net_player.proofs.Deliveries.{delivers_at_limit, delivers_none, none_found}
+use Rattle.octet_streams.proofs.Written.{writes_nothing}
 use Rattle.net_player.proofs.player.Player.deliver.Goals as goal
 
 pub returns-then-left-eq0-clause-delivers : goal.returns-then-left-eq0-clause-delivers

@@ -1,5 +1,5 @@
-use Rattle.net_player.proofs.Turns.{writes_as}
 use Rattle.net_player.proofs.Deliveries.{delivers_one, delivers_none}
+use Rattle.octet_streams.proofs.Written.{writes_as}
 use Rattle.net_player.proofs.player.Player.deliver_first.Goals as goal
 
 pub returns-then-branch-clause-delivers : goal.returns-then-branch-clause-delivers

@@ -2,8 +2,8 @@ use Rattle.std.proofs.Common.{arith, ◌≤◌, ◌<◌}
 use Rattle.std.proofs.lemmas.Result.{err_from_is_err_and}
 use Rattle.net_player.specs.Playing.Flows.{last}
 use Rattle.net_player.specs.Stopping.FlowStops.{at_once}
-use Rattle.net_player.proofs.Turns.{writes_append, writes_nothing}
 use Rattle.net_player.proofs.Deliveries.{flow_onward, flow_stops_onward}
+use Rattle.octet_streams.proofs.Written.{writes_append, writes_nothing}
 use Rattle.net_player.proofs.player.Player.flow.Goals as goal
 
 pub loop-still_left-init : goal.loop-still_left-init

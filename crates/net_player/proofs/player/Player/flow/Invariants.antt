@@ -1,7 +1,7 @@
 use Rattle.std.proofs.Common.{◌++◌, List, ℕ}
 use Rattle.net_events.specs.Network.{Network}
 use Rattle.net_files.specs.declared.fault.ProgFault.{ProgFault}
-use Rattle.net_player.specs.InTurn.{Writes}
+use Rattle.octet_streams.specs.Written.{Writes}
 use Rattle.net_player.specs.Playing.{Flows}
 use Rattle.net_player.specs.Stopping.{FlowStops}
 use Rattle.net_player.proofs.player.Player.flow.Given as goal

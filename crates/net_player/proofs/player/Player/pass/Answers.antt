@@ -1,8 +1,8 @@
 use Rattle.std.proofs.Common.{arith, ◌≤◌, ◌<◌}
 use Rattle.std.proofs.lemmas.Result.{err_from_is_err_and}
 use Rattle.net_player.specs.InTurn.InTurn.{nothing}
-use Rattle.net_player.proofs.Turns.{writes_nothing, writes_append}
 use Rattle.net_player.proofs.Deliveries.{pass_more, pass_to, pass_stops_first, second_stops}
+use Rattle.octet_streams.proofs.Written.{writes_append, writes_nothing}
 use Rattle.net_player.proofs.player.Player.pass.Goals as goal
 
 pub loop-left-init : goal.loop-left-init

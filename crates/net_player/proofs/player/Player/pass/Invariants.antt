@@ -1,5 +1,5 @@
 use Rattle.std.proofs.Common.{◌≤◌, ◌-◌, List, ℕ}
-use Rattle.net_player.specs.InTurn.{Writes}
+use Rattle.octet_streams.specs.Written.{Writes}
 use Rattle.net_player.specs.Playing.{Passes}
 use Rattle.net_player.proofs.player.Player.pass.Given as goal
 

@@ -1,8 +1,7 @@
 use Rattle.net_player.specs.Playing.DoesCommand.{keys, event, flow, tick, trace, check}
 use Rattle.std.proofs.lemmas.Result.{err_from_is_err_and}
 use Rattle.net_player.specs.Stopping.CommandStops.{in_keys, at_event, in_flow, in_ticks, in_check}
-use Rattle.net_player.proofs.Turns.{writes_as, writes_nothing}
-use Rattle.net_player.proofs.Parts.{writes_known}
+use Rattle.octet_streams.proofs.Written.{writes_as, writes_known, writes_nothing}
 use Rattle.net_player.proofs.player.Player.play_command.Goals as goal
 
 pub returns-in_ok-play_keys-in-Keys-clause-writes : goal.returns-in_ok-play_keys-in-Keys-clause-writes

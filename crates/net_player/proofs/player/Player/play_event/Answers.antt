@@ -3,8 +3,8 @@ use Rattle.std.proofs.lemmas.Result.{err_from_is_err_and}
 use Rattle.net_events.specs.declared.answer.Answer.{Answer}
 use Rattle.net_events.specs.declared.event.StepFault.TheVariants.{OutOfMemory}
 use Rattle.net_player.specs.Stopping.StopsAt.{unhandled, untold}
-use Rattle.net_player.proofs.Turns.{writes_as, writes_nothing}
 use Rattle.net_player.proofs.Lent.{told, told_refusal, fewer_then, happened, did_not_happen}
+use Rattle.octet_streams.proofs.Written.{writes_as, writes_nothing}
 use Rattle.net_player.proofs.player.Player.play_event.Goals as goal
 
 answered : (answer : Answer) → Ok answer ≢ Err OutOfMemory

@@ -2,9 +2,10 @@ use Rattle.std.proofs.Common.{arith, length, ◌<◌, ℕ, get_or}
 use Rattle.std.proofs.lemmas.Result.{err_from_is_err_and}
 use Rattle.net_player.specs.InTurn.InTurn.{nothing}
 use Rattle.net_player.specs.Playing.{key_event, key_events}
-use Rattle.net_player.proofs.Turns.{in_turn_next, writes_nothing, writes_append}
+use Rattle.net_player.proofs.Turns.{in_turn_next}
 use Rattle.net_player.proofs.Parts.{stops_next}
 use Rattle.net_player.proofs.Typing.{key_within, key_there, own_or}
+use Rattle.octet_streams.proofs.Written.{writes_append, writes_nothing}
 use Rattle.net_player.proofs.player.Player.play_keys.Goals as goal
 
 pub loop-octet-init : goal.loop-octet-init

@@ -1,7 +1,8 @@
 use Rattle.std.proofs.Common.{take, List, ℕ}
 use Rattle.net_events.specs.declared.event.Event.{Event}
 use Rattle.net_events.specs.Network.{Network}
-use Rattle.net_player.specs.InTurn.{InTurn, Writes}
+use Rattle.net_player.specs.InTurn.{InTurn}
+use Rattle.octet_streams.specs.Written.{Writes}
 use Rattle.net_player.specs.Playing.{key_events, TellsEvent}
 use Rattle.net_player.proofs.player.Player.play_keys.Given as goal
 

@@ -1,8 +1,8 @@
 use Rattle.std.proofs.Common.{sym, ◌∙◌}
 use Rattle.std.proofs.lemmas.Result.{err_from_is_err_and}
 use Rattle.net_player.specs.Stopping.ExpiryStops.{at_once}
-use Rattle.net_player.proofs.Turns.{writes_as, writes_append, writes_nothing}
 use Rattle.net_player.proofs.Expiries.{expires_onward, expires_all, ticks_then, stops_onward, ticks_then_stop}
+use Rattle.octet_streams.proofs.Written.{writes_append, writes_as, writes_nothing}
 use Rattle.net_player.proofs.player.Player.tick.Goals as goal
 
 pub loop-expiry-init : goal.loop-expiry-init

@@ -1,6 +1,6 @@
 use Rattle.std.proofs.Common.{List, ℕ}
 use Rattle.network_laws.specs.DueCount.{all_due}
-use Rattle.net_player.specs.InTurn.{Writes}
+use Rattle.octet_streams.specs.Written.{Writes}
 use Rattle.net_player.proofs.Expiries.{Onward, StopsOnward}
 use Rattle.net_player.proofs.player.Player.tick.Given as goal
 

@@ -1,7 +1,8 @@
 use Rattle.std.proofs.Common.{[]}
 use Rattle.std.proofs.lemmas.Result.{err_from_is_err_and}
-use Rattle.net_player.proofs.Parts.{told_front, writes_known}
+use Rattle.net_player.proofs.Parts.{told_front}
 use Rattle.net_player.proofs.Turns.{appends_nothing}
+use Rattle.octet_streams.proofs.Written.{writes_known}
 use Rattle.net_player.proofs.player.Player.write_lines.Goals as goal
 
 pub returns-in_err-add_answer-clause-stops : goal.returns-in_err-add_answer-clause-stops

@@ -3,7 +3,7 @@ use Rattle.std.proofs.Common.{◌∙◌, ◌≤◌, ap, sym, subst, length, arit
 use Rattle.flow_window.specs.Pool.{Balances}
 use Rattle.packet_layer.specs.Held.{Layer as Held, most_held}
 use Rattle.packet_layer.specs.RequestView.{request_of}
-use Rattle.packet_layer.proofs.Asked.{IsAt, is_at, done, allowed, refused, told, when_sending}
+use Rattle.packet_layer.proofs.Asked.{IsAt, is_at, done, allowed, refused, told, same_layer, on_err, when_sending}
 use Rattle.packet_layer.proofs.Placed.{own_held, own_room, own_balance, few_after, own_few}
 use Rattle.packet_layer.proofs.Silence.{layer_touched}
 use Rattle.packet_layer.proofs.layer.Layer.ask.Goals as goal
@@ -54,6 +54,14 @@ pub returns-in_err-relink-clause-layer : goal.returns-in_err-relink-clause-layer
 returns-in_err-relink-clause-layer c =
     refused c.self.inside c.args.self.now c.args.channel c.in-Some.place c.index_mut-channel.result.now
     c.request.new.self (request_of c.args.request.now) c.in_err-relink.field-0.0 (at_err c) c.in_err-relink.ensures.answer
+
+pub returns-in_err-relink-clause-kept : goal.returns-in_err-relink-clause-kept
+returns-in_err-relink-clause-kept c =
+    on_err c.from_residual.result (
+      same_layer c.self.inside c.args.self.now c.args.channel c.in-Some.place c.index_mut-channel.result.now
+          c.request.new.self (at_err c) c.in_err-relink.ensures.kept.0,
+      c.in_err-relink.ensures.kept.1,
+    )
 
 pub request-requires-clause-holds : goal.request-requires-clause-holds
 request-requires-clause-holds c =

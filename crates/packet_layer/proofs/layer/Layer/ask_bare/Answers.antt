@@ -3,7 +3,7 @@ use Rattle.std.proofs.Common.{◌∙◌, ap, arith}
 use Rattle.packet_channel.proofs.Fitting.{fits_same}
 use Rattle.packet_layer.specs.Held.{Layer as Held}
 use Rattle.packet_layer.specs.RequestView.{bare_request_of}
-use Rattle.packet_layer.proofs.Asked.{IsAt, is_at, done, allowed, refused, told, same_held}
+use Rattle.packet_layer.proofs.Asked.{IsAt, is_at, done, allowed, refused, told, same_layer, on_err, same_held}
 use Rattle.packet_layer.proofs.Silence.{layer_touched}
 use Rattle.packet_layer.proofs.layer.Layer.ask_bare.Goals as goal
 
@@ -57,6 +57,12 @@ pub returns-in_err-relink-clause-layer : goal.returns-in_err-relink-clause-layer
 returns-in_err-relink-clause-layer c =
     refused c.self.inside c.args.self.now c.args.channel c.in-Some.place c.index_mut-channel.result.now
     c.bare_request.new.self (bare_request_of c.args.request.now) c.in_err-relink.field-0.0 (at_err c) (c.in_err-relink.ensures.answer c.self.inside.flow)
+
+pub returns-in_err-relink-clause-kept : goal.returns-in_err-relink-clause-kept
+returns-in_err-relink-clause-kept c =
+    on_err c.from_residual.result
+    (same_layer c.self.inside c.args.self.now c.args.channel c.in-Some.place c.index_mut-channel.result.now
+    c.bare_request.new.self (at_err c) c.in_err-relink.ensures.kept)
 
 pub returns-clause-held : goal.returns-clause-held
 returns-clause-held c =

@@ -1,6 +1,7 @@
 use Rattle.std.proofs.Common.{arith}
 use Rattle.std.proofs.lemmas.Grind.{elements}
 use Rattle.packet_layer.proofs.Placed.{own_few, few}
+use Rattle.packet_layer.proofs.Unsent.{unsent_after}
 use Rattle.packet_layer.proofs.layer.Layer.next_packet.Goals as goal
 
 pub returns-then-matches-clause-few : goal.returns-then-matches-clause-few
@@ -27,3 +28,7 @@ returns-clause-octets c = grind (arith, elements)
 
 pub returns-clause-said : goal.returns-clause-said
 returns-clause-said c = grind (arith, elements)
+
+pub returns-clause-unsent : goal.returns-clause-unsent
+returns-clause-unsent c =
+    unsent_after c.args.self.now.layer _ _ (returns-clause-layer c) (returns-clause-said c)

@@ -1,0 +1,2 @@
+mod WholeRead
+pub mod Written

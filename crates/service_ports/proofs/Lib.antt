@@ -1,0 +1,5 @@
+pub mod Forms
+pub mod PortsHeard
+pub mod ClientReading
+pub mod ClientKeys
+pub mod Answering

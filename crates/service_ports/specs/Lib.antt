@@ -1,0 +1,6 @@
+pub mod Commands
+pub mod Options
+pub mod Reading
+pub mod Writing
+pub mod Ports
+pub mod ClientForm

@@ -1,0 +1,57 @@
+-- One client's side of a terminal.
+use Rattle.std.specs.Prelude.{ℕ, Bool, true, List, [], ◌∷◌, ◌++◌, ◌+◌, ◌==◌, ◌&&◌, nat_lt, nat_le, length}
+use Rattle.circular_buffer.specs.Buffer.{Buffer, buffer}
+use Rattle.service_ports.specs.declared.command.Command.TheVariants.{Will}
+use Rattle.service_ports.specs.declared.input.TelnetReader.{TelnetReader}
+use Rattle.service_ports.specs.declared.input.Key.{Key}
+use Rattle.service_ports.specs.declared.input.Key.TheVariants.{Octet, Break}
+use Rattle.service_ports.specs.declared.input.Heard.{Heard}
+use Rattle.service_ports.specs.declared.input.Heard.TheVariants.{Nothing, Typed, Answered}
+use Rattle.service_ports.specs.Reading.{new_reader, reads}
+use Rattle.service_ports.specs.Writing.{Output, new_output, with_command}
+
+-- where the reader is, the keys that wait to be typed, and what waits to be written
+pub record PortState : Type 0 where
+  pub reader : TelnetReader
+  pub keys : Buffer Key
+  pub output : Output
+
+abbrev pub with_heard : PortState → Heard → PortState
+with_heard port Nothing = port
+with_heard port (Typed key) = record port { keys = buffer (port.keys.items ++ key ∷ []) port.keys.capacity }
+with_heard port (Answered command) = record port { output = with_command port.output command }
+
+-- a port after one octet of its client
+unfoldable pub after_octet : PortState → ℕ → PortState
+after_octet port octet =
+    let reading = reads port.reader octet in with_heard (record port { reader = reading.reader }) reading.heard
+
+-- whether a port takes another octet: there is room for its key, and for its answer of 4 octets at most
+abbrev pub takes_octet : PortState → Bool
+takes_octet port =
+    nat_lt (length port.keys.items) port.keys.capacity && nat_le (length port.output.octets + 4) port.output.capacity
+
+-- a port after octets of its client, in order
+abbrev pub after_octets : PortState → List ℕ → PortState
+after_octets port [] = port
+after_octets port (octet ∷ octets) = after_octets (after_octet port octet) octets
+
+-- whether a key is a break or of this octet
+abbrev pub is_break_or : (octet : ℕ) → Key → Bool
+is_break_or octet (Octet typed) = typed == octet
+is_break_or octet Break = true
+
+-- how many keys may wait to be typed, and how many octets to be written
+abbrev pub key_places : ℕ
+key_places = 2048
+
+abbrev pub octet_places : ℕ
+octet_places = 16384
+
+-- a port of a new client: both options are offered, once
+abbrev pub begun : PortState
+begun = record {
+  reader = new_reader;
+  keys = buffer [] key_places;
+  output = with_command (with_command (new_output octet_places) (Will 1)) (Will 3);
+}

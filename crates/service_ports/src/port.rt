@@ -1,0 +1,202 @@
+//! One client's side of a terminal.
+ghost use Rattle.std.specs.Prelude.{◌≡◌, ◌+◌, ◌*◌, ◌≤◌, ◌<◌, [], ◌∷◌, ◌++◌, true, false, nat_le, length, take, drop, slice_get, position, IfOk};
+ghost use Rattle.std.specs.Bool.{OnTrue, OnFalse};
+ghost use Rattle.circular_buffer.specs.Buffer.{buffer};
+ghost use Rattle.service_ports.specs.Ports.{begun, after_octet, after_octets, is_break_or, takes_octet};
+ghost use Rattle.service_ports.specs.Writing.{with_text, with_command};
+
+use crate::command::{Command, ECHO, SUPPRESS_GO_AHEAD};
+use crate::input::{Heard, Key, TelnetReader};
+use crate::output::TelnetOutput;
+use circular_buffer::HeapCircularBuffer;
+use std::alloc::{AllocError, Global};
+use std::marker::Model;
+
+/// How many keys may wait to be typed.
+pub const MOST_KEYS: usize = 2048;
+
+/// How many octets may wait to be written.
+pub const MOST_OCTETS: usize = 16_384;
+
+/// One client's side of a terminal: what the client sent and is not typed yet, and what is shown and not written yet.
+#[derive(Drop)]
+pub struct Port {
+    reader: TelnetReader,
+    keys: HeapCircularBuffer<Key>,
+    output: TelnetOutput,
+}
+
+impl Model for Port {
+    ghost use Rattle.std.specs.Prelude.{◌≡◌};
+    ghost use Rattle.service_ports.specs.Ports.{PortState, key_places, octet_places};
+
+    ghost Value = { PortState };
+
+    ghost view = { λ p. record { reader = p.reader; keys = p.keys; output = p.output } };
+
+    ghost invariant = { λ p. (p.keys.capacity ≡ key_places) × (p.output.capacity ≡ octet_places) };
+}
+
+impl Port {
+    /// A port for a new client. `AllocError` comes for want of memory; no other call wants any.
+    pub fn new(alloc: Global) -> Result<Self, AllocError>
+        ensures { IfOk result (λ port. port ≡ begun) }
+    {
+        let keys = HeapCircularBuffer::with_capacity(alloc, MOST_KEYS)?;
+        let output = TelnetOutput::new(alloc, MOST_OCTETS)?;
+        let mut port = Port {
+            reader: TelnetReader::new(),
+            keys,
+            output,
+        };
+        port.begin();
+        Ok(port)
+    }
+
+    /// Forgets the last client, and offers both options to the next one: the server echoes (RFC 857), and sends no
+    /// go-ahead (RFC 858).
+    pub fn begin(&mut self)
+        ensures { self.new ≡ begun }
+    {
+        self.reader = TelnetReader::new();
+        self.keys.clear();
+        self.output.clear();
+        let _ = self.output.tell(Command::Will(ECHO));
+        let _ = self.output.tell(Command::Will(SUPPRESS_GO_AHEAD));
+    }
+
+    /// Whether it takes another octet of its client: there is room for its key and for an answer.
+    pub fn wants(&self) -> bool
+        ensures { result ≡ takes_octet self.now }
+    {
+        self.keys.len() < self.keys.capacity() && self.output.has_command_room()
+    }
+
+    /// Takes octets of its client, from the first on, as long as it takes any. The answer is how many were taken.
+    pub fn octets(&mut self, octets: &[u8]) -> usize
+        ensures taken { self.new ≡ after_octets self.old (take result octets.now) }
+        ensures within { result ≤ length octets.now }
+        ensures most { result < length octets.now → takes_octet self.new ≡ false }
+    {
+        let mut taken = 0;
+        for octet in octets {
+            if !self.wants() {
+                break;
+            }
+            self.hear(*octet);
+            taken += 1;
+        }
+        taken
+    }
+
+    #[tactic(auto, unfolding(crate::specs::Ports::after_octet))]
+    fn hear(&mut self, octet: u8)
+        requires { takes_octet self.old ≡ true }
+        ensures { self.new ≡ after_octet self.old octet }
+    {
+        match self.reader.read(octet) {
+            Heard::Nothing => {}
+            Heard::Typed(key) => self.push_key(key),
+            Heard::Answered(command) => {
+                let _ = self.output.tell(command);
+            }
+        }
+    }
+
+    fn push_key(&mut self, key: Key)
+        requires { length self.old.keys.items < self.old.keys.capacity }
+        ensures { self.new ≡ record self.old {
+          keys = buffer (self.old.keys.items ++ key ∷ []) self.old.keys.capacity;
+        } }
+    {
+        let _ = self.keys.try_push_back(key);
+    }
+
+    /// The key that is to be typed next.
+    pub fn next_key(&self) -> Option<Key>
+        ensures { result ≡ slice_get self.now.keys.items 0 }
+    {
+        self.keys.front().copied()
+    }
+
+    /// The place of the first key that waits and is a break or of this octet.
+    pub fn find_key(&self, octet: u8) -> Option<usize>
+        ensures { result ≡ position (is_break_or octet) self.now.keys.items }
+    {
+        self.keys.iter().position(|key| is_break_or(*key, octet))
+    }
+
+    /// How many keys wait to be typed.
+    pub fn waiting_keys(&self) -> usize
+        ensures { result ≡ length self.now.keys.items }
+    {
+        self.keys.len()
+    }
+
+    /// How many octets wait to be written.
+    pub fn waiting_octets(&self) -> usize
+        ensures { result ≡ length self.now.output.octets }
+    {
+        self.output.len()
+    }
+
+    /// Drops the first `count` keys, which were typed or are not to be; all, if there are fewer.
+    pub fn drop_keys(&mut self, count: usize)
+        ensures { self.new ≡ record self.old { keys = buffer (drop count self.old.keys.items) self.old.keys.capacity } }
+    {
+        let left = self.keys.len().saturating_sub(count);
+        self.keys.truncate_front(left);
+    }
+
+    /// Whether there is room for any text of so many octets.
+    pub fn has_room(&self, text: usize) -> bool
+        ensures { result ≡ nat_le (length self.now.output.octets + (2 * text + 1)) self.now.output.capacity }
+    {
+        self.output.has_room(text)
+    }
+
+    /// Shows text to the client, and says so, if there is room for its longest form. Otherwise nothing changes.
+    pub fn show(&mut self, text: &[u8]) -> bool
+        ensures shown { OnTrue result (self.new ≡ record self.old { output = with_text self.old.output text.now }) }
+        ensures full { OnFalse result (self.new ≡ self.old) }
+        ensures room { result ≡ nat_le (length self.old.output.octets + (2 * length text.now + 1)) self.old.output.capacity }
+    {
+        self.output.show(text)
+    }
+
+    /// Sends a command to the client, and says so, if there is room for any command. Otherwise nothing changes.
+    pub fn tell(&mut self, command: Command) -> bool
+        ensures told { OnTrue result (self.new ≡ record self.old { output = with_command self.old.output command }) }
+        ensures full { OnFalse result (self.new ≡ self.old) }
+        ensures room { result ≡ nat_le (length self.old.output.octets + 4) self.old.output.capacity }
+    {
+        self.output.tell(command)
+    }
+
+    /// Octets that wait to be written, from the first on: some if there are any, and not always all.
+    pub fn waiting(&self) -> &[u8]
+        ensures front { take (length result.now) self.now.output.octets ≡ result.now }
+        ensures some { length result.now ≡ 0 → self.now.output.octets ≡ [] }
+    {
+        self.output.waiting()
+    }
+
+    /// Drops the first `count` octets that wait, which were written; all, if there are fewer.
+    pub fn written(&mut self, count: usize)
+        ensures { self.new ≡ record self.old {
+          output = record self.old.output { octets = drop count self.old.output.octets };
+        } }
+    {
+        self.output.written(count);
+    }
+}
+
+/// Whether a key is a break or of this octet.
+fn is_break_or(key: Key, octet: u8) -> bool
+    ensures { result ≡ is_break_or octet key }
+{
+    match key {
+        Key::Octet(typed) => typed == octet,
+        Key::Break => true,
+    }
+}
