@@ -21,6 +21,8 @@ use Rattle.net_events.specs.declared.event.Event.TheVariants.{Restart}
 use Rattle.net_events.specs.declared.event.StepFault.{StepFault}
 use Rattle.net_nodes.specs.Steps.{AtNode, DeliverStep, ExpireStep, RelinkStep, RestartStep, StepOf, hearer}
 use Rattle.net_nodes.specs.Happening.{Happens}
+use Rattle.network_laws.specs.PlacedTime.{elapsed_by}
+use Rattle.network_laws.proofs.PlacedTime.{all_alike}
 use Rattle.network_laws.proofs.Switched.UsersAny.{event_any, loss_any, time_any}
 use Rattle.network_laws.proofs.Switched.SwitchEvents.{switch_event_holds}
 use Rattle.network_laws.proofs.Switched.MadeHeld.{made_any}
@@ -30,9 +32,15 @@ use Rattle.line_sim.proofs.Registered.{made_registered, happened_registered, los
 pub made : (L : LineService) (plan : NetPlan) (s : Network) → IsPlan plan → IsMade L plan s → IsBetweenEvents L s
 made L plan s is m = record { any = made_any L plan s is m; registered = made_registered L plan s m }
 
+-- ticks pass, at each node by a number of its own
+pub elapsed_placed : (L : LineService) (s : Network) (ticks : ℕ → ℕ) → IsBetweenEvents L s
+    → IsBetweenEvents L (elapsed_by ticks s)
+elapsed_placed L s ticks b = record { any = time_any L s ticks b.any; registered = b.registered }
+
+-- as many at each
 pub elapsed : (L : LineService) (s : Network) (ticks : ℕ) → IsBetweenEvents L s
     → IsBetweenEvents L (all_elapsed ticks s)
-elapsed L s ticks b = record { any = time_any L s ticks b.any; registered = b.registered }
+elapsed L s ticks b = subst (λ (t : Network). IsBetweenEvents L t) (all_alike ticks s) (elapsed_placed L s (λ place. ticks) b)
 
 -- ---- at a node with users, on a line, and at a switch
 

@@ -11,7 +11,7 @@ ghost use Rattle.net_config.specs.Served.{is_served};
 ghost use Rattle.net_events.specs.declared.event.StepFault.TheVariants as step_fault_is;
 ghost use Rattle.net_nodes.specs.Faults.{step_fault, takes_memory};
 ghost use Rattle.net_nodes.specs.Happening.{IsRefusedSo, FindsNoFrame, FindNoFrames};
-ghost use Rattle.net_nodes.specs.Due.{net_due};
+ghost use Rattle.net_nodes.specs.Due.{net_due, net_due_at};
 ghost use Rattle.line_sim.specs.Receipts.{IsTakenBeyond};
 ghost use Rattle.net_nodes.specs.Questions.{net_confirmed, net_rests};
 ghost use Rattle.line_sim.specs.Runs.{IsMadeBy};
@@ -159,6 +159,14 @@ impl<L: Line> Net<L> {
         ensures { result ≡ net_due self.now }
     {
         self.nodes.next_due()
+    }
+
+    /// The expiry of the first timer that runs with no tick left at the node of this place; at a switch on the first of
+    /// its lines that has one.
+    pub fn next_due_at(&self, node: usize) -> Option<Event>
+        ensures { result ≡ net_due_at node self.now }
+    {
+        self.nodes.next_due_at(node)
     }
 
     /// Whether it is certain that a delivery on the line in this direction finds no frame: it would change nothing, and

@@ -5,3 +5,4 @@ mod LineEndEvents
 mod UserNodeEvents
 mod Empties
 mod Passing
+mod Carrying

@@ -6,3 +6,4 @@ pub mod Switching
 pub mod Happening
 pub mod Due
 pub mod Questions
+pub mod Carrying

@@ -8,6 +8,7 @@ ghost use Rattle.net_nodes.specs.Places.{IsStanding, IsPlaceOf, user_at, own_lin
 ghost use Rattle.net_nodes.specs.Happening.{Happens};
 
 mod asking;
+mod carrying;
 mod questions;
 mod serving;
 mod switching;

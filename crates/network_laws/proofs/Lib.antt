@@ -12,6 +12,7 @@ pub mod Lines
 mod LineCourses
 pub mod Made
 pub mod Networks
+pub mod PlacedTime
 pub mod Opened
 mod Confirming
 pub mod Counting

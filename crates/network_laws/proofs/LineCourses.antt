@@ -146,11 +146,11 @@ loss_course s flights c h = record { led = h.led; pad = h.pad; there = h.there; 
 
 pub time_course : TimeCourse
 time_course s ticks c h = record {
-  led = goes_on h.led (Here (HasTicks ticks));
-  pad = pad.elapsed ticks h.pad;
-  there = ap (λ (x : NodeState). node.node_elapsed ticks x) h.there;
-  same = ap (λ (x : PadState). drained (pad.elapsed ticks x)) h.same;
-  book = ap (λ (x : PadState). all_written Dte (writes_after (HasTicks ticks) x) c.book) h.same ∙ h.book;
+  led = goes_on h.led (Here (HasTicks (ticks Dte)));
+  pad = pad.elapsed (ticks Dte) h.pad;
+  there = ap (λ (x : NodeState). node.node_elapsed (ticks Dte) x) h.there;
+  same = ap (λ (x : PadState). drained (pad.elapsed (ticks Dte) x)) h.same;
+  book = ap (λ (x : PadState). all_written Dte (writes_after (HasTicks (ticks Dte)) x) c.book) h.same ∙ h.book;
 }
 
 pub sent_course : SentCourse

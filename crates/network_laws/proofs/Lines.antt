@@ -62,10 +62,10 @@ elapsed-kind : (ticks : ℕ) (n : NodeState) → is_pad (node_elapsed ticks n) �
 elapsed-kind ticks (Pad p) = refl
 elapsed-kind ticks (Host e) = refl
 
-elapsed-line : (ticks : ℕ) (s : LineState) → line_of (elapsed ticks s) ≡ elapsed_line ticks (line_of s)
+elapsed-line : (ticks : Role → ℕ) (s : LineState) → line_of (elapsed ticks s) ≡ elapsed_line ticks (line_of s)
 elapsed-line ticks s = λ i. record {
-  dte = elapsed-end ticks s.dte i;
-  dce = elapsed-end ticks s.dce i;
+  dte = elapsed-end (ticks Dte) s.dte i;
+  dce = elapsed-end (ticks Dce) s.dce i;
   up = s.flights.from_dte;
   down = s.flights.from_dce;
 }
@@ -74,17 +74,17 @@ elapsed-typed : (ticks : ℕ) (n : NodeState) (b : Book) → NodeHolds Dte n b �
 elapsed-typed ticks (Pad p) b h = pad_law.time_kept Dte p ticks b h
 elapsed-typed ticks (Host e) b h = tt
 
-pub elapsed_lines : (L : LineService) (s : LineState) (ticks : ℕ) → IsLine L s → IsLine L (elapsed ticks s)
+pub elapsed_lines : (L : LineService) (s : LineState) (ticks : Role → ℕ) → IsLine L s → IsLine L (elapsed ticks s)
 elapsed_lines L s ticks n = record {
   apart = n.apart;
   dte_node = n.dte_node;
   dce_node = n.dce_node;
-  host = elapsed-kind ticks s.dce ∙ n.host;
+  host = elapsed-kind (ticks Dce) s.dce ∙ n.host;
   quiet = record {
-    dte = quiet_law.quiet-elapses s.dte ticks n.quiet.dte;
-    dce = quiet_law.quiet-elapses s.dce ticks n.quiet.dce;
+    dte = quiet_law.quiet-elapses s.dte (ticks Dte) n.quiet.dte;
+    dce = quiet_law.quiet-elapses s.dce (ticks Dce) n.quiet.dce;
   };
-  typed = elapsed-typed ticks s.dte s.book n.typed;
+  typed = elapsed-typed (ticks Dte) s.dte s.book n.typed;
   kept = λ f. let k = n.kept f in record {
     setting = k.setting;
     kept = subst (Kept k.setting s.book) (sym (elapsed-line ticks s))

@@ -15,7 +15,9 @@ use Rattle.record_laws.proofs.Registers.Making.{made_seen}
 use Rattle.record_laws.proofs.Books.Basics.{get_there}
 use Rattle.frame_lines.specs.Lines.{LineService}
 use Rattle.line_nodes.specs.Node.{node_elapsed}
-use Rattle.net_events.specs.Network.{NetNode, User, Switching, NetLine, Network, elapsed_node, all_elapsed}
+use Rattle.net_events.specs.Network.{NetNode, User, Switching, NetLine, Network, place_at, elapsed_node}
+use Rattle.network_laws.specs.PlacedTime.{nodes_elapsed, elapsed_by}
+use Rattle.network_laws.proofs.PlacedTime.{elapsed_there, was_there}
 use Rattle.network_laws.specs.IsNetwork.{line_state, LineHolds, IsUserAt, IsNetwork}
 use Rattle.net_config.specs.NetPlan.{NewNode, PlannedUser, NewLine, NetPlan, HasEndAt, IsPlan, AreUsers}
 use Rattle.net_events.specs.Opening.{new_end, placed_new, line_plan, LineIsMade, IsMade}
@@ -38,29 +40,29 @@ unmapped {X} {Y} f xs k y e = by (slice_get xs k) refl (sym (slice_get-map f xs 
 
 -- ---- ticks pass
 
-elapsed_holds : (L : LineService) (nodes : List NetNode) (line : ℕ) (l : NetLine) (b : Book) (ticks : ℕ) → LineHolds L nodes line l b → LineHolds L (map (elapsed_node ticks) nodes) line l b
+elapsed_holds : (L : LineService) (nodes : List NetNode) (line : ℕ) (l : NetLine) (b : Book) (ticks : ℕ → ℕ) → LineHolds L nodes line l b → LineHolds L (nodes_elapsed ticks nodes) line l b
 elapsed_holds L nodes line l b ticks h = record {
-  dte = record h.dte { node = node_elapsed ticks h.dte.node };
-  dce = record h.dce { node = node_elapsed ticks h.dce.node };
-  dte_there = mapped (elapsed_node ticks) nodes l.dte (User h.dte) h.dte_there;
-  dce_there = mapped (elapsed_node ticks) nodes l.dce (User h.dce) h.dce_there;
+  dte = record h.dte { node = node_elapsed (ticks l.dte) h.dte.node };
+  dce = record h.dce { node = node_elapsed (ticks l.dce) h.dce.node };
+  dte_there = elapsed_there ticks nodes l.dte (User h.dte) h.dte_there;
+  dce_there = elapsed_there ticks nodes l.dce (User h.dce) h.dce_there;
   dte_line = h.dte_line;
   dce_line = h.dce_line;
   channels = h.channels;
-  holds = elapsed_lines L (line_state l h.dte h.dce b) ticks h.holds;
+  holds = elapsed_lines L (line_state l h.dte h.dce b) (λ role. ticks (place_at role l)) h.holds;
 }
 
-elapsed_stands : (lines : List NetLine) (nodes : List NetNode) (ticks place : ℕ) (m : NetNode)
-    → ((k : ℕ) (n : NetNode) → slice_get nodes k ≡ Some n → IsUserAt lines k n) → slice_get (map (elapsed_node ticks) nodes) place ≡ Some m → IsUserAt lines place m
+elapsed_stands : (lines : List NetLine) (nodes : List NetNode) (ticks : ℕ → ℕ) (place : ℕ) (m : NetNode)
+    → ((k : ℕ) (n : NetNode) → slice_get nodes k ≡ Some n → IsUserAt lines k n) → slice_get (nodes_elapsed ticks nodes) place ≡ Some m → IsUserAt lines place m
 elapsed_stands lines nodes ticks place m old at =
-    let u = unmapped (elapsed_node ticks) nodes place m at in
+    let u = was_there ticks nodes place m at in
     subst (λ (x : NetNode). IsUserAt lines place x) (sym u.2) (by u.0 (old place u.0 u.1))
   where
-    by : (n : NetNode) → IsUserAt lines place n → IsUserAt lines place (elapsed_node ticks n)
+    by : (n : NetNode) → IsUserAt lines place n → IsUserAt lines place (elapsed_node (ticks place) n)
     by (User n) st = record { line = st.line; there = st.there; at_end = st.at_end }
     by (Switching n) st = absurd st
 
-pub elapsed_network : (L : LineService) (s : Network) (ticks : ℕ) → IsNetwork L s → IsNetwork L (all_elapsed ticks s)
+pub elapsed_network : (L : LineService) (s : Network) (ticks : ℕ → ℕ) → IsNetwork L s → IsNetwork L (elapsed_by ticks s)
 elapsed_network L s ticks n = record {
   books = n.books;
   seen = n.seen;

@@ -6,5 +6,6 @@ pub mod PadRun
 pub mod IsNetwork
 pub mod Promise
 pub mod DueCount
+pub mod PlacedTime
 pub mod NetworkLaw
 pub mod Rest

@@ -68,8 +68,8 @@ abbrev pub LossCourse : Type 0
 LossCourse = (s : LineState) (flights : Flights) (c : Course) → LeadsTo c s → LeadsTo c (record s { flights = flights })
 
 abbrev pub TimeCourse : Type 0
-TimeCourse = (s : LineState) (ticks : ℕ) (c : Course) → LeadsTo c s
-    → LeadsTo (happened Dte (Here (HasTicks ticks)) c) (elapsed ticks s)
+TimeCourse = (s : LineState) (ticks : Role → ℕ) (c : Course) → LeadsTo c s
+    → LeadsTo (happened Dte (Here (HasTicks (ticks Dte))) c) (elapsed ticks s)
 
 -- ---- what it says
 

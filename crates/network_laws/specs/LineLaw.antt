@@ -1,7 +1,7 @@
 -- The law of a line of a network: it holds from the making on, whatever happens at its nodes and on it.
 use Rattle.std.specs.Prelude.{◌≡◌, ◌≢◌, ℕ}
 use Rattle.link_timers.specs.declared.role.Role.{Role}
-use Rattle.link_timers.specs.declared.role.Role.TheVariants.{Dte}
+use Rattle.link_timers.specs.declared.role.Role.TheVariants.{Dte, Dce}
 use Rattle.packet_end.specs.Params.{AreParams}
 use Rattle.packet_end.specs.declared.params.EndParams.{EndParams}
 use Rattle.call_records.specs.Book.{made_book}
@@ -47,12 +47,12 @@ abbrev pub LossLaw : LineService → Type 0
 LossLaw L = (d : Direction) (s : LineState) (flights : Flights) → IsLine L s
     → (L.faithful → flights ≡ without_first d s.flights) → IsLine L (record s { flights = flights })
 
--- ticks pass at both nodes
-abbrev pub elapsed : (ticks : ℕ) → LineState → LineState
-elapsed ticks s = record s { dte = node_elapsed ticks s.dte; dce = node_elapsed ticks s.dce }
+-- ticks pass at both nodes, at each by a number of its own
+abbrev pub elapsed : (ticks : Role → ℕ) → LineState → LineState
+elapsed ticks s = record s { dte = node_elapsed (ticks Dte) s.dte; dce = node_elapsed (ticks Dce) s.dce }
 
 abbrev pub TimeLaw : LineService → Type 0
-TimeLaw L = (s : LineState) (ticks : ℕ) → IsLine L s → IsLine L (elapsed ticks s)
+TimeLaw L = (s : LineState) (ticks : Role → ℕ) → IsLine L s → IsLine L (elapsed ticks s)
 
 -- ---- what it promises
 

@@ -5,7 +5,8 @@ use Rattle.link_timers.specs.declared.role.Role.{Role}
 use Rattle.frame_lines.specs.declared.line.Direction.{Direction}
 use Rattle.frame_lines.specs.Lines.{LineService}
 use Rattle.net_events.specs.NodeEvents.{NodeEvent}
-use Rattle.net_events.specs.Network.{Network, HappenedAt, LostAt, all_elapsed}
+use Rattle.net_events.specs.Network.{Network, HappenedAt, LostAt}
+use Rattle.network_laws.specs.PlacedTime.{elapsed_by}
 use Rattle.network_laws.specs.IsNetwork.{IsNetwork}
 use Rattle.net_config.specs.NetPlan.{NetPlan, IsPlan, AreUsers}
 use Rattle.net_events.specs.Opening.{IsMade}
@@ -21,8 +22,9 @@ EventLaw L = (event : NodeEvent) (line : ℕ) (role : Role) (s t : Network) → 
 abbrev pub LossLaw : LineService → Type 0
 LossLaw L = (line : ℕ) (d : Direction) (s t : Network) → IsNetwork L s → LostAt L line d s t → IsNetwork L t
 
-abbrev pub TimeLaw : LineService → Type 0
-TimeLaw L = (s : Network) (ticks : ℕ) → IsNetwork L s → IsNetwork L (all_elapsed ticks s)
+-- ticks pass, at each node by a number of its own
+abbrev pub PlacedTimeLaw : LineService → Type 0
+PlacedTimeLaw L = (s : Network) (ticks : ℕ → ℕ) → IsNetwork L s → IsNetwork L (elapsed_by ticks s)
 
 -- and on faithful lines it is what the network promises
 abbrev pub PromiseLaw : LineService → Type 0

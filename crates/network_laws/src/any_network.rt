@@ -1,5 +1,5 @@
 //! What holds of a network with switches, and of any network that is served.
-ghost use Rattle.network_laws.specs.Switched.Laws.{MadeLaw, EventLaw, SwitchEventLaw, LossLaw, TimeLaw, PromiseLaw};
+ghost use Rattle.network_laws.specs.Switched.Laws.{MadeLaw, EventLaw, SwitchEventLaw, LossLaw, PlacedTimeLaw, PromiseLaw};
 ghost use Rattle.network_laws.specs.Switched.Idle.{IdleExpiryLaw};
 ghost use Rattle.network_laws.specs.Switched.Laws.{FewerLaw, SwitchFewerLaw, RestLaw, DeliveredLaw};
 ghost use Rattle.network_laws.specs.Switched.Run.{RunLaw};
@@ -21,7 +21,7 @@ pub fn any_network_law<L: Line>()
     ensures event { EventLaw L.service }
     ensures switch_event { SwitchEventLaw L.service }
     ensures loss { LossLaw L.service }
-    ensures time { TimeLaw L.service }
+    ensures time { PlacedTimeLaw L.service }
     ensures promise { PromiseLaw L.service }
     ensures fewer_due { FewerLaw L.service }
     ensures fewer_due_at_switch { SwitchFewerLaw L.service }

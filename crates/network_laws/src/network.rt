@@ -1,5 +1,5 @@
 //! A network of many nodes and lines.
-ghost use Rattle.network_laws.specs.NetworkLaw.{MadeLaw, EventLaw, LossLaw, TimeLaw, PromiseLaw};
+ghost use Rattle.network_laws.specs.NetworkLaw.{MadeLaw, EventLaw, LossLaw, PlacedTimeLaw, PromiseLaw};
 ghost use Rattle.network_laws.specs.DueCount.{FewerLaw};
 ghost use Rattle.network_laws.specs.Rest.{RestLaw, DeliveredLaw};
 
@@ -19,7 +19,7 @@ pub fn network_law<L: Line>()
     ensures made { MadeLaw L.service }
     ensures event { EventLaw L.service }
     ensures loss { LossLaw L.service }
-    ensures time { TimeLaw L.service }
+    ensures time { PlacedTimeLaw L.service }
     ensures promise { PromiseLaw L.service }
     ensures fewer_due { FewerLaw L.service }
 

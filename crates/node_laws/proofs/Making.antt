@@ -22,13 +22,13 @@ elapsed_node role (Host x) e ticks is h = (ap (λ (y : PacketEnd). end.elapsed y
 
 pub elapses_keeps : ElapsesLaw
 elapses_keeps s b l ticks k = record {
-  kept = silent_kept s b (happens (At Dte (Elapses ticks)) l) Dce (Elapses ticks) tt (silent_kept s b l Dte (Elapses ticks) tt k);
+  kept = silent_kept s b (happens (At Dte (Elapses (ticks Dte))) l) Dce (Elapses (ticks Dce)) tt (silent_kept s b l Dte (Elapses (ticks Dte)) tt k);
   nodes = λ role n h. nodes role n h;
 }
   where
-    nodes : (role : Role) (n : NodeState) → StandsAt role l n → StandsAt role (elapsed_line ticks l) (node_elapsed ticks n)
-    nodes Dte n h = let t = elapsed_node Dte n l.dte ticks h.end h.node in record { end = t.0; node = t.1 }
-    nodes Dce n h = let t = elapsed_node Dce n l.dce ticks h.end h.node in record { end = t.0; node = t.1 }
+    nodes : (role : Role) (n : NodeState) → StandsAt role l n → StandsAt role (elapsed_line ticks l) (node_elapsed (ticks role) n)
+    nodes Dte n h = let t = elapsed_node Dte n l.dte (ticks Dte) h.end h.node in record { end = t.0; node = t.1 }
+    nodes Dce n h = let t = elapsed_node Dce n l.dce (ticks Dce) h.end h.node in record { end = t.0; node = t.1 }
 
 -- ---- the making
 

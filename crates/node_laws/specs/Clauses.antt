@@ -84,18 +84,18 @@ TerminalsLaw =
     (kept : List Bool)
     → StandsAt role l n → Kept s b l → KeepsBy s role l kept (at_terminal role n terminal event b)
 
--- ---- time passes at both nodes
+-- ---- time passes at both nodes, by a number of ticks of each
 
-abbrev pub elapsed_line : (ticks : ℕ) → Line → Line
-elapsed_line ticks l = record l { dte = end.elapsed l.dte ticks; dce = end.elapsed l.dce ticks }
+abbrev pub elapsed_line : (ticks : Role → ℕ) → Line → Line
+elapsed_line ticks l = record l { dte = end.elapsed l.dte (ticks Dte); dce = end.elapsed l.dce (ticks Dce) }
 
-pub record KeepsElapsed (s : Setting) (b : Book) (ticks : ℕ) (l : Line) : Type 0 where
+pub record KeepsElapsed (s : Setting) (b : Book) (ticks : Role → ℕ) (l : Line) : Type 0 where
   pub kept : Kept s b (elapsed_line ticks l)
   pub nodes : (role : Role) (n : NodeState) → StandsAt role l n
-      → StandsAt role (elapsed_line ticks l) (node_elapsed ticks n)
+      → StandsAt role (elapsed_line ticks l) (node_elapsed (ticks role) n)
 
 abbrev pub ElapsesLaw : Type 0
-ElapsesLaw = (s : Setting) (b : Book) (l : Line) (ticks : ℕ) → Kept s b l → KeepsElapsed s b ticks l
+ElapsesLaw = (s : Setting) (b : Book) (l : Line) (ticks : Role → ℕ) → Kept s b l → KeepsElapsed s b ticks l
 
 -- ---- the making
 

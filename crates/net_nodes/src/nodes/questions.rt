@@ -5,7 +5,7 @@ ghost use Rattle.std.specs.List.{list_all};
 ghost use Rattle.frame_lines.specs.declared.line.Direction.TheVariants.{FromDte, FromDce};
 ghost use Rattle.call_records.specs.RecordView.{shown, pair_of};
 ghost use Rattle.net_events.specs.Network.{all_elapsed};
-ghost use Rattle.net_nodes.specs.Due.{net_due};
+ghost use Rattle.net_nodes.specs.Due.{net_due, net_due_at};
 ghost use Rattle.net_nodes.specs.Happening.{FindsNoFrame, FindNoFrames};
 ghost use Rattle.net_nodes.specs.Questions.{net_confirmed, net_rests, is_empty};
 ghost use Rattle.placed_nodes.specs.Node.{rests};
@@ -133,6 +133,18 @@ impl<L: Line> Nodes<L> {
         ensures { result ≡ net_due self.now }
     {
         let (node, (line, timer)) = first_node_due(&self.nodes)?;
+        Some(Event::Expire { node, line, timer })
+    }
+
+    /// The expiry of the first timer without a tick left at the node of this place; at a switch on the first of its
+    /// lines that has one.
+    pub fn next_due_at(&self, node: usize) -> Option<Event>
+        ensures { result ≡ net_due_at node self.now }
+    {
+        if node >= self.nodes.len() {
+            return None;
+        }
+        let (line, timer) = self.nodes[node].due()?;
         Some(Event::Expire { node, line, timer })
     }
 }

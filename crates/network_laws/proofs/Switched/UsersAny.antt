@@ -3,7 +3,7 @@ use Rattle.frame_lines.specs.Lines.{LineService}
 use Rattle.network_laws.proofs.Networks.{happened_network, lost_network}
 use Rattle.network_laws.proofs.Opened.{elapsed_network}
 use Rattle.network_laws.specs.Switched.IsSwitched.{of_users, with_switches}
-use Rattle.network_laws.specs.Switched.Laws.{EventLaw, LossLaw, TimeLaw}
+use Rattle.network_laws.specs.Switched.Laws.{EventLaw, LossLaw, PlacedTimeLaw}
 use Rattle.network_laws.proofs.Switched.Addressed.{happened_addressed, lost_addressed}
 use Rattle.network_laws.proofs.Switched.UsersEvents.{event_switched, lost_switched}
 use Rattle.network_laws.proofs.Switched.UsersTime.{elapsed_switched}
@@ -19,7 +19,7 @@ loss_any L line d s t (of_users n a) w = of_users (lost_network L line d s t n w
 loss_any L line d s t (with_switches n a) w =
     with_switches (lost_switched L line d s t n w) (lost_addressed L line d s t a w)
 
-pub time_any : (L : LineService) → TimeLaw L
+pub time_any : (L : LineService) → PlacedTimeLaw L
 time_any L s ticks (of_users n a) =
     of_users (elapsed_network L s ticks n) (record { registered = a.registered; own = a.own })
 time_any L s ticks (with_switches n a) =

@@ -1,4 +1,4 @@
--- What holds of a network of switches holds when ticks pass at all nodes.
+-- What holds of a network of switches holds when ticks pass at all nodes, at each by a number of its own.
 use Rattle.std.proofs.Common.{◌≡◌, ◌≢◌, ℕ, zero, suc, ◌<◌, ◌≤◌, List, length, map, Option, Some, None, refl, sym, ap, ap₂, ◌∙◌, subst, arith, inl, inr}
 use Rattle.std.specs.Prelude.{[], ◌∷◌, slice_get, option_and_then, unwrap_or}
 use Rattle.std.proofs.lemmas.Option.{none-some, same_Some, slice_get_within}
@@ -26,11 +26,13 @@ use Rattle.switched_call_laws.proofs.SwitchPaths.Begins.{network_holds}
 use Rattle.switched_call_laws.proofs.SwitchPaths.Listing.{if_same, if_else}
 use Rattle.switched_call_laws.proofs.SwitchPaths.Elsewhere.{own_end, other_end}
 use Rattle.record_laws.specs.CallPaths.World.{Plan}
-use Rattle.net_events.specs.Network.{PlacedSwitch, NetNode, User, Switching, NetLine, Network, Stands, place_at, own_role, StandsAtLines, elapsed_node, all_elapsed}
+use Rattle.net_events.specs.Network.{PlacedSwitch, NetNode, User, Switching, NetLine, Network, Stands, place_at, own_role, StandsAtLines, elapsed_node}
 use Rattle.net_events.proofs.Users.{not_switch, not_both, same_switch}
 use Rattle.network_laws.specs.IsLine.{IsLine, IsKept}
 use Rattle.network_laws.proofs.Lines.{elapsed_lines}
-use Rattle.network_laws.proofs.Opened.{mapped, unmapped}
+use Rattle.network_laws.specs.PlacedTime.{nodes_elapsed, elapsed_by}
+use Rattle.network_laws.proofs.PlacedTime.{elapsed_there, was_there, length-nodes_elapsed}
+use Rattle.network_laws.proofs.Opened.{mapped}
 use Rattle.network_laws.specs.Switched.Plans.{IsPlanOf, has_users}
 use Rattle.network_laws.specs.Switched.IsSwitched.{ends_state, line_between, IsEndOf, EndStands, IsUserThere, LineStands, IsSwitchAt, IsHeld, IsSwitched}
 use Rattle.network_laws.proofs.Switched.NodesAtEnds.{AreApart, same_end, same_at, are_apart}
@@ -48,42 +50,42 @@ elapsed_kind : (ticks : ℕ) (n : NodeState) → is_pad (node_elapsed ticks n) �
 elapsed_kind ticks (Pad p) = refl
 elapsed_kind ticks (Host e) = refl
 
-pub elapsed_end_stands : (nodes : List NetNode) (line place : ℕ) (x : NodeState) (ticks : ℕ) → EndStands nodes line place x → EndStands (map (elapsed_node ticks) nodes) line place (node_elapsed ticks x)
+pub elapsed_end_stands : (nodes : List NetNode) (line place : ℕ) (x : NodeState) (ticks : ℕ → ℕ) → EndStands nodes line place x → EndStands (nodes_elapsed ticks nodes) line place (node_elapsed (ticks place) x)
 elapsed_end_stands nodes line place x ticks h = by h.node h.there h.end
   where
-    by : (n : NetNode) → slice_get nodes place ≡ Some n → IsEndOf n line x → EndStands (map (elapsed_node ticks) nodes) line place (node_elapsed ticks x)
+    by : (n : NetNode) → slice_get nodes place ≡ Some n → IsEndOf n line x → EndStands (nodes_elapsed ticks nodes) line place (node_elapsed (ticks place) x)
     by (User n) there is = record {
-      node = elapsed_node ticks (User n);
-      there = mapped (elapsed_node ticks) nodes place (User n) there;
-      end = (is.0, ap (λ (y : NodeState). node_elapsed ticks y) is.1);
+      node = elapsed_node (ticks place) (User n);
+      there = elapsed_there ticks nodes place (User n) there;
+      end = (is.0, ap (λ (y : NodeState). node_elapsed (ticks place) y) is.1);
     }
     by (Switching n) there is = record {
-      node = elapsed_node ticks (Switching n);
-      there = mapped (elapsed_node ticks) nodes place (Switching n) there;
+      node = elapsed_node (ticks place) (Switching n);
+      there = elapsed_there ticks nodes place (Switching n) there;
       end = (
         is.0,
-        with_end (λ e. end.elapsed e ticks) is.1,
+        with_end (λ e. end.elapsed e (ticks place)) is.1,
         is.2,
-        mapped (with_end (λ e. end.elapsed e ticks)) n.switch.lines is.0 is.1 is.3,
-        ap (λ (y : NodeState). node_elapsed ticks y) is.4,
+        mapped (with_end (λ e. end.elapsed e (ticks place))) n.switch.lines is.0 is.1 is.3,
+        ap (λ (y : NodeState). node_elapsed (ticks place) y) is.4,
       );
     }
 
 -- where the DCE has users the DTE has users
-pub users_elapsed : (nodes : List NetNode) (line : ℕ) (l : NetLine) (ticks : ℕ) → LineStands nodes line l → IsUserThere (map (elapsed_node ticks) nodes) l.dce → IsUserThere (map (elapsed_node ticks) nodes) l.dte
-users_elapsed nodes line l ticks h u = let o = unmapped (elapsed_node ticks) nodes l.dce (User u.0) u.1 in by o.0 o.1 o.2
+pub users_elapsed : (nodes : List NetNode) (line : ℕ) (l : NetLine) (ticks : ℕ → ℕ) → LineStands nodes line l → IsUserThere (nodes_elapsed ticks nodes) l.dce → IsUserThere (nodes_elapsed ticks nodes) l.dte
+users_elapsed nodes line l ticks h u = let o = was_there ticks nodes l.dce (User u.0) u.1 in by o.0 o.1 o.2
   where
-    by : (n : NetNode) → slice_get nodes l.dce ≡ Some n → User u.0 ≡ elapsed_node ticks n → IsUserThere (map (elapsed_node ticks) nodes) l.dte
-    by (User n) there e = let v = h.users (n, there) in (record v.0 { node = node_elapsed ticks v.0.node }, mapped (elapsed_node ticks) nodes l.dte (User v.0) v.1)
-    by (Switching n) there e = absurd (not_switch u.0 (record n { switch = elapse ticks n.switch }) e)
+    by : (n : NetNode) → slice_get nodes l.dce ≡ Some n → User u.0 ≡ elapsed_node (ticks l.dce) n → IsUserThere (nodes_elapsed ticks nodes) l.dte
+    by (User n) there e = let v = h.users (n, there) in (record v.0 { node = node_elapsed (ticks l.dte) v.0.node }, elapsed_there ticks nodes l.dte (User v.0) v.1)
+    by (Switching n) there e = absurd (not_switch u.0 (record n { switch = elapse (ticks l.dce) n.switch }) e)
 
-abbrev elapsed_stands : (nodes : List NetNode) (line : ℕ) (l : NetLine) (ticks : ℕ) → LineStands nodes line l → LineStands (map (elapsed_node ticks) nodes) line l
+abbrev elapsed_stands : (nodes : List NetNode) (line : ℕ) (l : NetLine) (ticks : ℕ → ℕ) → LineStands nodes line l → LineStands (nodes_elapsed ticks nodes) line l
 elapsed_stands nodes line l ticks h = record {
-  at = λ role. node_elapsed ticks (h.at role);
+  at = λ role. node_elapsed (ticks (place_at role l)) (h.at role);
   there = λ role. elapsed_end_stands nodes line (place_at role l) (h.at role) ticks (h.there role);
-  quiet = λ role. quiet_law.quiet-elapses (h.at role) ticks (h.quiet role);
+  quiet = λ role. quiet_law.quiet-elapses (h.at role) (ticks (place_at role l)) (h.quiet role);
   apart = h.apart;
-  host = elapsed_kind ticks (h.at Dce) ∙ h.host;
+  host = elapsed_kind (ticks l.dce) (h.at Dce) ∙ h.host;
   users = users_elapsed nodes line l ticks h;
 }
 
@@ -94,19 +96,19 @@ elapsed_role ticks [] own = refl
 elapsed_role ticks (l ∷ ls) zero = refl
 elapsed_role ticks (l ∷ ls) (suc own) = elapsed_role ticks ls own
 
-nodes_stand : (lines : List NetLine) (nodes : List NetNode) (ticks place : ℕ) (m : NetNode)
-    → ((k : ℕ) (n : NetNode) → slice_get nodes k ≡ Some n → Stands lines k n) → slice_get (map (elapsed_node ticks) nodes) place ≡ Some m → Stands lines place m
+nodes_stand : (lines : List NetLine) (nodes : List NetNode) (ticks : ℕ → ℕ) (place : ℕ) (m : NetNode)
+    → ((k : ℕ) (n : NetNode) → slice_get nodes k ≡ Some n → Stands lines k n) → slice_get (nodes_elapsed ticks nodes) place ≡ Some m → Stands lines place m
 nodes_stand lines nodes ticks place m old at =
-    let u = unmapped (elapsed_node ticks) nodes place m at in
+    let u = was_there ticks nodes place m at in
     subst (λ (x : NetNode). Stands lines place x) (sym u.2) (by u.0 (old place u.0 u.1))
   where
-    role_stays : (n : PlacedSwitch) (own : ℕ) → own_role (elapse ticks n.switch) own ≡ own_role n.switch own
-    role_stays n own = ap (λ (r : Option Role). unwrap_or r Dce) (elapsed_role ticks n.switch.lines own)
+    role_stays : (n : PlacedSwitch) (own : ℕ) → own_role (elapse (ticks place) n.switch) own ≡ own_role n.switch own
+    role_stays n own = ap (λ (r : Option Role). unwrap_or r Dce) (elapsed_role (ticks place) n.switch.lines own)
 
-    by : (n : NetNode) → Stands lines place n → Stands lines place (elapsed_node ticks n)
+    by : (n : NetNode) → Stands lines place n → Stands lines place (elapsed_node (ticks place) n)
     by (User n) st = record { line = st.line; there = st.there; at_end = st.at_end }
     by (Switching n) st = record {
-      count = st.count ∙ sym (length-map n.switch.lines (with_end (λ e. end.elapsed e ticks)));
+      count = st.count ∙ sym (length-map n.switch.lines (with_end (λ e. end.elapsed e (ticks place))));
       apart = st.apart;
       each = λ own line there.
           let e = st.each own line there in
@@ -114,26 +116,26 @@ nodes_stand lines nodes ticks place m old at =
     }
 
 -- a switch then was one before, with the same lines and routes
-was_switch : (nodes : List NetNode) (ticks place : ℕ) (m : PlacedSwitch) → slice_get (map (elapsed_node ticks) nodes) place ≡ Some (Switching m)
+was_switch : (nodes : List NetNode) (ticks : ℕ → ℕ) (place : ℕ) (m : PlacedSwitch) → slice_get (nodes_elapsed ticks nodes) place ≡ Some (Switching m)
     → (o : PlacedSwitch) × (slice_get nodes place ≡ Some (Switching o)) × (m.lines ≡ o.lines) × (m.switch.routes ≡ o.switch.routes)
-was_switch nodes ticks place m at = let u = unmapped (elapsed_node ticks) nodes place (Switching m) at in by u.0 u.1 u.2
+was_switch nodes ticks place m at = let u = was_there ticks nodes place (Switching m) at in by u.0 u.1 u.2
   where
-    by : (n : NetNode) → slice_get nodes place ≡ Some n → Switching m ≡ elapsed_node ticks n
+    by : (n : NetNode) → slice_get nodes place ≡ Some n → Switching m ≡ elapsed_node (ticks place) n
         → (o : PlacedSwitch) × (slice_get nodes place ≡ Some (Switching o)) × (m.lines ≡ o.lines) × (m.switch.routes ≡ o.switch.routes)
-    by (User n) there e = absurd (not_switch (record n { node = node_elapsed ticks n.node }) m (sym e))
+    by (User n) there e = absurd (not_switch (record n { node = node_elapsed (ticks place) n.node }) m (sym e))
     by (Switching n) there e =
-        let same : m ≡ record n { switch = elapse ticks n.switch } = same_switch m (record n { switch = elapse ticks n.switch }) (ap Some e) in
+        let same : m ≡ record n { switch = elapse (ticks place) n.switch } = same_switch m (record n { switch = elapse (ticks place) n.switch }) (ap Some e) in
         (n, there, ap (λ (x : PlacedSwitch). x.lines) same, ap (λ (x : PlacedSwitch). x.switch.routes) same)
 
-plan_elapsed : (s : Network) (ticks : ℕ) (plan : Plan) → IsPlanOf s plan → IsPlanOf (all_elapsed ticks s) plan
+plan_elapsed : (s : Network) (ticks : ℕ → ℕ) (plan : Plan) → IsPlanOf s plan → IsPlanOf (elapsed_by ticks s) plan
 plan_elapsed s ticks plan is = record {
   node = is.node;
   nowhere = λ line role more.
       let few = is.nowhere line role more in
-      let same = length-map s.nodes (elapsed_node ticks) in omega arith;
+      let same = length-nodes_elapsed ticks s.nodes in omega arith;
   user = λ k m role n there at_n.
-      let u = unmapped (elapsed_node ticks) s.nodes _ n at_n in
-      is.user k m role u.0 there u.1 ∙ users u.0 ∙ ap has_users (sym u.2);
+      let u = was_there ticks s.nodes (place_at role m) n at_n in
+      is.user k m role u.0 there u.1 ∙ users (ticks (place_at role m)) u.0 ∙ ap has_users (sym u.2);
   address = is.address;
   route = λ place n called there.
       let o = was_switch s.nodes ticks place n there in
@@ -141,9 +143,9 @@ plan_elapsed s ticks plan is = record {
       ∙ ap₂ (λ (xs : List ℕ) (r : RouteMap). option_and_then (λ own. slice_get xs own) (line_for r called)) (sym o.2) (sym o.3);
 }
   where
-    users : (n : NetNode) → has_users n ≡ has_users (elapsed_node ticks n)
-    users (User n) = refl
-    users (Switching n) = refl
+    users : (passed : ℕ) (n : NetNode) → has_users n ≡ has_users (elapsed_node passed n)
+    users passed (User n) = refl
+    users passed (Switching n) = refl
 
 -- ---- on faithful lines: ticks pass at the switches, one after the other
 
@@ -153,12 +155,12 @@ elapsed_switch ticks n = record n { switch = elapse ticks n.switch }
 abbrev IsSwitchOf : List NetNode → (place : ℕ) → Type 0
 IsSwitchOf nodes place = (n : PlacedSwitch) × (slice_get nodes place ≡ Some (Switching n))
 
-module _ (L : LineService) (s : Network) (ticks : ℕ) (n : IsSwitched L s) (f : L.faithful) (held : IsHeld L s) where
+module _ (L : LineService) (s : Network) (ticks : ℕ → ℕ) (n : IsSwitched L s) (f : L.faithful) (held : IsHeld L s) where
   -- a line when ticks passed at the switches of the places before this one
   record IsPassed (k : ℕ) (l : NetLine) (old new : Line) : Type 0 where
     up : new.up ≡ old.up
     down : new.down ≡ old.down
-    gone : (role : Role) → place_at role l < k → IsSwitchOf s.nodes (place_at role l) → end_at role new ≡ end.elapsed (end_at role old) ticks
+    gone : (role : Role) → place_at role l < k → IsSwitchOf s.nodes (place_at role l) → end_at role new ≡ end.elapsed (end_at role old) (ticks (place_at role l))
     still : (role : Role) → (place_at role l < k → IsSwitchOf s.nodes (place_at role l) → ⊥) → end_at role new ≡ end_at role old
 
   record ArePassed (k : ℕ) : Type 0 where
@@ -166,7 +168,7 @@ module _ (L : LineService) (s : Network) (ticks : ℕ) (n : IsSwitched L s) (f :
     switches : Switches
     network : paths.IsNetwork held.plan held.own_lines switches held.calls lines held.books held.world held.traces
     passed : (line : ℕ) (l : NetLine) → slice_get s.lines line ≡ Some l → IsPassed k l (held.lines line).line (lines line).line
-    before : (place : ℕ) (m : PlacedSwitch) → slice_get s.nodes place ≡ Some (Switching m) → place < k → IsSwitchAt (elapsed_switch ticks m) (held.own_lines place) (switches place)
+    before : (place : ℕ) (m : PlacedSwitch) → slice_get s.nodes place ≡ Some (Switching m) → place < k → IsSwitchAt (elapsed_switch (ticks place) m) (held.own_lines place) (switches place)
     behind : (place : ℕ) (m : PlacedSwitch) → slice_get s.nodes place ≡ Some (Switching m) → k ≤ place → IsSwitchAt m (held.own_lines place) (switches place)
 
   none_passed : ArePassed 0
@@ -237,10 +239,10 @@ module _ (L : LineService) (s : Network) (ticks : ℕ) (n : IsSwitched L s) (f :
     x = record { switch = m.switch; histories = its_place.histories }
 
     abbrev y : Switched
-    y = record { switch = elapse ticks m.switch; histories = its_place.histories }
+    y = record { switch = elapse (ticks k) m.switch; histories = its_place.histories }
 
     after : NetworkStays held.plan held.own_lines a.switches k y held.calls a.lines held.books held.world held.traces
-    after = network_holds.elapses held.plan held.own_lines a.switches held.calls a.lines held.books held.world held.traces k x ticks its_place.is a.network
+    after = network_holds.elapses held.plan held.own_lines a.switches held.calls a.lines held.books held.world held.traces k x (ticks k) its_place.is a.network
 
     -- the line of an own line, before and after
     record OwnPassed (line : ℕ) (l : NetLine) : Type 0 where
@@ -248,7 +250,7 @@ module _ (L : LineService) (s : Network) (ticks : ℕ) (n : IsSwitched L s) (f :
       at_end : place_at role l ≡ k
       up : (after.lines line).line.up ≡ (a.lines line).line.up
       down : (after.lines line).line.down ≡ (a.lines line).line.down
-      own : end_at role (after.lines line).line ≡ end.elapsed (end_at role (a.lines line).line) ticks
+      own : end_at role (after.lines line).line ≡ end.elapsed (end_at role (a.lines line).line) (ticks k)
       other : end_at (other_of role) (after.lines line).line ≡ end_at (other_of role) (a.lines line).line
 
     own_passed : (line own : ℕ) (l : NetLine) → slice_get s.lines line ≡ Some l → slice_get m.lines own ≡ Some line → OwnPassed line l
@@ -261,8 +263,8 @@ module _ (L : LineService) (s : Network) (ticks : ℕ) (n : IsSwitched L s) (f :
         let p : Partner = its_place.histories.partners own in
         let sight = (a.network.stays k x its_place.is).sight own less in
         let was : standing_with p z.0.end ≡ a.lines line = sight.line_is z.0 z.1 ∙ ap (λ (i : ℕ). a.lines i) named in
-        let now : after.lines line ≡ standing_with p (end.elapsed z.0.end ticks) =
-        ap (λ (i : ℕ). after.lines i) (sym named) ∙ after.own own (with_end (λ e. end.elapsed e ticks) z.0) less (mapped (with_end (λ e. end.elapsed e ticks)) m.switch.lines own z.0 z.1) in
+        let now : after.lines line ≡ standing_with p (end.elapsed z.0.end (ticks k)) =
+        ap (λ (i : ℕ). after.lines i) (sym named) ∙ after.own own (with_end (λ e. end.elapsed e (ticks k)) z.0) less (mapped (with_end (λ e. end.elapsed e (ticks k))) m.switch.lines own z.0 z.1) in
         let role_is : p.role ≡ own_role m.switch own =
         role_of_own s held.plan held.plan_is k m x (held.own_lines k) (a.network.planned k x its_place.is) its_place.lines st (λ line l at. (n.lines line l at).apart) own line l own_is at in
         let e = st.each own line own_is in
@@ -270,11 +272,11 @@ module _ (L : LineService) (s : Network) (ticks : ℕ) (n : IsSwitched L s) (f :
         record {
           role = r;
           at_end = ap (λ (v : NetLine). place_at r v) (same_Some l e.line_is (sym at ∙ e.there)) ∙ e.at_end;
-          up = ap (λ (v : Standing). v.line.up) now ∙ same_up p (end.elapsed z.0.end ticks) z.0.end ∙ ap (λ (v : Standing). v.line.up) was;
-          down = ap (λ (v : Standing). v.line.down) now ∙ same_down p (end.elapsed z.0.end ticks) z.0.end ∙ ap (λ (v : Standing). v.line.down) was;
-          own = ap (λ (v : Standing). end_at r v.line) now ∙ at_own r p (end.elapsed z.0.end ticks) role_is
-              ∙ ap (λ (e : PacketEnd). end.elapsed e ticks) (sym (at_own r p z.0.end role_is) ∙ ap (λ (v : Standing). end_at r v.line) was);
-          other = ap (λ (v : Standing). end_at (other_of r) v.line) now ∙ at_other r p (end.elapsed z.0.end ticks) role_is
+          up = ap (λ (v : Standing). v.line.up) now ∙ same_up p (end.elapsed z.0.end (ticks k)) z.0.end ∙ ap (λ (v : Standing). v.line.up) was;
+          down = ap (λ (v : Standing). v.line.down) now ∙ same_down p (end.elapsed z.0.end (ticks k)) z.0.end ∙ ap (λ (v : Standing). v.line.down) was;
+          own = ap (λ (v : Standing). end_at r v.line) now ∙ at_own r p (end.elapsed z.0.end (ticks k)) role_is
+              ∙ ap (λ (e : PacketEnd). end.elapsed e (ticks k)) (sym (at_own r p z.0.end role_is) ∙ ap (λ (v : Standing). end_at r v.line) was);
+          other = ap (λ (v : Standing). end_at (other_of r) v.line) now ∙ at_other r p (end.elapsed z.0.end (ticks k)) role_is
               ∙ sym (at_other r p z.0.end role_is) ∙ ap (λ (v : Standing). end_at (other_of r) v.line) was;
         }
 
@@ -289,8 +291,9 @@ module _ (L : LineService) (s : Network) (ticks : ℕ) (n : IsSwitched L s) (f :
           gone = λ role less it. elim (number_is (place_at role l) k) [
             | inl e ↦
                 let same : o.role ≡ role = same_role l apart o.role role (o.at_end ∙ sym e) in
-                subst (λ (r : Role). end_at r (after.lines line).line ≡ end.elapsed (end_at r (held.lines line).line) ticks) same
-                (o.own ∙ ap (λ (e : PacketEnd). end.elapsed e ticks) (p.still o.role (λ less it. absurd (let at_k = o.at_end in omega (arith, less, at_k)))))
+                subst (λ (r : Role). end_at r (after.lines line).line ≡ end.elapsed (end_at r (held.lines line).line) (ticks (place_at r l))) same
+                (o.own
+                ∙ ap₂ (λ (e : PacketEnd) (passed : ℕ). end.elapsed e passed) (p.still o.role (λ less it. absurd (let at_k = o.at_end in omega (arith, less, at_k)))) (ap ticks (sym o.at_end)))
             | inr ne ↦
                 let other : other_of o.role ≡ role = other_role_is o.role role (λ e. ne (ap (λ (r : Role). place_at r l) (sym e) ∙ o.at_end)) in
                 subst (λ (r : Role). end_at r (after.lines line).line ≡ end_at r (a.lines line).line) other o.other ∙ p.gone role (omega (arith, less, ne)) it
@@ -330,10 +333,11 @@ module _ (L : LineService) (s : Network) (ticks : ℕ) (n : IsSwitched L s) (f :
             let is : o ≡ m = same_switch o m (sym o_there ∙ ap (λ (i : ℕ). slice_get s.nodes i) e ∙ there) in
             record {
               histories = its_place.histories;
-              is = if_here place k y (all_seen held.own_lines after.lines held.books a.switches) e ∙ ap (λ (q : PlacedSwitch). Some (record { switch = elapse ticks q.switch; histories = its_place.histories })) (sym is);
+              is = if_here place k y (all_seen held.own_lines after.lines held.books a.switches) e ∙ ap (λ (q : PlacedSwitch). Some (record { switch = elapse (ticks k) q.switch; histories = its_place.histories })) (sym is)
+                  ∙ ap (λ (i : ℕ). Some (record { switch = elapse (ticks i) o.switch; histories = its_place.histories })) (sym e);
               lines = ap (λ (i : ℕ). held.own_lines i) e ∙ its_place.lines ∙ ap (λ (q : PlacedSwitch). q.lines) (sym is);
             }
-        | inr ne ↦ elsewhere_at (elapsed_switch ticks o) place ne (a.before place o o_there (omega (arith, less, ne)))
+        | inr ne ↦ elsewhere_at (elapsed_switch (ticks place) o) place ne (a.before place o o_there (omega (arith, less, ne)))
       ];
       behind = λ place o o_there least. elsewhere_at o place (λ e. absurd (omega (arith, e, least))) (a.behind place o o_there (omega (arith, least)));
     }
@@ -359,11 +363,12 @@ module _ (L : LineService) (s : Network) (ticks : ℕ) (n : IsSwitched L s) (f :
   all_switches = all_passed (length s.nodes)
 
   abbrev elapsed_ends : (line : ℕ) (l : NetLine) → LineStands s.nodes line l → Line
-  elapsed_ends line l h = line_between l (λ role. node_elapsed ticks (h.at role))
+  elapsed_ends line l h = line_between l (λ role. node_elapsed (ticks (place_at role l)) (h.at role))
 
-  end_elapsed : (role : Role) (l : NetLine) (at : Role → NodeState) → end_at role (line_between l (λ side. node_elapsed ticks (at side))) ≡ end.elapsed (end_at role (line_between l at)) ticks
-  end_elapsed Dte l at = elapsed_end ticks (at Dte)
-  end_elapsed Dce l at = elapsed_end ticks (at Dce)
+  end_elapsed : (role : Role) (l : NetLine) (at : Role → NodeState)
+      → end_at role (line_between l (λ side. node_elapsed (ticks (place_at side l)) (at side))) ≡ end.elapsed (end_at role (line_between l at)) (ticks (place_at role l))
+  end_elapsed Dte l at = elapsed_end (ticks l.dte) (at Dte)
+  end_elapsed Dce l at = elapsed_end (ticks l.dce) (at Dce)
 
   record AreLater (m : ℕ) : Type 0 where
     lines : Lines
@@ -371,7 +376,7 @@ module _ (L : LineService) (s : Network) (ticks : ℕ) (n : IsSwitched L s) (f :
     network : paths.IsNetwork held.plan held.own_lines switches held.calls lines held.books held.world held.traces
     before : (line : ℕ) (l : NetLine) → slice_get s.lines line ≡ Some l → line < m → (h : LineStands s.nodes line l) → (lines line).line ≡ elapsed_ends line l h
     behind : (line : ℕ) → m ≤ line → lines line ≡ all_switches.lines line
-    are : (place : ℕ) (o : PlacedSwitch) → slice_get s.nodes place ≡ Some (Switching o) → IsSwitchAt (elapsed_switch ticks o) (held.own_lines place) (switches place)
+    are : (place : ℕ) (o : PlacedSwitch) → slice_get s.nodes place ≡ Some (Switching o) → IsSwitchAt (elapsed_switch (ticks place) o) (held.own_lines place) (switches place)
 
   none_later : AreLater 0
   none_later = record {
@@ -387,8 +392,9 @@ module _ (L : LineService) (s : Network) (ticks : ℕ) (n : IsSwitched L s) (f :
   one_later m l at a =
       let h = n.lines m l at in
       let b = book_of L s held m l at in
-      let later : IsLine L (ends_state l (λ role. node_elapsed ticks (h.at role)) b.0) = elapsed_lines L (ends_state l h.at b.0) ticks (held.ends m l b.0 at b.1 h) in
-      let k : IsKept (ends_state l (λ role. node_elapsed ticks (h.at role)) b.0) = later.kept f in
+      let passed : Role → ℕ = λ role. ticks (place_at role l) in
+      let later : IsLine L (ends_state l (λ role. node_elapsed (passed role) (h.at role)) b.0) = elapsed_lines L (ends_state l h.at b.0) passed (held.ends m l b.0 at b.1 h) in
+      let k : IsKept (ends_state l (λ role. node_elapsed (passed role) (h.at role)) b.0) = later.kept f in
       let x : Standing = record { setting = k.setting; line = elapsed_ends m l h } in
       record {
         lines = with_line m x a.lines;
@@ -397,7 +403,7 @@ module _ (L : LineService) (s : Network) (ticks : ℕ) (n : IsSwitched L s) (f :
             (λ role switch.
             let it = switch_there held.plan s held.plan_is m l role at (h.there role) switch in
             record {
-              end = end_elapsed role l h.at ∙ ap (λ (v : Line). end.elapsed (end_at role v) ticks) (sym (held.lines_are m l at h))
+              end = end_elapsed role l h.at ∙ ap (λ (v : Line). end.elapsed (end_at role v) (passed role)) (sym (held.lines_are m l at h))
                   ∙ sym ((all_switches.passed m l at).gone role (slice_get_within s.nodes (place_at role l) (Switching it.0) it.1) it)
                   ∙ ap (λ (v : Standing). end_at role v.line) (sym (a.behind m (omega arith)));
               kept = k.kept;
@@ -406,11 +412,11 @@ module _ (L : LineService) (s : Network) (ticks : ℕ) (n : IsSwitched L s) (f :
           | inl e ↦
               let same : o ≡ l = same_Some o l (sym o_at ∙ ap (λ (i : ℕ). slice_get s.lines i) e ∙ at) in
               ap (λ (v : Standing). v.line) (if_same line m x (a.lines line) e)
-              ∙ sym (λ i. line_between (same i) (λ role. node_elapsed ticks (ends line o g e same i role)))
+              ∙ sym (λ i. line_between (same i) (λ role. node_elapsed (ticks (place_at role (same i))) (ends line o g e same i role)))
           | inr ne ↦ ap (λ (v : Standing). v.line) (if_else line m x (a.lines line) ne) ∙ a.before line o o_at (omega (arith, less, ne)) g
         ];
         behind = λ line least. if_else line m x (a.lines line) (λ e. absurd (omega (arith, e, least))) ∙ a.behind line (omega (arith, least));
-        are = λ place o there. sighted (elapsed_switch ticks o) (held.own_lines place) (with_line m x a.lines) held.books (a.switches place) (a.are place o there);
+        are = λ place o there. sighted (elapsed_switch (ticks place) o) (held.own_lines place) (with_line m x a.lines) held.books (a.switches place) (a.are place o there);
       }
     where
       ends : (line : ℕ) (o : NetLine) (g : LineStands s.nodes line o) → line ≡ m → o ≡ l → g.at ≡ (n.lines m l at).at
@@ -425,17 +431,17 @@ module _ (L : LineService) (s : Network) (ticks : ℕ) (n : IsSwitched L s) (f :
       let l = get_there s.lines m (omega (arith, most)) in
       one_later m l.0 l.1 (all_later m (omega (arith, most)))
 
-  pub held_elapsed : AreApart (map (elapsed_node ticks) s.nodes) → IsHeld L (all_elapsed ticks s)
+  pub held_elapsed : AreApart (nodes_elapsed ticks s.nodes) → IsHeld L (elapsed_by ticks s)
   held_elapsed apart =
       let a = all_later (length s.lines) (omega arith) in
-      let new : List NetNode = map (elapsed_node ticks) s.nodes in
+      let new : List NetNode = nodes_elapsed ticks s.nodes in
       record {
         books = held.books;
         count = held.count;
         ends = λ k m c at_m at_c h.
             let old = n.lines k m at_m in
             subst (IsLine L) (sym (λ i. ends_state m (same_at new k m apart h (elapsed_stands s.nodes k m ticks old) i) c))
-            (elapsed_lines L (ends_state m old.at c) ticks (held.ends k m c at_m at_c old));
+            (elapsed_lines L (ends_state m old.at c) (λ role. ticks (place_at role m)) (held.ends k m c at_m at_c old));
         channels = held.channels;
         lines = a.lines;
         lines_are = λ k m at_m h.
@@ -447,7 +453,7 @@ module _ (L : LineService) (s : Network) (ticks : ℕ) (n : IsSwitched L s) (f :
         own_lines = held.own_lines;
         switches = a.switches;
         switches_are = λ place o there.
-            let was = unmapped (elapsed_node ticks) s.nodes place (Switching o) there in
+            let was = was_there ticks s.nodes place (Switching o) there in
             are_then a place o was.0 was.1 was.2;
         calls = held.calls;
         world = held.world;
@@ -456,23 +462,23 @@ module _ (L : LineService) (s : Network) (ticks : ℕ) (n : IsSwitched L s) (f :
         register = held.register;
       }
     where
-      are_then : (a : AreLater (length s.lines)) (place : ℕ) (o : PlacedSwitch) (q : NetNode) → slice_get s.nodes place ≡ Some q → Switching o ≡ elapsed_node ticks q → IsSwitchAt o (held.own_lines place) (a.switches place)
-      are_then a place o (User u) there e = absurd (not_switch (record u { node = node_elapsed ticks u.node }) o (sym e))
+      are_then : (a : AreLater (length s.lines)) (place : ℕ) (o : PlacedSwitch) (q : NetNode) → slice_get s.nodes place ≡ Some q → Switching o ≡ elapsed_node (ticks place) q → IsSwitchAt o (held.own_lines place) (a.switches place)
+      are_then a place o (User u) there e = absurd (not_switch (record u { node = node_elapsed (ticks place) u.node }) o (sym e))
       are_then a place o (Switching m) there e =
-          let same : o ≡ elapsed_switch ticks m = same_switch o (elapsed_switch ticks m) (ap Some e) in
+          let same : o ≡ elapsed_switch (ticks place) m = same_switch o (elapsed_switch (ticks place) m) (ap Some e) in
           subst (λ (q : PlacedSwitch). IsSwitchAt q (held.own_lines place) (a.switches place)) (sym same) (a.are place m there)
 
 -- ---- on any lines
 
-pub elapsed_switched : (L : LineService) (s : Network) (ticks : ℕ) → IsSwitched L s → IsSwitched L (all_elapsed ticks s)
+pub elapsed_switched : (L : LineService) (s : Network) (ticks : ℕ → ℕ) → IsSwitched L s → IsSwitched L (elapsed_by ticks s)
 elapsed_switched L s ticks n =
-    let stand : (place : ℕ) (m : NetNode) → slice_get (map (elapsed_node ticks) s.nodes) place ≡ Some m → Stands s.lines place m =
+    let stand : (place : ℕ) (m : NetNode) → slice_get (nodes_elapsed ticks s.nodes) place ≡ Some m → Stands s.lines place m =
     λ place m at. nodes_stand s.lines s.nodes ticks place m n.nodes at in
     record {
       place = n.place;
-      switch = elapsed_switch ticks n.switch;
-      there = mapped (elapsed_node ticks) s.nodes n.place (Switching n.switch) n.there;
+      switch = elapsed_switch (ticks n.place) n.switch;
+      there = elapsed_there ticks s.nodes n.place (Switching n.switch) n.there;
       lines = λ k m at. elapsed_stands s.nodes k m ticks (n.lines k m at);
       nodes = stand;
-      holds = λ f. held_elapsed L s ticks n f (n.holds f) (are_apart s.lines (map (elapsed_node ticks) s.nodes) stand);
+      holds = λ f. held_elapsed L s ticks n f (n.holds f) (are_apart s.lines (nodes_elapsed ticks s.nodes) stand);
     }

@@ -11,10 +11,11 @@ use Rattle.net_events.specs.NodeEvents.{NodeEvent}
 use Rattle.net_events.specs.NodeEvents.NodeEvent.{Expires}
 use Rattle.net_events.specs.AtSwitch.{SwitchEvent, SwitchHappened}
 use Rattle.net_events.specs.AtSwitch as at_switch
-use Rattle.net_events.specs.Network.{PlacedNode, User, Network, HappenedAt, LostAt, all_elapsed}
+use Rattle.net_events.specs.Network.{PlacedNode, User, Network, HappenedAt, LostAt}
 use Rattle.net_config.specs.NetPlan.{NetPlan, IsPlan}
 use Rattle.net_events.specs.Opening.{IsMade}
 use Rattle.network_laws.specs.DueCount.{all_due}
+use Rattle.network_laws.specs.PlacedTime.{elapsed_by}
 use Rattle.network_laws.specs.Rest.{MissesNothing, IsDelivered}
 use Rattle.network_laws.specs.Switched.Rest.{AreAllAtRest}
 use Rattle.network_laws.specs.Switched.IsSwitched.{IsAny}
@@ -35,8 +36,9 @@ SwitchEventLaw L = (event : SwitchEvent) (place : ℕ) (s t : Network) → IsAny
 abbrev pub LossLaw : LineService → Type 0
 LossLaw L = (line : ℕ) (d : Direction) (s t : Network) → IsAny L s → LostAt L line d s t → IsAny L t
 
-abbrev pub TimeLaw : LineService → Type 0
-TimeLaw L = (s : Network) (ticks : ℕ) → IsAny L s → IsAny L (all_elapsed ticks s)
+-- ticks pass, at each node by a number of its own
+abbrev pub PlacedTimeLaw : LineService → Type 0
+PlacedTimeLaw L = (s : Network) (ticks : ℕ → ℕ) → IsAny L s → IsAny L (elapsed_by ticks s)
 
 -- and on faithful lines it is what the network promises
 abbrev pub PromiseLaw : LineService → Type 0

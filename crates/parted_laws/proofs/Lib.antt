@@ -1,0 +1,17 @@
+mod Left
+mod Between
+mod Puts
+mod OneLine
+mod Parts
+mod Turns
+mod Taking
+mod Users
+mod Switches
+mod Faults
+mod Carrying
+mod Events
+mod Ticks
+mod Runs
+pub mod Blind
+mod FirstDue
+mod Made
