@@ -8,3 +8,4 @@ pub mod Promise
 pub mod DueCount
 pub mod NetworkLaw
 pub mod Rest
+pub mod Courses
