@@ -21,3 +21,6 @@ pub mod Lines
 pub mod Sessions
 pub mod Rising
 mod PlainFrames
+pub mod Unsent
+pub mod Links
+mod Calls

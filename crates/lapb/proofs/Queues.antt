@@ -213,6 +213,14 @@ pub packets_length : (k : ℕ) (ps : List (Option Buffer)) (f n : ℕ) → AreTa
 packets_length k ps f n all = drop_length k (contents (around ps f n)) ∙
     ap (λ m. m - k) (contents_length (around ps f n) ∙ around_length ps f n all)
 
+-- where no more buffers are held than there are packets, none was given up
+pub none_spent : (k n : ℕ) (ps : List (Option Buffer)) (f : ℕ) → AreTaken ps f (k + n) →
+    length (around ps f (k + n)) ≡ length (drop k (contents (around ps f (k + n)))) → k ≡ 0
+none_spent k n ps f all same =
+    let held = around_length ps f (k + n) all in
+    let packets = packets_length k ps f (k + n) all in
+    omega (arith, same, held, packets)
+
 pub packet_get : (k i : ℕ) (bs : List Buffer) (b : Buffer) → slice_get bs (k + i) ≡ Some b →
     slice_get (drop k (contents bs)) i ≡ Some b.octets
 packet_get k i bs b e = get_drop k i (contents bs) ∙ get_contents bs (k + i) b e

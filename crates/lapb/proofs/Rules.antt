@@ -225,7 +225,7 @@ by_settle_in : (phase : Phase) (l : Link) (P : Step → Type 0) → l.phase ≡ 
     → (l.phase ≡ Phase.Up → (packets : List Octets) → packets ≡ [] ⊎ (packets ≡ drop l.next l.queue)
     → P (send_all l packets)) → P (settle_in phase l)
 by_settle_in Phase.Up l P e same all =
-    cond_by (λ b. P (send_all l (if b then drop l.next l.queue else []))) (l.heard && not l.polling && not l.busy)
+    cond_by (λ b. P (send_all l (if b then drop l.next l.queue else []))) _
     (λ _. all e (drop l.next l.queue) (inr refl)) (λ _. all e [] (inl refl))
 by_settle_in Phase.Down l P e same all = same
 by_settle_in Phase.SettingUp l P e same all = same

@@ -320,6 +320,6 @@ module _ (c : ℕ) (l r : Link) (o acc o' acc' : List Octets) (out : List Sent) 
       GoesStep c l r o acc o' acc' out ins l.heard (send_all l (sendable l))
   goes_settle ins up there back =
       cond_by (λ b. GoesStep c l r o acc o' acc' out ins l.heard (send_all l (if b then drop l.next l.queue else [])))
-      (l.heard && not l.polling && not l.busy)
+      _
       (λ _. goes_send_all ins (drop l.next l.queue) (inr refl) up there back)
       (λ _. goes_send_all ins [] (inl refl) up there back)

@@ -16,3 +16,4 @@ pub mod NamedOctets
 pub mod Fits
 pub mod Line
 pub mod Rising
+pub mod Calls

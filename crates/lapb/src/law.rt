@@ -2,6 +2,7 @@
 ghost use Rattle.lapb.specs.Machine.{Link};
 ghost use Rattle.lapb.specs.World.{Always, InOrder, ComesUp, BeginsFresh, MayCarry};
 ghost use Rattle.lapb.specs.Rising.{SessionsRise, CallsTell};
+ghost use Rattle.lapb.specs.Calls.{SessionLaw};
 
 /// The law of two links, one of each role, on a line that loses frames and neither changes, reorders nor repeats them:
 /// for every list of offers, deliveries, losses, frames dropped on sending, expiries of T1, starts, relinks and
@@ -21,6 +22,9 @@ pub fn link_law()
 
     // Each call tells when a session begins and when it ends; a frame alone begins one, or brings a packet.
     ensures calls_tell { (l : Link) → CallsTell l }
+
+    // At each link, whatever its partner sends: the numbers are those of its session, in all frames that it sends.
+    ensures sessions_count { SessionLaw }
 
     // And some events set the link up and take any packet each way.
     ensures may_carry { MayCarry }

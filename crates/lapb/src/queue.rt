@@ -127,6 +127,8 @@ impl Queue {
         ensures tight { length self.new.held ≡ length self.new.packets }
         ensures fewer { length self.new.held ≤ length self.old.held }
         ensures pool { Balances pool.old self.old.held pool.new self.new.held }
+        ensures same { length self.old.held ≡ length self.old.packets
+            → (self.new ≡ self.old) × (pool.new ≡ pool.old) }
     {
         if self.spent > 0 {
             self.free_spent(pool);

@@ -43,7 +43,7 @@ const RINGS: Step = Hears(&[0x03, 0x00, 0x10, 0x02, 0x0b, 0x01, 0x20, 0x00]);
 
 const EXAMPLES: &[Example] = &[
     Example {
-        rule: "the call of a terminal that leaves is cleared once, and an absent terminal is dead",
+        rule: "the call of a terminal that leaves is cleared once, and an absent terminal is cut off",
         steps: &[
             Leaves(0),
             CLEARS,

@@ -10,6 +10,7 @@ ghost use Rattle.std.specs.Prelude.{
   MatchResult,
   IsOk,
   is_ok,
+  OnErr,
   Err,
   Some,
   None,
@@ -210,6 +211,9 @@ impl LineEnd {
         ensures answer { MatchOption (refusal self.old.end.link) (IsOk result) (λ fault. result ≡ Err fault) }
         ensures taken { is_ok result ≡ machine.can_offer self.old.end.link }
         ensures end { self.new.end ≡ offered self.old.end packet.now }
+
+        // A packet that is refused changes nothing, in the pool too.
+        ensures kept { OnErr result ((self.new ≡ self.old) × (pool.new ≡ pool.old)) }
         ensures pool { Balances pool.old self.old.held pool.new self.new.held }
         ensures tight { length self.new.held ≡ length self.new.end.link.queue }
         ensures most { length self.new.held ≤ self.new.end.link.k }

@@ -1,7 +1,7 @@
 -- What holds of a network between events holds after each event.
 use Rattle.std.proofs.Common.{ℕ, Result, Ok, Err, sym, subst, inl, inr}
 use Rattle.link_timers.specs.declared.role.Role.{Role}
-use Rattle.link_timers.specs.declared.role.Role.TheVariants.{Dte}
+use Rattle.link_timers.specs.declared.role.Role.TheVariants.{Dte, Dce}
 use Rattle.link_timers.specs.declared.timers.TimerId.{TimerId}
 use Rattle.frame_lines.specs.declared.line.Direction.{Direction}
 use Rattle.frame_lines.specs.Lines.{LineService}
@@ -16,7 +16,7 @@ use Rattle.net_events.specs.EventView.{request_event}
 use Rattle.net_events.specs.declared.answer.Answer.{Answer}
 use Rattle.net_events.specs.declared.event.Event.{Event}
 use Rattle.net_events.specs.declared.event.Event.TheVariants.{AtTerminal, Call, Ask, Take, Deliver, Lose, Expire}
-use Rattle.net_events.specs.declared.event.Event.TheVariants.{Relink}
+use Rattle.net_events.specs.declared.event.Event.TheVariants.{Relink, GivesUp}
 use Rattle.net_events.specs.declared.event.Event.TheVariants.{Restart}
 use Rattle.net_events.specs.declared.event.StepFault.{StepFault}
 use Rattle.net_nodes.specs.Steps.{AtNode, DeliverStep, ExpireStep, RelinkStep, RestartStep, StepOf, hearer}
@@ -82,10 +82,10 @@ expired : (L : LineService) (place line : ℕ) (timer : TimerId) (s : Network) (
 expired L place line timer s a t b (inl e) = at_node L place (Expires timer) s a t b e
 expired L place line timer s a t b (inr e) = at_switch L (switch_event.Expires e.own timer) place s t b e.does.happened
 
-relinked : (L : LineService) (line : ℕ) (s : Network) (a : Answer) (t : Network) → IsBetweenEvents L s
-    → RelinkStep L line s a t → IsBetweenEvents L t
-relinked L line s a t b (inl e) = at_end L Relinks line Dte s t b e.happened
-relinked L line s a t b (inr e) = at_switch L (switch_event.Relinks e.there.own) e.place s t b e.there.does.happened
+relinked : (L : LineService) (line : ℕ) (role : Role) (s : Network) (a : Answer) (t : Network) → IsBetweenEvents L s
+    → RelinkStep L line role s a t → IsBetweenEvents L t
+relinked L line role s a t b (inl e) = at_end L Relinks line role s t b e.happened
+relinked L line role s a t b (inr e) = at_switch L (switch_event.Relinks e.there.own) e.place s t b e.there.does.happened
 
 began_anew : (L : LineService) (place : ℕ) (s : Network) (a : Answer) (t : Network) → IsBetweenEvents L s
     → RestartStep L place s a t → IsBetweenEvents L t
@@ -101,7 +101,8 @@ stepped L (Take node channel) s a t b d = at_node L node (Takes channel) s a t b
 stepped L (Deliver line direction) s a t b d = delivered L line direction s a t b d
 stepped L (Lose line direction) s a t b d = on_line L line direction s t b d.lost
 stepped L (Expire node line timer) s a t b d = expired L node line timer s a t b d
-stepped L (Relink line) s a t b d = relinked L line s a t b d
+stepped L (Relink line) s a t b d = relinked L line Dte s a t b d
+stepped L (GivesUp line) s a t b d = relinked L line Dce s a t b d
 stepped L (Restart node) s a t b d = began_anew L node s a t b d
 
 pub happens : (L : LineService) (e : Event) (s : Network) (r : Result Answer StepFault) (t : Network)

@@ -11,7 +11,7 @@ use Rattle.net_events.specs.declared.answer.Answer.{Answer}
 use Rattle.net_events.specs.EventView.{request_event}
 use Rattle.net_turns.specs.Outcomes.{event_fault}
 use Rattle.net_events.specs.declared.event.Event.{Event}
-use Rattle.net_events.specs.declared.event.Event.TheVariants.{AtTerminal, Call, Ask, Take, Deliver, Lose, Expire, Relink, Restart}
+use Rattle.net_events.specs.declared.event.Event.TheVariants.{AtTerminal, Call, Ask, Take, Deliver, Lose, Expire, Relink, GivesUp, Restart}
 use Rattle.net_events.specs.declared.event.StepFault.{StepFault}
 use Rattle.net_events.specs.declared.event.StepFault.TheVariants.{OutOfMemory, NoSuchNode, NoSuchTerminal, NoSuchCall}
 use Rattle.net_nodes.specs.Places.{is_host_at, pad_terminals, user_at}
@@ -104,6 +104,7 @@ not-memory (Deliver line direction) s e = no-such (is_some (slice_get s.lines li
 not-memory (Lose line direction) s e = no-such (is_some (slice_get s.lines line)) e
 not-memory (Expire node line timer) s e = no-such (stands_at line (slice_get s.nodes node)) e
 not-memory (Relink line) s e = no-such (is_some (slice_get s.lines line)) e
+not-memory (GivesUp line) s e = no-such (is_some (slice_get s.lines line)) e
 not-memory (Restart node) s e = no-such (is_some (slice_get s.nodes node)) e
 
 -- where memory was wanting, the network itself does not refuse the event

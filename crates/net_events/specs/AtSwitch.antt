@@ -1,13 +1,12 @@
 -- What may happen at a switch of a network, and what it makes of the network.
 use Rattle.std.specs.Prelude.{◌≡◌, ◌≢◌, ℕ, ◌<◌, List, [], ◌∷◌, length, map, set, slice_get, Some, unwrap_or}
 use Rattle.link_timers.specs.declared.role.Role.{Role}
-use Rattle.link_timers.specs.declared.role.Role.TheVariants.{Dte}
 use Rattle.link_timers.specs.declared.timers.TimerId.{TimerId}
 use Rattle.call_records.specs.Register.{Register, ChannelEnd, handed_on}
 use Rattle.line_nodes.specs.Node.{sent_out}
 use Rattle.link_timers.specs.Role.{other_of}
 use Rattle.frame_lines.specs.Lines.{Flights, no_flights, flying, without_first, LineService, ArePut}
-use Rattle.switch_lines.specs.Lines.{SwitchLine, role_on}
+use Rattle.switch_lines.specs.Lines.{SwitchLine}
 use Rattle.switch_lines.specs.NewJoins.{new_joins}
 use Rattle.switch_joins.specs.declared.channels.NewJoin.{NewJoin}
 use Rattle.switch_joins.specs.declared.channels.SwitchChannel.{SwitchChannel}
@@ -16,8 +15,8 @@ use Rattle.packet_laws.specs.Readable.{AreOctets}
 use Rattle.net_events.specs.OneLine.{direction_of, direction_to}
 use Rattle.net_events.specs.Network.{PlacedSwitch, Switching, NetLine, Network, own_role}
 
--- a frame arrives on an own line, a timer of an own line expires, the switch gives up the link of a line on which it is
--- the DTE and sets it up again, or it restarts
+-- a frame arrives on an own line, a timer of an own line expires, the switch gives up the link of an own line, or it
+-- restarts
 pub data SwitchEvent : Type 0 where
   Hears : (own : ℕ) → (octets : List ℕ) → SwitchEvent
   Expires : (own : ℕ) → TimerId → SwitchEvent
@@ -36,11 +35,11 @@ abbrev pub joins_of : SwitchEvent → Switch → List NewJoin
 joins_of (Hears own octets) s = new_joins own octets s
 joins_of event s = []
 
--- the switch has the own line, and is the DTE there if it sets the link up anew
+-- the switch has the own line
 abbrev pub HasOwnLine : SwitchEvent → Switch → Type 0
 HasOwnLine (Hears own octets) s = (own < length s.lines) × AreOctets octets
 HasOwnLine (Expires own id) s = own < length s.lines
-HasOwnLine (Relinks own) s = role_on (slice_get s.lines own) ≡ Some Dte
+HasOwnLine (Relinks own) s = own < length s.lines
 HasOwnLine Restarts s = Unit {0}
 
 -- ---- its lines

@@ -56,6 +56,10 @@ pub enum Event {
     Relink {
         line: usize,
     },
+    /// The DCE of a line, a host or a switch, gives the link up. It is then down until the DTE sets it up.
+    GivesUp {
+        line: usize,
+    },
     /// A node restarts, and its lines lose all frames in flight.
     Restart {
         node: usize,

@@ -11,7 +11,7 @@ pub enum LineEvent<'a> {
     Hears(&'a [u8]),
     /// A timer expires.
     Expires(TimerId),
-    /// The link is given up and set up again.
+    /// The link is given up, and set up again by a DTE.
     Relinks,
     /// The node restarts.
     Restarts,

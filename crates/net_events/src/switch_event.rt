@@ -8,7 +8,7 @@ pub enum SwitchEvent<'a> {
     Hears(usize, &'a [u8]),
     /// A timer of an own line expires.
     Expires(usize, TimerId),
-    /// The link of an own line on which the switch is the DTE is given up and set up again.
+    /// The link of an own line is given up, and set up again if the switch is the DTE there.
     Relinks(usize),
     /// The switch restarts.
     Restarts,

@@ -8,12 +8,10 @@ use Rattle.std.proofs.lemmas.List.Quantifiers.{position-Some}
 use Rattle.std.proofs.lemmas.List.Sums.{fails_before_first}
 use Rattle.std.proofs.lemmas.Option.{same_Some, slice_get-get_or, get_or_from_slice_get}
 use Rattle.link_timers.specs.declared.role.Role.{Role}
-use Rattle.link_timers.specs.declared.role.Role.TheVariants.{Dte, Dce}
 use Rattle.link_timers.specs.declared.timers.TimerId.{TimerId}
 use Rattle.frame_lines.specs.declared.line.Direction.{Direction}
 use Rattle.frame_lines.specs.declared.line.Direction.TheVariants.{FromDte, FromDce}
 use Rattle.frame_lines.specs.Lines.{Flights, LineService, flying, without_first}
-use Rattle.switch_lines.specs.Lines.{SwitchLine, role_on}
 use Rattle.net_events.specs.OneLine.{direction_to}
 use Rattle.net_events.proofs.Users.{not_both, same_switch}
 use Rattle.net_events.specs.AtSwitch.{SwitchEvent, Hears, Expires, Relinks, Restarts, HasOwnLine, switched, joins_of, switch_drained, all_handed, LinesServed}
@@ -25,8 +23,9 @@ use Rattle.net_nodes.specs.Places.{UserStands, IsStanding, IsOwnLine, own_line_i
 use Rattle.net_config.specs.Plan.{is_line}
 use Rattle.net_nodes.specs.Faults.{step_fault, where_there_is, stands_at}
 use Rattle.net_nodes.specs.Happening.{Happens}
-use Rattle.net_events.specs.declared.event.Event.TheVariants.{Deliver, Expire, Relink, Restart}
-use Rattle.net_nodes.specs.Steps.{AtSwitch, hearer}
+use Rattle.net_events.specs.declared.event.Event.TheVariants.{Deliver, Expire, Restart}
+use Rattle.net_nodes.specs.Steps.{AtSwitch, relink_at, hearer}
+use Rattle.net_nodes.proofs.UserNodeEvents.{relink_not_refused, relink_step}
 use Rattle.net_turns.specs.Switching.{HasRoom, CanPut}
 use Rattle.net_nodes.specs.Switching.{CanSwitch, SwitchActed}
 use Rattle.net_events.proofs.Lists.{within}
@@ -140,13 +139,6 @@ own_within place own line n s st there own_line =
     let count = at.count in
     omega (arith, h, count)
 
-is_dte : (o : Option SwitchLine) → unwrap_or (role_on o) Dce ≡ Dte → role_on o ≡ Some Dte
-is_dte None e = absurd (cc)
-is_dte (Some l) e = ap Some e
-
-pub own_dte : (own line place : ℕ) (s : Network) (o : IsOwnLine line place own Dte s) → HasOwnLine (Relinks own) o.node.switch
-own_dte own line place s o = is_dte (slice_get o.node.switch.lines own) o.role_is
-
 pub switch_found : (place : ℕ) (s : Network) → is_switch_at place s ≡ true → (n : PlacedSwitch) × (slice_get s.nodes place ≡ Some (Switching n))
 switch_found place s is = by (slice_get s.nodes place) refl is
   where
@@ -173,20 +165,20 @@ expired L place line own timer n s a t st there own_line is w = (
   }),
 )
 
-pub relinked : (L : LineService) (place line own : ℕ) (s : Network) (a : Answer) (t : Network) → (o : IsOwnLine line place own Dte s) → SwitchActed L (Relinks own) place o.node s a t
-    → Happens L (Relink line) s (Ok a) t
+pub relinked : (L : LineService) (place line own : ℕ) (role : Role) (s : Network) (a : Answer) (t : Network) → IsStanding s → (o : IsOwnLine line place own role s)
+    → SwitchActed L (Relinks own) place o.node s a t → Happens L (relink_at role line) s (Ok a) t
 unfolding at_switch
-relinked L place line own s a t o w = (
-  ap (λ o. where_there_is (is_some o)) o.line_there,
-  inr (record {
+relinked L place line own role s a t st o w = (
+  relink_not_refused role line s o.line_is o.line_there,
+  relink_step L role line s a t (inr (record {
     place = place;
     there = record {
       own = own;
-      does = at_switch L (Relinks own) place o.node s s a t o.node_there refl refl (own_dte own line place s o) w (relinked_lines L own o.node s.lines t.lines w.lines_put);
+      does = at_switch L (Relinks own) place o.node s s a t o.node_there refl refl (own_within place own line o.node s st o.node_there o.own_line) w (relinked_lines L own o.node s.lines t.lines w.lines_put);
       own_line = o.own_line;
     };
     role_is = o.role_is;
-  }),
+  })),
 )
 
 pub restarted : (L : LineService) (place : ℕ) (n : PlacedSwitch) (s : Network) (a : Answer) (t : Network) → slice_get s.nodes place ≡ Some (Switching n)

@@ -3,7 +3,7 @@ use Rattle.std.proofs.Common.{◌≡◌, ℕ, ◌<◌, Bool, true, false, List, 
 use Rattle.std.specs.Prelude.{slice_get, ◌⊎◌, if◌then◌else◌, is_some, not, [], ◌∷◌, set, drop, zero, suc}
 use Rattle.std.proofs.lemmas.Option.{same_Some}
 use Rattle.link_timers.specs.declared.role.Role.{Role}
-use Rattle.link_timers.specs.declared.role.Role.TheVariants.{Dte}
+use Rattle.link_timers.specs.declared.role.Role.TheVariants.{Dte, Dce}
 use Rattle.frame_lines.specs.declared.line.Direction.{Direction}
 use Rattle.node_laws.specs.Quiet.{IsQuiet}
 use Rattle.line_nodes.specs.Node.{NodeState, Pad, Host, is_pad}
@@ -18,7 +18,7 @@ use Rattle.net_events.specs.declared.answer.Answer as answered
 use Rattle.net_turns.specs.Outcomes.{event_fault}
 use Rattle.net_turns.specs.Users.{IsRefusedWith, user_fault, is_channel, is_on_line}
 use Rattle.net_events.specs.declared.event.Event.{Event}
-use Rattle.net_events.specs.declared.event.Event.TheVariants.{AtTerminal, Deliver, Relink, Restart}
+use Rattle.net_events.specs.declared.event.Event.TheVariants.{AtTerminal, Deliver, Restart}
 use Rattle.net_events.specs.declared.event.StepFault.{StepFault}
 use Rattle.net_events.specs.declared.event.StepFault.TheVariants.{OutOfMemory, NoSuchNode, NoSuchCall}
 use Rattle.net_events.specs.declared.node_event.HostEvent.{HostEvent}
@@ -29,7 +29,7 @@ use Rattle.net_nodes.specs.Places.{UserStands, IsStanding, IsPlaceOf}
 use Rattle.placed_nodes.specs.Node.{is_host, terminals_of, terminals_there}
 use Rattle.net_nodes.specs.Faults.{refused, step_fault, takes_memory, IsLeftToNode, MayWant, at_node, at_host, at_terminal, where_there_is, on_channel, is_channel_at, has_channel}
 use Rattle.net_nodes.specs.Turns.{CanAct, AtEnd, ActsSo, Acts, UserActs}
-use Rattle.net_nodes.specs.Steps.{AtNode, StepOf, hearer}
+use Rattle.net_nodes.specs.Steps.{AtNode, StepOf, RelinkStep, relink_at, hearer}
 use Rattle.net_nodes.specs.Happening.{Happens}
 use Rattle.net_events.proofs.Users.{same_user, not_both}
 use Rattle.net_nodes.proofs.Places.{user_there}
@@ -151,9 +151,9 @@ ask_fault_at place end s p channel event on =
 
 -- ---- lines
 
-pub can_relink : (line : ℕ) (s : Network) → IsStanding s → (l : NetLine) → slice_get s.lines line ≡ Some l → UserStands s line l Dte
-    → CanAct (record { line = line; role = Dte }) s
-can_relink line s st l there e = record {
+pub can_relink : (line : ℕ) (role : Role) (s : Network) → IsStanding s → (l : NetLine) → slice_get s.lines line ≡ Some l → UserStands s line l role
+    → CanAct (record { line = line; role = role }) s
+can_relink line role s st l there e = record {
   line = l;
   line_there = there;
   node = e.node;
@@ -162,16 +162,29 @@ can_relink line s st l there e = record {
   registered = registered_at line l s st there;
 }
 
-pub relinked : (L : LineService) (line : ℕ) (s t : Network) (r : Result answered.Answer StepFault) → (l : NetLine) → slice_get s.lines line ≡ Some l → UserStands s line l Dte
-    → Acts L (record { line = line; role = Dte }) Relinks s r t → Happens L (Relink line) s r t
-relinked L line s t r l there e acts = by r (acts l e.node there e.node_there)
-  where
-    none : step_fault (Relink line) s ≡ None
-    none = ap (λ o. where_there_is (is_some o)) there
+-- at an end of the line
+pub relink_not_refused : (role : Role) (line : ℕ) (s : Network) (l : NetLine) → slice_get s.lines line ≡ Some l → step_fault (relink_at role line) s ≡ None
+relink_not_refused Dte line s l there = ap (λ o. where_there_is (is_some o)) there
+relink_not_refused Dce line s l there = ap (λ o. where_there_is (is_some o)) there
 
-    by : (r : Result answered.Answer StepFault) → ActsSo L (record { line = line; role = Dte }) Relinks s r t → Happens L (Relink line) s r t
-    by (Ok a) so = (none, inl so)
-    by (Err fault) so = (refused_so (Relink line) s None fault none refl (inr (tt, so.0)), so.1)
+pub relink_step : (L : LineService) (role : Role) (line : ℕ) (s : Network) (a : answered.Answer) (t : Network) → RelinkStep L line role s a t → StepOf L (relink_at role line) s a t
+relink_step L Dte line s a t h = h
+relink_step L Dce line s a t h = h
+
+relink_takes : (role : Role) (line : ℕ) → takes_memory (relink_at role line) ≡ true
+relink_takes Dte line = refl
+relink_takes Dce line = refl
+
+pub relinked : (L : LineService) (line : ℕ) (role : Role) (s t : Network) (r : Result answered.Answer StepFault) → (l : NetLine) → slice_get s.lines line ≡ Some l → UserStands s line l role
+    → Acts L (record { line = line; role = role }) Relinks s r t → Happens L (relink_at role line) s r t
+relinked L line role s t r l there e acts = by r (acts l e.node there e.node_there)
+  where
+    none : step_fault (relink_at role line) s ≡ None
+    none = relink_not_refused role line s l there
+
+    by : (r : Result answered.Answer StepFault) → ActsSo L (record { line = line; role = role }) Relinks s r t → Happens L (relink_at role line) s r t
+    by (Ok a) so = (none, relink_step L role line s a t (inl so))
+    by (Err fault) so = (refused_so (relink_at role line) s None fault none (relink_takes role line) (inr (tt, so.0)), so.1)
 
 pub delivered : (L : LineService) (line : ℕ) (d : Direction) (end : LineSide) → end.line ≡ line → end.role ≡ hearer d → (octets : List ℕ) (s : Network) (l : NetLine)
     → slice_get s.lines line ≡ Some l → (r : Result answered.Answer StepFault) (t : Network)

@@ -8,7 +8,7 @@ use Rattle.net_turns.specs.Outcomes.{event_fault}
 pub use Rattle.net_turns.specs.Users.{refused, IsLeftToNode}
 use Rattle.net_events.specs.declared.event.Event.{Event}
 use Rattle.net_events.specs.declared.event.Event.TheVariants.{AtTerminal, Call, Ask, Take, Deliver, Lose, Expire}
-use Rattle.net_events.specs.declared.event.Event.TheVariants.{Relink}
+use Rattle.net_events.specs.declared.event.Event.TheVariants.{Relink, GivesUp}
 use Rattle.net_events.specs.declared.event.Event.TheVariants.{Restart}
 use Rattle.net_events.specs.declared.event.StepFault.{StepFault}
 use Rattle.net_events.specs.declared.event.StepFault.TheVariants.{NoSuchNode, NoSuchTerminal, NoSuchCall}
@@ -69,6 +69,7 @@ step_fault (Deliver line direction) s = where_there_is (is_some (slice_get s.lin
 step_fault (Lose line direction) s = where_there_is (is_some (slice_get s.lines line))
 step_fault (Expire node line timer) s = where_there_is (stands_at line (slice_get s.nodes node))
 step_fault (Relink line) s = where_there_is (is_some (slice_get s.lines line))
+step_fault (GivesUp line) s = where_there_is (is_some (slice_get s.lines line))
 step_fault (Restart node) s = where_there_is (is_some (slice_get s.nodes node))
 
 -- ---- want of memory

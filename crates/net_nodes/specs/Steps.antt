@@ -17,7 +17,7 @@ use Rattle.net_events.specs.declared.answer.Outcome.TheVariants.{Delivered, Done
 use Rattle.net_events.specs.EventView.{request_event}
 use Rattle.net_events.specs.declared.event.Event.{Event}
 use Rattle.net_events.specs.declared.event.Event.TheVariants.{AtTerminal, Call, Ask, Take, Deliver, Lose, Expire}
-use Rattle.net_events.specs.declared.event.Event.TheVariants.{Relink}
+use Rattle.net_events.specs.declared.event.Event.TheVariants.{Relink, GivesUp}
 use Rattle.net_events.specs.declared.event.Event.TheVariants.{Restart}
 use Rattle.net_nodes.specs.declared.nodes.LineSide.{LineSide}
 use Rattle.net_turns.specs.Switching.{all_puts}
@@ -99,11 +99,16 @@ abbrev pub ExpireStep : LineService → (place line : ℕ) → TimerId → Netwo
 ExpireStep L place line timer s a t =
     AtNode L place (Expires timer) s a t ⊎ OnOwnLine L place line (λ own. switch_event.Expires own timer) s a t
 
--- the DTE, a node with users or a switch, gives the link up
-abbrev pub RelinkStep : LineService → (line : ℕ) → Network → Answer → Network → Type 0
-RelinkStep L line s a t =
-    AtEnd L (record { line = line; role = Dte }) Relinks s a t
-    ⊎ AtSwitchEnd L line Dte (λ own. switch_event.Relinks own) s a t
+-- the end of a role, a node with users or a switch, gives the link up
+abbrev pub RelinkStep : LineService → (line : ℕ) → Role → Network → Answer → Network → Type 0
+RelinkStep L line role s a t =
+    AtEnd L (record { line = line; role = role }) Relinks s a t
+    ⊎ AtSwitchEnd L line role (λ own. switch_event.Relinks own) s a t
+
+-- by this event
+abbrev pub relink_at : Role → (line : ℕ) → Event
+relink_at Dte line = Relink line
+relink_at Dce line = GivesUp line
 
 abbrev pub RestartStep : LineService → (place : ℕ) → Network → Answer → Network → Type 0
 RestartStep L place s a t = AtNode L place Restarts s a t ⊎ AtSwitch L place switch_event.Restarts s a t
@@ -118,5 +123,6 @@ StepOf L (Take node channel) s a t = AtNode L node (Takes channel) s a t
 StepOf L (Deliver line direction) s a t = DeliverStep L line direction s a t
 StepOf L (Lose line direction) s a t = LoseStep L line direction Done s a t
 StepOf L (Expire node line timer) s a t = ExpireStep L node line timer s a t
-StepOf L (Relink line) s a t = RelinkStep L line s a t
+StepOf L (Relink line) s a t = RelinkStep L line Dte s a t
+StepOf L (GivesUp line) s a t = RelinkStep L line Dce s a t
 StepOf L (Restart node) s a t = RestartStep L node s a t

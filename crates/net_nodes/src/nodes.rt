@@ -149,7 +149,8 @@ impl<L: Line> Nodes<L> {
             Event::Deliver { line, direction } => self.deliver(*line, *direction, frame, answer),
             Event::Lose { line, direction } => self.lose(*line, *direction, frame, answer),
             Event::Expire { node, line, timer } => self.expire(*node, *line, *timer, answer),
-            Event::Relink { line } => self.relink(*line, answer),
+            Event::Relink { line } => self.relink(*line, Role::Dte, answer),
+            Event::GivesUp { line } => self.relink(*line, Role::Dce, answer),
             Event::Restart { node } => self.restart(*node, answer),
         }
     }

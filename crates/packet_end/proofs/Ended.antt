@@ -1,19 +1,20 @@
 -- An end at which an event ended stays as it is when one ends again.
 use Rattle.std.proofs.Common.{◌≡◌, ◌∙◌, refl, sym, ap, subst, Bool, true, false, List, [], ◌∷◌, length, drop, inl, inr}
-use Rattle.std.specs.Prelude.{ℕ, ◌⊎◌, Option, is_some, not, ◌&&◌, cond, if◌then◌else◌}
+use Rattle.std.specs.Prelude.{ℕ, ◌⊎◌, Option, None, is_some, not, ◌&&◌, cond, if◌then◌else◌}
 use Rattle.lapb.specs.declared.phase.Phase.{Phase}
-use Rattle.lapb.specs.Machine.{Octets, Link, runs, sendable, send_all, settle_in}
+use Rattle.lapb.specs.Machine.{Octets, Link, can_offer, runs, sendable, send_all, settle_in}
 use Rattle.lapb.specs.Out.{timing_by}
 use Rattle.line_end.specs.End.{End, did, timed}
 use Rattle.line_end.specs.End as line
 use Rattle.data_transfer.specs.Packets.{Packet}
+use Rattle.packet_layer.specs.Layer.{next_packet}
 use Rattle.packet_layer.specs.LayerTimers.{LayerTimers}
 use Rattle.packet_end.specs.PacketEnd.{PacketEnd, SettlesOnce, IsFinished, HasOfferedAll}
 use Rattle.packet_end.specs.PacketEnd.{relinked, all_offered, settled, finished}
 use Rattle.packet_end.specs.Touched.{IsTouched}
 use Rattle.packet_end.specs.declared.touched.Touched.{Touched}
 use Rattle.packet_end.specs.declared.touched.Touched.TheVariants.{Nothing}
-use Rattle.packet_end.proofs.Offering.{no_room, no_packet}
+use Rattle.packet_end.proofs.Offering.{no_room, no_packet, none_to_offer}
 use Rattle.packet_end.proofs.Untouched.{none_touched}
 
 -- ---- the link settles once
@@ -84,8 +85,12 @@ settled_once l frames =
 
 pub offers_none : (e : PacketEnd) → HasOfferedAll e → all_offered e ≡ e
 unfolding all_offered
-offers_none e (inl room) = no_room 7 e room
-offers_none e (inr silent) = no_packet 7 e (ap (λ (packet : Option Packet). is_some packet) silent)
+offers_none e all = by (none_to_offer e all)
+  where
+    by : (can_offer e.line.link ≡ false) ⊎ ((next_packet e.layer).packet ≡ None) → all_offered e ≡ e
+    unfolding all_offered
+    by (inl room) = no_room 7 e room
+    by (inr silent) = no_packet 7 e (ap (λ (packet : Option Packet). is_some packet) silent)
 
 settles_none : (e : PacketEnd) → IsFinished e → settled e ≡ e
 settles_none e is =

@@ -1,49 +1,16 @@
 -- Packets that go from the packet layer to the link: one at a time, and none is kept back.
 use Rattle.std.proofs.Common.{◌≡◌, ℕ, zero, suc, ◌+◌, ◌-◌, ◌<◌, ◌≤◌, Bool, true, false, cond, List, [], ◌∷◌, length, refl, sym, ap, ◌∙◌, arith, inl, inr, length-append}
-use borrow.Author.Tests.{le-leb, lt-ltb}
-use Rattle.std.specs.Prelude.{Option, Some, None, is_some, ◌&&◌, nat_lt}
+use borrow.Author.Tests.{le-leb, lt-leb, leb-false, lt-ltb}
+use Rattle.std.specs.Prelude.{Option, Some, None, is_some, not, ◌⊎◌, ◌&&◌, nat_lt}
 use Rattle.lapb.specs.declared.phase.Phase.{Phase}
-use Rattle.lapb.specs.Machine.{Octets, Link, can_offer, is_up, settle_in, send_all, sendable, offer}
+use Rattle.lapb.specs.Machine.{Octets, Link, can_offer, is_up, is_full, settle_in, send_all, sendable, offer}
 use Rattle.data_transfer.specs.Packets.{Body, Packet}
 use Rattle.packet_channel.specs.Channel.{Channel}
 use Rattle.packet_layer.specs.Layer.{Layer, Next, channel_of, next_of, next_number, serve, serve_found, served, next_restart, next_in, next_packet}
 use Rattle.packet_layer.specs.Layer as machine
 use Rattle.packet_layer.specs.Events.{written_packet}
+use Rattle.packet_layer.proofs.Unsent.{layer_said_all, layer_says_none}
 use Rattle.packet_end.specs.PacketEnd.{PacketEnd, offered, all_offered, with_next, settled, relinked, relinked_if_due, HasOfferedAll}
-
--- ---- a layer that has no packet stays as it is
-
-served_none : (l : Layer) (c : ℕ) (ch : Channel) (b : Option Body) (others : Next) → (is_some others.packet ≡ false → others.layer ≡ l) →
-    is_some (served l c (record { channel = ch; body = b }) others).packet ≡ false →
-    (served l c (record { channel = ch; body = b }) others).layer ≡ l
-served_none l c ch None others rest silent = rest silent
-served_none l c ch (Some b) others rest silent = absurd (cc)
-
-found_none : (l : Layer) (c : ℕ) (found : Option Channel) (others : Next) → (is_some others.packet ≡ false → others.layer ≡ l) →
-    is_some (serve_found l c found others).packet ≡ false → (serve_found l c found others).layer ≡ l
-found_none l c None others rest silent = rest silent
-found_none l c (Some ch) others rest silent =
-    served_none l c (next_of l.flow ch).channel (next_of l.flow ch).body others rest silent
-
-serve_none : (count : ℕ) (l : Layer) (c : ℕ) → is_some (serve count l c).packet ≡ false → (serve count l c).layer ≡ l
-serve_none zero l c silent = refl
-serve_none (suc count) l c silent =
-    found_none l c (channel_of l c) (serve count l (next_number l c)) (serve_none count l (next_number l c)) silent
-
-restart_none : (owed : List Body) (l : Layer) → is_some (next_restart owed l).packet ≡ false → (next_restart owed l).layer ≡ l
-restart_none (b ∷ bs) l silent = absurd (cc)
-restart_none [] l silent = serve_none (length l.channels) l (next_number l l.served_last) silent
-
-in_none : (phase : machine.Phase) (relink : Bool) (l : Layer) → is_some (next_in phase relink l).packet ≡ false →
-    (next_in phase relink l).layer ≡ l
-in_none machine.Phase.NoSession relink l silent = refl
-in_none machine.Phase.OwnRestart true l silent = refl
-in_none machine.Phase.OwnRestart false l silent = restart_none l.owed l silent
-in_none machine.Phase.PacketReady true l silent = refl
-in_none machine.Phase.PacketReady false l silent = restart_none l.owed l silent
-
-pub next_none : (l : Layer) → is_some (next_packet l).packet ≡ false → (next_packet l).layer ≡ l
-next_none l silent = in_none l.phase l.relink l silent
 
 -- ---- whether a relink is asked for stays
 
@@ -184,27 +151,60 @@ takes_none l full = rw (le-leb l.k (length l.queue) full) (and_false (is_up l.ph
 pub longer : (l : Link) (packet : Octets) (count : ℕ) → can_offer l ≡ true → count ≤ length l.queue → count + 1 ≤ length (offer l packet).queue
 longer l packet count room within = rw room (omega (arith, length-append l.queue (packet ∷ []), within))
 
-no_packet-is : (packet : Option Packet) → is_some packet ≡ false → packet ≡ None
-no_packet-is None h = refl
-no_packet-is (Some packet) h = absurd (cc)
-
 pub silent_all_offered : (e : PacketEnd) → is_some (next_packet e.layer).packet ≡ false → HasOfferedAll e
-silent_all_offered e silent = inr (no_packet-is (next_packet e.layer).packet silent)
+silent_all_offered e silent up room = layer_said_all e.layer silent
 
-sent_same : (l : Link) (packets : List Octets) → can_offer (send_all l packets).link ≡ can_offer l
-sent_same l [] = refl
-sent_same l (packet ∷ packets) = refl
+-- a link takes a packet exactly if it is up and has fewer than k
+has_room : (l : Link) → l.phase ≡ Phase.Up → length l.queue < l.k → can_offer l ≡ true
+has_room l up room =
+    ap (λ (phase : Phase). is_up phase && not (is_full l)) up ∙ ap (λ (b : Bool). not b) (lt-leb l.k (length l.queue) room)
 
-settle_same : (phase : Phase) (l : Link) → can_offer (settle_in phase l).link ≡ can_offer l
-settle_same Phase.Down l = refl
-settle_same Phase.SettingUp l = refl
-settle_same Phase.Up l = sent_same l (sendable l)
-settle_same Phase.Rejecting l = refl
+up_is : (phase : Phase) → is_up phase ≡ true → phase ≡ Phase.Up
+up_is Phase.Up h = refl
+up_is Phase.Down h = absurd (cc)
+up_is Phase.SettingUp h = absurd (cc)
+up_is Phase.Rejecting h = absurd (cc)
+
+not_full : (l : Link) → not (is_full l) ≡ true → length l.queue < l.k
+not_full l h = go (is_full l) refl h
+  where
+    go : (full : Bool) → is_full l ≡ full → not full ≡ true → length l.queue < l.k
+    go true is none = absurd (cc)
+    go false is none = leb-false l.k (length l.queue) is
+
+-- in words of the machine: the link takes no packet, or the layer has none
+pub none_to_offer : (e : PacketEnd) → HasOfferedAll e →
+    (can_offer e.line.link ≡ false) ⊎ ((next_packet e.layer).packet ≡ None)
+none_to_offer e h = go (can_offer e.line.link) refl
+  where
+    go : (room : Bool) → can_offer e.line.link ≡ room →
+        (can_offer e.line.link ≡ false) ⊎ ((next_packet e.layer).packet ≡ None)
+    go false is = inl is
+    go true is =
+        let parts = both_true (is_up e.line.link.phase) (not (is_full e.line.link)) is in
+        inr (layer_says_none e.layer (h (up_is e.line.link.phase parts.0) (not_full e.line.link parts.1)))
 
 -- settling changes neither what the link takes nor what the layer has
+record TakesAlike (l m : Link) : Type 0 where
+  phase : m.phase ≡ l.phase
+  queue : m.queue ≡ l.queue
+  k : m.k ≡ l.k
+
+sent_alike : (l : Link) (packets : List Octets) → TakesAlike l (send_all l packets).link
+sent_alike l [] = record { phase = refl; queue = refl; k = refl }
+sent_alike l (packet ∷ packets) = record { phase = refl; queue = refl; k = refl }
+
+settled_alike : (phase : Phase) (l : Link) → TakesAlike l (settle_in phase l).link
+settled_alike Phase.Down l = record { phase = refl; queue = refl; k = refl }
+settled_alike Phase.SettingUp l = record { phase = refl; queue = refl; k = refl }
+settled_alike Phase.Up l = sent_alike l (sendable l)
+settled_alike Phase.Rejecting l = record { phase = refl; queue = refl; k = refl }
+
 pub settled_all_offered : (e : PacketEnd) → HasOfferedAll e → HasOfferedAll (settled e)
-settled_all_offered e (inl room) = inl (settle_same e.line.link.phase e.line.link ∙ room)
-settled_all_offered e (inr silent) = inr silent
+settled_all_offered e h up room =
+    let same = settled_alike e.line.link.phase e.line.link in
+    let few = ap (λ (xs : List Octets). length xs) same.queue in
+    h (sym same.phase ∙ up) (omega (arith, room, few, same.k))
 
 -- each packet that was offered is queued
 pub longer_offered : (e : PacketEnd) (count : ℕ) → may_offer e ≡ true → count ≤ length e.line.link.queue →
@@ -214,12 +214,9 @@ longer_offered e count may within =
     rw (next_offered e may) (longer e.line.link (written_packet e.layer.flow (next_packet e.layer).packet []) count is.0 within)
 
 pub none_left : (e : PacketEnd) → may_offer e ≡ false → HasOfferedAll e
-none_left e none = go (can_offer e.line.link) refl
-  where
-    go : (room : Bool) → can_offer e.line.link ≡ room → HasOfferedAll e
-    go true room =
-        silent_all_offered e (sym (ap (λ (b : Bool). b && is_some (next_packet e.layer).packet) room) ∙ none)
-    go false room = inl room
+none_left e none up room =
+    layer_said_all e.layer
+    (sym (ap (λ (b : Bool). b && is_some (next_packet e.layer).packet) (has_room e.line.link up room)) ∙ none)
 
 -- ---- no relink is due once one was done, if it was
 

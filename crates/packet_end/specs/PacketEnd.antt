@@ -1,12 +1,13 @@
 -- One end of a line with its packet layer: what each call of a node makes of the link, the layer and the timers
 -- together.
-use Rattle.std.specs.Prelude.{◌≡◌, ℕ, zero, suc, Bool, false, cond, ◌&&◌, ◌⊎◌, List, [], ◌++◌, drop, Option, Some}
+use Rattle.std.specs.Prelude.{◌≡◌, ℕ, ◌<◌, zero, suc, Bool, false, cond, ◌&&◌, List, [], ◌++◌, length, drop, Option, Some}
 use Rattle.std.specs.Prelude.{None, is_some, if◌then◌else◌}
 use Rattle.std.specs.Option.{option_map}
 use Rattle.link_timers.specs.declared.role.Role.{Role}
 use Rattle.link_timers.specs.declared.timers.TimerId.{TimerId}
 use Rattle.link_timers.specs.declared.timers.TimerId.TheVariants.{T1}
 use Rattle.link_timers.specs.Timers.{is_due}
+use Rattle.lapb.specs.declared.phase.Phase.{Phase}
 use Rattle.lapb.specs.declared.note.Note as link_note
 use Rattle.lapb.specs.declared.note.Note.TheVariants.{Nothing, Up, Down}
 use Rattle.lapb.specs.Machine as link
@@ -24,6 +25,7 @@ use Rattle.packet_layer.specs.Events.{on_octets, on_named, timer_named, written_
 use Rattle.packet_layer.specs.LayerTimers.{LayerTimers, none_running, runs_by_name, stopped_by_name, after_ticks, name_of, brought}
 use Rattle.packet_layer.specs.LayerTimers.{TimersAgree}
 use Rattle.packet_layer.specs.LayerTimers as timers
+use Rattle.packet_layer.specs.Unsent.{LayerHasSaidAll}
 use Rattle.packet_end.specs.Params.{link_params}
 use Rattle.packet_end.specs.declared.params.EndParams.{EndParams}
 
@@ -123,9 +125,10 @@ offered (suc most) e =
 unfoldable pub all_offered : PacketEnd → PacketEnd
 all_offered e = offered 7 e
 
--- the link takes no packet, or the layer has none that may go
+-- If the link takes a packet, the layer keeps none that may go: a packet waits for the link only if this is not up, or if
+-- as many packets as it may have are unacknowledged.
 abbrev pub HasOfferedAll : PacketEnd → Type 0
-HasOfferedAll e = (can_offer e.line.link ≡ false) ⊎ ((next_packet e.layer).packet ≡ None)
+HasOfferedAll e = e.line.link.phase ≡ Phase.Up → length e.line.link.queue < e.line.link.k → LayerHasSaidAll e.layer
 
 -- nothing is kept back: the layer's packets are offered as far as the link takes them, and the link's are sent as far
 -- as they may go

@@ -1,4 +1,5 @@
 pub mod States
 pub mod Rows
 pub mod Follows
+pub mod Notes
 pub mod Clauses

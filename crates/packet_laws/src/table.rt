@@ -1,5 +1,6 @@
 //! The law of the packet layer and the state tables.
 ghost use Rattle.packet_laws.specs.Tables.Clauses.{EachPacket, CallPackets, DataPackets, CallsPlaced, CallActs, ResetPackets};
+ghost use Rattle.packet_laws.specs.Tables.Notes.{SessionNotes, ExpiryNotes};
 ghost use Rattle.packet_laws.specs.Tables.Clauses.{ResetActs, RestartPackets, RestartUnreadable};
 
 /// The machine of a packet layer, which knows own and far states, does what the state tables say, whose states go by
@@ -10,10 +11,16 @@ pub fn tables_law()
     ensures each_packet { EachPacket }
 
     // In data transfer the row of the reset table is followed; where there is none, that of the call table; and where
-    // this says so, numbers and interrupts decide.
+    // this says so, numbers and interrupts decide. What is told then: how many packets are covered further, that the
+    // interrupt is confirmed, or a reset by a procedure error.
     ensures reset_packets { ResetPackets }
     ensures call_packets { CallPackets }
     ensures data_packets { DataPackets }
+
+    // Where a session of the link begins or ends, each call is told of, in rising order; and so it is where an expiry
+    // restarts the line's packet layer. Another expiry clears the call of its channel.
+    ensures session_notes { SessionNotes }
+    ensures expiry_notes { ExpiryNotes }
 
     // What the user does.
     ensures calls_placed { CallsPlaced }

@@ -15,3 +15,5 @@ mod socket_ends;
 mod sockets;
 #[cfg(test)]
 mod streams;
+#[cfg(test)]
+mod terminals;

@@ -679,15 +679,16 @@ fn are_kept(records: &[Record], expected: &[Kept]) -> bool {
     same
 }
 
-/// Plays a script on a network of this configuration.
-fn plays(
+/// Plays a script on a network of this configuration, and adds what it prints.
+pub(crate) fn plays(
     alloc: Global,
     net: &mut Net<MemLine>,
     config: &Config,
     script: &[u8],
+    printed: &mut Vec<u8>,
 ) -> Result<(), ProgFault> {
     let script = read_script(alloc, script, config)?;
-    play(alloc, net, &script, &mut Vec::new(alloc))
+    play(alloc, net, &script, printed)
 }
 
 fn go_so(rt: &impl Abort, alloc: Global, cases: &[Case]) {
@@ -723,7 +724,7 @@ fn has_stage(
     channels: [u16; 2],
     stage: &Stage,
 ) -> bool {
-    plays(alloc, net, config, stage.script).is_ok()
+    plays(alloc, net, config, stage.script, &mut Vec::new(alloc)).is_ok()
         && are_confirmed(net, channels, stage.confirmed)
         && find_none(net, stage.finds_none)
 }

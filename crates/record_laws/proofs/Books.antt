@@ -30,6 +30,7 @@ pub mod Answered
 pub mod OpenPairs
 pub mod Counting
 pub mod Accepted
+pub mod Keeping
 pub mod AcceptedPairs
 pub mod Delivery
 pub mod Rows

@@ -5,3 +5,4 @@ pub mod Counts
 pub mod Rest
 pub mod Delivery
 pub mod AcceptedCalls
+pub mod Uses

@@ -2,6 +2,7 @@
 ghost use Rattle.record_laws.specs.Books.Headline.{BookLaw, RecordsLaw, PresentLaw, AnsweredLaw, CallsLaw, CallersLaw};
 ghost use Rattle.record_laws.specs.Books.AcceptedCalls.{AcceptedLaw, AcceptedRun};
 ghost use Rattle.record_laws.specs.Books.Counts.{CountsLaw};
+ghost use Rattle.record_laws.specs.Books.Uses.{UsesLaw, KeepingLaw};
 ghost use Rattle.record_laws.specs.Books.Delivery.{DeliveryLaw};
 ghost use Rattle.record_laws.specs.Books.Open.{OpenLaw};
 
@@ -33,8 +34,12 @@ pub fn book_law()
     ensures epochs { OpenLaw }
 
     // The epochs of each record, open or closed, are those that the packet layer of its end counted: packets,
-    // interrupts, and how many packets a P(R) covered and how many were released.
+    // interrupts, and how many packets a P(R) covered and how many were released. In all others nothing passed.
     ensures counts { CountsLaw }
+
+    // Each record is of one use of a channel, and no two are of one use. No epoch of it is lost, whatever happens.
+    ensures uses { UsesLaw }
+    ensures keeping { KeepingLaw }
 
     // The pairs are the calls that were accepted, one for each, open or over, also if nothing was taken.
     ensures accepted { AcceptedLaw }

@@ -3,7 +3,7 @@ use Rattle.std.proofs.Common.{◌≡◌, ℕ, List, set, Some, refl, sym, ap, �
 use Rattle.std.specs.Prelude.{slice_get}
 use Rattle.std.proofs.lemmas.Option.{same_Some, none-some}
 use Rattle.link_timers.specs.declared.role.Role.{Role}
-use Rattle.link_timers.specs.declared.role.Role.TheVariants.{Dte}
+use Rattle.link_timers.specs.declared.role.Role.TheVariants.{Dte, Dce}
 use Rattle.link_timers.specs.declared.timers.TimerId.{TimerId}
 use Rattle.frame_lines.specs.declared.line.Direction.{Direction}
 use Rattle.frame_lines.specs.declared.line.Direction.TheVariants.{FromDte, FromDce}
@@ -17,7 +17,7 @@ use Rattle.net_events.specs.EventView.{request_event}
 use Rattle.net_events.specs.declared.answer.Answer.{Answer}
 use Rattle.net_events.specs.declared.answer.Outcome.{Outcome}
 use Rattle.net_events.specs.declared.event.Event.TheVariants.{AtTerminal, Call, Ask, Take, Deliver, Lose, Expire}
-use Rattle.net_events.specs.declared.event.Event.TheVariants.{Relink, Restart}
+use Rattle.net_events.specs.declared.event.Event.TheVariants.{Relink, GivesUp, Restart}
 use Rattle.net_events.proofs.Users.{not_both}
 use Rattle.net_nodes.specs.Steps.{AtNode, LoseStep, EmptyDelivery, IsHeard}
 use Rattle.net_nodes.specs.Steps.{DeliverStep, ExpireStep, RelinkStep, RestartStep, hearer}
@@ -156,15 +156,16 @@ restarted_once place s t u a b holds (inr p) (inr q) = at_switch_once place swit
 
 -- ---- a link that is given up
 
-relinked_once : (line : ℕ) (s t u : Network) (a b : Answer) → IsBetweenEvents memory_service s
-    → RelinkStep memory_service line s a t → RelinkStep memory_service line s b u → IsSameAnswer a b × (t ≡ u)
-relinked_once line s t u a b holds (inl p) (inl q) = at_end_once line Dte Relinks s t u a b p q
-relinked_once line s t u a b holds (inl p) (inr q) =
-    absurd (not_both_there line Dte Relinks (λ own. switch_event.Relinks own) s t u a b holds p q)
-relinked_once line s t u a b holds (inr p) (inl q) =
-    absurd (not_both_there line Dte Relinks (λ own. switch_event.Relinks own) s u t b a holds q p)
-relinked_once line s t u a b holds (inr p) (inr q) =
-    at_switch_end_once line Dte (λ own. switch_event.Relinks own) s t u a b holds p q
+relinked_once : (line : ℕ) (role : Role) (s t u : Network) (a b : Answer) → IsBetweenEvents memory_service s
+    → RelinkStep memory_service line role s a t → RelinkStep memory_service line role s b u
+    → IsSameAnswer a b × (t ≡ u)
+relinked_once line role s t u a b holds (inl p) (inl q) = at_end_once line role Relinks s t u a b p q
+relinked_once line role s t u a b holds (inl p) (inr q) =
+    absurd (not_both_there line role Relinks (λ own. switch_event.Relinks own) s t u a b holds p q)
+relinked_once line role s t u a b holds (inr p) (inl q) =
+    absurd (not_both_there line role Relinks (λ own. switch_event.Relinks own) s u t b a holds q p)
+relinked_once line role s t u a b holds (inr p) (inr q) =
+    at_switch_end_once line role (λ own. switch_event.Relinks own) s t u a b holds p q
 
 -- ---- each event
 
@@ -179,5 +180,6 @@ step_once (Take node channel) s t u a b holds p q = at_node_once node (Takes cha
 step_once (Deliver line direction) s t u a b holds p q = delivered_once line direction s t u a b holds p q
 step_once (Lose line direction) s t u a b holds p q = lose_once line direction _ s t u a b p q
 step_once (Expire node line timer) s t u a b holds p q = expired_once node line timer s t u a b holds p q
-step_once (Relink line) s t u a b holds p q = relinked_once line s t u a b holds p q
+step_once (Relink line) s t u a b holds p q = relinked_once line Dte s t u a b holds p q
+step_once (GivesUp line) s t u a b holds p q = relinked_once line Dce s t u a b holds p q
 step_once (Restart node) s t u a b holds p q = restarted_once node s t u a b holds p q

@@ -1,9 +1,8 @@
 -- A leg on which nothing can move stays as it is over all rounds of relaying and offering.
-use Rattle.std.proofs.Common.{◌≡◌, ℕ, zero, suc, ◌+◌, ◌-◌, ◌<◌, ◌≤◌, arith, ◌⊎◌, inl, inr, Bool, true, false, cond, nat_le, if◌then◌else◌, List, [], ◌∷◌, map, length, Option, Some, None, is_some, refl, sym, ap, subst, ◌∙◌, true≢false}
+use Rattle.std.proofs.Common.{◌≡◌, ℕ, zero, suc, ◌+◌, ◌-◌, ◌<◌, ◌≤◌, arith, ◌⊎◌, inl, inr, Bool, true, false, cond, if◌then◌else◌, List, [], ◌∷◌, map, length, Option, Some, None, is_some, refl, sym, ap, subst, ◌∙◌, true≢false}
 use Rattle.std.specs.Prelude.{slice_get}
 use Rattle.std.specs.List.{list_any}
-use Rattle.std.proofs.lemmas.Bool.{cases_lt, lt-leb, leb-false}
-use Rattle.std.proofs.lemmas.Option.{none-some, same_Some, slice_get_within}
+use Rattle.std.proofs.lemmas.Option.{none-some, same_Some}
 use Rattle.lapb.specs.Machine.{Link, can_offer}
 use Rattle.data_transfer.specs.Packets.{Body}
 use Rattle.data_transfer.specs.Traffic.{Taken}
@@ -11,11 +10,11 @@ use Rattle.packet_channel.specs.Channel.{Channel, Request, requested}
 use Rattle.packet_channel.specs.Channel.Request.{Taking, Releasing}
 use Rattle.packet_layer.specs.Layer.{Layer, Phase, Next, ChannelNext, channel_of, with_nth, next_of, next_number, serve, serve_found, packet_of, next_restart, next_in, next_packet}
 use Rattle.packet_layer.specs.Layer.Phase.{NoSession, OwnRestart, PacketReady}
-use Rattle.packet_layer.proofs.Round.{or_else, whole_round}
+use Rattle.packet_layer.proofs.Unsent.{each_silent}
 use Rattle.packet_laws.proofs.Line.Lines.{nth_other}
 use Rattle.line_end.specs.End.{End}
 use Rattle.packet_end.specs.PacketEnd.{PacketEnd, offered, with_next, HasOfferedAll}
-use Rattle.packet_end.proofs.Offering.{no_room}
+use Rattle.packet_end.proofs.Offering.{no_room, none_to_offer}
 use Rattle.switch_joins.specs.Direction.{releasable, released}
 use Rattle.switch_joins.specs.declared.channels.SwitchChannel.{SwitchChannel}
 use Rattle.switch_joins.specs.Joins.{Joined}
@@ -369,78 +368,13 @@ rounds_left (suc most) first ls ms w p j k u i h = by_may (any_may ks) (λ xs v 
 
 -- ---- between events each channel is mute, for no link takes a packet that its layer has
 
-or_none : (a b : Next) → is_some (or_else a b).packet ≡ false → (is_some a.packet ≡ false) × (is_some b.packet ≡ false)
-or_none a b e = by_first (decided (is_some a.packet))
-  where
-    by_first : (is_some a.packet ≡ true) ⊎ (is_some a.packet ≡ false) → (is_some a.packet ≡ false) × (is_some b.packet ≡ false)
-    by_first (inl t) = absurd (true≢false (sym t ∙ (ap (λ (v : Bool). is_some (if v then a else b).packet) (sym t) ∙ e)))
-    by_first (inr f) = (f, ap (λ (v : Bool). is_some (if v then a else b).packet) (sym f) ∙ e)
-
-flag_silent : (v : Bool) (a : Next) (others : Next) → (v ≡ true → is_some a.packet ≡ true) → is_some (if v then a else others).packet ≡ false → (v ≡ false) × (is_some others.packet ≡ false)
-flag_silent true a others says e = absurd (true≢false (sym (says refl) ∙ e))
-flag_silent false a others says e = (refl, e)
-
-packet_there : (d : ℕ) (o : Option Body) → is_some o ≡ true → is_some (packet_of d o) ≡ true
-packet_there d None e = e
-packet_there d (Some b) e = refl
-
-found_silent : (l : Layer) (d : ℕ) (o : Option Channel) (others : Next) → is_some (serve_found l d o others).packet ≡ false → HasNothing (shown_as l o) × (is_some others.packet ≡ false)
-found_silent l d None others e = (tt, e)
-found_silent l d (Some ch) others e =
-    flag_silent (is_some (next_of l.flow ch).body) _ others (λ t. packet_there d (next_of l.flow ch).body t) e
-
-run_silent : (k : ℕ) (l : Layer) (d i : ℕ) → is_some (serve k l d).packet ≡ false → i < k → d + i ≤ length l.channels → Nothing_on l (d + i)
-run_silent zero l d i e less within = absurd (omega arith)
-run_silent (suc k) l d zero e less within =
-    let at : d ≡ d + 0 = omega arith in
-    subst (λ (c : ℕ). Nothing_on l c) at (found_silent l d (channel_of l d) (serve k l (next_number l d)) e).0
-run_silent (suc k) l d (suc i) e less within =
-    let next : next_number l d ≡ suc d = ap (λ (b : Bool). if b then 1 else suc d) (lt-leb (length l.channels) d (omega arith)) in
-    let at : suc d + i ≡ d + suc i = omega arith in
-    subst (λ (c : ℕ). Nothing_on l c) at
-    (run_silent k l (suc d) i (ap (λ (c : ℕ). is_some (serve k l c).packet) (sym next) ∙ (found_silent l d (channel_of l d) (serve k l (next_number l d)) e).1) (omega arith) (omega arith))
-
-record Begins_at (l : Layer) (c : ℕ) : Type 0 where
-  place : ℕ
-  is : place + 1 ≡ next_number l c
-  most : place ≤ length l.channels
-
-begins_at : (l : Layer) (c : ℕ) → Begins_at l c
-begins_at l c = by_wrap (nat_le (length l.channels) c) refl
-  where
-    by_wrap : (b : Bool) → nat_le (length l.channels) c ≡ b → Begins_at l c
-    by_wrap true e = record { place = 0; is = sym (ap (λ (b : Bool). if b then 1 else suc c) e); most = omega arith }
-    by_wrap false e =
-        let less = leb-false (length l.channels) c e in
-        let one : c + 1 ≡ suc c = omega arith in
-        record { place = c; is = one ∙ sym (ap (λ (b : Bool). if b then 1 else suc c) e); most = omega (arith, less) }
-
-round_silent : (l : Layer) (i : ℕ) → i < length l.channels → is_some (serve (length l.channels) l (next_number l l.served_last)).packet ≡ false → Nothing_on l (suc i)
-round_silent l i less e = by_part (cases_lt i b.place)
-  where
-    b : Begins_at l l.served_last
-    b = begins_at l l.served_last
-
-    both : (is_some (serve (length l.channels - b.place) l (b.place + 1)).packet ≡ false) × (is_some (serve b.place l 1).packet ≡ false)
-    both =
-        or_none (serve (length l.channels - b.place) l (b.place + 1)) (serve b.place l 1)
-        (ap (λ (n : Next). is_some n.packet) (sym (whole_round l l.served_last b.place b.is b.most)) ∙ e)
-
-    by_part : (i < b.place) ⊎ (b.place ≤ i) → Nothing_on l (suc i)
-    by_part (inl first) =
-        let at : 1 + i ≡ suc i = omega arith in
-        subst (λ (c : ℕ). Nothing_on l c) at (run_silent b.place l 1 i both.1 first (omega arith))
-    by_part (inr second) =
-        let at : b.place + 1 + (i - b.place) ≡ suc i = omega arith in
-        subst (λ (c : ℕ). Nothing_on l c) at (run_silent (length l.channels - b.place) l (b.place + 1) (i - b.place) both.0 (omega arith) (omega arith))
-
 channel_silent : (l : Layer) (c : ℕ) → is_some (serve (length l.channels) l (next_number l l.served_last)).packet ≡ false → Nothing_on l c
 channel_silent l zero e = tt
 channel_silent l (suc i) e = by_found (channel_of l (suc i)) refl
   where
     by_found : (o : Option Channel) → channel_of l (suc i) ≡ o → HasNothing (shown_as l o)
     by_found None got = tt
-    by_found (Some ch) got = subst (λ (o : Option Channel). HasNothing (shown_as l o)) got (round_silent l i (slice_get_within l.channels i ch got) e)
+    by_found (Some ch) got = each_silent l i ch got e
 
 restart_silent : (owed : List Body) (l : Layer) (c : ℕ) → is_some (next_restart owed l).packet ≡ false → Nothing_on l c
 restart_silent [] l c e = channel_silent l c e
@@ -454,8 +388,11 @@ in_silent PacketReady true l c r e = absurd (true≢false r)
 in_silent PacketReady false l c r e = inr (restart_silent l.owed l c e)
 
 end_mute : (e : PacketEnd) (c : ℕ) → HasOfferedAll e → e.layer.relink ≡ false → EndMute e c
-end_mute e c (inl room) r = inl room
-end_mute e c (inr none) r = inr (in_silent e.layer.phase e.layer.relink e.layer c r (ap (λ o. is_some o) none))
+end_mute e c all r = by (none_to_offer e all)
+  where
+    by : (can_offer e.line.link ≡ false) ⊎ ((next_packet e.layer).packet ≡ None) → EndMute e c
+    by (inl room) = inl room
+    by (inr none) = inr (in_silent e.layer.phase e.layer.relink e.layer c r (ap (λ o. is_some o) none))
 
 none_due : (b : Bool) (o : Option ℕ) → (if b then Some 0 else raised o) ≡ None → (b ≡ false) × (o ≡ None)
 none_due true o e = absurd (none-some 0 (sym e))

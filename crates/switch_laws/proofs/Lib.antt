@@ -29,7 +29,6 @@ pub mod Newness
 pub mod Pairing
 pub mod Concerning
 pub mod Rounds
-pub mod Links
 pub mod Offered
 pub mod JoinsOfOtherLines
 pub mod Calling

@@ -11,6 +11,7 @@ use Rattle.lapb.specs.declared.phase.Phase.{Phase}
 use Rattle.lapb.specs.declared.phase.Phase.TheVariants as phase
 use Rattle.lapb.specs.Machine.{Octets, Link, can_offer, is_up, sendable, send_all, settle_in}
 use Rattle.lapb.specs.Unsent.{HasSentAll}
+use Rattle.lapb.proofs.Unsent.{settles_all}
 use Rattle.lapb.specs.Octets as link_octets
 use Rattle.line_end.specs.End as line
 use Rattle.line_end.specs.End.{End}
@@ -19,7 +20,7 @@ use Rattle.data_transfer.specs.Packets.Note.{Incoming, Connected, Closed, WasRes
 use Rattle.packet_channel.specs.Channel.Request.{Accept, Clearing, Resetting, Releasing, Confirming}
 use Rattle.packet_layer.specs.Layer.{next_packet}
 use Rattle.packet_end.specs.PacketEnd.{PacketEnd, received, heeded, after_packet, after_timer, expired, runs_at, relinked, settled, HasOfferedAll, KeepsNothingBack}
-use Rattle.packet_end.proofs.Offering.{silent_all_offered, settled_all_offered}
+use Rattle.packet_end.proofs.Offering.{none_left, settled_all_offered}
 use Rattle.address_routes.specs.Routes.{RouteMap}
 use Rattle.switch_joins.specs.Direction.{Direction, releasable}
 use Rattle.switch_joins.specs.declared.channels.SwitchChannel.{SwitchChannel}
@@ -32,7 +33,7 @@ use Rattle.switch_laws.specs.Offers.{HaveSmallLinks, EndsKeepNothingBack}
 use Rattle.switch_laws.specs.Steps.{Happening, does}
 use Rattle.switch_laws.specs.Steps.Happening.{Brings, RunsOut, Relinks}
 use Rattle.switch_laws.proofs.Lists.{map_unchanged}
-use Rattle.switch_laws.proofs.Links.{octets_keep_k, relink_keeps_k, t1_keeps_k}
+use Rattle.lapb.proofs.Links.{octets_keep_k, relink_keeps_k, t1_keeps_k}
 use Rattle.switch_laws.proofs.Rounds.{lines_of, asked_lines, joined_lines, total, Small, rounds_offer, any_may}
 
 -- ---- heeding changes no link
@@ -156,36 +157,13 @@ within (l ∷ ls) = let rest = within ls in omega arith
 
 -- ---- all is sent
 
-drop_length : (xs : List Octets) → drop (length xs) xs ≡ []
-drop_length [] = refl
-drop_length (x ∷ xs) = drop_length xs
-
-unless_held : (b : Bool) (xs : List Octets) → (if b then drop (length xs) xs else []) ≡ []
-unless_held true xs = drop_length xs
-unless_held false xs = refl
-
-sends_by : (packets : List Octets) (l : Link) → sendable l ≡ packets → HasSentAll (send_all l packets).link
-sends_by [] l e up = e
-sends_by (p ∷ ps) l e up = unless_held _ l.queue
-
-settles_in : (phase : Phase) (l : Link) → l.phase ≡ phase → HasSentAll (settle_in phase l).link
-settles_in phase.Down l e up = absurd (true≢false (sym up ∙ ap (λ (x : Phase). is_up x) e))
-settles_in phase.SettingUp l e up = absurd (true≢false (sym up ∙ ap (λ (x : Phase). is_up x) e))
-settles_in phase.Up l e up = sends_by (sendable l) l refl up
-settles_in phase.Rejecting l e up = absurd (true≢false (sym up ∙ ap (λ (x : Phase). is_up x) e))
-
 settled_sent : (e : PacketEnd) → HasSentAll (settled e).line.link
-settled_sent e = settles_in e.line.link.phase e.line.link refl
+settled_sent e = settles_all e.line.link
 
 -- ---- all is offered
 
 abbrev pub HaveOfferedAll : List SwitchLine → Type 0
 HaveOfferedAll ls = (n : ℕ) (l : SwitchLine) → slice_get ls n ≡ Some l → HasOfferedAll l.end
-
-not_both : (e : PacketEnd) (a b : Bool) → can_offer e.line.link ≡ a → is_some (next_packet e.layer).packet ≡ b → (a && b) ≡ false → HasOfferedAll e
-not_both e false b may has f = inl may
-not_both e true false may has f = silent_all_offered e has
-not_both e true true may has f = absurd (true≢false f)
 
 or_parts : (a b : Bool) → (a || b) ≡ false → (a ≡ false) × (b ≡ false)
 or_parts true b e = absurd (true≢false e)
@@ -195,7 +173,7 @@ pub none_may : (ls : List SwitchLine) → any_may ls ≡ false → HaveOfferedAl
 none_may [] e n l got = absurd (none-some l got)
 none_may (x ∷ xs) e zero l got =
     subst (λ (y : SwitchLine). HasOfferedAll y.end) (same_Some x l got)
-    (not_both x.end (can_offer x.end.line.link) (is_some (next_packet x.end.layer).packet) refl refl (or_parts (may_offer x) (any_may xs) e).0)
+    (none_left x.end (or_parts (may_offer x) (any_may xs) e).0)
 none_may (x ∷ xs) e (suc n) l got = none_may xs (or_parts (may_offer x) (any_may xs) e).1 n l got
 
 settled_offered : (ls : List SwitchLine) → HaveOfferedAll ls → EndsKeepNothingBack (map (with_end settled) ls)

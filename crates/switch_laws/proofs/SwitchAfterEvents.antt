@@ -1,5 +1,5 @@
 -- What is made is a switch of which the laws speak, and each event leaves it one.
-use Rattle.std.proofs.Common.{◌≡◌, ℕ, zero, suc, ◌*◌, ◌≤◌, Bool, true, false, if◌then◌else◌, ◌&&◌, ◌||◌, inl, inr, List}
+use Rattle.std.proofs.Common.{◌≡◌, ℕ, zero, suc, ◌*◌, ◌≤◌, ◌⊎◌, Bool, true, false, if◌then◌else◌, ◌&&◌, ◌||◌, inl, inr, List}
 use Rattle.std.proofs.Common.{[], ◌∷◌, map, length, replicate, Option, Some, None, is_some, refl, sym, ap, ap₂, subst}
 use Rattle.std.proofs.Common.{◌∙◌, true≢false}
 use Rattle.std.specs.Prelude.{slice_get}
@@ -22,6 +22,7 @@ use Rattle.packet_layer.specs.Layer.{Layer, channel_of, nth_channel, standing_ch
 use Rattle.packet_layer.specs.Layer.{next_packet}
 use Rattle.packet_laws.specs.History.{empty_epoch}
 use Rattle.packet_end.specs.PacketEnd.{PacketEnd, HasOfferedAll, all_offered, settled, elapsed}
+use Rattle.packet_end.proofs.Offering.{none_to_offer}
 use Rattle.packet_end.specs.PacketEnd.{without_first_frame}
 use Rattle.address_routes.specs.Routes.{RouteMap}
 use Rattle.switch_joins.specs.declared.channels.SwitchChannel.{SwitchChannel}
@@ -46,7 +47,7 @@ use Rattle.switch_laws.specs.EventSteps.{event_acts}
 use Rattle.switch_laws.specs.Events.Event.{Arrives, Expires, SetsUp, Restarts, Elapses, Departs}
 use Rattle.switch_laws.specs.Events.HoldsOn.{ended, goes_on}
 use Rattle.switch_laws.proofs.LegsByState.{start_good}
-use Rattle.switch_laws.proofs.Links.{relink_keeps_k}
+use Rattle.lapb.proofs.Links.{relink_keeps_k}
 use Rattle.switch_laws.proofs.Lists.{map_unchanged}
 use Rattle.switch_laws.proofs.Places.{place_after}
 use Rattle.switch_laws.proofs.Effects.{steady}
@@ -172,9 +173,12 @@ and_false true = refl
 and_false false = refl
 
 keeps_none : (l : SwitchLine) → HasOfferedAll l.end → may_offer l ≡ false
-keeps_none l (inl room) = ap (λ (b : Bool). b && is_some (next_packet l.end.layer).packet) room
-keeps_none l (inr silent) = ap (λ (o : Option Packet). can_offer l.end.line.link && is_some o) silent
-    ∙ and_false (can_offer l.end.line.link)
+keeps_none l all = by (none_to_offer l.end all)
+  where
+    by : (can_offer l.end.line.link ≡ false) ⊎ ((next_packet l.end.layer).packet ≡ None) → may_offer l ≡ false
+    by (inl room) = ap (λ (b : Bool). b && is_some (next_packet l.end.layer).packet) room
+    by (inr silent) = ap (λ (o : Option Packet). can_offer l.end.line.link && is_some o) silent
+        ∙ and_false (can_offer l.end.line.link)
 
 none_offer : (ls : List SwitchLine) → EndsKeepNothingBack ls → list_any may_offer ls ≡ false
 none_offer [] h = refl

@@ -1,13 +1,12 @@
 -- What always holds of a switch holds after each event, in which its own joins alone are relayed.
 use Rattle.std.proofs.Common.{◌≡◌, ℕ, suc, map, ◌<◌, List, [], ◌∷◌, ap, subst, sym, refl, inl, ◌∙◌, arith}
-use Rattle.std.proofs.lemmas.Option.{none-some, same_Some}
+use Rattle.std.proofs.lemmas.Option.{same_Some}
 use Rattle.std.specs.Prelude.{Bool, true, false, if◌then◌else◌, slice_get, Some, zero, length}
-use Rattle.link_timers.specs.declared.role.Role.{Role}
 use Rattle.link_timers.specs.declared.timers.TimerId.{TimerId}
 use Rattle.packet_end.specs.PacketEnd.{PacketEnd, received, after_timer, relinked, KeepsNothingBack}
 use Rattle.packet_end.proofs.Restarting.{restart_keeps}
 use Rattle.address_routes.specs.Routes.{RouteMap}
-use Rattle.switch_lines.specs.Lines.{SwitchLine, role_on}
+use Rattle.switch_lines.specs.Lines.{SwitchLine}
 use Rattle.switch_lines.specs.Switch.{Switch, acted, all_begun, on_frame, timer_runs, on_expiry, on_timer, relink, restart, without_joins}
 use Rattle.switch_lines.specs.Alone.{finished_alone}
 use Rattle.switch_laws.specs.World.{World}
@@ -117,12 +116,6 @@ relink_kept n s t v w h e old =
       frames = all_are_sent.relinks n s w h;
     } in
     subst (λ (x : Switch). RelinkKept n x t) old (subst (λ (x : Switch). RelinkKept n s x) (sym e) k)
-
--- a line at which the switch has a role is there
-pub role_within : (n : ℕ) (r : Role) (ls : List SwitchLine) → role_on (slice_get ls n) ≡ Some r → n < length ls
-role_within n r [] e = absurd (none-some r e)
-role_within zero r (l ∷ ls) e = omega arith
-role_within (suc n) r (l ∷ ls) e = let h = role_within n r ls e in omega (arith, h)
 
 -- ---- an event, call by call
 

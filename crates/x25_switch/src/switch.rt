@@ -2,7 +2,6 @@
 ghost use Rattle.std.specs.Prelude.{◌≡◌, ◌≤◌, ◌<◌, ◌∷◌, [], Some, length, MatchResult, slice_get};
 ghost use Rattle.std.specs.Bool.{OnTrue, OnFalse};
 ghost use Rattle.std.specs.Option.{option_map, option_to_list};
-ghost use Rattle.link_timers.specs.declared.role.Role.TheVariants.{Dte};
 ghost use Rattle.switch_lines.specs.Lines.{joined_at, role_on};
 ghost use Rattle.switch_lines.specs.Making.{made, IsConfig, MadeNot};
 ghost use Rattle.switch_lines.specs.NewJoins.{new_joins};
@@ -141,14 +140,14 @@ impl Switch {
         true
     }
 
-    /// Sets up again the link of a line on which the switch is the DTE (X.25 2.4.4): the calls of the line end, and
-    /// none is joined. While the link is being set up it goes on as it is.
+    /// Gives the link of a line up (X.25 2.4.4): the calls of the line end, and none is joined. As the DTE the switch
+    /// sets the link up again, and while it is being set up it goes on as it is. As the DCE it asks for that by DM.
     ///
     /// Each join of two other lines is as it was, unless one of the two was set up again, since a fifth packet came to
     /// be owed there. After the event nothing waits that the other leg or the link takes. On each line all frames of
     /// the event wait.
     pub fn relink(&mut self, line: usize)
-        requires { role_on (slice_get self.old.lines line) ≡ Some Dte }
+        requires { line < length self.old.lines }
         ensures switch { self.new ≡ relink line self.old }
         ensures others { LeavesOthers line Relinks self.old self.new }
         ensures relayed { HasRelayedAll self.new.lines }

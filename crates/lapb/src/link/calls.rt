@@ -1,5 +1,5 @@
 //! The calls of a link that take frames, packets and expiries.
-ghost use Rattle.std.specs.Prelude.{◌≡◌, ◌≢◌, false, ◌≤◌, ◌<◌, length, drop, Some, IsOk, MatchOption, Err};
+ghost use Rattle.std.specs.Prelude.{◌≡◌, ◌≢◌, false, ◌≤◌, ◌<◌, length, drop, Some, IsOk, OnErr, MatchOption, Err};
 ghost use Rattle.flow_window.specs.Pool.{Holds, Balances, in_use};
 ghost use Rattle.lapb.specs.Machine as machine;
 ghost use Rattle.lapb.specs.Machine.{timing_after};
@@ -203,6 +203,10 @@ impl Link {
 
         // No buffer stays with a packet that was given up.
         ensures tight { length self.new.held ≡ length self.new.link.queue }
+
+        // A packet that is refused changes nothing, in the pool too, if no buffer stayed with one that was given up.
+        ensures kept { length self.old.held ≡ length self.old.link.queue
+            → OnErr result ((self.new ≡ self.old) × (pool.new ≡ pool.old)) }
 
         // For every session that agrees with the link.
         ensures named { (s : Session) → Agrees self.old.link s

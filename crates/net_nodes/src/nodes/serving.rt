@@ -7,7 +7,7 @@ ghost use Rattle.net_events.specs.AtSwitch.{Hears};
 ghost use Rattle.net_events.specs.EventView.{switch_event_of};
 ghost use Rattle.net_nodes.specs.Places.{IsStanding, HearsAt, IsOwnLine, is_switch_at};
 ghost use Rattle.net_nodes.specs.Happening.{Happens};
-ghost use Rattle.net_nodes.specs.Steps.{hearer};
+ghost use Rattle.net_nodes.specs.Steps.{hearer, relink_at};
 
 use crate::nodes::turn::{place_at, serve_at};
 use crate::nodes::{LineSide, Nodes};
@@ -157,26 +157,28 @@ impl<L: Line> Nodes<L> {
         self.act(end, &LineEvent::Expires(timer), answer)
     }
 
-    /// The DTE of a line, a node with users or a switch, gives its link up and sets it up again.
-    pub(super) fn relink(&mut self, line: usize, answer: &mut Answer) -> Result<(), StepFault>
+    /// The end of a role of a line, a node with users or a switch, gives its link up. A DTE sets it up again.
+    pub(super) fn relink(
+        &mut self,
+        line: usize,
+        role: Role,
+        answer: &mut Answer,
+    ) -> Result<(), StepFault>
         requires { IsStanding self.old }
-        ensures { Happens L.service (event_is.Relink line) self.old
+        ensures { Happens L.service (relink_at role line) self.old
             (result_and result (Ok answer.new)) self.new }
     {
         if line >= self.lines.len() {
             return Err(StepFault::NoSuchNode);
         }
-        let place = self.lines[line].dte;
+        let place = place_at(role, &self.lines[line]);
         match self.own_line(line, place) {
             Some(own) => {
                 self.make_switch_room(place, answer)?;
                 self.switch_acts(place, &SwitchEvent::Relinks(own), answer)
             }
             None => {
-                let end = LineSide {
-                    line,
-                    role: Role::Dte,
-                };
+                let end = LineSide { line, role };
                 self.act(end, &LineEvent::Relinks, answer)
             }
         }

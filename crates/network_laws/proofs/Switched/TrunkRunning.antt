@@ -1,5 +1,5 @@
 -- The worked run over a trunk: each step is an event, and what it comes to is computed.
-use Rattle.std.proofs.Common.{◌≡◌, ℕ, zero, suc, Bool, true, false, List, [], ◌∷◌, Option, Some, None, inl, inr, refl, sym, ap, subst, ◌∙◌, arith, true≢false}
+use Rattle.std.proofs.Common.{◌≡◌, ◌<◌, ℕ, zero, suc, Bool, true, false, List, [], ◌∷◌, Option, Some, None, inl, inr, refl, sym, ap, subst, ◌∙◌, arith, true≢false}
 use Rattle.std.specs.Prelude.{◌&&◌, if◌then◌else◌, slice_get}
 use Rattle.std.proofs.lemmas.Option.{none-some, same_Some}
 use Rattle.std.proofs.lemmas.Bool.{and_parts}
@@ -32,8 +32,8 @@ use Rattle.network_laws.proofs.Switched.MadeHeld.{made_any}
 use Rattle.network_laws.proofs.Switched.PromiseAny.{promise_any}
 use Rattle.network_laws.proofs.Switched.RestAny.{rest_any}
 use Rattle.network_laws.specs.Switched.Run.{may_arrive, flies_nothing, is_one, Goes, stays, by_user, by_switch}
-use Rattle.network_laws.specs.Switched.TrunkRun.{TwoSwitches, Act, First, Second, FromFirst, ToFirst, FromSecond, ToSecond, Upward, Downward, Restarts, Relinks, network, at_first, at_second, at_above, at_below, from_first, to_first, from_second, to_second, upward, downward, after_act, after_acts, are_above, are_below, may_act, may_all, with_above, with_below}
-use Rattle.network_laws.specs.Switched.TrunkRun.{parameters, plan, new_host, new_line, routes_above, routes_below, new_above, new_below, host, start, calling, saying, taking, restarting, placed, forwarded, said, rested, restarted, is_at_rest, is_confirmed, is_on_its_way, have_carried, comes_to_rest, TrunkRunLaw, calling_back, answering, placed_back, forwarded_back, answered, has_answered}
+use Rattle.network_laws.specs.Switched.TrunkRun.{TwoSwitches, Act, First, Second, FromFirst, ToFirst, FromSecond, ToSecond, Upward, Downward, Restarts, Relinks, GivesUp, network, at_first, at_second, at_above, at_below, from_first, to_first, from_second, to_second, upward, downward, after_act, after_acts, are_above, are_below, may_act, may_all, with_above, with_below}
+use Rattle.network_laws.specs.Switched.TrunkRun.{parameters, plan, new_host, new_line, routes_above, routes_below, new_above, new_below, host, start, calling, saying, taking, restarting, placed, forwarded, said, rested, restarted, is_at_rest, is_confirmed, is_on_its_way, have_carried, comes_to_rest, TrunkRunLaw, calling_back, answering, placed_back, forwarded_back, answered, giving_up, given_up, has_answered}
 use Rattle.network_laws.proofs.Switched.RunSteps.{hears_first, hears_second, zero_one, one_zero, own_apart, are_put, for_it, first_octets, left_so, head, HasTwo, has_two, line_served, two_served, heard_lines, noted_lines, switch_then, joins_then, CallHeard, call_heard, sent_in_order, sent_by, then_goes, user_rests, one_rests, not_both, any_after}
 
 -- ---- a host has its turn
@@ -186,7 +186,10 @@ act_goes Downward t may = downward_goes t t.trunk.from_dce refl may
 act_goes Restarts t may = by_switch at_switch.Restarts 3 (below_turn at_switch.Restarts no_flights no_flights t tt (has_two Dce Dte t.below may) refl refl) stays
 act_goes Relinks t may =
     let two = has_two Dce Dte t.below may in
-    by_switch (at_switch.Relinks 1) 3 (below_turn (at_switch.Relinks 1) t.far t.trunk t two.second two refl refl) stays
+    by_switch (at_switch.Relinks 1) 3 (below_turn (at_switch.Relinks 1) t.far t.trunk t (subst (λ (n : ℕ). 1 < n) (sym two.count) (omega arith)) two refl refl) stays
+act_goes GivesUp t may =
+    let two = has_two Dce Dce t.above may in
+    by_switch (at_switch.Relinks 1) 2 (above_turn (at_switch.Relinks 1) t.near t.trunk t (subst (λ (n : ℕ). 1 < n) (sym two.count) (omega arith)) two refl refl) stays
 
 all_go : (acts : List Act) (t : TwoSwitches) → may_all acts t ≡ true → Goes (network t) (network (after_acts acts t))
 all_go [] t may = stays
@@ -580,12 +583,27 @@ may_go_up : may_act Upward up_trunk ≡ true
 unfolding offers.all_offered offers.finished relaying.most_moves
 may_go_up = refl
 
-computed_back : ends has_answered answering at_near ≡ true
+abbrev when_answered : TwoSwitches → Bool
+when_answered t = has_answered false t && ends (has_answered true) giving_up t
+
+computed_back : ends when_answered answering at_near ≡ true
 unfolding offers.all_offered offers.finished relaying.most_moves
 computed_back = refl
 
-answering_ends : Ends has_answered answering at_near
-answering_ends = ends_so has_answered answering at_near computed_back
+answering_ends : Ends when_answered answering at_near
+answering_ends = ends_so when_answered answering at_near computed_back
+
+abbrev answered_so : TwoSwitches
+answered_so = after_acts answering at_near
+
+answered_tests : (has_answered false answered_so ≡ true) × (ends (has_answered true) giving_up answered_so ≡ true)
+answered_tests = and_parts (has_answered false answered_so) (ends (has_answered true) giving_up answered_so) answering_ends.is_so
+
+giving_up_ends : Ends (has_answered true) giving_up answered_so
+giving_up_ends = ends_so (has_answered true) giving_up answered_so answered_tests.1
+
+answered_is : answered ≡ answered_so
+answered_is = ap (λ (t : TwoSwitches). after_acts answering t) forwarded_back_is
 
 goes_back : Goes (network start) (network answered)
 goes_back =
@@ -594,8 +612,14 @@ goes_back =
     (then_goes (act_goes Upward (after_act FromSecond placed_back) (ap (λ (t : TwoSwitches). may_act Upward t) to_up_trunk ∙ may_go_up))
     (all_go answering forwarded_back (ap (λ (t : TwoSwitches). may_all answering t) forwarded_back_is ∙ answering_ends.may))))
 
-answered_then : has_answered answered ≡ true
-answered_then = ap (λ (t : TwoSwitches). has_answered (after_acts answering t)) forwarded_back_is ∙ answering_ends.is_so
+answered_then : has_answered false answered ≡ true
+answered_then = ap (λ (t : TwoSwitches). has_answered false t) answered_is ∙ answered_tests.0
+
+gives_up : Goes (network answered) (network given_up)
+gives_up = all_go giving_up answered (ap (λ (t : TwoSwitches). may_all giving_up t) answered_is ∙ giving_up_ends.may)
+
+over_then : has_answered true given_up ≡ true
+over_then = ap (λ (t : TwoSwitches). has_answered true (after_acts giving_up t)) answered_is ∙ giving_up_ends.is_so
 
 -- ---- all nodes are at rest
 
@@ -656,5 +680,7 @@ trunk_run_holds = record {
   holds = promise_any lossless_service (network restarted) (any_after goes_on any_rested) tt;
   goes_back = goes_back;
   has_answered_then = answered_then;
-  holds_back = promise_any lossless_service (network answered) (any_after goes_back any_start) tt;
+  gives_up = gives_up;
+  is_over = over_then;
+  holds_back = promise_any lossless_service (network given_up) (any_after gives_up (any_after goes_back any_start)) tt;
 }

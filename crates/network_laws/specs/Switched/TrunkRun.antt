@@ -2,7 +2,8 @@
 -- set up, the trunk's by its DTE, the switch below. The first host calls the second one. A message goes over with D =
 -- 1. It is confirmed when the second host took it, and not before. All is at rest. Then the switch below restarts:
 -- both ends of the call are cleared. It sets the trunk's link up anew, and all is at rest again. And from the making
--- on the other way: the second host calls the first one, up the trunk.
+-- on the other way: the second host calls the first one, up the trunk. Then the switch above gives the trunk up, of
+-- which it is the DCE: both ends of the call are cleared, and all is at rest again.
 use Rattle.std.specs.Prelude.{◌≡◌, ℕ, Bool, true, false, ◌&&◌, ◌==◌, not, if◌then◌else◌, List, [], ◌∷◌, length, map}
 use Rattle.std.specs.FinMap.{empty, insert}
 use Rattle.link_timers.specs.declared.role.Role.TheVariants.{Dte, Dce}
@@ -140,9 +141,10 @@ pub data Act : Type 0 where
   ToSecond : Act
   Upward : Act
   Downward : Act
-  -- the switch below restarts, or sets up the link of the trunk anew
+  -- the switch below restarts, or sets up the link of the trunk anew; the one above gives it up
   Restarts : Act
   Relinks : Act
+  GivesUp : Act
 
 abbrev pub after_act : Act → TwoSwitches → TwoSwitches
 after_act (First event) t = at_first event t.near t
@@ -155,6 +157,7 @@ after_act Upward t = upward t.trunk.from_dte t
 after_act Downward t = downward t.trunk.from_dce t
 after_act Restarts t = at_below at_switch.Restarts no_flights no_flights t
 after_act Relinks t = at_below (at_switch.Relinks 1) t.far t.trunk t
+after_act GivesUp t = at_above (at_switch.Relinks 1) t.near t.trunk t
 
 abbrev pub after_acts : List Act → TwoSwitches → TwoSwitches
 after_acts [] t = t
@@ -176,6 +179,7 @@ may_act Upward t = may_arrive t.trunk.from_dte && are_above t
 may_act Downward t = may_arrive t.trunk.from_dce && are_below t
 may_act Restarts t = are_below t
 may_act Relinks t = are_below t
+may_act GivesUp t = are_above t
 may_act act t = true
 
 abbrev pub may_all : List Act → TwoSwitches → Bool
@@ -276,6 +280,10 @@ calling_back = pass (pass (passes (Second (Calls (1 ∷ []) []) ∷ [])))
 abbrev pub answering : List Act
 answering = passes (First (Asks 1 Accept) ∷ passes [])
 
+-- the switch above gives the trunk up
+abbrev pub giving_up : List Act
+giving_up = GivesUp ∷ passes (passes [])
+
 abbrev pub placed_back : TwoSwitches
 placed_back = after_acts calling_back start
 
@@ -284,6 +292,9 @@ forwarded_back = after_act Upward (after_act FromSecond placed_back)
 
 abbrev pub answered : TwoSwitches
 answered = after_acts answering forwarded_back
+
+abbrev pub given_up : TwoSwitches
+given_up = after_acts giving_up answered
 
 -- ---- what it comes to
 
@@ -318,23 +329,27 @@ is_untaken records = false
 abbrev pub is_on_its_way : TwoSwitches → Bool
 is_on_its_way t = not (is_confirmed t) && is_one t.register.pairs && is_untaken t.register.records
 
+-- both ends of a call are over, or both open
+abbrev pub are_over : (over : Bool) → (r q : RecordValue) → Bool
+are_over over r q = if over then r.closed && q.closed else not r.closed && not q.closed
+
 -- it was taken, on a call that is open or over
 abbrev pub have_carried : (over : Bool) → List RecordValue → Bool
 have_carried over (r ∷ q ∷ []) =
     went_down r.path && is_packet r.sent.packets (72 ∷ 73 ∷ []) && is_packet q.taken.packets (72 ∷ 73 ∷ [])
-    && (if over then r.closed && q.closed else not r.closed && not q.closed)
+    && are_over over r q
 have_carried over records = false
 
 abbrev pub comes_to_rest : (over : Bool) → TwoSwitches → Bool
 comes_to_rest over t = is_at_rest t && is_one t.register.pairs && have_carried over t.register.records
 
--- the call up the trunk is open
-abbrev pub stand_upward : List RecordValue → Bool
-stand_upward (r ∷ q ∷ []) = went_up r.path && not r.closed && not q.closed
-stand_upward records = false
+-- the call up the trunk is open or over
+abbrev pub went_upward : (over : Bool) → List RecordValue → Bool
+went_upward over (r ∷ q ∷ []) = went_up r.path && are_over over r q
+went_upward over records = false
 
-abbrev pub has_answered : TwoSwitches → Bool
-has_answered t = is_at_rest t && is_one t.register.pairs && stand_upward t.register.records
+abbrev pub has_answered : (over : Bool) → TwoSwitches → Bool
+has_answered over t = is_at_rest t && is_one t.register.pairs && went_upward over t.register.records
 
 -- the network is made as planned, and goes on so by events of which the law speaks
 pub record TrunkRunLaw : Type 0 where
@@ -355,5 +370,8 @@ pub record TrunkRunLaw : Type 0 where
   pub holds : NetworkPromise (network restarted)
   -- and so with the call the other way
   pub goes_back : Goes (network start) (network answered)
-  pub has_answered_then : has_answered answered ≡ true
-  pub holds_back : NetworkPromise (network answered)
+  pub has_answered_then : has_answered false answered ≡ true
+  -- until the trunk is given up
+  pub gives_up : Goes (network answered) (network given_up)
+  pub is_over : has_answered true given_up ≡ true
+  pub holds_back : NetworkPromise (network given_up)

@@ -44,7 +44,7 @@ use Rattle.x25_pad.specs.Pad as pad
 use Rattle.x25_pad.specs.Pad.{PadState, acted, at_port, holder, first_free, all_heard}
 use Rattle.line_nodes.specs.PadWriting.{write_of, parts_to}
 use Rattle.node_laws.specs.Pads.Holds.{IsOn}
-use Rattle.node_laws.specs.Pads.Happening.{PadEvent, HasKey, HasBreak, HasIdleTime, HasPrinting, HasFrame, HasExpiry, HasRelink, HasRestart, HasTicks, after_event, writes_after}
+use Rattle.node_laws.specs.Pads.Happening.{PadEvent, HasKey, HasBreak, HasIdleTime, HasPrinting, HasLeaving, HasArrival, HasFrame, HasExpiry, HasRelink, HasRestart, HasTicks, after_event, writes_after}
 use Rattle.node_laws.proofs.Pads.Asking.{noted}
 use Rattle.node_laws.proofs.Pads.Books.{side_changed, slot_cases, slot_here, slot_records, side_record, side_pairs}
 use Rattle.node_laws.proofs.Pads.Ports.{found_at, changed_port, connected_by, cleared_by, reset_by, changed_for, changed_on, heard_connected, heard_cleared, heard_reset, heard_none, heard_more}
@@ -322,6 +322,8 @@ event_from (HasBreak number) p =
 event_from (HasPrinting number) p =
     terminal_from number port.after_print
     (λ a c h. inl (next_call a.port.call (port.taken_of a) (port.with_terminal (calls.without_text a.port.terminal) a.port) a.line c h)) p
+event_from (HasLeaving number) p = terminal_from number port.after_leaving (λ a c h. absurd (true≢false (sym h))) p
+event_from (HasArrival number) p = terminal_from number port.after_arrival (λ a c h. inl h) p
 event_from (HasIdleTime number) p = idle_from number (pad.runs_idle_timer number p) p
 event_from (HasFrame octets) p = line_from (pad.with_frame p octets)
 event_from (HasExpiry (Idle number)) p = idle_from number (pad.runs_idle_timer number p) p
@@ -486,6 +488,8 @@ stays_on event role p b c n j q present on = by event present on
     by (HasBreak number) present on = noted_so (HasBreak number) present on
     by (HasIdleTime number) present on = noted_so (HasIdleTime number) present on
     by (HasPrinting number) present on = noted_so (HasPrinting number) present on
+    by (HasLeaving number) present on = noted_so (HasLeaving number) present on
+    by (HasArrival number) present on = noted_so (HasArrival number) present on
     by (HasFrame octets) present on = noted_so (HasFrame octets) present on
     by (HasExpiry id) present on = noted_so (HasExpiry id) present on
     by HasRelink present on = noted_so HasRelink present on

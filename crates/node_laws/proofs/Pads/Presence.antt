@@ -42,7 +42,7 @@ use Rattle.x25_pad.specs.Pad as pad
 use Rattle.x25_pad.specs.Pad.{PadState, all_heard, changed_at, at_port, acted, holder, print_taken, print_text, key_taken, break_taken}
 use Rattle.node_laws.specs.Pads.Standing.{drained}
 use Rattle.node_laws.specs.Pads.Happening.{PadEvent, HasKey, HasBreak, HasIdleTime, HasPrinting, HasLeaving, HasArrival, HasFrame, HasExpiry, HasRelink, HasRestart, HasTicks, after_event}
-use Rattle.node_laws.specs.Pads.Presence.{absent_port, IsAbsentAt, LeavesLaw, LeavesAbsent, StaysAbsentLaw, IsDeadAt, AbsentLaw, ArrivesLaw, PresentLaw, begun_in, begun_by, CallLaw, HasArrived, arrives, goes_on, ShownLaw}
+use Rattle.node_laws.specs.Pads.Presence.{absent_port, IsAbsentAt, LeavesLaw, LeavesAbsent, StaysAbsentLaw, IsCutOffAt, AbsentLaw, ArrivesLaw, PresentLaw, begun_in, begun_by, CallLaw, HasArrived, arrives, goes_on, ShownLaw}
 use Rattle.node_laws.proofs.Pads.Ports.{found_at, changed_port, changed_for, changed_on, connected_by, cleared_by, reset_by, heard_connected, heard_cleared, heard_reset, heard_none, heard_more}
 use Rattle.node_laws.proofs.Pads.Owning.{own_packet, others_stay, changed_other, learns_own}
 
@@ -162,8 +162,8 @@ seen : {A : Type 0} (f : AtLine → A) (none : A) (p : PadState) (number : ℕ) 
     → option_map_or (λ found. f (record { port = found; line = p.line })) (slice_get p.ports number) none ≡ f (record { port = q; line = p.line })
 seen f none p number q at = ap (λ (o : Option PortState). option_map_or (λ found. f (record { port = found; line = p.line })) o none) at
 
-pub is_dead : AbsentLaw
-is_dead p number params at = record {
+pub is_cut_off : AbsentLaw
+is_cut_off p number params at = record {
   nothing_taken = seen port.taken_of None (pad.begun p) number (absent_port params) at;
   nothing_shown = seen port.printed [] (pad.begun p) number (absent_port params) at;
   keys = λ octet. seen (λ a. port.is_taken (port.key_input octet a).answer) false (pad.begun p) number (absent_port params) at;

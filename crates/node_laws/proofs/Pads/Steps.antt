@@ -46,7 +46,7 @@ use Rattle.x25_pad.specs.Pad as pad
 use Rattle.x25_pad.specs.Pad.{PadState, acted, at_port}
 use Rattle.line_nodes.specs.PadWriting.{write_of, parts_to}
 use Rattle.node_laws.specs.Pads.Holds.{node_at}
-use Rattle.node_laws.specs.Pads.Happening.{PadEvent, HasKey, HasBreak, HasIdleTime, HasPrinting, HasFrame, HasExpiry, HasRelink, HasRestart, HasTicks, after_event, writes_after, is_record}
+use Rattle.node_laws.specs.Pads.Happening.{PadEvent, HasKey, HasBreak, HasIdleTime, HasPrinting, HasLeaving, HasArrival, HasFrame, HasExpiry, HasRelink, HasRestart, HasTicks, after_event, writes_after, is_record}
 use Rattle.node_laws.proofs.Pads.Asking.{noted, noted_append}
 use Rattle.node_laws.proofs.Pads.Books.{side_changed, change_of, change_keeps, slot_records, slot_node, side_record, side_pairs}
 use Rattle.node_laws.proofs.Pads.Lists.{get_before, still_none}
@@ -270,6 +270,8 @@ event_adds (HasKey number octet) p nothing =
 event_adds (HasBreak number) p nothing =
     terminal_adds number port.after_break (λ a. break_adds (port.break_answer_of a) (record a { port = port.with_terminal (breaks.after_break (condition a.port.call a.line) a.port.terminal) a.port })) p
 event_adds (HasPrinting number) p nothing = terminal_adds number port.after_print print_adds p
+event_adds (HasLeaving number) p nothing = terminal_adds number port.after_leaving (λ a. clears_adds a.port.call a) p
+event_adds (HasArrival number) p nothing = terminal_adds number port.after_arrival (λ a. adds_none a.line.notes) p
 event_adds (HasIdleTime number) p nothing = idle_adds number (pad.runs_idle_timer number p) p nothing
 event_adds (HasFrame octets) p nothing = line_adds (pad.with_frame p octets)
 event_adds (HasExpiry (Idle number)) p nothing = idle_adds number (pad.runs_idle_timer number p) p nothing
@@ -449,6 +451,8 @@ module _ (steps : ℕ → List Step) (role : Role) (b : Book) (unheld : (n : ℕ
   event_steps (HasBreak number) p nothing = added_steps (HasBreak number) p nothing
   event_steps (HasIdleTime number) p nothing = added_steps (HasIdleTime number) p nothing
   event_steps (HasPrinting number) p nothing = added_steps (HasPrinting number) p nothing
+  event_steps (HasLeaving number) p nothing = added_steps (HasLeaving number) p nothing
+  event_steps (HasArrival number) p nothing = added_steps (HasArrival number) p nothing
   event_steps (HasFrame octets) p nothing = added_steps (HasFrame octets) p nothing
   event_steps (HasExpiry id) p nothing = added_steps (HasExpiry id) p nothing
   event_steps HasRelink p nothing = added_steps HasRelink p nothing

@@ -18,7 +18,7 @@ use Rattle.x25_pad.specs.Pad as pad
 use Rattle.x25_pad.specs.Pad.{PadState}
 use Rattle.x25_pad.specs.declared.config.PadConfig.{PadConfig}
 use Rattle.node_laws.specs.Pads.Holds.{IsOn}
-use Rattle.node_laws.specs.Pads.Happening.{PadEvent, HasKey, HasBreak, HasIdleTime, HasPrinting, HasFrame, HasExpiry, HasRelink, HasRestart, HasTicks, after_event, is_record}
+use Rattle.node_laws.specs.Pads.Happening.{PadEvent, HasKey, HasBreak, HasIdleTime, HasPrinting, HasLeaving, HasArrival, HasFrame, HasExpiry, HasRelink, HasRestart, HasTicks, after_event, is_record}
 use Rattle.node_laws.specs.Pads.Courses.{Here, Course, happened}
 use Rattle.node_laws.specs.Pads.EventCourses.{IsElsewhere, CourseOf, starts, continues, elsewhere}
 use Rattle.node_laws.specs.Pads.Typed.{TypedStep, IsInput, IsTyped, AreRising, steps_in, TypedLaw}
@@ -84,6 +84,8 @@ input_is (HasExpiry (Idle number)) p i at =
 input_is (HasExpiry id) p i at = absurd (none-some i at)
 input_is (HasBreak number) p i at = absurd (none-some i at)
 input_is (HasPrinting number) p i at = absurd (none-some i at)
+input_is (HasLeaving number) p i at = absurd (none-some i at)
+input_is (HasArrival number) p i at = absurd (none-some i at)
 input_is (HasFrame octets) p i at = absurd (none-some i at)
 input_is HasRelink p i at = absurd (none-some i at)
 input_is HasRestart p i at = absurd (none-some i at)

@@ -36,14 +36,14 @@ StaysAbsentLaw = (event : PadEvent) (p : PadState) (number : ℕ) (params : List
     → IsAbsentAt number params p → IsAbsentAt number params (after_event event p)
 
 -- it is shown nothing, and its keys and breaks are dropped
-pub record IsDeadAt (number : ℕ) (p : PadState) : Type 0 where
+pub record IsCutOffAt (number : ℕ) (p : PadState) : Type 0 where
   pub nothing_taken : print_taken number p ≡ None
   pub nothing_shown : print_text number p ≡ []
   pub keys : (octet : ℕ) → key_taken number octet p ≡ false
   pub breaks : break_taken number p ≡ false
 
 abbrev pub AbsentLaw : Type 0
-AbsentLaw = (p : PadState) (number : ℕ) (params : List ℕ) → IsAbsentAt number params p → IsDeadAt number p
+AbsentLaw = (p : PadState) (number : ℕ) (params : List ℕ) → IsAbsentAt number params p → IsCutOffAt number p
 
 -- ---- a terminal that arrives
 

@@ -6,12 +6,14 @@ use Rattle.reset_restart.specs.Restart.{restart_step}
 use Rattle.call_states.specs.declared.table.UserAct.{UserAct}
 use Rattle.call_states.specs.declared.table.UserAct.TheVariants as acts
 use Rattle.data_transfer.specs.Packets.Received.{Whole}
-use Rattle.packet_channel.specs.Channel.{Channel, Request, requested}
+use Rattle.packet_channel.specs.Channel.{Channel, Step, Request, requested}
 use Rattle.packet_layer.specs.Layer.{Layer, channel_of, after_step, on_found, on_packet, request, placing, placed_on, refusal_at}
 use Rattle.packet_laws.specs.Tables.States.{restart_state, type_of, channel_named, body_read, packet_asked}
 use Rattle.packet_laws.specs.Tables.Rows.{act_row, call_row, reset_row, reset_row_of}
 use Rattle.packet_laws.specs.Tables.Follows.{FollowsCall, FollowsReset, FollowsRestart}
 use Rattle.packet_laws.specs.Tables.Clauses.{CallPackets, DataPackets, ResetPackets, CallsPlaced, CallActs, ResetActs, RestartPackets, RestartUnreadable, ActsByCallTable}
+use Rattle.packet_laws.specs.Tables.Notes.{TellsTransfer}
+use Rattle.packet_laws.proofs.Tables.Notes.{transfer_tells}
 use Rattle.packet_laws.proofs.Tables.Channels.{of_some, comes_step, step_by}
 use Rattle.packet_laws.proofs.Tables.Calls.{of_followed, followed}
 use Rattle.packet_laws.proofs.Tables.Resets.{reset_at, left_at, of_left, Heeds}
@@ -28,7 +30,10 @@ reset_packets l r ch row at e =
 
 pub data_packets : DataPackets
 data_packets l p ch row at none e n =
-    (step_by l.role l.flow ch (Whole p), comes_step l (Whole p) ch at, of_left (reset_row l.role ch (Whole p)) (call_row l.role ch (Whole p)) row (λ x. Heeds l.role l.flow p.channel ch p.body x) none e n (left_at l.role l.flow ch p.channel p.body))
+    let done = step_by l.role l.flow ch (Whole p) in
+    let heeds = of_left (reset_row l.role ch (Whole p)) (call_row l.role ch (Whole p)) row (λ x. Heeds l.role l.flow p.channel ch p.body x) none e n (left_at l.role l.flow ch p.channel p.body) in
+    let tells = subst (λ (st : Step). TellsTransfer l.flow p.channel ch.traffic p.body st) (sym heeds.0) (transfer_tells l.role l.flow p.channel ch p.body) in
+    (done, comes_step l (Whole p) ch at, (heeds.0, heeds.1, tells))
 
 found_request : (l : Layer) (c : ℕ) (ch : Channel) (r : Request) → channel_of l c ≡ Some ch → request l c r ≡ after_step l c (requested l.role l.flow ch r)
 found_request l c ch r found = ap (λ (o : Option Channel). on_found l c (λ x. requested l.role l.flow x r) o) found

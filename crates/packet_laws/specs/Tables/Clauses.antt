@@ -21,6 +21,7 @@ use Rattle.packet_layer.specs.Layer.{request, request_refusal}
 use Rattle.packet_laws.specs.Tables.States.{call_state, restart_state, type_of, channel_named, body_read, call_act}
 use Rattle.packet_laws.specs.Tables.States.{packet_asked}
 use Rattle.packet_laws.specs.Tables.Rows.{act_row, call_row, reset_row, reset_row_of}
+use Rattle.packet_laws.specs.Tables.Notes.{TellsTransfer}
 use Rattle.packet_laws.specs.Tables.Follows.{FollowsCall, FollowsReset, FollowsRestart}
 
 -- ---- packets on a channel
@@ -52,13 +53,15 @@ CallPackets =
     → reset_row l.role ch r ≡ None → call_row l.role ch r ≡ Some row → row.note ≢ InDataTransfer
     → Steps l r (λ done. FollowsCall l.role (channel_named r) (body_read r) ch row done)
 
--- or, where that row leaves the packet to data transfer, numbers and interrupts decide, in the state of the row
+-- or, where that row leaves the packet to data transfer, numbers and interrupts decide, in the state of the row. It is
+-- told which packets are covered further, that the interrupt is confirmed, and a reset by a procedure error
 abbrev pub DataPackets : Type 0
 DataPackets =
     (l : Layer) (p : Packet) (ch : Channel) (row : CallStep) → ComesOn l (Whole p) ch
     → reset_row l.role ch (Whole p) ≡ None → call_row l.role ch (Whole p) ≡ Some row → row.note ≡ InDataTransfer
     → Steps l (Whole p) (λ done. (done ≡ after_heard l.role p.channel ch (hears l.flow ch.traffic p.body))
-    × (call_state l.role done.channel.state ≡ row.state))
+    × (call_state l.role done.channel.state ≡ row.state)
+    × TellsTransfer l.flow p.channel ch.traffic p.body done)
 
 -- ---- what the user does
 

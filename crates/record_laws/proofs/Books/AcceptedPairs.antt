@@ -15,14 +15,10 @@ use Rattle.record_laws.specs.Books.AcceptedCalls.{CallUse, epochs_at, was_accept
 use Rattle.record_laws.proofs.Books.Basics.{get_there, map_at}
 use Rattle.record_laws.proofs.Books.Invariant.{EndView, ChannelUse, Kind, Tag, IsLive, IsRight, book_parts, answered_at}
 use Rattle.record_laws.proofs.Books.Cancelling.{caller_not_cancelled, callee_not_cancelled}
-use Rattle.record_laws.proofs.Books.Counting.{use_epochs}
+use Rattle.record_laws.proofs.Books.Counting.{use_of, use_epochs}
 use Rattle.record_laws.proofs.Books.EndSteps.{views_of}
 use Rattle.record_laws.proofs.Books.Lines.{KeptIn, Laws, all_kept, start_counts}
 use Rattle.record_laws.proofs.Books.Starting.{start_kept}
-
--- the use of a record
-abbrev use_of : Role → ChannelUse → CallUse
-use_of role k = record { role = role; session = k.session; channel = k.channel; restart = k.restart; use_ = k.use_ }
 
 abbrev channel_use : CallUse → ChannelUse
 channel_use u = record { session = u.session; channel = u.channel; restart = u.restart; use_ = u.use_ }

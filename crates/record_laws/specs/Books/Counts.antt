@@ -3,7 +3,7 @@
 -- released.
 use Rattle.std.specs.Prelude.{◌≡◌, ℕ, ◌<◌, ◌≤◌, ◌⊎◌, Bool, List, [], ◌∷◌, ◌++◌, length, map, slice_get, Some}
 use Rattle.link_timers.specs.declared.role.Role.{Role}
-use Rattle.epochs.specs.Epoch.{SentEpoch, TakenEpoch}
+use Rattle.epochs.specs.Epoch.{SentEpoch, TakenEpoch, nothing_sent, nothing_taken}
 use Rattle.data_transfer.specs.Flow.{modulus}
 use Rattle.data_transfer.specs.declared.flow.Flow.{Flow}
 use Rattle.packet_laws.specs.History.{Epoch, empty_epoch}
@@ -27,11 +27,13 @@ pub record IsTakenIn (e : Epoch) (t : TakenEpoch) : Type 0 where
   pub released : t.released ≡ e.released
   pub within : t.released ≤ length t.packets
 
--- the epochs of a record are these, in order
+-- the epochs of a record are these, in order, and they are all: in any further one nothing passed
 pub record HasEpochs (epochs : ℕ → Epoch) (r : RecordValue) : Type 0 where
   pub sent : (g : ℕ) (s : SentEpoch) → slice_get (r.sent_before ++ r.sent ∷ []) g ≡ Some s → IsSentIn (epochs g) s
   pub taken : (g : ℕ) (t : TakenEpoch) → slice_get (r.taken_before ++ r.taken ∷ []) g ≡ Some t
       → IsTakenIn (epochs g) t
+  pub all_sent : (g : ℕ) → length (r.sent_before ++ r.sent ∷ []) ≤ g → IsSentIn (epochs g) nothing_sent
+  pub all_taken : (g : ℕ) → length (r.taken_before ++ r.taken ∷ []) ≤ g → IsTakenIn (epochs g) nothing_taken
 
 -- they are those of its end in one use of a channel, from one clear to the next; a call that was placed and met one
 -- that came in has no use of its own, and nothing passed on it

@@ -1,4 +1,5 @@
 use Rattle.packet_laws.proofs.Tables.Holds.{call_packets, data_packets, calls_placed, call_acts, reset_packets, reset_acts, restart_packets, restart_unreadable}
+use Rattle.packet_laws.proofs.Tables.Notes.{session_notes, expiry_notes}
 use Rattle.packet_laws.proofs.table.tables_law.Goals as goal
 
 pub returns-clause-reset_packets : goal.returns-clause-reset_packets
@@ -24,3 +25,9 @@ returns-clause-restart_packets c = restart_packets
 
 pub returns-clause-restart_unreadable : goal.returns-clause-restart_unreadable
 returns-clause-restart_unreadable c = restart_unreadable
+
+pub returns-clause-session_notes : goal.returns-clause-session_notes
+returns-clause-session_notes c = session_notes
+
+pub returns-clause-expiry_notes : goal.returns-clause-expiry_notes
+returns-clause-expiry_notes c = expiry_notes

@@ -1,14 +1,13 @@
 use Rattle.std.proofs.Common.{Ok, ◌<◌, length, slice_get, refl, sym, ap, ◌∙◌, arith}
 use Rattle.std.specs.Result.{result_and}
-use Rattle.link_timers.specs.declared.role.Role.TheVariants.{Dte}
-use Rattle.net_events.specs.declared.event.Event.TheVariants.{Relink}
 use Rattle.net_events.specs.Network.{Network, NetLine}
 use Rattle.net_events.proofs.Lists.{there}
 use Rattle.net_nodes.specs.Places.{UserStands, IsOwnLine}
 use Rattle.net_nodes.specs.Happening.{Happens}
+use Rattle.net_nodes.specs.Steps.{relink_at}
 use Rattle.net_nodes.proofs.UserNodeEvents.{can_relink, relinked}
 use Rattle.net_nodes.proofs.SwitchTurns as at_switch
-use Rattle.net_nodes.proofs.SwitchTurns.{no_own_line, own_line_there, own_dte, can_switch, answered}
+use Rattle.net_nodes.proofs.SwitchTurns.{no_own_line, own_line_there, own_within, can_switch, answered}
 use Rattle.net_nodes.proofs.nodes.Nodes.relink.Goals as goal
 
 pub switch_acts-requires-clause-can : goal.switch_acts-requires-clause-can
@@ -17,13 +16,13 @@ switch_acts-requires-clause-can g c =
     let lines = c.self.inside.lines.items in
     let h : c.args.line < length lines = omega (arith, c.if-line-len.false, c.len.ensures) in
     let here = ap (λ (s : Network). slice_get s.lines c.args.line) (sym c.self.view_is) ∙ there lines c.args.line _ c.index.result.now h c.index.ensures in
-    let o : IsOwnLine c.args.line c.behind-self.inside.dte c.in-Some.own Dte s
-    = own_line_there c.args.line c.behind-self.inside.dte c.in-Some.own c.index.result.now Dte s c.requires here (ap (λ (l : NetLine). l.dte) c.behind-self.view_is) (sym c.own_line.ensures ∙ c.in-Some.is) in
+    let o : IsOwnLine c.args.line c.place_at-place.result c.in-Some.own c.args.role s
+    = own_line_there c.args.line c.place_at-place.result c.in-Some.own c.index.result.now c.args.role s c.requires here c.place_at-place.ensures (sym c.own_line.ensures ∙ c.in-Some.is) in
     record {
       switch = o.node;
       there = o.node_there;
-      has_line = own_dte c.in-Some.own c.args.line c.behind-self.inside.dte s o;
-      can_put = can_switch c.behind-self.inside.dte s o.node s.lines c.make_switch_room.new.answer.frames.items _ c.requires o.node_there refl
+      has_line = own_within c.place_at-place.result c.in-Some.own c.args.line o.node s c.requires o.node_there o.own_line;
+      can_put = can_switch c.place_at-place.result s o.node s.lines c.make_switch_room.new.answer.frames.items _ c.requires o.node_there refl
           (c.in_ok-make_switch_room-in-Some.ensures.room o.node o.node_there);
     }
 
@@ -33,10 +32,10 @@ returns-in_ok-make_switch_room-in-Some g c =
     let lines = c.self.inside.lines.items in
     let h : c.args.line < length lines = omega (arith, c.if-line-len.false, c.len.ensures) in
     let here = ap (λ (s : Network). slice_get s.lines c.args.line) (sym c.self.view_is) ∙ there lines c.args.line _ c.index.result.now h c.index.ensures in
-    let o : IsOwnLine c.args.line c.behind-self.inside.dte c.in-Some.own Dte s
-    = own_line_there c.args.line c.behind-self.inside.dte c.in-Some.own c.index.result.now Dte s c.requires here (ap (λ (l : NetLine). l.dte) c.behind-self.view_is) (sym c.own_line.ensures ∙ c.in-Some.is) in
-    answered c.switch_acts.result c.switch_acts.new.answer (λ x. Happens g.L.Line.service (Relink c.args.line) s x c.switch_acts.new.self) (c.switch_acts.ensures o.node o.node_there)
-    (λ w. at_switch.relinked g.L.Line.service c.behind-self.inside.dte c.args.line c.in-Some.own s c.switch_acts.new.answer c.switch_acts.new.self o w)
+    let o : IsOwnLine c.args.line c.place_at-place.result c.in-Some.own c.args.role s
+    = own_line_there c.args.line c.place_at-place.result c.in-Some.own c.index.result.now c.args.role s c.requires here c.place_at-place.ensures (sym c.own_line.ensures ∙ c.in-Some.is) in
+    answered c.switch_acts.result c.switch_acts.new.answer (λ x. Happens g.L.Line.service (relink_at c.args.role c.args.line) s x c.switch_acts.new.self) (c.switch_acts.ensures o.node o.node_there)
+    (λ w. at_switch.relinked g.L.Line.service c.place_at-place.result c.args.line c.in-Some.own c.args.role s c.switch_acts.new.answer c.switch_acts.new.self c.requires o w)
 
 pub act-requires-clause-can : goal.act-requires-clause-can
 act-requires-clause-can g c =
@@ -44,8 +43,8 @@ act-requires-clause-can g c =
     let lines = c.self.inside.lines.items in
     let h : c.args.line < length lines = omega (arith, c.if-line-len.false, c.len.ensures) in
     let here = ap (λ (s : Network). slice_get s.lines c.args.line) (sym c.self.view_is) ∙ there lines c.args.line _ c.index.result.now h c.index.ensures in
-    can_relink c.args.line s c.requires c.index.result.now here
-    (no_own_line c.args.line c.behind-self.inside.dte c.index.result.now Dte s c.requires here (ap (λ (l : NetLine). l.dte) c.behind-self.view_is) (sym c.own_line.ensures ∙ c.in-None.is))
+    can_relink c.args.line c.args.role s c.requires c.index.result.now here
+    (no_own_line c.args.line c.place_at-place.result c.index.result.now c.args.role s c.requires here c.place_at-place.ensures (sym c.own_line.ensures ∙ c.in-None.is))
 
 pub returns-in-None : goal.returns-in-None
 returns-in-None g c =
@@ -53,6 +52,6 @@ returns-in-None g c =
     let lines = c.self.inside.lines.items in
     let h : c.args.line < length lines = omega (arith, c.if-line-len.false, c.len.ensures) in
     let here = ap (λ (s : Network). slice_get s.lines c.args.line) (sym c.self.view_is) ∙ there lines c.args.line _ c.index.result.now h c.index.ensures in
-    let stands : UserStands s c.args.line c.index.result.now Dte
-    = no_own_line c.args.line c.behind-self.inside.dte c.index.result.now Dte s c.requires here (ap (λ (l : NetLine). l.dte) c.behind-self.view_is) (sym c.own_line.ensures ∙ c.in-None.is) in
-    relinked g.L.Line.service c.args.line s c.act.new.self (result_and c.act.result (Ok c.act.new.answer)) c.index.result.now here stands c.act.ensures
+    let stands : UserStands s c.args.line c.index.result.now c.args.role
+    = no_own_line c.args.line c.place_at-place.result c.index.result.now c.args.role s c.requires here c.place_at-place.ensures (sym c.own_line.ensures ∙ c.in-None.is) in
+    relinked g.L.Line.service c.args.line c.args.role s c.act.new.self (result_and c.act.result (Ok c.act.new.answer)) c.index.result.now here stands c.act.ensures

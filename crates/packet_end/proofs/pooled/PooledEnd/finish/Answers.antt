@@ -1,6 +1,6 @@
 use Rattle.std.proofs.Common.{◌≡◌, ◌≤◌, ◌++◌, ◌∙◌, ap, sym, subst, length, inr}
 use Rattle.lapb.specs.Machine.{settle}
-use Rattle.packet_end.specs.PacketEnd.{PacketEnd, relinked_if_due, settled, all_offered, finished, IsFinished, KeepsNothingBack}
+use Rattle.packet_end.specs.PacketEnd.{PacketEnd, relinked_if_due, settled, all_offered, finished, IsFinished, HasOfferedAll, KeepsNothingBack}
 use Rattle.packet_end.specs.Pooled.{PooledEnd, share_of}
 use Rattle.packet_end.specs.PooledView.{end_of}
 use Rattle.packet_end.specs.Sending.{EndsWhole}
@@ -59,7 +59,9 @@ invariant_of-self c =
           ap (λ (e : PacketEnd). e.layer.relink) settles ∙ ap (λ (e : PacketEnd). e.layer.relink) offered
           ∙ none_due c.args.self.now.end;
       kept = record {
-        offered = rw settles (settled_all_offered c.offer_packets.new.self.end c.offer_packets.ensures.all_offered);
+        offered =
+            subst (λ (e : PacketEnd). HasOfferedAll e) (sym settles)
+            (settled_all_offered c.offer_packets.new.self.end c.offer_packets.ensures.all_offered);
         sent = c.settle.ensures.all_sent;
       };
       timers = c.settle.ensures.timers;
@@ -91,7 +93,7 @@ pub returns-clause-nothing_kept_back : goal.returns-clause-nothing_kept_back
 returns-clause-nothing_kept_back c =
     subst (λ (e : PacketEnd). KeepsNothingBack e) (sym (ap (λ (x : PooledEnd). x.end) c.self-2.view_is)) (record {
       offered =
-          rw (ap (λ (x : PooledEnd). x.end) c.settle.ensures.end)
+          subst (λ (e : PacketEnd). HasOfferedAll e) (sym (ap (λ (x : PooledEnd). x.end) c.settle.ensures.end))
           (settled_all_offered c.offer_packets.new.self.end c.offer_packets.ensures.all_offered);
       sent = c.settle.ensures.all_sent;
     })

@@ -7,7 +7,8 @@ use Rattle.packet_layer.proofs.Flows.{flow_next}
 use Rattle.packet_end.specs.Params.{info_of}
 use Rattle.packet_end.specs.Pooled.{PooledEnd, share_of}
 use Rattle.packet_end.specs.PacketEnd.{PacketEnd}
-use Rattle.packet_end.proofs.Offering.{no_packet, next_none}
+use Rattle.packet_layer.proofs.Unsent.{next_none}
+use Rattle.packet_end.proofs.Offering.{no_packet}
 use Rattle.packet_end.proofs.Pools.{served, serves_after, line_holds, line_room, layer_holds, layer_balanced, link_steps}
 use Rattle.packet_layer.specs.Events.{IsHeard}
 use Rattle.packet_end.proofs.Short.{next_short}

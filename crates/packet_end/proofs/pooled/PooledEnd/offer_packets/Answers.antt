@@ -1,9 +1,9 @@
-use Rattle.std.proofs.Common.{◌≡◌, ◌∙◌, ◌+◌, refl, ap, sym, arith, inl}
+use Rattle.std.proofs.Common.{◌≡◌, ◌∙◌, ◌+◌, refl, ap, sym, subst, arith}
 use Rattle.flow_window.proofs.Weights.{balances_same, balances_then}
 use Rattle.packet_end.specs.Pooled.{PooledEnd}
-use Rattle.packet_end.specs.PacketEnd.{PacketEnd, offered}
+use Rattle.packet_end.specs.PacketEnd.{PacketEnd, offered, HasOfferedAll}
 use Rattle.packet_end.proofs.Pools.{serves_after}
-use Rattle.packet_end.proofs.Offering.{none_offered, offered_notes, may_before, may_counted, left_after, left_at_first, left_more, left_none, left_over, takes_none, longer_offered, none_left}
+use Rattle.packet_end.proofs.Offering.{none_offered, offered_notes, may_before, may_counted, left_after, left_at_first, left_more, left_none, left_over, longer_offered, none_left}
 use Rattle.packet_end.proofs.pooled.PooledEnd.offer_packets.Goals as goal
 
 pub loop-count-init : goal.loop-count-init
@@ -62,7 +62,8 @@ pub returns-then-not-offer_next-clause-all_offered : goal.returns-then-not-offer
 returns-then-not-offer_next-clause-all_offered c =
     let e = c.loop-count.self.end in
     let none = sym c.offer_next.ensures.said ∙ c.if-not-offer_next.true in
-    rw (ap (λ (x : PooledEnd). x.end) c.offer_next.ensures.end ∙ none_offered 1 e none) (none_left e none)
+    let same = ap (λ (x : PooledEnd). x.end) c.offer_next.ensures.end ∙ none_offered 1 e none in
+    subst (λ (x : PacketEnd). HasOfferedAll x) (sym same) (none_left e none)
 
 pub returns-clause-offered : goal.returns-clause-offered
 returns-clause-offered c = sym (c.loop-count.invariant.some (omega (arith, c.loop-count-test.false)))
@@ -76,7 +77,7 @@ pub returns-clause-all_offered : goal.returns-clause-all_offered
 returns-clause-all_offered c =
     let i = c.loop-count.invariant in
     let most = i.most (omega (arith, c.loop-count-test.false)) in
-    inl (takes_none c.loop-count.self.end.line.link (omega (arith, c.loop-count-test.false, i.queued, most)))
+    λ up room. absurd (omega (arith, c.loop-count-test.false, i.queued, most, room))
 
 pub returns-clause-within : goal.returns-clause-within
 returns-clause-within c = c.loop-count.invariant.within (omega (arith, c.loop-count-test.false))

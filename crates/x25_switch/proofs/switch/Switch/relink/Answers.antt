@@ -1,21 +1,18 @@
-use Rattle.std.proofs.Common.{◌≡◌, ◌∙◌, ap, sym, subst, arith, length, List}
+use Rattle.std.proofs.Common.{◌∙◌, ◌<◌, ap, sym, subst, arith, length, List}
 use Rattle.std.proofs.lemmas.List.{length-map}
-use Rattle.std.specs.Prelude.{Some, slice_get}
-use Rattle.link_timers.specs.declared.role.Role.TheVariants.{Dte}
 use Rattle.packet_end.specs.PacketEnd.{relinked, begun as begin_end}
-use Rattle.switch_lines.specs.Lines.{SwitchLine, role_on}
+use Rattle.switch_lines.specs.Lines.{SwitchLine}
 use Rattle.switch_lines.specs.ByPlace.{AreRead}
 use Rattle.switch_lines.specs.Switch.{Switch, with_end, relink}
 use Rattle.switch_lines.proofs.Heeding.{begun_read, acted_read}
 use Rattle.switch_laws.specs.Events.Event.{SetsUp}
 use Rattle.x25_switch.specs.SwitchView.{switch_of}
-use Rattle.x25_switch.proofs.Holding.{of_lines, holds_after, relink_is, relink_kept, RelinkKept, role_within}
+use Rattle.x25_switch.proofs.Holding.{of_lines, holds_after, relink_is, relink_kept, RelinkKept}
 use Rattle.x25_switch.proofs.switch.Switch.relink.Goals as goal
 
 pub relink-requires-clause-there : goal.relink-requires-clause-there
 relink-requires-clause-there c =
-    let there = role_within c.args.line Dte c.self.inside.lines
-    (subst (λ (s : Switch). role_on (slice_get s.lines c.args.line) ≡ Some Dte) (sym c.self.view_is) c.requires) in
+    let there = subst (λ (s : Switch). c.args.line < length s.lines) (sym c.self.view_is) c.requires in
     let begun = ap (λ (ls : List SwitchLine). length ls) c.begin.ensures in
     let same = length-map c.self.inside.lines (with_end begin_end) in
     omega (arith, there, begun, same)

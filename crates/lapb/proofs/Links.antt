@@ -1,5 +1,5 @@
 -- The greatest number of unacknowledged packets of a link stays as it was made.
-use Rattle.std.proofs.Common.{◌≡◌, ℕ, Bool, true, false, if◌then◌else◌, List, Result, Ok, Err, refl, nat_lt}
+use Rattle.std.proofs.Common.{◌≡◌, ℕ, Bool, true, false, if◌then◌else◌, List, [], ◌∷◌, Result, Ok, Err, refl, nat_lt}
 use Rattle.link_timers.specs.declared.role.Role.{Role}
 use Rattle.link_timers.specs.declared.role.Role.TheVariants.{Dte, Dce}
 use Rattle.frame_codec.specs.declared.fault.FrameFault.{FrameFault}
@@ -142,3 +142,14 @@ t1_k l = by_if (λ st. SameK l.k st) _ _ _ (expires_k l.phase l) (still_k l)
 
 pub t1_keeps_k : (l : Link) → (link.on_t1 l).link.k ≡ l.k
 t1_keeps_k l = (t1_k l).it
+
+sent_k : (l : Link) (packets : List (List ℕ)) → SameK l.k (link.send_all l packets)
+sent_k l [] = record { it = refl }
+sent_k l (packet ∷ packets) = record { it = refl }
+
+settles_in_k : (phase : Phase) (l : Link) → SameK l.k (link.settle_in phase l)
+settles_in_k Up l = sent_k l (link.sendable l)
+settles_in_k phase l = still_k l
+
+pub settle_keeps_k : (l : Link) → (link.settle l).link.k ≡ l.k
+settle_keeps_k l = (settles_in_k l.phase l).it
