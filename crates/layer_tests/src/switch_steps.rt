@@ -82,7 +82,7 @@ const TRUNK: SwitchLineConfig = SwitchLineConfig {
 pub(crate) enum FirstLine {
     /// The line of the user 1.
     User,
-    /// The same, on which the switch may have one packet unacknowledged.
+    /// That line with k = 1: one packet of the switch may be unacknowledged.
     OnePacket,
     /// A trunk, of which the switch is the DTE.
     Trunk,

@@ -5,9 +5,9 @@ pub mod CanBeServed
 pub mod Events
 mod FewerDue
 mod IdleTimers
-mod Refusals
-mod RunsMore
-mod Stepped
-mod Resting
-mod Receipts
+pub mod Refusals
+pub mod RunsMore
+pub mod Stepped
+pub mod Resting
+pub mod Receipts
 mod Matched

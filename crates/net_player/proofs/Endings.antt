@@ -35,18 +35,18 @@ plays_texts_kept a b c plays kept = record {
   plays = plays_on_kept a b c plays.plays kept;
 }
 
-plays_asked_kept : (asked : Option Invocation) {left : Option (List ℕ)} (a b c : Option (List ℕ))
+plays_asked_kept : (asked : Option Invocation) (left a b c : Option (List ℕ))
     → PlaysAsked asked left a b → Keeps b c → PlaysAsked asked left a c
-plays_asked_kept None a b c plays kept = plays_texts_kept a b c plays kept
-plays_asked_kept (Some invocation) a b c plays kept = plays_texts_kept a b c plays kept
+plays_asked_kept None left a b c plays kept = plays_texts_kept a b c plays kept
+plays_asked_kept (Some invocation) left a b c plays kept = plays_texts_kept a b c plays kept
 
 -- what was performed stays so
 pub performs_kept : {words : List (List ℕ)} {left : Option (List ℕ)} (a b c : Option (List ℕ))
     → Performs words left a b → Keeps b c → Performs words left a c
-performs_kept a b c performs kept = record {
+performs_kept {words} {left} a b c performs kept = record {
   asked = performs.asked;
   asks = performs.asks;
-  plays = plays_asked_kept performs.asked a b c performs.plays kept;
+  plays = plays_asked_kept performs.asked left a b c performs.plays kept;
 }
 
 append_known-nil : (known : Option (List ℕ)) → append_known known [] ≡ known

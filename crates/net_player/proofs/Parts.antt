@@ -1,9 +1,11 @@
 -- Things of which one stops, and parts of texts.
 use Rattle.std.proofs.Common.{◌≡◌, ◌≢◌, ℕ, suc, ◌<◌, List, [], ◌∷◌, ◌++◌, length, take, drop, get_or, Option, sym, ap, ◌∙◌, subst, append_assoc, take-append-drop, drop-cons, refl}
-use Rattle.std.proofs.Common.{Result, Ok, Err, IfErr, IfOk}
+use Rattle.std.proofs.Common.{Result, Ok, Err, IfErr, IfOk, OnOk}
+use Rattle.std.specs.Io.KnownBytes.{Appends}
 use Rattle.net_files.specs.declared.fault.ProgFault.{ProgFault}
 use Rattle.net_files.specs.declared.fault.ProgFault.TheVariants as fault_is
-use Rattle.octet_streams.specs.Written.{IsShortFrontOf}
+use Rattle.octet_streams.specs.Written.{IsFrontOf, IsShortFrontOf, Writes}
+use Rattle.octet_streams.proofs.Written.{whole_is_front, writes_as, writes_known}
 use Rattle.net_player.specs.InTurn.{InTurn, StopsInTurn}
 use Rattle.net_player.specs.InTurn.InTurn.{nothing, then}
 use Rattle.net_player.specs.InTurn.StopsInTurn.{here, later}
@@ -59,6 +61,13 @@ told_before {fault} {part} {whole} more told = record {
 -- a front of a text was written, and the rest was refused
 pub told_short : {fault : ProgFault} {part whole : List ℕ} → IsShortFrontOf whole part → IsPartOf whole fault part
 told_short short = record { rest = short.rest; front = short.front; refused = λ is. short.short }
+
+-- a line was written, or a part of it
+pub told_line : {T : Type 0} {a b : Option (List ℕ)} (line : List ℕ) (result : Result T ProgFault)
+    → OnOk result (Appends a b line) → IfErr result (λ fault. Writes a b (IsPartOf line fault))
+    → Writes a b (IsFrontOf line)
+told_line line (Ok x) written part = writes_known line (whole_is_front line) written
+told_line line (Err e) written part = writes_as (λ text told. record { rest = told.rest; front = told.front }) part
 
 not_write : fault_is.OutOfMemory ≢ fault_is.Write
 not_write same = cc same

@@ -1,6 +1,8 @@
 -- One thing more is done behind others.
 use Rattle.std.proofs.Common.{◌≡◌, ℕ, List, [], ◌∷◌, ◌++◌, ◌+◌, ◌<◌, take, get_or, length, Option, Some, None, sym, ap, ◌∙◌, subst, append_assoc}
 use Rattle.std.proofs.lemmas.List.{append-nil, take_more}
+use Rattle.std.specs.Io.KnownBytes.{Appends}
+use Rattle.std.proofs.KnownBytes.{Appends-nil}
 use Rattle.net_player.specs.InTurn.{InTurn}
 use Rattle.net_player.specs.InTurn.InTurn.{nothing, then}
 
@@ -35,3 +37,7 @@ pub in_turn_next : {X S : Type 0} {Does : X → S → List ℕ → S → Type 0}
 in_turn_next {X} {S} {Does} {s} {mid} {t} {first} {text} xs i x within there done does =
     let P : X → Type 0 = λ y. Does y mid text t in
     in_turn_more xs i x within done (subst P there does)
+
+-- nothing was written
+pub appends_nothing : (known : Option (List ℕ)) → Appends known known []
+appends_nothing known = Appends-nil known

@@ -22,4 +22,8 @@ pub mod Due
 mod Rows
 mod PadRows
 pub mod PadRuns
+mod Elsewhere
+pub mod Courses
+pub mod HandedCourses
+pub mod MadeCourses
 mod NumbersRun

@@ -34,11 +34,11 @@ use Rattle.network_laws.proofs.Uniform.{IsUniform, uniform}
 -- ---- the turn of a PAD
 
 -- the turn leaves the PAD and the book as an event of the course does
-record IsTurn (e : PadEvent) (p : PadState) (b : Book) (turn : Turn) : Type 0 where
-  then : PadState
-  there : node.drained turn.node ≡ Pad then
-  same : drained (after_event e (drained p)) ≡ drained then
-  book : all_written Dte (writes_after e (drained p)) b ≡ turn.book
+pub record IsTurn (e : PadEvent) (p : PadState) (b : Book) (turn : Turn) : Type 0 where
+  pub then : PadState
+  pub there : node.drained turn.node ≡ Pad then
+  pub same : drained (after_event e (drained p)) ≡ drained then
+  pub book : all_written Dte (writes_after e (drained p)) b ≡ turn.book
 
 told_turn : (e : PadEvent) (p q : PadState) (b : Book) → drained (after_event e (drained p)) ≡ drained q → writes_after e (drained p) ≡ writes_of q.line.notes
     → IsTurn e p b (told Dte (Pad q) b)
@@ -61,12 +61,12 @@ expiry_turn p id b q =
     (timer_turn (HasExpiry id) p id b q.node.noted refl refl)
 
 -- an event that is one of a PAD
-record IsPadTurn (event : NodeEvent) (p : PadState) (b : Book) : Type 0 where
-  event_is : PadEvent
-  is : at_pad event ≡ Some event_is
-  turn : IsTurn event_is p b (turn_of event Dte (Pad p) b)
+pub record IsPadTurn (event : NodeEvent) (p : PadState) (b : Book) : Type 0 where
+  pub event_is : PadEvent
+  pub is : at_pad event ≡ Some event_is
+  pub turn : IsTurn event_is p b (turn_of event Dte (Pad p) b)
 
-pad_turn : (event : NodeEvent) (p : PadState) (b : Book) → IsFor event (Pad p) → IsQuiet (Pad p) → IsPadTurn event p b
+pub pad_turn : (event : NodeEvent) (p : PadState) (b : Book) → IsFor event (Pad p) → IsQuiet (Pad p) → IsPadTurn event p b
 pad_turn (Hears octets) p b is q = record { event_is = HasFrame octets; is = refl; turn = told_turn (HasFrame octets) p (pad.after_frame p octets) b refl refl }
 pad_turn (Expires id) p b is q = record { event_is = HasExpiry id; is = refl; turn = expiry_turn p id b q }
 pad_turn Relinks p b is q = record { event_is = HasRelink; is = refl; turn = told_turn HasRelink p (pad.after_relink p) b refl refl }

@@ -51,7 +51,7 @@ puts_all d (frame ∷ frames) f =
 
 -- ---- a PAD keeps its terminals
 
-abbrev count : PadState → ℕ
+abbrev pub count : PadState → ℕ
 count p = length p.ports
 
 count_changed : (number : ℕ) (change : PortState → PortState) (ports : List PortState) → length (pad.changed_at number change ports) ≡ length ports
@@ -95,11 +95,11 @@ count_at_port number act p = by (slice_get p.ports number)
     by None = refl
     by (Some q) = length-set p.ports number (act (record { port = q; line = p.line })).port
 
-count_terminal_event : (number : ℕ) (act : AtLine → AtLine) (p : PadState) → count (pad.terminal_event number act p) ≡ count p
+pub count_terminal_event : (number : ℕ) (act : AtLine → AtLine) (p : PadState) → count (pad.terminal_event number act p) ≡ count p
 count_terminal_event number act p =
     count_ended (pad.at_port number act (pad.begun p)) ∙ count_at_port number act (pad.begun p)
 
-count_idle : (runs : Bool) (number : ℕ) (p : PadState) → count (if runs then pad.terminal_event number port.after_idle p else p) ≡ count p
+pub count_idle : (runs : Bool) (number : ℕ) (p : PadState) → count (if runs then pad.terminal_event number port.after_idle p else p) ≡ count p
 count_idle true number p = count_terminal_event number port.after_idle p
 count_idle false number p = refl
 
@@ -119,7 +119,7 @@ count_answered (Some channel) p = by (pad.first_free p.ports)
     by None = refl
     by (Some number) = count_changed number (port.connects channel) p.ports
 
-count_line : (p : PadState) → count (pad.line_event p) ≡ count p
+pub count_line : (p : PadState) → count (pad.line_event p) ≡ count p
 count_line p =
     count_ended (pad.answered (line.last_incoming None p.line.end.notes) (pad.told p))
     ∙ count_answered (line.last_incoming None p.line.end.notes) (pad.told p)

@@ -9,3 +9,4 @@ pub mod DueCount
 pub mod PlacedTime
 pub mod NetworkLaw
 pub mod Rest
+pub mod Courses

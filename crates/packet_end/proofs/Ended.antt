@@ -6,12 +6,15 @@ use Rattle.lapb.specs.Machine.{Octets, Link, can_offer, runs, sendable, send_all
 use Rattle.lapb.specs.Out.{timing_by}
 use Rattle.line_end.specs.End.{End, did, timed}
 use Rattle.line_end.specs.End as line
-use Rattle.data_transfer.specs.Packets.{Packet}
+use Rattle.line_end.specs.Held.{LineEnd}
+use Rattle.data_transfer.specs.Packets.{Packet, Note}
 use Rattle.packet_layer.specs.Layer.{next_packet}
 use Rattle.packet_layer.specs.LayerTimers.{LayerTimers}
 use Rattle.packet_end.specs.PacketEnd.{PacketEnd, SettlesOnce, IsFinished, HasOfferedAll}
 use Rattle.packet_end.specs.PacketEnd.{relinked, all_offered, settled, finished}
 use Rattle.packet_end.specs.Touched.{IsTouched}
+use Rattle.packet_end.specs.PooledView.{end_of, IsPooled}
+use Rattle.packet_end.specs.declared.pooled.PooledEnd.TheInside.{Inside}
 use Rattle.packet_end.specs.declared.touched.Touched.{Touched}
 use Rattle.packet_end.specs.declared.touched.Touched.TheVariants.{Nothing}
 use Rattle.packet_end.proofs.Offering.{no_room, no_packet, none_to_offer}
@@ -88,7 +91,6 @@ unfolding all_offered
 offers_none e all = by (none_to_offer e all)
   where
     by : (can_offer e.line.link ≡ false) ⊎ ((next_packet e.layer).packet ≡ None) → all_offered e ≡ e
-    unfolding all_offered
     by (inl room) = no_room 7 e room
     by (inr silent) = no_packet 7 e (ap (λ (packet : Option Packet). is_some packet) silent)
 
@@ -114,3 +116,31 @@ settles_once offered now same =
 pub ended : (touched : Touched) (e : PacketEnd) → touched ≡ Nothing → IsTouched touched ⊎ IsFinished e → IsFinished e
 ended touched e nothing (inl something) = absurd (subst IsTouched nothing something)
 ended touched e nothing (inr is) = is
+
+-- ---- frames and notes that are taken change nothing of it
+
+still_finished : (e : PacketEnd) (frames : List Octets) (notes : List Note) → IsFinished e →
+    IsFinished (record e { line = record e.line { frames = frames }; notes = notes })
+still_finished e frames notes is = record {
+  none_due = is.none_due;
+  kept = record { offered = is.kept.offered; sent = is.kept.sent };
+  timers = is.timers;
+  settled = is.settled;
+}
+
+pub taken_from : (a : Inside) (line : LineEnd) (frames : List Octets) (notes : List Note) → IsPooled a →
+    line ≡ record a.line { end = record a.line.end { frames = frames } } →
+    IsPooled (record a { line = line; notes = notes })
+taken_from a line frames notes is same =
+    subst (λ (l : LineEnd). IsPooled (record a { line = l; notes = notes })) (sym same) (record {
+      line = is.line;
+      layer = is.layer;
+      info = is.info;
+      agree = is.agree;
+      finished = by is.finished;
+    })
+  where
+    by : IsTouched a.touched ⊎ IsFinished (end_of a) →
+        IsTouched a.touched ⊎ IsFinished (record (end_of a) { line = record a.line.end { frames = frames }; notes = notes })
+    by (inl touched) = inl touched
+    by (inr finished) = inr (still_finished (end_of a) frames notes finished)

@@ -105,13 +105,13 @@ was_line L event n before after d line l' at = elim (own_or_none n.lines line) [
   | inr none ↦ record { l = l'; there = sym (d.others line none) ∙ at; dte = refl; dce = refl; channels = refl }
 ]
 
-record IsLater (after : List NetLine) (line : ℕ) (l : NetLine) : Type 0 where
-  l' : NetLine
-  there : slice_get after line ≡ Some l'
-  dte : l'.dte ≡ l.dte
-  dce : l'.dce ≡ l.dce
+pub record IsLater (after : List NetLine) (line : ℕ) (l : NetLine) : Type 0 where
+  pub l' : NetLine
+  pub there : slice_get after line ≡ Some l'
+  pub dte : l'.dte ≡ l.dte
+  pub dce : l'.dce ≡ l.dce
 
-later_line : (L : LineService) (event : SwitchEvent) (n : PlacedSwitch) (before after : List NetLine) → LinesServed L event n before after
+pub later_line : (L : LineService) (event : SwitchEvent) (n : PlacedSwitch) (before after : List NetLine) → LinesServed L event n before after
     → (line : ℕ) (l : NetLine) → slice_get before line ≡ Some l → IsLater after line l
 later_line L event n before after d line l at = elim (own_or_none n.lines line) [
   | inl own ↦

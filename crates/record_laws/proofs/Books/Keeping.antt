@@ -14,8 +14,9 @@ use Rattle.packet_channel.specs.Channel.Request.{Accept, Clearing, Resetting, Se
 use Rattle.packet_laws.specs.Line.{Line, Event}
 use Rattle.packet_laws.specs.Line.Event.{Up, Down, Calls, Requests, Expires, Arrives}
 use Rattle.packet_laws.specs.Line.Happening.{Here, There}
-use Rattle.call_records.specs.Records.{RecordValue, changed_at, with_epoch}
-use Rattle.call_records.specs.Book.{Book, Slot, with_slot, with_change, changed, with_record, with_pair, slot_at, answers, told, all_told}
+use Rattle.epochs.specs.Item.{DataPacket}
+use Rattle.call_records.specs.Records.{RecordValue, changed_at, with_step, with_sent, with_interrupt_sent, with_taken, with_interrupt_taken, with_released, with_covered, with_epoch, with_closed}
+use Rattle.call_records.specs.Book.{Book, Slot, packet_of, with_slot, with_change, changed, with_record, with_pair, slot_at, answers, told, all_told}
 use Rattle.call_records.specs.Carried.{carried, unless_refused, placed_on}
 use Rattle.record_laws.specs.Books.Told.{World, Move, after_move, written, notes_of}
 use Rattle.record_laws.specs.Books.Told.Move.{Happens, Edits}
@@ -36,6 +37,34 @@ renewed r = record {
   sent = λ g e there. get_before r.sent_before _ g e there;
   taken = λ g e there. get_before r.taken_before _ g e there;
 }
+
+-- a change that opens no epoch
+abbrev Keeps : (RecordValue → RecordValue) → Type 0
+Keeps change = (r : RecordValue) → KeepsEpochs r (change r)
+
+closed_keeps : Keeps with_closed
+closed_keeps r = record { sent = λ g e there. there; taken = λ g e there. there }
+
+sent_keeps : (p : DataPacket) → Keeps (with_sent p)
+sent_keeps p r = record { sent = λ g e there. there; taken = λ g e there. there }
+
+interrupt_sent_keeps : (octets : List ℕ) → Keeps (with_interrupt_sent octets)
+interrupt_sent_keeps octets r = record { sent = λ g e there. there; taken = λ g e there. there }
+
+taken_keeps : (p : DataPacket) → Keeps (with_taken p)
+taken_keeps p r = record { sent = λ g e there. there; taken = λ g e there. there }
+
+interrupt_taken_keeps : (octets : List ℕ) → Keeps (with_interrupt_taken octets)
+interrupt_taken_keeps octets r = record { sent = λ g e there. there; taken = λ g e there. there }
+
+released_keeps : (n : ℕ) → Keeps (with_released n)
+released_keeps n r = record { sent = λ g e there. there; taken = λ g e there. there }
+
+covered_keeps : (n : ℕ) → Keeps (with_covered n)
+covered_keeps n r = record { sent = λ g e there. there; taken = λ g e there. there }
+
+step_keeps : (step : Step) → Keeps (with_step step)
+step_keeps step r = record { sent = λ g e there. there; taken = λ g e there. there }
 
 then_kept : (r s t : RecordValue) → KeepsEpochs r s → KeepsEpochs s t → KeepsEpochs r t
 then_kept r s t first second = record {
@@ -95,10 +124,11 @@ told_kept : (role : Role) (note : Note) (b : Book) → Kept b.records (told role
 told_kept role (Incoming c parts) b = slotted role c _ (with_record _ b) b.records (one_more _ b)
 told_kept role (Connected c) b = same b.records
 told_kept role (Closed c cause diagnostic reason) b =
-    slotted role c _ (changed role c _ b) b.records (at_number (slot_at role c b).present _ b as_it_was)
-told_kept role (WasReset c cause diagnostic reason) b = at_number (slot_at role c b).present _ b renewed
+    slotted role c _ (changed role c with_closed b) b.records
+    (at_number (slot_at role c b).present with_closed b closed_keeps)
+told_kept role (WasReset c cause diagnostic reason) b = at_number (slot_at role c b).present with_epoch b renewed
 told_kept role (InterruptConfirmed c) b = same b.records
-told_kept role (Covered c n) b = at_number (slot_at role c b).present _ b as_it_was
+told_kept role (Covered c n) b = at_number (slot_at role c b).present (with_covered n) b (covered_keeps n)
 
 all_kept : (role : Role) (notes : List Note) (b : Book) → Kept b.records (all_told role notes b).records
 all_kept role [] b = same b.records
@@ -108,19 +138,25 @@ all_kept role (note ∷ notes) b =
 taken_kept : (role : Role) (c : ℕ) (front : Option Taken) (b : Book) →
     Kept b.records (carried role c Taking front b).records
 taken_kept role c None b = same b.records
-taken_kept role c (Some (TakenInterrupt octets)) b = at_number (slot_at role c b).present _ b as_it_was
-taken_kept role c (Some (TakenPacket d)) b = at_number (slot_at role c b).present _ b as_it_was
+taken_kept role c (Some (TakenInterrupt octets)) b =
+    at_number (slot_at role c b).present (with_interrupt_taken octets) b (interrupt_taken_keeps octets)
+taken_kept role c (Some (TakenPacket d)) b =
+    at_number (slot_at role c b).present (with_taken (packet_of d)) b (taken_keeps (packet_of d))
 
 carried_kept : (role : Role) (c : ℕ) (r : Request) (front : Option Taken) (b : Book) →
     Kept b.records (carried role c r front b).records
 carried_kept role c Accept front b = accepted role c b
 carried_kept role c (Clearing cause diagnostic) front b =
-    slotted role c _ (changed role c _ b) b.records (at_number (slot_at role c b).present _ b as_it_was)
-carried_kept role c (Resetting cause diagnostic) front b = at_number (slot_at role c b).present _ b renewed
-carried_kept role c (Sending d) front b = at_number (slot_at role c b).present _ b as_it_was
-carried_kept role c (Interrupting octets) front b = at_number (slot_at role c b).present _ b as_it_was
+    slotted role c _ (changed role c with_closed b) b.records
+    (at_number (slot_at role c b).present with_closed b closed_keeps)
+carried_kept role c (Resetting cause diagnostic) front b = at_number (slot_at role c b).present with_epoch b renewed
+carried_kept role c (Sending d) front b =
+    at_number (slot_at role c b).present (with_sent (packet_of d)) b (sent_keeps (packet_of d))
+carried_kept role c (Interrupting octets) front b =
+    at_number (slot_at role c b).present (with_interrupt_sent octets) b (interrupt_sent_keeps octets)
 carried_kept role c Taking front b = taken_kept role c front b
-carried_kept role c (Releasing count) front b = at_number (slot_at role c b).present _ b as_it_was
+carried_kept role c (Releasing count) front b =
+    at_number (slot_at role c b).present (with_released count) b (released_keeps count)
 carried_kept role c (Stopping stopped) front b = same b.records
 carried_kept role c Confirming front b = same b.records
 
@@ -145,4 +181,4 @@ written_kept role Arrives w b = all_kept role (notes_of Arrives w) b
 pub records_keep : KeepingLaw
 records_keep (Happens (Here event)) w = written_kept Dte event w.line w.book
 records_keep (Happens (There event)) w = written_kept Dce event _ w.book
-records_keep (Edits role c step) w = at_number (slot_at role c w.book).present _ w.book as_it_was
+records_keep (Edits role c step) w = at_number (slot_at role c w.book).present (with_step step) w.book (step_keeps step)

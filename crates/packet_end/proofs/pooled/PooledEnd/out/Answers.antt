@@ -1,0 +1,8 @@
+use Rattle.std.proofs.Common.{drop}
+use Rattle.packet_end.proofs.Ended.{taken_from}
+use Rattle.packet_end.proofs.pooled.PooledEnd.out.Goals as goal
+
+pub invariant_of-self : goal.invariant_of-self
+invariant_of-self c =
+    let a = c.self.inside in
+    taken_from a c.out.new.self (drop 1 a.line.end.frames) a.notes c.self.invariant c.out.ensures.end
