@@ -1,7 +1,7 @@
 -- What happens on any line happens on one of which it is not known whether it is faithful.
 use Rattle.std.proofs.Common.{ℕ, false, List, Result, Ok, Err, inl, inr}
 use Rattle.link_timers.specs.declared.role.Role.{Role}
-use Rattle.link_timers.specs.declared.role.Role.TheVariants.{Dte}
+use Rattle.link_timers.specs.declared.role.Role.TheVariants.{Dte, Dce}
 use Rattle.link_timers.specs.declared.timers.TimerId.{TimerId}
 use Rattle.frame_lines.specs.declared.line.Direction.{Direction}
 use Rattle.frame_lines.specs.Lines.{LineService}
@@ -16,7 +16,7 @@ use Rattle.net_events.specs.declared.answer.Outcome.{Outcome}
 use Rattle.net_events.specs.declared.answer.Outcome.TheVariants.{Delivered, Done}
 use Rattle.net_events.specs.declared.event.Event.{Event}
 use Rattle.net_events.specs.declared.event.Event.TheVariants.{AtTerminal, Call, Ask, Take, Deliver, Lose, Expire}
-use Rattle.net_events.specs.declared.event.Event.TheVariants.{Relink, Restart}
+use Rattle.net_events.specs.declared.event.Event.TheVariants.{Relink, GivesUp, Restart}
 use Rattle.net_events.specs.declared.event.StepFault.{StepFault}
 use Rattle.net_nodes.specs.Carrying.{blind}
 use Rattle.net_nodes.specs.Turns.{AtEnd}
@@ -109,9 +109,9 @@ module _ (L : LineService) where
   expired place line timer s a t (inl e) = inl (at_node place (Expires timer) s a t e)
   expired place line timer s a t (inr e) = inr (on_own_line place line (λ own. switch_event.Expires own timer) s a t e)
 
-  relinked : (line : ℕ) (s : Network) (a : Answer) (t : Network) → RelinkStep L line s a t → RelinkStep (blind L) line s a t
-  relinked line s a t (inl e) = inl (at_end (record { line = line; role = Dte }) Relinks s a t e)
-  relinked line s a t (inr e) = inr (at_switch_end line Dte (λ own. switch_event.Relinks own) s a t e)
+  relinked : (line : ℕ) (role : Role) (s : Network) (a : Answer) (t : Network) → RelinkStep L line role s a t → RelinkStep (blind L) line role s a t
+  relinked line role s a t (inl e) = inl (at_end (record { line = line; role = role }) Relinks s a t e)
+  relinked line role s a t (inr e) = inr (at_switch_end line role (λ own. switch_event.Relinks own) s a t e)
 
   restarted : (place : ℕ) (s : Network) (a : Answer) (t : Network) → RestartStep L place s a t → RestartStep (blind L) place s a t
   restarted place s a t (inl e) = inl (at_node place Restarts s a t e)
@@ -125,7 +125,8 @@ module _ (L : LineService) where
   steps (Deliver line d) s a t x = delivered line d s a t x
   steps (Lose line d) s a t x = loses line d Done s a t x
   steps (Expire node line timer) s a t d = expired node line timer s a t d
-  steps (Relink line) s a t d = relinked line s a t d
+  steps (Relink line) s a t d = relinked line Dte s a t d
+  steps (GivesUp line) s a t d = relinked line Dce s a t d
   steps (Restart node) s a t d = restarted node s a t d
 
 pub happens_blind : (L : LineService) → BlindLaw L

@@ -18,7 +18,7 @@ use Rattle.net_events.specs.Network.{PlacedNode, PlacedSwitch, NetNode, Switchin
 use Rattle.net_events.specs.declared.answer.Answer.{Answer}
 use Rattle.net_events.specs.declared.event.Event.{Event}
 use Rattle.net_events.specs.declared.event.Event.TheVariants.{AtTerminal, Call, Ask, Take, Deliver, Lose, Expire}
-use Rattle.net_events.specs.declared.event.Event.TheVariants.{Relink, Restart}
+use Rattle.net_events.specs.declared.event.Event.TheVariants.{Relink, GivesUp, Restart}
 use Rattle.net_events.specs.declared.event.StepFault.{StepFault}
 use Rattle.net_turns.specs.Switching.{all_puts}
 use Rattle.net_nodes.specs.Faults.{step_fault, IsLeftToNode}
@@ -193,13 +193,14 @@ module _ (L : LineService) (f : L.faithful) (owner : ℕ → ℕ) (k : ℕ) (par
       also (λ x y. OnOwnLine lossless_service place line (λ at. switch_event.Expires at timer) x a y) (λ x y. StepOf lossless_service (Expire place line timer) x a y)
       (λ x y h. inr h) (on_own_line (λ at. switch_event.Expires at timer) place line a x own tt)
 
-  relinked : (line : ℕ) (a : Answer) → HasEnd owner k line Dte (p.parts k) → RelinkStep L line (p.parts k) a part → StepInOne (Relink line) a
-  relinked line a has (inl x) =
-      also (λ x y. AtEnd lossless_service (record { line = line; role = Dte }) Relinks x a y) (λ x y. StepOf lossless_service (Relink line) x a y)
-      (λ x y h. inl h) (at_end Relinks line Dte a x (has x.happened.line_is x.happened.line_there) tt)
-  relinked line a has (inr x) =
-      also (λ x y. AtSwitchEnd lossless_service line Dte (λ own. switch_event.Relinks own) x a y) (λ x y. StepOf lossless_service (Relink line) x a y)
-      (λ x y h. inr h) (at_switch_end (λ own. switch_event.Relinks own) line Dte a x (switch_place (λ own. switch_event.Relinks own) line Dte a x has) tt)
+  relinked : (line : ℕ) (role : Role) (a : Answer) → HasEnd owner k line role (p.parts k) → RelinkStep L line role (p.parts k) a part
+      → InOne (λ x y. RelinkStep lossless_service line role x a y)
+  relinked line role a has (inl x) =
+      also (λ x y. AtEnd lossless_service (record { line = line; role = role }) Relinks x a y) (λ x y. RelinkStep lossless_service line role x a y)
+      (λ x y h. inl h) (at_end Relinks line role a x (has x.happened.line_is x.happened.line_there) tt)
+  relinked line role a has (inr x) =
+      also (λ x y. AtSwitchEnd lossless_service line role (λ own. switch_event.Relinks own) x a y) (λ x y. RelinkStep lossless_service line role x a y)
+      (λ x y h. inr h) (at_switch_end (λ own. switch_event.Relinks own) line role a x (switch_place (λ own. switch_event.Relinks own) line role a x has) tt)
 
   restarted : (place : ℕ) (a : Answer) → owner place ≡ k → HasLinesCutOff owner p k place → RestartStep L place (p.parts k) a part → StepInOne (Restart place) a
   restarted place a own cut (inl x) =
@@ -217,7 +218,8 @@ module _ (L : LineService) (f : L.faithful) (owner : ℕ → ℕ) (k : ℕ) (par
   steps (Deliver line d) a here may x = delivered line d a here x
   steps (Lose line d) a here may x = inr (tt, lost line d x.lost)
   steps (Expire node line timer) a here may d = inl (expired node line timer a here d)
-  steps (Relink line) a here may d = inl (relinked line a here d)
+  steps (Relink line) a here may d = inl (relinked line Dte a here d)
+  steps (GivesUp line) a here may d = inl (relinked line Dce a here d)
   steps (Restart node) a here may d = inl (restarted node a here may d)
 
   -- ---- answered or refused

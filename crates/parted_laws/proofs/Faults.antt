@@ -8,7 +8,7 @@ use Rattle.net_events.specs.EventView.{request_event}
 use Rattle.net_events.specs.Network.{PlacedNode, NetNode, NetLine, Network, LostAt}
 use Rattle.net_events.specs.declared.event.Event.{Event}
 use Rattle.net_events.specs.declared.event.Event.TheVariants.{AtTerminal, Call, Ask, Take, Deliver, Lose, Expire}
-use Rattle.net_events.specs.declared.event.Event.TheVariants.{Relink, Restart}
+use Rattle.net_events.specs.declared.event.Event.TheVariants.{Relink, GivesUp, Restart}
 use Rattle.net_events.specs.declared.event.StepFault.{StepFault}
 use Rattle.net_events.specs.declared.event.StepFault.TheVariants.{NoSuchNode, NoSuchCall}
 use Rattle.net_turns.specs.Outcomes.{event_fault}
@@ -97,4 +97,5 @@ module _ (owner : ℕ → ℕ) (k : ℕ) (p : Processes) (s : Network) (are : Ar
   same_fault (Lose line d) here mid lost = there_same mid lost line
   same_fault (Expire node line timer) here mid lost = ap (λ (o : Option NetNode). where_there_is (stands_at line o)) (node_same mid lost node here)
   same_fault (Relink line) here mid lost = there_same mid lost line
+  same_fault (GivesUp line) here mid lost = there_same mid lost line
   same_fault (Restart node) here mid lost = ap (λ (o : Option NetNode). where_there_is (is_some o)) (node_same mid lost node here)

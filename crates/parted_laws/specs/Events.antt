@@ -1,14 +1,14 @@
 -- An event at a node of a process is an event of the one network.
 use Rattle.std.specs.Prelude.{◌≡◌, ◌≢◌, ◌⊎◌, ℕ, List, [], slice_get, Some, Result, Ok, Err}
 use Rattle.link_timers.specs.declared.role.Role.{Role}
-use Rattle.link_timers.specs.declared.role.Role.TheVariants.{Dte}
+use Rattle.link_timers.specs.declared.role.Role.TheVariants.{Dte, Dce}
 use Rattle.frame_lines.specs.declared.line.Direction.{Direction}
 use Rattle.frame_lines.specs.Lines.{LineService, flying, lossless_service}
 use Rattle.net_events.specs.Network.{NetLine, Network, LostAt, place_at}
 use Rattle.net_events.specs.declared.answer.Answer.{Answer}
 use Rattle.net_events.specs.declared.event.Event.{Event}
 use Rattle.net_events.specs.declared.event.Event.TheVariants.{AtTerminal, Call, Ask, Take, Deliver, Lose, Expire}
-use Rattle.net_events.specs.declared.event.Event.TheVariants.{Relink, Restart}
+use Rattle.net_events.specs.declared.event.Event.TheVariants.{Relink, GivesUp, Restart}
 use Rattle.net_events.specs.declared.event.StepFault.{StepFault}
 use Rattle.net_nodes.specs.Places.{IsStanding}
 use Rattle.net_nodes.specs.Happening.{Happens, SaysNoneArrived}
@@ -31,6 +31,7 @@ IsHere owner k (Deliver line d) part = HasEnd owner k line (hearer d) part
 IsHere owner k (Lose line d) part = Unit {0}
 IsHere owner k (Expire node line timer) part = owner node ≡ k
 IsHere owner k (Relink line) part = HasEnd owner k line Dte part
+IsHere owner k (GivesUp line) part = HasEnd owner k line Dce part
 IsHere owner k (Restart node) part = owner node ≡ k
 
 -- ---- when a node may restart
