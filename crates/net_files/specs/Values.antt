@@ -22,7 +22,7 @@ pub data RequestValue : Type 0 where
   Stop : RequestValue
   Go : RequestValue
 
--- an event of a network
+-- an event of a network; no word of scripts is that a line is given up
 pub data EventValue : Type 0 where
   AtTerminal : (node terminal : ℕ) → TerminalEvent → EventValue
   Call : (node : ℕ) → (address user_data : List ℕ) → EventValue
@@ -32,6 +32,7 @@ pub data EventValue : Type 0 where
   Lose : (line : ℕ) → Direction → EventValue
   Expire : (node line : ℕ) → TimerId → EventValue
   Relink : (line : ℕ) → EventValue
+  GivesUp : (line : ℕ) → EventValue
   Restart : (node : ℕ) → EventValue
 
 -- a command of a script
@@ -63,6 +64,7 @@ event_value (event.Deliver line direction) = Deliver line direction
 event_value (event.Lose line direction) = Lose line direction
 event_value (event.Expire node line timer) = Expire node line timer
 event_value (event.Relink line) = Relink line
+event_value (event.GivesUp line) = GivesUp line
 event_value (event.Restart node) = Restart node
 
 -- a key for each octet
