@@ -21,7 +21,7 @@ use Rattle.record_laws.proofs.Registers.Seeing.{book_there}
 use Rattle.node_laws.specs.Quiet.{IsQuiet}
 use Rattle.node_laws.specs.Pads.Holds.{node_at, HasItsRecords}
 use Rattle.node_laws.specs.Pads.Standing.{drained}
-use Rattle.node_laws.specs.Pads.Happening.{PadEvent, HasKey, HasBreak, HasIdleTime, HasPrinting, HasFrame, HasExpiry, HasRelink, HasRestart, HasTicks, after_event, writes_after}
+use Rattle.node_laws.specs.Pads.Happening.{PadEvent, HasKey, HasBreak, HasIdleTime, HasPrinting, HasLeaving, HasArrival, HasFrame, HasExpiry, HasRelink, HasRestart, HasTicks, after_event, writes_after}
 use Rattle.node_laws.specs.Pads.Courses.{Here, Course, happened}
 use Rattle.node_laws.specs.Pads.EventCourses.{IsElsewhere, CourseOf, continues, elsewhere}
 use Rattle.node_laws.specs.Pads.Typed.{AreTyped}
@@ -56,6 +56,8 @@ event_count (HasKey number octet) p = count_terminal_event number (port.after_ke
 event_count (HasBreak number) p = count_terminal_event number port.after_break p
 event_count (HasIdleTime number) p = count_idle (pad.runs_idle_timer number p) number p
 event_count (HasPrinting number) p = count_terminal_event number port.after_print p
+event_count (HasLeaving number) p = count_terminal_event number port.after_leaving p
+event_count (HasArrival number) p = count_terminal_event number port.after_arrival p
 event_count (HasFrame octets) p = count_line (pad.with_frame p octets)
 event_count (HasExpiry (idle_timer number)) p = count_idle (pad.runs_idle_timer number p) number p
 event_count (HasExpiry id) p = expiry_count (runs_at p.line.end id) id p

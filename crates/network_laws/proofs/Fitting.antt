@@ -25,7 +25,7 @@ dte_after Dte turn s = drained turn.node
 dte_after Dce turn s = s.dte
 
 -- what a turn leaves of what holds on any line
-pub record Leaves (role : Role) (s : LineState) (turn : Turn) : Type 0 where
+pub record LeavesLine (role : Role) (s : LineState) (turn : Turn) : Type 0 where
   pub same : SameNodes s.book turn.book
   pub quiet : IsQuiet (drained turn.node)
   pub kind : is_pad turn.node ≡ is_pad (node_at role s)
@@ -40,7 +40,7 @@ end-drained (Pad p) = refl
 end-drained (Host e) = refl
 
 pub after-turn : (L : LineService) (role : Role) (s : LineState) (turn : Turn) (l : Flights) → IsLine L s
-    → Leaves role s turn → (L.faithful → IsKept (with_turn role turn l s)) → IsLine L (with_turn role turn l s)
+    → LeavesLine role s turn → (L.faithful → IsKept (with_turn role turn l s)) → IsLine L (with_turn role turn l s)
 after-turn L Dte s turn l n w kept = record {
   apart = n.apart;
   dte_node = w.same.dte ∙ n.dte_node;

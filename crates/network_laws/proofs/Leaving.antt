@@ -31,7 +31,7 @@ use Rattle.net_events.specs.NodeEvents.NodeEvent.{Takes, AtTerminal}
 use Rattle.frame_lines.specs.Lines.{LineService}
 use Rattle.network_laws.specs.IsLine.{NodeHolds, line_of, AreQuiet, IsLine}
 use Rattle.network_laws.proofs.Channels.{ends_after}
-use Rattle.network_laws.proofs.Fitting.{Leaves, stands}
+use Rattle.network_laws.proofs.Fitting.{LeavesLine, stands}
 use Rattle.network_laws.proofs.NodeKinds.{same, kind-after}
 use Rattle.network_laws.proofs.Uniform.{IsUniform, uniform}
 
@@ -142,7 +142,7 @@ typed-own event (Host e) b is q h =
 -- ---- each event
 
 pub leaves : (L : LineService) (event : NodeEvent) (role : Role) (s : LineState) → IsLine L s
-    → IsFor event (node_at role s) → Leaves role s (turn_of event role (node_at role s) s.book)
+    → IsFor event (node_at role s) → LeavesLine role s (turn_of event role (node_at role s) s.book)
 leaves L event Dte s n is = record {
   same = same s.book (turn_of event Dte s.dte s.book).book (ends_after event Dte s.dte s.book);
   quiet = quiet-after event Dte s.dte s.book n.quiet.dte is;

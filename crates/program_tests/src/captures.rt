@@ -1,6 +1,7 @@
 //! Lines that are none of a trace, the longest line of one, the longest trace, and a capture that is not written whole.
 use std::alloc::{AllocError, Global};
 use std::io::{self, Read, Write};
+use std::test::Fail;
 use trace_capture::{TraceFault, capture, convert};
 
 /// The fault of a text, if no capture is made of it.
@@ -101,7 +102,7 @@ fn is_torn_anywhere(alloc: Global) -> Result<bool, TraceFault> {
     let mut fits = converts_so(alloc, &mut input, whole.len(), whole.as_slice(), (0, b""));
     for left in 0..whole.len() {
         let mut input = TRACE;
-        let refused = (1, b"the capture could not be written\n".as_slice());
+        let refused: (u8, &[u8]) = (1, b"the capture could not be written\n");
         fits = fits && converts_so(alloc, &mut input, left, &whole.as_slice()[..left], refused);
     }
     Ok(fits)
@@ -114,7 +115,7 @@ fn a_capture_that_is_not_written_whole_is_a_fault(rt: HostRuntime) {
 
 #[test]
 fn nothing_is_written_of_a_trace_with_a_line_that_is_no_frame(rt: HostRuntime) {
-    let mut input = b"0 < 01 73\n\n0 - 01\n".as_slice();
+    let mut input: &[u8] = b"0 < 01 73\n\n0 - 01\n";
     assert!(rt;
         converts_so(
             rt.alloc(),
@@ -137,7 +138,7 @@ impl Read for Failing {
 }
 
 #[test]
-fn a_trace_has_at_most_64_mebibytes_and_can_be_read(rt: HostRuntime) -> Result<(), TraceFault> {
+fn a_trace_has_at_most_64_mebibytes_and_can_be_read(rt: HostRuntime) -> Result<(), Fail> {
     let none = capture(rt.alloc(), b"")?;
     let mut input = io::repeat(b'x').take(67_108_864);
     assert!(rt; converts_so(rt.alloc(), &mut input, 1_000, none.as_slice(), (0, b"")));

@@ -6,7 +6,8 @@ use std::alloc::Global;
 use std::io;
 use std::net::{IpAddr, Ipv4Addr, Net, SocketAddr, UdpSocket};
 
-/// The system's sockets, if they are bound to 127.0.0.1; others are refused with an error of this kind.
+/// The system's sockets that are bound to this address; others are refused with an error of this kind.
+#[derive(Drop)]
 struct Local<'a, N: Net> {
     net: &'a N,
     address: Ipv4Addr,
@@ -36,7 +37,7 @@ impl<N: Net> Net for Local<'_, N> {
 }
 
 /// Why a pair of sockets is not made, if those at this address alone are had, and others are refused so.
-fn fault_of<N: Net>(
+fn fault_of<N: Net + Drop>(
     net: &N,
     alloc: Global,
     address: Ipv4Addr,

@@ -56,7 +56,10 @@ fn ends_printing<F: Files + net::Net, R: Read>(
     printed: &[u8],
     ended: (u8, &[u8]),
 ) -> bool {
-    ends(rt, alloc, input, Vec::new(alloc), ended).is_some_and(|out| out.as_slice() == printed)
+    match ends(rt, alloc, input, Vec::new(alloc), ended) {
+        Some(out) => out.as_slice() == printed,
+        None => false,
+    }
 }
 
 /// A writer that takes so many writes, and refuses those after them, and then a flush too. It counts the writes that do
@@ -116,14 +119,11 @@ fn writes_of_all<F: Files + net::Net>(rt: &F, alloc: Global) -> Option<u32> {
 /// Whether the program ends in the fault of a refused write after so many, with a part of what is printed.
 fn stops<F: Files + net::Net>(rt: &F, alloc: Global, writes: u32) -> bool {
     let mut input = SCRIPT;
-    ends(
-        rt,
-        alloc,
-        &mut input,
-        Refusing::new(alloc, writes),
-        (1, b"fault 5\n"),
-    )
-    .is_some_and(|out| out.has_a_part())
+    let out = Refusing::new(alloc, writes);
+    match ends(rt, alloc, &mut input, out, (1, b"fault 5\n")) {
+        Some(out) => out.has_a_part(),
+        None => false,
+    }
 }
 
 #[test]
@@ -165,7 +165,10 @@ fn prints_interrupted<F: Files + net::Net>(rt: &F, alloc: Global) -> bool {
         text: Vec::new(alloc),
         is_ready: false,
     };
-    ends(rt, alloc, &mut input, out, (0, b"")).is_some_and(|out| out.text.as_slice() == PRINTED)
+    match ends(rt, alloc, &mut input, out, (0, b"")) {
+        Some(out) => out.text.as_slice() == PRINTED,
+        None => false,
+    }
 }
 
 #[test]
@@ -264,9 +267,10 @@ fn long(alloc: Global, line: &[u8], last: &[u8]) -> Result<Vec<u8>, AllocError> 
 fn writes_whole<F: Files + net::Net>(rt: &F, alloc: Global, script: &[u8], printed: &[u8]) -> bool {
     let mut input = script;
     let out = (1_000, Refusing::new(alloc, 1_000));
-    ends_buffered(rt, alloc, &mut input, out, (0, b"")).is_some_and(|out| is_written_whole(
-        &out, printed,
-    ))
+    match ends_buffered(rt, alloc, &mut input, out, (0, b"")) {
+        Some(out) => is_written_whole(&out, printed),
+        None => false,
+    }
 }
 
 fn is_written_whole(out: &Refusing, printed: &[u8]) -> bool {
@@ -307,8 +311,10 @@ fn ends_at_the_end<F: Files + net::Net>(
 ) -> bool {
     let mut input = script;
     let out = (1_000, Refusing::new(alloc, writes));
-    ends_buffered(rt, alloc, &mut input, out, ended).is_some_and(|out| out.text.as_slice()
-        == written)
+    match ends_buffered(rt, alloc, &mut input, out, ended) {
+        Some(out) => out.text.as_slice() == written,
+        None => false,
+    }
 }
 
 #[test]

@@ -22,7 +22,7 @@ use Rattle.packet_layer.specs.Layer.{Layer, channel_of, nth_channel, standing_ch
 use Rattle.packet_layer.specs.Layer.{next_packet}
 use Rattle.packet_laws.specs.History.{empty_epoch}
 use Rattle.packet_end.specs.PacketEnd.{PacketEnd, HasOfferedAll, all_offered, settled, elapsed}
-use Rattle.packet_end.proofs.Offering.{none_to_offer}
+use Rattle.packet_end.proofs.Offering.{none_to_offer, silent_all_offered}
 use Rattle.packet_end.specs.PacketEnd.{without_first_frame}
 use Rattle.address_routes.specs.Routes.{RouteMap}
 use Rattle.switch_joins.specs.declared.channels.SwitchChannel.{SwitchChannel}
@@ -457,7 +457,9 @@ new_offer : (lines : List SwitchLineConfig) → AreConfigs lines → list_any ma
 new_offer [] are = refl
 new_offer (x ∷ xs) are =
     ap (λ (b : Bool). b || list_any may_offer (map made_line xs))
-    (keeps_none (made_line x) (inr (unready x.params.standing (made_line x).end.layer (are 0 x refl).not_standing)))
+    (keeps_none (made_line x) (silent_all_offered (made_line x).end
+    (ap (λ p. is_some p)
+    (unready x.params.standing (made_line x).end.layer (are 0 x refl).not_standing))))
     ∙ new_offer xs (λ m y f. are (suc m) y f)
 
 new_end : (lines : List SwitchLineConfig) → to_relink (map made_line lines) ≡ None

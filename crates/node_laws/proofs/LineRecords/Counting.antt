@@ -1,6 +1,6 @@
 -- What the records of a line count is what its packet layers let pass.
-use Rattle.std.specs.Prelude.{◌≡◌, ℕ, ◌<◌, true, List, [], ◌∷◌, ◌++◌, length, slice_get, Some}
-use Rattle.std.proofs.Common.{inl, inr, sym, ap, ◌∙◌, arith}
+use Rattle.std.specs.Prelude.{◌≡◌, ℕ, ◌<◌, ◌≤◌, true, List, [], ◌∷◌, ◌++◌, length, slice_get, Some}
+use Rattle.std.proofs.Common.{inl, inr, sym, ap, subst, ◌∙◌, arith}
 use Rattle.std.proofs.lemmas.List.{length-map}
 use Rattle.link_timers.specs.declared.role.Role.{Role}
 use Rattle.link_timers.specs.declared.role.Role.TheVariants.{Dte, Dce}
@@ -86,6 +86,8 @@ pub epochs_alike : (epochs : ℕ → Epoch) (own r : RecordValue) → all_sent r
 epochs_alike epochs own r sent taken h = record {
   sent = λ g s at. h.sent g s (ap (λ (es : List SentEpoch). slice_get es g) (sym sent) ∙ at);
   taken = λ g t at. h.taken g t (ap (λ (es : List TakenEpoch). slice_get es g) (sym taken) ∙ at);
+  all_sent = λ g beyond. h.all_sent g (subst (λ (es : List SentEpoch). length es ≤ g) sent beyond);
+  all_taken = λ g beyond. h.all_taken g (subst (λ (es : List TakenEpoch). length es ≤ g) taken beyond);
 }
 
 pub counted_alike : (e : End) (own r : RecordValue) → all_sent r ≡ all_sent own → all_taken r ≡ all_taken own → HasCounted e own → HasCounted e r

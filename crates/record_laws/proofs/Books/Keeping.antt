@@ -12,7 +12,7 @@ use Rattle.data_transfer.specs.Traffic.Taken.{TakenInterrupt, TakenPacket}
 use Rattle.packet_channel.specs.Channel.{Request, Refusal}
 use Rattle.packet_channel.specs.Channel.Request.{Accept, Clearing, Resetting, Sending, Interrupting, Stopping, Taking, Releasing, Confirming}
 use Rattle.packet_laws.specs.Line.{Line, Event}
-use Rattle.packet_laws.specs.Line.Event.{Up, Down, Calls, Requests, Expires, Arrives}
+use Rattle.packet_laws.specs.Line.Event.{Up, Down, Calls, Requests, Expires, Offers, Arrives}
 use Rattle.packet_laws.specs.Line.Happening.{Here, There}
 use Rattle.epochs.specs.Item.{DataPacket}
 use Rattle.call_records.specs.Records.{RecordValue, changed_at, with_step, with_sent, with_interrupt_sent, with_taken, with_interrupt_taken, with_released, with_covered, with_epoch, with_closed}
@@ -176,6 +176,7 @@ written_kept role (Requests c r) w b = unless_kept _ (carried role c r _ b) b (c
 written_kept role (Up s) w b = all_kept role (notes_of (Up s) w) b
 written_kept role Down w b = all_kept role (notes_of Down w) b
 written_kept role (Expires t) w b = all_kept role (notes_of (Expires t) w) b
+written_kept role Offers w b = all_kept role (notes_of Offers w) b
 written_kept role Arrives w b = all_kept role (notes_of Arrives w) b
 
 pub records_keep : KeepingLaw
