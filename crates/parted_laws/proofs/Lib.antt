@@ -15,3 +15,5 @@ mod Runs
 pub mod Blind
 mod FirstDue
 mod Made
+mod Example
+mod Restarts

@@ -5,3 +5,5 @@ pub mod Running
 pub mod Blind
 pub mod FirstDue
 pub mod Making
+pub mod Run
+pub mod Restarting

@@ -7,6 +7,8 @@ ghost use Rattle.parted_laws.specs.Running.{TickLaw, RunLaw};
 ghost use Rattle.parted_laws.specs.Making.{MakingLaw};
 ghost use Rattle.parted_laws.specs.Blind.{BlindLaw};
 ghost use Rattle.parted_laws.specs.FirstDue.{FirstDueLaw};
+ghost use Rattle.parted_laws.specs.Run.{RunExample};
+ghost use Rattle.parted_laws.specs.Restarting.{EndForgets, NodeForgets, SwitchForgets};
 
 use frame_lines::Line;
 
@@ -33,4 +35,17 @@ pub fn parted_law<L: Line>()
     ensures due { FirstDueLaw }
     ensures blind { BlindLaw L.service }
     ensures run { RunLaw L.service }
+{}
+
+/// A node that restarted is as one that was made: an end of a line, a node with users, and a switch. It has its role,
+/// parameters, terminals and routes, and nothing else of what happened before.
+pub fn forget_law()
+    ensures ends { EndForgets }
+    ensures nodes { NodeForgets }
+    ensures switches { SwitchForgets }
+{}
+
+/// A run to which the law applies, by computation: two processes, with a host in each, at one line.
+pub fn run_example()
+    ensures { RunExample }
 {}

@@ -4,4 +4,4 @@ mod Switches
 mod Steps
 mod Making
 mod Runs
-mod Running
+pub mod Running

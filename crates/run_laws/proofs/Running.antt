@@ -62,7 +62,7 @@ user_there zero n at = (host Dte, sym (same_Some (PlannedUser (host Dte)) n at))
 user_there (suc zero) n at = (host Dce, sym (same_Some (PlannedUser (host Dce)) n at))
 user_there (suc (suc place)) n at = absurd (none-some n at)
 
-planned : IsPlan two_hosts
+pub planned : IsPlan two_hosts
 planned = record {
   lines = line_planned;
   nodes = node_planned;
@@ -121,7 +121,7 @@ node_made zero n at = made_so 0 (host Dte) n (same_Some (PlannedUser (host Dte))
 node_made (suc zero) n at = made_so 1 (host Dce) n (same_Some (PlannedUser (host Dce)) n at) refl
 node_made (suc (suc place)) n at = absurd (none-some n at)
 
-made : IsMade memory_service two_hosts (network first_frames)
+pub made : IsMade memory_service two_hosts (network first_frames)
 made = record { node_count = refl; nodes = node_made; line_count = refl; lines = line_made; register = refl }
 
 -- ---- the loss
