@@ -22,6 +22,11 @@ le_or_more zero n = inl (omega arith)
 le_or_more (suc m) zero = inr (omega arith)
 le_or_more (suc m) (suc n) = elim (le_or_more m n) [ inl k ↦ inl (omega arith) | inr k ↦ inr (omega arith) ]
 
+-- where there is no record, no call's record lacks places
+pub no_places : (k : ℕ) (slots : List Slot) (rs : List Record) → length rs ≡ 0 → CallsHavePlaces k slots rs
+no_places k slots [] e channel number h r at = absurd (none-some r at)
+no_places k slots (r ∷ rs) e = absurd (omega arith)
+
 same_number : (m n : ℕ) → Some m ≡ Some n → m ≡ n
 same_number m n e = cc
 
@@ -35,6 +40,8 @@ fewer_places a room k less h p = record {
   records = omega (arith, p.records);
   pairs = omega (arith, p.pairs);
   pair_room = p.pair_room;
+  most_records = p.most_records;
+  most_pairs = p.most_pairs;
   dte = fewer_calls a.places k a.ends.dte.slots a.records.items h p.dte;
   dce = fewer_calls a.places k a.ends.dce.slots a.records.items h p.dce;
 }
@@ -65,6 +72,8 @@ put_room a ends Dte channel slot e none p = record {
   records = p.records;
   pairs = p.pairs;
   pair_room = p.pair_room;
+  most_records = p.most_records;
+  most_pairs = p.most_pairs;
   dte = put_places a.places channel ends.dte.slots a.ends.dte.slots slot a.records.items (ap (λ (b : Book). b.dte.slots) e) none p.dte;
   dce = same_places a.places ends.dce.slots a.ends.dce.slots a.records.items (ap (λ (b : Book). b.dce.slots) e) p.dce;
 }
@@ -73,6 +82,8 @@ put_room a ends Dce channel slot e none p = record {
   records = p.records;
   pairs = p.pairs;
   pair_room = p.pair_room;
+  most_records = p.most_records;
+  most_pairs = p.most_pairs;
   dte = same_places a.places ends.dte.slots a.ends.dte.slots a.records.items (ap (λ (b : Book). b.dte.slots) e) p.dte;
   dce = put_places a.places channel ends.dce.slots a.ends.dce.slots slot a.records.items (ap (λ (b : Book). b.dce.slots) e) none p.dce;
 }

@@ -24,11 +24,13 @@ CallsHavePlaces room slots records = (channel number : ℕ) → (nth_slot slots 
     PlacesAt room number records
 
 -- the lists of records and pairs have the places, and so has every list of the record of each present call; there is
--- no room beyond them, but that pairs may have more
+-- no room beyond them, but that pairs may have more; the lists of records and pairs have 40 places at least
 pub record HasRoom (a : Inside) : Type 0 where
   pub room : a.room ≤ a.places
   pub records : a.places ≤ vec_capacity a.records - vec_len a.records
   pub pairs : a.places ≤ vec_capacity a.pairs - vec_len a.pairs
   pub pair_room : a.pair_room ≤ vec_capacity a.pairs - vec_len a.pairs
+  pub most_records : 40 ≤ vec_capacity a.records
+  pub most_pairs : 40 ≤ vec_capacity a.pairs
   pub dte : CallsHavePlaces a.places a.ends.dte.slots a.records.items
   pub dce : CallsHavePlaces a.places a.ends.dce.slots a.records.items

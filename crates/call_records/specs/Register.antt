@@ -1,7 +1,7 @@
 -- The register of a network of lines: the records and the pairs of the whole network in the order of making, and for
 -- each line the two ends with their channels. What is written at a line is what is written into a book, which has the
 -- records and pairs of all lines and the ends of this one.
-use Rattle.std.specs.Prelude.{ℕ, Bool, if◌then◌else◌, List, [], ◌∷◌, ◌++◌, length, replicate, set, slice_get}
+use Rattle.std.specs.Prelude.{◌≡◌, ℕ, Bool, if◌then◌else◌, List, [], ◌∷◌, ◌++◌, length, replicate, set, slice_get}
 use Rattle.std.specs.Prelude.{Option, Some, None, is_some}
 use Rattle.link_timers.specs.declared.role.Role.{Role}
 use Rattle.link_timers.specs.declared.role.Role.TheVariants.{Dte, Dce}
@@ -22,6 +22,15 @@ pub record Register : Type 0 where
   pub records : List RecordValue
   pub pairs : List PairValue
   pub lines : List LineEnds
+
+-- no record and no pair
+pub record HasNoRecords (g : Register) : Type 0 where
+  pub records : g.records ≡ []
+  pub pairs : g.pairs ≡ []
+
+-- all records and pairs are forgotten
+abbrev pub forgotten : Register → Register
+forgotten g = record g { records = []; pairs = [] }
 
 -- a line that is not there has no channels
 abbrev pub no_side : Side

@@ -1,5 +1,6 @@
 //! The book of a line, and what is written into it.
-ghost use Rattle.std.specs.Prelude.{◌≡◌, ◌≤◌, ◌+◌, ◌-◌, ℕ, List, [], ◌∷◌, IfOk, OnOk, OnErr, IsTrue, Some, map, length, vec_len};
+ghost use Rattle.std.specs.Prelude.{◌≡◌, ◌≤◌, ◌+◌, ◌-◌, ℕ, List, [], ◌∷◌, IfOk, OnOk, OnErr, IsOk, IsTrue, Some, map, length};
+ghost use Rattle.std.specs.Prelude.{vec_len};
 ghost use Rattle.std.specs.Prelude.{◌<◌, ◌++◌, vec_capacity};
 ghost use Rattle.std.specs.Option.{option_to_list};
 ghost use Rattle.packet_channel.specs.NoteView.{note_of};
@@ -27,6 +28,9 @@ use std::marker::Model;
 /// How many places more than it is asked for `reserve` makes in each list, so that it need not look at all records of
 /// present calls again before they are used up.
 const AHEAD: usize = 24;
+
+/// The places in each list of a new book. An event writes at most 16 times, so in an empty book they are enough.
+const FIRST_PLACES: usize = 16 + AHEAD;
 
 /// How many lists with room a book keeps for later calls: those of both ends of a call, sent and taken.
 const MOST_SPARE: usize = 4;
@@ -85,8 +89,8 @@ impl Book {
             dce: Side::new(alloc, dce_node, None, channels)?,
         };
         let mut spare = Vec::with_capacity(alloc, MOST_SPARE)?;
-        let mut records = Vec::with_capacity(alloc, 2)?;
-        let mut pairs = Vec::with_capacity(alloc, 1)?;
+        let mut records = Vec::with_capacity(alloc, FIRST_PLACES)?;
+        let mut pairs = Vec::with_capacity(alloc, FIRST_PLACES)?;
         if standing {
             let caller = Record::new(alloc, &mut spare, 0, dte_node, None, None, None);
             let callee = Record::new(alloc, &mut spare, 1, dce_node, None, None, Some(0));
@@ -123,13 +127,15 @@ impl Book {
     }
 
     /// Makes room for so many writes: in the lists of records and of pairs, and in the record of each present call.
-    /// Without the memory there is no room, and the book is as before.
+    /// Without the memory there is no room, and the book is as before. In a book without records and pairs there is
+    /// room for 16 writes: no memory is asked for.
     pub fn reserve(&mut self, count: usize) -> Result<(), AllocError>
         ensures same { self.new.book ≡ self.old.book }
         ensures ok { OnOk result (self.new.room ≡ count) }
         ensures pairs { OnOk result (self.new.pairs ≡ count) }
         ensures err { OnErr result (self.new.room ≡ 0) }
         ensures no_pairs { OnErr result (self.new.pairs ≡ 0) }
+        ensures ready { self.old.book.records ≡ [] → self.old.book.pairs ≡ [] → count ≤ 16 → IsOk result }
     {
         if count <= self.places && self.over.is_empty() {
             self.room = count;
@@ -139,23 +145,32 @@ impl Book {
         self.room = 0;
         self.pair_room = 0;
         self.places = 0;
-        give_back(
+        let places = count.saturating_add(AHEAD);
+        reserve_in_records(
             self.alloc,
             &mut self.records,
-            self.over.as_slice(),
+            &self.ends,
+            &mut self.over,
             &mut self.spare,
+            places,
         )?;
-        self.over.clear();
-        self.over.reserve(self.ends.channels())?;
-        let places = count.saturating_add(AHEAD);
         self.records.reserve(places)?;
         self.pairs.reserve(places)?;
-        reserve_present(&mut self.records, self.ends.of(Role::Dte), places)?;
-        reserve_present(&mut self.records, self.ends.of(Role::Dce), places)?;
         self.places = places;
         self.room = count;
         self.pair_room = count;
         Ok(())
+    }
+
+    /// Forgets all records and pairs, and keeps the places of their lists. A channel keeps the number of the record that
+    /// was present on it or placed there. Until a call is placed or comes in there, this number names no record, or one
+    /// that was made since.
+    pub fn forget(&mut self)
+        ensures { self.new.book ≡ record self.old.book { records = []; pairs = [] } }
+    {
+        self.records.clear();
+        self.pairs.clear();
+        self.over.clear();
     }
 
     /// Exchanges the ends of its line for those of another one. There is no room then.
@@ -557,6 +572,33 @@ fn reserve_present(records: &mut Vec<Record>, side: &Side, count: usize) -> Resu
         }
     }
     Ok(())
+}
+
+// Makes room in the records of the present calls of both ends. The records of calls that are over give back their spare
+// room first, and are not listed any more. Without a record nothing is asked for.
+fn reserve_in_records(
+    alloc: Global,
+    records: &mut Vec<Record>,
+    ends: &Ends,
+    over: &mut Vec<usize>,
+    spare: &mut Vec<Passed>,
+    count: usize,
+) -> Result<(), AllocError>
+    ensures same { map shown records.new.items ≡ map shown records.old.items }
+    ensures len { vec_len records.new ≡ vec_len records.old }
+    ensures capacity { vec_capacity records.new ≡ vec_capacity records.old }
+    ensures dte { OnOk result (CallsHavePlaces count ends.now.dte.slots records.new.items) }
+    ensures dce { OnOk result (CallsHavePlaces count ends.now.dce.slots records.new.items) }
+    ensures ready { vec_len records.old ≡ 0 → IsOk result }
+{
+    if records.is_empty() {
+        return Ok(());
+    }
+    give_back(alloc, records, over.as_slice(), spare)?;
+    over.clear();
+    over.reserve(ends.channels())?;
+    reserve_present(records, ends.of(Role::Dte), count)?;
+    reserve_present(records, ends.of(Role::Dce), count)
 }
 
 // The records of these numbers give back their spare room.

@@ -1,8 +1,8 @@
 //! The register of a network of lines.
-ghost use Rattle.std.specs.Prelude.{◌≡◌, ◌≤◌, ◌<◌, false, true, [], ◌∷◌, set, length, slice_get, IfOk, OnOk, OnErr};
+ghost use Rattle.std.specs.Prelude.{◌≡◌, ◌≤◌, ◌<◌, false, true, [], ◌∷◌, set, length, slice_get, IfOk, IsOk, OnOk, OnErr};
 ghost use Rattle.packet_codec.specs.Digits.{digits_or_none};
 ghost use Rattle.call_records.specs.Register.{empty_register, made_register, with_free_line, book_at, holder_at};
-ghost use Rattle.call_records.specs.Register.{handed_on};
+ghost use Rattle.call_records.specs.Register.{handed_on, HasNoRecords, forgotten};
 ghost use Rattle.call_records.specs.RegisterView.{register_of, end_of, lines_of, ends_in, with_ends, IsOpen, IsClosed};
 
 use crate::book::Book;
@@ -99,7 +99,7 @@ impl Register {
     }
 
     /// Opens the book at a line, and makes room there for so many writes and pairs. Without the memory there is no
-    /// room, and the register is as before.
+    /// room, and the register is as before. If the register has no record and no pair, there is room for 16 writes.
     pub fn open(&mut self, line: usize, count: usize) -> Result<(), AllocError>
         ensures same { register_of self.new ≡ register_of self.old }
         ensures lines { length self.new.lines.items ≡ length self.old.lines.items }
@@ -107,6 +107,7 @@ impl Register {
         ensures book { line < length self.old.lines.items → self.new.book.book ≡ book_at line (register_of self.old) }
         ensures room { OnOk result (self.new.book.room ≡ count) }
         ensures pairs { OnOk result (self.new.book.pairs ≡ count) }
+        ensures ready { HasNoRecords (register_of self.old) → count ≤ 16 → IsOk result }
     {
         if self.open == Some(line) {
             return self.book.reserve(count);
@@ -115,6 +116,13 @@ impl Register {
         exchange(&mut self.book, &mut self.lines, line);
         self.open = Some(line);
         self.book.reserve(count)
+    }
+
+    /// Forgets the records and pairs of all calls, as [`Book::forget`] does.
+    pub fn forget(&mut self)
+        ensures { register_of self.new ≡ forgotten (register_of self.old) }
+    {
+        self.book.forget();
     }
 
     /// A call goes on from a channel at an end of a line to another one, if that one's line is there. The record that

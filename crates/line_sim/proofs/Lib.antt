@@ -1,13 +1,13 @@
 mod LinesBegin
 mod Made
-mod Registered
+pub mod Registered
 pub mod CanBeServed
 pub mod Events
 mod FewerDue
 mod IdleTimers
-mod Refusals
-mod RunsMore
-mod Stepped
-mod Resting
-mod Receipts
+pub mod Refusals
+pub mod RunsMore
+pub mod Stepped
+pub mod Resting
+pub mod Receipts
 mod Matched

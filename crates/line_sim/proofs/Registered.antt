@@ -72,7 +72,7 @@ lost_registered L line d s t r w =
     ap (λ (x : Network). length x.register.lines) w.others ∙ r ∙ sym (length-set s.lines line _)
     ∙ sym (ap (λ (x : Network). length x.lines) w.others)
 
-handed : (lines : List ℕ) (roles : ℕ → Role) (joins : List NewJoin) (g : Register)
+pub handed : (lines : List ℕ) (roles : ℕ → Role) (joins : List NewJoin) (g : Register)
     → length (all_handed lines roles joins g).lines ≡ length g.lines
 handed lines roles [] g = refl
 handed lines roles (j ∷ joins) g =

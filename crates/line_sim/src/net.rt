@@ -67,6 +67,7 @@ impl<L: Line> Net<L> {
     ghost use Rattle.std.specs.Borrow.{sem};
     ghost use Rattle.std.specs.Io.BufRead.{Rests};
     ghost use Rattle.line_sim.specs.contracts.net.Net.{the_row};
+    ghost use Rattle.line_sim.specs.Between.{IsBetweenEvents};
     ghost use Rattle.line_sim.specs.Stepping.{lent, HasStepped};
 
     /// Makes a network on these lines, each of which is emptied first. Both ends of a line that is not standing send a
@@ -88,6 +89,15 @@ impl<L: Line> Net<L> {
             arrived: FrameBuf::new(),
             answer: bare_answer(alloc),
         })
+    }
+
+    /// The nodes and lines of the network, and its register.
+    pub fn into_nodes(self) -> Nodes<L>
+        ensures same { result ≡ self }
+        ensures between { IsBetweenEvents L.service result }
+    {
+        let Net { nodes, .. } = self;
+        nodes
     }
 
     /// What the network keeps of each end's part in each call, in the order of making.

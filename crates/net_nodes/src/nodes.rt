@@ -1,6 +1,7 @@
 //! The nodes of a network on their lines, and the register of their calls: each event, exactly.
 ghost use Rattle.std.specs.Prelude.{◌≡◌, MatchResult, None, Ok, true, false};
 ghost use Rattle.std.specs.Result.{result_and};
+ghost use Rattle.call_records.specs.Register.{forgotten};
 ghost use Rattle.net_events.specs.declared.event.StepFault.TheVariants.{NoSuchNode, NoSuchCall};
 ghost use Rattle.net_nodes.specs.Faults.{is_channel_at};
 ghost use Rattle.net_nodes.specs.Places.{IsStanding, IsPlaceOf, user_at, own_line_at};
@@ -67,6 +68,13 @@ impl<L: Line> Nodes<L> {
             lines,
             register,
         }
+    }
+
+    /// Forgets the records and pairs of all calls, as [`Register::forget`] does.
+    pub fn forget(&mut self)
+        ensures { self.new ≡ record self.old { register = forgotten self.old.register } }
+    {
+        self.register.forget();
     }
 
     /// The end of its line that the node with users of this place is.

@@ -12,6 +12,8 @@ invariant_of-self c =
       records = less.records;
       pairs = less.pairs;
       pair_room = omega (arith, p.pair_room, c.saturating_sub-self-inside-2.ensures);
+      most_records = less.most_records;
+      most_pairs = less.most_pairs;
       dte = less.dte;
       dce = less.dce;
     })
@@ -32,6 +34,8 @@ invariant_of-self-2 c =
         c.push_reserved.ensures.len,
         c.push_reserved.ensures.capacity,
       );
+      most_records = less.most_records;
+      most_pairs = omega (arith, less.most_pairs, c.push_reserved.ensures.capacity);
       dte = less.dte;
       dce = less.dce;
     })

@@ -10,6 +10,8 @@ invariant_of-self c =
       records = p.records;
       pairs = p.pairs;
       pair_room = p.pair_room;
+      most_records = p.most_records;
+      most_pairs = p.most_pairs;
       dte = p.dte;
       dce = p.dce;
     }

@@ -10,6 +10,8 @@ invariant_of-self c =
       records = omega (arith, p.records, c.go_on_at.ensures.len, c.go_on_at.ensures.capacity);
       pairs = p.pairs;
       pair_room = p.pair_room;
+      most_records = omega (arith, p.most_records, c.go_on_at.ensures.capacity);
+      most_pairs = p.most_pairs;
       dte = λ channel number e. c.go_on_at.ensures.room a.places number (p.dte channel number e);
       dce = λ channel number e. c.go_on_at.ensures.room a.places number (p.dce channel number e);
     }

@@ -39,6 +39,8 @@ invariant_of-self-2 c =
       records = omega (arith, less, p.records, c.grow_at.ensures.len, c.grow_at.ensures.capacity);
       pairs = omega (arith, less, p.pairs);
       pair_room = p.pair_room;
+      most_records = omega (arith, p.most_records, c.grow_at.ensures.capacity);
+      most_pairs = p.most_pairs;
       dte = λ channel number e. c.grow_at.ensures.room a.places number here (p.dte channel number e);
       dce = λ channel number e. c.grow_at.ensures.room a.places number here (p.dce channel number e);
     })

@@ -1,0 +1,3 @@
+pub mod Registers
+pub mod Writing
+pub mod Living

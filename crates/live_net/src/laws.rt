@@ -1,0 +1,13 @@
+//! That nothing but the register depends on the register.
+ghost use Rattle.live_net.specs.Writing.{TurnsAreAlike, HappensWithAnyRegister};
+
+use frame_lines::Line;
+
+/// The law of registers, over definitions alone. A node takes the same turn whatever the book of its line has. So an
+/// event leaves the same nodes and lines with any register, and is answered or refused alike. What it writes is a
+/// function of the register.
+pub fn any_register_law<L: Line>()
+    ensures turns { TurnsAreAlike }
+    ensures happens { HappensWithAnyRegister L.service }
+{
+}
