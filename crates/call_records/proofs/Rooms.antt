@@ -1,6 +1,7 @@
 -- The room of a book, as its parts change.
 use Rattle.std.proofs.Common.{◌≡◌, ℕ, zero, suc, ◌+◌, ◌<◌, ◌≤◌, List, map, length, sym, ap, subst, ◌∙◌, inl, inr, arith}
-use Rattle.std.specs.Prelude.{◌⊎◌, Some, None}
+use Rattle.std.specs.Prelude.{◌⊎◌, [], ◌∷◌, Some, None}
+use Rattle.std.proofs.lemmas.Option.{none-some}
 use Rattle.link_timers.specs.declared.role.Role.{Role}
 use Rattle.link_timers.specs.declared.role.Role.TheVariants.{Dte, Dce}
 use Rattle.call_records.specs.Book.{Book, Slot, Side, side_of, nth_slot, with_nth, with_slot}
@@ -24,7 +25,7 @@ le_or_more (suc m) (suc n) = elim (le_or_more m n) [ inl k ↦ inl (omega arith)
 
 -- where there is no record, no call's record lacks places
 pub no_places : (k : ℕ) (slots : List Slot) (rs : List Record) → length rs ≡ 0 → CallsHavePlaces k slots rs
-no_places k slots [] e channel number h r at = absurd (none-some r at)
+no_places k slots [] e = λ channel number h r at. absurd (none-some r at)
 no_places k slots (r ∷ rs) e = absurd (omega arith)
 
 same_number : (m n : ℕ) → Some m ≡ Some n → m ≡ n

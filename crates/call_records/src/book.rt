@@ -29,7 +29,7 @@ use std::marker::Model;
 /// present calls again before they are used up.
 const AHEAD: usize = 24;
 
-/// The places in each list of a new book. An event writes at most 16 times, so in an empty book they are enough.
+/// How many places the lists of records and of pairs have at least: enough for 16 writes in an empty book.
 const FIRST_PLACES: usize = 16 + AHEAD;
 
 /// How many lists with room a book keeps for later calls: those of both ends of a call, sent and taken.
@@ -598,7 +598,8 @@ fn reserve_in_records(
     over.clear();
     over.reserve(ends.channels())?;
     reserve_present(records, ends.of(Role::Dte), count)?;
-    reserve_present(records, ends.of(Role::Dce), count)
+    reserve_present(records, ends.of(Role::Dce), count)?;
+    Ok(())
 }
 
 // The records of these numbers give back their spare room.

@@ -281,8 +281,11 @@ happens_apart L e s (Err fault) t h = record {
   write = λ g. g;
   here = ap (λ (x : Network). x.register) h.1;
   lines = λ g. refl;
-  happens = λ g. (elim h.0 [
-    | inl own ↦ inl (sym (same_fault e g s) ∙ own)
-    | inr (want, memory) ↦ inr ((want.0, subst IsLeftToNode (same_fault e g s) want.1), memory)
-  ], ap (on g) h.1);
+  happens = λ g. (
+    elim h.0 [
+      | inl own ↦ inl (sym (same_fault e g s) ∙ own)
+      | inr (want, memory) ↦ inr ((want.0, subst IsLeftToNode (same_fault e g s) want.1), memory)
+    ],
+    ap (on g) h.1,
+  );
 }

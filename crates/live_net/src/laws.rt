@@ -1,4 +1,5 @@
-//! That nothing but the register depends on the register.
+//! That nothing but the register depends on the register, and what follows of runs.
+ghost use Rattle.live_net.specs.LiveRuns.{LiveRunsAreRuns};
 ghost use Rattle.live_net.specs.Writing.{TurnsAreAlike, HappensWithAnyRegister};
 
 use frame_lines::Line;
@@ -9,5 +10,10 @@ use frame_lines::Line;
 pub fn any_register_law<L: Line>()
     ensures turns { TurnsAreAlike }
     ensures happens { HappensWithAnyRegister L.service }
-{
-}
+{}
+
+/// The law of runs: from a register on, with which a network without records is one between events, there is one after
+/// each event and each time that passes. With these registers the run is one of a network that keeps records.
+pub fn live_run_law<L: Line>()
+    ensures { LiveRunsAreRuns L.service }
+{}

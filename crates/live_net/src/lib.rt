@@ -4,5 +4,5 @@
 mod laws;
 mod live;
 
-pub use laws::any_register_law;
+pub use laws::{any_register_law, live_run_law};
 pub use live::LiveNet;
