@@ -5,16 +5,18 @@ use Rattle.link_timers.specs.declared.role.Role.{Role}
 use Rattle.call_records.specs.Register.{Register, HasNoRecords, forgotten}
 use Rattle.frame_lines.specs.Lines.{LineService}
 use Rattle.net_events.specs.Network.{NetLine, Network, all_elapsed}
+use Rattle.net_config.specs.declared.config.Config.{Config}
 use Rattle.net_events.specs.declared.answer.Answer.{Answer}
 use Rattle.net_events.specs.declared.event.Event.{Event}
 use Rattle.net_events.specs.declared.event.StepFault.{StepFault}
 use Rattle.net_nodes.specs.Places.{EndStands, IsStanding}
 use Rattle.net_nodes.specs.Happening.{Happens}
 use Rattle.line_sim.specs.Between.{IsBetweenEvents}
+use Rattle.line_sim.specs.Runs.{IsMadeBy}
 use Rattle.line_sim.proofs.CanBeServed.{standing}
 use Rattle.line_sim.proofs.Events.{happens, elapsed}
 use Rattle.line_sim.proofs.Stepped.{stepped}
-use Rattle.live_net.specs.Registers.{on}
+use Rattle.live_net.specs.Registers.{on, register_made}
 use Rattle.live_net.specs.Writing.{WritesSo}
 use Rattle.live_net.specs.Living.{IsLive, StepsOn, HasLived}
 use Rattle.live_net.proofs.Apart.{happens_apart}
@@ -97,3 +99,8 @@ live_made L s b = record {
   registered = b.registered;
   stored = record { records = refl; pairs = refl };
 }
+
+-- with the register that its configuration gives it, it is as it was made
+pub as_made : (L : LineService) (config : Config) (s : Network) → IsMadeBy L config s
+    → on (register_made config) s ≡ s
+as_made L config s m = ap (λ (g : Register). on g s) (sym m.made.register)
