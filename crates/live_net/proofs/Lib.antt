@@ -1,0 +1,4 @@
+pub mod Turns
+pub mod Apart
+pub mod Lives
+pub mod Runs

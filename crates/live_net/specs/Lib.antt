@@ -1,0 +1,4 @@
+pub mod Registers
+pub mod Writing
+pub mod Living
+pub mod LiveRuns

@@ -1,0 +1,168 @@
+//! The network on which a service runs.
+ghost use Rattle.std.specs.Prelude.{◌≡◌, ◌≤◌, true, false, Err, IsOkUnless, IfOk, vec_len};
+ghost use Rattle.std.specs.Bool.{OnTrue};
+ghost use Rattle.call_records.specs.Register.{Register, HasNoRecords};
+ghost use Rattle.net_config.specs.declared.fault.MakeFault.TheVariants as make_fault_is;
+ghost use Rattle.net_config.specs.Served.{is_served};
+ghost use Rattle.net_events.specs.Network.{all_elapsed};
+ghost use Rattle.net_nodes.specs.Due.{net_due};
+ghost use Rattle.net_nodes.specs.Faults.{step_fault};
+ghost use Rattle.net_nodes.specs.Happening.{IsRefusedSo, FindsNoFrame, FindNoFrames};
+ghost use Rattle.net_nodes.specs.Questions.{net_confirmed, net_rests};
+ghost use Rattle.network_laws.specs.Switched.Promise.{NetworkPromise};
+ghost use Rattle.network_laws.specs.Switched.Rest.{MissesNothing, IsDelivered};
+ghost use Rattle.line_sim.specs.Between.{IsBetweenEvents};
+ghost use Rattle.line_sim.specs.Receipts.{IsTakenBeyond};
+ghost use Rattle.line_sim.specs.Runs.{IsMadeBy};
+ghost use Rattle.live_net.specs.Registers.{on, register_made};
+
+use frame_codec::FrameBuf;
+use frame_lines::{Direction, Line};
+use line_sim::Net;
+use net_config::{Config, MakeFault};
+use net_events::{Answer, Event, Outcome, Puts, StepFault};
+use net_nodes::Nodes;
+use std::alloc::{AllocError, Global};
+use std::marker::Model;
+
+/// A network as [`Net`] is, that keeps no records: what an event writes of calls is forgotten at its end. Its promise is
+/// that of [`Net`], of registers that nobody stores: with each register with which all holds before an event there is
+/// one with which all holds after it, and with these two the network stepped as [`Net`] does.
+#[derive(Drop)]
+pub struct LiveNet<L: Line> {
+    nodes: Nodes<L>,
+    arrived: FrameBuf,
+    answer: Answer,
+}
+
+impl<L: Line> Model for LiveNet<L> {
+    ghost use Rattle.std.specs.FinMap as map;
+    ghost use Rattle.address_routes.specs.Routes.{by_digits};
+    ghost use Rattle.std.specs.Coded.{codes, coded_list, coded_ℕ};
+    ghost use Rattle.net_events.specs.Network.{Network};
+
+    ghost Value = { Network };
+
+    ghost coded = { Prim.hlevel (codes, map.code {R = by_digits} (coded_list coded_ℕ) coded_ℕ) };
+
+    ghost use Rattle.live_net.specs.Living.{IsLive};
+
+    ghost view = { λ n. n.nodes };
+
+    ghost invariant = { λ n. IsLive L.service n.nodes };
+}
+
+/// An answer without frames, notes and text, with room for those of any event.
+fn roomy_answer(alloc: Global) -> Result<Answer, AllocError> {
+    Ok(Answer {
+        frames: Puts::new(alloc),
+        notes: Vec::new(alloc),
+        text: Vec::new(alloc),
+        outcome: Outcome::Done,
+    })
+}
+
+impl<L: Line> LiveNet<L> {
+    ghost use Rattle.std.specs.Borrow.{sem};
+    ghost use Rattle.std.specs.Io.BufRead.{Rests};
+    ghost use Rattle.line_sim.specs.Stepping.{lent};
+    ghost use Rattle.live_net.specs.Living.{HasLived};
+    ghost use Rattle.live_net.specs.contracts.live.LiveNet.{the_row};
+
+    /// Makes a network on these lines, each of which is emptied first. Both ends of a line that is not standing send a
+    /// first frame. With the register that [`Net`] has then, it is such a network.
+    ///
+    /// `BadConfig` comes if the configuration is outside its limits or of a kind that is not served, and then
+    /// `OutOfMemory` for want of memory.
+    pub fn new(alloc: Global, config: &Config, lines: Vec<L>) -> Result<Self, MakeFault>
+        requires { vec_len lines ≡ vec_len config.now.lines }
+        ensures bad { is_served config.now ≡ false → result ≡ Err make_fault_is.BadConfig }
+        ensures served { is_served config.now ≡ true → IsOkUnless result make_fault_is.OutOfMemory }
+        ensures ok { IfOk result (λ net. IsMadeBy L.service config.now (on (register_made config.now) net)) }
+        ensures between { IfOk result (λ net. IsBetweenEvents L.service (on (register_made config.now) net)) }
+        ensures headline { IfOk result (λ net. L.service.faithful
+            → NetworkPromise (on (register_made config.now) net)) }
+        ensures stored { IfOk result (λ net. HasNoRecords net.register) }
+    {
+        let mut nodes = Net::new(alloc, config, lines)?.into_nodes();
+        nodes.forget();
+        Ok(LiveNet {
+            nodes,
+            arrived: FrameBuf::new(),
+            answer: roomy_answer(alloc)?,
+        })
+    }
+
+    /// Whether nothing is in flight, unacknowledged, owed or gathered, and nothing waits to be sent, passed on or
+    /// taken: as [`Net::at_rest`].
+    pub fn at_rest(&self) -> bool
+        ensures exact { result ≡ net_rests self.now }
+        ensures nothing_missing { (g : Register) → IsBetweenEvents L.service (on g self.now) → L.service.faithful
+            → result ≡ true → MissesNothing (on g self.now) }
+    {
+        self.nodes.is_at_rest()
+    }
+
+    /// Whether the host of this place has a call in data transfer on the channel in which each packet with D = 1 since
+    /// the last reset was covered (X.25 4.3.3): as [`Net::confirmed`].
+    pub fn confirmed(&self, node: usize, channel: u16) -> bool
+        ensures exact { result ≡ net_confirmed node channel self.now }
+        ensures delivered { (g : Register) → IsBetweenEvents L.service (on g self.now) → L.service.faithful
+            → result ≡ true → IsDelivered node channel (on g self.now) }
+        ensures taken { (g : Register) → IsBetweenEvents L.service (on g self.now) → L.service.faithful
+            → result ≡ true → IsTakenBeyond node channel (on g self.now) }
+    {
+        self.nodes.confirmed(node, channel)
+    }
+
+    /// Lets ticks pass, each a twentieth of a second: each timer that runs has so many less, not below 0.
+    pub fn elapse(&mut self, ticks: u16)
+        ensures passes { self.new ≡ all_elapsed ticks self.old }
+        ensures between { (g : Register) → IsBetweenEvents L.service (on g self.old)
+            → IsBetweenEvents L.service (on g self.new) }
+        ensures headline { (g : Register) → IsBetweenEvents L.service (on g self.old) → L.service.faithful
+            → NetworkPromise (on g self.new) }
+    {
+        self.nodes.elapse(ticks);
+    }
+
+    /// The expiry that is due first: as [`Net::next_due`].
+    pub fn next_due(&self) -> Option<Event>
+        ensures { result ≡ net_due self.now }
+    {
+        self.nodes.next_due()
+    }
+
+    /// Whether it is certain that a delivery on the line in this direction finds no frame: as [`Net::finds_none`].
+    pub fn finds_none(&self, line: usize, direction: Direction) -> bool
+        ensures { OnTrue result (FindsNoFrame L.service line direction self.now) }
+    {
+        self.nodes.finds_none(line, direction)
+    }
+
+    /// A number from this one on: it is certain that deliveries on the lines before it find no frame, as
+    /// [`Net::next_with_frames`] says.
+    pub fn next_with_frames(&self, from: usize) -> usize
+        ensures onward { from ≤ result }
+        ensures none { FindNoFrames L.service from result self.now }
+    {
+        self.nodes.next_with_frames(from)
+    }
+
+    /// Handles an event, lends the answer, which the network keeps until the next event, and keeps no record of it. The
+    /// answers and refusals are those of [`Net::step`].
+    pub fn step(&mut self, event: &Event) -> Result<&Answer, StepFault>
+        ensures faults { IsRefusedSo (step_fault event.now self.old) (lent result) }
+
+        // The network once the answer is given back.
+        ensures* after { sem 𝓛 (Rests (the_row L.row L.Line) self.entry (λ net.
+            HasLived L.service event.now self.old (lent result) net)) }
+    {
+        let happened = self
+            .nodes
+            .happen(event, &mut self.arrived, &mut self.answer);
+        self.nodes.forget();
+        happened?;
+        Ok(&self.answer)
+    }
+}
