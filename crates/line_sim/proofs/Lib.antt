@@ -6,7 +6,9 @@ pub mod Events
 mod FewerDue
 mod IdleTimers
 pub mod Refusals
+mod Courses
 pub mod RunsMore
+mod PadsRun
 pub mod Stepped
 pub mod Resting
 pub mod Receipts

@@ -1,3 +1,4 @@
+use Rattle.network_laws.proofs.Courses.{time_course}
 use Rattle.network_laws.proofs.Switched.PromiseAny.{promise_any}
 use Rattle.line_sim.proofs.Events.{elapsed}
 use Rattle.line_sim.proofs.net.Net.elapse.Goals as goal
@@ -8,3 +9,6 @@ invariant_of-self g c = rw c.elapse.ensures (elapsed g.L.Line.service _ c.args.t
 pub returns-clause-headline : goal.returns-clause-headline
 returns-clause-headline g c =
     rw c.elapse.ensures (promise_any g.L.Line.service _ (elapsed g.L.Line.service _ c.args.ticks c.self.invariant).any)
+
+pub returns-clause-courses : goal.returns-clause-courses
+returns-clause-courses g c = rw c.elapse.ensures (time_course c.self.inside.nodes c.args.ticks)
