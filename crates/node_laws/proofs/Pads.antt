@@ -26,8 +26,8 @@ pub mod Interrupting
 pub mod Saying
 pub mod Spoken
 pub mod Holding
-pub mod Presence
 pub mod EventCourses
 pub mod Steps
 pub mod Owners
 pub mod TypedSteps
+pub mod Presence

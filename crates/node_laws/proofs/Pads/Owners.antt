@@ -348,7 +348,7 @@ module _ (role : Role) where
   slot_length : (d : ℕ) (z : Slot) (b : Book) → length (with_slot role d z b).records ≡ length b.records
   slot_length d z b = ap (λ (rs : List RecordValue). length rs) (slot_records role d z b)
 
-  closes_length : (d : ℕ) (b : Book) → length (closes role d b).records ≡ length b.records
+  pub closes_length : (d : ℕ) (b : Book) → length (closes role d b).records ≡ length b.records
   closes_length d b = slot_length d _ (changed role d with_closed b) ∙ change_length d with_closed b
 
   pair_length : (x y : Option ℕ) (b : Book) → length (with_pair x y b).records ≡ length b.records
@@ -359,7 +359,7 @@ module _ (role : Role) where
   by_more : (d : ℕ) (z : Slot) (r : RecordValue) (b : Book) → length b.records ≤ length (with_slot role d z (with_record r b)).records
   by_more d z r b = (let many = slot_length d z (with_record r b) in let one = length_pushed b.records r in omega arith)
 
-  grown : (note : ChannelNote) (b : Book) → length b.records ≤ length (written_by role (write_of note) b).records
+  pub grown : (note : ChannelNote) (b : Book) → length b.records ≤ length (written_by role (write_of note) b).records
   grown (notes.Told (Incoming d parts)) b = by_more d _ _ b
   grown (notes.Told (Connected d)) b = omega arith
   grown (notes.Told (Closed d cause diagnostic reason)) b = by_same (closes_length d b)

@@ -1,5 +1,5 @@
 -- A terminal that leaves and arrives, and the calls that begin.
-use Rattle.std.specs.Prelude.{◌≡◌, ℕ, ◌⊎◌, Bool, true, false, if◌then◌else◌, List, [], ◌∷◌, ◌++◌, Contains, map, slice_get, slice_set, Option, Some, None}
+use Rattle.std.specs.Prelude.{◌≡◌, ℕ, zero, suc, ◌≤◌, ◌⊎◌, Bool, true, false, if◌then◌else◌, List, [], ◌∷◌, ◌++◌, Contains, length, map, slice_get, slice_set, Option, Some, None}
 use Rattle.std.specs.Option.{option_map, option_map_or}
 use Rattle.std.proofs.Common.{inl, inr, refl, sym, ap, subst, ◌∙◌, true≢false, arith}
 use Rattle.std.proofs.lemmas.Bool.{cases_eq, eqb-true}
@@ -16,6 +16,11 @@ use Rattle.packet_channel.specs.Channel.Request.{Releasing}
 use Rattle.packet_layer.specs.Layer.{channel_given, call_refusal, front_on}
 use Rattle.packet_end.specs.PacketEnd.{PacketEnd, received, after_timer, relinked, finished, runs_at}
 use Rattle.record_laws.proofs.Books.Basics.{get_set, set_here}
+use Rattle.link_timers.specs.declared.role.Role.{Role}
+use Rattle.call_records.specs.Book.{Book, side_of, slot_at}
+use Rattle.call_records.specs.Closing.{closes_if, closes_present, closed_from}
+use Rattle.call_records.specs.Writes.{all_written, written_by}
+use Rattle.line_nodes.specs.PadWriting.{write_of}
 use Rattle.pad_editing.specs.Edited.{Step, key, idle}
 use Rattle.x29_messages.specs.MessageForm.{octets_of}
 use Rattle.x29_messages.specs.declared.message.Message.{Message}
@@ -40,10 +45,14 @@ use Rattle.pad_ports.specs.Ports.{PortState, AtLine, has_channel, new_port}
 use Rattle.pad_ports.specs.declared.line.PadLine.{PadLine}
 use Rattle.x25_pad.specs.Pad as pad
 use Rattle.x25_pad.specs.Pad.{PadState, all_heard, changed_at, at_port, acted, holder, print_taken, print_text, key_taken, break_taken}
-use Rattle.node_laws.specs.Pads.Standing.{drained}
-use Rattle.node_laws.specs.Pads.Happening.{PadEvent, HasKey, HasBreak, HasIdleTime, HasPrinting, HasLeaving, HasArrival, HasFrame, HasExpiry, HasRelink, HasRestart, HasTicks, after_event}
-use Rattle.node_laws.specs.Pads.Presence.{absent_port, IsAbsentAt, LeavesLaw, LeavesAbsent, StaysAbsentLaw, IsCutOffAt, AbsentLaw, ArrivesLaw, PresentLaw, begun_in, begun_by, CallLaw, HasArrived, arrives, goes_on, ShownLaw}
+use Rattle.node_laws.specs.Pads.Holds.{IsOn}
+use Rattle.node_laws.specs.Pads.Courses.{Here, Course, happened}
+use Rattle.node_laws.specs.Pads.Happening.{PadEvent, HasKey, HasBreak, HasIdleTime, HasPrinting, HasLeaving, HasArrival, HasFrame, HasExpiry, HasRelink, HasRestart, HasTicks, after_event, writes_after}
+use Rattle.node_laws.specs.Pads.Presence.{absent_port, IsAbsentAt, LeavesLaw, LeavesAbsent, StaysAbsentLaw, IsCutOffAt, AbsentLaw, ArrivesLaw, PresentLaw, begun_in, begun_by, CallLaw, HasArrived, arrives, continues, elsewhere, IsShownOf, ShownLaw}
 use Rattle.node_laws.proofs.Pads.Ports.{found_at, changed_port, changed_for, changed_on, connected_by, cleared_by, reset_by, heard_connected, heard_cleared, heard_reset, heard_none, heard_more}
+use Rattle.node_laws.proofs.Pads.Asking.{noted}
+use Rattle.node_laws.proofs.Pads.Owners.{grown, closes_length, stays_on}
+use Rattle.node_laws.proofs.Pads.Typing.{on_itself}
 use Rattle.node_laws.proofs.Pads.Owning.{own_packet, others_stay, changed_other, learns_own}
 
 -- ---- one port
@@ -480,23 +489,71 @@ calls_begin event p number call q r at after e =
       | inr b ↦ inr b
     ]
 
+-- ---- no record goes
+
+noted_grown : (role : Role) (ns : List ChannelNote) (b : Book) → length b.records ≤ length (noted role ns b).records
+noted_grown role [] b = omega arith
+noted_grown role (note ∷ ns) b =
+    let first : length b.records ≤ length (written_by role (write_of note) b).records = grown role note b in
+    let later : length (written_by role (write_of note) b).records ≤ length (noted role (note ∷ ns) b).records = noted_grown role ns (written_by role (write_of note) b) in
+    omega arith
+
+closed_same : (role : Role) (o : Option ℕ) (c : ℕ) (b : Book) → length (closes_if o role c b).records ≡ length b.records
+closed_same role None c b = refl
+closed_same role (Some n) c b = closes_length role c b
+
+all_closed_same : (role : Role) (count c : ℕ) (b : Book) → length (closed_from count c role b).records ≡ length b.records
+all_closed_same role zero c b = refl
+all_closed_same role (suc count) c b = all_closed_same role count (suc c) (closes_present role c b) ∙ closed_same role (slot_at role c b).present c b
+
+event_grown : (event : PadEvent) (role : Role) (p : PadState) (b : Book) → length b.records ≤ length (all_written role (writes_after event p) b).records
+event_grown HasRestart role p b = (let same : length (all_written role (writes_after HasRestart p) b).records ≡ length b.records = all_closed_same role (length (side_of role b).slots) 1 b in omega arith)
+event_grown event role p b = noted_grown role (after_event event p).line.notes b
+
+beyond : {X : Type 0} (xs : List X) → slice_get xs (length xs) ≡ None
+beyond [] = refl
+beyond (x ∷ xs) = beyond xs
+
+as_long : {X : Type 0} (xs : List X) (n : ℕ) → slice_get xs n ≡ None → length xs ≤ n
+as_long [] n e = omega arith
+as_long (x ∷ xs) zero e = absurd (none-some x (sym e))
+as_long (x ∷ xs) (suc n) e = (let rest = as_long xs n e in omega arith)
+
 -- ---- what is shown since an arrival
 
-own_since : (number : ℕ) (cs : List ℕ) (p : PadState) → HasArrived number cs p → (c : ℕ) → Had p.ports number c → Contains cs c
-own_since number _ _ (arrives p params at) c m =
-    absurd (none-some c (ap (λ (x : PortState). x.call) (same_Some (new_port params None) m.0 (sym (arrives_new p number params at) ∙ m.1)) ∙ m.2))
-own_since number _ _ (goes_on {calls = cs} {p = p} h event) c m =
-    elim (event_had event p number c m) [
-      | inl k ↦ Contains-append_left cs (begun_by event p) c (own_since number cs p h c k)
-      | inr b ↦ Contains-append_right cs (begun_by event p) c b
+still_there : (role : Role) (number records : ℕ) (s : Course) → HasArrived role number records s → records ≤ length s.book.records
+still_there role number records _ (arrives s params count at) =
+    (let more : length s.book.records ≤ length (happened role (Here (HasArrival number)) s).book.records = event_grown (HasArrival number) role s.pad s.book in omega (arith, count))
+still_there role number records _ (continues {s = s} h event) =
+    let before = still_there role number records s h in
+    let more : length s.book.records ≤ length (happened role (Here event) s).book.records = event_grown event role s.pad s.book in
+    omega arith
+still_there role number records _ (elsewhere {s = s} h b away) =
+    let before = still_there role number records s h in
+    let more : length s.book.records ≤ length b.records = as_long s.book.records (length b.records) (away.none_gone (length b.records) (beyond b.records)) in
+    omega arith
+
+-- of a call that the terminal has the record is new
+own_since : (role : Role) (number records : ℕ) (s : Course) → HasArrived role number records s → (c n : ℕ) (q : PortState) → IsOn s.pad.ports number c q
+    → (slot_at role c s.book).present ≡ Some n → records ≤ n
+own_since role number records _ (arrives s params count at) c n q on present =
+    absurd (true≢false (sym on.1 ∙ ap (λ (x : PortState). has_channel x.call c) (sym (same_Some (new_port params None) q (sym (arrives_new s.pad number params at) ∙ on.0)))))
+own_since role number records _ (continues {s = s} h event) c n q on present =
+    elim (stays_on event role s.pad s.book c n number q present on) [
+      | inl was ↦ own_since role number records s h c n was.0.0 was.0.1 was.1
+      | inr new ↦ (let before = still_there role number records s h in omega (arith, new))
     ]
+own_since role number records _ (elsewhere {s = s} h b away) c n q on present = own_since role number records s h c n q on (sym (away.present c) ∙ present)
+
+its_channel : (o : Option ℕ) (c : ℕ) → o ≡ Some c → has_channel o c ≡ true
+its_channel o c e = ap (λ (x : Option ℕ). has_channel x c) e ∙ on_itself c
 
 pub shown_since : ShownLaw
-shown_since number cs p x h e = by (slice_get p.ports number) refl
+shown_since role number records s x h e = by (slice_get s.pad.ports number) refl
   where
-    by : (o : Option PortState) → slice_get p.ports number ≡ o → (call : ℕ) × Contains cs call × (front_on p.line.end.layer call ≡ Some x)
+    by : (o : Option PortState) → slice_get s.pad.ports number ≡ o → IsShownOf role number records s x
     by None is =
-        absurd (none-some x (ap (λ (o : Option PortState). option_map_or (λ found. port.taken_of (record { port = found; line = (pad.begun p).line })) o None) (sym is) ∙ e))
+        absurd (none-some x (ap (λ (o : Option PortState). option_map_or (λ found. port.taken_of (record { port = found; line = (pad.begun s.pad).line })) o None) (sym is) ∙ e))
     by (Some q) is =
-        let own = own_packet p number q x is e in
-        (own.0, own_since number cs p h own.0 (q, is, own.1), own.2)
+        let own = own_packet s.pad number q x is e in
+        record { call = own.0; front = own.2; since = λ n present. own_since role number records s h own.0 n q (is, its_channel q.call own.0 own.1) present }

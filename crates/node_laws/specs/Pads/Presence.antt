@@ -1,14 +1,17 @@
 -- A terminal that leaves and arrives: nothing of what was before is left, and what is shown is of calls that began since.
-use Rattle.std.specs.Prelude.{◌≡◌, ℕ, ◌⊎◌, true, false, List, [], ◌∷◌, ◌++◌, Contains, slice_get, Some, None}
+use Rattle.std.specs.Prelude.{◌≡◌, ℕ, ◌≤◌, ◌⊎◌, true, false, List, [], ◌∷◌, Contains, length, slice_get, Some, None}
+use Rattle.link_timers.specs.declared.role.Role.{Role}
 use Rattle.data_transfer.specs.Packets.Note.{Incoming}
 use Rattle.data_transfer.specs.Traffic.{Taken}
 use Rattle.packet_layer.specs.Layer.{front_on}
+use Rattle.call_records.specs.Book.{Book, slot_at}
 use Rattle.pad_terminal.specs.Terminal.{left, is_present}
 use Rattle.pad_ports.specs.Notes.{ChannelNote, Told, Placed}
 use Rattle.pad_ports.specs.Ports.{PortState, new_port, arrived}
 use Rattle.x25_pad.specs.Pad.{PadState, key_taken, break_taken, print_taken, print_text}
-use Rattle.node_laws.specs.Pads.Standing.{drained}
 use Rattle.node_laws.specs.Pads.Happening.{PadEvent, HasLeaving, HasArrival, HasRestart, after_event}
+use Rattle.node_laws.specs.Pads.Courses.{Here, Course, happened}
+use Rattle.node_laws.specs.Pads.EventCourses.{IsElsewhere}
 
 -- ---- a terminal that is absent
 
@@ -76,15 +79,21 @@ CallLaw = (event : PadEvent) (p : PadState) (number call : ℕ) (q r : PortState
 
 -- ---- what is shown since an arrival
 
--- the terminal of this number arrived, and since then calls began on these channels
-pub data HasArrived (number : ℕ) : (calls : List ℕ) → PadState → Type 0 where
-  arrives : (p : PadState) (params : List ℕ) → IsAbsentAt number params p
-      → HasArrived number [] (drained (after_event (HasArrival number) p))
-  goes_on : {calls : List ℕ} {p : PadState} → HasArrived number calls p → (event : PadEvent)
-      → HasArrived number (calls ++ begun_by event p) (drained (after_event event p))
+-- in a course the terminal of this number arrived when the book had so many records
+pub data HasArrived (role : Role) (number records : ℕ) : Course → Type 0 where
+  arrives : (s : Course) → (params : List ℕ) → length s.book.records ≡ records → IsAbsentAt number params s.pad
+      → HasArrived role number records (happened role (Here (HasArrival number)) s)
+  continues : {s : Course} → HasArrived role number records s → (event : PadEvent)
+      → HasArrived role number records (happened role (Here event) s)
+  elsewhere : {s : Course} → HasArrived role number records s → (b : Book) → IsElsewhere role s.book b
+      → HasArrived role number records (record s { book = b })
 
--- what is printed at it is taken of one of them
+-- what is printed at it is taken of a call that it has, whose record was made since
+pub record IsShownOf (role : Role) (number records : ℕ) (s : Course) (x : Taken) : Type 0 where
+  pub call : ℕ
+  pub front : front_on s.pad.line.end.layer call ≡ Some x
+  pub since : (n : ℕ) → (slot_at role call s.book).present ≡ Some n → records ≤ n
+
 abbrev pub ShownLaw : Type 0
-ShownLaw = (number : ℕ) (calls : List ℕ) (p : PadState) (x : Taken) → HasArrived number calls p
-    → print_taken number p ≡ Some x
-    → (call : ℕ) × Contains calls call × (front_on p.line.end.layer call ≡ Some x)
+ShownLaw = (role : Role) (number records : ℕ) (s : Course) (x : Taken) → HasArrived role number records s
+    → print_taken number s.pad ≡ Some x → IsShownOf role number records s x
