@@ -165,9 +165,16 @@ fn prints(
 
 /// Whether there is nothing at another place.
 fn refuses_others(net: &mut Net<MemLine>) -> bool {
-    matches!(net.step(&event_at(1, 0, Leaves)), Err(StepFault::NoSuchNode))
-        && matches!(net.step(&event_at(0, 2, Arrives)), Err(StepFault::NoSuchTerminal))
-        && matches!(net.step(&Event::GivesUp { line: 2 }), Err(StepFault::NoSuchNode))
+    matches!(
+        net.step(&event_at(1, 0, Leaves)),
+        Err(StepFault::NoSuchNode)
+    ) && matches!(
+        net.step(&event_at(0, 2, Arrives)),
+        Err(StepFault::NoSuchTerminal)
+    ) && matches!(
+        net.step(&Event::GivesUp { line: 2 }),
+        Err(StepFault::NoSuchNode)
+    )
 }
 
 fn all_go_so(alloc: Global, net: &mut Net<MemLine>, config: &Config, steps: &[Step]) -> bool {

@@ -12,8 +12,11 @@ pub returns-clause-kept : goal.returns-clause-kept
 returns-clause-kept c =
     let a = c.self.inside in
     on_err c.offer.result
-    (λ same. (ap (λ (l : Link). record {
-      end = record { link = l.link; t1 = a.t1; frames = a.out.frames };
-      held = l.held;
-    }) same.0 ∙ c.self.view_is, same.1))
+    (λ same. (
+      ap (λ (l : Link). record {
+        end = record { link = l.link; t1 = a.t1; frames = a.out.frames };
+        held = l.held;
+      }) same.0 ∙ c.self.view_is,
+      same.1,
+    ))
     (c.offer.ensures.kept c.self.invariant.tight)
