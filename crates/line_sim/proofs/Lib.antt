@@ -6,7 +6,9 @@ pub mod Events
 mod FewerDue
 mod IdleTimers
 mod Refusals
+mod Courses
 mod RunsMore
+mod PadsRun
 mod Stepped
 mod Resting
 mod Receipts

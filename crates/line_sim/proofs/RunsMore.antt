@@ -1,6 +1,7 @@
 -- A run and one event more.
-use Rattle.std.proofs.Common.{◌≡◌, Bool, ℕ, zero, suc, ◌+◌, ◌<◌, List, [], ◌∷◌, ◌++◌, take, length, get_or, Option, Some, None, Result, Ok, Err, refl, sym, ap, ◌∙◌, subst, inl, inr, arith}
+use Rattle.std.proofs.Common.{◌≡◌, Bool, ℕ, zero, suc, ◌+◌, ◌<◌, List, [], ◌∷◌, ◌++◌, take, length, get_or, Option, Some, None, Result, Ok, Err, refl, sym, ap, ◌∙◌, subst, inl, inr, arith, append-nil, append_assoc}
 use Rattle.std.specs.Prelude.{nat_lt, true, false, is_some, slice_get, if◌then◌else◌}
+use Rattle.std.specs.Bool.{OnTrue}
 use Rattle.std.proofs.lemmas.Option.{slice_get-get_or}
 use Rattle.line_nodes.specs.declared.fault.NodeFault.{NodeFault}
 use Rattle.frame_lines.specs.Lines.{LineService, memory_service}
@@ -17,6 +18,8 @@ use Rattle.net_events.specs.declared.event.StepFault.TheVariants.{OutOfMemory, N
 use Rattle.net_nodes.specs.Places.{is_host_at, pad_terminals, user_at}
 use Rattle.net_nodes.specs.Faults.{step_fault, refused, at_node, at_host, is_channel_at, on_channel, stands_at, at_terminal, where_there_is, takes_memory, MayWant}
 use Rattle.net_nodes.specs.Happening.{Happens}
+use Rattle.node_laws.specs.Pads.Happening.{PadEvent}
+use Rattle.line_sim.specs.Courses.{brought, all_brought, CoursesLead}
 use Rattle.line_sim.specs.Runs.{IsHandled, Ran, HasRun, HasStopped}
 use Rattle.line_sim.specs.Stepping.{lent, HasStepped}
 use Rattle.std.specs.Borrow.{Bor}
@@ -35,16 +38,29 @@ pub ran-more : (L : LineService) (es : List Event) (s t : Network) (e : Event) (
 ran-more L [] s t e u r h = let P : Network → Type 0 = λ x. IsHandled L e x (step_fault e x) u in (u, subst P (sym r) h, refl)
 ran-more L (x ∷ es) s t e u r h = (r.0, r.1, ran-more L es r.0 t e u r.2 h)
 
+-- what the events of a longer run bring
+pub all_brought-more : (place : ℕ) (L : LineService) (es : List Event) (s t : Network) (e : Event) (u : Network) (r : Ran L s es t) (h : IsHandled L e t (step_fault e t) u)
+    → all_brought place L s (es ++ e ∷ []) u (ran-more L es s t e u r h) ≡ all_brought place L s es t r ++ brought place e t
+unfolding ran-more
+all_brought-more place L [] s t e u r h = append-nil (brought place e s) ∙ ap (λ (x : Network). brought place e x) r
+all_brought-more place L (x ∷ es) s t e u r h =
+    ap (λ (l : List PadEvent). brought place x s ++ l) (all_brought-more place L es r.0 t e u r.2 h)
+    ∙ sym (append_assoc (brought place x s) (all_brought place L r.0 es t r.2) (brought place e t))
+
 take-more : {A : Type 0} (xs : List A) (i : ℕ) (x d : A) → i < length xs → x ≡ get_or xs i d → take (suc i) xs ≡ take i xs ++ x ∷ []
 take-more [] i x d h e = absurd (omega arith)
 take-more (y ∷ ys) zero x d h e = ap (λ z. z ∷ []) (sym e)
 take-more (y ∷ ys) (suc i) x d h e = ap (λ zs. y ∷ zs) (take-more ys i x d (omega arith) e)
 
+-- the events up to the next one
+pub take_next : {A : Type 0} (xs : List A) (i : ℕ) (d x : A) → i < length xs → x ≡ get_or xs i d → take (i + 1) xs ≡ take i xs ++ x ∷ []
+take_next xs i d x h is = (let same : i + 1 ≡ suc i = omega arith in ap (λ n. take n xs) same ∙ take-more xs i x d h is)
+
 pub run-more : (config : Config) (events : List Event) (i : ℕ) (d e : Event) (t u : Network) → i < length events → e ≡ get_or events i d
     → HasRun config (take i events) t → IsHandled memory_service e t (step_fault e t) u → HasRun config (take (i + 1) events) u
 run-more config events i d e t u h is run happens =
     let P : List Event → Type 0 = λ es. Ran memory_service run.start es u in
-    let next : take (i + 1) events ≡ take i events ++ e ∷ [] = (let same : i + 1 ≡ suc i = omega arith in ap (λ n. take n events) same ∙ take-more events i e d h is) in
+    let next : take (i + 1) events ≡ take i events ++ e ∷ [] = take_next events i d e h is in
     record {
       start = run.start;
       made = run.made;
@@ -135,8 +151,21 @@ module _ (L : LineService) (e : Event) (s t : Network) (r : Result (Bor Answer) 
       happened L e s (lent r) t w.happens
       (λ memory. absurd (let same : ◌≡◌ {A = Result Answer StepFault} (Ok answer.now) (Err OutOfMemory) = ap lent (sym is) ∙ memory in cc))
 
+  -- and the courses of the PADs went on, on faithful lines
+  pub lent_courses : L.faithful → (answer : Bor Answer) → r ≡ Ok answer → CoursesLead e s t
+  lent_courses faithful answer is =
+      w.courses faithful (λ memory. absurd (let same : ◌≡◌ {A = Result Answer StepFault} (Ok answer.now) (Err OutOfMemory) = ap lent (sym is) ∙ memory in cc))
+
+  pub refused_courses : L.faithful → (fault : StepFault) → r ≡ Err fault → (fault ≡ OutOfMemory → ⊥) → CoursesLead e s t
+  refused_courses faithful fault is not_memory = w.courses faithful (λ memory. not_memory (same_fault fault is memory))
+
   pub lent_wanting : (fault : StepFault) → r ≡ Err fault → fault ≡ OutOfMemory → MayWant e s
   lent_wanting fault is memory = wanting L e s (lent r) t w.happens (ap lent is ∙ ap Err memory)
+
+-- what holds where an answer is yes
+pub if_so : (answer : Bool) (P : Type 0) → (answer ≡ true → P) → OnTrue answer P
+if_so true P h = h refl
+if_so false P h = tt
 
 pub stops : (config : Config) (events : List Event) (i : ℕ) (d e : Event) (t : Network) → i < length events → e ≡ get_or events i d
     → HasRun config (take i events) t → MayWant e t → HasStopped config events i

@@ -10,6 +10,7 @@ use Rattle.net_nodes.specs.Happening.{Happens}
 use Rattle.network_laws.proofs.Switched.PromiseAny.{promise_any}
 use Rattle.line_sim.specs.Between.{IsBetweenEvents}
 use Rattle.line_sim.specs.Stepping.{HasStepped}
+use Rattle.line_sim.proofs.Courses.{courses_go_on}
 use Rattle.line_sim.proofs.Events.{happens}
 use Rattle.line_sim.proofs.FewerDue.{fewer_due}
 use Rattle.line_sim.proofs.IdleTimers.{idle}
@@ -26,5 +27,6 @@ stepped L e s r t b h = record {
   err = unchanged L e s r t h;
   fewer_due = fewer_due L e s r t b h;
   idle = idle L e s r t b h;
+  courses = courses_go_on L e s r t b h;
   headline = promise_any L t (happens L e s r t b h).any;
 }

@@ -3,4 +3,5 @@ pub mod Between
 pub mod Runs
 pub mod Expiries
 pub mod Receipts
+pub mod Courses
 pub mod Stepping

@@ -14,6 +14,7 @@ ghost use Rattle.net_nodes.specs.Happening.{IsRefusedSo, FindsNoFrame, FindNoFra
 ghost use Rattle.net_nodes.specs.Due.{net_due};
 ghost use Rattle.line_sim.specs.Receipts.{IsTakenBeyond};
 ghost use Rattle.net_nodes.specs.Questions.{net_confirmed, net_rests};
+ghost use Rattle.line_sim.specs.Courses.{HaveNoEvent, CoursesPass};
 ghost use Rattle.line_sim.specs.Runs.{IsMadeBy};
 
 use crate::making::made_nodes;
@@ -79,6 +80,7 @@ impl<L: Line> Net<L> {
         ensures bad { is_served config.now ≡ false → result ≡ Err make_fault_is.BadConfig }
         ensures served { is_served config.now ≡ true → IsOkUnless result make_fault_is.OutOfMemory }
         ensures ok { IfOk result (IsMadeBy L.service config.now) }
+        ensures courses { IfOk result (HaveNoEvent config.now) }
         ensures headline { IfOk result (λ net. L.service.faithful → NetworkPromise net) }
     {
         let plan = plan_of(alloc, config)?;
@@ -138,6 +140,7 @@ impl<L: Line> Net<L> {
     /// Lets ticks pass, each a twentieth of a second: each timer that runs has so many less, not below 0.
     pub fn elapse(&mut self, ticks: u16)
         ensures passes { self.new ≡ all_elapsed ticks self.old }
+        ensures courses { CoursesPass ticks self.old self.new }
         ensures headline { L.service.faithful → NetworkPromise self.new }
     {
         self.nodes.elapse(ticks);

@@ -8,6 +8,7 @@ ghost use Rattle.net_config.specs.Served.{is_served};
 ghost use Rattle.net_nodes.specs.Faults.{step_fault, MayWant};
 ghost use Rattle.line_sim.specs.declared.running.RunFault.TheVariants.{Made};
 ghost use Rattle.line_sim.specs.Runs.{IsHandled, IsMadeBy, HasRun, IsRunFault};
+ghost use Rattle.line_sim.specs.Courses.{HaveNoEvent, CoursesLead, PadsHaveRun};
 
 use crate::net::Net;
 use frame_lines::{MemLine, mem_lines};
@@ -34,6 +35,7 @@ impl Net<MemLine> {
         ensures bad { is_served config.now ≡ false → result ≡ Err BadConfig }
         ensures served { is_served config.now ≡ true → IsOkUnless result OutOfMemory }
         ensures ok { IfOk result (IsMadeBy memory_service config.now) }
+        ensures courses { IfOk result (HaveNoEvent config.now) }
         ensures headline { IfOk result NetworkPromise }
     {
         if !is_served(config) {
@@ -49,6 +51,7 @@ impl Net<MemLine> {
 /// not made, and with `Stopped` and the index of the event at which memory ended.
 pub fn run(alloc: Global, config: &Config, events: &[Event]) -> Result<Net<MemLine>, RunFault>
     ensures ran { IfOk result (HasRun config.now events.now) }
+    ensures pads { IfOk result (PadsHaveRun config.now events.now) }
     ensures headline { IfOk result NetworkPromise }
     ensures bad { is_served config.now ≡ false → result ≡ Err (Made BadConfig) }
     ensures err { IfErr result (IsRunFault config.now events.now) }
@@ -70,6 +73,7 @@ pub fn run(alloc: Global, config: &Config, events: &[Event]) -> Result<Net<MemLi
 fn goes_on(net: &mut Net<MemLine>, event: &Event) -> bool
     ensures handled { OnTrue result (IsHandled memory_service event.now net.old (step_fault event.now net.old)
         net.new) }
+    ensures courses { OnTrue result (CoursesLead event.now net.old net.new) }
     ensures wanting { OnFalse result (MayWant event.now net.old) }
     ensures headline { NetworkPromise net.new }
 {
