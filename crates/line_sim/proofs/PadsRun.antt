@@ -157,15 +157,15 @@ next_run config es e s t p handled leads promise = record {
       let before : List PadEvent = all_brought place memory_service p.run.start es s p.run.ran in
       let led : HasCourse c line place (before ++ brought place e s) t = leads c line place before old.led in
       subst (λ (course : List PadEvent). PadHasRun c line place (es ++ e ∷ []) course t) (sym (all_brought-more place memory_service es p.run.start s e t p.run.ran handled)) (
-        record {
-          led = led;
-          given = λ terminal less.
-              had_append terminal before (brought place e s)
-              ∙ ap₂ (λ (xs ys : List TerminalEvent). xs ++ ys) (old.given terminal less) (given_so s c line place before old.led terminal less e)
-              ∙ sym (given_more line place terminal es e);
-          sent = λ i r at is. sent_course t promise c line place (before ++ brought place e s) led i r at is;
-          typed = typed_course t promise c line place (before ++ brought place e s) led;
-        }
+      record {
+        led = led;
+        given = λ terminal less.
+            had_append terminal before (brought place e s)
+            ∙ ap₂ (λ (xs ys : List TerminalEvent). xs ++ ys) (old.given terminal less) (given_so s c line place before old.led terminal less e)
+            ∙ sym (given_more line place terminal es e);
+        sent = λ i r at is. sent_course t promise c line place (before ++ brought place e s) led i r at is;
+        typed = typed_course t promise c line place (before ++ brought place e s) led;
+      }
       );
 }
 
