@@ -16,6 +16,6 @@ returns-clause-headline g c =
 pub returns-clause-courses : goal.returns-clause-courses
 returns-clause-courses g c = λ pad line place events h.
     rw c.elapse.ensures (
-      time_course c.self.inside.nodes c.args.ticks pad line place events
-      (subst (λ (s : Network). HasCourse pad line place events s) (sym c.self.view_is) h)
+    time_course c.self.inside.nodes c.args.ticks pad line place events
+    (subst (λ (s : Network). HasCourse pad line place events s) (sym c.self.view_is) h)
     )
