@@ -1,6 +1,7 @@
 -- A run and one event more.
 use Rattle.std.proofs.Common.{◌≡◌, Bool, ℕ, zero, suc, ◌+◌, ◌<◌, List, [], ◌∷◌, ◌++◌, take, length, get_or, Option, Some, None, Result, Ok, Err, refl, sym, ap, ◌∙◌, subst, inl, inr, arith, append-nil, append_assoc}
 use Rattle.std.specs.Prelude.{nat_lt, true, false, is_some, slice_get, if◌then◌else◌}
+use Rattle.std.specs.Bool.{OnTrue}
 use Rattle.std.proofs.lemmas.Option.{slice_get-get_or}
 use Rattle.line_nodes.specs.declared.fault.NodeFault.{NodeFault}
 use Rattle.frame_lines.specs.Lines.{LineService, memory_service}
@@ -161,6 +162,11 @@ module _ (L : LineService) (e : Event) (s t : Network) (r : Result (Bor Answer) 
 
   pub lent_wanting : (fault : StepFault) → r ≡ Err fault → fault ≡ OutOfMemory → MayWant e s
   lent_wanting fault is memory = wanting L e s (lent r) t w.happens (ap lent is ∙ ap Err memory)
+
+-- what holds where an answer is yes
+pub if_so : (answer : Bool) (P : Type 0) → (answer ≡ true → P) → OnTrue answer P
+if_so true P h = h refl
+if_so false P h = tt
 
 pub stops : (config : Config) (events : List Event) (i : ℕ) (d e : Event) (t : Network) → i < length events → e ≡ get_or events i d
     → HasRun config (take i events) t → MayWant e t → HasStopped config events i

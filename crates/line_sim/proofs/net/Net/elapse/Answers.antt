@@ -1,3 +1,6 @@
+use Rattle.std.proofs.Common.{subst, sym}
+use Rattle.net_events.specs.Network.{Network}
+use Rattle.network_laws.specs.Courses.{HasCourse}
 use Rattle.network_laws.proofs.Courses.{time_course}
 use Rattle.network_laws.proofs.Switched.PromiseAny.{promise_any}
 use Rattle.line_sim.proofs.Events.{elapsed}
@@ -11,4 +14,8 @@ returns-clause-headline g c =
     rw c.elapse.ensures (promise_any g.L.Line.service _ (elapsed g.L.Line.service _ c.args.ticks c.self.invariant).any)
 
 pub returns-clause-courses : goal.returns-clause-courses
-returns-clause-courses g c = rw c.elapse.ensures (time_course c.self.inside.nodes c.args.ticks)
+returns-clause-courses g c = λ pad line place events h.
+    rw c.elapse.ensures (
+    time_course c.self.inside.nodes c.args.ticks pad line place events
+    (subst (λ (s : Network). HasCourse pad line place events s) (sym c.self.view_is) h)
+    )
