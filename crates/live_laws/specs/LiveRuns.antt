@@ -9,8 +9,8 @@ use Rattle.net_events.specs.declared.event.StepFault.{StepFault}
 use Rattle.network_laws.specs.Switched.Promise.{NetworkPromise}
 use Rattle.line_sim.specs.Between.{IsBetweenEvents}
 use Rattle.line_sim.specs.Stepping.{HasStepped}
-use Rattle.live_net.specs.Registers.{on}
-use Rattle.live_net.specs.Living.{HasLived}
+use Rattle.live_laws.specs.Registers.{on}
+use Rattle.live_laws.specs.Living.{HasLived}
 
 -- an event is handled, which has this result, or time passes
 pub data Move : Type 0 where

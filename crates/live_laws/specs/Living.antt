@@ -1,14 +1,15 @@
 -- A network that keeps no records, and the registers with which it is one that keeps them.
-use Rattle.std.specs.Prelude.{◌≡◌, length, Result}
+use Rattle.std.specs.Prelude.{◌≡◌, ℕ, length, Result}
 use Rattle.call_records.specs.Register.{Register, HasNoRecords}
 use Rattle.frame_lines.specs.Lines.{LineService}
-use Rattle.net_events.specs.Network.{Network}
+use Rattle.net_events.specs.Network.{Network, all_elapsed}
 use Rattle.net_events.specs.declared.answer.Answer.{Answer}
 use Rattle.net_events.specs.declared.event.Event.{Event}
 use Rattle.net_events.specs.declared.event.StepFault.{StepFault}
+use Rattle.net_nodes.specs.Happening.{Happens}
 use Rattle.line_sim.specs.Between.{IsBetweenEvents}
 use Rattle.line_sim.specs.Stepping.{HasStepped}
-use Rattle.live_net.specs.Registers.{on}
+use Rattle.live_laws.specs.Registers.{on, bare}
 
 -- between events there is a register with which all holds that the laws of networks keep, and the network's own one has
 -- each line and no record
@@ -30,3 +31,16 @@ pub record HasLived (L : LineService) (e : Event) (s : Network) (r : Result Answ
     : Type 0 where
   pub steps : (g : Register) → IsBetweenEvents L (on g s) → StepsOn L e g s r t
   pub stored : HasNoRecords t.register
+
+-- ---- what a network does whose records are forgotten after each event
+
+-- a network as made
+abbrev pub MadeLaw : LineService → Type 0
+MadeLaw L = (s : Network) → IsBetweenEvents L s → IsLive L (bare s)
+
+abbrev pub EventLaw : LineService → Type 0
+EventLaw L = (e : Event) (s : Network) (r : Result Answer StepFault) (t : Network) → IsLive L s → Happens L e s r t
+    → HasLived L e s r (bare t) × IsLive L (bare t)
+
+abbrev pub TimeLaw : LineService → Type 0
+TimeLaw L = (s : Network) (ticks : ℕ) → IsLive L s → IsLive L (all_elapsed ticks s)

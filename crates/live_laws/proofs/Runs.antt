@@ -2,13 +2,12 @@
 use Rattle.std.proofs.Common.{List, [], ◌∷◌, sym, ap, subst}
 use Rattle.call_records.specs.Register.{Register}
 use Rattle.frame_lines.specs.Lines.{LineService}
-use Rattle.net_events.specs.Network.{Network, all_elapsed}
-use Rattle.network_laws.specs.Switched.Promise.{NetworkPromise}
+use Rattle.net_events.specs.Network.{Network}
 use Rattle.network_laws.proofs.Switched.PromiseAny.{promise_any}
 use Rattle.line_sim.specs.Between.{IsBetweenEvents}
 use Rattle.line_sim.proofs.Events.{elapsed}
-use Rattle.live_net.specs.Registers.{on}
-use Rattle.live_net.specs.LiveRuns.{Move, Handles, Passes, LiveMoves, RunsOn}
+use Rattle.live_laws.specs.Registers.{on}
+use Rattle.live_laws.specs.LiveRuns.{Move, Handles, Passes, LiveMoves, RunsOn}
 
 pub live_runs : (L : LineService) (g : Register) (s : Network) (moves : List Move) (t : Network)
     → IsBetweenEvents L (on g s) → LiveMoves L s moves t → RunsOn L g s moves t

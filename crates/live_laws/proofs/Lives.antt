@@ -1,56 +1,20 @@
 -- A network that keeps no records goes on as one that keeps them.
-use Rattle.std.proofs.Common.{◌≡◌, ℕ, Result, refl, sym, ap, ◌∙◌, inl, inr}
-use Rattle.std.specs.Prelude.{◌⊎◌, length, slice_get, Some}
-use Rattle.link_timers.specs.declared.role.Role.{Role}
-use Rattle.call_records.specs.Register.{Register, HasNoRecords, forgotten}
+use Rattle.std.proofs.Common.{◌≡◌, ℕ, Result, refl, sym, ap, ◌∙◌}
+use Rattle.std.specs.Prelude.{length}
+use Rattle.call_records.specs.Register.{Register}
 use Rattle.frame_lines.specs.Lines.{LineService}
-use Rattle.net_events.specs.Network.{NetLine, Network, all_elapsed}
-use Rattle.net_config.specs.declared.config.Config.{Config}
+use Rattle.net_events.specs.Network.{Network, all_elapsed}
 use Rattle.net_events.specs.declared.answer.Answer.{Answer}
 use Rattle.net_events.specs.declared.event.Event.{Event}
 use Rattle.net_events.specs.declared.event.StepFault.{StepFault}
-use Rattle.net_nodes.specs.Places.{EndStands, IsStanding}
 use Rattle.net_nodes.specs.Happening.{Happens}
 use Rattle.line_sim.specs.Between.{IsBetweenEvents}
-use Rattle.line_sim.specs.Runs.{IsMadeBy}
-use Rattle.line_sim.proofs.CanBeServed.{standing}
 use Rattle.line_sim.proofs.Events.{happens, elapsed}
 use Rattle.line_sim.proofs.Stepped.{stepped}
-use Rattle.live_net.specs.Registers.{on, register_made}
-use Rattle.live_net.specs.Writing.{WritesSo}
-use Rattle.live_net.specs.Living.{IsLive, StepsOn, HasLived}
-use Rattle.live_net.proofs.Apart.{happens_apart}
-
--- the network without its records
-abbrev bare : Network → Network
-bare s = record s { register = forgotten s.register }
-
--- what stands at an end does not depend on the register
-end_stands : (g : Register) (s : Network) (line : ℕ) (l : NetLine) (role : Role) → EndStands (on g s) line l role
-    → EndStands s line l role
-end_stands g s line l role (inl u) = inl (record {
-  node = u.node;
-  node_there = u.node_there;
-  node_line = u.node_line;
-  quiet = u.quiet;
-})
-end_stands g s line l role (inr w) = inr (record {
-  node = w.node;
-  node_there = w.node_there;
-  own = w.own;
-  own_line = w.own_line;
-  role_is = w.role_is;
-})
-
--- its nodes stand at their lines
-pub live_standing : (L : LineService) (s : Network) → IsLive L s → IsStanding s
-live_standing L s live =
-    let st = standing L (on live.register s) live.between in
-    record {
-      nodes = st.nodes;
-      ends = λ line l role at. end_stands live.register s line l role (st.ends line l role at);
-      registered = live.registered;
-    }
+use Rattle.live_laws.specs.Registers.{on, bare}
+use Rattle.live_laws.specs.Writing.{WritesSo}
+use Rattle.live_laws.specs.Living.{IsLive, StepsOn, HasLived}
+use Rattle.live_laws.proofs.Apart.{happens_apart}
 
 -- the event writes the same into each register with which the network was one between events
 steps_on : (L : LineService) (e : Event) (s : Network) (r : Result Answer StepFault) (t : Network) → WritesSo L e s r t
@@ -99,8 +63,3 @@ live_made L s b = record {
   registered = b.registered;
   stored = record { records = refl; pairs = refl };
 }
-
--- with the register that its configuration gives it, it is as it was made
-pub as_made : (L : LineService) (config : Config) (s : Network) → IsMadeBy L config s
-    → on (register_made config) s ≡ s
-as_made L config s m = ap (λ (g : Register). on g s) (sym m.made.register)

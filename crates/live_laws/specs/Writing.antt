@@ -12,7 +12,7 @@ use Rattle.net_events.specs.declared.answer.Answer.{Answer}
 use Rattle.net_events.specs.declared.event.Event.{Event}
 use Rattle.net_events.specs.declared.event.StepFault.{StepFault}
 use Rattle.net_nodes.specs.Happening.{Happens}
-use Rattle.live_net.specs.Registers.{on}
+use Rattle.live_laws.specs.Registers.{on}
 
 -- two turns leave the node alike and tell its user the same
 pub record AreAlike (x y : Turn) : Type 0 where

@@ -1,6 +1,7 @@
 //! That nothing but the register depends on the register, and what follows of runs.
-ghost use Rattle.live_net.specs.LiveRuns.{LiveRunsAreRuns};
-ghost use Rattle.live_net.specs.Writing.{TurnsAreAlike, HappensWithAnyRegister};
+ghost use Rattle.live_laws.specs.Living.{MadeLaw, EventLaw, TimeLaw};
+ghost use Rattle.live_laws.specs.LiveRuns.{LiveRunsAreRuns};
+ghost use Rattle.live_laws.specs.Writing.{TurnsAreAlike, HappensWithAnyRegister};
 
 use frame_lines::Line;
 
@@ -10,6 +11,15 @@ use frame_lines::Line;
 pub fn any_register_law<L: Line>()
     ensures turns { TurnsAreAlike }
     ensures happens { HappensWithAnyRegister L.service }
+{}
+
+/// The law of a network whose records are forgotten after each event, over definitions alone. With each register with
+/// which all holds that the laws of networks keep, there is one with which it holds after an event or a time that
+/// passes. With these two the network stepped as one that keeps its records.
+pub fn forgetting_law<L: Line>()
+    ensures made { MadeLaw L.service }
+    ensures event { EventLaw L.service }
+    ensures time { TimeLaw L.service }
 {}
 
 /// The law of runs: from a register on, with which a network without records is one between events, there is one after
