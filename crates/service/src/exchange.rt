@@ -19,6 +19,18 @@ pub(crate) struct Exchange<L: Line> {
 }
 
 impl<L: Line> Exchange<L> {
+    /// Tells a PAD that a client came to a terminal or left it, and says whether there was anything to tell.
+    pub(crate) fn tell(&mut self, pad: usize, number: u16, terminal: &mut Terminal) -> bool {
+        let Some(event) = terminal.untold else {
+            return false;
+        };
+        let told = self.happen(&at_terminal(pad, number, event));
+        if told {
+            terminal.untold = None;
+        }
+        told
+    }
+
     /// Types a key at a terminal, and says whether the PAD took it.
     pub(crate) fn type_key(&mut self, pad: usize, number: u16, key: Key) -> bool {
         match self.net.step(&at_terminal(pad, number, key_event(key))) {

@@ -22,13 +22,28 @@ impl<L: Line> Service<L> {
 
     /// One round, and whether it found anything to do.
     fn round(&mut self) -> bool {
+        let told = tell_pad(&mut self.exchange, self.pad, self.terminals.as_mut_slice());
         let typed = type_keys(&mut self.exchange, self.pad, self.terminals.as_mut_slice());
         let shown = show_texts(&mut self.exchange, self.pad, self.terminals.as_mut_slice());
         let served = self.exchange.serve_calls();
         let moved = self.exchange.deliver_frames();
         let expired = self.exchange.expire();
-        typed | shown | served | moved | expired
+        told | typed | shown | served | moved | expired
     }
+}
+
+/// Tells a PAD at which terminals clients came or left, and says whether there were any.
+pub(crate) fn tell_pad<L: Line>(
+    exchange: &mut Exchange<L>,
+    pad: usize,
+    terminals: &mut [Terminal],
+) -> bool {
+    let mut any = false;
+    for number in 0..terminals.len() {
+        let told = exchange.tell(pad, number_of(number), &mut terminals[number]);
+        any = any || told;
+    }
+    any
 }
 
 /// Types the next keys of each terminal.

@@ -2,6 +2,7 @@
 
 use crate::exchange::Exchange;
 use crate::hosts::{HostBinding, Hosts};
+use crate::rounds::tell_pad;
 use crate::terminal::{Phase, Terminal};
 use line_sim::{Line, Net};
 use std::alloc::{AllocError, Global};
@@ -27,7 +28,7 @@ pub enum Order {
 /// What waits at a port.
 #[derive(Clone, Copy, PartialEq, Eq)]
 pub struct PortStatus {
-    /// Whether a client has it.
+    /// Whether a client has it, or one has gone and the next cannot have it yet.
     pub in_use: bool,
     /// How many keys wait to be typed.
     pub keys: usize,
@@ -48,7 +49,7 @@ pub struct Service<L: Line> {
 }
 
 impl<L: Line> Service<L> {
-    /// A service without clients on a network of so many lines.
+    /// A service without clients on a network of so many lines: nobody is at the terminals of the PAD.
     pub fn new(
         alloc: Global,
         net: Net<L>,
@@ -56,17 +57,19 @@ impl<L: Line> Service<L> {
         pad: &TerminalsBinding<'_>,
         hosts: &[HostBinding],
     ) -> Result<Self, AllocError> {
-        let exchange = Exchange {
+        let mut exchange = Exchange {
             alloc,
             net,
             lines,
             hosts: Hosts::new(alloc, hosts)?,
             seconds: 0,
         };
+        let mut terminals = new_terminals(alloc, pad.terminals)?;
+        tell_pad(&mut exchange, pad.node, terminals.as_mut_slice());
         Ok(Service {
             exchange,
             pad: pad.node,
-            terminals: terminals(alloc, pad.terminals)?,
+            terminals,
             greetings: greetings(alloc, pad)?,
             stopping: None,
         })
@@ -206,7 +209,7 @@ impl<L: Line> Service<L> {
     pub fn status(&self, port: usize) -> Option<PortStatus> {
         let terminal = self.terminals.get(port)?;
         Some(PortStatus {
-            in_use: terminal.is_open(),
+            in_use: !terminal.is_free(),
             keys: terminal.port.waiting_keys(),
             octets: terminal.port.waiting_octets(),
             overtaken: terminal.overtaken,
@@ -215,7 +218,7 @@ impl<L: Line> Service<L> {
 }
 
 /// So many terminals.
-fn terminals(alloc: Global, count: u8) -> Result<Vec<Terminal>, AllocError> {
+fn new_terminals(alloc: Global, count: u8) -> Result<Vec<Terminal>, AllocError> {
     let mut terminals = Vec::new(alloc);
     for _ in 0..count {
         terminals.push(Terminal::new(alloc)?)?;

@@ -1,8 +1,10 @@
 //! A terminal, and the client that has it.
-ghost use Rattle.std.specs.Prelude.{◌≡◌, ◌≤◌, length, take, slice_get};
+ghost use Rattle.std.specs.Prelude.{◌≡◌, ◌≤◌, Some, length, take, slice_get};
+ghost use Rattle.line_nodes.specs.declared.terminal.TerminalEvent.TheVariants as terminal_event;
 ghost use Rattle.service_ports.specs.Ports.{after_octets};
 ghost use Rattle.std.specs.Bool.{OnTrue, OnFalse};
 
+use line_sim::TerminalEvent;
 use service_ports::{Command, Key, Port};
 use std::alloc::{AllocError, Global};
 
@@ -38,6 +40,8 @@ pub(crate) enum Phase {
 pub(crate) struct Terminal {
     pub(crate) port: Port,
     pub(crate) phase: Phase,
+    /// What its PAD is to be told: that a client came, or that the last one left.
+    pub(crate) untold: Option<TerminalEvent>,
     /// Ticks since the last octet either way.
     pub(crate) quiet: u16,
     /// Keys that were dropped because a recall or a break came after them.
@@ -49,27 +53,31 @@ pub(crate) struct Terminal {
 impl Terminal {
     ghost use Rattle.service.specs.Serving.{DropsKeys, DropsSome, ShowsText};
 
-    /// A terminal that nobody has.
+    /// A terminal that nobody has. Its PAD is not told so yet.
     pub(crate) fn new(alloc: Global) -> Result<Self, AllocError> {
         Ok(Terminal {
             port: Port::new(alloc)?,
             phase: Phase::Free,
+            untold: Some(TerminalEvent::Leaves),
             quiet: 0,
             overtaken: 0,
             has_lost: false,
         })
     }
 
-    /// Whether a client may have it: nobody has it, and all is typed that clears the last one's call.
+    /// Whether a client may have it: nobody has it, and its PAD was told so.
     pub(crate) fn is_free(&self) -> bool {
-        self.phase == Phase::Free && self.port.next_key().is_none()
+        self.phase == Phase::Free && self.untold.is_none()
     }
 
     /// A client gets it, and is shown a greeting.
-    pub(crate) fn attach(&mut self, greeting: &[u8]) {
+    pub(crate) fn attach(&mut self, greeting: &[u8])
+        ensures { self.new.untold ≡ Some terminal_event.Arrives }
+    {
         self.port.begin();
         let _ = self.port.show(greeting);
         self.phase = Phase::Open;
+        self.untold = Some(TerminalEvent::Arrives);
         self.quiet = 0;
         self.has_lost = false;
     }
@@ -79,11 +87,11 @@ impl Terminal {
         matches!(self.phase, Phase::Open | Phase::Ending(_))
     }
 
-    /// The client is gone: what it typed and what it was to see is dropped, and its call is to be cleared.
+    /// The client is gone: what it typed and what it was to see is dropped, and its PAD is to be told.
     pub(crate) fn leave(&mut self) {
         if self.is_open() {
             self.port.begin();
-            self.port.octets(&[RECALL, b'c', b'l', b'r', b'\r']);
+            self.untold = Some(TerminalEvent::Leaves);
             self.phase = Phase::Closing;
         }
     }

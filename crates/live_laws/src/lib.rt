@@ -1,0 +1,6 @@
+//! Laws of a network whose register is forgotten after each event.
+#![tactic(auto)]
+
+mod laws;
+
+pub use laws::{any_register_law, forgetting_law, live_run_law};

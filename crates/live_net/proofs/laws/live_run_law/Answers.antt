@@ -1,5 +1,0 @@
-use Rattle.live_net.proofs.Runs.{live_runs}
-use Rattle.live_net.proofs.laws.live_run_law.Goals as goal
-
-pub returns : goal.returns
-returns g c = live_runs g.L.Line.service
