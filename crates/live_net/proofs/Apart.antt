@@ -1,6 +1,6 @@
 -- What an event writes into one register, it writes into any other one, and all else is the same.
-use Rattle.std.proofs.Common.{◌≡◌, ℕ, List, Option, Some, None, Result, Ok, Err, refl, sym, ap, subst, ◌∙◌, inl, inr}
-use Rattle.std.specs.Prelude.{◌⊎◌, length}
+use Rattle.std.proofs.Common.{◌≡◌, ℕ, false, List, Result, Ok, Err, refl, sym, ap, subst, ◌∙◌, inl, inr}
+use Rattle.std.specs.Prelude.{length}
 use Rattle.std.proofs.lemmas.List.{length-set}
 use Rattle.link_timers.specs.declared.role.Role.{Role}
 use Rattle.link_timers.specs.declared.role.Role.TheVariants.{Dte, Dce}
@@ -14,10 +14,10 @@ use Rattle.frame_lines.specs.Lines.{LineService, ArePut}
 use Rattle.net_events.specs.OneLine.{direction_of}
 use Rattle.net_events.specs.NodeEvents.{NodeEvent, Hears, Expires, Relinks, Restarts, Calls, Takes, turn_of}
 use Rattle.net_events.specs.NodeEvents as node_event
-use Rattle.net_events.specs.AtSwitch.{SwitchEvent, SwitchHappened, joins_of, all_handed}
+use Rattle.net_events.specs.AtSwitch.{SwitchEvent, joins_of, all_handed}
 use Rattle.net_events.specs.AtSwitch as switch_event
 use Rattle.net_events.specs.EventView.{request_event}
-use Rattle.net_events.specs.Network.{PlacedNode, PlacedSwitch, Network, HappenedAt, LostAt, place_at, own_role, with_turn_at}
+use Rattle.net_events.specs.Network.{PlacedNode, PlacedSwitch, Network, HappenedAt, place_at, own_role, with_turn_at}
 use Rattle.net_events.specs.declared.answer.Answer.{Answer}
 use Rattle.net_events.specs.declared.answer.Outcome.{Outcome}
 use Rattle.net_events.specs.declared.answer.Outcome.TheVariants.{Delivered, Done}
@@ -153,6 +153,7 @@ at_switch L place event s a t d = record {
 
 on_own_line : (L : LineService) (place line : ℕ) (event : (own : ℕ) → SwitchEvent) (s : Network) (a : Answer)
     (t : Network) → OnOwnLine L place line event s a t → Apart (λ x y. OnOwnLine L place line event x a y) s t
+unfolding at_switch
 on_own_line L place line event s a t d =
     let apart = at_switch L place (event d.own) s a t d.does in
     record {
@@ -168,6 +169,7 @@ on_own_line L place line event s a t d =
 
 at_switch_end : (L : LineService) (line : ℕ) (role : Role) (event : (own : ℕ) → SwitchEvent) (s : Network) (a : Answer)
     (t : Network) → AtSwitchEnd L line role event s a t → Apart (λ x y. AtSwitchEnd L line role event x a y) s t
+unfolding at_switch
 at_switch_end L line role event s a t d =
     let apart = at_switch L d.place (event d.there.own) s a t d.there.does in
     record {

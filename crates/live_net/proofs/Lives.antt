@@ -1,8 +1,8 @@
 -- A network that keeps no records goes on as one that keeps them.
-use Rattle.std.proofs.Common.{◌≡◌, ℕ, Result, refl, sym, ap, ◌∙◌, inl, inr}
-use Rattle.std.specs.Prelude.{◌⊎◌, length, slice_get, Some}
+use Rattle.std.proofs.Common.{◌≡◌, ℕ, Result, refl, sym, ap, subst, ◌∙◌, inl, inr}
+use Rattle.std.specs.Prelude.{length}
 use Rattle.link_timers.specs.declared.role.Role.{Role}
-use Rattle.call_records.specs.Register.{Register, HasNoRecords, forgotten}
+use Rattle.call_records.specs.Register.{Register, forgotten}
 use Rattle.frame_lines.specs.Lines.{LineService}
 use Rattle.net_events.specs.Network.{NetLine, Network, all_elapsed}
 use Rattle.net_config.specs.declared.config.Config.{Config}
@@ -101,6 +101,13 @@ live_made L s b = record {
 }
 
 -- with the register that its configuration gives it, it is as it was made
-pub as_made : (L : LineService) (config : Config) (s : Network) → IsMadeBy L config s
-    → on (register_made config) s ≡ s
-as_made L config s m = ap (λ (g : Register). on g s) (sym m.made.register)
+as_made : (L : LineService) (config : Config) (s : Network) → IsMadeBy L config s → s ≡ on (register_made config) s
+as_made L config s m = ap (λ (g : Register). on g s) m.made.register
+
+pub made_on : (L : LineService) (config : Config) (s : Network) → IsMadeBy L config s
+    → IsMadeBy L config (on (register_made config) s)
+made_on L config s m = subst (λ (x : Network). IsMadeBy L config x) (as_made L config s m) m
+
+pub between_on : (L : LineService) (config : Config) (s : Network) → IsMadeBy L config s → IsBetweenEvents L s
+    → IsBetweenEvents L (on (register_made config) s)
+between_on L config s m b = subst (λ (x : Network). IsBetweenEvents L x) (as_made L config s m) b

@@ -2,8 +2,7 @@
 use Rattle.std.proofs.Common.{List, [], ◌∷◌, sym, ap, subst}
 use Rattle.call_records.specs.Register.{Register}
 use Rattle.frame_lines.specs.Lines.{LineService}
-use Rattle.net_events.specs.Network.{Network, all_elapsed}
-use Rattle.network_laws.specs.Switched.Promise.{NetworkPromise}
+use Rattle.net_events.specs.Network.{Network}
 use Rattle.network_laws.proofs.Switched.PromiseAny.{promise_any}
 use Rattle.line_sim.specs.Between.{IsBetweenEvents}
 use Rattle.line_sim.proofs.Events.{elapsed}

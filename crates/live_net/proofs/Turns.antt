@@ -9,7 +9,7 @@ use Rattle.packet_end.specs.PacketEnd.{PacketEnd}
 use Rattle.call_records.specs.Book.{Book}
 use Rattle.line_nodes.specs.Node.{NodeState, Pad, Host, end_of}
 use Rattle.line_nodes.specs.NodeEvents.{heard, node_runs, expired, relinked}
-use Rattle.line_nodes.specs.Turn.{Turn, unchanged, told}
+use Rattle.line_nodes.specs.Turn.{unchanged, told}
 use Rattle.line_nodes.specs.HostTurns.{taken_turn}
 use Rattle.net_events.specs.NodeEvents.{NodeEvent, Hears, Expires, Relinks, Restarts, Calls, Asks, Refuses, Says}
 use Rattle.net_events.specs.NodeEvents.{Takes, AtTerminal, turn_of}

@@ -22,7 +22,7 @@ use line_sim::Net;
 use net_config::{Config, MakeFault};
 use net_events::{Answer, Event, Outcome, Puts, StepFault};
 use net_nodes::Nodes;
-use std::alloc::{AllocError, Global};
+use std::alloc::Global;
 use std::marker::Model;
 
 /// A network as [`Net`] is, that keeps no records: what an event writes of calls is forgotten at its end. Its promise is
@@ -52,14 +52,14 @@ impl<L: Line> Model for LiveNet<L> {
     ghost invariant = { λ n. IsLive L.service n.nodes };
 }
 
-/// An answer without frames, notes and text, with room for those of any event.
-fn roomy_answer(alloc: Global) -> Result<Answer, AllocError> {
-    Ok(Answer {
+/// An answer without frames, notes and text, which takes no memory.
+fn bare_answer(alloc: Global) -> Answer {
+    Answer {
         frames: Puts::new(alloc),
         notes: Vec::new(alloc),
         text: Vec::new(alloc),
         outcome: Outcome::Done,
-    })
+    }
 }
 
 impl<L: Line> LiveNet<L> {
@@ -89,7 +89,7 @@ impl<L: Line> LiveNet<L> {
         Ok(LiveNet {
             nodes,
             arrived: FrameBuf::new(),
-            answer: roomy_answer(alloc)?,
+            answer: bare_answer(alloc),
         })
     }
 

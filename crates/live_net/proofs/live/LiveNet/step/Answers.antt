@@ -5,6 +5,7 @@ use Rattle.net_events.specs.declared.event.StepFault.{StepFault}
 use Rattle.net_nodes.specs.Happening.{Happens}
 use Rattle.line_sim.specs.Stepping.{lent}
 use Rattle.line_sim.proofs.Refusals.{refusals}
+use Rattle.live_net.specs.Living.{HasLived}
 use Rattle.live_net.proofs.Lives.{live_standing, lived, lives_on}
 use Rattle.live_net.proofs.live.LiveNet.step.Goals as goal
 
@@ -23,8 +24,10 @@ returns-in_err-happened g c =
     = ap (λ x. result_and x (Ok c.happen-happened.new.answer)) c.in_err-happened.was ∙ search rules in
     let h : Happens L c.args.event.now c.self.inside.nodes r c.happen-happened.new.self
     = subst (λ (x : Result Answer StepFault). Happens L c.args.event.now c.self.inside.nodes x c.happen-happened.new.self) is c.happen-happened.ensures in
-    rw (← c.self.view_is, c.forget.ensures) (
-      (refl, λ _. tt, lived L c.args.event.now c.self.inside.nodes r c.happen-happened.new.self h),
+    let k : HasLived L c.args.event.now c.self.inside.nodes r c.forget.new.self
+    = rw c.forget.ensures (lived L c.args.event.now c.self.inside.nodes r c.happen-happened.new.self h) in
+    rw (← c.self.view_is) (
+      (refl, λ _. tt, k),
       record { faults = refusals L c.args.event.now c.self.inside.nodes r c.happen-happened.new.self h; after = tt },
     )
 
@@ -35,7 +38,9 @@ returns g c =
     let is : result_and c.happen-happened.result r ≡ r = ap (λ x. result_and x r) c.in_ok-happened.was in
     let h : Happens L c.args.event.now c.self.inside.nodes r c.happen-happened.new.self
     = subst (λ (x : Result Answer StepFault). Happens L c.args.event.now c.self.inside.nodes x c.happen-happened.new.self) is c.happen-happened.ensures in
-    rw (← c.self.view_is, c.forget.ensures) (
-      (refl, λ _. tt, lived L c.args.event.now c.self.inside.nodes r c.happen-happened.new.self h),
+    let k : HasLived L c.args.event.now c.self.inside.nodes r c.forget.new.self
+    = rw c.forget.ensures (lived L c.args.event.now c.self.inside.nodes r c.happen-happened.new.self h) in
+    rw (← c.self.view_is) (
+      (refl, λ _. tt, k),
       record { faults = refusals L c.args.event.now c.self.inside.nodes r c.happen-happened.new.self h; after = tt },
     )
