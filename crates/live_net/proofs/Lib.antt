@@ -2,3 +2,5 @@ pub mod Turns
 pub mod Apart
 pub mod Lives
 pub mod Runs
+pub mod Blind
+pub mod Parts

@@ -2,3 +2,5 @@ pub mod Registers
 pub mod Writing
 pub mod Living
 pub mod LiveRuns
+pub mod Parting
+pub mod Blind

@@ -30,9 +30,9 @@ use std::marker::Model;
 /// one with which all holds after it, and with these two the network stepped as [`Net`] does.
 #[derive(Drop)]
 pub struct LiveNet<L: Line> {
-    nodes: Nodes<L>,
-    arrived: FrameBuf,
-    answer: Answer,
+    pub(crate) nodes: Nodes<L>,
+    pub(crate) arrived: FrameBuf,
+    pub(crate) answer: Answer,
 }
 
 impl<L: Line> Model for LiveNet<L> {

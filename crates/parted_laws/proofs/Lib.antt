@@ -3,7 +3,6 @@ mod Between
 mod Puts
 mod OneLine
 mod Parts
-mod Turns
 mod Taking
 mod Users
 mod Switches
@@ -12,7 +11,6 @@ mod Carrying
 mod Events
 mod Ticks
 mod Runs
-pub mod Blind
 mod FirstDue
 mod Made
 mod Example

@@ -5,7 +5,7 @@ ghost use Rattle.parted_laws.specs.Moves.{CarryLaw, HandLaw, PutLaw, BreakLaw};
 ghost use Rattle.parted_laws.specs.Events.{EventLaw};
 ghost use Rattle.parted_laws.specs.Running.{TickLaw, RunLaw};
 ghost use Rattle.parted_laws.specs.Making.{MakingLaw};
-ghost use Rattle.parted_laws.specs.Blind.{BlindLaw};
+ghost use Rattle.live_net.specs.Blind.{BlindLaw};
 ghost use Rattle.parted_laws.specs.FirstDue.{FirstDueLaw};
 ghost use Rattle.parted_laws.specs.Run.{RunExample};
 ghost use Rattle.parted_laws.specs.Restarting.{EndForgets, NodeForgets, SwitchForgets};
