@@ -45,6 +45,7 @@ impl TakenBuf {
         ensures front { result ≡ shown_front (taken_in self) }
         ensures text { text.new.items ≡ taken_octets (Some (taken_in self)) }
         ensures few { HasFewOctets result text.new.items }
+        ensures kept { vec_capacity text.old ≤ vec_capacity text.new }
         ensures pool { Balances pool.old (buffers_in self) pool.new [] }
     {
         match self {
@@ -66,7 +67,8 @@ impl TakenBuf {
 fn copy_into(text: &mut Vec<u8>, octets: &[u8])
     requires empty { text.old.items ≡ [] }
     requires places { length octets.now ≤ vec_capacity text.old }
-    ensures { text.new.items ≡ octets.now }
+    ensures items { text.new.items ≡ octets.now }
+    ensures kept { vec_capacity text.old ≤ vec_capacity text.new }
 {
     let Ok(()) = text.extend_from_slice(octets) else {
         unreachable!()

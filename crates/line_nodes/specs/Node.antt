@@ -1,10 +1,11 @@
 -- A node at an end of a line: a PAD or a host.
-use Rattle.std.specs.Prelude.{ℕ, Bool, true, false, List, [], Option}
+use Rattle.std.specs.Prelude.{ℕ, Bool, true, false, List, [], Option, is_some}
 use Rattle.link_timers.specs.declared.timers.TimerId.{TimerId}
-use Rattle.packet_layer.specs.Layer.{confirmed}
+use Rattle.packet_layer.specs.Layer.{confirmed, front_on}
 use Rattle.line_end.specs.End.{without_frames}
 use Rattle.packet_end.specs.PacketEnd as end
 use Rattle.packet_end.specs.PacketEnd.{Octets, PacketEnd, at_rest}
+use Rattle.packet_host.specs.Saying.{room_to_say}
 use Rattle.pad_ports.specs.Notes.{ChannelNote}
 use Rattle.x25_pad.specs.Pad as pad
 use Rattle.x25_pad.specs.Pad.{PadState}
@@ -61,6 +62,16 @@ node_due (Host e) = end.due e
 abbrev pub node_elapsed : (ticks : ℕ) → NodeState → NodeState
 node_elapsed ticks (Pad p) = Pad (pad.elapsed ticks p)
 node_elapsed ticks (Host e) = Host (end.elapsed e ticks)
+
+-- whether anything waits to be taken on a channel, and how many octets may be said there now: a host's user takes and
+-- says, a PAD's does not
+abbrev pub node_has_to_take : NodeState → (channel : ℕ) → Bool
+node_has_to_take (Pad p) channel = false
+node_has_to_take (Host e) channel = is_some (front_on e.layer channel)
+
+abbrev pub node_room_to_say : NodeState → (channel : ℕ) → ℕ
+node_room_to_say (Pad p) channel = 0
+node_room_to_say (Host e) channel = room_to_say e.layer channel
 
 -- a host asks whether delivery is confirmed, a PAD never
 abbrev pub node_confirmed : NodeState → (channel : ℕ) → Bool

@@ -284,7 +284,7 @@ happens_apart L e s (Err fault) t h = record {
   happens = λ g. (
     elim h.0 [
       | inl own ↦ inl (sym (same_fault e g s) ∙ own)
-      | inr (want, memory) ↦ inr ((want.0, subst IsLeftToNode (same_fault e g s) want.1), memory)
+      | inr want ↦ inr ((want.0.0, subst IsLeftToNode (same_fault e g s) want.0.1), want.1)
     ],
     ap (on g) h.1,
   );

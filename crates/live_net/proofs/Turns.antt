@@ -1,5 +1,5 @@
 -- What a turn makes of a node, and what its user is told, does not depend on the book.
-use Rattle.std.proofs.Common.{Bool, true, false, Option, Some, None, refl}
+use Rattle.std.proofs.Common.{ℕ, Bool, true, false, Option, Some, None, refl}
 use Rattle.std.specs.Prelude.{if◌then◌else◌}
 use Rattle.link_timers.specs.declared.role.Role.{Role}
 use Rattle.link_timers.specs.declared.timers.TimerId.{TimerId}
@@ -8,7 +8,7 @@ use Rattle.packet_layer.specs.Layer.{front_on}
 use Rattle.packet_end.specs.PacketEnd.{PacketEnd}
 use Rattle.call_records.specs.Book.{Book}
 use Rattle.line_nodes.specs.Node.{NodeState, Pad, Host, end_of}
-use Rattle.line_nodes.specs.NodeEvents.{node_runs, expired}
+use Rattle.line_nodes.specs.NodeEvents.{heard, node_runs, expired, relinked}
 use Rattle.line_nodes.specs.Turn.{Turn, unchanged, told}
 use Rattle.line_nodes.specs.HostTurns.{taken_turn}
 use Rattle.net_events.specs.NodeEvents.{NodeEvent, Hears, Expires, Relinks, Restarts, Calls, Asks, Refuses, Says}
@@ -25,7 +25,7 @@ expired_alike : (runs : Bool) (role : Role) (n : NodeState) (id : TimerId) (b c 
 expired_alike true role n id b c = told_alike role (expired n id) b c
 expired_alike false role n id b c = record { node = refl; notes = refl }
 
-taken_alike : (taken : Option Taken) (role : Role) (e : PacketEnd) (channel : _) (b c : Book)
+taken_alike : (taken : Option Taken) (role : Role) (e : PacketEnd) (channel : ℕ) (b c : Book)
     → AreAlike (taken_turn taken role e channel b) (taken_turn taken role e channel c)
 taken_alike None role e channel b c = record { node = refl; notes = refl }
 taken_alike (Some x) role e channel b c = record { node = refl; notes = refl }
@@ -34,9 +34,9 @@ pub turns_alike : (event : NodeEvent) (role : Role) (n : NodeState) (b c : Book)
     → AreAlike (turn_of event role n b) (turn_of event role n c)
 turns_alike (AtTerminal terminal event) role (Pad p) b c = record { node = refl; notes = refl }
 turns_alike (AtTerminal terminal event) role (Host e) b c = record { node = refl; notes = refl }
-turns_alike (Hears octets) role n b c = told_alike role _ _ _
+turns_alike (Hears octets) role n b c = told_alike role (heard n octets) b c
 turns_alike (Expires id) role n b c = expired_alike (node_runs n id) role n id b c
-turns_alike Relinks role n b c = told_alike role _ _ _
+turns_alike Relinks role n b c = told_alike role (relinked n) b c
 turns_alike Restarts role n b c = record { node = refl; notes = refl }
 turns_alike (Calls address user_data) role n b c = record { node = refl; notes = refl }
 turns_alike (Asks channel r) role n b c = record { node = refl; notes = refl }

@@ -1,14 +1,16 @@
 //! The network on which a service runs.
-ghost use Rattle.std.specs.Prelude.{◌≡◌, ◌≤◌, true, false, Err, IsOkUnless, IfOk, vec_len};
+ghost use Rattle.std.specs.Prelude.{◌≡◌, ◌≢◌, ◌≤◌, true, false, Err, IsOkUnless, IfOk, vec_len};
 ghost use Rattle.std.specs.Bool.{OnTrue};
 ghost use Rattle.call_records.specs.Register.{Register, HasNoRecords};
 ghost use Rattle.net_config.specs.declared.fault.MakeFault.TheVariants as make_fault_is;
 ghost use Rattle.net_config.specs.Served.{is_served};
+ghost use Rattle.net_events.specs.declared.event.StepFault.TheVariants as step_fault_is;
 ghost use Rattle.net_events.specs.Network.{all_elapsed};
+ghost use Rattle.net_turns.specs.AnswerRoom.{IsRoomy, IsWithinLimits};
 ghost use Rattle.net_nodes.specs.Due.{net_due};
 ghost use Rattle.net_nodes.specs.Faults.{step_fault};
 ghost use Rattle.net_nodes.specs.Happening.{IsRefusedSo, FindsNoFrame, FindNoFrames};
-ghost use Rattle.net_nodes.specs.Questions.{net_confirmed, net_rests};
+ghost use Rattle.net_nodes.specs.Questions.{net_confirmed, net_has_to_take, net_room_to_say, net_rests, MaySay};
 ghost use Rattle.network_laws.specs.Switched.Promise.{NetworkPromise};
 ghost use Rattle.network_laws.specs.Switched.Rest.{MissesNothing, IsDelivered};
 ghost use Rattle.line_sim.specs.Between.{IsBetweenEvents};
@@ -22,10 +24,14 @@ use line_sim::Net;
 use net_config::{Config, MakeFault};
 use net_events::{Answer, Event, Outcome, Puts, StepFault};
 use net_nodes::Nodes;
+use net_turns::MOST_PUTS;
+use packet_end::MOST_NOTES;
 use std::alloc::{AllocError, Global};
 use std::marker::Model;
+use x25_pad::MOST_TEXT;
 
-/// A network as [`Net`] is, that keeps no records: what an event writes of calls is forgotten at its end. Its promise is
+/// A network as [`Net`] is, that keeps no records: what an event writes of calls is forgotten at its end. It takes all
+/// memory as it is made. Its promise is
 /// that of [`Net`], of registers that nobody stores: with each register with which all holds before an event there is
 /// one with which all holds after it, and with these two the network stepped as [`Net`] does.
 #[derive(Drop)]
@@ -45,19 +51,22 @@ impl<L: Line> Model for LiveNet<L> {
 
     ghost coded = { Prim.hlevel (codes, map.code {R = by_digits} (coded_list coded_ℕ) coded_ℕ) };
 
+    ghost use Rattle.net_turns.specs.AnswerRoom.{IsRoomy};
     ghost use Rattle.live_net.specs.Living.{IsLive};
 
     ghost view = { λ n. n.nodes };
 
-    ghost invariant = { λ n. IsLive L.service n.nodes };
+    ghost invariant = { λ n. IsLive L.service n.nodes × IsRoomy n.answer };
 }
 
 /// An answer without frames, notes and text, with room for those of any event.
-fn roomy_answer(alloc: Global) -> Result<Answer, AllocError> {
+fn roomy_answer(alloc: Global) -> Result<Answer, AllocError>
+    ensures { IfOk result IsRoomy }
+{
     Ok(Answer {
-        frames: Puts::new(alloc),
-        notes: Vec::new(alloc),
-        text: Vec::new(alloc),
+        frames: Puts::with_room(alloc, MOST_PUTS)?,
+        notes: Vec::with_capacity(alloc, MOST_NOTES)?,
+        text: Vec::with_capacity(alloc, MOST_TEXT)?,
         outcome: Outcome::Done,
     })
 }
@@ -115,6 +124,21 @@ impl<L: Line> LiveNet<L> {
         self.nodes.confirmed(node, channel)
     }
 
+    /// Whether anything waits to be taken on a channel of a host: as [`Net::has_to_take`].
+    pub fn has_to_take(&self, node: usize, channel: u16) -> bool
+        ensures { result ≡ net_has_to_take node channel self.now }
+    {
+        self.nodes.has_to_take(node, channel)
+    }
+
+    /// How many octets a message without Q may have now on a channel of a host: as [`Net::room_to_say`].
+    pub fn room_to_say(&self, node: usize, channel: u16) -> usize
+        ensures exact { result ≡ net_room_to_say node channel self.now }
+        ensures said { MaySay node channel result self.now }
+    {
+        self.nodes.room_to_say(node, channel)
+    }
+
     /// Lets ticks pass, each a twentieth of a second: each timer that runs has so many less, not below 0.
     pub fn elapse(&mut self, ticks: u16)
         ensures passes { self.new ≡ all_elapsed ticks self.old }
@@ -150,9 +174,12 @@ impl<L: Line> LiveNet<L> {
     }
 
     /// Handles an event, lends the answer, which the network keeps until the next event, and keeps no record of it. The
-    /// answers and refusals are those of [`Net::step`].
+    /// answers and refusals are those of [`Net::step`], but that no event is refused for want of memory. An answer has at
+    /// most 576 frames, [`MOST_NOTES`] notes and 3,200 octets of text.
     pub fn step(&mut self, event: &Event) -> Result<&Answer, StepFault>
         ensures faults { IsRefusedSo (step_fault event.now self.old) (lent result) }
+        ensures memory { lent result ≢ Err step_fault_is.OutOfMemory }
+        ensures most { IfOk (lent result) IsWithinLimits }
 
         // The network once the answer is given back.
         ensures* after { sem 𝓛 (Rests (the_row L.row L.Line) self.entry (λ net.

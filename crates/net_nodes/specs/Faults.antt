@@ -1,7 +1,7 @@
 -- When an event is refused (X.25 is silent: these are the network's own, or the node's).
-use Rattle.std.specs.Prelude.{ℕ, ◌≡◌, ◌==◌, ◌&&◌, not, Bool, true, false, Option, Some, None, slice_get, nat_lt}
+use Rattle.std.specs.Prelude.{ℕ, ◌≡◌, ◌==◌, ◌&&◌, not, Bool, true, false, List, Option, Some, None, slice_get, nat_lt}
 use Rattle.std.specs.Prelude.{if◌then◌else◌, is_some}
-use Rattle.net_events.specs.NodeEvents.{Calls}
+use Rattle.net_events.specs.NodeEvents.{Calls, Says}
 use Rattle.net_events.specs.Network.{PlacedNode, NetNode, User, Switching, NetLine, Network}
 use Rattle.net_events.specs.EventView.{request_event}
 use Rattle.net_turns.specs.Outcomes.{event_fault}
@@ -57,6 +57,11 @@ stands_at line None = false
 abbrev pub at_terminal : (terminal : ℕ) → Option ℕ → Option StepFault
 at_terminal terminal (Some terminals) = if nat_lt terminal terminals then None else Some NoSuchTerminal
 at_terminal terminal None = Some NoSuchNode
+
+-- a host says octets on a channel
+abbrev pub say_fault : (node channel : ℕ) → (octets : List ℕ) → (qualified delivery : Bool) → Network → Option StepFault
+say_fault node channel octets qualified delivery s =
+    at_host node s (λ n. on_channel channel s n (refused (event_fault (Says channel octets qualified delivery) n.node)))
 
 abbrev pub step_fault : Event → Network → Option StepFault
 step_fault (AtTerminal node terminal event) s = at_terminal terminal (pad_terminals node s)

@@ -210,6 +210,7 @@ impl PacketEnd {
         ensures front { result ≡ maybe_front (machine.front_on self.old.layer channel) }
         ensures text { text.new.items ≡ taken_octets (machine.front_on self.old.layer channel) }
         ensures few { IfSome result (λ front. HasFewOctets front text.new.items) }
+        ensures kept { vec_capacity text.old ≤ vec_capacity text.new }
         ensures end { self.new ≡ asked self.old channel ask.Taking }
     {
         let taken = self.end.take_buf(channel)?;

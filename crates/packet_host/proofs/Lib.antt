@@ -1,3 +1,4 @@
 pub mod Refused
 pub mod Taken
 pub mod Frames
+pub mod Sayable

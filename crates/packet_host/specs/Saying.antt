@@ -1,5 +1,5 @@
 -- What a host says on a call: octets cut into Data packets of the line's size (X.25 4.3.4), and when they are refused.
-use Rattle.std.specs.Prelude.{◌≡◌, ℕ, suc, Bool, true, false, List, [], ◌∷◌, length, min, nat_lt, Option, Some, None}
+use Rattle.std.specs.Prelude.{◌≡◌, ℕ, suc, ◌*◌, Bool, true, false, List, [], ◌∷◌, length, min, nat_lt, Option, Some, None}
 use Rattle.data_transfer.specs.Cutting.{full_packets}
 use Rattle.data_transfer.specs.Packets.{Datum}
 use Rattle.packet_channel.specs.Channel.{Refusal, Request, refused_if}
@@ -36,6 +36,10 @@ places_needed size false octets = min 8 (suc (full_packets size octets))
 abbrev pub either_refusal : Option Refusal → Option Refusal → Option Refusal
 either_refusal (Some r) other = Some r
 either_refusal None other = other
+
+-- how many octets a message without Q may have now: none if no message is taken
+abbrev pub room_to_say : Layer → (channel : ℕ) → ℕ
+room_to_say l channel = min 1024 (room l channel * l.flow.size)
 
 -- no call in data transfer, a reset of the own end not confirmed, too few places, too many octets
 abbrev pub say_refusal : Layer → (channel : ℕ) → List ℕ → (qualified : Bool) → Option Refusal

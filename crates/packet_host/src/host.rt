@@ -1,6 +1,6 @@
 //! The host and its calls.
 ghost use Rattle.std.specs.Prelude.{◌≡◌, ◌≤◌, [], true, false, Some, None, length, MatchResult, OnOk, OnErr};
-ghost use Rattle.std.specs.Prelude.{OnSome, MatchOption, slice_get, IfSome, vec_capacity};
+ghost use Rattle.std.specs.Prelude.{OnSome, MatchOption, slice_get, IfSome, is_some, vec_capacity};
 ghost use Rattle.packet_channel.specs.Channel.{Request as ask};
 ghost use Rattle.packet_layer.specs.Layer as machine;
 ghost use Rattle.packet_channel.specs.NoteView.{maybe_note, note_of};
@@ -225,6 +225,7 @@ impl Host {
         ensures front { result ≡ maybe_front (machine.front_on self.old.layer channel) }
         ensures text { text.new.items ≡ taken_octets (machine.front_on self.old.layer channel) }
         ensures few { IfSome result (λ front. HasFewOctets front text.new.items) }
+        ensures kept { vec_capacity text.old ≤ vec_capacity text.new }
         ensures host { self.new ≡ after_take self.old channel }
         ensures nothing_kept_back { OnSome result (end.KeepsNothingBack self.new) }
         ensures frames { IfSome result (λ front. self.new.line.frames ≡ ended_frames
@@ -238,6 +239,13 @@ impl Host {
         let _ = self.end.ask(channel, &request);
         self.end_event();
         Some(front)
+    }
+
+    /// Whether anything waits to be taken on the channel.
+    pub fn has_to_take(&self, channel: u8) -> bool
+        ensures { result ≡ is_some (machine.front_on self.now.layer channel) }
+    {
+        self.end.front(channel).is_some()
     }
 
     /// Whether the channel has a call in data transfer in which each packet sent with D = 1 since the last reset is

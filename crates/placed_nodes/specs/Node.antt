@@ -4,7 +4,7 @@ use Rattle.std.specs.List.{position}
 use Rattle.line_nodes.specs.Node.{NodeState, Pad, Host, is_pad}
 use Rattle.net_config.specs.Plan.{is_line}
 use Rattle.net_events.specs.Network.{PlacedNode, NetNode, User, Switching}
-use Rattle.line_nodes.specs.Node.{node_rests, node_confirmed}
+use Rattle.line_nodes.specs.Node.{node_rests, node_confirmed, node_has_to_take, node_room_to_say}
 use Rattle.switch_lines.specs.Switch.{switch_rests}
 
 -- the node with users at a place, if there is one
@@ -34,6 +34,14 @@ terminals_there None = None
 abbrev pub confirmed_by : (channel : ℕ) → Option PlacedNode → Bool
 confirmed_by channel None = false
 confirmed_by channel (Some n) = node_confirmed n.node channel
+
+abbrev pub has_to_take_by : (channel : ℕ) → Option PlacedNode → Bool
+has_to_take_by channel None = false
+has_to_take_by channel (Some n) = node_has_to_take n.node channel
+
+abbrev pub room_to_say_by : (channel : ℕ) → Option PlacedNode → ℕ
+room_to_say_by channel None = 0
+room_to_say_by channel (Some n) = node_room_to_say n.node channel
 
 abbrev pub rests : NetNode → Bool
 rests (User n) = node_rests n.node

@@ -1,11 +1,11 @@
 //! What a host says on a call (X.25 4.3).
-ghost use Rattle.std.specs.Prelude.{◌≡◌, true, Some, None, MatchResult, OnOk};
+ghost use Rattle.std.specs.Prelude.{◌≡◌, ◌≤◌, ℕ, List, length, false, true, Some, None, MatchResult, OnOk};
 ghost use Rattle.data_transfer.specs.Cutting.{cut};
 ghost use Rattle.data_transfer.specs.Flow.{is_size};
 ghost use Rattle.packet_layer.specs.RequestView.{refusal_of};
 ghost use Rattle.packet_end.specs.PacketEnd as end;
 ghost use Rattle.packet_host.specs.Host.{after_say, ended_frames};
-ghost use Rattle.packet_host.specs.Saying.{say_refusal, places_needed, most_octets, message, queued, AllTaken};
+ghost use Rattle.packet_host.specs.Saying.{say_refusal, places_needed, room_to_say, most_octets, message, queued, AllTaken};
 
 use crate::host::Host;
 use data_transfer::full_packets;
@@ -60,6 +60,17 @@ impl Host {
         queue(&mut self.end, channel, octets, qualified, delivery);
         self.end_event();
         Ok(())
+    }
+
+    /// How many octets a message without Q may have now, at most 1,024: so many are not refused, if there are any. It is 0
+    /// if no call is in data transfer, the own reset is not confirmed, or the send queue has no place.
+    pub fn room_to_say(&self, channel: u8) -> usize
+        ensures exact { result ≡ room_to_say self.now.layer channel }
+        ensures taken { (octets : List ℕ) → 1 ≤ length octets → length octets ≤ result
+            → say_refusal self.now.layer channel octets false ≡ None }
+    {
+        let places = usize::from(self.end.room(channel));
+        MOST_OCTETS.min(places * usize::from(self.packet_size()))
     }
 
     /// How many octets of user data a packet of its line may have: 128, 256, 512 or 1,024 (X.25 4.3.2).

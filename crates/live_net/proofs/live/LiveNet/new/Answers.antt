@@ -9,7 +9,10 @@ use Rattle.live_net.proofs.live.LiveNet.new.Goals as goal
 
 pub invariant_of-result : goal.invariant_of-result
 invariant_of-result g c =
-    rw c.forget.ensures (live_made g.L.Line.service c.into_nodes-nodes.result c.into_nodes-nodes.ensures.between)
+    rw c.forget.ensures (
+      live_made g.L.Line.service c.into_nodes-nodes.result c.into_nodes-nodes.ensures.between,
+      c.in_ok-roomy_answer.ensures,
+    )
 
 pub returns-clause-ok : goal.returns-clause-ok
 returns-clause-ok g c = ?
