@@ -4,39 +4,13 @@ use Rattle.std.specs.Prelude.{length, slice_get}
 use Rattle.std.proofs.lemmas.Option.{same_Some}
 use Rattle.link_timers.specs.declared.role.Role.{Role}
 use Rattle.link_timers.specs.declared.role.Role.TheVariants.{Dte, Dce}
-use Rattle.call_records.specs.Book.{Book}
 use Rattle.frame_lines.specs.Lines.{LineService}
 use Rattle.node_laws.specs.Quiet.{IsQuiet}
 use Rattle.line_nodes.specs.Node.{NodeState}
-use Rattle.net_events.specs.Network.{NetNode, User, Switching, NetLine, Network, Stands, StandsAtLines, place_at, own_role}
-use Rattle.network_laws.specs.IsNetwork.{LineHolds, IsUserAt, IsNetwork}
-use Rattle.network_laws.proofs.Networks.{book_there}
-use Rattle.network_laws.specs.Switched.IsSwitched.{IsEndOf, IsSwitched, IsAny, of_users, with_switches}
-use Rattle.net_nodes.specs.Places.{UserStands, EndStands, IsStanding}
+use Rattle.net_events.specs.Network.{NetNode, User, Switching, NetLine, Network, StandsAtLines, place_at, own_role}
+use Rattle.network_laws.specs.Switched.IsSwitched.{IsEndOf, IsSwitched}
+use Rattle.net_nodes.specs.Places.{EndStands, IsStanding}
 use Rattle.line_sim.specs.Between.{IsBetweenEvents}
-
--- ---- without a switch
-
-end_stands : (L : LineService) (s : Network) (line : ℕ) (l : NetLine) (role : Role) (b : Book)
-    → LineHolds L s.nodes line l b → UserStands s line l role
-end_stands L s line l Dte b h =
-    record { node = h.dte; node_there = h.dte_there; node_line = h.dte_line; quiet = h.holds.quiet.dte }
-end_stands L s line l Dce b h =
-    record { node = h.dce; node_there = h.dce_there; node_line = h.dce_line; quiet = h.holds.quiet.dce }
-
-users_stand : (L : LineService) (s : Network) → IsNetwork L s → IsStanding s
-users_stand L s n = record {
-  nodes = λ place m at. stands_so place m (n.nodes place m at);
-  ends =
-      λ line l role at. let b = book_there L s n line l at in inl (end_stands L s line l role b.0 (n.lines line l b.0 at b.1));
-  registered = n.seen.lines ∙ n.count;
-}
-  where
-    stands_so : (place : ℕ) (m : NetNode) → IsUserAt s.lines place m → Stands s.lines place m
-    stands_so place (User m) st = st
-    stands_so place (Switching m) st = absurd st
-
--- ---- with switches
 
 -- a node is at one end of a line
 one_end : (l : NetLine) (place : ℕ) (role other : Role) → l.dte ≢ l.dce → place_at role l ≡ place → place_at other l ≡ place
@@ -76,8 +50,4 @@ switched_stand L s p r = record {
         })
 
 pub standing : (L : LineService) (s : Network) → IsBetweenEvents L s → IsStanding s
-standing L s b = by b.any
-  where
-    by : IsAny L s → IsStanding s
-    by (of_users n a) = users_stand L s n
-    by (with_switches p a) = switched_stand L s p b.registered
+standing L s b = switched_stand L s b.any.network b.registered

@@ -17,7 +17,7 @@ at_place (p ∷ pairs) (suc k) d within = at_place pairs k d (omega arith)
 pub all_matched : (L : LineService) (s : Network) → IsAny L s → L.faithful → AllMatch s.register.records s.register.pairs
 all_matched L s n f k d within =
     let promise : NetworkPromise s = promise_any L s n f in
-    let holds = promise.calls.pairs_hold k (get_or s.register.pairs k d) (at_place s.register.pairs k d within) in
+    let holds = promise.calls.paths.pairs_hold k (get_or s.register.pairs k d) (at_place s.register.pairs k d within) in
     record {
       caller = holds.caller;
       callee = holds.callee;

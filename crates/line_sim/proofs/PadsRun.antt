@@ -1,10 +1,9 @@
 -- Over a run the course of each PAD is what the events brought to it.
-use Rattle.std.proofs.Common.{◌≡◌, ◌≢◌, ℕ, ◌+◌, ◌<◌, ◌≤◌, take, get_or, Bool, true, false, List, [], ◌∷◌, ◌++◌, length, Option, Some, None, refl, sym, ap, ap₂, ◌∙◌, subst, inl, inr, append_assoc, append-nil, arith}
+use Rattle.std.proofs.Common.{◌≡◌, ◌≢◌, ℕ, ◌+◌, ◌<◌, ◌≤◌, take, get_or, Bool, true, false, List, [], ◌∷◌, ◌++◌, length, Option, Some, None, refl, sym, ap, ap₂, ◌∙◌, subst, append_assoc, append-nil, arith}
 use Rattle.std.specs.Prelude.{slice_get, ◌==◌, ◌&&◌, nat_lt, if◌then◌else◌}
 use Rattle.std.proofs.lemmas.Bool.{eqb-true, ltb-false}
 use Rattle.link_timers.specs.declared.role.Role.{Role}
 use Rattle.link_timers.specs.declared.role.Role.TheVariants.{Dte, Dce}
-use Rattle.link_timers.specs.declared.timers.TimerId.{TimerId}
 use Rattle.link_timers.specs.declared.timers.TimerId.TheVariants.{Idle as idle_timer}
 use Rattle.lapb.specs.Machine.{Octets}
 use Rattle.x25_pad.specs.declared.config.PadConfig.{PadConfig}
@@ -26,10 +25,10 @@ use Rattle.net_nodes.specs.Places.{user_in, pad_terminals}
 use Rattle.net_nodes.specs.Faults.{step_fault, stands_at, where_there_is, at_terminal}
 use Rattle.net_nodes.specs.Steps.{hearer}
 use Rattle.network_laws.specs.Courses.{HasCourse, brought_by}
-use Rattle.network_laws.specs.Switched.Promise.{NetworkPromise}
+use Rattle.network_laws.specs.Switched.Promise.{InnerPromise}
 use Rattle.network_laws.proofs.Courses.{sent_course, typed_course}
-use Rattle.line_sim.specs.Runs.{IsMadeBy, IsHandled, HasRun}
-use Rattle.line_sim.specs.Courses.{first_frame, brought_on, brought_to_end, reaches, unless_fault, brought, HaveNoEvent, CoursesLead, all_brought, had_in, had_at, given_in, given_to, PadHasRun, PadsHaveRun}
+use Rattle.line_sim.specs.Runs.{IsMadeBy, IsHandled}
+use Rattle.line_sim.specs.Courses.{first_frame, brought_on, brought_to_end, unless_fault, brought, HaveNoEvent, CoursesLead, all_brought, had_in, had_at, given_in, given_to, PadHasRun, PadsHaveRun}
 use Rattle.line_sim.proofs.Courses.{apart_false}
 use Rattle.line_sim.proofs.RunsMore.{ran-more, all_brought-more, take_next}
 
@@ -142,7 +141,7 @@ module _ (s : Network) (c : PadConfig) (own place : ℕ) (events : List PadEvent
 
 -- ---- a run
 
-pub first_run : (config : Config) (net : Network) → IsMadeBy memory_service config net → HaveNoEvent config net → NetworkPromise net → PadsHaveRun config [] net
+pub first_run : (config : Config) (net : Network) → IsMadeBy memory_service config net → HaveNoEvent config net → InnerPromise net → PadsHaveRun config [] net
 first_run config net made none promise = record {
   run = record { start = net; made = made; ran = refl };
   pads = λ c line place planned. record {
@@ -153,7 +152,7 @@ first_run config net made none promise = record {
   };
 }
 
-next_run : (config : Config) (es : List Event) (e : Event) (s t : Network) → PadsHaveRun config es s → IsHandled memory_service e s (step_fault e s) t → CoursesLead e s t → NetworkPromise t
+next_run : (config : Config) (es : List Event) (e : Event) (s t : Network) → PadsHaveRun config es s → IsHandled memory_service e s (step_fault e s) t → CoursesLead e s t → InnerPromise t
     → PadsHaveRun config (es ++ e ∷ []) t
 next_run config es e s t p handled leads promise = record {
   run = record { start = p.run.start; made = p.run.made; ran = ran-more memory_service es p.run.start s e t p.run.ran handled };
@@ -176,6 +175,6 @@ next_run config es e s t p handled leads promise = record {
 
 -- the events up to the next one
 pub runs_on : (config : Config) (events : List Event) (i : ℕ) (d e : Event) (t u : Network) → i < length events → e ≡ get_or events i d → PadsHaveRun config (take i events) t
-    → IsHandled memory_service e t (step_fault e t) u → CoursesLead e t u → NetworkPromise u → PadsHaveRun config (take (i + 1) events) u
+    → IsHandled memory_service e t (step_fault e t) u → CoursesLead e t u → InnerPromise u → PadsHaveRun config (take (i + 1) events) u
 runs_on config events i d e t u h is p handled leads promise =
     subst (λ (es : List Event). PadsHaveRun config es u) (sym (take_next events i d e h is)) (next_run config (take i events) e t u p handled leads promise)

@@ -6,7 +6,7 @@ use Rattle.epochs.specs.Epoch.{SentEpoch}
 use Rattle.epochs.specs.Confirmed.{Confirmed, Has, Confirms, sent_confirmed}
 use Rattle.epochs.specs.Confirmed.Confirms.{nothing, drop_empty, join, skip}
 use Rattle.record_laws.specs.Books.Delivery.{IsAllCovered}
-use Rattle.record_laws.specs.Books.Headline.{all_taken_by, sent_by}
+use Rattle.record_laws.specs.Words.{all_taken_by, sent_by}
 use Rattle.record_laws.proofs.Books.Delivery.{delivery_whole}
 use Rattle.call_records.specs.Records.{RecordValue, PairValue}
 use Rattle.call_records.specs.Register.{Register}
@@ -70,5 +70,5 @@ pub taken_beyond : (L : LineService) (s : Network) (place channel : ℕ) → IsA
     → result ≡ net_confirmed place channel s → result ≡ true → IsTakenBeyond place channel s
 taken_beyond L s place channel n f result is says line l role i number other pair sender taker at end present paired both here there =
     let promise : NetworkPromise s = promise_any L s n f in
-    in_pair promise.plan s.register pair number other sender taker (promise.calls.pairs_hold i pair paired) both here there
+    in_pair promise.calls.plan s.register pair number other sender taker (promise.calls.paths.pairs_hold i pair paired) both here there
     (delivered L s place channel n f result is says line l role number sender at end present here)

@@ -28,5 +28,6 @@ stepped L e s r t b h = record {
   fewer_due = fewer_due L e s r t b h;
   idle = idle L e s r t b h;
   courses = courses_go_on L e s r t b h;
-  headline = promise_any L t (happens L e s r t b h).any;
+  headline = λ f. (promise_any L t (happens L e s r t b h).any f).calls;
+  inner = λ f. (promise_any L t (happens L e s r t b h).any f).inner;
 }

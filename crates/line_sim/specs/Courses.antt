@@ -7,7 +7,8 @@ use Rattle.link_timers.specs.declared.timers.TimerId.TheVariants.{Idle as idle_t
 use Rattle.lapb.specs.Machine.{Octets}
 use Rattle.call_records.specs.Records.{RecordValue}
 use Rattle.x25_pad.specs.declared.config.PadConfig.{PadConfig}
-use Rattle.node_laws.specs.Pads.Sending.{HasTyped, HasSaid}
+use Rattle.node_laws.specs.Pads.Sending.{HasSaid}
+use Rattle.record_laws.specs.Words.{HasTyped}
 use Rattle.node_laws.specs.Pads.Happening.{PadEvent, HasKey, HasBreak, HasIdleTime, HasPrinting, HasFrame, HasExpiry}
 use Rattle.node_laws.specs.Pads.Happening.{HasLeaving, HasArrival, HasTicks}
 use Rattle.node_laws.specs.Pads.Typed.{AreTyped}

@@ -4,7 +4,7 @@ use Rattle.link_timers.specs.declared.role.Role.{Role}
 use Rattle.epochs.specs.Epoch.{SentEpoch, sent_epoch}
 use Rattle.epochs.specs.Confirmed.{Confirmed, Has, confirmed_from}
 use Rattle.call_records.specs.Records.{RecordValue, PairValue}
-use Rattle.record_laws.specs.Books.Headline.{all_taken_by}
+use Rattle.record_laws.specs.Words.{all_taken_by}
 use Rattle.net_events.specs.Network.{NetLine, Network, place_at}
 use Rattle.network_laws.specs.Switched.Promise.{its_slot}
 

@@ -7,7 +7,7 @@ use Rattle.net_events.specs.declared.event.Event.{Event}
 use Rattle.net_events.specs.declared.event.StepFault.{StepFault}
 use Rattle.net_events.specs.Network.{Network}
 use Rattle.net_nodes.specs.Happening.{Happens}
-use Rattle.network_laws.specs.Switched.Promise.{NetworkPromise}
+use Rattle.network_laws.specs.Switched.Promise.{PromisesCalls, InnerPromise}
 use Rattle.line_sim.specs.Courses.{CoursesGoOn}
 use Rattle.line_sim.specs.Expiries.{FewerDue, IdleExpiry}
 
@@ -26,4 +26,5 @@ pub record HasStepped (L : LineService) (e : Event) (s : Network) (r : Result An
   pub fewer_due : FewerDue e s r t
   pub idle : IdleExpiry L e s t
   pub courses : CoursesGoOn L e s r t
-  pub headline : L.faithful → NetworkPromise t
+  pub headline : L.faithful → PromisesCalls t
+  pub inner : L.faithful → InnerPromise t

@@ -4,7 +4,7 @@ ghost use Rattle.std.specs.Bool.{OnTrue};
 ghost use Rattle.call_records.specs.RecordView.{shown, pair_of};
 ghost use Rattle.call_records.specs.Pairs.{AllMatch};
 ghost use Rattle.net_events.specs.Network.{all_elapsed};
-ghost use Rattle.network_laws.specs.Switched.Promise.{NetworkPromise};
+ghost use Rattle.network_laws.specs.Switched.Promise.{PromisesCalls, InnerPromise};
 ghost use Rattle.network_laws.specs.Switched.Rest.{MissesNothing, IsDelivered};
 ghost use Rattle.net_config.specs.declared.fault.MakeFault.TheVariants as make_fault_is;
 ghost use Rattle.net_config.specs.Served.{is_served};
@@ -82,7 +82,8 @@ impl<L: Line> Net<L> {
         ensures served { is_served config.now ≡ true → IsOkUnless result make_fault_is.OutOfMemory }
         ensures ok { IfOk result (IsMadeBy L.service config.now) }
         ensures courses { IfOk result (HaveNoEvent config.now) }
-        ensures headline { IfOk result (λ net. L.service.faithful → NetworkPromise net) }
+        ensures headline { IfOk result (λ net. L.service.faithful → PromisesCalls net) }
+        ensures inner { IfOk result (λ net. L.service.faithful → InnerPromise net) }
     {
         let plan = plan_of(alloc, config)?;
         let nodes = made_nodes(alloc, &plan, lines)?;
@@ -151,7 +152,8 @@ impl<L: Line> Net<L> {
     pub fn elapse(&mut self, ticks: u16)
         ensures passes { self.new ≡ all_elapsed ticks self.old }
         ensures courses { CoursesPass ticks self.old self.new }
-        ensures headline { L.service.faithful → NetworkPromise self.new }
+        ensures headline { L.service.faithful → PromisesCalls self.new }
+        ensures inner { L.service.faithful → InnerPromise self.new }
     {
         self.nodes.elapse(ticks);
     }

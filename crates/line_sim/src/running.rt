@@ -2,7 +2,7 @@
 ghost use Rattle.std.specs.Prelude.{◌≡◌, true, false, Err, IfOk, IfErr, IsOkUnless};
 ghost use Rattle.std.specs.Bool.{OnTrue, OnFalse};
 ghost use Rattle.frame_lines.specs.Lines.{memory_service};
-ghost use Rattle.network_laws.specs.Switched.Promise.{NetworkPromise};
+ghost use Rattle.network_laws.specs.Switched.Promise.{PromisesCalls, InnerPromise};
 ghost use Rattle.net_config.specs.declared.fault.MakeFault.TheVariants.{BadConfig, OutOfMemory};
 ghost use Rattle.net_config.specs.Served.{is_served};
 ghost use Rattle.net_nodes.specs.Faults.{step_fault, MayWant};
@@ -36,7 +36,8 @@ impl Net<MemLine> {
         ensures served { is_served config.now ≡ true → IsOkUnless result OutOfMemory }
         ensures ok { IfOk result (IsMadeBy memory_service config.now) }
         ensures courses { IfOk result (HaveNoEvent config.now) }
-        ensures headline { IfOk result NetworkPromise }
+        ensures headline { IfOk result PromisesCalls }
+        ensures inner { IfOk result InnerPromise }
     {
         if !is_served(config) {
             return Err(MakeFault::BadConfig);
@@ -52,7 +53,8 @@ impl Net<MemLine> {
 pub fn run(alloc: Global, config: &Config, events: &[Event]) -> Result<Net<MemLine>, RunFault>
     ensures ran { IfOk result (HasRun config.now events.now) }
     ensures pads { IfOk result (PadsHaveRun config.now events.now) }
-    ensures headline { IfOk result NetworkPromise }
+    ensures headline { IfOk result PromisesCalls }
+    ensures inner { IfOk result InnerPromise }
     ensures bad { is_served config.now ≡ false → result ≡ Err (Made BadConfig) }
     ensures err { IfErr result (IsRunFault config.now events.now) }
 {
@@ -75,7 +77,8 @@ fn goes_on(net: &mut Net<MemLine>, event: &Event) -> bool
         net.new) }
     ensures courses { OnTrue result (CoursesLead event.now net.old net.new) }
     ensures wanting { OnFalse result (MayWant event.now net.old) }
-    ensures headline { NetworkPromise net.new }
+    ensures headline { PromisesCalls net.new }
+    ensures inner { InnerPromise net.new }
 {
     match net.step(event) {
         Ok(_) => true,

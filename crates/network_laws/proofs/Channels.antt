@@ -1,5 +1,5 @@
 -- The books of a network's lines have the lines' channels.
-use Rattle.std.proofs.Common.{◌≡◌, ℕ, Bool, true, false, length, set, replicate, sym, ap, ◌∙◌, subst}
+use Rattle.std.proofs.Common.{◌≡◌, ℕ, Bool, true, false, length, set, replicate, sym, ◌∙◌, subst}
 use Rattle.std.proofs.lemmas.List.{length-replicate, length-set}
 use Rattle.link_timers.specs.declared.role.Role.{Role}
 use Rattle.link_timers.specs.declared.role.Role.TheVariants.{Dte, Dce}
@@ -14,12 +14,6 @@ pub ends_after : (event : NodeEvent) (role : Role) (n : NodeState) (b : Book) �
 ends_after event role n b =
     let u : IsUniform role (λ x. turn_of event role n x) = uniform event role n in
     subst (EndsStay b) (sym (u.written b)) (writes_stay role u.writes b)
-
--- after an event
-pub channels_after : (event : NodeEvent) (role : Role) (n : NodeState) (b : Book) (channels : ℕ)
-    → ((end : Role) → length (side_of end b).slots ≡ channels)
-    → (end : Role) → length (side_of end (turn_of event role n b).book).slots ≡ channels
-channels_after event role n b channels h end = ap (λ (p : ℕ × ℕ). p.1) (ends_after event role n b end) ∙ h end
 
 -- at the making
 free_slots : (channels : ℕ) → length (replicate channels free_slot) ≡ channels

@@ -1,5 +1,5 @@
 -- The courses of the PADs of a network go on by what happens at the PADs, and by nothing else.
-use Rattle.std.proofs.Common.{◌≡◌, ◌≢◌, ℕ, ◌<◌, List, [], ◌∷◌, ◌++◌, length, map, set, Option, Some, None, refl, sym, ap, ap₂, ◌∙◌, subst, inl, inr}
+use Rattle.std.proofs.Common.{◌≡◌, ◌≢◌, ℕ, ◌<◌, List, ◌++◌, length, set, Option, Some, refl, sym, ap, ap₂, ◌∙◌, subst, inl, inr}
 use Rattle.std.specs.Prelude.{slice_get, if◌then◌else◌, Bool, true, false, option_map}
 use Rattle.std.proofs.lemmas.List.{length-map}
 use Rattle.std.proofs.lemmas.Option.{same_Some, slice_get_within, slice_get-map}
@@ -13,7 +13,7 @@ use Rattle.x25_pad.specs.Pad as pad
 use Rattle.x25_pad.specs.Pad.{PadState}
 use Rattle.x25_pad.specs.declared.config.PadConfig.{PadConfig}
 use Rattle.call_records.specs.Records.{RecordValue}
-use Rattle.call_records.specs.Book.{Book, Side, nth_slot, side_of}
+use Rattle.call_records.specs.Book.{Book, Side, nth_slot}
 use Rattle.call_records.specs.Writes.{all_written}
 use Rattle.call_records.specs.Register.{Register, LineEnds, found_ends, book_at, with_book}
 use Rattle.record_laws.proofs.Books.Basics.{number_is, set_here, set_elsewhere}
@@ -22,7 +22,7 @@ use Rattle.node_laws.specs.Quiet.{IsQuiet}
 use Rattle.node_laws.specs.Pads.Holds.{node_at, HasItsRecords}
 use Rattle.node_laws.specs.Pads.Standing.{drained}
 use Rattle.node_laws.specs.Pads.Happening.{PadEvent, HasKey, HasBreak, HasIdleTime, HasPrinting, HasLeaving, HasArrival, HasFrame, HasExpiry, HasRelink, HasRestart, HasTicks, after_event, writes_after}
-use Rattle.node_laws.specs.Pads.Courses.{Here, Course, happened}
+use Rattle.node_laws.specs.Pads.Courses.{Here, happened}
 use Rattle.node_laws.specs.Pads.EventCourses.{IsElsewhere, CourseOf, continues, elsewhere}
 use Rattle.node_laws.specs.Pads.Typed.{AreTyped}
 use Rattle.node_laws.proofs.Pads.EventCourses.{all_stand, sent_so}
@@ -35,10 +35,9 @@ use Rattle.frame_lines.specs.Lines.{Flights, LineService}
 use Rattle.net_events.specs.NodeEvents.{NodeEvent, IsFor, turn_of}
 use Rattle.net_events.specs.Network.{PlacedNode, NetNode, User, NetLine, Network, place_at, with_turn_at, net_turn, HappenedAt, elapsed_node}
 use Rattle.network_laws.specs.Courses.{HasCourse, one_or_none, brought_by, OwnCourse, OtherCourse, LossCourse, TimeCourse, SentCourse, TypedCourse}
-use Rattle.network_laws.specs.LineCourse.{at_pad}
 use Rattle.network_laws.specs.Promise.{EndHolds}
-use Rattle.network_laws.specs.Switched.IsSwitched.{IsAny, of_users, with_switches, IsAddressed}
-use Rattle.network_laws.specs.Switched.Promise.{NetworkPromise}
+use Rattle.network_laws.specs.Switched.IsSwitched.{IsAny}
+use Rattle.network_laws.specs.Switched.Promise.{InnerPromise}
 use Rattle.network_laws.proofs.Elsewhere.{IsAway, all_away}
 use Rattle.network_laws.proofs.LineCourses.{IsPadTurn, pad_turn}
 use Rattle.network_laws.proofs.PadRuns.{count, count_terminal_event, count_idle, count_line}
@@ -103,10 +102,6 @@ module _ (place : ℕ) where
 
 -- ---- a PAD's own place
 
-addressed : (L : LineService) (s : Network) → IsAny L s → IsAddressed s
-addressed L s (of_users n a) = a
-addressed L s (with_switches n a) = a
-
 user_is : (nodes : List NetNode) (place : ℕ) (m n : PlacedNode) → slice_get nodes place ≡ Some (User m) → slice_get nodes place ≡ Some (User n) → m ≡ n
 user_is nodes place m n a b = (let e : ◌≡◌ {A = Option NetNode} (Some (User m)) (Some (User n)) = sym a ∙ b in cc)
 
@@ -121,7 +116,7 @@ line_after lines line l flights there k m at = elim (number_is k line) [
   | inr apart ↦ (m, set_elsewhere lines line k (record l { flights = flights }) apart ∙ at, refl)
 ]
 
-module _ (s : Network) (promise : NetworkPromise s) (c : PadConfig) (own place : ℕ) (events : List PadEvent) (h : HasCourse c own place events s) where
+module _ (s : Network) (promise : InnerPromise s) (c : PadConfig) (own place : ℕ) (events : List PadEvent) (h : HasCourse c own place events s) where
   at_dte : slice_get s.nodes h.line_is.dte ≡ Some (User h.node)
   at_dte = ap (λ (k : ℕ). slice_get s.nodes k) h.is_dte ∙ h.node_there
 
@@ -148,8 +143,8 @@ typed_course s promise c own place events h =
 -- ---- an event at a node with users
 
 module _ (L : LineService) (faithful : L.faithful) (event : NodeEvent) (line : ℕ) (role : Role) (s t : Network) (any : IsAny L s) (d : HappenedAt L event line role s t) where
-  promise : NetworkPromise s
-  promise = promise_any L s any faithful
+  promise : InnerPromise s
+  promise = (promise_any L s any faithful).inner
 
   end : EndHolds s line d.line_is role
   end = promise.ends line d.line_is role d.line_there (d.node, d.node_there)
@@ -164,7 +159,7 @@ module _ (L : LineService) (faithful : L.faithful) (event : NodeEvent) (line : �
   quiet = subst (λ (n : PlacedNode). IsQuiet n.node) end_node end.quiet
 
   less : line < length s.register.lines
-  less = subst (λ (n : ℕ). line < n) (sym (addressed L s any).registered) (slice_get_within s.lines line d.line_is d.line_there)
+  less = subst (λ (n : ℕ). line < n) (sym any.addressed.registered) (slice_get_within s.lines line d.line_is d.line_there)
 
   module _ (c : PadConfig) (own place : ℕ) (events : List PadEvent) (h : HasCourse c own place events s) where
     -- the two lines are one if their numbers are

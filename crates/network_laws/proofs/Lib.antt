@@ -11,13 +11,8 @@ pub mod Answering
 pub mod Lines
 mod LineCourses
 pub mod Made
-pub mod Networks
 pub mod PlacedTime
-pub mod Opened
-mod Confirming
-pub mod Counting
-pub mod Promising
-pub mod Resting
+pub mod Mapped
 pub mod Due
 mod Rows
 mod PadRows

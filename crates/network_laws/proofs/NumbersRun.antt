@@ -21,13 +21,13 @@ use Rattle.net_events.specs.NodeEvents.NodeEvent.{Hears, Says, Takes}
 use Rattle.net_events.specs.Network.{User, NetLine, Network, HappenedAt}
 use Rattle.net_config.specs.NetPlan.{NewHost, NewNode, Planned, PlannedUser, PlannedSwitch, NewLine, NetPlan, IsLinePlan, IsNodePlan, IsPlan, AreUsers}
 use Rattle.net_events.specs.Opening.{AreSent, new_dte, new_dce, new_at, placed_new, line_plan, NodeIsMade, LineIsMade, IsMade}
-use Rattle.network_laws.specs.IsNetwork.{IsNetwork}
-use Rattle.network_laws.specs.Promise.{NetworkHolds}
+use Rattle.network_laws.specs.Switched.IsSwitched.{IsAny}
+use Rattle.network_laws.specs.Switched.Promise.{NetworkPromise}
 use Rattle.network_laws.specs.PadRun.{all_put}
 use Rattle.network_laws.proofs.PadRuns.{puts_all}
-use Rattle.network_laws.proofs.Networks.{happened_network}
-use Rattle.network_laws.proofs.Opened.{made_network}
-use Rattle.network_laws.proofs.Promising.{holds_network}
+use Rattle.network_laws.proofs.Switched.UsersAny.{event_any}
+use Rattle.network_laws.proofs.Switched.MadeHeld.{made_any}
+use Rattle.network_laws.proofs.Switched.PromiseAny.{promise_any}
 
 -- ---- the network
 
@@ -164,26 +164,26 @@ is_host : (b : Bool) → not b ≡ true → b ≡ false
 is_host true h = absurd cc
 is_host false h = refl
 
-arrival_holds : (o : Option (List ℕ)) (role : Role) (t : Hosts) → slice_get (flying (direction_to role) t.flights) 0 ≡ o → IsNetwork lossless_service (network t)
-    → IsNetwork lossless_service (network (after_arrival o role t))
+arrival_holds : (o : Option (List ℕ)) (role : Role) (t : Hosts) → slice_get (flying (direction_to role) t.flights) 0 ≡ o → IsAny lossless_service (network t)
+    → IsAny lossless_service (network (after_arrival o role t))
 arrival_holds None role t at n = n
 arrival_holds (Some octets) role t at n =
-    happened_network lossless_service (Hears octets) 0 role (network t) (network (after_arrival (Some octets) role t)) n
+    event_any lossless_service (Hears octets) 0 role (network t) (network (after_arrival (Some octets) role t)) n
     (happened (Hears octets) role (without_first (direction_to role) t.flights) t tt (at, refl))
 
-act_holds : (act : Act) (t : Hosts) → may act t ≡ true → IsNetwork lossless_service (network t) → IsNetwork lossless_service (network (after_act act t))
+act_holds : (act : Act) (t : Hosts) → may act t ≡ true → IsAny lossless_service (network t) → IsAny lossless_service (network (after_act act t))
 act_holds (Arrives role) t h n = arrival_holds (slice_get (flying (direction_to role) t.flights) 0) role t refl n
 act_holds (IsSaid octet) t h n =
-    happened_network lossless_service (Says 1 (octet ∷ []) false false) 0 Dte (network t) (network (after_act (IsSaid octet) t)) n
+    event_any lossless_service (Says 1 (octet ∷ []) false false) 0 Dte (network t) (network (after_act (IsSaid octet) t)) n
     (happened (Says 1 (octet ∷ []) false false) Dte t.flights t (is_host (is_pad t.dte) (and_parts (not (is_pad t.dte)) (have_passed octet t.register.records) h).0) refl)
 act_holds IsTaken t h n =
-    happened_network lossless_service (Takes 1) 0 Dce (network t) (network (after_act IsTaken t)) n (happened (Takes 1) Dce t.flights t (is_host (is_pad t.dce) h) refl)
+    event_any lossless_service (Takes 1) 0 Dce (network t) (network (after_act IsTaken t)) n (happened (Takes 1) Dce t.flights t (is_host (is_pad t.dce) h) refl)
 
 record Holds (count : ℕ) (t : Hosts) : Type 0 where
-  network_is : IsNetwork lossless_service (network t)
+  network_is : IsAny lossless_service (network t)
   passed_is : have_passed count t.register.records ≡ true
 
-all_hold : (count : ℕ) (acts : List Act) (t : Hosts) → ends_with count acts t ≡ true → IsNetwork lossless_service (network t) → Holds count (after acts t)
+all_hold : (count : ℕ) (acts : List Act) (t : Hosts) → ends_with count acts t ≡ true → IsAny lossless_service (network t) → Holds count (after acts t)
 all_hold count [] t h n = record { network_is = n; passed_is = h }
 all_hold count (act ∷ acts) t h n =
     let both = and_parts (may act t) (ends_with count acts (after_act act t)) h in all_hold count acts (after_act act t) both.1 (act_holds act t both.0 n)
@@ -260,10 +260,10 @@ made = record { node_count = refl; nodes = node_made; line_count = refl; lines =
 -- ---- the promise holds of the run, in which 130 packets went over
 
 holds : Holds 130 passed
-holds = all_hold 130 (passes 0 130) start computed (made_network lossless_service plan (network start) planned users made)
+holds = all_hold 130 (passes 0 130) start computed (made_any lossless_service plan (network start) planned made)
 
-promised : NetworkHolds (network passed)
-promised = holds_network lossless_service (network passed) holds.network_is tt
+promised : NetworkPromise (network passed)
+promised = promise_any lossless_service (network passed) holds.network_is tt
 
 all_passed : have_passed 130 passed.register.records ≡ true
 all_passed = holds.passed_is

@@ -20,12 +20,12 @@ use Rattle.net_events.specs.NodeEvents.{NodeEvent}
 use Rattle.net_events.specs.NodeEvents.NodeEvent.{Restarts, AtTerminal}
 use Rattle.line_nodes.specs.declared.terminal.TerminalEvent.TheVariants.{Key}
 use Rattle.net_events.specs.Network.{User, NetLine, Network, net_turn, with_turn_at, HappenedAt}
-use Rattle.network_laws.specs.IsNetwork.{IsNetwork}
+use Rattle.network_laws.specs.Switched.IsSwitched.{IsAny}
 use Rattle.net_config.specs.NetPlan.{NewNode, Planned, PlannedUser, PlannedSwitch, NewLine, NetPlan, IsLinePlan, IsNodePlan, IsPlan, AreUsers}
 use Rattle.net_events.specs.Opening.{placed_new, line_plan, new_at, NodeIsMade, LineIsMade, IsMade}
 use Rattle.net_events.proofs.Users.{same_planned}
-use Rattle.network_laws.proofs.Networks.{happened_network}
-use Rattle.network_laws.proofs.Opened.{made_network}
+use Rattle.network_laws.proofs.Switched.UsersAny.{event_any}
+use Rattle.network_laws.proofs.Switched.MadeHeld.{made_any}
 
 -- ---- the plan
 
@@ -193,8 +193,8 @@ node_made (suc (suc (suc (suc place)))) n at = absurd (none-some n at)
 made : IsMade memory_service plan network
 made = record { node_count = refl; nodes = node_made; line_count = refl; lines = line_made; register = refl }
 
-holds : IsNetwork memory_service network
-holds = made_network memory_service plan network planned users (made)
+holds : IsAny memory_service network
+holds = made_any memory_service plan network planned (made)
 
 -- ---- the host at the DCE of the second line restarts: its line loses all frames, and it sends its first one
 
@@ -216,8 +216,8 @@ restarted = record {
   others = refl;
 }
 
-pub holds_anew : IsNetwork memory_service anew
-holds_anew = happened_network memory_service Restarts 1 Dce network anew (holds) (restarted)
+pub holds_anew : IsAny memory_service anew
+holds_anew = event_any memory_service Restarts 1 Dce network anew (holds) (restarted)
 
 -- ---- a 2 is typed at the second terminal of the PAD, which shows it and sends nothing
 
@@ -246,5 +246,5 @@ types = record {
   others = refl;
 }
 
-pub holds_typed : IsNetwork memory_service typed
-holds_typed = happened_network memory_service typing 0 Dte network typed (holds) (types)
+pub holds_typed : IsAny memory_service typed
+holds_typed = event_any memory_service typing 0 Dte network typed (holds) (types)

@@ -1,11 +1,11 @@
 pub mod PromiseLines
 pub mod Addressed
 pub mod FarAddresses
+pub mod CallsPromised
 pub mod Histories
 pub mod PairsUsers
 pub mod PairsHeld
 pub mod PromiseHeld
-pub mod PromiseUsers
 pub mod PromiseAny
 pub mod FewerAny
 pub mod RestAny

@@ -10,7 +10,8 @@ use Rattle.x25_pad.specs.declared.config.PadConfig.{PadConfig}
 use Rattle.line_nodes.specs.Node.{Pad}
 use Rattle.frame_lines.specs.declared.line.Direction.{Direction}
 use Rattle.frame_lines.specs.Lines.{LineService}
-use Rattle.node_laws.specs.Pads.Sending.{HasTyped, HasSaid}
+use Rattle.node_laws.specs.Pads.Sending.{HasSaid}
+use Rattle.record_laws.specs.Words.{HasTyped}
 use Rattle.node_laws.specs.Pads.Happening.{PadEvent, HasTicks}
 use Rattle.node_laws.specs.Pads.Standing.{drained}
 use Rattle.node_laws.specs.Pads.Courses.{Course}
@@ -24,7 +25,7 @@ use Rattle.net_events.specs.Network.{PlacedNode, User, NetLine, Network, place_a
 use Rattle.net_events.specs.Opening.{IsMade}
 use Rattle.network_laws.specs.LineCourse.{at_pad}
 use Rattle.network_laws.specs.Switched.IsSwitched.{IsAny}
-use Rattle.network_laws.specs.Switched.Promise.{NetworkPromise}
+use Rattle.network_laws.specs.Switched.Promise.{InnerPromise}
 
 -- the node of a place is a PAD at the DTE's end of this line, which was made so; and the course of these events leads to
 -- it, once no frame and no note is left there, and to what the register has of the line
@@ -99,11 +100,11 @@ TimeCourse = (s : Network) (ticks : ℕ) (c : PadConfig) (own place : ℕ) (even
 
 -- each record of the PAD has sent what was typed, and of itself what its occasions in this course ask for
 abbrev pub SentCourse : Type 0
-SentCourse = (s : Network) → NetworkPromise s → (c : PadConfig) (own place : ℕ) (events : List PadEvent)
+SentCourse = (s : Network) → InnerPromise s → (c : PadConfig) (own place : ℕ) (events : List PadEvent)
     → (h : HasCourse c own place events s) → (i : ℕ) (r : RecordValue) → slice_get s.register.records i ≡ Some r
     → r.node ≡ place → HasTyped r × HasSaid (h.course.occasions i) r
 
 -- and its steps are keys and idle times of this course at one terminal, in order, that came while its call stood
 abbrev pub TypedCourse : Type 0
-TypedCourse = (s : Network) → NetworkPromise s → (c : PadConfig) (own place : ℕ) (events : List PadEvent)
+TypedCourse = (s : Network) → InnerPromise s → (c : PadConfig) (own place : ℕ) (events : List PadEvent)
     → HasCourse c own place events s → AreTyped Dte c events s.register.records place

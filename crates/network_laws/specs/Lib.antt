@@ -3,10 +3,9 @@ pub mod IsLine
 pub mod LineLaw
 pub mod LineCourse
 pub mod PadRun
-pub mod IsNetwork
+pub mod CallsPromise
 pub mod Promise
 pub mod DueCount
 pub mod PlacedTime
-pub mod NetworkLaw
 pub mod Rest
 pub mod Courses

@@ -8,7 +8,8 @@ use Rattle.x25_pad.specs.Making.{IsConfig}
 use Rattle.x25_pad.specs.declared.config.PadConfig.{PadConfig}
 use Rattle.call_records.specs.Records.{RecordValue}
 use Rattle.call_records.specs.Writes.{all_written}
-use Rattle.node_laws.specs.Pads.Sending.{HasTyped, HasSaid}
+use Rattle.node_laws.specs.Pads.Sending.{HasSaid}
+use Rattle.record_laws.specs.Words.{HasTyped}
 use Rattle.node_laws.specs.Pads.Holds.{node_at as node_of_end}
 use Rattle.node_laws.specs.Pads.Courses.{Happening, Here, There, Course, happened, beginning, IsCourse}
 use Rattle.node_laws.specs.Pads.Standing.{drained}

@@ -12,8 +12,7 @@ use Rattle.record_laws.specs.Books.Headline.{has_call, IsPaired, HasCallee}
 use Rattle.node_laws.specs.Quiet.{IsQuiet}
 use Rattle.node_laws.specs.Pads.Courses.{PadSends}
 use Rattle.node_laws.specs.LineRecords.Confirmed.{SaysConfirmed}
-use Rattle.node_laws.specs.LineRecords.Counted.{ShowsCounts, HasItsEpochs}
-use Rattle.record_laws.specs.Registers.Promise.{RegisterHolds, HasRecords}
+use Rattle.node_laws.specs.LineRecords.Counted.{ShowsCounts}
 use Rattle.line_nodes.specs.Node.{Pad, end_of}
 use Rattle.net_events.specs.Network.{PlacedNode, User, NetLine, Network, place_at}
 
@@ -64,21 +63,3 @@ pub record PlacedHolds (s : Network) (line : ℕ) (l : NetLine) (role : Role) : 
 abbrev pub PadsSend : Network → Type 0
 PadsSend s = (place : ℕ) (n : PlacedNode) (p : PadState) → slice_get s.nodes place ≡ Some (User n) → n.node ≡ Pad p
     → PadSends Dte p place s.register.records
-
-pub record NetworkHolds (s : Network) : Type 0 where
-  -- for each pair what one end took matches what the other one sent, both ways, and the pair is right; no record is in
-  -- two pairs, and each that took anything is in one
-  pub calls : RegisterHolds s.register
-  -- each present record is open and of the node at its end, at no other channel; each open record is present
-  pub records : HasRecords s.register
-  -- the ends of each line
-  pub ends : (line : ℕ) (l : NetLine) (role : Role) → slice_get s.lines line ≡ Some l → EndHolds s line l role
-  -- at each end a call in data transfer that was placed there is in a pair
-  pub placed : (line : ℕ) (l : NetLine) (role : Role) → slice_get s.lines line ≡ Some l → PlacedHolds s line l role
-  -- each PAD sent what was typed, and of itself what it had occasion to say
-  pub pads : PadsSend s
-  -- each record, open or closed, has the epochs that the packet layer of its node counted: packets, interrupts, and how
-  -- many packets a P(R) covered and how many were released, with nothing cut
-  pub counts : (place : ℕ) (n : PlacedNode) (i : ℕ) (r : RecordValue) → slice_get s.nodes place ≡ Some (User n)
-      → slice_get s.register.records i ≡ Some r → r.node ≡ place
-      → (role : Role) × HasItsEpochs role (end_of n.node).layer r

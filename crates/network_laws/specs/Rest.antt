@@ -1,14 +1,11 @@
 -- Rest and delivery: if a network is at rest nothing is missing, and if a host says that delivery is confirmed it is.
 use Rattle.std.specs.Prelude.{◌≡◌, ℕ, true, List, slice_get, Some}
 use Rattle.link_timers.specs.declared.role.Role.{Role}
-use Rattle.packet_layer.specs.Layer.{confirmed}
 use Rattle.call_records.specs.Records.{RecordValue}
 use Rattle.record_laws.specs.Books.Rest.{NothingMissing}
 use Rattle.record_laws.specs.Books.Delivery.{IsAllCovered}
-use Rattle.line_nodes.specs.Node.{end_of, node_rests}
-use Rattle.frame_lines.specs.Lines.{LineService}
+use Rattle.line_nodes.specs.Node.{node_rests}
 use Rattle.net_events.specs.Network.{PlacedNode, NetNode, User, NetLine, Network, place_at}
-use Rattle.network_laws.specs.IsNetwork.{IsNetwork}
 use Rattle.network_laws.specs.Promise.{its_slot}
 
 -- of each call that is open at both ends, each end took all that the other one sent since the last reset
@@ -18,9 +15,6 @@ MissesNothing s = NothingMissing s.register.records s.register.pairs
 abbrev pub AreAtRest : List NetNode → Type 0
 AreAtRest nodes = (place : ℕ) (n : PlacedNode) → slice_get nodes place ≡ Some (User n) → node_rests n.node ≡ true
 
-abbrev pub RestLaw : LineService → Type 0
-RestLaw L = (s : Network) → IsNetwork L s → L.faithful → AreAtRest s.nodes → MissesNothing s
-
 -- each packet with D = 1 that the present call of a channel sent since its last reset is covered, at the node of this
 -- place
 abbrev pub IsDelivered : (place channel : ℕ) → Network → Type 0
@@ -28,8 +22,3 @@ IsDelivered place channel s =
     (line : ℕ) (l : NetLine) (role : Role) (number : ℕ) (r : RecordValue) → slice_get s.lines line ≡ Some l
     → place_at role l ≡ place → (its_slot line role channel s.register).present ≡ Some number
     → slice_get s.register.records number ≡ Some r → IsAllCovered r.sent
-
-abbrev pub DeliveredLaw : LineService → Type 0
-DeliveredLaw L = (s : Network) → IsNetwork L s → L.faithful → (place channel : ℕ) (n : PlacedNode)
-    → slice_get s.nodes place ≡ Some (User n) → confirmed (end_of n.node).layer channel ≡ true
-    → IsDelivered place channel s

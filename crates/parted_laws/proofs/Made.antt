@@ -14,7 +14,7 @@ use Rattle.frame_lines.specs.Lines.{Flights, no_flights, flying, LineService, lo
 use Rattle.net_config.specs.NetPlan.{NewLine, NetPlan, Planned, PlannedUser, PlannedSwitch, IsPlan, IsNodePlan}
 use Rattle.net_events.specs.Network.{NetNode, NetLine, Network, place_at}
 use Rattle.net_events.specs.Opening.{IsMade, NodeIsMade, LineIsMade, AreSent, new_at, line_plan}
-use Rattle.network_laws.proofs.Opened.{mapped, unmapped}
+use Rattle.network_laws.proofs.Mapped.{mapped, unmapped}
 use Rattle.line_sim.proofs.Events.{made}
 use Rattle.parted_laws.specs.Processes.{Processes, IsLeftOf, line_in, flights_at, sender, ends_of, frames_between, on_way, AreOf}
 use Rattle.parted_laws.specs.Making.{planned_line, AreMade, AreMadeOne, MakingLaw}

@@ -1,6 +1,8 @@
+pub mod Plan
 pub mod World
 pub mod Seen
 pub mod Promise
+pub mod Parts
 pub mod Forwards
 pub mod Law
 pub mod Run

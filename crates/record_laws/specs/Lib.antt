@@ -1,3 +1,4 @@
+pub mod Words
 pub mod Books
 pub mod Registers
 pub mod CallPaths

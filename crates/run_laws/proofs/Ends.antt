@@ -20,8 +20,7 @@ use Rattle.net_turns.specs.Outcomes.{IsOutcome, CalledOn, text_of}
 use Rattle.net_turns.specs.Sends.{ArePutsOf}
 use Rattle.net_nodes.specs.Turns.{AtEnd}
 use Rattle.net_nodes.specs.Steps.{AtNode}
-use Rattle.network_laws.proofs.Networks.{book_there}
-use Rattle.network_laws.specs.Switched.IsSwitched.{IsAny, of_users, with_switches}
+use Rattle.network_laws.specs.Switched.IsSwitched.{IsAny}
 use Rattle.line_sim.specs.Between.{IsBetweenEvents}
 use Rattle.run_laws.specs.Determined.{IsSameAnswer}
 use Rattle.run_laws.proofs.Puts.{puts_once, listed_once}
@@ -117,9 +116,7 @@ at_end_once line role event s t u a b p q =
 -- the two nodes of a line are two
 apart : (s : Network) → IsAny memory_service s → (line : ℕ) (l : NetLine) → slice_get s.lines line ≡ Some l
     → l.dte ≢ l.dce
-apart s (of_users n a) line l at =
-    let b = book_there memory_service s n line l at in (n.lines line l b.0 at b.1).holds.apart
-apart s (with_switches p a) line l at = (p.lines line l at).apart
+apart s n line l at = (n.network.lines line l at).apart
 
 same_role : (role other : Role) (l : NetLine) (place : ℕ) → l.dte ≢ l.dce → place_at role l ≡ place
     → place_at other l ≡ place → role ≡ other

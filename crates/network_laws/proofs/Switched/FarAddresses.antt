@@ -10,6 +10,7 @@ use Rattle.call_records.specs.Book.{side_of, address_of}
 use Rattle.call_records.specs.Register.{book_at}
 use Rattle.record_laws.proofs.Books.Basics.{get_there}
 use Rattle.record_laws.specs.CallPaths.World.{Plan}
+use Rattle.record_laws.specs.CallPaths.Plan.{address_at}
 use Rattle.record_laws.specs.CallPaths.Promise.{PathIsRight, PathHolds, PathsHold, IsPlacedAt, by_caller, by_switch}
 use Rattle.record_laws.specs.CallPaths.OwnAddresses.{HasOwnAddress}
 use Rattle.net_events.specs.Network.{PlacedNode, User, NetLine, Network, place_at}
@@ -17,20 +18,26 @@ use Rattle.network_laws.specs.Switched.Histories.{HasUserAt}
 use Rattle.network_laws.specs.Switched.Plans.{IsPlanOf}
 use Rattle.network_laws.specs.Switched.IsSwitched.{IsAddressed}
 
+pub past : (ls : List NetLine) (n : ℕ) → slice_get ls n ≡ None → length ls ≤ n
+past [] n e = omega arith
+past (x ∷ xs) zero e = absurd (none-some x (sym e))
+past (x ∷ xs) (suc n) e = let rest = past xs n e in omega arith
+
 -- a call that is placed at an end with a user is placed by the caller
 placed_near : (plan : Plan) (caller : RecordValue) (first : ℕ) (hops : List HopValue) (line : ℕ) (role : Role) → plan.has_user line role ≡ true → IsPlacedAt plan caller first hops line role → caller.node ≡ plan.node line role
 placed_near plan caller first hops line role user (by_caller node own) = node
 placed_near plan caller first hops line role user (by_switch from end channel p same none route) = absurd (true≢false (sym user ∙ none))
 
 -- the ends of lines, in the network and in its register
-pub record AreEnds (s : Network) : Type 0 where
+pub record AreEnds (plan : Plan) (s : Network) : Type 0 where
   pub at_line : (line : ℕ) (l : NetLine) (role : Role) (n : PlacedNode) → slice_get s.lines line ≡ Some l
       → slice_get s.nodes (place_at role l) ≡ Some (User n) → n.line ≡ line
   pub dte : (line : ℕ) (l : NetLine) → slice_get s.lines line ≡ Some l → HasUserAt s l Dce → HasUserAt s l Dte
   pub nodes : (line : ℕ) (l : NetLine) (role : Role) → slice_get s.lines line ≡ Some l → (side_of role (book_at line s.register)).node ≡ place_at role l
+  pub addresses : (line : ℕ) (l : NetLine) (role : Role) → slice_get s.lines line ≡ Some l → (side_of role (book_at line s.register)).address ≡ address_at plan line role
   pub bare : (line : ℕ) (l : NetLine) (role : Role) → slice_get s.lines line ≡ Some l → HasUserAt s l Dce → (side_of role (book_at line s.register)).address ≡ []
 
-module _ (s : Network) (plan : Plan) (plan_is : IsPlanOf s plan) (paths : PathsHold plan s.register) (a : IsAddressed s) (ends : AreEnds s) where
+module _ (s : Network) (plan : Plan) (plan_is : IsPlanOf s plan) (paths : PathsHold plan s.register) (a : IsAddressed s) (ends : AreEnds plan s) where
   -- the line of the plan at which a user stands
   line_of : (line other : ℕ) (l : NetLine) (role its : Role) (node : ℕ) → slice_get s.lines line ≡ Some l → node ≡ place_at role l → HasUserAt s l role → node ≡ plan.node other its → other ≡ line
   line_of line other l role its node at here user there = by (slice_get s.lines other) refl
@@ -44,11 +51,6 @@ module _ (s : Network) (plan : Plan) (plan_is : IsPlanOf s plan) (paths : PathsH
           let far : length s.nodes ≤ plan.node other its = plan_is.nowhere other its (past s.lines other e) in
           let same : plan.node other its ≡ place_at role l = sym there ∙ here in
           absurd (omega arith)
-        where
-          past : (ls : List NetLine) (n : ℕ) → slice_get ls n ≡ None → length ls ≤ n
-          past [] n e = omega arith
-          past (x ∷ xs) zero e = absurd (none-some x (sym e))
-          past (x ∷ xs) (suc n) e = let rest = past xs n e in omega arith
 
   user_at : (line : ℕ) (l : NetLine) (role : Role) → slice_get s.lines line ≡ Some l → HasUserAt s l Dce → HasUserAt s l role
   user_at line l Dte at user = ends.dte line l at user

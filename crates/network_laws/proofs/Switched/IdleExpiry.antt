@@ -11,7 +11,6 @@ use Rattle.switch_lines.specs.Switch.{Switch, frames_on, timer_runs, on_expiry}
 use Rattle.switched_call_laws.specs.QuietSwitches.Quiet.{IsQuietSwitch, AreQuiet}
 use Rattle.net_events.specs.AtSwitch.{SwitchHappened, Expires, switched, line_drained, switch_drained, waiting_on}
 use Rattle.net_events.specs.Network.{Switching, Network, own_role}
-use Rattle.network_laws.specs.Switched.IsSwitched.{of_users, with_switches}
 use Rattle.network_laws.specs.Switched.Idle.{IsAsBefore, IdleExpiryLaw}
 use Rattle.network_laws.proofs.Switched.OwnLines.{own_or_none}
 use Rattle.network_laws.proofs.Switched.SwitchStanding.{switch_quiet}
@@ -80,6 +79,5 @@ as_before L own id place s t d q idle = record { nodes = nodes; register = d.reg
     lines f = same_list s.lines t.lines (line_is f)
 
 pub idle_expiry : (L : LineService) → IdleExpiryLaw L
-idle_expiry L own id place s t (of_users n a) d idle = absurd (n.nodes place (Switching d.node) d.node_there)
-idle_expiry L own id place s t (with_switches p a) d idle =
-    as_before L own id place s t d (switch_quiet s.lines s.nodes place d.node d.node_there (p.nodes place (Switching d.node) d.node_there) p.lines) idle
+idle_expiry L own id place s t n d idle =
+    as_before L own id place s t d (switch_quiet s.lines s.nodes place d.node d.node_there (n.network.nodes place (Switching d.node) d.node_there) n.network.lines) idle

@@ -1,5 +1,5 @@
 -- What holds of a network of switches holds at the making.
-use Rattle.std.proofs.Common.{◌≡◌, ℕ, ◌+◌, ◌<◌, ◌≤◌, Bool, true, false, List, [], length, map, Option, Some, None, refl, sym, ap, ◌∙◌, subst, arith, inl, inr, true≢false}
+use Rattle.std.proofs.Common.{◌≡◌, ℕ, ◌+◌, ◌<◌, ◌≤◌, Bool, true, false, List, [], length, map, Option, Some, None, refl, sym, ap, ◌∙◌, subst, arith, true≢false}
 use Rattle.std.specs.Prelude.{slice_get, option_and_then}
 use Rattle.std.proofs.lemmas.Option.{same_Some, none-some, slice_get_within, slice_get_past}
 use Rattle.std.proofs.lemmas.List.{length-map}
@@ -33,13 +33,13 @@ use Rattle.network_laws.specs.LineLaw as one_line
 use Rattle.network_laws.proofs.Channels.{channels_made}
 use Rattle.network_laws.proofs.Fitting.{end-drained}
 use Rattle.network_laws.proofs.Made.{made-end, setting-of, kept_made, made_lines}
-use Rattle.network_laws.proofs.Opened.{mapped, unmapped, made_network}
+use Rattle.network_laws.proofs.Mapped.{mapped, unmapped}
 use Rattle.network_laws.specs.Switched.Plans.{IsPlanOf, has_users, goes_on_at}
-use Rattle.network_laws.specs.Switched.IsSwitched.{ends_state, line_between, LineStands, IsHeld, IsSwitched, of_users, with_switches}
+use Rattle.network_laws.specs.Switched.IsSwitched.{ends_state, line_between, LineStands, IsHeld, IsSwitched}
 use Rattle.network_laws.specs.Switched.Laws.{MadeLaw}
 use Rattle.network_laws.proofs.Switched.Addressed.{made_addressed}
 use Rattle.network_laws.proofs.Switched.NodesAtEnds.{AreApart, same_at, are_apart}
-use Rattle.network_laws.proofs.Switched.MadePlan.{find_switch, end_place, is_user, end_is_user, line_there, switch_there, goes_on, digits_of, plan_of, are_addressed, is_tree, dce_role, dte_role, are_between}
+use Rattle.network_laws.proofs.Switched.MadePlan.{end_place, is_user, end_is_user, line_there, switch_there, goes_on, digits_of, plan_of, are_addressed, is_tree, dce_role, dte_role, are_between}
 use Rattle.network_laws.proofs.Switched.MadeStanding.{MayStand, Stood, all_stand, made_stood}
 use Rattle.network_laws.proofs.Switched.MadeStands.{net_line, line_planned, as_dte, at_dte, at_dce, is_new_dte, stands_made, nodes_made}
 use Rattle.network_laws.proofs.Switched.MadeSwitches.{standing_made, WentOut, role_there, plans_of, made_histories, made_at}
@@ -355,11 +355,8 @@ module _ (L : LineService) (plan : NetPlan) (s : Network) (is : IsPlan plan) (m 
 
   -- ---- on any lines
 
-  pub made_switched : (place : ℕ) (n : NewSwitch) → slice_get plan.nodes place ≡ Some (PlannedSwitch n) → IsSwitched L s
-  made_switched place n at = record {
-    place = place;
-    switch = placed_switch place n plan.lines;
-    there = m.nodes place (PlannedSwitch n) at;
+  made_switched : IsSwitched L s
+  made_switched = record {
     lines = λ line l there.
         let v = line_planned L plan s m line l there in
         subst (λ (x : NetLine). LineStands s.nodes line x) (sym v.2) (stands_made L plan s is m line v.0 v.1 (m.lines line v.0 v.1).flights);
@@ -368,7 +365,4 @@ module _ (L : LineService) (plan : NetPlan) (s : Network) (is : IsPlan plan) (m 
   }
 
 pub made_any : (L : LineService) → MadeLaw L
-made_any L plan s is m = elim (find_switch plan.nodes) [
-  | inl found ↦ with_switches (made_switched L plan s is m found.0 found.1 found.2) (made_addressed L plan s m)
-  | inr users ↦ of_users (made_network L plan s is users m) (made_addressed L plan s m)
-]
+made_any L plan s is m = record { network = made_switched L plan s is m; addressed = made_addressed L plan s m }

@@ -15,23 +15,9 @@ use Rattle.joined_line.specs.declared.config.SwitchLineConfig.{SwitchLineConfig}
 use Rattle.switch_lines.specs.Making.{IsConfig, IsLineConfig}
 use Rattle.record_laws.specs.CallPaths.World.{Plan, AreAddressed, AreBetween}
 use Rattle.record_laws.specs.CallPaths.Tree.{IsTree}
-use Rattle.net_config.specs.NetPlan.{NewNode, NewSwitch, Planned, PlannedUser, PlannedSwitch, NewLine, NetPlan, IsKindOfLine, IsLinePlan, HasEndAt, IsSwitchPlan, IsPlan, AreUsers}
+use Rattle.net_config.specs.NetPlan.{NewSwitch, Planned, PlannedUser, PlannedSwitch, NewLine, NetPlan, IsKindOfLine, IsLinePlan, HasEndAt, IsSwitchPlan, IsPlan}
 use Rattle.net_config.specs.NetPlan.{switch_places}
 use Rattle.net_events.specs.Opening.{role_on_line, line_config, found_config, own_configs, line_plan}
-
--- ---- is there a switch
-
-later_users : (n : NewNode) (nodes : List Planned) → AreUsers nodes → AreUsers (PlannedUser n ∷ nodes)
-later_users n nodes u zero m at = (n, sym (same_Some (PlannedUser n) m at))
-later_users n nodes u (suc place) m at = u place m at
-
-pub find_switch : (nodes : List Planned) → ((place : ℕ) × (n : NewSwitch) × (slice_get nodes place ≡ Some (PlannedSwitch n))) ⊎ AreUsers nodes
-find_switch [] = inr (λ place n at. absurd (none-some n at))
-find_switch (PlannedSwitch n ∷ nodes) = inl (0, n, refl)
-find_switch (PlannedUser n ∷ nodes) = elim (find_switch nodes) [
-  | inl f ↦ inl (suc f.0, f.1, f.2)
-  | inr u ↦ inr (later_users n nodes u)
-]
 
 -- ---- the plan
 

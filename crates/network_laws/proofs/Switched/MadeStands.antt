@@ -22,7 +22,7 @@ use Rattle.net_config.specs.NetPlan.{NewDte, NewHost, NewSwitch, Planned, Planne
 use Rattle.net_events.specs.Opening.{new_dte, new_dce, new_end, new_at, role_on_line, line_config, own_configs, placed_new, placed_switch, IsMade}
 use Rattle.net_events.proofs.Users.{not_both}
 use Rattle.network_laws.proofs.Made.{made-quiet}
-use Rattle.network_laws.proofs.Opened.{mapped}
+use Rattle.network_laws.proofs.Mapped.{mapped}
 use Rattle.network_laws.specs.Switched.IsSwitched.{EndStands, IsUserThere, LineStands}
 use Rattle.network_laws.proofs.Switched.MadePlan.{end_place, dce_role, dte_role, OwnLine, Configs, configs}
 

@@ -44,7 +44,7 @@ use Rattle.record_laws.specs.CallPaths.Lines.{free_book}
 use Rattle.net_config.specs.NetPlan.{NewSwitch, Planned, PlannedSwitch, NewLine, NetPlan, IsSwitchPlan, IsPlan}
 use Rattle.net_events.specs.Opening.{role_on_line, line_config, own_configs, line_plan, placed_switch}
 use Rattle.network_laws.proofs.Made.{setting-of}
-use Rattle.network_laws.proofs.Opened.{mapped, unmapped}
+use Rattle.network_laws.proofs.Mapped.{mapped, unmapped}
 use Rattle.network_laws.proofs.Switched.MadePlan.{end_place, end_is_user, is_user, goes_on, address_on, digits_of, plan_of, OwnLine, Configs, configs, is_config}
 use Rattle.network_laws.proofs.Switched.OwnLines.{line_named}
 

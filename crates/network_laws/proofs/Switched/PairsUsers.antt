@@ -8,11 +8,9 @@ use Rattle.call_records.specs.Register.{Register, book_at}
 use Rattle.record_laws.proofs.Books.Basics.{get_there}
 use Rattle.record_laws.specs.Registers.Seen.{positions, renumbered, RecordIsSeen, PairIsSeen, LineIsSeen, Seen}
 use Rattle.record_laws.proofs.Registers.Positions.{is_place, place_of}
-use Rattle.record_laws.proofs.Registers.Seeing.{owned}
 use Rattle.record_laws.proofs.Registers.Steps.{same_place}
 use Rattle.record_laws.specs.CallPaths.Ends.{IsOf}
-use Rattle.net_events.specs.Network.{Network}
-use Rattle.network_laws.proofs.Switched.Histories.{IsOwned, IsPairAt, PairsAre}
+use Rattle.network_laws.proofs.Switched.Histories.{IsPairAt}
 use Rattle.network_laws.proofs.Switched.PromiseLines.{fellow}
 
 renumbered_of : (n : ℕ) (caller : Option ℕ) (own r : RecordValue) → r ≡ renumbered n caller own → IsOf own r
@@ -55,25 +53,3 @@ module _ (g : Register) (books : List Book) (w : Seen g books) where
 
   pub its_pair : (line : ℕ) (b : Book) (j : ℕ) (q : PairValue) → slice_get books line ≡ Some b → slice_get b.pairs j ≡ Some q → (i : ℕ) × PairOf i line j
   its_pair line b j q there at = fellow (positions line w.pair_owners) b.pairs j q (sym (w.line line b there).pair_count) at
-
-  pub all_owned : (i : ℕ) (r : RecordValue) → slice_get g.records i ≡ Some r → IsOwned books r
-  all_owned i r at =
-      let o = owned g books i r w at in
-      record {
-        line = o.0;
-        book = o.1;
-        there = o.2;
-        place = o.3.place;
-        own = o.3.own;
-        own_there = o.3.own_there;
-        same = renumbered_of i o.3.caller o.3.own r o.3.same;
-      }
-
-  pub user_pairs : (s : Network) → PairsAre s g books PairOf
-  user_pairs s = record {
-    is_at = pair_at;
-    every = every_pair;
-    one = one_place;
-    back = λ i h line j e f. same_Some i h (sym e ∙ f);
-    users = λ line l b role j q own ls bs user at there node. its_pair line b j q bs at;
-  }

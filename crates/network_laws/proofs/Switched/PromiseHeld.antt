@@ -20,7 +20,8 @@ use Rattle.node_laws.proofs.LineRecords.Counting.{shown_kept}
 use Rattle.node_laws.specs.LineRecords.Histories.{LineHistory}
 use Rattle.node_laws.proofs.LineRecords.Histories.{history_kept}
 use Rattle.record_laws.specs.CallPaths.Ends.{IsOf, IsOfPresent, EndIsSeen, IsOfUser}
-use Rattle.record_laws.specs.CallPaths.Seen.{address_at, SideIsSeen}
+use Rattle.record_laws.specs.CallPaths.Seen.{SideIsSeen}
+use Rattle.record_laws.specs.CallPaths.Plan.{address_at}
 use Rattle.record_laws.specs.CallPaths.Promise.{PathsHold}
 use Rattle.record_laws.proofs.CallPaths.Ending.{ends_seen, users_own, open_seen}
 use Rattle.switched_call_laws.specs.SwitchPaths.Law as paths
@@ -36,7 +37,8 @@ use Rattle.network_laws.proofs.Made.{sends_line}
 use Rattle.network_laws.specs.Switched.IsSwitched.{ends_state, LineStands, IsHeld, IsSwitched, IsAddressed}
 use Rattle.network_laws.specs.Switched.Histories.{HasUserAt, HistoriesHold}
 use Rattle.network_laws.specs.Switched.Promise.{NetworkPromise}
-use Rattle.network_laws.proofs.Switched.FarAddresses.{AreEnds, far_none}
+use Rattle.network_laws.proofs.Switched.FarAddresses.{AreEnds}
+use Rattle.network_laws.proofs.Switched.CallsPromised.{calls_promised}
 use Rattle.network_laws.proofs.Switched.Histories.{LineData, IsLed, IsOwned, PairsAre, histories_hold}
 use Rattle.network_laws.proofs.Switched.PairsHeld.{PairOf, all_owned, held_pairs}
 use Rattle.network_laws.proofs.Switched.NodesAtEnds.{user_end}
@@ -279,28 +281,28 @@ module _ (L : LineService) (s : Network) (p : IsSwitched L s) (a : IsAddressed s
   no_address line l Dte at user = (held L s p f).network.alike line (inr ((held L s p f).plan_is.user line l Dce (User user.0) at user.1))
   no_address line l Dce at user = refl
 
-  all_ends : AreEnds s
+  all_ends : AreEnds (held L s p f).plan s
   all_ends = record {
     at_line = λ line l role n at is. (user_end s.nodes line l (p.lines line l at) role n is).line_is;
     dte = λ line l at user. (p.lines line l at).users user;
     nodes = λ line l role at. ap (λ (g : Register). (side_of role (book_at line g)).node) (sym (held L s p f).register) ∙ (seen_side line l role at).seen_node ∙ (held L s p f).plan_is.node line l role at;
+    addresses = λ line l role at. ap (λ (g : Register). (side_of role (book_at line g)).address) (sym (held L s p f).register) ∙ (seen_side line l role at).seen_address;
     bare = λ line l role at user.
         ap (λ (g : Register). (side_of role (book_at line g)).address) (sym (held L s p f).register) ∙ (seen_side line l role at).seen_address ∙ no_address line l role at user;
   }
 
   pub promise_held : NetworkPromise s
   promise_held = record {
-    plan = (held L s p f).plan;
-    plan_is = (held L s p f).plan_is;
-    calls = (paths_hold L s p f);
-    of_users = of_users L s p f;
-    records = (records_hold L s p f);
-    ends = (end_holds L s p f);
-    placed = (placed_holds L s p f);
-    pads = (pads_send L s p f);
-    histories = (all_histories L s p f).0;
-    kept = (all_histories L s p f).1;
-    own = a.own;
-    far = far_none s (held L s p f).plan (held L s p f).plan_is (paths_hold L s p f) a all_ends;
-    alone = λ none. absurd (none p.place p.switch p.there);
+    calls = calls_promised s (held L s p f).plan (held L s p f).plan_is (paths_hold L s p f) a all_ends (of_users L s p f) (λ line l role at. let e = (p.lines line l at).there role in (e.node, e.there)) (pads_send L s p f);
+    inner = record {
+      registered = a.registered;
+      nodes = all_ends.nodes;
+      records = records_hold L s p f;
+      ends = end_holds L s p f;
+      placed = placed_holds L s p f;
+      pads = pads_send L s p f;
+      histories = (all_histories L s p f).0;
+      kept = (all_histories L s p f).1;
+      own = a.own;
+    };
   }

@@ -26,8 +26,7 @@ use Rattle.net_events.specs.OneLine.{LineState}
 use Rattle.net_events.specs.Network.{NetNode, User, Switching, NetLine, Network, place_at}
 use Rattle.network_laws.specs.IsLine.{line_of}
 use Rattle.network_laws.specs.Rest.{MissesNothing}
-use Rattle.network_laws.proofs.Resting.{rest_network}
-use Rattle.network_laws.specs.Switched.IsSwitched.{ends_state, line_between, IsEndOf, EndStands, LineStands, IsHeld, IsSwitched, of_users, with_switches}
+use Rattle.network_laws.specs.Switched.IsSwitched.{ends_state, line_between, IsEndOf, EndStands, LineStands, IsHeld, IsSwitched}
 use Rattle.network_laws.specs.Switched.Rest.{AreAllAtRest}
 use Rattle.network_laws.specs.Switched.Laws.{RestLaw}
 use Rattle.network_laws.proofs.Switched.OwnLines.{switch_there}
@@ -97,5 +96,4 @@ module _ (L : LineService) (s : Network) (p : IsSwitched L s) (f : L.faithful) (
 -- ---- any network
 
 pub rest_any : (L : LineService) → RestLaw L
-rest_any L s (of_users n a) f rests = rest_network L s n f rests.users
-rest_any L s (with_switches p a) f rests = rest_held L s p f rests
+rest_any L s n f rests = rest_held L s n.network f rests

@@ -179,9 +179,6 @@ pub switched_after : (L : LineService) (s : Network) (n : IsSwitched L s) (new :
     → (L.faithful → IsHeld L (net_after new line l flights g s))
     → IsSwitched L (net_after new line l flights g s)
 switched_after L s n new line l flights g at w here held = record {
-  place = n.place;
-  switch = n.switch;
-  there = w.stay n.place n.switch n.there;
   lines = λ k m at_m. by k m (get_set s.lines line (record l { flights = flights }) k m at_m);
   nodes = nodes_after s.lines s.nodes new line l (record l { flights = flights }) at refl refl w n.nodes;
   holds = held;

@@ -32,7 +32,7 @@ use Rattle.network_laws.specs.IsLine.{IsLine, IsKept}
 use Rattle.network_laws.proofs.Lines.{elapsed_lines}
 use Rattle.network_laws.specs.PlacedTime.{nodes_elapsed, elapsed_by}
 use Rattle.network_laws.proofs.PlacedTime.{elapsed_there, was_there, length-nodes_elapsed}
-use Rattle.network_laws.proofs.Opened.{mapped}
+use Rattle.network_laws.proofs.Mapped.{mapped}
 use Rattle.network_laws.specs.Switched.Plans.{IsPlanOf, has_users}
 use Rattle.network_laws.specs.Switched.IsSwitched.{ends_state, line_between, IsEndOf, EndStands, IsUserThere, LineStands, IsSwitchAt, IsHeld, IsSwitched}
 use Rattle.network_laws.proofs.Switched.NodesAtEnds.{AreApart, same_end, same_at, are_apart}
@@ -475,9 +475,6 @@ elapsed_switched L s ticks n =
     let stand : (place : ℕ) (m : NetNode) → slice_get (nodes_elapsed ticks s.nodes) place ≡ Some m → Stands s.lines place m =
     λ place m at. nodes_stand s.lines s.nodes ticks place m n.nodes at in
     record {
-      place = n.place;
-      switch = elapsed_switch (ticks n.place) n.switch;
-      there = elapsed_there ticks s.nodes n.place (Switching n.switch) n.there;
       lines = λ k m at. elapsed_stands s.nodes k m ticks (n.lines k m at);
       nodes = stand;
       holds = λ f. held_elapsed L s ticks n f (n.holds f) (are_apart s.lines (nodes_elapsed ticks s.nodes) stand);

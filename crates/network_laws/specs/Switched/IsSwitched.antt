@@ -1,4 +1,4 @@
--- What holds of a network of switches between events, whatever their number.
+-- What holds of a network between events, with any number of switches or without one.
 use Rattle.std.specs.Prelude.{◌≡◌, ◌≢◌, ℕ, false, List, length, slice_get, Option, Some}
 use Rattle.link_timers.specs.declared.role.Role.{Role}
 use Rattle.link_timers.specs.declared.role.Role.TheVariants.{Dte, Dce}
@@ -18,7 +18,6 @@ use Rattle.net_events.specs.OneLine.{LineState}
 use Rattle.net_events.specs.Network.{PlacedNode, PlacedSwitch, NetNode, User, Switching, NetLine, Network, Stands}
 use Rattle.net_events.specs.Network.{place_at}
 use Rattle.network_laws.specs.IsLine.{IsLine}
-use Rattle.network_laws.specs.IsNetwork.{IsNetwork}
 use Rattle.network_laws.specs.Switched.Plans.{IsPlanOf}
 
 -- ---- the two ends of a line
@@ -104,11 +103,8 @@ pub record IsHeld (L : LineService) (s : Network) : Type 0 where
 
 -- ---- on any lines
 
--- nodes and lines stand at each other, a node is a switch, and nothing waits at any node
+-- nodes and lines stand at each other, and nothing waits at any node
 pub record IsSwitched (L : LineService) (s : Network) : Type 0 where
-  pub place : ℕ
-  pub switch : PlacedSwitch
-  pub there : slice_get s.nodes place ≡ Some (Switching switch)
   pub lines : (line : ℕ) (l : NetLine) → slice_get s.lines line ≡ Some l → LineStands s.nodes line l
   pub nodes : (at : ℕ) (n : NetNode) → slice_get s.nodes at ≡ Some n → Stands s.lines at n
   pub holds : L.faithful → IsHeld L s
@@ -118,7 +114,7 @@ pub record IsAddressed (s : Network) : Type 0 where
   pub registered : length s.register.lines ≡ length s.lines
   pub own : HaveOwnAddresses s.register
 
--- a network of nodes with users alone, or with switches
-pub data IsAny (L : LineService) (s : Network) : Type 0 where
-  of_users : IsNetwork L s → IsAddressed s → IsAny L s
-  with_switches : IsSwitched L s → IsAddressed s → IsAny L s
+-- a network, with any number of switches or without one
+pub record IsAny (L : LineService) (s : Network) : Type 0 where
+  pub network : IsSwitched L s
+  pub addressed : IsAddressed s

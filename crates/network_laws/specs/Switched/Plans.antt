@@ -12,9 +12,6 @@ abbrev pub has_users : NetNode → Bool
 has_users (User n) = true
 has_users (Switching n) = false
 
-abbrev pub HasNoSwitch : Network → Type 0
-HasNoSwitch s = (place : ℕ) (n : PlacedSwitch) → slice_get s.nodes place ≡ Some (Switching n) → ⊥
-
 -- the line of the network on which a switch sends on a call to an address, or none: that of the longest prefix among
 -- its routes
 abbrev pub goes_on_at : PlacedSwitch → (called : List ℕ) → Option ℕ

@@ -1,29 +1,40 @@
--- What a network promises, with any number of switches or without one.
-use Rattle.std.specs.Prelude.{◌≡◌, ℕ, List, slice_get, Some, None}
+-- What a network promises, with any number of switches or without one: of its calls, and of what is inside.
+use Rattle.std.specs.Prelude.{◌≡◌, ℕ, List, length, map, slice_get, Some}
 use Rattle.link_timers.specs.declared.role.Role.{Role}
-use Rattle.link_timers.specs.declared.role.Role.TheVariants.{Dce}
-use Rattle.call_records.specs.Records.{RecordValue, PairValue}
+use Rattle.call_records.specs.Book.{side_of}
+use Rattle.call_records.specs.Register.{book_at}
 use Rattle.record_laws.specs.Registers.Promise.{HasRecords}
-use Rattle.record_laws.specs.CallPaths.World.{Plan}
 use Rattle.record_laws.specs.CallPaths.OwnAddresses.{HaveOwnAddresses}
-use Rattle.record_laws.specs.CallPaths.Promise.{PathsHold}
-use Rattle.net_events.specs.Network.{PlacedNode, User, NetLine, Network, place_at}
-pub use Rattle.network_laws.specs.Promise.{its_slot, EndHolds, PlacedHolds, PadsSend, NetworkHolds}
+use Rattle.line_nodes.specs.Node.{NodeState, Pad, Host}
+use Rattle.net_events.specs.Network.{NetNode, User, Switching, NetLine, Network, place_at}
+pub use Rattle.network_laws.specs.Promise.{its_slot, EndHolds, PlacedHolds, PadsSend}
 use Rattle.node_laws.specs.LineRecords.Histories.{LineHistory}
-use Rattle.network_laws.specs.Switched.Plans.{HasNoSwitch, IsPlanOf}
+use Rattle.network_laws.specs.CallsPromise.{NodeKind, PadNode, HostNode, SwitchNode, CallsPromise}
+use Rattle.network_laws.specs.Switched.Plans.{goes_on_at}
 pub use Rattle.network_laws.specs.Switched.Histories.{HasUserAt, HistoriesHold}
 
-pub record NetworkPromise (s : Network) : Type 0 where
-  -- which node is where, the addresses of the lines, and the routes of each switch
-  pub plan : Plan
-  pub plan_is : IsPlanOf s plan
-  -- for each pair, over one line or through any number of switches, what one end took matches what the other one sent,
-  -- both ways, what is confirmed was taken, and the pair is right; no record is in two pairs, and each that took anything
-  -- is in one
-  pub calls : PathsHold plan s.register
-  -- each record is of a node with users
-  pub of_users : (i : ℕ) (r : RecordValue) → slice_get s.register.records i ≡ Some r
-      → (n : PlacedNode) × (slice_get s.nodes r.node ≡ Some (User n))
+-- ---- of calls
+
+abbrev pub user_kind : NodeState → NodeKind
+user_kind (Pad p) = PadNode
+user_kind (Host e) = HostNode
+
+-- a switch sends a call on by the longest prefix of the called address among its routes
+abbrev pub kind_of : NetNode → NodeKind
+kind_of (User n) = user_kind n.node
+kind_of (Switching n) = SwitchNode (goes_on_at n)
+
+-- of the calls of a network
+abbrev pub PromisesCalls : Network → Type 0
+PromisesCalls s = CallsPromise (map kind_of s.nodes) s.register
+
+-- ---- inside
+
+pub record InnerPromise (s : Network) : Type 0 where
+  -- the register has each line, with the nodes at its ends
+  pub registered : length s.register.lines ≡ length s.lines
+  pub nodes : (line : ℕ) (l : NetLine) (role : Role) → slice_get s.lines line ≡ Some l
+      → (side_of role (book_at line s.register)).node ≡ place_at role l
   -- each present record is open and of the node at its end, at no other channel; each open record is present
   pub records : HasRecords s.register
   -- the ends of lines at which nodes with users stand
@@ -41,12 +52,9 @@ pub record NetworkPromise (s : Network) : Type 0 where
   -- records count, open or closed, is what it says, and the pairs are the calls that users accepted in it, one for each
   pub histories : List LineHistory
   pub kept : HistoriesHold s histories
-  -- the own address of a caller, in each pair and for each call placed last on a channel, is that of its line; on a
-  -- line between two nodes with users that is none, and so is the far address of the callee
+  -- each call placed last on a channel, and the caller of each present one, has the address of its line as its own
   pub own : HaveOwnAddresses s.register
-  pub far : (i line : ℕ) (pair : PairValue) (callee : RecordValue) (l : NetLine) (role : Role)
-      → slice_get s.register.pairs i ≡ Some pair → slice_get s.register.records pair.callee ≡ Some callee
-      → slice_get s.lines line ≡ Some l → callee.node ≡ place_at role l → HasUserAt s l Dce → callee.far ≡ None
-  -- without a switch each pair is of the two ends of one line, and what one end took begins, epoch by epoch, what the
-  -- other one sent
-  pub alone : HasNoSwitch s → NetworkHolds s
+
+pub record NetworkPromise (s : Network) : Type 0 where
+  pub calls : PromisesCalls s
+  pub inner : InnerPromise s

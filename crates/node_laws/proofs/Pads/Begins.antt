@@ -12,7 +12,7 @@ use Rattle.record_laws.specs.Books.Headline.{has_call}
 use Rattle.call_records.specs.Records.{RecordValue, new_record}
 use Rattle.call_records.specs.Book.{Book, Slot, free_slot, nth_slot, with_nth, new_book, standing_book, made_book}
 use Rattle.pad_ports.specs.Ports.{PortState, has_channel, new_port}
-use Rattle.node_laws.specs.Pads.Sending.{HasTyped}
+use Rattle.record_laws.specs.Words.{HasTyped}
 use Rattle.node_laws.specs.Pads.Holds.{node_at, HasItsRecords, HasEachOnce, IsPort, IsOn}
 use Rattle.node_laws.specs.Pads.Holds.{PadTypes}
 use Rattle.x25_pad.specs.Making.{made, IsConfig}

@@ -9,7 +9,8 @@ use Rattle.call_records.specs.Records.{RecordValue}
 use Rattle.call_records.specs.Book.{Book}
 use Rattle.x25_pad.specs.declared.config.PadConfig.{PadConfig}
 use Rattle.node_laws.specs.Pads.Occasions.{Occasion}
-use Rattle.node_laws.specs.Pads.Sending.{HasTyped, HasSaid}
+use Rattle.node_laws.specs.Pads.Sending.{HasSaid}
+use Rattle.record_laws.specs.Words.{HasTyped}
 use Rattle.node_laws.specs.Pads.Holds.{node_at, TextOf, BookHolds, HasItsRecords, HaveSaid}
 use Rattle.node_laws.specs.Pads.Happening.{PadEvent}
 use Rattle.node_laws.specs.Pads.Courses.{Here, Course, IsSeenAs}

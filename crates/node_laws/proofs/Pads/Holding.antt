@@ -51,7 +51,8 @@ use Rattle.x25_pad.specs.Pad.{PadState, acted, at_port}
 use Rattle.x25_pad.specs.Making.{made, IsConfig}
 use Rattle.x25_pad.specs.declared.config.PadConfig.{PadConfig}
 use Rattle.node_laws.specs.Pads.Occasions.{Occasion, TookMessage, HadBreak, HadCommand, messages_taken, answer_in, asks_indication, told_at, all_told, all_interrupts}
-use Rattle.node_laws.specs.Pads.Sending.{qualified_messages, IsOfPad, OfPadLaw, HasTyped, HasSaid}
+use Rattle.node_laws.specs.Pads.Sending.{qualified_messages, IsOfPad, OfPadLaw, HasSaid}
+use Rattle.record_laws.specs.Words.{HasTyped}
 use Rattle.node_laws.specs.Pads.Holds.{TextOf, PadTypes, HaveSaid}
 use Rattle.node_laws.specs.Pads.Standing.{drained}
 use Rattle.node_laws.specs.Pads.RecordClauses.{SentLaw, MadeHolds, KeyHolds, BreakHolds, PrintHolds, LeavingHolds, ArrivalHolds, FrameHolds, RelinkHolds, TimerHolds, RestartHolds, TimeHolds, DrainedHolds, FarHolds}

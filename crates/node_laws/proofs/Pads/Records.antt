@@ -11,7 +11,8 @@ use Rattle.call_records.specs.Book.{packet_of}
 use Rattle.x29_messages.specs.MessageForm.{octets_of}
 use Rattle.x29_messages.specs.declared.message.Message.{Message}
 use Rattle.pad_ports.specs.Line.{datum}
-use Rattle.node_laws.specs.Pads.Sending.{items_of_epochs, interrupts_of_epochs, items_sent, user_messages, qualified_messages, qualified_items, HasTyped}
+use Rattle.node_laws.specs.Pads.Sending.{interrupts_of_epochs, qualified_messages, qualified_items}
+use Rattle.record_laws.specs.Words.{items_of_epochs, items_sent, user_messages, HasTyped}
 
 -- ---- lists one after the other
 

@@ -25,7 +25,8 @@ use Rattle.pad_ports.specs.Notes.{ChannelNote}
 use Rattle.pad_ports.specs.Line.{datum}
 use Rattle.line_nodes.specs.PadWriting.{write_of, parts_to}
 use Rattle.node_laws.specs.Pads.Occasions.{Occasion}
-use Rattle.node_laws.specs.Pads.Sending.{items_sent, interrupts_of_epochs, qualified_items, qualified_messages, qualified_octets, packets_of_epochs, messages_read, HasSaid}
+use Rattle.node_laws.specs.Pads.Sending.{interrupts_of_epochs, qualified_items, qualified_messages, qualified_octets, packets_of_epochs, messages_read, HasSaid}
+use Rattle.record_laws.specs.Words.{items_sent}
 use Rattle.node_laws.specs.Pads.Holds.{node_at, BookHolds, HaveSaid}
 use Rattle.node_laws.specs.Pads.Happening.{is_record}
 use Rattle.node_laws.proofs.Pads.Asking.{noted}

@@ -11,7 +11,8 @@ use Rattle.x25_pad.specs.Making.{made, IsConfig}
 use Rattle.x25_pad.specs.declared.config.PadConfig.{PadConfig}
 use Rattle.node_laws.specs.Pads.Standing.{drained}
 use Rattle.node_laws.specs.Pads.Occasions.{Occasion}
-use Rattle.node_laws.specs.Pads.Sending.{HasTyped, HasSaid}
+use Rattle.node_laws.specs.Pads.Sending.{HasSaid}
+use Rattle.record_laws.specs.Words.{HasTyped}
 use Rattle.node_laws.specs.Pads.Holds.{node_at, PadTypes, HaveSaid}
 use Rattle.node_laws.specs.Pads.Happening.{PadEvent, after_event, writes_after, grown}
 

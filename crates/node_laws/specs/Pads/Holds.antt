@@ -11,7 +11,8 @@ use Rattle.pad_terminal.specs.Terminal.{has_call}
 use Rattle.pad_ports.specs.Ports.{PortState, has_channel}
 use Rattle.x25_pad.specs.Pad.{PadState}
 use Rattle.node_laws.specs.Pads.Occasions.{Occasion}
-use Rattle.node_laws.specs.Pads.Sending.{HasTyped, HasSaid}
+use Rattle.node_laws.specs.Pads.Sending.{HasSaid}
+use Rattle.record_laws.specs.Words.{HasTyped}
 
 -- ---- the book
 

@@ -1,9 +1,9 @@
 -- What a PAD sends on a call: what its terminal typed, and of itself answers, indications of break and interrupts.
 use Rattle.std.specs.Prelude.{◌≡◌, ◌⊎◌, ℕ, if◌then◌else◌, List, [], ◌∷◌, ◌++◌, map}
-use Rattle.epochs.specs.Item.{Item, Octet, End, QualifiedOctet, QualifiedEnd, DataPacket, user_items}
+use Rattle.epochs.specs.Item.{Item, Octet, End, QualifiedOctet, QualifiedEnd, DataPacket}
 use Rattle.epochs.specs.Epoch.{Epoch, TakenEpoch}
-use Rattle.pad_editing.specs.Edited.{edited}
 use Rattle.call_records.specs.Records.{RecordValue, sent_epochs}
+use Rattle.record_laws.specs.Words.{items_sent}
 use Rattle.packet_laws.specs.Readable.{Every}
 use Rattle.x29_messages.specs.MessageForm.{octets_of}
 use Rattle.x29_messages.specs.declared.message.Message.{Message}
@@ -12,23 +12,11 @@ use Rattle.node_laws.specs.Pads.Occasions.{Occasion, messages_taken, all_told, a
 
 -- ---- epochs, one after the other
 
-abbrev pub items_of_epochs : List Epoch → List Item
-items_of_epochs [] = []
-items_of_epochs (e ∷ es) = e.items ++ items_of_epochs es
-
 abbrev pub interrupts_of_epochs : List Epoch → List (List ℕ)
 interrupts_of_epochs [] = []
 interrupts_of_epochs (e ∷ es) = e.interrupts ++ interrupts_of_epochs es
 
-abbrev pub items_sent : RecordValue → List Item
-items_sent r = items_of_epochs (sent_epochs r)
-
 -- ---- messages
-
--- each block, and an end
-abbrev pub user_messages : List (List ℕ) → List Item
-user_messages [] = []
-user_messages (block ∷ blocks) = map Octet block ++ End ∷ user_messages blocks
 
 abbrev pub qualified_messages : List (List ℕ) → List Item
 qualified_messages [] = []
@@ -75,7 +63,3 @@ pub record HasSaid (occasions : List Occasion) (r : RecordValue) : Type 0 where
   pub messages : messages_read r ≡ messages_taken occasions
   pub told : qualified_items (items_sent r) ≡ qualified_messages (map octets_of (all_told occasions))
   pub interrupts : interrupts_of_epochs (sent_epochs r) ≡ all_interrupts occasions
-
--- the user items of all epochs are, for each block that the editing rules make of the steps, its octets and an end
-abbrev pub HasTyped : RecordValue → Type 0
-HasTyped r = user_items (items_sent r) ≡ user_messages (edited r.steps)

@@ -9,7 +9,7 @@ use Rattle.link_timers.specs.Role.{other_of}
 use Rattle.epochs.specs.Confirmed.{Confirms}
 use Rattle.epochs.proofs.Confirms.{aligned_confirms, confirmed_taken}
 use Rattle.call_records.specs.Records.{RecordValue, changed_at}
-use Rattle.record_laws.specs.Books.Headline.{IsTakenFrom, sent_by, all_taken_by}
+use Rattle.record_laws.specs.Words.{IsTakenFrom, sent_by, all_taken_by}
 
 -- ---- lists
 

@@ -15,7 +15,8 @@ use Rattle.packet_laws.specs.History.{Epoch}
 use Rattle.packet_laws.specs.Law.{Aligned, HasNoLogs}
 use Rattle.call_records.specs.Records.{RecordValue, PairValue, taken_epochs}
 use Rattle.call_records.specs.Book.{Book, side_of, packet_of}
-use Rattle.record_laws.specs.Books.Headline.{IsTakenFrom, AreEnds, PairHolds, CallsHold, IsIn, TookNothing, BookHolds}
+use Rattle.record_laws.specs.Books.Headline.{AreEnds, PairHolds, CallsHold, BookHolds}
+use Rattle.record_laws.specs.Words.{IsTakenFrom, IsIn, TookNothing}
 use Rattle.record_laws.proofs.Books.Basics.{twice, get_there, map_at, confirmed_of}
 use Rattle.record_laws.proofs.Books.Invariant.{EndView, ChannelUse, Kind, Tag, came_from, placed_of, book_parts, IsLive, Tells, IsCaller, IsCallee, IsPaired, IsRight, caller_of, callee_of, epoch_at, answered_at, sent_of, taken_of, nth_sent, nth_taken, all_sent, all_taken, Passed, HasSent, HasTaken, passed_sent, passed_taken}
 use Rattle.record_laws.proofs.Books.Invariant.Kind.{Caller, Callee, Cancelled}
@@ -284,8 +285,6 @@ module _ (views : Role → EndView) (b : Book) (tags : List Tag) (w : IsRight vi
   pub concluded : BookHolds b
   concluded = record {
     pairs_hold = pair_holds;
-    numbers = number_of;
+    paired = record { numbers = number_of; in_one = in_one; took = took_of };
     nodes = node_of;
-    in_one = in_one;
-    took = took_of;
   }

@@ -10,11 +10,11 @@ use Rattle.epochs.specs.ConfirmedLaws.{AreEmpty}
 use Rattle.epochs.proofs.Confirms.{confirms_itself, confirms_trans, aligned_confirms, confirms_match, confirmed_taken}
 use Rattle.epochs.proofs.Prefixes.{empty-prefix}
 use Rattle.call_records.specs.Records.{RecordValue, sent_epochs, taken_epochs}
-use Rattle.record_laws.specs.Books.Headline.{IsTakenFrom, TookNothing, sent_by, taken_by, all_taken_by}
+use Rattle.record_laws.specs.Words.{IsTakenFrom, TookNothing, sent_by, taken_by, all_taken_by}
 use Rattle.record_laws.specs.Registers.Promise.{PairHolds}
 use Rattle.record_laws.specs.CallPaths.World.{World, Plan}
 use Rattle.record_laws.specs.CallPaths.Seen.{Way}
-use Rattle.record_laws.specs.CallPaths.Promise.{CallsHold, JoinsHold, JoinHolds}
+use Rattle.record_laws.specs.CallPaths.Parts.{CallsHold, JoinsHold, JoinHolds}
 use Rattle.record_laws.proofs.CallPaths.Ways.{along}
 
 -- ---- a line

@@ -17,7 +17,7 @@ use Rattle.record_laws.proofs.Registers.Seeing.{line_within}
 use Rattle.record_laws.proofs.Registers.Promising.{promised}
 use Rattle.record_laws.specs.CallPaths.World.{Origin, World}
 use Rattle.record_laws.specs.CallPaths.Seen.{CameFrom}
-use Rattle.record_laws.specs.CallPaths.Promise.{CallsHold}
+use Rattle.record_laws.specs.CallPaths.Parts.{CallsHold}
 use Rattle.record_laws.proofs.CallPaths.Ways.{get_map}
 use Rattle.record_laws.specs.CallPaths.Lines.{OriginIsSeen, LinesSeen, BookCallsHold, LinesLaw}
 
@@ -112,8 +112,8 @@ module _ (w : World) (books : List Book) (traces : List (List Origin)) (s : Line
     pair_holds a x c =
         let all : BookCallsHold c.line_book c.own = h c.j c.line_book c.own c.there c.traced in
         let p : book.PairHolds c.line_book (record { caller = c.caller; callee = c.callee }) = all.came c.callee c.caller c.came in
-        let caller_number : p.caller.number ≡ c.caller = all.holds.numbers c.caller p.caller p.caller_there in
-        let callee_number : p.callee.number ≡ c.callee = all.holds.numbers c.callee p.callee p.callee_there in
+        let caller_number : p.caller.number ≡ c.caller = all.holds.paired.numbers c.caller p.caller p.caller_there in
+        let callee_number : p.callee.number ≡ c.callee = all.holds.paired.numbers c.callee p.callee p.callee_there in
         let less : c.caller < c.callee = subst (λ (k : ℕ). k < c.callee) caller_number (subst (λ (k : ℕ). p.caller.number < k) callee_number p.is_right.order) in
         let ends = get_there w.whole.lines c.j (line_within w.whole books c.j c.line_book c.there s.seen) in
         let caller = record_there c.j c.line_book c.there c.caller x p.caller c.caller_numbered p.caller_there in

@@ -2,6 +2,7 @@
 use Rattle.std.proofs.Common.{◌≡◌, ℕ, zero, suc, ◌+◌, ◌<◌, ◌≤◌, ◌⊎◌, inl, inr, Bool, true, false, List, length, Option, Some, None, refl, sym, ap, ap₂, subst, ◌∙◌, arith}
 use Rattle.std.specs.Prelude.{slice_get, map, [], ◌∷◌, ◌++◌}
 use Rattle.std.proofs.lemmas.Bool.{cases_Bool}
+use Rattle.std.proofs.lemmas.List.{length-append}
 use Rattle.std.proofs.lemmas.Option.{none-some, same_Some, slice_get_within}
 use Rattle.link_timers.specs.declared.role.Role.{Role}
 use Rattle.link_timers.specs.declared.role.Role.TheVariants.{Dte, Dce}
@@ -11,19 +12,21 @@ use Rattle.epochs.specs.ConfirmedLaws.{AreEmpty}
 use Rattle.epochs.proofs.Confirms.{confirms_trans}
 use Rattle.call_records.specs.Records.{RecordValue, HopValue, PairValue, taken_epochs}
 use Rattle.call_records.specs.Register.{LineEnds, found_ends}
-use Rattle.record_laws.specs.Books.Headline.{IsIn, TookNothing, sent_by, taken_by}
+use Rattle.record_laws.specs.Words.{IsTakenFrom, IsIn, TookNothing, sent_by, taken_by}
 use Rattle.record_laws.proofs.Books.Basics.{get_there, order}
 use Rattle.record_laws.specs.Registers.Seen.{positions}
-use Rattle.record_laws.specs.Registers.Promise.{IsOfEnd}
+use Rattle.record_laws.specs.CallPaths.Plan.{IsOfEnd}
 use Rattle.record_laws.proofs.Registers.Positions.{IsNth, place_of, rises_from}
 use Rattle.record_laws.proofs.Registers.Steps.{same_place}
-use Rattle.record_laws.specs.CallPaths.World.{Origin, placing, World, Plan, AreAddressed, calling_on}
-use Rattle.record_laws.specs.CallPaths.Seen.{kind, numbers, CameFrom, Way, Begins, address_at, own_on, own_of, shown, RecordIsShown, JoinIsSeen, PairIsSeen, PairCame, Seen}
+use Rattle.record_laws.specs.CallPaths.World.{Origin, Join, placing, World, Plan, AreAddressed, calling_on}
+use Rattle.record_laws.specs.CallPaths.Seen.{kind, numbers, CameFrom, Way, Begins, own_on, own_of, shown, RecordIsShown, JoinIsSeen, PairIsSeen, PairCame, Seen}
+use Rattle.record_laws.specs.CallPaths.Plan.{address_at}
 use Rattle.record_laws.specs.CallPaths.Seen.Way.{here, onward}
 use Rattle.record_laws.specs.CallPaths.Tree.{WayOver}
 use Rattle.record_laws.specs.CallPaths.Tree.WayOver.{here as stands_here, onward as goes_on}
 use Rattle.record_laws.specs.CallPaths.Paths.{IsPath, ArePaths}
-use Rattle.record_laws.specs.CallPaths.Promise.{IsPlacedAt, PathHolds, PathsHold, CallsHold, JoinsHold, JoinHolds}
+use Rattle.record_laws.specs.CallPaths.Promise.{IsPlacedAt, PathHolds, PathsHold}
+use Rattle.record_laws.specs.CallPaths.Parts.{CallsHold, JoinsHold, JoinHolds}
 use Rattle.record_laws.specs.CallPaths.Promise.IsPlacedAt.{by_caller, by_switch}
 use Rattle.record_laws.specs.CallPaths.Law.{PromiseLaw}
 use Rattle.record_laws.proofs.CallPaths.Ways.{along, from_first, stops, one_callee, one_first, numbered_user, kind_user}
@@ -47,6 +50,14 @@ own_came plan o x given e = ap (λ (k : Option ℕ). own_on o.placed_here k (add
 calling_again : (address : List ℕ) (given : Option (List ℕ)) → calling_on address (calling_on address given) ≡ calling_on address given
 calling_again [] given = refl
 calling_again (digit ∷ digits) given = refl
+
+-- a way over no hop stays where it begins
+pushed_some : (hops : List HopValue) (hop : HopValue) → hops ++ hop ∷ [] ≡ [] → ⊥
+pushed_some hops hop e = let some = length-append hops (hop ∷ []) in let none : length (hops ++ hop ∷ []) ≡ 0 = ap length e in omega arith
+
+over_none : {plan : Plan} {origins : List Origin} {joins : List Join} {hops : List HopValue} {x y : ℕ} → WayOver plan origins joins hops x y → hops ≡ [] → x ≡ y
+over_none stands_here e = refl
+over_none (goes_on {hops = hops} a b o channel way came join at) e = absurd (pushed_some hops _ e)
 
 module _ (plan : Plan) (w : World) (s : Seen plan w) where
   -- the pair of the whole register whose callee is a user's, in the register
@@ -120,7 +131,7 @@ module _ (plan : Plan) (w : World) (addressed : AreAddressed plan) (s : Seen pla
       ]
 
   record_number : (x : ℕ) (r : RecordValue) → slice_get w.whole.records x ≡ Some r → r.number ≡ x
-  record_number x r at = calls.register.numbers x r at
+  record_number x r at = calls.register.paired.numbers x r at
 
   caller_first : (a x : ℕ) → CameFrom w.origins a x → x < a
   caller_first a x came =
@@ -283,6 +294,12 @@ module _ (plan : Plan) (w : World) (addressed : AreAddressed plan) (s : Seen pla
           onward_confirmed = all_confirmed to.value from.value on;
           backward_confirmed = all_confirmed from.value to.value back;
         };
+        direct = λ none.
+            let first : h.caller ≡ from.value =
+            same_Some h.caller from.value (sym h.caller_there ∙ ap (λ (n : ℕ). slice_get w.whole.records n) (sym (over_none over none)) ∙ from.whole_there) in (
+              subst (λ (r : RecordValue). IsTakenFrom r to.value) first (subst (λ (r : RecordValue). IsTakenFrom h.caller r) callee h.matches.onward_aligned),
+              subst (λ (r : RecordValue). IsTakenFrom to.value r) first (subst (λ (r : RecordValue). IsTakenFrom r h.caller) callee h.matches.backward_aligned),
+            );
         is_right = record {
           order = ordered x y pair.caller pair.callee p.caller.numbered p.callee less;
           own =
@@ -336,7 +353,7 @@ module _ (plan : Plan) (w : World) (addressed : AreAddressed plan) (s : Seen pla
 
   one_place : (i j : ℕ) (p q : PairValue) (a : PairOf i p) (c : PairOf j q) → a.whole.callee ≡ c.whole.callee → i ≡ j
   one_place i j p q a c same =
-      let place : a.place ≡ c.place = calls.register.in_one a.place c.place a.whole c.whole c.whole.callee a.whole_there c.whole_there (inr same) (inr refl) in
+      let place : a.place ≡ c.place = calls.register.paired.in_one a.place c.place a.whole c.whole c.whole.callee a.whole_there c.whole_there (inr same) (inr refl) in
       same_place 1 s.kinds i j a.place a.numbered (c.numbered ∙ ap (λ (k : ℕ). Some k) (sym place))
 
   same_callee : (i j : ℕ) (p q : PairValue) (a : PairOf i p) (c : PairOf j q) → p.callee ≡ q.callee → i ≡ j
@@ -416,7 +433,7 @@ module _ (plan : Plan) (w : World) (addressed : AreAddressed plan) (s : Seen pla
               let j : JoinHolds plan w whole.callee next.0 = joins.joins whole.callee next.0 next.1 in
               let seen : JoinIsSeen plan w.origins whole.callee next.0 = s.records.joined whole.callee next.0 next.1 in
               let on : Way w.origins w.joins x next.0 = onward whole.callee next.0 way came next.1 in
-              elim (calls.register.took next.0 j.to j.to_there) [
+              elim (calls.register.paired.took next.0 j.to j.to_there) [
                 | inl none ↦ inl (nothing_over whole.callee whole.caller next.0 rb came rb_there j (are_empty (j.to.taken_before ++ j.to.taken ∷ []) none))
                 | inr pair ↦ elim pair.3 [
                   | inr e ↦
@@ -443,7 +460,7 @@ module _ (plan : Plan) (w : World) (addressed : AreAddressed plan) (s : Seen pla
       let seen : RecordIsShown plan w.origins w.joins w.register.records w.whole.records n m.0 = s.records.records n m.0 m.1 in
       let same : shown plan seen.origin n seen.caller seen.path seen.value ≡ r = same_Some (shown plan seen.origin n seen.caller seen.path seen.value) r (sym seen.seen_there ∙ at) in
       subst (λ (v : RecordValue). TookNothing (taken_epochs v) ⊎ InPair n) same
-      (elim (calls.register.took m.0 seen.value seen.whole_there) [
+      (elim (calls.register.paired.took m.0 seen.value seen.whole_there) [
         | inl none ↦ inl none
         | inr pair ↦ elim pair.3 [
           | inl e ↦ elim (reach (length w.whole.records) pair.0 pair.1 pair.2 n m.0 m.1
@@ -462,7 +479,7 @@ module _ (plan : Plan) (w : World) (addressed : AreAddressed plan) (s : Seen pla
       ])
 
   paths_hold : PathsHold plan w.register
-  paths_hold = record { pairs_hold = pair_holds; numbers = s.records.numbered; nodes = nodes; in_one = in_one; took = took }
+  paths_hold = record { pairs_hold = pair_holds; paired = record { numbers = s.records.numbered; in_one = in_one; took = took }; nodes = nodes }
 
 pub promised : PromiseLaw
 promised plan w addressed s paths calls joins = paths_hold plan w addressed s paths calls joins

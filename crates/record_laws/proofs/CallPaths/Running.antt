@@ -10,12 +10,12 @@ use Rattle.epochs.proofs.MatchedLists.{aligned-match}
 use Rattle.epochs.proofs.Confirms.{confirms_itself}
 use Rattle.call_records.specs.Records.{RecordValue, new_record}
 use Rattle.call_records.specs.Book.{packet_of}
-use Rattle.record_laws.specs.Books.Headline.{IsTakenFrom}
+use Rattle.record_laws.specs.Words.{IsTakenFrom}
 use Rattle.record_laws.proofs.Books.Basics.{confirmed_of}
 use Rattle.record_laws.specs.Registers.Promise.{PairIsRight, PairHolds}
 use Rattle.record_laws.specs.CallPaths.World.{World, ChannelEnd, Event, made_world, after_all}
 use Rattle.record_laws.specs.CallPaths.Seen.{Seen}
-use Rattle.record_laws.specs.CallPaths.Promise.{CallsHold, JoinsHold}
+use Rattle.record_laws.specs.CallPaths.Parts.{CallsHold, JoinsHold}
 use Rattle.record_laws.specs.CallPaths.Run.{parts, plan, lines, message, reply, called, cleared, first_call, events, world, one_sent, one_taken, RunLaw}
 use Rattle.record_laws.specs.CallPaths.Tree.{IsTree}
 use Rattle.record_laws.specs.CallPaths.Paths.{ArePaths}

@@ -11,7 +11,7 @@ use Rattle.record_laws.specs.Books.Rest.{NothingMissing}
 use Rattle.record_laws.specs.Registers.Promise.{PairHolds, HasRecords}
 use Rattle.record_laws.specs.CallPaths.World.{World, made_world}
 use Rattle.record_laws.specs.CallPaths.Seen.{Seen}
-use Rattle.record_laws.specs.CallPaths.Promise.{CallsHold, JoinsHold}
+use Rattle.record_laws.specs.CallPaths.Parts.{CallsHold, JoinsHold}
 use Rattle.record_laws.specs.CallPaths.Forwards.{AreHandedOn}
 use Rattle.record_laws.specs.CallPaths.Rest.{HaveHandedAll}
 use Rattle.record_laws.specs.CallPaths.Tree.{IsTrunk, IsTree}

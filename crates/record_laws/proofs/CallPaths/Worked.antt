@@ -11,12 +11,13 @@ use Rattle.epochs.specs.Confirmed.{Confirms}
 use Rattle.call_records.specs.Records.{RecordValue, PairValue, taken_epochs}
 use Rattle.call_records.specs.Book.{Slot, side_of, slot_at, nth_slot, found_slot}
 use Rattle.call_records.specs.Register.{LineEnds, book_at, found_ends}
-use Rattle.record_laws.specs.Books.Headline.{IsIn, IsOpenHere, TookNothing, sent_by, taken_by}
+use Rattle.record_laws.specs.Books.Headline.{IsOpenHere}
+use Rattle.record_laws.specs.Words.{IsIn, TookNothing, sent_by, taken_by}
 use Rattle.record_laws.specs.Books.Rest.{TookAll, NothingMissing}
 use Rattle.record_laws.specs.Registers.Promise.{PairHolds, RegisterHolds, HasRecords}
 use Rattle.record_laws.specs.CallPaths.World.{Origin, Join, World, Plan, ChannelEnd, Event, after_event, after_all, MayAll}
 use Rattle.record_laws.specs.CallPaths.Seen.{IsJoined, Seen}
-use Rattle.record_laws.specs.CallPaths.Promise.{CallsHold, JoinsHold}
+use Rattle.record_laws.specs.CallPaths.Parts.{CallsHold, JoinsHold}
 use Rattle.record_laws.specs.CallPaths.Forwards.{AreHandedOn, IsRelayed, AllForward}
 use Rattle.record_laws.specs.CallPaths.Rest.{HandedAll, HasHandedAll, HaveHandedAll}
 use Rattle.record_laws.proofs.CallPaths.Each.{AllFrom, each, all_from, both, tested}
@@ -131,13 +132,15 @@ holds_of w calls hold caller callee p = each (λ i (q : PairValue). PairHolds w.
 register_holds : (w : World) → ((i : ℕ) (p : PairValue) → slice_get w.whole.pairs i ≡ Some p → PairHolds w.whole p) → are_recorded w ≡ true → RegisterHolds w.whole
 register_holds w pairs h = record {
   pairs_hold = pairs;
-  numbers = λ i r at. eqb-true r.number i (both _ _ (one i r at)).0;
+  paired = record {
+    numbers = λ i r at. eqb-true r.number i (both _ _ (one i r at)).0;
+    in_one = λ i j p q number at there x y. sym (place i p number at x) ∙ place j q number there y;
+    took = λ n r at. elim (either _ _ (both _ _ (both _ _ (one n r at)).1).1) [
+      | inl e ↦ inr (pair_with w.whole.pairs n e)
+      | inr e ↦ inl (nothing_of (taken_epochs r) e)
+    ];
+  };
   nodes = λ i r at. let n = node_of w.whole.lines r.node (both _ _ (both _ _ (one i r at)).1).0 in record { line = n.line; line_ends = n.line_ends; line_there = n.line_there; at_end = n.at_end };
-  in_one = λ i j p q number at there x y. sym (place i p number at x) ∙ place j q number there y;
-  took = λ n r at. elim (either _ _ (both _ _ (both _ _ (one n r at)).1).1) [
-    | inl e ↦ inr (pair_with w.whole.pairs n e)
-    | inr e ↦ inl (nothing_of (taken_epochs r) e)
-  ];
 }
   where
     one : (i : ℕ) (r : RecordValue) → slice_get w.whole.records i ≡ Some r → is_recorded w i r ≡ true

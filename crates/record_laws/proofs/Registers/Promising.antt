@@ -6,12 +6,14 @@ use Rattle.link_timers.specs.declared.role.Role.TheVariants.{Dte, Dce}
 use Rattle.call_records.specs.Records.{RecordValue, PairValue, taken_epochs}
 use Rattle.call_records.specs.Book.{Book, slot_at}
 use Rattle.call_records.specs.Register.{Register, LineEnds, book_at, found_ends}
-use Rattle.record_laws.specs.Books.Headline.{AreEnds, IsIn, TookNothing, BookHolds}
+use Rattle.record_laws.specs.Books.Headline.{AreEnds, BookHolds}
+use Rattle.record_laws.specs.Words.{IsIn, TookNothing}
 use Rattle.record_laws.specs.Books.Headline as line
 use Rattle.record_laws.proofs.Books.Basics.{get_there}
 use Rattle.record_laws.proofs.Books.Placed.{pair_is}
 use Rattle.record_laws.specs.Registers.Seen.{positions, IsNumbered, SlotIsSeen, renumbered, RecordIsSeen, PairIsSeen, LineIsSeen, Seen}
-use Rattle.record_laws.specs.Registers.Promise.{PairHolds, IsOfEnd, RegisterHolds}
+use Rattle.record_laws.specs.Registers.Promise.{PairHolds, RegisterHolds}
+use Rattle.record_laws.specs.CallPaths.Plan.{IsOfEnd}
 use Rattle.record_laws.specs.Registers.Law.{PromiseLaw, NodeLaw, PairedLaw, IsOfBook, IsAtNoOther}
 use Rattle.record_laws.proofs.Registers.Positions.{IsNth, is_place, place_of, rises_from}
 use Rattle.record_laws.proofs.Registers.Steps.{same_place}
@@ -78,8 +80,8 @@ module _ (g : Register) (books : List Book) (w : Seen g books) (holds : (j : ℕ
       let o : PairOfLine books w.owners w.pair_owners m q = pair_of g books w m q at in
       let all : BookHolds o.book = holds o.j o.book o.there in
       let h : line.PairHolds o.book o.pair.own = all.pairs_hold o.pair.place o.pair.own o.pair.own_there in
-      let caller_number : h.caller.number ≡ o.pair.own.caller = all.numbers o.pair.own.caller h.caller h.caller_there in
-      let callee_number : h.callee.number ≡ o.pair.own.callee = all.numbers o.pair.own.callee h.callee h.callee_there in
+      let caller_number : h.caller.number ≡ o.pair.own.caller = all.paired.numbers o.pair.own.caller h.caller h.caller_there in
+      let callee_number : h.callee.number ≡ o.pair.own.callee = all.paired.numbers o.pair.own.callee h.callee h.callee_there in
       let less : o.pair.own.caller < o.pair.own.callee =
       subst (λ (k : ℕ). k < o.pair.own.callee) caller_number (subst (λ (k : ℕ). h.caller.number < k) callee_number h.is_right.order) in
       let ends = get_there g.lines o.j (line_within g books o.j o.book o.there w) in
@@ -153,7 +155,7 @@ module _ (g : Register) (books : List Book) (w : Seen g books) (holds : (j : ℕ
       let u : OwnNumber (positions j w.owners) a.own number = own_number j b m p number a x in
       let v : OwnNumber (positions j w.owners) c.own number = own_number j b n q number c y in
       let same : v.own ≡ u.own = same_place j w.owners v.own u.own number v.numbered u.numbered in
-      let place : a.place ≡ c.place = (holds j b there).in_one a.place c.place a.own c.own u.own a.own_there c.own_there u.in_pair
+      let place : a.place ≡ c.place = (holds j b there).paired.in_one a.place c.place a.own c.own u.own a.own_there c.own_there u.in_pair
       (subst (λ (k : ℕ). IsIn c.own k) same v.in_pair) in
       same_Some m n (sym a.numbered ∙ ap (λ (k : ℕ). slice_get (positions j w.pair_owners) k) place ∙ c.numbered)
 
@@ -180,7 +182,7 @@ module _ (g : Register) (books : List Book) (w : Seen g books) (holds : (j : ℕ
   took n r at =
       let o : OfLine books w.owners n r = of_line g books w n r at in
       let seen : LineIsSeen (positions o.line w.owners) (positions o.line w.pair_owners) o.book (book_at o.line g) = w.line o.line o.book o.line_there in
-      elim ((holds o.line o.book o.line_there).took o.place o.own o.own_there) [
+      elim ((holds o.line o.book o.line_there).paired.took o.place o.own o.own_there) [
         | inl none ↦ inl (subst (λ (x : RecordValue). TookNothing (taken_epochs x)) (sym o.same) none)
         | inr pair ↦
             let within = slice_get_within o.book.pairs pair.0 pair.1 pair.2 in
@@ -196,7 +198,7 @@ module _ (g : Register) (books : List Book) (w : Seen g books) (holds : (j : ℕ
       ]
 
   register_holds : RegisterHolds g
-  register_holds = record { pairs_hold = pair_holds; numbers = numbers; nodes = nodes; in_one = in_one; took = took }
+  register_holds = record { pairs_hold = pair_holds; paired = record { numbers = numbers; in_one = in_one; took = took }; nodes = nodes }
 
 pub promised : PromiseLaw
 promised g books w holds = register_holds g books w holds

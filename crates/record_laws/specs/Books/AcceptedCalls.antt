@@ -14,7 +14,7 @@ use Rattle.call_records.specs.Records.{RecordValue, PairValue, taken_epochs}
 use Rattle.call_records.specs.Book.{side_of}
 use Rattle.record_laws.specs.Books.Told.{World, Move, after_all, AreAllowed, start}
 use Rattle.record_laws.specs.Books.Told.Move.{Happens}
-use Rattle.record_laws.specs.Books.Headline.{TookNothing}
+use Rattle.record_laws.specs.Words.{TookNothing}
 use Rattle.record_laws.specs.Books.Open.{layers_at}
 use Rattle.record_laws.specs.Books.Counts.{HasEpochs}
 

@@ -1,5 +1,5 @@
 -- What the book of a line promises of its calls.
-use Rattle.std.specs.Prelude.{◌≡◌, ℕ, ◌<◌, ◌≤◌, ◌⊎◌, Bool, false, List, [], ◌∷◌, ◌++◌, length, slice_get, Option, Some}
+use Rattle.std.specs.Prelude.{◌≡◌, ℕ, ◌<◌, ◌≤◌, ◌⊎◌, Bool, false, List, length, slice_get, Option, Some}
 use Rattle.std.specs.Prelude.{None}
 use Rattle.std.specs.Prelude.{is_some, true, map}
 use Rattle.link_timers.specs.declared.role.Role.{Role}
@@ -7,31 +7,14 @@ use Rattle.link_timers.specs.declared.role.Role.TheVariants.{Dte, Dce}
 use Rattle.link_timers.specs.Role.{other_of}
 use Rattle.packet_channel.specs.Channel.{Channel, may_accept, in_transfer}
 use Rattle.packet_layer.specs.Layer.{Layer, channel_of, had_call}
-use Rattle.epochs.specs.Epoch.{Epoch, IsEmpty, AreAligned}
 use Rattle.epochs.specs.Match.{Match}
-use Rattle.epochs.specs.Confirmed.{Confirmed, Confirms, sent_confirmed, taken_confirmed, all_taken}
+use Rattle.epochs.specs.Confirmed.{Confirms}
 use Rattle.data_transfer.specs.Flow.{modulus}
 use Rattle.data_transfer.specs.declared.flow.Flow.{Flow}
 use Rattle.call_records.specs.Records.{RecordValue, PairValue, sent_epochs, taken_epochs}
 use Rattle.call_records.specs.Book.{Book, Slot, side_of, slot_at}
+use Rattle.record_laws.specs.Words.{IsTakenFrom, sent_by, all_taken_by, ArePaired}
 use Rattle.record_laws.specs.Books.Told.{World, Move, after_all, all_callers, made_callers, AreAllowed, start}
-
--- epoch by epoch, what one end of a call took begins what the other end sent, packet by packet; what is covered at the
--- sender was released at the taker, and what is released was taken
-abbrev pub IsTakenFrom : (sender taker : RecordValue) → Type 0
-IsTakenFrom sender taker =
-    AreAligned (sender.sent_before ++ sender.sent ∷ []) (taker.taken_before ++ taker.taken ∷ [])
-
--- the epochs that an end sent and took, each with what is confirmed of it
-abbrev pub sent_by : RecordValue → List Confirmed
-sent_by r = map sent_confirmed (r.sent_before ++ r.sent ∷ [])
-
-abbrev pub taken_by : RecordValue → List Confirmed
-taken_by r = map taken_confirmed (r.taken_before ++ r.taken ∷ [])
-
--- and each with all that was taken in it
-abbrev pub all_taken_by : RecordValue → List Confirmed
-all_taken_by r = map all_taken (r.taken_before ++ r.taken ∷ [])
 
 -- so it is both ways, and so the epochs that one end took match those that the other end sent; by one such matching
 -- what is confirmed to the one end was taken by the other
@@ -64,28 +47,14 @@ pub record PairHolds (book : Book) (pair : PairValue) : Type 0 where
   pub matches : PairMatches caller callee
   pub is_right : PairIsRight book caller callee
 
--- the record of this number is in the pair
-abbrev pub IsIn : PairValue → ℕ → Type 0
-IsIn pair number = (pair.caller ≡ number) ⊎ (pair.callee ≡ number)
-
--- each epoch that was taken is empty
-abbrev pub TookNothing : List Epoch → Type 0
-TookNothing [] = Unit {0}
-TookNothing (e ∷ es) = IsEmpty e × TookNothing es
-
 pub record BookHolds (book : Book) : Type 0 where
   -- each pair holds
   pub pairs_hold : (i : ℕ) (pair : PairValue) → slice_get book.pairs i ≡ Some pair → PairHolds book pair
-  -- the record of each number is at that place
-  pub numbers : (i : ℕ) (r : RecordValue) → slice_get book.records i ≡ Some r → r.number ≡ i
+  -- the records are numbered and paired
+  pub paired : ArePaired book.records book.pairs
   -- each record is of one of the line's two nodes
   pub nodes : (i : ℕ) (r : RecordValue) → slice_get book.records i ≡ Some r
       → (r.node ≡ book.dte.node) ⊎ (r.node ≡ book.dce.node)
-  -- no record is in two pairs, and each that took anything is in one
-  pub in_one : (i j : ℕ) (p q : PairValue) (number : ℕ)
-      → slice_get book.pairs i ≡ Some p → slice_get book.pairs j ≡ Some q → IsIn p number → IsIn q number → i ≡ j
-  pub took : (n : ℕ) (r : RecordValue) → slice_get book.records n ≡ Some r
-      → TookNothing (taken_epochs r) ⊎ ((i : ℕ) × (p : PairValue) × (slice_get book.pairs i ≡ Some p) × IsIn p n)
 
 -- whatever happens on a line whose sessions come in rising order
 abbrev pub BookLaw : Type 0

@@ -7,12 +7,12 @@ use Rattle.data_transfer.specs.Packets.{CallParts}
 use Rattle.call_records.specs.Records.{RecordValue}
 use Rattle.call_records.specs.Book.{slot_at, address_of}
 use Rattle.call_records.specs.Register.{LinePlan, book_at}
-use Rattle.record_laws.specs.Books.Headline.{sent_by, taken_by}
+use Rattle.record_laws.specs.Words.{sent_by, taken_by}
 use Rattle.record_laws.specs.CallPaths.World.{Origin, World, Plan, ChannelEnd, Event, after_event, MayHappen, made_world}
 use Rattle.record_laws.specs.CallPaths.World.{calling_on}
 use Rattle.record_laws.specs.CallPaths.World.Event.{Joins}
 use Rattle.record_laws.specs.CallPaths.Seen.{IsJoined, Seen}
-use Rattle.record_laws.specs.CallPaths.Promise.{JoinsHold}
+use Rattle.record_laws.specs.CallPaths.Parts.{JoinsHold}
 
 -- ---- where a switch joins a call: the parts with which it goes on
 

@@ -11,7 +11,8 @@ use Rattle.record_laws.specs.CallPaths.World.{AreBetween, AreAddressed}
 use Rattle.record_laws.specs.CallPaths.Seen.{numbers, RecordIsShown, Seen}
 use Rattle.record_laws.specs.CallPaths.Tree.{IsTree}
 use Rattle.record_laws.specs.CallPaths.Paths.{ArePaths}
-use Rattle.record_laws.specs.CallPaths.Promise.{CallsHold, JoinsHold, PathsHold}
+use Rattle.record_laws.specs.CallPaths.Promise.{PathsHold}
+use Rattle.record_laws.specs.CallPaths.Parts.{CallsHold, JoinsHold}
 
 -- ---- the making, and whatever happens
 

@@ -24,7 +24,7 @@ use Rattle.record_laws.specs.Registers.Seen.{positions, IsNumbered}
 use Rattle.record_laws.specs.Registers.Seen as line
 use Rattle.record_laws.specs.CallPaths.World.{Origin, placing, coming, World, all_traced, free_register, without_address}
 use Rattle.record_laws.specs.CallPaths.Seen.{CameFrom}
-use Rattle.record_laws.specs.CallPaths.Promise.{CallsHold}
+use Rattle.record_laws.specs.CallPaths.Parts.{CallsHold}
 
 -- the origin of a record in the line's numbers, and in those of the whole register
 pub record OriginIsSeen (numbers : List ℕ) (own whole : List Origin) (i n : ℕ) : Type 0 where

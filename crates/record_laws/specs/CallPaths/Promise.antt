@@ -1,17 +1,13 @@
 -- What the register of a network with switches promises of its calls.
-use Rattle.std.specs.Prelude.{◌≡◌, ℕ, ◌<◌, ◌⊎◌, true, false, List, [], ◌∷◌, ◌++◌, slice_get, Some}
+use Rattle.std.specs.Prelude.{◌≡◌, ℕ, ◌<◌, true, false, List, [], ◌∷◌, ◌++◌, slice_get, Some}
 use Rattle.link_timers.specs.declared.role.Role.{Role}
 use Rattle.link_timers.specs.Role.{other_of}
 use Rattle.epochs.specs.Match.{Match}
 use Rattle.epochs.specs.Confirmed.{Confirms}
-use Rattle.epochs.specs.ConfirmedLaws.{AreEmpty}
 use Rattle.call_records.specs.Records.{RecordValue, HopValue, PairValue, sent_epochs, taken_epochs}
 use Rattle.call_records.specs.Register.{Register}
-use Rattle.record_laws.specs.Books.Headline.{IsIn, TookNothing, sent_by, taken_by, all_taken_by}
-use Rattle.record_laws.specs.Registers.Promise.{IsOfEnd, RegisterHolds}
-use Rattle.record_laws.specs.Registers.Promise as line
-use Rattle.record_laws.specs.CallPaths.World.{Origin, World, Plan, calling_on}
-use Rattle.record_laws.specs.CallPaths.Seen.{CameFrom, IsJoined}
+use Rattle.record_laws.specs.Words.{IsTakenFrom, sent_by, all_taken_by, ArePaired}
+use Rattle.record_laws.specs.CallPaths.Plan.{Plan, calling_on, IsOfEnd}
 
 -- what one end took matches what the other sent, both ways; by one such matching what is confirmed was taken
 pub record PathMatches (caller callee : RecordValue) : Type 0 where
@@ -56,46 +52,14 @@ pub record PathHolds (plan : Plan) (g : Register) (pair : PairValue) : Type 0 wh
   pub caller_there : slice_get g.records pair.caller ≡ Some caller
   pub callee_there : slice_get g.records pair.callee ≡ Some callee
   pub matches : PathMatches caller callee
+  -- without a hop it is so packet by packet
+  pub direct : caller.path ≡ [] → IsTakenFrom caller callee × IsTakenFrom callee caller
   pub is_right : PathIsRight plan caller callee
 
 pub record PathsHold (plan : Plan) (g : Register) : Type 0 where
   -- each pair holds
   pub pairs_hold : (i : ℕ) (pair : PairValue) → slice_get g.pairs i ≡ Some pair → PathHolds plan g pair
-  -- the record of each number is at that place
-  pub numbers : (i : ℕ) (r : RecordValue) → slice_get g.records i ≡ Some r → r.number ≡ i
+  -- the records are numbered and paired
+  pub paired : ArePaired g.records g.pairs
   -- each record is of a node at an end of a line
   pub nodes : (i : ℕ) (r : RecordValue) → slice_get g.records i ≡ Some r → IsOfEnd g r.node
-  -- no record is in two pairs, and each that took anything is in one
-  pub in_one : (i j : ℕ) (p q : PairValue) (number : ℕ)
-      → slice_get g.pairs i ≡ Some p → slice_get g.pairs j ≡ Some q → IsIn p number → IsIn q number → i ≡ j
-  pub took : (n : ℕ) (r : RecordValue) → slice_get g.records n ≡ Some r
-      → TookNothing (taken_epochs r) ⊎ ((i : ℕ) × (p : PairValue) × (slice_get g.pairs i ≡ Some p) × IsIn p n)
-
--- ---- what the laws of the lines and of the switches give
-
--- of the lines: each call that came in holds as a pair does, accepted or not, and it came in once
-pub record CallsHold (w : World) : Type 0 where
-  pub register : RegisterHolds w.whole
-  pub came : (a x : ℕ) → CameFrom w.origins a x → line.PairHolds w.whole (record { caller = x; callee = a })
-  pub once : (a b x : ℕ) → CameFrom w.origins a x → CameFrom w.origins b x → a ≡ b
-
--- of the relay of a join: what was sent on the one leg comes of what was taken on the other one, both ways; the called
--- address is handed on, and so is the calling one where the line that the call came on has no address; the line is that
--- of the switch's route
-pub record JoinHolds (plan : Plan) (w : World) (a b : ℕ) : Type 0 where
-  pub from : RecordValue
-  pub to : RecordValue
-  pub from_there : slice_get w.whole.records a ≡ Some from
-  pub to_there : slice_get w.whole.records b ≡ Some to
-  pub onward : Confirms (sent_by to) (taken_by from)
-  pub backward : Confirms (sent_by from) (taken_by to)
-  pub own : (o : Origin) → slice_get w.origins a ≡ Some o → to.own ≡ calling_on (plan.address o.line) from.far
-  pub far : to.far ≡ from.own
-  pub routed : (o : Origin) → slice_get w.origins b ≡ Some o → plan.route to.node to.far ≡ Some o.line
-
--- and of all joins; what a switch sent on a call that came in, it sent on a joined one
-pub record JoinsHold (plan : Plan) (w : World) : Type 0 where
-  pub joins : (a b : ℕ) → IsJoined w.joins a b → JoinHolds plan w a b
-  pub sent : (a x : ℕ) (o : Origin) (r : RecordValue) → slice_get w.origins a ≡ Some o → o.caller ≡ Some x
-      → plan.has_user o.line o.role ≡ false → slice_get w.whole.records a ≡ Some r
-      → AreEmpty (sent_by r) ⊎ ((b : ℕ) × IsJoined w.joins a b)

@@ -20,7 +20,7 @@ use Rattle.record_laws.specs.Registers.Promise.{HasRecords}
 use Rattle.record_laws.specs.CallPaths.World.{World, Plan, Event, after_all, made_world, MayAll, AreAddressed}
 use Rattle.record_laws.specs.CallPaths.World.Event.{Writes, SwitchWrites, Joins}
 use Rattle.record_laws.specs.CallPaths.Seen.{Seen}
-use Rattle.record_laws.specs.CallPaths.Promise.{CallsHold, JoinsHold}
+use Rattle.record_laws.specs.CallPaths.Parts.{CallsHold, JoinsHold}
 use Rattle.record_laws.specs.CallPaths.Forwards.{AllForward}
 use Rattle.record_laws.specs.CallPaths.Tree.{IsTree}
 use Rattle.record_laws.specs.CallPaths.Paths.{ArePaths}

@@ -3,13 +3,13 @@
 use Rattle.std.specs.Prelude.{◌≡◌, ℕ, ◌<◌, Bool, true, false, if◌then◌else◌, List, [], length, map, slice_get}
 use Rattle.std.specs.Prelude.{Option, Some, None}
 use Rattle.link_timers.specs.declared.role.Role.{Role}
-use Rattle.link_timers.specs.declared.role.Role.TheVariants.{Dte, Dce}
 use Rattle.link_timers.specs.Role.{other_of}
 use Rattle.call_records.specs.Records.{RecordValue, HopValue, PairValue}
 use Rattle.call_records.specs.Book.{Slot, Side, nth_slot, side_of}
 use Rattle.call_records.specs.Register.{book_at}
 use Rattle.record_laws.specs.Registers.Seen.{positions, IsNumbered}
 use Rattle.record_laws.specs.CallPaths.World.{Origin, placing, Join, World, Plan, calling_on}
+use Rattle.record_laws.specs.CallPaths.Plan.{address_at}
 
 -- ---- records
 
@@ -51,11 +51,6 @@ BeginsIf plan origins joins (Some n) (Some last) = Begins plan origins joins n l
 BeginsIf plan origins joins _ _ = ⊥
 
 -- ---- a record: with its own number in the register, and that of the beginning of the way to its caller
-
--- the address that an end of a line has in the register
-abbrev pub address_at : Plan → (line : ℕ) → Role → List ℕ
-address_at plan line Dte = plan.address line
-address_at plan line Dce = []
 
 -- where the call was placed at an end with an address, that is the own address
 abbrev pub own_on : (placed_here : Bool) → (caller : Option ℕ) → (address : List ℕ) → (given : Option (List ℕ))

@@ -12,6 +12,7 @@ use Rattle.call_records.specs.Book.{Book, slot_at, places_from, told}
 use Rattle.call_records.specs.Writes.{Write, written_by}
 use Rattle.call_records.specs.Writes.Write.{Placed, Told}
 pub use Rattle.call_records.specs.Register.{ChannelEnd}
+pub use Rattle.record_laws.specs.CallPaths.Plan.{Plan, calling_on}
 use Rattle.call_records.specs.Register.{Register, LinePlan, free_ends, book_at, written_at, all_written_at, holder_at}
 use Rattle.call_records.specs.Register.{handed_on}
 
@@ -70,24 +71,10 @@ pub record World : Type 0 where
   pub origins : List Origin
   pub joins : List Join
 
--- the node at each end of each line, and whether it is one with users; the address of each line, of no digits where it
--- has none; and, for each switch, the line to which it sends calls to an address, if it sends them anywhere
-pub record Plan : Type 0 where
-  pub node : (line : ℕ) → Role → ℕ
-  pub has_user : (line : ℕ) → Role → Bool
-  pub address : (line : ℕ) → List ℕ
-  pub route : (switch : ℕ) → (called : Option (List ℕ)) → Option ℕ
-
 -- a line has an address only where a user is at the DTE's end and a switch at the DCE's
 abbrev pub AreAddressed : Plan → Type 0
 AreAddressed plan =
     (line : ℕ) → (plan.has_user line Dte ≡ false) ⊎ (plan.has_user line Dce ≡ true) → plan.address line ≡ []
-
--- the calling address of a call that was placed on a line with this address: it is the line's, or on a line without an
--- address the one that the call has
-abbrev pub calling_on : (address : List ℕ) → (given : Option (List ℕ)) → Option (List ℕ)
-calling_on [] given = given
-calling_on (digit ∷ digits) given = Some (digit ∷ digits)
 
 -- ---- what happens
 

@@ -1,10 +1,12 @@
 -- What the register of a network promises of its calls.
-use Rattle.std.specs.Prelude.{◌≡◌, ℕ, ◌<◌, ◌⊎◌, false, slice_get, Some}
+use Rattle.std.specs.Prelude.{◌≡◌, ℕ, ◌<◌, false, slice_get, Some}
 use Rattle.link_timers.specs.declared.role.Role.{Role}
-use Rattle.call_records.specs.Records.{RecordValue, PairValue, taken_epochs}
+use Rattle.call_records.specs.Records.{RecordValue, PairValue}
 use Rattle.call_records.specs.Book.{slot_at}
 use Rattle.call_records.specs.Register.{Register, LineEnds, book_at}
-use Rattle.record_laws.specs.Books.Headline.{PairMatches, AreEnds, IsIn, TookNothing, IsOpenHere}
+use Rattle.record_laws.specs.Books.Headline.{PairMatches, AreEnds, IsOpenHere}
+use Rattle.record_laws.specs.Words.{ArePaired}
+use Rattle.record_laws.specs.CallPaths.Plan.{IsOfEnd}
 
 -- the caller's record was made first; the nodes are those of the two ends of one line; the callee's own address is the
 -- one that was called, and the far one is the caller's own
@@ -26,25 +28,13 @@ pub record PairHolds (g : Register) (pair : PairValue) : Type 0 where
   pub matches : PairMatches caller callee
   pub is_right : PairIsRight g caller callee
 
--- a node is that of an end of some line
-pub record IsOfEnd (g : Register) (node : ℕ) : Type 0 where
-  pub line : ℕ
-  pub line_ends : LineEnds
-  pub line_there : slice_get g.lines line ≡ Some line_ends
-  pub at_end : (node ≡ line_ends.dte.node) ⊎ (node ≡ line_ends.dce.node)
-
 pub record RegisterHolds (g : Register) : Type 0 where
   -- each pair holds
   pub pairs_hold : (i : ℕ) (pair : PairValue) → slice_get g.pairs i ≡ Some pair → PairHolds g pair
-  -- the record of each number is at that place
-  pub numbers : (i : ℕ) (r : RecordValue) → slice_get g.records i ≡ Some r → r.number ≡ i
+  -- the records are numbered and paired
+  pub paired : ArePaired g.records g.pairs
   -- each record is of a node at an end of a line
   pub nodes : (i : ℕ) (r : RecordValue) → slice_get g.records i ≡ Some r → IsOfEnd g r.node
-  -- no record is in two pairs, and each that took anything is in one
-  pub in_one : (i j : ℕ) (p q : PairValue) (number : ℕ)
-      → slice_get g.pairs i ≡ Some p → slice_get g.pairs j ≡ Some q → IsIn p number → IsIn q number → i ≡ j
-  pub took : (n : ℕ) (r : RecordValue) → slice_get g.records n ≡ Some r
-      → TookNothing (taken_epochs r) ⊎ ((i : ℕ) × (p : PairValue) × (slice_get g.pairs i ≡ Some p) × IsIn p n)
 
 -- ---- present records
 

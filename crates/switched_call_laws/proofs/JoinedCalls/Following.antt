@@ -25,7 +25,8 @@ use Rattle.address_routes.specs.Routes.{RouteMap, line_for}
 use Rattle.call_records.specs.Records.{RecordValue, PairValue, new_record, with_covered, with_epoch}
 use Rattle.call_records.specs.Book.{Book, Slot, side_of, slot_at, told, all_told, address_of, closes, with_record}
 use Rattle.record_laws.specs.Books.Told.{World, Move, after_move, after_all, all_callers, made_callers}
-use Rattle.record_laws.specs.Books.Headline.{IsIn, IsPaired, HasCallee, AreAnswered, CallsHold, layer_at}
+use Rattle.record_laws.specs.Books.Headline.{IsPaired, HasCallee, AreAnswered, CallsHold, layer_at}
+use Rattle.record_laws.specs.Words.{IsIn}
 use Rattle.record_laws.proofs.Books.Basics.{get_last}
 use Rattle.record_laws.proofs.Books.BookHolds.{calls_hold, callers_recorded}
 use Rattle.record_laws.proofs.Books.Answered.{are_answered}

@@ -5,14 +5,14 @@ use Rattle.std.proofs.lemmas.Option.{none-some, same_Some}
 use Rattle.epochs.specs.ConfirmedLaws.{AreEmpty}
 use Rattle.call_records.specs.Records.{RecordValue}
 use Rattle.call_records.specs.Book.{Book}
-use Rattle.record_laws.specs.Books.Headline.{sent_by}
+use Rattle.record_laws.specs.Words.{sent_by}
 use Rattle.record_laws.specs.Registers.Seen.{renumbered}
 use Rattle.switched_call_laws.specs.JoinedCalls.Law.{HasRelayed}
 use Rattle.switched_call_laws.proofs.JoinedCalls.CallsAfterEvents.{calls_hold}
 use Rattle.record_laws.specs.CallPaths.World.{Origin, Join, World, Plan, calling_on}
 use Rattle.record_laws.specs.CallPaths.Seen.{IsJoined}
 use Rattle.record_laws.specs.CallPaths.Forwards.{IsRelayed}
-use Rattle.record_laws.specs.CallPaths.Promise.{CallsHold}
+use Rattle.record_laws.specs.CallPaths.Parts.{CallsHold}
 use Rattle.record_laws.proofs.CallPaths.Lining.{lines_hold}
 use Rattle.record_laws.proofs.CallPaths.Forwarding.{relayed_joins}
 use Rattle.record_laws.proofs.CallPaths.Promising.{promised}

@@ -19,7 +19,7 @@ use Rattle.call_records.specs.Writes.Write.{Placed, Asked}
 use Rattle.call_records.specs.Register.{Register, book_at, all_written_at}
 use Rattle.record_laws.proofs.Books.Basics.{get_before, get_there, get_last, number_is}
 use Rattle.record_laws.specs.Registers.Seen.{positions, IsNumbered, LineIsSeen, renumbered, RecordIsSeen, PairIsSeen}
-use Rattle.record_laws.specs.Books.Headline.{IsIn}
+use Rattle.record_laws.specs.Words.{IsIn}
 use Rattle.record_laws.proofs.Registers.Positions.{is_place, one_here}
 use Rattle.record_laws.proofs.Registers.Steps.{same_place}
 use Rattle.switch_joins.specs.declared.channels.SwitchChannel.{SwitchChannel}

@@ -18,7 +18,7 @@ use Rattle.call_records.specs.Book.{Book, Slot, slot_at, with_slot, with_record,
 use Rattle.call_records.specs.Carried.{carried, unless_refused}
 use Rattle.call_records.specs.Writes.{Write, written_by, all_written}
 use Rattle.call_records.specs.Writes.Write.{Told, Placed, Asked, Said, Took, Cleared, Edited, AllClosed}
-use Rattle.record_laws.specs.Books.Headline.{sent_by}
+use Rattle.record_laws.specs.Words.{sent_by}
 use Rattle.switched_call_laws.specs.SwitchRecords.Turned.{sight}
 use Rattle.switched_call_laws.proofs.SwitchRecords.Turned.{sight_back, written_seen}
 use Rattle.switched_call_laws.proofs.SwitchRecords.Cells.{slot_records, slot_pairs}

@@ -7,7 +7,7 @@ use Rattle.call_records.specs.Records.{RecordValue, PairValue}
 use Rattle.call_records.specs.Book.{Book, address_of}
 use Rattle.call_records.specs.Register.{Register}
 use Rattle.call_records.specs.Register as register
-use Rattle.record_laws.specs.Books.Headline.{sent_by}
+use Rattle.record_laws.specs.Words.{sent_by}
 use Rattle.record_laws.specs.Registers.Seen.{positions}
 use Rattle.switch_joins.specs.declared.channels.SwitchChannel.{SwitchChannel}
 use Rattle.switch_lines.specs.Lines.{SwitchLine}

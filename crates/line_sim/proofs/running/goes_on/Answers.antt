@@ -27,3 +27,6 @@ returns-in-Err-clause-courses c =
 
 pub returns-in-Ok-clause-headline : goal.returns-in-Ok-clause-headline
 returns-in-Ok-clause-headline c = c.step.follows.holds-at-none.headline tt
+
+pub returns-in-Ok-clause-inner : goal.returns-in-Ok-clause-inner
+returns-in-Ok-clause-inner c = c.step.follows.holds-at-none.inner tt

@@ -9,8 +9,9 @@ use Rattle.line_sim.proofs.running.run.Goals as goal
 pub loop-index-init : goal.loop-index-init
 loop-index-init c = record {
   ran = record { start = c.in-Ok.net; made = c.in-Ok.ensures.ok; ran = refl };
-  pads = first_run c.args.config.now c.in-Ok.net c.in-Ok.ensures.ok c.in-Ok.ensures.courses c.in-Ok.ensures.headline;
+  pads = first_run c.args.config.now c.in-Ok.net c.in-Ok.ensures.ok c.in-Ok.ensures.courses c.in-Ok.ensures.inner;
   headline = c.in-Ok.ensures.headline;
+  inner = c.in-Ok.ensures.inner;
 }
 
 pub loop-index-preserved : goal.loop-index-preserved
@@ -21,8 +22,9 @@ loop-index-preserved c = record {
   pads =
       runs_on c.args.config.now c.args.events.now c.loop-index.index _ c.index-events-index.result c.loop-index.net
       c.goes_on.new.net c.loop-index-test.true c.index-events-index.is c.loop-index.invariant.pads
-      c.if-not-goes_on.ensures.handled c.if-not-goes_on.ensures.courses c.if-not-goes_on.ensures.headline;
+      c.if-not-goes_on.ensures.handled c.if-not-goes_on.ensures.courses c.if-not-goes_on.ensures.inner;
   headline = c.if-not-goes_on.ensures.headline;
+  inner = c.if-not-goes_on.ensures.inner;
 }
 
 pub returns-then-not-goes_on-clause-err : goal.returns-then-not-goes_on-clause-err

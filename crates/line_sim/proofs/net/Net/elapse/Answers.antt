@@ -10,8 +10,12 @@ pub invariant_of-self : goal.invariant_of-self
 invariant_of-self g c = rw c.elapse.ensures (elapsed g.L.Line.service _ c.args.ticks c.self.invariant)
 
 pub returns-clause-headline : goal.returns-clause-headline
-returns-clause-headline g c =
-    rw c.elapse.ensures (promise_any g.L.Line.service _ (elapsed g.L.Line.service _ c.args.ticks c.self.invariant).any)
+returns-clause-headline g c = λ f.
+    rw c.elapse.ensures ((promise_any g.L.Line.service _ (elapsed g.L.Line.service _ c.args.ticks c.self.invariant).any f).calls)
+
+pub returns-clause-inner : goal.returns-clause-inner
+returns-clause-inner g c = λ f.
+    rw c.elapse.ensures ((promise_any g.L.Line.service _ (elapsed g.L.Line.service _ c.args.ticks c.self.invariant).any f).inner)
 
 pub returns-clause-courses : goal.returns-clause-courses
 returns-clause-courses g c = λ pad line place events h.

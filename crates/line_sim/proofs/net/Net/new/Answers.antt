@@ -17,6 +17,11 @@ returns-clause-courses g c = λ pad line place planned.
     (subst (λ (p : NetPlan). IsPlannedPad pad p line place) (sym c.in_ok-plan.ensures.value) planned)
 
 pub returns-clause-headline : goal.returns-clause-headline
-returns-clause-headline g c =
-    promise_any g.L.Line.service c.in_ok-nodes.nodes
-    (made g.L.Line.service c.in_ok-plan.plan c.in_ok-nodes.nodes c.in_ok-plan.ensures.plan c.in_ok-nodes.ensures.ok).any
+returns-clause-headline g c = λ f.
+    (promise_any g.L.Line.service c.in_ok-nodes.nodes
+    (made g.L.Line.service c.in_ok-plan.plan c.in_ok-nodes.nodes c.in_ok-plan.ensures.plan c.in_ok-nodes.ensures.ok).any f).calls
+
+pub returns-clause-inner : goal.returns-clause-inner
+returns-clause-inner g c = λ f.
+    (promise_any g.L.Line.service c.in_ok-nodes.nodes
+    (made g.L.Line.service c.in_ok-plan.plan c.in_ok-nodes.nodes c.in_ok-plan.ensures.plan c.in_ok-nodes.ensures.ok).any f).inner
