@@ -9,3 +9,4 @@ pub mod Terminals
 pub mod LineTurns
 pub mod PadWriting
 pub mod PadRoom
+pub mod Questions

@@ -4,6 +4,7 @@ ghost use Rattle.std.specs.Bool.{OnTrue, OnFalse};
 ghost use Rattle.packet_end.specs.PacketEnd.{without_first_frame};
 ghost use Rattle.line_nodes.specs.Node.{end_of, with_end, frames_of, node_rests, node_due};
 ghost use Rattle.line_nodes.specs.Node.{node_elapsed, node_confirmed};
+ghost use Rattle.line_nodes.specs.Questions.{node_has_to_take, node_room_to_say};
 ghost use Rattle.line_nodes.specs.NodeView.{node_of};
 ghost use Rattle.line_nodes.specs.NodeEvents.{heard, node_runs, expired, relinked, restarted};
 
@@ -116,6 +117,26 @@ impl Node {
         match self {
             Node::Pad(pad) => pad.is_at_rest(),
             Node::Host(host) => host.is_at_rest(),
+        }
+    }
+
+    /// Whether the node is a host, and anything waits to be taken on the channel.
+    pub fn has_to_take(&self, channel: u8) -> bool
+        ensures { result ≡ node_has_to_take (node_of self.now) channel }
+    {
+        match self {
+            Node::Pad(_) => false,
+            Node::Host(host) => host.has_to_take(channel),
+        }
+    }
+
+    /// How many octets a message without Q may have now on the channel of a host, as [`Host::room_to_say`]; at a PAD 0.
+    pub fn room_to_say(&self, channel: u8) -> usize
+        ensures { result ≡ node_room_to_say (node_of self.now) channel }
+    {
+        match self {
+            Node::Pad(_) => 0,
+            Node::Host(host) => host.room_to_say(channel),
         }
     }
 

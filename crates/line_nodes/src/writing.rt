@@ -62,6 +62,7 @@ pub fn write_notes(node: &mut Node, at: Attachment, book: &mut Book, notes: &mut
     ensures node { node_of node.new ≡ (told at.role (node_of node.old) book.old.book).node }
     ensures book { book.new.book ≡ (told at.role (node_of node.old) book.old.book).book }
     ensures notes { notes.new.items ≡ host_notes at.node (told at.role (node_of node.old) book.old.book).notes }
+    ensures kept { vec_capacity notes.new ≡ vec_capacity notes.old }
 {
     match node {
         Node::Pad(pad) => write_pad_notes(pad, at.role, book),
@@ -119,6 +120,7 @@ fn write_host_notes(host: &mut Host, at: Attachment, book: &mut Book, notes: &mu
     ensures host { host.new ≡ all_read host.old }
     ensures book { book.new.book ≡ all_told at.role host.old.notes book.old.book }
     ensures notes { notes.new.items ≡ host_notes at.node host.old.notes }
+    ensures kept { vec_capacity notes.new ≡ vec_capacity notes.old }
 {
     for _ in 0..host.waiting_notes() {
         let Some(note) = host.first_note() else {

@@ -13,7 +13,7 @@ ghost use Rattle.net_nodes.specs.Faults.{step_fault, takes_memory};
 ghost use Rattle.net_nodes.specs.Happening.{IsRefusedSo, FindsNoFrame, FindNoFrames};
 ghost use Rattle.net_nodes.specs.Due.{net_due, net_due_at};
 ghost use Rattle.line_sim.specs.Receipts.{IsTakenBeyond};
-ghost use Rattle.net_nodes.specs.Questions.{net_confirmed, net_rests};
+ghost use Rattle.net_nodes.specs.Questions.{net_confirmed, net_has_to_take, net_room_to_say, net_rests, MaySay};
 ghost use Rattle.line_sim.specs.Courses.{HaveNoEvent, CoursesPass};
 ghost use Rattle.line_sim.specs.Runs.{IsMadeBy};
 
@@ -146,6 +146,22 @@ impl<L: Line> Net<L> {
         ensures taken { L.service.faithful → result ≡ true → IsTakenBeyond node channel self.now }
     {
         self.nodes.confirmed(node, channel)
+    }
+
+    /// Whether the node of this place is a host, and anything waits to be taken on the channel.
+    pub fn has_to_take(&self, node: usize, channel: u16) -> bool
+        ensures { result ≡ net_has_to_take node channel self.now }
+    {
+        self.nodes.has_to_take(node, channel)
+    }
+
+    /// How many octets a message without Q may have now on the channel of the host of this place, at most 1,024: so many
+    /// are not refused, if there are any. At any other node it is 0.
+    pub fn room_to_say(&self, node: usize, channel: u16) -> usize
+        ensures exact { result ≡ net_room_to_say node channel self.now }
+        ensures said { MaySay node channel result self.now }
+    {
+        self.nodes.room_to_say(node, channel)
     }
 
     /// Lets ticks pass, each a twentieth of a second: each timer that runs has so many less, not below 0.

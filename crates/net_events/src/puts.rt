@@ -1,5 +1,5 @@
 //! The frames that an event put on lines.
-ghost use Rattle.std.specs.Prelude.{◌≡◌, ◌≤◌, ◌<◌, [], ◌∷◌, ◌++◌, length, OnOk, IfOk};
+ghost use Rattle.std.specs.Prelude.{◌≡◌, ◌≤◌, ◌<◌, [], ◌∷◌, ◌++◌, length, max, OnOk, IsOk, IfOk};
 ghost use Rattle.std.specs.Borrow.{Lends, sem};
 ghost use Rattle.frame_codec.specs.contracts.buffer.FrameBuf as frame;
 ghost use Rattle.net_events.specs.contracts.puts.Puts.{the_row};
@@ -32,7 +32,8 @@ impl Model for Puts {
 impl Puts {
     /// No frames, and no room for any.
     pub fn new(alloc: Global) -> Self
-        ensures { result.items ≡ [] }
+        ensures items { result.items ≡ [] }
+        ensures room { result.room ≡ 0 }
     {
         Puts {
             places: Vec::new(alloc),
@@ -43,18 +44,20 @@ impl Puts {
     /// No frames, and room for so many. `AllocError` comes for want of memory.
     pub fn with_room(alloc: Global, frames: usize) -> Result<Self, AllocError>
         ensures items { IfOk result (λ puts. puts.items ≡ []) }
-        ensures room { IfOk result (λ puts. frames ≤ puts.room) }
+        ensures room { IfOk result (λ puts. puts.room ≡ frames) }
     {
         let mut puts = Puts::new(alloc);
         puts.reserve(frames)?;
         Ok(puts)
     }
 
-    /// Makes room for so many frames, if there is less. Without the memory the frames are as before.
+    /// Makes room for so many frames, if there is less; else it takes no memory. Without the memory the frames are as
+    /// before.
     #[inline(always)]
     pub fn reserve(&mut self, frames: usize) -> Result<(), AllocError>
         ensures items { self.new.items ≡ self.old.items }
-        ensures room { OnOk result (frames ≤ self.new.room) }
+        ensures room { OnOk result (self.new.room ≡ max self.old.room frames) }
+        ensures ready { frames ≤ self.old.room → IsOk result }
     {
         if self.places.len() < frames {
             self.grow(frames)?;
@@ -65,8 +68,9 @@ impl Puts {
     // Makes places up to so many, in a list that moves once at most.
     #[inline(never)]
     fn grow(&mut self, frames: usize) -> Result<(), AllocError>
+        requires { self.old.room < frames }
         ensures items { self.new.items ≡ self.old.items }
-        ensures room { OnOk result (frames ≤ self.new.room) }
+        ensures room { OnOk result (self.new.room ≡ frames) }
     {
         self.places
             .reserve(frames.saturating_sub(self.places.len()))?;

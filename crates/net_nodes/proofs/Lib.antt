@@ -6,3 +6,4 @@ mod UserNodeEvents
 mod Empties
 mod Passing
 mod Carrying
+pub mod Saying

@@ -1,8 +1,9 @@
 //! The nodes of a network on their lines, and the register of their calls: each event, exactly.
-ghost use Rattle.std.specs.Prelude.{◌≡◌, MatchResult, None, Ok, true, false};
+ghost use Rattle.std.specs.Prelude.{◌≡◌, ◌≢◌, MatchResult, None, Ok, Err, true, false};
 ghost use Rattle.std.specs.Result.{result_and};
-ghost use Rattle.call_records.specs.Register.{forgotten};
-ghost use Rattle.net_events.specs.declared.event.StepFault.TheVariants.{NoSuchNode, NoSuchCall};
+ghost use Rattle.call_records.specs.Register.{HasNoRecords, forgotten};
+ghost use Rattle.net_events.specs.declared.event.StepFault.TheVariants.{NoSuchNode, NoSuchCall, OutOfMemory};
+ghost use Rattle.net_turns.specs.AnswerRoom.{IsRoomy};
 ghost use Rattle.net_nodes.specs.Faults.{is_channel_at};
 ghost use Rattle.net_nodes.specs.Places.{IsStanding, IsPlaceOf, user_at, own_line_at};
 ghost use Rattle.net_nodes.specs.Happening.{Happens};
@@ -126,7 +127,8 @@ impl<L: Line> Nodes<L> {
     }
 
     /// Handles an event, and writes the answer in place of the last one. If the event is refused, the answer says
-    /// nothing: [`StepFault`] has the refusals. A frame that arrives or is lost is taken into the place that is lent.
+    /// nothing: [`StepFault`] has the refusals. A frame that arrives or is lost is taken into the place that is lent. If
+    /// the answer has room for all that an event may give, and the register has no records, no memory is asked for.
     #[inline(always)]
     pub fn happen(
         &mut self,
@@ -135,7 +137,9 @@ impl<L: Line> Nodes<L> {
         answer: &mut Answer,
     ) -> Result<(), StepFault>
         requires { IsStanding self.old }
-        ensures { Happens L.service event.now self.old (result_and result (Ok answer.new)) self.new }
+        ensures done { Happens L.service event.now self.old (result_and result (Ok answer.new)) self.new }
+        ensures kept { IsRoomy answer.old → IsRoomy answer.new }
+        ensures ready { IsRoomy answer.old → HasNoRecords self.old.register → result ≢ Err OutOfMemory }
     {
         match event {
             Event::AtTerminal {

@@ -38,6 +38,8 @@ fn take(
     ensures host { host.new ≡ after_take host.old channel }
     ensures book { book.new.book ≡ taken_written (front_on host.old.layer channel) role channel book.old.book }
     ensures text { text.new.items ≡ taken_octets (front_on host.old.layer channel) }
+    ensures kept { vec_capacity text.old ≤ vec_capacity text.new }
+    ensures most { length text.new.items ≤ MOST_TAKEN }
 {
     let front = host.take_into(channel, text)?;
     write_taken(book, role, channel, &front, text.as_slice());
@@ -65,6 +67,8 @@ pub(crate) fn ask_host(
         (HostNode host.new) book.new) }
     ensures host { OnErr result (host.new ≡ host.old) }
     ensures book { OnErr result (book.new ≡ book.old) }
+    ensures kept { vec_capacity text.old ≤ vec_capacity text.new }
+    ensures most { length text.new.items ≤ MOST_TAKEN }
 {
     match event {
         HostEvent::Calls(address, user_data) => {

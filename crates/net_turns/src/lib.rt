@@ -15,7 +15,7 @@ mod terminals;
 
 pub use net_line::NetLine;
 pub use putting::put_lines;
-pub use room::{make_bare, make_frame_room, make_room};
+pub use room::{MOST_PUTS, make_bare, make_frame_room, make_room};
 pub use send::put_frames;
 pub use serving::{MOST_WRITES, direction_of, serve_line, serve_user};
 pub use switches::serve_switch;

@@ -55,6 +55,8 @@ fn put_anew<L: Line>(
     ensures switch { switch.new ≡ switch_drained switch.old }
     ensures puts { puts.new.items ≡ all_puts own.now switch.old.lines }
     ensures lines { LinesPut L.service true own.now switch.old lines.old.items lines.new.items }
+    ensures places { puts.new.room ≡ puts.old.room }
+    ensures most { length puts.new.items ≤ puts.new.room }
 {
     for at in 0..own.len() {
         let number = network_line(own, at);
@@ -76,6 +78,8 @@ fn put_waiting<L: Line>(
     ensures switch { switch.new ≡ switch_drained switch.old }
     ensures puts { puts.new.items ≡ all_puts own.now switch.old.lines }
     ensures lines { LinesPut L.service false own.now switch.old lines.old.items lines.new.items }
+    ensures places { puts.new.room ≡ puts.old.room }
+    ensures most { length puts.new.items ≤ puts.new.room }
 {
     let mut waiting = switch.with_frames();
     while let Some(at) = waiting.take_first() {
@@ -98,6 +102,8 @@ pub fn put_lines<L: Line>(
     ensures switch { switch.new ≡ switch_drained switch.old }
     ensures puts { puts.new.items ≡ all_puts own.now switch.old.lines }
     ensures lines { LinesPut L.service anew own.now switch.old lines.old.items lines.new.items }
+    ensures places { puts.new.room ≡ puts.old.room }
+    ensures most { length puts.new.items ≤ puts.new.room }
 {
     if anew {
         put_anew(switch, own, lines, puts);

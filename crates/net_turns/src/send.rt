@@ -1,5 +1,5 @@
 //! The frames that a node has to send at the end of an event.
-ghost use Rattle.std.specs.Prelude.{◌≡◌, ◌≤◌, []};
+ghost use Rattle.std.specs.Prelude.{◌≡◌, ◌≤◌, [], length};
 ghost use Rattle.line_nodes.specs.Node.{drained, frames_of};
 ghost use Rattle.line_nodes.specs.NodeView.{node_of};
 ghost use Rattle.net_turns.specs.Sends.{Sends};
@@ -23,6 +23,8 @@ pub fn put_frames<L: Line>(
     ensures node { node_of node.new ≡ drained (node_of node.old) }
     ensures puts { Sends L.service direction number (frames_of (node_of node.old)) (L.flights line.old) puts.new.items
         (L.flights line.new) }
+    ensures places { puts.new.room ≡ puts.old.room }
+    ensures most { length puts.new.items ≤ puts.new.room }
 {
     for _ in 0..node.waiting_frames() {
         let frame = puts.add(number, direction);

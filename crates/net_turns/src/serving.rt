@@ -1,7 +1,8 @@
 //! What an event does at one node, on its line and in the register: the node is called, the network writes what was
 //! asked and what the node noted, and the frames go onto the line.
-ghost use Rattle.std.specs.Prelude.{◌≡◌, ◌≤◌, ◌<◌, [], None, Ok, OnOk, MatchResult, length, vec_capacity};
+ghost use Rattle.std.specs.Prelude.{◌≡◌, ◌≢◌, ◌≤◌, ◌<◌, [], None, Ok, Err, OnOk, IsOk, MatchResult, length, vec_capacity};
 ghost use Rattle.std.specs.Result.{result_and};
+ghost use Rattle.call_records.specs.Register.{HasNoRecords};
 ghost use Rattle.call_records.specs.RegisterView.{register_of};
 ghost use Rattle.line_nodes.specs.Node.{Host as HostNode, Pad as PadNode};
 ghost use Rattle.line_nodes.specs.NodeView.{node_of};
@@ -11,6 +12,8 @@ ghost use Rattle.node_laws.specs.Quiet.{IsQuiet};
 ghost use Rattle.net_events.specs.NodeEvents.{turn_of, AtTerminal as terminal_event};
 ghost use Rattle.net_events.specs.OneLine.{direction_of};
 ghost use Rattle.net_events.specs.EventView.{line_event_of, host_event_of, user_event_of};
+ghost use Rattle.net_events.specs.declared.event.StepFault.TheVariants.{OutOfMemory};
+ghost use Rattle.net_turns.specs.AnswerRoom.{IsRoomy};
 ghost use Rattle.net_turns.specs.Outcomes.{IsOutcome};
 ghost use Rattle.net_turns.specs.Served.{IsCalled, Served, IsEmpty, IsReady};
 ghost use Rattle.net_turns.specs.Users.{IsWhole, IsWholeCall, is_on_line, IsRefusedWith, IsOpened};
@@ -58,6 +61,7 @@ fn finish<L: Line>(
         answer.new.frames.items answer.new.notes.items (node_of node.new) (L.flights line.new) book.new.book }
     ensures text { answer.new.text ≡ answer.old.text }
     ensures outcome { answer.new.outcome ≡ answer.old.outcome }
+    ensures kept { IsRoomy answer.old → IsRoomy answer.new }
 {
     write_notes(node, at, book, &mut answer.notes);
     put_frames(
@@ -126,6 +130,7 @@ pub fn serve_line<L: Line>(
     ensures served { Served L.service at
         (turn_of (line_event_of event.now) at.role (node_of node.old) book.old.book) (L.flights line.old)
         answer.new.frames.items answer.new.notes.items (node_of node.new) (L.flights line.new) book.new.book }
+    ensures kept { IsRoomy answer.old → IsRoomy answer.new }
 {
     call_at_line(node, at.role, event, book, &mut answer.outcome);
     finish(node, at, line, book, answer);
@@ -146,6 +151,8 @@ fn open_turn(
     ensures opened { OnOk result (IsOpened line (register_of register.old) register.new) }
     ensures empty { OnOk result (IsEmpty answer.new) }
     ensures text { OnOk result (octets ≤ vec_capacity answer.new.text) }
+    ensures kept { IsRoomy answer.old → octets ≤ 3200 → IsRoomy answer.new }
+    ensures ready { IsRoomy answer.old → HasNoRecords (register_of register.old) → octets ≤ 3200 → IsOk result }
 {
     make_room(answer, octets)?;
     register.open(line, MOST_WRITES)
@@ -163,11 +170,13 @@ fn call_pad(
 ) -> Result<(), StepFault>
     requires there { at.line < length register.old.lines.items }
     requires quiet { IsQuiet (PadNode pad.old) }
-    ensures { MatchResult result
+    ensures called { MatchResult result
         (λ _. (terminal_fault terminal pad.old ≡ None) × IsCalledBy at (terminal_event terminal event) (PadNode pad.old)
         (register_of register.old) answer.new (PadNode pad.new) register.new)
         (λ fault. IsRefusedWith (terminal_fault terminal pad.old) fault × (pad.new ≡ pad.old)
         × (register_of register.new ≡ register_of register.old)) }
+    ensures kept { IsRoomy answer.old → IsRoomy answer.new }
+    ensures ready { IsRoomy answer.old → HasNoRecords (register_of register.old) → result ≢ Err OutOfMemory }
 {
     if terminal >= u16::from(pad.terminals()) {
         return Err(StepFault::NoSuchTerminal);
@@ -207,11 +216,13 @@ fn call_host(
     requires there { at.line < length register.old.lines.items }
     requires whole { IsWholeCall event.now }
     requires quiet { IsQuiet (HostNode host.old) }
-    ensures { MatchResult result
+    ensures called { MatchResult result
         (λ _. (host_fault channels event.now host.old ≡ None) × IsCalledBy at (host_event_of event.now)
         (HostNode host.old) (register_of register.old) answer.new (HostNode host.new) register.new)
         (λ fault. IsRefusedWith (host_fault channels event.now host.old) fault × (host.new ≡ host.old)
         × (register_of register.new ≡ register_of register.old)) }
+    ensures kept { IsRoomy answer.old → IsRoomy answer.new }
+    ensures ready { IsRoomy answer.old → HasNoRecords (register_of register.old) → result ≢ Err OutOfMemory }
 {
     if !is_on_line(event, channels) {
         return Err(StepFault::NoSuchCall);
@@ -241,11 +252,13 @@ fn call_user(
     requires there { at.line < length register.old.lines.items }
     requires whole { IsWhole event.now }
     requires quiet { IsQuiet (node_of node.old) }
-    ensures { MatchResult result
+    ensures called { MatchResult result
         (λ _. (user_fault channels event.now (node_of node.old) ≡ None) × IsCalledBy at (user_event_of event.now)
         (node_of node.old) (register_of register.old) answer.new (node_of node.new) register.new)
         (λ fault. IsRefusedWith (user_fault channels event.now (node_of node.old)) fault
         × (node_of node.new ≡ node_of node.old) × (register_of register.new ≡ register_of register.old)) }
+    ensures kept { IsRoomy answer.old → IsRoomy answer.new }
+    ensures ready { IsRoomy answer.old → HasNoRecords (register_of register.old) → result ≢ Err OutOfMemory }
 {
     match node {
         Node::Pad(pad) => match event {
@@ -276,10 +289,12 @@ pub fn serve_user<L: Line>(
     requires there { at.line < length register.old.lines.items }
     requires whole { IsWhole event.now }
     requires quiet { IsQuiet (node_of node.old) }
-    ensures { IsServed L.service at (user_event_of event.now) (user_fault channels event.now (node_of node.old))
+    ensures served { IsServed L.service at (user_event_of event.now) (user_fault channels event.now (node_of node.old))
         (record { node = node_of node.old; flights = L.flights line.old; register = register_of register.old })
         (result_and result (Ok answer.new))
         (record { node = node_of node.new; flights = L.flights line.new; register = register_of register.new }) }
+    ensures kept { IsRoomy answer.old → IsRoomy answer.new }
+    ensures ready { IsRoomy answer.old → HasNoRecords (register_of register.old) → result ≢ Err OutOfMemory }
 {
     call_user(node, at, channels, event, register, answer)?;
     finish(node, at, line, &mut register.book, answer);

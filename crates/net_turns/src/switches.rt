@@ -1,5 +1,5 @@
 //! What happens at a switch: it is called, its frames go onto its lines, and the call that it joined is handed on.
-ghost use Rattle.std.specs.Prelude.{◌≡◌};
+ghost use Rattle.std.specs.Prelude.{◌≡◌, ◌≤◌, length};
 ghost use Rattle.std.specs.Option.{option_to_list};
 ghost use Rattle.call_records.specs.RegisterView.{register_of};
 ghost use Rattle.net_events.specs.AtSwitch.{HasOwnLine, switched, joins_of, all_handed};
@@ -79,9 +79,11 @@ pub fn serve_switch<L: Line>(
 )
     requires has_line { HasOwnLine (switch_event_of event.now) switch.old }
     requires can_put { CanPut own.now switch.old.lines lines.old.items puts.old.items puts.old.room }
-    ensures { SwitchServed L.service (switch_event_of event.now) (record { lines = own.now; switch = switch.old })
+    ensures served { SwitchServed L.service (switch_event_of event.now) (record { lines = own.now; switch = switch.old })
         lines.old.items (register_of register.old) switch.new lines.new.items (register_of register.new)
         puts.new.items }
+    ensures places { puts.new.room ≡ puts.old.room }
+    ensures most { length puts.new.items ≤ puts.new.room }
 {
     let joined = call_switch(switch, event);
     hand_on(register, own, switch, joined);

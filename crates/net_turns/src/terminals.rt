@@ -25,6 +25,8 @@ pub(crate) fn at_terminal(
     ensures pad { pad.new ≡ after_terminal terminal event pad.old }
     ensures outcome { outcome.new ≡ pad_outcome terminal event pad.old }
     ensures text { text.new.items ≡ text_shown terminal event pad.old }
+    ensures kept { vec_capacity text.old ≤ vec_capacity text.new }
+    ensures most { length text.new.items ≤ MOST_TEXT }
 {
     match event {
         TerminalEvent::Key(octet) => *outcome = Outcome::Typed(pad.on_key(terminal, octet)),
@@ -53,6 +55,8 @@ fn show(pad: &mut Pad, terminal: u8, text: &mut Vec<u8>)
     requires places { MOST_TEXT ≤ vec_capacity text.old }
     ensures pad { pad.new ≡ after_terminal terminal terminal_event.Print pad.old }
     ensures text { text.new.items ≡ print_text terminal pad.old }
+    ensures kept { vec_capacity text.old ≤ vec_capacity text.new }
+    ensures most { length text.new.items ≤ MOST_TEXT }
 {
     let mut shown: ArrayVec<u8, MOST_TEXT> = ArrayVec::new();
     let _ = pad.print(terminal, &mut shown);

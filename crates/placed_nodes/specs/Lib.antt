@@ -1,3 +1,4 @@
 pub mod Node
 pub mod NodeView
 pub mod Making
+pub mod Questions

@@ -5,6 +5,7 @@ ghost use Rattle.net_events.specs.NextDue.{due_at, due_on_lines, due_from};
 ghost use Rattle.net_events.specs.Network.{elapsed_node};
 ghost use Rattle.net_events.specs.Network as network;
 ghost use Rattle.placed_nodes.specs.Node.{user_of, own_line, rests, confirmed_by};
+ghost use Rattle.placed_nodes.specs.Questions.{has_to_take_by, room_to_say_by};
 
 use line_nodes::Node;
 use link_timers::TimerId;
@@ -112,6 +113,26 @@ impl NetNode {
         match &self.kind {
             Equipment::User { .. } => 0,
             Equipment::Switching { switch, .. } => switch.lines(),
+        }
+    }
+
+    /// Whether anything waits to be taken on a channel of a host.
+    pub fn has_to_take(&self, channel: u8) -> bool
+        ensures { result ≡ has_to_take_by channel (user_of self.now) }
+    {
+        match &self.kind {
+            Equipment::User { node, .. } => node.has_to_take(channel),
+            Equipment::Switching { .. } => false,
+        }
+    }
+
+    /// How many octets a message without Q may have now on a channel of a host.
+    pub fn room_to_say(&self, channel: u8) -> usize
+        ensures { result ≡ room_to_say_by channel (user_of self.now) }
+    {
+        match &self.kind {
+            Equipment::User { node, .. } => node.room_to_say(channel),
+            Equipment::Switching { .. } => 0,
         }
     }
 

@@ -1,7 +1,10 @@
 //! What the users of the nodes ask.
-ghost use Rattle.std.specs.Prelude.{Ok};
+ghost use Rattle.std.specs.Prelude.{◌≢◌, Ok, Err};
 ghost use Rattle.std.specs.Result.{result_and};
+ghost use Rattle.call_records.specs.Register.{HasNoRecords};
 ghost use Rattle.net_events.specs.declared.event.Event.TheVariants as event_is;
+ghost use Rattle.net_events.specs.declared.event.StepFault.TheVariants.{OutOfMemory};
+ghost use Rattle.net_turns.specs.AnswerRoom.{IsRoomy};
 ghost use Rattle.net_nodes.specs.Places.{IsStanding};
 ghost use Rattle.net_nodes.specs.Happening.{Happens};
 
@@ -23,8 +26,10 @@ impl<L: Line> Nodes<L> {
         answer: &mut Answer,
     ) -> Result<(), StepFault>
         requires { IsStanding self.old }
-        ensures { Happens L.service (event_is.AtTerminal node terminal event) self.old
+        ensures done { Happens L.service (event_is.AtTerminal node terminal event) self.old
             (result_and result (Ok answer.new)) self.new }
+        ensures kept { IsRoomy answer.old → IsRoomy answer.new }
+        ensures ready { IsRoomy answer.old → HasNoRecords self.old.register → result ≢ Err OutOfMemory }
     {
         let end = self.end_of(node)?;
         self.user_acts(end, &UserEvent::AtTerminal(terminal, event), answer)
@@ -39,8 +44,10 @@ impl<L: Line> Nodes<L> {
         answer: &mut Answer,
     ) -> Result<(), StepFault>
         requires { IsStanding self.old }
-        ensures { Happens L.service (event_is.Call node address user_data.now) self.old
+        ensures done { Happens L.service (event_is.Call node address user_data.now) self.old
             (result_and result (Ok answer.new)) self.new }
+        ensures kept { IsRoomy answer.old → IsRoomy answer.new }
+        ensures ready { IsRoomy answer.old → HasNoRecords self.old.register → result ≢ Err OutOfMemory }
     {
         let end = self.end_of(node)?;
         let event = UserEvent::AtHost(HostEvent::Calls(address, user_data.as_slice()));
@@ -56,8 +63,10 @@ impl<L: Line> Nodes<L> {
         answer: &mut Answer,
     ) -> Result<(), StepFault>
         requires { IsStanding self.old }
-        ensures { Happens L.service (event_is.Ask node channel request.now) self.old
+        ensures done { Happens L.service (event_is.Ask node channel request.now) self.old
             (result_and result (Ok answer.new)) self.new }
+        ensures kept { IsRoomy answer.old → IsRoomy answer.new }
+        ensures ready { IsRoomy answer.old → HasNoRecords self.old.register → result ≢ Err OutOfMemory }
     {
         let end = self.end_of(node)?;
         let event = UserEvent::AtHost(HostEvent::Asks(channel, request));
@@ -72,8 +81,10 @@ impl<L: Line> Nodes<L> {
         answer: &mut Answer,
     ) -> Result<(), StepFault>
         requires { IsStanding self.old }
-        ensures { Happens L.service (event_is.Take node channel) self.old
+        ensures done { Happens L.service (event_is.Take node channel) self.old
             (result_and result (Ok answer.new)) self.new }
+        ensures kept { IsRoomy answer.old → IsRoomy answer.new }
+        ensures ready { IsRoomy answer.old → HasNoRecords self.old.register → result ≢ Err OutOfMemory }
     {
         let end = self.end_of(node)?;
         let event = UserEvent::AtHost(HostEvent::Takes(channel));

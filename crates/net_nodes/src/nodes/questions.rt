@@ -7,15 +7,16 @@ ghost use Rattle.call_records.specs.RecordView.{shown, pair_of};
 ghost use Rattle.net_events.specs.Network.{all_elapsed};
 ghost use Rattle.net_nodes.specs.Due.{net_due, net_due_at};
 ghost use Rattle.net_nodes.specs.Happening.{FindsNoFrame, FindNoFrames};
-ghost use Rattle.net_nodes.specs.Questions.{net_confirmed, net_rests, is_empty};
-ghost use Rattle.placed_nodes.specs.Node.{rests};
+ghost use Rattle.net_nodes.specs.Questions.{net_confirmed, net_has_to_take, net_room_to_say, net_rests, is_empty};
+ghost use Rattle.net_nodes.specs.Questions.{user_channel};
+ghost use Rattle.placed_nodes.specs.Node.{rests, user_of};
 
 use crate::nodes::Nodes;
 use call_records::{Pair, Record};
 use frame_lines::{Direction, Line};
 use net_events::Event;
 use net_turns::NetLine;
-use placed_nodes::first_node_due;
+use placed_nodes::{NetNode, first_node_due};
 
 /// Whether no frame is in flight on a line.
 fn is_empty<L: Line>(net_line: &NetLine<L>) -> bool
@@ -106,17 +107,48 @@ impl<L: Line> Nodes<L> {
     pub fn confirmed(&self, node: usize, channel: u16) -> bool
         ensures { result ≡ net_confirmed node channel self.now }
     {
-        if node >= self.nodes.len() {
+        let Some(node) = self.nodes.get(node) else {
             return false;
+        };
+        match self.user_channel(node, channel) {
+            Some(channel) => node.confirmed(channel),
+            None => false,
         }
-        let node = &self.nodes[node];
-        let Some(line) = node.line() else {
+    }
+
+    /// The channel of this number of a node with users, if it is one and its line has the channel.
+    fn user_channel(&self, node: &NetNode, channel: u16) -> Option<u8>
+        ensures { result ≡ user_channel channel self.now (user_of node.now) }
+    {
+        let line = node.line()?;
+        self.channel(line, channel).ok()
+    }
+
+    /// Whether the node of this place is a host, and anything waits to be taken on the channel.
+    pub fn has_to_take(&self, node: usize, channel: u16) -> bool
+        ensures { result ≡ net_has_to_take node channel self.now }
+    {
+        let Some(node) = self.nodes.get(node) else {
             return false;
         };
-        let Ok(channel) = self.channel(line, channel) else {
-            return false;
+        match self.user_channel(node, channel) {
+            Some(channel) => node.has_to_take(channel),
+            None => false,
+        }
+    }
+
+    /// How many octets a message without Q may have now on the channel of the host of this place, at most 1,024. At any
+    /// other node it is 0.
+    pub fn room_to_say(&self, node: usize, channel: u16) -> usize
+        ensures { result ≡ net_room_to_say node channel self.now }
+    {
+        let Some(node) = self.nodes.get(node) else {
+            return 0;
         };
-        node.confirmed(channel)
+        match self.user_channel(node, channel) {
+            Some(channel) => node.room_to_say(channel),
+            None => 0,
+        }
     }
 
     /// Lets ticks pass, each a twentieth of a second.

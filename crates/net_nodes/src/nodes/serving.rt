@@ -1,8 +1,11 @@
 //! What comes to the nodes at their lines.
-ghost use Rattle.std.specs.Prelude.{◌≡◌, false, Ok};
+ghost use Rattle.std.specs.Prelude.{◌≡◌, ◌≢◌, false, Ok, Err};
 ghost use Rattle.std.specs.Result.{result_and};
 ghost use Rattle.switch_laws.specs.Turn.{AreOctets};
+ghost use Rattle.call_records.specs.Register.{HasNoRecords};
 ghost use Rattle.net_events.specs.declared.event.Event.TheVariants as event_is;
+ghost use Rattle.net_events.specs.declared.event.StepFault.TheVariants.{OutOfMemory};
+ghost use Rattle.net_turns.specs.AnswerRoom.{IsRoomy};
 ghost use Rattle.net_events.specs.AtSwitch.{Hears};
 ghost use Rattle.net_events.specs.EventView.{switch_event_of};
 ghost use Rattle.net_nodes.specs.Places.{IsStanding, HearsAt, IsOwnLine, is_switch_at};
@@ -45,8 +48,10 @@ impl<L: Line> Nodes<L> {
         answer: &mut Answer,
     ) -> Result<(), StepFault>
         requires { IsStanding self.old }
-        ensures { Happens L.service (event_is.Deliver line direction) self.old
+        ensures done { Happens L.service (event_is.Deliver line direction) self.old
             (result_and result (Ok answer.new)) self.new }
+        ensures kept { IsRoomy answer.old → IsRoomy answer.new }
+        ensures ready { IsRoomy answer.old → HasNoRecords self.old.register → result ≢ Err OutOfMemory }
     {
         if line >= self.lines.len() {
             return Err(StepFault::NoSuchNode);
@@ -72,8 +77,10 @@ impl<L: Line> Nodes<L> {
         answer: &mut Answer,
     ) -> Result<(), StepFault>
         requires { HearsAt line (hearer direction) self.old }
-        ensures { Happens L.service (event_is.Deliver line direction) self.old
+        ensures done { Happens L.service (event_is.Deliver line direction) self.old
             (result_and result (Ok answer.new)) self.new }
+        ensures kept { IsRoomy answer.old → IsRoomy answer.new }
+        ensures ready { IsRoomy answer.old → HasNoRecords self.old.register → result ≢ Err OutOfMemory }
     {
         make_room(answer, 0)?;
         self.register.open(line, MOST_WRITES)?;
@@ -103,8 +110,10 @@ impl<L: Line> Nodes<L> {
     ) -> Result<(), StepFault>
         requires standing { IsStanding self.old }
         requires switch { IsOwnLine line place own (hearer direction) self.old }
-        ensures { Happens L.service (event_is.Deliver line direction) self.old
+        ensures done { Happens L.service (event_is.Deliver line direction) self.old
             (result_and result (Ok answer.new)) self.new }
+        ensures kept { IsRoomy answer.old → IsRoomy answer.new }
+        ensures ready { IsRoomy answer.old → HasNoRecords self.old.register → result ≢ Err OutOfMemory }
     {
         self.make_switch_room(place, answer)?;
         if !self.lines[line].line.take(direction, frame) {
@@ -123,8 +132,10 @@ impl<L: Line> Nodes<L> {
         frame: &mut FrameBuf,
         answer: &mut Answer,
     ) -> Result<(), StepFault>
-        ensures { Happens L.service (event_is.Lose line direction) self.old
+        ensures done { Happens L.service (event_is.Lose line direction) self.old
             (result_and result (Ok answer.new)) self.new }
+        ensures kept { IsRoomy answer.old → IsRoomy answer.new }
+        ensures ready { result ≢ Err OutOfMemory }
     {
         if line >= self.lines.len() {
             return Err(StepFault::NoSuchNode);
@@ -143,8 +154,10 @@ impl<L: Line> Nodes<L> {
         answer: &mut Answer,
     ) -> Result<(), StepFault>
         requires { IsStanding self.old }
-        ensures { Happens L.service (event_is.Expire node line timer) self.old
+        ensures done { Happens L.service (event_is.Expire node line timer) self.old
             (result_and result (Ok answer.new)) self.new }
+        ensures kept { IsRoomy answer.old → IsRoomy answer.new }
+        ensures ready { IsRoomy answer.old → HasNoRecords self.old.register → result ≢ Err OutOfMemory }
     {
         if let Some(own) = self.own_line(line, node) {
             self.make_switch_room(node, answer)?;
@@ -165,8 +178,10 @@ impl<L: Line> Nodes<L> {
         answer: &mut Answer,
     ) -> Result<(), StepFault>
         requires { IsStanding self.old }
-        ensures { Happens L.service (relink_at role line) self.old
+        ensures done { Happens L.service (relink_at role line) self.old
             (result_and result (Ok answer.new)) self.new }
+        ensures kept { IsRoomy answer.old → IsRoomy answer.new }
+        ensures ready { IsRoomy answer.old → HasNoRecords self.old.register → result ≢ Err OutOfMemory }
     {
         if line >= self.lines.len() {
             return Err(StepFault::NoSuchNode);
@@ -187,8 +202,10 @@ impl<L: Line> Nodes<L> {
     /// A node restarts, and its lines lose all frames.
     pub(super) fn restart(&mut self, node: usize, answer: &mut Answer) -> Result<(), StepFault>
         requires { IsStanding self.old }
-        ensures { Happens L.service (event_is.Restart node) self.old
+        ensures done { Happens L.service (event_is.Restart node) self.old
             (result_and result (Ok answer.new)) self.new }
+        ensures kept { IsRoomy answer.old → IsRoomy answer.new }
+        ensures ready { IsRoomy answer.old → HasNoRecords self.old.register → result ≢ Err OutOfMemory }
     {
         if self.is_switch(node) {
             self.make_switch_room(node, answer)?;
@@ -201,8 +218,10 @@ impl<L: Line> Nodes<L> {
     fn restart_user(&mut self, node: usize, answer: &mut Answer) -> Result<(), StepFault>
         requires standing { IsStanding self.old }
         requires user { is_switch_at node self.old ≡ false }
-        ensures { Happens L.service (event_is.Restart node) self.old
+        ensures done { Happens L.service (event_is.Restart node) self.old
             (result_and result (Ok answer.new)) self.new }
+        ensures kept { IsRoomy answer.old → IsRoomy answer.new }
+        ensures ready { IsRoomy answer.old → HasNoRecords self.old.register → result ≢ Err OutOfMemory }
     {
         let end = self.end_of(node)?;
         make_room(answer, 0)?;

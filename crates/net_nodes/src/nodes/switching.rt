@@ -1,8 +1,10 @@
 //! What happens at the switch of a place in the network.
-ghost use Rattle.std.specs.Prelude.{◌≡◌, [], Some, OnOk, MatchResult, length, slice_get};
+ghost use Rattle.std.specs.Prelude.{◌≡◌, ◌≢◌, ◌≤◌, [], Some, Err, OnOk, IsOk, MatchResult, length, slice_get};
 ghost use Rattle.call_records.specs.RegisterView.{register_of};
 ghost use Rattle.net_events.specs.EventView.{switch_event_of};
 ghost use Rattle.net_events.specs.Network as network;
+ghost use Rattle.net_events.specs.declared.event.StepFault.TheVariants.{OutOfMemory};
+ghost use Rattle.net_turns.specs.AnswerRoom.{IsRoomy};
 ghost use Rattle.net_turns.specs.Switching.{HasRoom};
 ghost use Rattle.net_nodes.specs.Places.{is_switch_at};
 ghost use Rattle.net_nodes.specs.Steps.{switch_outcome};
@@ -39,9 +41,12 @@ fn serve_switch_of<L: Line>(
 ) -> Result<(), StepFault>
     requires { CanServeSwitch (switch_event_of event.now) node.old lines.old.items puts.old.items
         puts.old.room }
-    ensures { (n : network.PlacedSwitch) → node.old ≡ network.Switching n
+    ensures done { (n : network.PlacedSwitch) → node.old ≡ network.Switching n
         → MatchResult result (λ _. NodeServed L.service (switch_event_of event.now) n lines.old.items
         (register_of register.old) node.new lines.new.items (register_of register.new) puts.new.items) (λ _. ⊥) }
+    ensures places { puts.new.room ≡ puts.old.room }
+    ensures most { length puts.new.items ≤ puts.new.room }
+    ensures ready { result ≢ Err OutOfMemory }
 {
     let Equipment::Switching { lines: own, switch } = &mut node.kind else {
         return Err(StepFault::NoSuchNode);
@@ -69,6 +74,8 @@ impl<L: Line> Nodes<L> {
         ensures frames { answer.new.frames.items ≡ [] }
         ensures notes { answer.new.notes.items ≡ [] }
         ensures text { answer.new.text.items ≡ [] }
+        ensures kept { IsRoomy answer.old → IsRoomy answer.new }
+        ensures ready { IsRoomy answer.old → IsOk result }
     {
         let lines = if place < self.nodes.len() {
             self.nodes[place].own_lines()
@@ -89,9 +96,11 @@ impl<L: Line> Nodes<L> {
             answer.old.frames.room }
         requires notes { answer.old.notes.items ≡ [] }
         requires text { answer.old.text.items ≡ [] }
-        ensures { (n : network.PlacedSwitch) → slice_get self.old.nodes place ≡ Some (network.Switching n)
+        ensures done { (n : network.PlacedSwitch) → slice_get self.old.nodes place ≡ Some (network.Switching n)
             → MatchResult result (λ _. SwitchActed L.service (switch_event_of event.now) place n self.old answer.new
             self.new) (λ _. ⊥) }
+        ensures kept { IsRoomy answer.old → IsRoomy answer.new }
+        ensures ready { result ≢ Err OutOfMemory }
     {
         let (lines, register) = (&mut self.lines, &mut self.register);
         let served = serve_switch_of(

@@ -1,10 +1,13 @@
 //! The turn of a node with users at its end of a line.
-ghost use Rattle.std.specs.Prelude.{◌≡◌, ◌≤◌, ◌<◌, Some, Ok, MatchResult, length, slice_get};
+ghost use Rattle.std.specs.Prelude.{◌≡◌, ◌≢◌, ◌≤◌, ◌<◌, Some, Ok, Err, MatchResult, length, slice_get};
 ghost use Rattle.std.specs.Result.{result_and};
+ghost use Rattle.call_records.specs.Register.{HasNoRecords};
 ghost use Rattle.call_records.specs.RegisterView.{register_of};
+ghost use Rattle.net_events.specs.declared.event.StepFault.TheVariants.{OutOfMemory};
 ghost use Rattle.net_events.specs.EventView.{line_event_of, user_event_of};
 ghost use Rattle.net_events.specs.Network as network;
 ghost use Rattle.node_laws.specs.Quiet.{IsQuiet};
+ghost use Rattle.net_turns.specs.AnswerRoom.{IsRoomy};
 ghost use Rattle.net_turns.specs.Served.{IsEmpty};
 ghost use Rattle.net_turns.specs.Users.{IsWhole, IsRefusedWith, user_fault};
 ghost use Rattle.net_nodes.specs.Turns.{LineServed, UserServed, CanServe, CanServeUser, HadTurn, CanAct, LeavesLine};
@@ -56,11 +59,13 @@ fn serve_line_of<L: Line>(
     requires writes { 8 ≤ book.old.room }
     requires pairs { 1 ≤ book.old.pairs }
     requires empty { IsEmpty answer.old }
-    ensures { (n : network.PlacedNode) → node.old ≡ network.User n
+    ensures done { (n : network.PlacedNode) → node.old ≡ network.User n
         → MatchResult (result_and result (Ok answer.new))
         (λ a. LineServed L.service at (line_event_of event.now) n (L.flights line.old) book.old.book a node.new
         (L.flights line.new) book.new.book)
         (λ fault. ⊥) }
+    ensures kept { IsRoomy answer.old → IsRoomy answer.new }
+    ensures ready { result ≢ Err OutOfMemory }
 {
     let Equipment::User { node, .. } = &mut node.kind else {
         return Err(StepFault::NoSuchNode);
@@ -80,12 +85,14 @@ pub(super) fn serve_at<L: Line>(
     answer: &mut Answer,
 ) -> Result<(), StepFault>
     requires { CanServe end nodes.old.items net_line.old register.old answer.old }
-    ensures { (n : network.PlacedNode)
+    ensures done { (n : network.PlacedNode)
         → slice_get nodes.old.items (network.place_at end.role net_line.old) ≡ Some (network.User n)
         → MatchResult (result_and result (Ok answer.new))
         (λ a. HadTurn L.service end (line_event_of event.now) n nodes.old.items net_line.old (register_of register.old)
         a nodes.new.items net_line.new (register_of register.new))
         (λ fault. ⊥) }
+    ensures kept { IsRoomy answer.old → IsRoomy answer.new }
+    ensures ready { result ≢ Err OutOfMemory }
 {
     let at = attachment(end, net_line);
     serve_line_of(
@@ -118,6 +125,8 @@ fn serve_user_of<L: Line>(
         → UserServed L.service at (user_event_of event.now) (user_fault net_line.old.channels event.now n.node) n
         net_line.old.flights (register_of register.old) (result_and result (Ok answer.new)) node.new
         net_line.new.flights (register_of register.new) }
+    ensures kept { IsRoomy answer.old → IsRoomy answer.new }
+    ensures ready { IsRoomy answer.old → HasNoRecords (register_of register.old) → result ≢ Err OutOfMemory }
 {
     let Equipment::User { node, .. } = &mut node.kind else {
         return Err(StepFault::NoSuchNode);
@@ -145,7 +154,7 @@ fn serve_user_at<L: Line>(
 ) -> Result<(), StepFault>
     requires can { CanServeUser end nodes.old.items net_line.old register.old }
     requires whole { IsWhole event.now }
-    ensures { (n : network.PlacedNode)
+    ensures done { (n : network.PlacedNode)
         → slice_get nodes.old.items (network.place_at end.role net_line.old) ≡ Some (network.User n)
         → MatchResult (result_and result (Ok answer.new))
         (λ a. (user_fault net_line.old.channels event.now n.node ≡ None) × HadTurn L.service end
@@ -154,6 +163,8 @@ fn serve_user_at<L: Line>(
         (λ fault. IsRefusedWith (user_fault net_line.old.channels event.now n.node) fault
         × (nodes.new.items ≡ nodes.old.items) × (net_line.new ≡ net_line.old)
         × (register_of register.new ≡ register_of register.old)) }
+    ensures kept { IsRoomy answer.old → IsRoomy answer.new }
+    ensures ready { IsRoomy answer.old → HasNoRecords (register_of register.old) → result ≢ Err OutOfMemory }
 {
     let at = attachment(end, net_line);
     serve_user_of(&mut nodes[at.node], at, event, net_line, register, answer)
@@ -169,7 +180,9 @@ impl<L: Line> Nodes<L> {
     ) -> Result<(), StepFault>
         requires can { CanAct end self.old }
         requires leaves { LeavesLine event.now }
-        ensures { Acts L.service end (line_event_of event.now) self.old (result_and result (Ok answer.new)) self.new }
+        ensures done { Acts L.service end (line_event_of event.now) self.old (result_and result (Ok answer.new)) self.new }
+        ensures kept { IsRoomy answer.old → IsRoomy answer.new }
+        ensures ready { IsRoomy answer.old → HasNoRecords self.old.register → result ≢ Err OutOfMemory }
     {
         make_room(answer, 0)?;
         self.register.open(end.line, MOST_WRITES)?;
@@ -194,7 +207,9 @@ impl<L: Line> Nodes<L> {
     ) -> Result<(), StepFault>
         requires can { CanAct end self.old }
         requires whole { IsWhole event.now }
-        ensures { UserActs L.service end event.now self.old (result_and result (Ok answer.new)) self.new }
+        ensures done { UserActs L.service end event.now self.old (result_and result (Ok answer.new)) self.new }
+        ensures kept { IsRoomy answer.old → IsRoomy answer.new }
+        ensures ready { IsRoomy answer.old → HasNoRecords self.old.register → result ≢ Err OutOfMemory }
     {
         let (nodes, register) = (&mut self.nodes, &mut self.register);
         serve_user_at(

@@ -86,3 +86,8 @@ pub returns-clause-lines : goal.returns-clause-lines
 returns-clause-lines g c =
     let all : c.loop-at.at ≡ length c.args.own.now = omega (arith, c.loop-at-test.false, c.loop-at.auto.at-end) in
     put_all g.L.Line.service true c.args.own.now c.args.switch.now c.loop-at.at c.args.lines.now.items c.loop-at.lines.items all c.loop-at.invariant.lines_put
+
+pub returns-clause-most : goal.returns-clause-most
+returns-clause-most g c =
+    let all : c.loop-at.at ≡ length c.args.own.now = omega (arith, c.loop-at-test.false, c.loop-at.auto.at-end) in
+    omega (arith, all, c.loop-at.invariant.places, c.loop-at.invariant.capacity, c.requires.room.enough)

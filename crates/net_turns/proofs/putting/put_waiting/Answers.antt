@@ -95,4 +95,6 @@ returns g c =
       switch = w.switch_is ∙ (λ i. record s { lines = drained_all (length own) s.lines c.requires.count i });
       puts = w.puts_are ∙ puts_all (length own) own s.lines refl;
       lines = put_all L false own s (length own) c.args.lines.now.items c.loop-at.lines.items refl w.lines_put;
+      places = c.loop-at.invariant.capacity;
+      most = (let places = w.places in omega (arith, places, c.loop-at.invariant.capacity, c.requires.room.enough));
     }

@@ -19,6 +19,7 @@ loop-preserved g c =
       most = c.loop.invariant.most;
       put = (let more = length_push c.loop.puts.items (record { line = c.args.number; direction = c.args.direction; octets = c.out.new.frame }) in omega (arith, c.loop.invariant.put, more));
       room = c.loop.invariant.room;
+      capacity = c.loop.invariant.capacity;
     }
 
 pub returns : goal.returns
@@ -27,4 +28,6 @@ returns g c =
     record {
       node = frames-end _ _ c.loop.invariant.node_is none;
       puts = putting-ends _ _ _ _ _ _ _ _ c.loop.invariant.putting none;
+      places = c.loop.invariant.capacity;
+      most = omega (arith, c.loop.invariant.put, c.loop.invariant.most, c.loop.invariant.left, c.loop.invariant.room);
     }

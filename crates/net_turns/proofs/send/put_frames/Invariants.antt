@@ -12,4 +12,5 @@ invariant-loop g l = record {
   most : l.end ≤ 9;
   put : length l.puts.items ≡ l.counter;
   room : 9 ≤ l.puts.room;
+  capacity : l.puts.room ≡ l.initial.puts.room;
 }

@@ -9,8 +9,8 @@ pub ask_host-requires-clause-numbered : goal.ask_host-requires-clause-numbered
 ask_host-requires-clause-numbered c =
     numbered c.args.event.now c.args.channels (omega (arith, c.ranges.channels.fits)) (sym c.is_on_line.ensures ∙ c.if-not-is_on_line.false)
 
-pub returns : goal.returns
-returns c =
+pub returns-clause-called : goal.returns-clause-called
+returns-clause-called c =
     let event = c.args.event.now in
     let e = c.args.host.now in
     let o = c.in_ok-open_turn.ensures.opened in

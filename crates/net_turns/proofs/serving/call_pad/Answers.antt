@@ -5,8 +5,8 @@ use Rattle.net_turns.proofs.Writing.{called_terminal}
 use Rattle.net_turns.proofs.Users.{terminal_there, called_by}
 use Rattle.net_turns.proofs.serving.call_pad.Goals as goal
 
-pub returns : goal.returns
-returns c =
+pub returns-clause-called : goal.returns-clause-called
+returns-clause-called c =
     let p = c.args.pad.now in
     let o = c.in_ok-open_turn.ensures.opened in
     let less : c.args.terminal < length p.ports = omega (arith, c.if-terminal-from.false, c.terminals.ensures.count, c.from.ensures) in (
@@ -17,5 +17,5 @@ returns c =
           c.in_ok-open_turn.ensures.empty.ready refl refl c.at_terminal.ensures.outcome c.at_terminal.ensures.text),
     )
 
-pub returns-then-terminal-from : goal.returns-then-terminal-from
-returns-then-terminal-from c = search (rules, tests)
+pub returns-then-terminal-from-clause-called : goal.returns-then-terminal-from-clause-called
+returns-then-terminal-from-clause-called c = search (rules, tests)

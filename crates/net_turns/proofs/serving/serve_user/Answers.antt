@@ -5,9 +5,9 @@ use Rattle.call_records.specs.RegisterView.{register_of}
 use Rattle.net_turns.proofs.Users.{turn_had}
 use Rattle.net_turns.proofs.serving.serve_user.Goals as goal
 
-pub returns : goal.returns
-returns g c =
-    let called = c.in_ok-call_user.ensures in (
+pub returns-clause-served : goal.returns-clause-served
+returns-clause-served g c =
+    let called = c.in_ok-call_user.ensures.called in (
       called.0,
       turn_had g.L.Line.service c.args.at (user_event_of c.args.event.now)
           (record { node = node_of c.args.node.now; flights = g.L.Line.flights c.args.line.now; register = register_of c.args.register.now })

@@ -10,8 +10,8 @@ put_lines-requires g c =
     can_put_then (switch_event_of c.args.event.now) p c.call_switch-joined.new.switch c.args.lines.now.items c.args.puts.now.items c.args.puts.now.room
     c.call_switch-joined.ensures.switch c.requires.can_put
 
-pub returns : goal.returns
-returns g c =
+pub returns-clause-served : goal.returns-clause-served
+returns-clause-served g c =
     let p : PlacedSwitch = record { lines = c.args.own.now; switch = c.args.switch.now } in
     served_so g.L.Line.service (switch_event_of c.args.event.now) p (option_to_list c.call_switch-joined.result) c.is_anew.result c.call_switch-joined.new.switch c.put_lines.new.switch
     c.args.lines.now.items c.put_lines.new.lines.items _ _ c.put_lines.new.puts.items

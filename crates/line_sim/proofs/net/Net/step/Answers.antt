@@ -16,11 +16,11 @@ happen-requires g c = standing g.L.Line.service _ c.self.invariant
 
 pub invariant_of-self : goal.invariant_of-self
 invariant_of-self g c =
-    happens g.L.Line.service c.args.event.now _ (result_and c.happen.result (Ok c.happen.new.answer)) c.happen.new.self c.self.invariant c.happen.ensures
+    happens g.L.Line.service c.args.event.now _ (result_and c.happen.result (Ok c.happen.new.answer)) c.happen.new.self c.self.invariant c.happen.ensures.done
 
 pub invariant_of-self-2 : goal.invariant_of-self-2
 invariant_of-self-2 g c =
-    happens g.L.Line.service c.args.event.now _ (result_and c.happen.result (Ok c.happen.new.answer)) c.happen.new.self c.self.invariant c.happen.ensures
+    happens g.L.Line.service c.args.event.now _ (result_and c.happen.result (Ok c.happen.new.answer)) c.happen.new.self c.self.invariant c.happen.ensures.done
 
 pub returns-in_err-happen : goal.returns-in_err-happen
 returns-in_err-happen g c =
@@ -29,7 +29,7 @@ returns-in_err-happen g c =
     let is : result_and c.happen.result (Ok c.happen.new.answer) ≡ r
     = ap (λ x. result_and x (Ok c.happen.new.answer)) c.in_err-happen.was ∙ search rules in
     let h : Happens L c.args.event.now c.self.inside.nodes r c.happen.new.self
-    = subst (λ (x : Result Answer StepFault). Happens L c.args.event.now c.self.inside.nodes x c.happen.new.self) is c.happen.ensures in
+    = subst (λ (x : Result Answer StepFault). Happens L c.args.event.now c.self.inside.nodes x c.happen.new.self) is c.happen.ensures.done in
     rw (← c.self.view_is) (
       (refl, λ _. tt, stepped L c.args.event.now c.self.inside.nodes r c.happen.new.self c.self.invariant h),
       record {
@@ -45,7 +45,7 @@ returns g c =
     let r : Result Answer StepFault = Ok c.happen.new.answer in
     let is : result_and c.happen.result r ≡ r = ap (λ x. result_and x r) c.in_ok-happen.was in
     let h : Happens L c.args.event.now c.self.inside.nodes r c.happen.new.self
-    = subst (λ (x : Result Answer StepFault). Happens L c.args.event.now c.self.inside.nodes x c.happen.new.self) is c.happen.ensures in
+    = subst (λ (x : Result Answer StepFault). Happens L c.args.event.now c.self.inside.nodes x c.happen.new.self) is c.happen.ensures.done in
     rw (← c.self.view_is) (
       (refl, λ _. tt, stepped L c.args.event.now c.self.inside.nodes r c.happen.new.self c.self.invariant h),
       record {

@@ -17,8 +17,8 @@ serve_at-requires g c =
     (found lines end.line _ _ can.line (within lines end.line can.line can.line_there) c.index_mut.ensures.value can.line_there)
     c.open.ensures.same c.open.ensures.at c.open.ensures.book c.in_ok-open.ensures.room c.in_ok-open.ensures.pairs c.in_ok-make_room.ensures.empty
 
-pub returns : goal.returns
-returns g c =
+pub returns-clause-done : goal.returns-clause-done
+returns-clause-done g c =
     let L = g.L.Line.service in
     let end = c.args.end in
     let event = c.args.event.now in
@@ -26,7 +26,7 @@ returns g c =
     rw (← c.self.view_is)
     (λ l n line_there node_there.
     let is_line : c.index_mut.result.now ≡ l = found lines end.line _ _ l (within lines end.line l line_there) c.index_mut.ensures.value line_there in
-    let w = c.serve_at.ensures n (ap (λ (x : NetLine). slice_get c.self.inside.nodes.items (place_at end.role x)) is_line ∙ node_there) in
+    let w = c.serve_at.ensures.done n (ap (λ (x : NetLine). slice_get c.self.inside.nodes.items (place_at end.role x)) is_line ∙ node_there) in
     acts L end event _ l n (result_and c.serve_at.result (Ok c.serve_at.new.answer)) c.serve_at.new.nodes.items c.serve_at.new.net_line (register_of c.serve_at.new.register)
     line_there node_there c.requires.leaves
     (turned_from L end (line_event_of event) n (result_and c.serve_at.result (Ok c.serve_at.new.answer)) c.self.inside.nodes.items _ l _ (register_of c.self.inside.register) c.serve_at.new.nodes.items c.serve_at.new.net_line

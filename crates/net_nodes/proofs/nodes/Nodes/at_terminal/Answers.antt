@@ -8,10 +8,10 @@ use Rattle.net_nodes.proofs.nodes.Nodes.at_terminal.Goals as goal
 pub user_acts-requires-clause-can : goal.user_acts-requires-clause-can
 user_acts-requires-clause-can g c = can_act c.args.node c.in_ok-end.end c.args.self.now c.requires c.in_ok-end.ensures
 
-pub returns : goal.returns
-returns g c =
+pub returns-clause-done : goal.returns-clause-done
+returns-clause-done g c =
     let p = c.in_ok-end.ensures in
     user_acted g.L.Line.service (AtTerminal c.args.node c.args.terminal c.args.event) c.args.node (user_event.AtTerminal c.args.terminal c.args.event) c.in_ok-end.end
     c.args.self.now c.user_acts.new.self (result_and c.user_acts.result (Ok c.user_acts.new.answer)) p
     (terminal_fault_at c.args.node c.in_ok-end.end c.args.self.now p c.args.terminal c.args.event)
-    refl (λ a w. w) c.user_acts.ensures
+    refl (λ a w. w) c.user_acts.ensures.done

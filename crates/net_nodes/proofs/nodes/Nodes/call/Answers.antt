@@ -18,8 +18,8 @@ user_acts-requires-clause-can g c = can_act c.args.node c.in_ok-end.end c.args.s
 pub user_acts-requires-clause-whole : goal.user_acts-requires-clause-whole
 user_acts-requires-clause-whole g c = (grind (arith, common_steps), grind (arith, common_steps))
 
-pub returns : goal.returns
-returns g c =
+pub returns-clause-done : goal.returns-clause-done
+returns-clause-done g c =
     let L = g.L.Line.service in
     let s = c.args.self.now in
     let p = c.in_ok-end.ensures in
@@ -29,4 +29,4 @@ returns g c =
     user_acted L (Call c.args.node c.args.address c.args.user_data.now) c.args.node (user_event.AtHost event) c.in_ok-end.end
     s c.user_acts.new.self (result_and c.user_acts.result (Ok c.user_acts.new.answer)) p
     (subst F value (call_fault_at c.args.node c.in_ok-end.end s p event refl))
-    refl (λ a w. subst (λ (o : List ℕ). AtNode L c.args.node (Calls c.args.address o) s a c.user_acts.new.self) value w) c.user_acts.ensures
+    refl (λ a w. subst (λ (o : List ℕ). AtNode L c.args.node (Calls c.args.address o) s a c.user_acts.new.self) value w) c.user_acts.ensures.done

@@ -30,8 +30,8 @@ deliver_to_user-requires g c =
       registered = registered_at c.args.line c.index-net_line.result.now s c.requires here;
     }
 
-pub returns-then-is_certainly_empty : goal.returns-then-is_certainly_empty
-returns-then-is_certainly_empty g c =
+pub returns-then-is_certainly_empty-clause-done : goal.returns-then-is_certainly_empty-clause-done
+returns-then-is_certainly_empty-clause-done g c =
     let lines = c.self.inside.lines.items in
     let s = c.args.self.now in
     let h : c.args.line < length lines = omega (arith, c.if-line-len.false, c.len.ensures) in

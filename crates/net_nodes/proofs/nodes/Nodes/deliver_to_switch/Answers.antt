@@ -19,8 +19,8 @@ index_mut-requires g c =
     let h = within lines c.args.line c.requires.switch.line_is (ap (λ (s : Network). slice_get s.lines c.args.line) c.self.view_is ∙ c.requires.switch.line_there) in
     omega (arith, h)
 
-pub returns-then-not-take : goal.returns-then-not-take
-returns-then-not-take g c =
+pub returns-then-not-take-clause-done : goal.returns-then-not-take-clause-done
+returns-then-not-take-clause-done g c =
     let lines = c.self.inside.lines.items in
     let h : c.args.line < length lines = within lines c.args.line c.requires.switch.line_is (ap (λ (s : Network). slice_get s.lines c.args.line) c.self.view_is ∙ c.requires.switch.line_there) in
     let here = there lines c.args.line _ c.index_mut.result.now h c.index_mut.ensures.value ∙ ap Some (sym c.behind-self.view_is) in
@@ -58,8 +58,8 @@ switch_acts-requires-clause-can g c =
           (c.in_ok-make_switch_room.ensures.room o.node o.node_there);
     })
 
-pub returns : goal.returns
-returns g c =
+pub returns-clause-done : goal.returns-clause-done
+returns-clause-done g c =
     let L = g.L.Line.service in
     let s : Network = record { nodes = c.self.inside.nodes.items; lines = c.self.inside.lines.items; register = register_of c.self.inside.register } in
     let lines = c.self.inside.lines.items in
@@ -68,7 +68,7 @@ returns g c =
     let h : c.args.line < length lines = within lines c.args.line o.line_is o.line_there in
     let here = there lines c.args.line _ c.index_mut.result.now h c.index_mut.ensures.value ∙ ap Some (sym c.behind-self.view_is) in
     rw (← c.self.view_is)
-    (answered c.switch_acts.result c.switch_acts.new.answer (λ x. Happens L (Deliver c.args.line c.args.direction) s x c.switch_acts.new.self) (c.switch_acts.ensures o.node o.node_there)
+    (answered c.switch_acts.result c.switch_acts.new.answer (λ x. Happens L (Deliver c.args.line c.args.direction) s x c.switch_acts.new.self) (c.switch_acts.ensures.done o.node o.node_there)
     (λ w. heard L c.args.place c.args.line c.args.own c.args.direction c.as_slice.result.now _ (g.L.Line.flights c.take.new.self) _ c.switch_acts.new.answer c.switch_acts.new.self st o here
     (λ f. (OnTrue_at c.if-not-take.false (c.take.ensures.taken f) ∙ ap Some (sym c.as_slice.ensures.value), c.take.ensures.others f))
     c.frame_heard-event.ensures.octets

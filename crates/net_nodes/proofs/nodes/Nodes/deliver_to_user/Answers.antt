@@ -16,8 +16,8 @@ use Rattle.net_nodes.proofs.LineEndEvents.{can_serve, same_place, acts_anew, tur
 use Rattle.net_nodes.proofs.UserNodeEvents.{delivered}
 use Rattle.net_nodes.proofs.nodes.Nodes.deliver_to_user.Goals as goal
 
-pub returns-then-not-take : goal.returns-then-not-take
-returns-then-not-take g c =
+pub returns-then-not-take-clause-done : goal.returns-then-not-take-clause-done
+returns-then-not-take-clause-done g c =
     let lines = c.self.inside.lines.items in
     let st = subst (HearsAt c.args.line (hearer c.args.direction)) (sym c.self.view_is) c.requires in
     let h : c.args.line < length lines = within lines c.args.line st.line_is st.line_there in
@@ -55,8 +55,8 @@ serve_at-requires g c =
     (g.L.Line.flights c.take.new.self) c.open.new.self c.make_room.new.answer
     refl c.open.ensures.same c.open.ensures.at c.open.ensures.book c.in_ok-open.ensures.room c.in_ok-open.ensures.pairs c.in_ok-make_room.ensures.empty
 
-pub returns : goal.returns
-returns g c =
+pub returns-clause-done : goal.returns-clause-done
+returns-clause-done g c =
     let L = g.L.Line.service in
     let lines = c.self.inside.lines.items in
     let end : LineSide = record { line = c.args.line; role = c.hearer.result } in
@@ -65,7 +65,7 @@ returns g c =
     let h : c.args.line < length lines = within lines c.args.line st.line_is st.line_there in
     let here = there lines c.args.line _ c.index_mut-net_line.result.now h c.index_mut-net_line.ensures.value ∙ ap Some (sym c.net_line.view_is) in
     let e = hears_there c.args.line (hearer c.args.direction) c.hearer.result c.hearer.ensures _ _ st here in
-    let w = c.serve_at.ensures e.node (ap (λ i. slice_get c.self.inside.nodes.items i) (same_place c.hearer.result _ (g.L.Line.flights c.take.new.self)) ∙ e.node_there) in
+    let w = c.serve_at.ensures.done e.node (ap (λ i. slice_get c.self.inside.nodes.items i) (same_place c.hearer.result _ (g.L.Line.flights c.take.new.self)) ∙ e.node_there) in
     rw (← c.self.view_is)
     (delivered L c.args.line c.args.direction end refl c.hearer.ensures c.as_slice.result.now _ _ here (result_and c.serve_at.result (Ok c.serve_at.new.answer)) _
     (acts_anew L end event _ _ e.node (g.L.Line.flights c.take.new.self) (result_and c.serve_at.result (Ok c.serve_at.new.answer)) c.serve_at.new.nodes.items

@@ -4,8 +4,8 @@ use Rattle.std.specs.Prelude.{is_some}
 use Rattle.net_events.proofs.Lists.{there}
 use Rattle.net_nodes.proofs.nodes.Nodes.lose.Goals as goal
 
-pub returns : goal.returns
-returns g c =
+pub returns-clause-done : goal.returns-clause-done
+returns-clause-done g c =
     let lines = c.self.inside.lines.items in
     let h : c.args.line < length lines = omega (arith, c.if-line-len.false, c.len.ensures) in
     let here = there lines c.args.line _ c.index_mut.result.now h c.index_mut.ensures.value ∙ ap Some (sym c.behind-self.view_is) in

@@ -21,8 +21,8 @@ serve_at-requires g c =
     (ap (λ (x : NetLine). record x { flights = g.L.Line.flights c.empty.new.self }) same)
     c.open.ensures.same c.open.ensures.at c.open.ensures.book c.in_ok-open.ensures.room c.in_ok-open.ensures.pairs c.in_ok-make_room.ensures.empty
 
-pub returns : goal.returns
-returns g c =
+pub returns-clause-done : goal.returns-clause-done
+returns-clause-done g c =
     let L = g.L.Line.service in
     let end = c.in_ok-end.end in
     let lines = c.self.inside.lines.items in
@@ -31,7 +31,7 @@ returns g c =
     let same = c.net_line.view_is ∙ found lines end.line _ c.index_mut-net_line.result.now p.line (within lines end.line p.line p.line_there) c.index_mut-net_line.ensures.value p.line_there in
     let emptied = ap (λ (x : NetLine). record x { flights = empty }) same in
     let there = ap (λ i. slice_get c.self.inside.nodes.items i) (ap (place_at end.role) emptied ∙ same_place end.role p.line empty) ∙ at_end_of c.args.node end _ p in
-    let w = c.serve_at.ensures p.node there in
+    let w = c.serve_at.ensures.done p.node there in
     rw (← c.self.view_is)
     (began_anew L c.args.node end _ (result_and c.serve_at.result (Ok c.serve_at.new.answer)) _ p
     (acts_anew L end line_event.Restarts _ p.line p.node empty (result_and c.serve_at.result (Ok c.serve_at.new.answer)) c.serve_at.new.nodes.items

@@ -18,8 +18,8 @@ serve_switch_of-served-requires g c =
       can_put = can.can_put;
     }
 
-pub returns : goal.returns
-returns g c =
+pub returns-clause-done : goal.returns-clause-done
+returns-clause-done g c =
     let nodes = c.self.inside.nodes.items in
     rw (← c.self.view_is)
     (λ n there.

@@ -9,11 +9,11 @@ use Rattle.net_nodes.proofs.nodes.Nodes.take.Goals as goal
 pub user_acts-requires-clause-can : goal.user_acts-requires-clause-can
 user_acts-requires-clause-can g c = can_act c.args.node c.in_ok-end.end c.args.self.now c.requires c.in_ok-end.ensures
 
-pub returns : goal.returns
-returns g c =
+pub returns-clause-done : goal.returns-clause-done
+returns-clause-done g c =
     let p = c.in_ok-end.ensures in
     let event = host_event.Takes c.args.channel in
     user_acted g.L.Line.service (Take c.args.node c.args.channel) c.args.node (user_event.AtHost event) c.in_ok-end.end
     c.args.self.now c.user_acts.new.self (result_and c.user_acts.result (Ok c.user_acts.new.answer)) p
     (ask_fault_at c.args.node c.in_ok-end.end c.args.self.now p c.args.channel event refl)
-    refl (λ a w. w) c.user_acts.ensures
+    refl (λ a w. w) c.user_acts.ensures.done

@@ -18,8 +18,8 @@ serve_user_at-requires-clause-can g c =
     can_serve_user end c.self.inside.nodes.items can.line can.node can.node_there can.quiet c.self.inside.register can.registered c.index_mut.result.now
     (found lines end.line _ _ can.line (within lines end.line can.line can.line_there) c.index_mut.ensures.value can.line_there)
 
-pub returns : goal.returns
-returns g c =
+pub returns-clause-done : goal.returns-clause-done
+returns-clause-done g c =
     let L = g.L.Line.service in
     let end = c.args.end in
     let event = c.args.event.now in
@@ -29,7 +29,7 @@ returns g c =
     rw (← c.self.view_is)
     (λ l n line_there node_there.
     let is_line : c.index_mut.result.now ≡ l = found lines end.line _ _ l (within lines end.line l line_there) c.index_mut.ensures.value line_there in
-    let w = c.serve_user_at.ensures n (ap (λ (x : NetLine). slice_get nodes (place_at end.role x)) is_line ∙ node_there) in
+    let w = c.serve_user_at.ensures.done n (ap (λ (x : NetLine). slice_get nodes (place_at end.role x)) is_line ∙ node_there) in
     let P : NetLine → Type 0 = λ x. MatchResult r
     (λ a. (user_fault x.channels event n.node ≡ None) × HadTurn L end (user_event_of event) n nodes x (register_of c.self.inside.register) a c.serve_user_at.new.nodes.items c.serve_user_at.new.net_line (register_of c.serve_user_at.new.register))
     (λ fault. IsRefusedWith (user_fault x.channels event n.node) fault × (c.serve_user_at.new.nodes.items ≡ nodes) × (c.serve_user_at.new.net_line ≡ x) × (register_of c.serve_user_at.new.register ≡ register_of c.self.inside.register)) in

@@ -21,13 +21,13 @@ serve_switch-requires-clause-can_put g c =
     let can = subst (λ (x : PlacedSwitch). CanPut x.lines x.switch.lines c.args.lines.now.items c.args.puts.now.items c.args.puts.now.room) (sym same) c.requires.can_put in
     subst (λ (own : List ℕ). CanPut own p.switch.lines c.args.lines.now.items c.args.puts.now.items c.args.puts.now.room) (sym c.deref.ensures.value) can
 
-pub returns : goal.returns
-returns g c = λ n is.
+pub returns-clause-done : goal.returns-clause-done
+returns-clause-done g c = λ n is.
     let p : PlacedSwitch = record { lines = c.in-Switching.own.items; switch = c.in-Switching.switch } in
     let same : p ≡ n = switch_is p n (ap kind_of (sym c.in-Switching.is) ∙ c.node.view_is ∙ is) in
     record {
       switch = c.serve_switch.new.switch;
       node_is = ap (λ (x : PlacedSwitch). Switching (record x { switch = c.serve_switch.new.switch })) same;
       served = subst (λ (x : PlacedSwitch). SwitchServed g.L.Line.service (switch_event_of c.args.event.now) x c.args.lines.now.items (register_of c.args.register.now) c.serve_switch.new.switch c.serve_switch.new.lines.items (register_of c.serve_switch.new.register) c.serve_switch.new.puts.items)
-          (ap (λ (own : List ℕ). record p { lines = own }) c.deref.ensures.value ∙ same) c.serve_switch.ensures;
+          (ap (λ (own : List ℕ). record p { lines = own }) c.deref.ensures.value ∙ same) c.serve_switch.ensures.served;
     }

@@ -15,8 +15,8 @@ serve_line_of-requires-clause-quiet g c = λ n is.
     quiet_of c.requires.node n c.index_mut.result.now
     (found nodes at.node _ c.index_mut.result.now (User c.requires.node) (within nodes at.node (User c.requires.node) here) c.index_mut.ensures.value here) is c.requires.quiet
 
-pub returns : goal.returns
-returns g c = λ n there.
+pub returns-clause-done : goal.returns-clause-done
+returns-clause-done g c = λ n there.
     let nodes = c.args.nodes.now.items in
     let l = c.args.net_line.now in
     let at = c.attachment-at.result in
@@ -25,4 +25,4 @@ returns g c = λ n there.
     let is : c.index_mut.result.now ≡ User n = found nodes at.node _ c.index_mut.result.now (User n) (within nodes at.node (User n) here) c.index_mut.ensures.value here in
     line_served_at g.L.Line.service c.args.end c.args.event.now n nodes _ l c.args.register.now at (result_and c.serve_line_of.result (Ok c.serve_line_of.new.answer))
     c.serve_line_of.new.node (g.L.Line.flights c.serve_line_of.new.line) c.serve_line_of.new.book.book c.attachment-at.ensures c.net_line.view_is
-    c.requires.opened c.requires.book (c.serve_line_of.ensures n is)
+    c.requires.opened c.requires.book (c.serve_line_of.ensures.done n is)

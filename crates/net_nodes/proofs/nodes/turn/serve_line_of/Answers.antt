@@ -11,8 +11,8 @@ pub serve_line-requires-clause-quiet : goal.serve_line-requires-clause-quiet
 serve_line-requires-clause-quiet g c =
     c.requires.quiet (record { line = c.in-User.line; node = node_of c.in-User.node }) (sym (ap kind_of (sym c.in-User.is) ∙ c.node.view_is))
 
-pub returns : goal.returns
-returns g c = λ n is.
+pub returns-clause-done : goal.returns-clause-done
+returns-clause-done g c = λ n is.
     let p : PlacedNode = record { line = c.in-User.line; node = node_of c.in-User.node } in
     let same : p ≡ n = user_is p n (ap kind_of (sym c.in-User.is) ∙ c.node.view_is ∙ is) in
     line_served g.L.Line.service c.args.at (line_event_of c.args.event.now) p n (g.L.Line.flights c.args.line.now) c.args.book.now.book c.serve_line.new.answer

@@ -22,8 +22,8 @@ serve_user_of-requires-clause-quiet g c = λ n is.
     quiet_of c.requires.can.node n c.index_mut.result.now
     (found nodes at.node _ c.index_mut.result.now (User c.requires.can.node) (within nodes at.node (User c.requires.can.node) here) c.index_mut.ensures.value here) is c.requires.can.quiet
 
-pub returns : goal.returns
-returns g c = λ n there.
+pub returns-clause-done : goal.returns-clause-done
+returns-clause-done g c = λ n there.
     let nodes = c.args.nodes.now.items in
     let l = c.args.net_line.now in
     let at = c.attachment-at.result in

@@ -21,4 +21,4 @@ returns-clause-served g c =
     let p : PlacedNode = record { line = c.in-User.line; node = node_of c.in-User.node } in
     let same : p ≡ n = user_is p n (ap kind_of (sym c.in-User.is) ∙ c.node.view_is ∙ is) in
     user_served g.L.Line.service c.args.at (user_event_of c.args.event.now) (user_fault c.net_line.inside.channels c.args.event.now) p n _ (register_of c.args.register.now)
-    (result_and c.serve_user.result (Ok c.serve_user.new.answer)) (node_of c.serve_user.new.node) (g.L.Line.flights c.serve_user.new.line) (register_of c.serve_user.new.register) same c.serve_user.ensures)
+    (result_and c.serve_user.result (Ok c.serve_user.new.answer)) (node_of c.serve_user.new.node) (g.L.Line.flights c.serve_user.new.line) (register_of c.serve_user.new.register) same c.serve_user.ensures.served)

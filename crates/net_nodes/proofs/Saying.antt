@@ -1,0 +1,37 @@
+-- A message for which a host has room is not refused.
+use Rattle.std.proofs.Common.{◌≡◌, ℕ, ◌≤◌, Bool, true, false, List, length, refl, ap, arith}
+use Rattle.std.specs.Prelude.{Option, Some, None, not, if◌then◌else◌}
+use Rattle.packet_host.proofs.Sayable.{sayable}
+use Rattle.line_nodes.specs.Node.{NodeState, Pad, Host, is_pad}
+use Rattle.line_nodes.specs.Questions.{node_room_to_say}
+use Rattle.net_events.specs.NodeEvents.{Says}
+use Rattle.net_events.specs.Network.{PlacedNode, Network}
+use Rattle.net_events.specs.declared.event.StepFault.{StepFault}
+use Rattle.net_events.specs.declared.event.StepFault.TheVariants.{NoSuchNode, NoSuchCall}
+use Rattle.net_turns.specs.Outcomes.{event_fault, channel_fault_of}
+use Rattle.net_nodes.specs.Faults.{refused, is_channel_at}
+use Rattle.net_nodes.specs.Places.{user_at}
+use Rattle.net_nodes.specs.Questions.{net_room_to_say, room_to_say_at, say_fault, MaySay}
+use Rattle.placed_nodes.specs.Node.{is_host}
+
+-- at a node, whose line has the channel or not
+said_of : (channel : ℕ) (octets : List ℕ) (delivery here : Bool) (node : NodeState) → 1 ≤ length octets
+    → length octets ≤ (if here then node_room_to_say node channel else 0)
+    → (if not (is_pad node)
+        then (if here then refused (event_fault (Says channel octets false delivery) node) else Some NoSuchCall)
+        else Some NoSuchNode) ≡ None
+said_of channel octets delivery false node some within = absurd (omega arith)
+said_of channel octets delivery true (Pad p) some within = absurd (omega arith)
+said_of channel octets delivery true (Host e) some within =
+    ap (λ refusal. refused (channel_fault_of refusal)) (sayable e.layer channel octets some within)
+
+said_at : (channel : ℕ) (s : Network) (octets : List ℕ) (delivery : Bool) (o : Option PlacedNode) (node : ℕ)
+    → user_at node s ≡ o → 1 ≤ length octets → length octets ≤ room_to_say_at channel s o
+    → say_fault node channel octets false delivery s ≡ None
+said_at channel s octets delivery None node is some within = absurd (omega arith)
+said_at channel s octets delivery (Some n) node is some within =
+    rw is (said_of channel octets delivery (is_channel_at n.line channel s) n.node some within)
+
+pub may_say : (node channel room : ℕ) (s : Network) → room ≡ net_room_to_say node channel s → MaySay node channel room s
+may_say node channel room s exact = λ octets delivery some within.
+    said_at channel s octets delivery (user_at node s) node refl some (omega (arith, exact, within))
