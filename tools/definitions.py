@@ -21,7 +21,7 @@ SYNTAX = set("abbrev unfoldable pub record data where if then else let in Type i
 DECLARED = ".specs.declared."
 
 # What is promised of calls, and of what terminals typed.
-PROMISE = ("PathsHold", "HasTyped")
+PROMISE = ("CallsPromise",)
 
 
 class Definition(typing.NamedTuple):
