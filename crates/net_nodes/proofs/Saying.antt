@@ -1,5 +1,5 @@
 -- A message for which a host has room is not refused.
-use Rattle.std.proofs.Common.{◌≡◌, ℕ, ◌≤◌, Bool, true, false, List, length, refl, ap, arith}
+use Rattle.std.proofs.Common.{◌≡◌, ℕ, ◌≤◌, Bool, true, false, List, length, refl, sym, ap, subst, arith}
 use Rattle.std.specs.Prelude.{Option, Some, None, not, if◌then◌else◌}
 use Rattle.packet_host.proofs.Sayable.{sayable}
 use Rattle.line_nodes.specs.Node.{NodeState, Pad, Host, is_pad}
@@ -9,7 +9,7 @@ use Rattle.net_events.specs.Network.{PlacedNode, Network}
 use Rattle.net_events.specs.declared.event.StepFault.{StepFault}
 use Rattle.net_events.specs.declared.event.StepFault.TheVariants.{NoSuchNode, NoSuchCall}
 use Rattle.net_turns.specs.Outcomes.{event_fault, channel_fault_of}
-use Rattle.net_nodes.specs.Faults.{refused, is_channel_at}
+use Rattle.net_nodes.specs.Faults.{refused, is_channel_at, at_node, on_channel}
 use Rattle.net_nodes.specs.Places.{user_at}
 use Rattle.net_nodes.specs.Questions.{net_room_to_say, room_to_say_at, say_fault, MaySay}
 use Rattle.placed_nodes.specs.Node.{is_host}
@@ -30,7 +30,11 @@ said_at : (channel : ℕ) (s : Network) (octets : List ℕ) (delivery : Bool) (o
     → say_fault node channel octets false delivery s ≡ None
 said_at channel s octets delivery None node is some within = absurd (omega arith)
 said_at channel s octets delivery (Some n) node is some within =
-    rw is (said_of channel octets delivery (is_channel_at n.line channel s) n.node some within)
+    subst (λ (o : Option PlacedNode).
+        (if is_host o
+          then at_node o (λ m. on_channel channel s m (refused (event_fault (Says channel octets false delivery) m.node)))
+          else Some NoSuchNode) ≡ None)
+    (sym is) (said_of channel octets delivery (is_channel_at n.line channel s) n.node some within)
 
 pub may_say : (node channel room : ℕ) (s : Network) → room ≡ net_room_to_say node channel s → MaySay node channel room s
 may_say node channel room s exact = λ octets delivery some within.

@@ -1,7 +1,10 @@
-use Rattle.std.proofs.Common.{◌≡◌, ℕ, List, length, sym, ap, ◌∙◌, subst, arith}
-use Rattle.net_events.specs.Network.{PlacedSwitch}
+use Rattle.std.proofs.Common.{◌≡◌, ℕ, List, length, false, sym, ap, ◌∙◌, subst, arith}
+use Rattle.net_events.specs.AtSwitch.{switch_drained}
+use Rattle.net_events.specs.Network.{PlacedSwitch, Switching}
+use Rattle.net_events.proofs.Users.{switch_is}
 use Rattle.placed_nodes.specs.NodeView.{kind_of}
-use Rattle.net_turns.specs.Switching.{CanPut}
+use Rattle.net_turns.specs.Switching.{CanPut, LinesPut}
+use Rattle.switch_lines.specs.Switch.{Switch}
 use Rattle.line_sim.proofs.making.begin_switch.Goals as goal
 
 pub put_lines-requires : goal.put_lines-requires
@@ -19,3 +22,15 @@ put_lines-requires g c =
       there = can.there;
       room = record { empty = c.in_ok-puts-in-Switching.ensures.items; enough = omega (arith, count, lines, places) };
     })
+
+pub returns-clause-switch : goal.returns-clause-switch
+returns-clause-switch g c = λ n is.
+    let p : PlacedSwitch = record { lines = c.in-Switching.own.items; switch = c.in-Switching.switch } in
+    let same : p ≡ n = switch_is p n (ap kind_of (sym c.in-Switching.is) ∙ c.node.view_is ∙ is) in
+    let put = c.put_lines.ensures in
+    record {
+      node_is = ap (λ (t : Switch). Switching (record p { switch = t })) put.switch
+          ∙ ap (λ (x : PlacedSwitch). Switching (record x { switch = switch_drained x.switch })) same;
+      lines_put = subst (λ (x : PlacedSwitch). LinesPut g.L.Line.service false x.lines x.switch c.args.lines.now.items c.put_lines.new.lines.items)
+          (ap (λ (own : List ℕ). record p { lines = own }) c.deref.ensures.value ∙ same) put.lines;
+    }

@@ -33,4 +33,4 @@ returns-clause-done g c =
       text = c.requires.text;
       outcome = c.outcome_of-answer.ensures;
     })
-    (c.serve_switch_of-served.ensures n (found nodes c.args.place _ c.index_mut.result.now (Switching n) (within nodes c.args.place (Switching n) there) c.index_mut.ensures.value there)))
+    (c.serve_switch_of-served.ensures.done n (found nodes c.args.place _ c.index_mut.result.now (Switching n) (within nodes c.args.place (Switching n) there) c.index_mut.ensures.value there)))
