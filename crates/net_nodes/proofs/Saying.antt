@@ -6,7 +6,6 @@ use Rattle.line_nodes.specs.Node.{NodeState, Pad, Host, is_pad}
 use Rattle.line_nodes.specs.Questions.{node_room_to_say}
 use Rattle.net_events.specs.NodeEvents.{Says}
 use Rattle.net_events.specs.Network.{PlacedNode, Network}
-use Rattle.net_events.specs.declared.event.StepFault.{StepFault}
 use Rattle.net_events.specs.declared.event.StepFault.TheVariants.{NoSuchNode, NoSuchCall}
 use Rattle.net_turns.specs.Outcomes.{event_fault, channel_fault_of}
 use Rattle.net_nodes.specs.Faults.{refused, is_channel_at, at_node, on_channel}
