@@ -3,7 +3,6 @@ mod Between
 mod Puts
 mod OneLine
 mod Parts
-mod Turns
 mod Taking
 mod Users
 mod Switches

@@ -26,7 +26,8 @@ use Rattle.parted_laws.proofs.Between.{Wire}
 use Rattle.parted_laws.proofs.Puts.{all_put, are_all_put}
 use Rattle.parted_laws.proofs.OneLine.{AreLeft, without, HeardInOne, heard_in_one, cleared_in_one, put_in_one}
 use Rattle.parted_laws.proofs.Parts.{same_place, SameLine, WithLost, with_lost, other_flights, its_flights, its_line, was_left, IsUntouched, IsTouched, ChangesAlike, are_after}
-use Rattle.parted_laws.proofs.Turns.{AreAlike, turns_alike}
+use Rattle.live_laws.specs.Writing.{AreAlike}
+use Rattle.live_laws.proofs.Turns.{turns_alike}
 use Rattle.parted_laws.proofs.Taking.{Kind, kind_of}
 use Rattle.parted_laws.proofs.Taking.Kind.{frame, anew, plain}
 

@@ -1,0 +1,3 @@
+mod Made
+mod Standing
+mod Events
