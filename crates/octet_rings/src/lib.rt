@@ -3,6 +3,7 @@
 
 ghost use Rattle.std.specs.Prelude.{◌≡◌, ◌+◌, ◌-◌, ◌≤◌, [], ◌++◌, length, take, drop, min, slice_get, IfOk};
 ghost use Rattle.octet_rings.specs.Places.{most_octets};
+ghost use Rattle.octet_rings.specs.Numbers.{number_of};
 
 use circular_buffer::HeapCircularBuffer;
 use std::alloc::{AllocError, Global};
@@ -113,4 +114,11 @@ impl OctetRing {
         let left = self.octets.len().saturating_sub(count);
         self.octets.truncate_front(left);
     }
+}
+
+/// The number of two octets, the high one first, if both are there.
+pub fn number_of(high: Option<u8>, low: Option<u8>) -> Option<usize>
+    ensures { result ≡ number_of high low }
+{
+    Some(usize::from(high?) * 256 + usize::from(low?))
 }

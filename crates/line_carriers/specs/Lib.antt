@@ -1,0 +1,5 @@
+pub mod Wire
+pub mod Reading
+pub mod Hello
+pub mod Carrier
+pub mod Laws
