@@ -126,11 +126,10 @@ impl Carrier {
     pub fn connected(&mut self)
         ensures { self.new ≡ connected self.old }
     {
+        self.cut();
         self.connection = Connection::Greeting;
         self.left.start(self.silence);
         self.pulse.start(self.silence / 3);
-        self.input.clear();
-        self.output.clear();
         self.hello.say(&mut self.output);
         let sign = self.first_sign();
         add_sign(&mut self.output, sign);
