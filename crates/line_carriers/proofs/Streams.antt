@@ -80,14 +80,15 @@ frame_right octets came tail more high low count has is same =
     subst (λ n. IsRight (frame (take n came) (drop n came)) tail (a_frame octets ∷ more)) (sym is) (frame_whole octets came tail more within same))
 
 -- a sign, as soon as its octet came
-sign_right : (it : Sign) (came tail : List ℕ) (more : List Entry) → came ++ tail ≡ code it ∷ forms more
-    → IsRight (by_length (Some 0) (0 ∷ 0 ∷ came)) tail (a_sign it ∷ more)
-sign_right it [] tail more same = tt
-sign_right it (x ∷ came) tail more same =
+sign_right : (it : Sign) (high low : ℕ) (came tail : List ℕ) (more : List Entry) → came ++ tail ≡ code it ∷ forms more
+    → IsRight (by_length (Some 0) (high ∷ low ∷ came)) tail (a_sign it ∷ more)
+sign_right it high low [] tail more same = tt
+sign_right it high low (x ∷ came) tail more same =
     let same' : x ∷ (came ++ tail) ≡ code it ∷ forms more = same in
     let octet : x ≡ code it = cc in
     let rest : came ++ tail ≡ forms more = cc in
-    subst (λ s. IsRight (sign_in s came) tail (a_sign it ∷ more)) (sym (ap sign_of octet ∙ sign_of-code it)) (more, refl, rest)
+    subst (λ s. IsRight (sign_in s came) tail (a_sign it ∷ more)) (sym (ap sign_of octet ∙ sign_of-code it))
+    (more, refl, rest)
 
 first_right : (input tail : List ℕ) (entries : List Entry) → AreEntries entries → input ++ tail ≡ forms entries
     → IsRight (first_item input) tail entries
@@ -103,11 +104,12 @@ first_right (high ∷ low ∷ came) tail (a_frame octets ∷ more) are same =
     frame_right octets came tail more high low (high * 256 + low) (has_length octets are.0) (omega (arith, high_is, low_is)) rest_is
 first_right (high ∷ low ∷ came) tail (a_sign it ∷ more) are same =
     let same' : high ∷ low ∷ (came ++ tail) ≡ 0 ∷ 0 ∷ code it ∷ forms more = same in
-    let high_is : 0 ≡ high = cc in
-    let low_is : 0 ≡ low = cc in
+    let high_is : high ≡ 0 = cc in
+    let low_is : low ≡ 0 = cc in
     let rest_is : came ++ tail ≡ code it ∷ forms more = cc in
-    subst (λ h. IsRight (by_length (Some (h * 256 + low)) (h ∷ low ∷ came)) tail (a_sign it ∷ more)) high_is
-    (subst (λ l. IsRight (by_length (Some l) (0 ∷ l ∷ came)) tail (a_sign it ∷ more)) low_is (sign_right it came tail more rest_is))
+    let number : 0 ≡ high * 256 + low = omega (arith, high_is, low_is) in
+    subst (λ n. IsRight (by_length (Some n) (high ∷ low ∷ came)) tail (a_sign it ∷ more)) number
+    (sign_right it high low came tail more rest_is)
 
 -- ---- whatever happens
 

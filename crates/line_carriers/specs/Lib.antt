@@ -3,3 +3,4 @@ pub mod Reading
 pub mod Hello
 pub mod Carrier
 pub mod Laws
+pub mod Opening

@@ -310,10 +310,8 @@ impl Carrier {
         ensures size { length result.items ≡ 48 }
         ensures rest { self.new ≡ record self.old { input = drop 48 self.old.input } }
     {
-        let mut octets = ArrayVec::new();
         let (first, second) = self.input.front(HELLO);
-        let _ = octets.try_extend_from_slice(first);
-        let _ = octets.try_extend_from_slice(second);
+        let octets = joined(first, second);
         self.input.drop_front(HELLO);
         octets
     }
@@ -391,4 +389,15 @@ impl Carrier {
             add_sign(&mut self.output, Sign::StillHere);
         }
     }
+}
+
+// The octets of a hello that came in two pieces.
+fn joined(first: &[u8], second: &[u8]) -> ArrayVec<u8, HELLO>
+    requires { length first.now + length second.now ≤ 48 }
+    ensures { result.items ≡ first.now ++ second.now }
+{
+    let mut octets = ArrayVec::new();
+    let _ = octets.try_extend_from_slice(first);
+    let _ = octets.try_extend_from_slice(second);
+    octets
 }

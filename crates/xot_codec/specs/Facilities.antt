@@ -22,6 +22,13 @@ unasked = record { size = 7; window = 2 }
 abbrev pub is_dropped : (code value : ℕ) → Bool
 is_dropped code value = code == 0x02 || (code == 0x01 && value == 0)
 
+-- packet size and window, and no other
+abbrev pub with_smaller : Asked → (code smaller : ℕ) → Result Asked FacilityFault
+with_smaller asked code smaller =
+    if code == 0x42 then Ok (record asked { size = smaller })
+    else if code == 0x43 then Ok (record asked { window = smaller })
+    else Err NotCarried
+
 -- what a facility field asks for, of two directions the smaller, or that the network does not carry it
 abbrev pub asked_in : Asked → List ℕ → Result Asked FacilityFault
 asked_in asked [] = Ok asked
@@ -32,6 +39,11 @@ asked_in asked (code ∷ one ∷ other ∷ rest) =
     else if code == 0x42 then asked_in (record asked { size = min one other }) rest
     else if code == 0x43 then asked_in (record asked { window = min one other }) rest
     else Err NotCarried
+
+-- what is asked for in the end, by what is asked for so far and the rest
+abbrev pub asked_then : Result Asked FacilityFault → List ℕ → Result Asked FacilityFault
+asked_then (Ok asked) rest = asked_in asked rest
+asked_then (Err fault) rest = Err fault
 
 abbrev pub refused_by : LineFlow → Result Asked FacilityFault → Option FacilityFault
 refused_by line (Err fault) = Some fault

@@ -1,7 +1,18 @@
 //! The facilities of calls over TCP: a gateway puts packet size and window of its line into each call, and takes out what
 //! comes.
-ghost use Rattle.std.specs.Prelude.{◌≡◌, ◌<◌, [], ◌∷◌, length, Option, Some, None, IfOk};
-ghost use Rattle.xot_codec.specs.Facilities.{size_code, put, asked_in, unasked, refusal, answer_of, asked_after};
+ghost use Rattle.std.specs.Prelude.{◌≡◌, ◌<◌, [], ◌∷◌, false, length, IfOk, MatchOption};
+ghost use Rattle.xot_codec.specs.Facilities.{
+  size_code,
+  put,
+  is_dropped,
+  with_smaller,
+  asked_in,
+  unasked,
+  refusal,
+  answer_of,
+  asked_then,
+  asked_after,
+};
 
 use thiserror::Error;
 
@@ -88,28 +99,85 @@ fn asked_in(facilities: &[u8]) -> Result<Asked, FacilityFault>
     Ok(asked)
 }
 
+#[tactic(auto, using(crate::proofs::Asking::dropped, crate::proofs::Asking::torn))]
 fn next_facility(asked: Asked, octets: &[u8]) -> Result<(Asked, &[u8]), FacilityFault>
     requires { 0 < length octets.now }
     ensures same { asked_after result ≡ asked_in asked octets.now }
     ensures less { IfOk result (λ next. length next.1.now < length octets.now) }
 {
-    match octets {
-        [THROUGHPUT, _, rest @ ..] | [CHARGING, 0, rest @ ..] => Ok((asked, rest)),
-        [PACKET_SIZE, one, other, rest @ ..] => Ok((
-            Asked {
-                size: *one.min(other),
-                ..asked
-            },
-            rest,
-        )),
-        [WINDOW, one, other, rest @ ..] => Ok((
-            Asked {
-                window: *one.min(other),
-                ..asked
-            },
-            rest,
-        )),
+    let Some((code, value, rest)) = first_two(octets) else {
+        return Err(FacilityFault::NotCarried);
+    };
+    if is_dropped(code, value) {
+        return Ok((asked, rest));
+    }
+    with_value(asked, code, value, rest)
+}
+
+// The facility of this code and first value, of which the second value stands first.
+#[tactic(auto, using(crate::proofs::Asking::without_other))]
+fn with_value(
+    asked: Asked,
+    code: u8,
+    one: u8,
+    octets: &[u8],
+) -> Result<(Asked, &[u8]), FacilityFault>
+    requires { is_dropped code one ≡ false }
+    ensures same { asked_after result ≡ asked_in asked (code ∷ one ∷ octets.now) }
+    ensures less { IfOk result (λ next. length next.1.now < length octets.now) }
+{
+    let Some((other, rest)) = first_one(octets) else {
+        return Err(FacilityFault::NotCarried);
+    };
+    let asked = with_smaller(asked, code, one.min(other));
+    before(asked, rest)
+}
+
+// What is asked for so far, and the facilities that follow.
+fn before(asked: Result<Asked, FacilityFault>, rest: &[u8]) -> Result<(Asked, &[u8]), FacilityFault>
+    ensures same { asked_after result ≡ asked_then asked rest.now }
+    ensures rest { IfOk result (λ next. next.1.now ≡ rest.now) }
+{
+    Ok((asked?, rest))
+}
+
+fn with_smaller(asked: Asked, code: u8, smaller: u8) -> Result<Asked, FacilityFault>
+    ensures { result ≡ with_smaller asked code smaller }
+{
+    match code {
+        PACKET_SIZE => Ok(Asked {
+            size: smaller,
+            ..asked
+        }),
+        WINDOW => Ok(Asked {
+            window: smaller,
+            ..asked
+        }),
         _ => Err(FacilityFault::NotCarried),
+    }
+}
+
+fn is_dropped(code: u8, value: u8) -> bool
+    ensures { result ≡ is_dropped code value }
+{
+    code == THROUGHPUT || (code == CHARGING && value == 0)
+}
+
+fn first_two(octets: &[u8]) -> Option<(u8, u8, &[u8])>
+    ensures { MatchOption result (length octets.now < 2) (λ found. octets.now ≡ found.0 ∷ found.1 ∷ found.2.now) }
+{
+    match octets {
+        [first, second, rest @ ..] => Some((*first, *second, rest)),
+        _ => None,
+    }
+}
+
+fn first_one(octets: &[u8]) -> Option<(u8, &[u8])>
+    ensures { MatchOption result (octets.now ≡ []) (λ found. octets.now ≡ found.0 ∷ found.1.now) }
+{
+    match octets {
+        [first, rest @ ..] => Some((*first, rest)),
+        _ => None,
     }
 }
 
