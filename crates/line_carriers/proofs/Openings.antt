@@ -19,12 +19,12 @@ use Rattle.line_carriers.specs.Hello.{hello_form, hello_read}
 use Rattle.line_carriers.specs.Carrier.{Told, told, Started, Elapsed, connected, cut, first_sign, is_connection, stands, says_open, is_open, takes_frame, has_sign_room, with_sign, with_octets, with_start, after_start, met_after, after_hello, after_sign, with_item, after_item, read_by, closed_by, after_next, run_out, after_beat, expired, after_ticks}
 use Rattle.line_carriers.specs.Opening.{Handed, begun, Act, adds, reads, writes, comes, starts, passes, after_act, handed_by, after_acts, signs_form, HasNoOpen, IsQuiet, OpenLaw}
 
-signs_form-append : (xs ys : List Sign) → signs_form (xs ++ ys) ≡ signs_form xs ++ signs_form ys
+pub signs_form-append : (xs ys : List Sign) → signs_form (xs ++ ys) ≡ signs_form xs ++ signs_form ys
 signs_form-append [] ys = refl
 signs_form-append (x ∷ xs) ys =
     ap (λ t. sign_form x ++ t) (signs_form-append xs ys) ∙ sym (append_assoc (sign_form x) (signs_form xs) (signs_form ys))
 
-no_open-append : (xs ys : List Sign) → HasNoOpen xs → HasNoOpen ys → HasNoOpen (xs ++ ys)
+pub no_open-append : (xs ys : List Sign) → HasNoOpen xs → HasNoOpen ys → HasNoOpen (xs ++ ys)
 no_open-append [] ys first second = second
 no_open-append (x ∷ xs) ys first second = (first.0, no_open-append xs ys first.1 second)
 
@@ -93,7 +93,7 @@ and_closed : (a b : Bool) → (a && true) ≡ false → (a && b) ≡ false
 and_closed true b is = absurd (cc)
 and_closed false b is = refl
 
-and_right_false : (a b : Bool) → b ≡ false → (a && b) ≡ false
+pub and_right_false : (a b : Bool) → b ≡ false → (a && b) ≡ false
 and_right_false a b is = ap (λ x. a && x) is ∙ and_false a
 
 met-tells : (c : Carrier) (rest : List ℕ) (r : Result ℕ CarrierFault) → Greeting ≡ c.connection
@@ -148,7 +148,7 @@ item-tells c rest partner (Ok (Some (item.Sign it))) is = sign-tells c rest part
 item-tells c rest partner (Ok (Some item.Frame)) is = unchanged c (record c { input = rest }) refl refl refl
 item-tells c rest partner (Err fault) is = was_cut c (record c { input = rest })
 
-reads-by : (c : Carrier) (k : Connection) → k ≡ c.connection → Moves c (closed_by (read_by k c []).answer (read_by k c []).carrier)
+pub reads-by : (c : Carrier) (k : Connection) → k ≡ c.connection → Moves c (closed_by (read_by k c []).answer (read_by k c []).carrier)
 reads-by c Away is = unchanged c c refl refl refl
 reads-by c Greeting is =
     if-tells c (ltb (length c.input) 48) (told c (Ok heard.Nothing))
@@ -166,7 +166,7 @@ if-starts : (c : Carrier) (b : Bool) (x y : Started) → Starts c x → Starts c
 if-starts c true x y one two = one
 if-starts c false x y one two = two
 
-starts-moves : (c : Carrier) → Moves c (after_start c).carrier
+pub starts-moves : (c : Carrier) → Moves c (after_start c).carrier
 starts-moves c =
     let d = record c { started = true } in
     let opening : Started = record { carrier = with_sign d Open; answer = Ok tt } in
@@ -213,7 +213,7 @@ beat-moves c d true pulse output connection started =
     (ap (λ o. o ++ sign_form StillHere) output) connection started (λ e. cc)
 beat-moves c d false pulse output connection started = unchanged c (record d { pulse = pulse }) output connection started
 
-passes-moves : (c : Carrier) (ticks : ℕ) → Moves c (after_ticks c ticks).carrier
+pub passes-moves : (c : Carrier) (ticks : ℕ) → Moves c (after_ticks c ticks).carrier
 passes-moves c ticks =
     let d = record c { left = lowered ticks c.left; pulse = lowered ticks c.pulse } in
     if-passes c (is_due d.left) (run_out d) (record { carrier = cond (is_due d.pulse) (after_beat d) d; expiry = None })
@@ -231,7 +231,7 @@ and_right : (a b : Bool) → (a && b) ≡ true → b ≡ true
 and_right true b is = is
 and_right false b is = absurd (cc)
 
-adds-moves : (c : Carrier) (frame : List ℕ) → Moves c (after_act c (adds frame))
+pub adds-moves : (c : Carrier) (frame : List ℕ) → Moves c (after_act c (adds frame))
 adds-moves c frame =
     if-moves c (takes_frame c frame) (record c { output = c.output ++ frame_form frame }) c
     (λ takes standing closed.
@@ -288,7 +288,7 @@ holds-all : (c : Carrier) (e : Handed) (acts : List Act) → Holds c e → Holds
 holds-all c e [] so_far = so_far
 holds-all c e (act ∷ acts) so_far = holds-all c (next e act) acts (holds-next c e act so_far)
 
-first_is_quiet : (started : Bool) → started ≡ false → HasNoOpen (cond started Open Starting ∷ [])
+pub first_is_quiet : (started : Bool) → started ≡ false → HasNoOpen (cond started Open Starting ∷ [])
 first_is_quiet true is = absurd (cc)
 first_is_quiet false is = ((λ e. cc), tt)
 

@@ -90,7 +90,7 @@ sign_right it high low (x ∷ came) tail more same =
     subst (λ s. IsRight (sign_in s came) tail (a_sign it ∷ more)) (sym (ap sign_of octet ∙ sign_of-code it))
     (more, refl, rest)
 
-first_right : (input tail : List ℕ) (entries : List Entry) → AreEntries entries → input ++ tail ≡ forms entries
+pub first_right : (input tail : List ℕ) (entries : List Entry) → AreEntries entries → input ++ tail ≡ forms entries
     → IsRight (first_item input) tail entries
 first_right [] tail entries are same = tt
 first_right (high ∷ []) tail entries are same = tt

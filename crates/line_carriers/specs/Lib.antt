@@ -4,3 +4,4 @@ pub mod Hello
 pub mod Carrier
 pub mod Laws
 pub mod Opening
+pub mod CutOff

@@ -12,5 +12,5 @@ mod wire;
 pub use carrier::{Carrier, Expiry, Heard};
 pub use fault::CarrierFault;
 pub use hello::Hello;
-pub use law::{carrier_law, opening_law};
+pub use law::{carrier_law, cut_off_law, opening_law};
 pub use sign::Sign;
