@@ -19,6 +19,7 @@ const ACCEPTED: &[u8] = &[
 const CLEAR: &[u8] = &[0x10, 0x01, 0x13, 0x09, 0x00];
 
 /// Octets that come, and the packets that are read of them before the fault, if there is one.
+#[derive(Clone, Copy)]
 struct Example {
     came: &'static [u8],
     packets: &'static [&'static [u8]],
@@ -68,14 +69,14 @@ fn examples() -> [Example; 6] {
     ]
 }
 
-/// Whether the packets are read in order, then nothing or the fault, if the octets come in pieces of this size.
-fn reads(alloc: Global, example: &Example, size: usize) -> bool {
+/// Whether the packets are read in order, then nothing or the fault, if the octets come in these pieces.
+fn reads(alloc: Global, example: &Example, pieces: [&[u8]; 2]) -> bool {
     let Ok(mut stream) = XotStream::new(alloc) else {
         return false;
     };
     let mut packet = XotPacket::new();
     let mut packets = example.packets;
-    for piece in example.came.chunks(size) {
+    for piece in pieces {
         stream.octets(piece);
         for _ in 0..3 {
             match (stream.next_packet(&mut packet), packets) {
@@ -92,10 +93,11 @@ fn reads(alloc: Global, example: &Example, size: usize) -> bool {
 #[test]
 fn packets_are_read_from_any_pieces(rt: HostRuntime) {
     for (place, example) in examples().iter().enumerate() {
-        for size in [1, 7, 64] {
+        for cut in 0..example.came.len() {
+            let pieces = [&example.came[..cut], &example.came[cut..]];
             assert!(rt;
-                reads(rt.alloc(), example, size),
-                "example {place} in pieces of {size}"
+                reads(rt.alloc(), example, pieces),
+                "example {place} cut at {cut}"
             );
         }
     }
@@ -112,6 +114,7 @@ fn packets_are_written_with_their_headers(rt: HostRuntime) {
 }
 
 /// A facility field that comes to a line, and the answer.
+#[derive(Clone, Copy)]
 struct Field {
     line: LineFlow,
     facilities: &'static [u8],
@@ -128,7 +131,7 @@ const LARGE: LineFlow = LineFlow {
     window: 3,
 };
 
-const fn field(line: LineFlow, facilities: &'static [u8], fault: Option<FacilityFault>) -> Field {
+const fn row(line: LineFlow, facilities: &'static [u8], fault: Option<FacilityFault>) -> Field {
     Field {
         line,
         facilities,
@@ -140,29 +143,29 @@ const fn field(line: LineFlow, facilities: &'static [u8], fault: Option<Facility
 fn fields() -> [Field; 15] {
     let not_carried = Some(FacilityFault::NotCarried);
     [
-        field(SMALL, &[], None),
-        field(SMALL, &[0x42, 0x07, 0x07, 0x43, 0x02, 0x02], None),
-        field(SMALL, &[0x42, 0x08, 0x08, 0x43, 0x04, 0x04], None),
-        field(SMALL, &[0x01, 0x00, 0x02, 0xAA], None),
-        field(SMALL, &[0x01, 0x81, 0x02, 0xAA], not_carried),
-        field(SMALL, &[0x01, 0x01], not_carried),
-        field(SMALL, &[0x03, 0x11], not_carried),
-        field(SMALL, &[0x04, 0x01], not_carried),
-        field(SMALL, &[0xC9, 0x02, 0xAA, 0xBB], not_carried),
-        field(SMALL, &[0x43, 0x02], not_carried),
-        field(
+        row(SMALL, &[], None),
+        row(SMALL, &[0x42, 0x07, 0x07, 0x43, 0x02, 0x02], None),
+        row(SMALL, &[0x42, 0x08, 0x08, 0x43, 0x04, 0x04], None),
+        row(SMALL, &[0x01, 0x00, 0x02, 0xAA], None),
+        row(SMALL, &[0x01, 0x81, 0x02, 0xAA], not_carried),
+        row(SMALL, &[0x01, 0x01], not_carried),
+        row(SMALL, &[0x03, 0x11], not_carried),
+        row(SMALL, &[0x04, 0x01], not_carried),
+        row(SMALL, &[0xC9, 0x02, 0xAA, 0xBB], not_carried),
+        row(SMALL, &[0x43, 0x02], not_carried),
+        row(
             SMALL,
             &[0x42, 0x06, 0x07],
             Some(FacilityFault::SmallPackets),
         ),
-        field(LARGE, &[], Some(FacilityFault::SmallPackets)),
-        field(LARGE, &[0x42, 0x08, 0x08], Some(FacilityFault::SmallWindow)),
-        field(
+        row(LARGE, &[], Some(FacilityFault::SmallPackets)),
+        row(LARGE, &[0x42, 0x08, 0x08], Some(FacilityFault::SmallWindow)),
+        row(
             LARGE,
             &[0x42, 0x08, 0x08, 0x43, 0x03, 0x02],
             Some(FacilityFault::SmallWindow),
         ),
-        field(LARGE, &[0x43, 0x03, 0x03, 0x42, 0x09, 0x08], None),
+        row(LARGE, &[0x43, 0x03, 0x03, 0x42, 0x09, 0x08], None),
     ]
 }
 
