@@ -1,0 +1,4 @@
+pub mod Streams
+pub mod Hellos
+pub mod Openings
+pub mod CutOffs

@@ -1,0 +1,3 @@
+pub mod Xot
+pub mod Laws
+pub mod Facilities
