@@ -12,12 +12,12 @@ happen-requires g c = live_standing g.L.Line.service _ c.self.invariant
 pub invariant_of-self : goal.invariant_of-self
 invariant_of-self g c =
     lives_refused g.L.Line.service c.args.event.now c.self.inside.nodes c.in_err-happen.field-0.0 c.happen.new.self
-    c.self.invariant c.in_err-happen.ensures
+    c.self.invariant c.in_err-happen.ensures.done
 
 pub invariant_of-self-2 : goal.invariant_of-self-2
 invariant_of-self-2 g c =
     lives_answered g.L.Line.service c.args.event.now c.self.inside.nodes (Ok c.happen.new.answer) c.happen.new.self
-    c.forget.new.self c.self.invariant c.in_ok-happen.ensures c.forget.ensures
+    c.forget.new.self c.self.invariant c.in_ok-happen.ensures.done c.forget.ensures
 
 pub returns-in_err-happen : goal.returns-in_err-happen
 returns-in_err-happen g c =
@@ -26,12 +26,12 @@ returns-in_err-happen g c =
     let same : refused ≡ told = search rules in
     let k : Steps g.L.Line.service c.args.event.now c.args.self.now told c.happen.new.self
     = steps_refused g.L.Line.service c.args.event.now c.self.inside.nodes c.args.self.now told c.in_err-happen.field-0.0
-    c.happen.new.self c.self.view_is same c.self.invariant c.in_err-happen.ensures in
+    c.happen.new.self c.self.view_is same c.self.invariant c.in_err-happen.ensures.done in
     ((refl, λ _. tt, k.lived), record { faults = k.faults; memory = k.memory; after = tt })
 
 pub returns : goal.returns
 returns g c =
     let k : Steps g.L.Line.service c.args.event.now c.args.self.now (Ok c.happen.new.answer) c.forget.new.self
     = steps_answered g.L.Line.service c.args.event.now c.self.inside.nodes c.args.self.now c.happen.new.answer
-    c.happen.new.self c.forget.new.self c.self.view_is c.in_ok-happen.ensures c.forget.ensures in
+    c.happen.new.self c.forget.new.self c.self.view_is c.in_ok-happen.ensures.done c.forget.ensures in
     ((refl, λ _. tt, k.lived), record { faults = k.faults; memory = k.memory; after = tt })
