@@ -3,3 +3,4 @@ mod Counting
 mod Naming
 mod Planning
 mod Own
+pub mod FirstBroken

@@ -3,3 +3,4 @@ pub mod NetPlan
 pub mod Plan
 pub mod PlanView
 pub mod PlannedView
+pub mod Rules

@@ -15,7 +15,7 @@ use crate::config::{
 use packet_codec::Address;
 use x3_params::{Params, Profile};
 
-fn is_from(least: u16, most: u16, value: u16) -> bool
+pub(crate) fn is_from(least: u16, most: u16, value: u16) -> bool
     ensures { result ≡ is_from least most value }
 {
     least <= value && value <= most
@@ -69,7 +69,7 @@ fn is_pad_served(pad: &TerminalsConfig) -> bool
     is_from(1, 16, pad.terminals) && pad.speed <= 255 && are_accepted(&pad.settings)
 }
 
-fn are_accepted(settings: &[Setting]) -> bool
+pub(crate) fn are_accepted(settings: &[Setting]) -> bool
     ensures { result ≡ list_all is_accepted settings.now }
 {
     settings.iter().all(|setting| is_accepted(*setting))
@@ -86,7 +86,7 @@ fn is_kind_served(kind: &NodeKind) -> bool
 }
 
 /// How many lines a node of this kind may have.
-fn most_lines(kind: &NodeKind) -> usize
+pub(crate) fn most_lines(kind: &NodeKind) -> usize
     ensures { result ≡ most_lines kind.now }
 {
     match kind {
@@ -96,7 +96,7 @@ fn most_lines(kind: &NodeKind) -> usize
     }
 }
 
-fn is_node_served(config: &Config, node: &NodeConfig) -> bool
+pub(crate) fn is_node_served(config: &Config, node: &NodeConfig) -> bool
     ensures { result ≡ is_node_served config.now node.now }
 {
     count_nodes(&config.nodes, &node.name) == 1
@@ -106,7 +106,7 @@ fn is_node_served(config: &Config, node: &NodeConfig) -> bool
 }
 
 /// How many nodes have the name.
-fn count_nodes(nodes: &[NodeConfig], name: &str) -> usize
+pub(crate) fn count_nodes(nodes: &[NodeConfig], name: &str) -> usize
     ensures { result ≡ length (filter (is_named name.now) nodes.now) }
 {
     nodes.iter().filter(|node| is_named(name, node)).count()
@@ -122,14 +122,14 @@ fn has_lines(lines: &[LineConfig], node: &NodeConfig) -> bool
 }
 
 /// How many lines have an end at the node of this name.
-fn count_lines(lines: &[LineConfig], name: &str) -> usize
+pub(crate) fn count_lines(lines: &[LineConfig], name: &str) -> usize
     ensures { result ≡ length (filter (has_end name.now) lines.now) }
 {
     lines.iter().filter(|line| has_end(name, line)).count()
 }
 
 /// How many routes the switch of this name has.
-fn count_routes(routes: &[RouteConfig], name: &str) -> usize
+pub(crate) fn count_routes(routes: &[RouteConfig], name: &str) -> usize
     ensures { result ≡ length (filter (is_route_of name.now) routes.now) }
 {
     routes
@@ -146,7 +146,7 @@ pub(crate) fn is_route_of(name: &str, route: &RouteConfig) -> bool
 }
 
 /// Whether a line may have its numbering and window.
-fn is_numbered(line: &LineConfig) -> bool
+pub(crate) fn is_numbered(line: &LineConfig) -> bool
     ensures { result ≡ is_numbered line.now }
 {
     (line.modulo == 8 && is_from(1, 7, line.window))
@@ -154,7 +154,7 @@ fn is_numbered(line: &LineConfig) -> bool
 }
 
 /// Whether a line may have its packet size.
-fn is_sized(line: &LineConfig) -> bool
+pub(crate) fn is_sized(line: &LineConfig) -> bool
     ensures { result ≡ is_sized line.now }
 {
     line.size == 128 || line.size == 256 || line.size == 512 || line.size == 1024
@@ -191,14 +191,14 @@ fn is_switch(kind: &NodeKind) -> bool
 }
 
 /// Whether a node has the name.
-fn has_node(nodes: &[NodeConfig], name: &str) -> bool
+pub(crate) fn has_node(nodes: &[NodeConfig], name: &str) -> bool
     ensures { result ≡ list_any (is_named name.now) nodes.now }
 {
     nodes.iter().any(|node| is_named(name, node))
 }
 
 /// Whether a host or a switch, which may be a DCE, has the name.
-fn has_dce_node(nodes: &[NodeConfig], name: &str) -> bool
+pub(crate) fn has_dce_node(nodes: &[NodeConfig], name: &str) -> bool
     ensures { result ≡ list_any (is_dce_named name.now) nodes.now }
 {
     nodes
@@ -214,7 +214,7 @@ fn has_pad(nodes: &[NodeConfig], name: &str) -> bool
         .any(|node| is_named(name, node) && is_pad(&node.kind))
 }
 
-fn has_switch(nodes: &[NodeConfig], name: &str) -> bool
+pub(crate) fn has_switch(nodes: &[NodeConfig], name: &str) -> bool
     ensures { result ≡ list_any (is_switch_named name.now) nodes.now }
 {
     nodes
@@ -229,28 +229,28 @@ fn joins_nodes(nodes: &[NodeConfig], line: &LineConfig) -> bool
 }
 
 /// Whether the line's DTE is a switch.
-fn is_from_switch(nodes: &[NodeConfig], line: &LineConfig) -> bool
+pub(crate) fn is_from_switch(nodes: &[NodeConfig], line: &LineConfig) -> bool
     ensures { result ≡ is_from_switch nodes.now line.now }
 {
     has_switch(nodes, &line.dte)
 }
 
 /// Whether the line's DCE is a switch.
-fn is_at_switch(nodes: &[NodeConfig], line: &LineConfig) -> bool
+pub(crate) fn is_at_switch(nodes: &[NodeConfig], line: &LineConfig) -> bool
     ensures { result ≡ is_at_switch nodes.now line.now }
 {
     has_switch(nodes, &line.dce)
 }
 
 /// Whether the line's DCE comes earlier than its DTE.
-fn leads_back(nodes: &[NodeConfig], line: &LineConfig) -> bool
+pub(crate) fn leads_back(nodes: &[NodeConfig], line: &LineConfig) -> bool
     ensures { result ≡ leads_back nodes.now line.now }
 {
     place_of(nodes, &line.dce) < place_of(nodes, &line.dte)
 }
 
 /// How many lines have the node of this name as their DTE.
-fn count_as_dte(lines: &[LineConfig], name: &str) -> usize
+pub(crate) fn count_as_dte(lines: &[LineConfig], name: &str) -> usize
     ensures { result ≡ length (filter (has_dte name.now) lines.now) }
 {
     lines.iter().filter(|line| has_dte(name, line)).count()
@@ -266,14 +266,14 @@ fn is_in_tree(config: &Config, line: &LineConfig) -> bool
 }
 
 /// Whether the packets of the line have 128 octets, if it is from a PAD.
-fn suits_pad(nodes: &[NodeConfig], line: &LineConfig) -> bool
+pub(crate) fn suits_pad(nodes: &[NodeConfig], line: &LineConfig) -> bool
     ensures { result ≡ suits_pad nodes.now line.now }
 {
     !has_pad(nodes, &line.dte) || line.size == 128
 }
 
 /// Whether a text is an address: 1 to 15 digits.
-fn is_address(text: &str) -> bool
+pub(crate) fn is_address(text: &str) -> bool
     ensures { result ≡ is_address text.now }
 {
     Address::read(text.as_bytes()).is_ok()
@@ -290,7 +290,7 @@ fn has_own_address(nodes: &[NodeConfig], line: &LineConfig) -> bool
     }
 }
 
-fn may_stand(config: &Config, line: &LineConfig) -> bool
+pub(crate) fn may_stand(config: &Config, line: &LineConfig) -> bool
     ensures { result ≡ may_stand config.now line.now }
 {
     config.lines.len() == 1
@@ -298,7 +298,7 @@ fn may_stand(config: &Config, line: &LineConfig) -> bool
         && !is_at_switch(&config.nodes, line)
 }
 
-fn is_line_served(config: &Config, line: &LineConfig) -> bool
+pub(crate) fn is_line_served(config: &Config, line: &LineConfig) -> bool
     ensures { result ≡ is_line_served config.now line.now }
 {
     joins_nodes(&config.nodes, line)
@@ -310,7 +310,7 @@ fn is_line_served(config: &Config, line: &LineConfig) -> bool
 }
 
 /// Whether the line of this number is there and ends at the node of this name.
-fn ends_at(lines: &[LineConfig], number: u16, name: &str) -> bool
+pub(crate) fn ends_at(lines: &[LineConfig], number: u16, name: &str) -> bool
     ensures { result ≡ ends_at name.now (slice_get lines.now number) }
 {
     match lines.get(number as usize) {
@@ -327,7 +327,7 @@ fn same_route(route: &RouteConfig, other: &RouteConfig) -> bool
 }
 
 /// How many routes are of the switch and for the prefix of this one.
-fn count_same(routes: &[RouteConfig], route: &RouteConfig) -> usize
+pub(crate) fn count_same(routes: &[RouteConfig], route: &RouteConfig) -> usize
     ensures { result ≡ length (filter (same_route route.now) routes.now) }
 {
     routes
@@ -336,7 +336,7 @@ fn count_same(routes: &[RouteConfig], route: &RouteConfig) -> usize
         .count()
 }
 
-fn is_route_served(config: &Config, route: &RouteConfig) -> bool
+pub(crate) fn is_route_served(config: &Config, route: &RouteConfig) -> bool
     ensures { result ≡ is_route_served config.now route.now }
 {
     has_switch(&config.nodes, &route.switch)
@@ -346,7 +346,7 @@ fn is_route_served(config: &Config, route: &RouteConfig) -> bool
 }
 
 /// How many nodes are switches.
-fn count_switches(nodes: &[NodeConfig]) -> usize
+pub(crate) fn count_switches(nodes: &[NodeConfig]) -> usize
     ensures { result ≡ length (filter (λ node. is_switch node.kind) nodes.now) }
 {
     nodes.iter().filter(|node| is_switch(&node.kind)).count()
