@@ -1,5 +1,5 @@
 -- A hello is read as it was said.
-use Rattle.std.proofs.Common.{◌≡◌, ◌<◌, ◌^◌, ℕ, Bool, not, eqb, List, [], ◌∷◌, ◌++◌, length, take, drop, get_or, Result, Ok, Err, cond, refl, sym, ap, ◌∙◌, append_assoc, arith}
+use Rattle.std.proofs.Common.{◌≡◌, ℕ, not, eqb, List, [], ◌∷◌, ◌++◌, length, take, drop, get_or, Result, Ok, Err, cond, sym, ap, ◌∙◌, append_assoc, arith}
 use Rattle.std.proofs.lemmas.List.{take_at, drop_at, drop-drop, get_or_at, length-append}
 use Rattle.std.proofs.lemmas.Nat.{from_be_bytes-to_be_bytes_8}
 use Rattle.std.specs.Int.{w16, w64, to_be_bytes, from_be_bytes}
@@ -7,8 +7,8 @@ use Rattle.link_timers.specs.Role.{other_of}
 use Rattle.line_carriers.specs.declared.fault.CarrierFault.{CarrierFault}
 use Rattle.line_carriers.specs.declared.fault.CarrierFault.TheVariants.{OtherNetwork, OtherLine, OtherRole}
 use Rattle.line_carriers.specs.declared.hello.Hello.{Hello}
-use Rattle.line_carriers.specs.Hello.{hello_form, hello_read, are_same, role_octet}
-use Rattle.line_carriers.specs.Laws.{IsHello, judged, HelloLaw}
+use Rattle.line_carriers.specs.Hello.{are_same, role_octet}
+use Rattle.line_carriers.specs.Laws.{IsHello, HelloLaw}
 
 -- what is made of the parts of a hello
 abbrev pub judged_parts : Hello → (network line : List ℕ) (role start : ℕ) → Result ℕ CarrierFault

@@ -1,5 +1,5 @@
 -- Before a line is open, an end hands over its hello and signs alone.
-use Rattle.std.proofs.Common.{◌≡◌, ◌≢◌, ℕ, Bool, true, false, not, ◌&&◌, cond, eqb, ltb, leb, length, List, [], ◌∷◌, ◌++◌, take, drop, Option, Some, None, Result, Ok, Err, refl, sym, ap, ◌∙◌, append_assoc, append-nil}
+use Rattle.std.proofs.Common.{◌≡◌, ◌≢◌, ℕ, Bool, true, false, not, ◌&&◌, cond, eqb, ltb, length, List, [], ◌∷◌, ◌++◌, take, drop, Option, Some, None, Result, Ok, Err, refl, sym, ap, ◌∙◌, append_assoc, append-nil}
 use Rattle.std.proofs.lemmas.List.{take-append-drop}
 use Rattle.link_timers.specs.Timers.{lowered, is_due}
 use Rattle.line_carriers.specs.declared.fault.CarrierFault.{CarrierFault}
@@ -16,7 +16,7 @@ use Rattle.line_carriers.specs.declared.carrier.Heard.TheVariants as heard
 use Rattle.line_carriers.specs.Wire.{sign_form, frame_form, is_frame}
 use Rattle.line_carriers.specs.Reading.{first_item, answer_of, rest_after}
 use Rattle.line_carriers.specs.Hello.{hello_form, hello_read}
-use Rattle.line_carriers.specs.Carrier.{Told, told, Started, Elapsed, connected, cut, first_sign, is_connection, stands, says_open, is_open, takes_frame, has_sign_room, with_sign, with_octets, with_start, after_start, met_after, after_hello, after_sign, with_item, after_item, read_by, closed_by, after_next, run_out, after_beat, expired, after_ticks}
+use Rattle.line_carriers.specs.Carrier.{Told, told, Started, Elapsed, cut, first_sign, is_connection, stands, says_open, is_open, takes_frame, has_sign_room, with_sign, with_start, after_start, met_after, after_sign, with_item, read_by, closed_by, run_out, after_beat, after_ticks}
 use Rattle.line_carriers.specs.Opening.{Handed, begun, Act, adds, reads, writes, comes, starts, passes, after_act, handed_by, after_acts, signs_form, HasNoOpen, IsQuiet, OpenLaw}
 
 pub signs_form-append : (xs ys : List Sign) → signs_form (xs ++ ys) ≡ signs_form xs ++ signs_form ys

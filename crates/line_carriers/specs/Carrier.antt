@@ -1,5 +1,5 @@
 -- One end of a line over a connection.
-use Rattle.std.specs.Prelude.{ℕ, Bool, true, false, not, ◌&&◌, ◌+◌, ◌-◌, ◌/◌, ◌==◌, List, [], ◌∷◌, ◌++◌, length, take, drop, min, Option, Some, None, Result, Ok, Err, if◌then◌else◌, nat_lt, nat_le}
+use Rattle.std.specs.Prelude.{ℕ, Bool, true, false, not, ◌&&◌, ◌+◌, ◌-◌, ◌/◌, ◌==◌, List, [], ◌++◌, length, take, drop, min, Option, Some, None, Result, Ok, Err, if◌then◌else◌, nat_lt, nat_le}
 use Rattle.octet_rings.specs.Places.{most_octets}
 use Rattle.link_timers.specs.Timers.{lowered, is_due}
 use Rattle.line_carriers.specs.declared.fault.CarrierFault.{CarrierFault}

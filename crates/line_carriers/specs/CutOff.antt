@@ -1,5 +1,5 @@
 -- Both ends of a line over one connection, while one of them has not started.
-use Rattle.std.specs.Prelude.{◌≡◌, ℕ, Bool, false, true, List, [], ◌∷◌, ◌++◌, length, take, drop}
+use Rattle.std.specs.Prelude.{◌≡◌, ℕ, false, true, List, [], ◌∷◌, ◌++◌, take, drop}
 use Rattle.line_carriers.specs.declared.sign.Sign.{Sign}
 use Rattle.line_carriers.specs.declared.carrier.Carrier.{Carrier}
 use Rattle.line_carriers.specs.declared.carrier.Connection.{Connection}

@@ -1,5 +1,5 @@
 -- One end over one connection: what it hands over before the line is open.
-use Rattle.std.specs.Prelude.{◌≡◌, ◌≢◌, ℕ, Bool, true, false, List, [], ◌∷◌, ◌++◌, take, drop, if◌then◌else◌}
+use Rattle.std.specs.Prelude.{◌≡◌, ◌≢◌, ℕ, true, false, List, [], ◌∷◌, ◌++◌, take, drop, if◌then◌else◌}
 use Rattle.line_carriers.specs.declared.sign.Sign.{Sign}
 use Rattle.line_carriers.specs.declared.sign.Sign.TheVariants.{Open}
 use Rattle.line_carriers.specs.declared.carrier.Carrier.{Carrier}

@@ -1,5 +1,5 @@
 -- What is read of the octets that came after the hello.
-use Rattle.std.specs.Prelude.{ℕ, ◌+◌, ◌*◌, ◌==◌, List, [], ◌∷◌, length, take, drop, slice_get, Option, Some, None, Result, Ok, Err, if◌then◌else◌, nat_lt}
+use Rattle.std.specs.Prelude.{ℕ, ◌+◌, ◌==◌, List, length, take, drop, slice_get, Option, Some, None, Result, Ok, Err, if◌then◌else◌, nat_lt}
 use Rattle.octet_rings.specs.Numbers.{number_of}
 use Rattle.line_carriers.specs.declared.fault.CarrierFault.{CarrierFault}
 use Rattle.line_carriers.specs.declared.fault.CarrierFault.TheVariants.{TooLong, UnknownSign}

@@ -1,5 +1,5 @@
 -- What goes over a connection after the hello: frames, and the signs of the line itself.
-use Rattle.std.specs.Prelude.{ℕ, ◌+◌, ◌/◌, ◌%◌, ◌==◌, List, [], ◌∷◌, ◌++◌, length, Option, Some, None, if◌then◌else◌, Bool, nat_lt, nat_le, ◌&&◌}
+use Rattle.std.specs.Prelude.{ℕ, ◌/◌, ◌%◌, ◌==◌, List, [], ◌∷◌, length, Option, Some, None, if◌then◌else◌, Bool, nat_lt, nat_le, ◌&&◌}
 use Rattle.line_carriers.specs.declared.sign.Sign.{Sign}
 use Rattle.line_carriers.specs.declared.sign.Sign.TheVariants.{StillHere, Starting, Ready, Open}
 

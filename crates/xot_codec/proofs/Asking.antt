@@ -1,6 +1,5 @@
 -- A facility field is read facility by facility.
-use Rattle.std.proofs.Common.{◌≡◌, ◌<◌, ℕ, Bool, true, false, cond, eqb, List, [], ◌∷◌, length, min, Result, Ok, Err, refl, sym, ap, ◌∙◌, arith, subst}
-use Rattle.std.proofs.lemmas.Bool.{cases_eq}
+use Rattle.std.proofs.Common.{◌≡◌, ◌<◌, ℕ, Bool, true, false, cond, eqb, List, [], ◌∷◌, length, min, Result, Ok, Err, refl, sym, ap, ◌∙◌, arith}
 use Rattle.xot_codec.specs.declared.facilities.Asked.{Asked}
 use Rattle.xot_codec.specs.declared.facilities.FacilityFault.{FacilityFault}
 use Rattle.xot_codec.specs.declared.facilities.FacilityFault.TheVariants.{NotCarried}

@@ -1,10 +1,8 @@
 -- What is put into a call for a line is taken for it.
-use Rattle.std.proofs.Common.{◌≡◌, ℕ, Bool, true, false, ltb, cond, min, None, Some, Option, refl, sym, ap, ◌∙◌, arith}
+use Rattle.std.proofs.Common.{◌≡◌, Bool, true, false, ltb, cond, min, None, Some, refl, arith}
 use Rattle.std.proofs.lemmas.Bool.Decides.{nat_tests}
-use Rattle.xot_codec.specs.declared.facilities.LineFlow.{LineFlow}
-use Rattle.xot_codec.specs.declared.facilities.FacilityFault.{FacilityFault}
 use Rattle.xot_codec.specs.declared.facilities.FacilityFault.TheVariants.{SmallPackets, SmallWindow}
-use Rattle.xot_codec.specs.Facilities.{put, size_code, refusal}
+use Rattle.xot_codec.specs.Facilities.{size_code}
 use Rattle.xot_codec.specs.Laws.{OwnAreTaken}
 
 neither : (small few : Bool) → small ≡ false → few ≡ false

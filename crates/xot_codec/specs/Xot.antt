@@ -1,5 +1,5 @@
 -- X.25 over TCP (RFC 1613).
-use Rattle.std.specs.Prelude.{ℕ, Bool, true, false, ◌&&◌, ◌+◌, ◌/◌, ◌%◌, ◌==◌, List, [], ◌∷◌, ◌++◌, length, take, drop, slice_get, Option, Some, None, Result, Ok, Err, if◌then◌else◌, nat_lt, nat_le}
+use Rattle.std.specs.Prelude.{ℕ, Bool, true, false, ◌&&◌, ◌+◌, ◌/◌, ◌%◌, ◌==◌, List, [], ◌∷◌, length, take, drop, slice_get, Option, Some, None, Result, Ok, Err, if◌then◌else◌, nat_lt, nat_le}
 use Rattle.octet_rings.specs.Places.{most_octets}
 use Rattle.octet_rings.specs.Numbers.{number_of}
 use Rattle.xot_codec.specs.declared.fault.XotFault.{XotFault}

@@ -1,4 +1,4 @@
-use Rattle.std.proofs.Common.{◌≡◌, length, length-append, arith, ap, ◌∙◌}
+use Rattle.std.proofs.Common.{length, length-append, arith, ap, ◌∙◌}
 use Rattle.std.proofs.lemmas.List.{length-take-le}
 use Rattle.line_carriers.proofs.carrier.Carrier.take_hello.Goals as goal
 

@@ -1,4 +1,4 @@
-use Rattle.std.proofs.Common.{◌≡◌, append_assoc, ◌∙◌, length, length-append, arith, ap}
+use Rattle.std.proofs.Common.{append_assoc, ◌∙◌, length, length-append, arith, ap}
 use Rattle.line_carriers.proofs.hello.Hello.say.Goals as goal
 
 pub returns-clause-form : goal.returns-clause-form
