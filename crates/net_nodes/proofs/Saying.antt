@@ -17,8 +17,8 @@ use Rattle.placed_nodes.specs.Node.{is_host}
 said_of : (channel : ℕ) (octets : List ℕ) (delivery here : Bool) (node : NodeState) → 1 ≤ length octets
     → length octets ≤ (if here then node_room_to_say node channel else 0)
     → (if not (is_pad node)
-        then (if here then refused (event_fault (Says channel octets false delivery) node) else Some NoSuchCall)
-        else Some NoSuchNode) ≡ None
+    then (if here then refused (event_fault (Says channel octets false delivery) node) else Some NoSuchCall)
+    else Some NoSuchNode) ≡ None
 said_of channel octets delivery false node some within = absurd (omega arith)
 said_of channel octets delivery true (Pad p) some within = absurd (omega arith)
 said_of channel octets delivery true (Host e) some within =
@@ -30,9 +30,9 @@ said_at : (channel : ℕ) (s : Network) (octets : List ℕ) (delivery : Bool) (o
 said_at channel s octets delivery None node is some within = absurd (omega arith)
 said_at channel s octets delivery (Some n) node is some within =
     subst (λ (o : Option PlacedNode).
-        (if is_host o
-          then at_node o (λ m. on_channel channel s m (refused (event_fault (Says channel octets false delivery) m.node)))
-          else Some NoSuchNode) ≡ None)
+    (if is_host o
+    then at_node o (λ m. on_channel channel s m (refused (event_fault (Says channel octets false delivery) m.node)))
+    else Some NoSuchNode) ≡ None)
     (sym is) (said_of channel octets delivery (is_channel_at n.line channel s) n.node some within)
 
 pub may_say : (node channel room : ℕ) (s : Network) → room ≡ net_room_to_say node channel s → MaySay node channel room s
