@@ -1,3 +1,4 @@
 mod Made
 mod Standing
 mod Events
+mod Parts
