@@ -22,15 +22,3 @@ put_lines-requires g c =
       there = can.there;
       room = record { empty = c.in_ok-puts-in-Switching.ensures.items; enough = omega (arith, count, lines, places) };
     })
-
-pub returns-clause-switch : goal.returns-clause-switch
-returns-clause-switch g c = λ n is.
-    let p : PlacedSwitch = record { lines = c.in-Switching.own.items; switch = c.in-Switching.switch } in
-    let same : p ≡ n = switch_is p n (ap kind_of (sym c.in-Switching.is) ∙ c.node.view_is ∙ is) in
-    let put = c.put_lines.ensures in
-    record {
-      node_is = ap (λ (t : Switch). Switching (record p { switch = t })) put.switch
-          ∙ ap (λ (x : PlacedSwitch). Switching (record x { switch = switch_drained x.switch })) same;
-      lines_put = subst (λ (x : PlacedSwitch). LinesPut g.L.Line.service false x.lines x.switch c.args.lines.now.items c.put_lines.new.lines.items)
-          (ap (λ (own : List ℕ). record p { lines = own }) c.deref.ensures.value ∙ same) put.lines;
-    }
