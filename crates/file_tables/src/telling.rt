@@ -107,7 +107,7 @@ fn nearest<'a>(
     let mut least = MOST_EDITS + 1;
     for other in known {
         let edits = edits_between(alloc, word, other)?;
-        if edits < least && edits < other.len() {
+        if edits < least && edits < other.len() && *other != word {
             best = Some(*other);
             least = edits;
         }

@@ -1,0 +1,213 @@
+//! Service files with one thing wrong.
+use crate::edits::{Edit, edited};
+use crate::networks::NETWORK;
+use service_files::check_service;
+use std::alloc::AllocError;
+
+const SERVICE: &str = r#"
+network = "network.toml"
+control = "127.0.0.1:7999"
+
+[[terminals]]
+pad = "desk"
+listen = "127.0.0.1:7001"
+last = 3
+
+[[terminals]]
+pad = "desk"
+listen = "127.0.0.1:7002"
+first = 4
+mode = "raw"
+
+[[service]]
+host = "echo"
+builtin = "echo"
+"#;
+
+const FORMS: &[Edit] = &[
+    (
+        "network =",
+        "netwerk =",
+        "no key 'netwerk' is known here (did you mean 'network'?)",
+    ),
+    (
+        r#"network = "network.toml""#,
+        "",
+        "the key 'network' is missing",
+    ),
+    (
+        "[[terminals]]",
+        "[[terminal]]",
+        "no key 'terminal' is known here (did you mean 'terminals'?)",
+    ),
+    (
+        r#"pad = "desk""#,
+        r#"pads = "desk""#,
+        "terminals 0: no key 'pads' is known here (did you mean 'pad'?)",
+    ),
+    (
+        r#"pad = "desk""#,
+        "",
+        "terminals 0: the key 'pad' is missing",
+    ),
+    (
+        "last = 3",
+        "last = -1",
+        "terminals 0: last = -1 has to be a whole number from 0 to 65535, without quotes",
+    ),
+    (
+        r#"mode = "raw""#,
+        r#"mode = "Raw""#,
+        r#"terminals 1: mode = "Raw" has to be one of "telnet" "raw" (did you mean 'raw'?)"#,
+    ),
+    (
+        "last = 3",
+        r#"allow = "10.0.0.0/8""#,
+        r#"terminals 0: allow = "10.0.0.0/8" has to be texts in quotes, between brackets"#,
+    ),
+    (
+        "last = 3",
+        r#"allow = ["10.0.0.0"]"#,
+        r#"terminals 0: allow = "10.0.0.0" has to be an IP address, / and how many bits of it count, as 10.0.0.0/8"#,
+    ),
+    (
+        "last = 3",
+        r#"allow = ["10.0.0.0/33"]"#,
+        r#"terminals 0: allow = "10.0.0.0/33" has to be an IP address, / and how many bits of it count, as 10.0.0.0/8"#,
+    ),
+    (
+        "127.0.0.1:7001",
+        "localhost:7001",
+        r#"terminals 0: listen = "localhost:7001" has to be an IP address and a port, as 127.0.0.1:7001"#,
+    ),
+    (
+        "127.0.0.1:7999",
+        "127.0.0.1",
+        r#"control = "127.0.0.1" has to be an IP address and a port, as 127.0.0.1:7001"#,
+    ),
+    (
+        r#"builtin = "echo""#,
+        r#"builtin = "ekko""#,
+        r#"service 0: builtin = "ekko" has to be one of "echo" "time" "discard" (did you mean 'echo'?)"#,
+    ),
+    (
+        r#"builtin = "echo""#,
+        "",
+        "service 0: the key 'builtin' is missing",
+    ),
+    (
+        r#"builtin = "echo""#,
+        r#"connect = "127.0.0.1:8001""#,
+        "service 0: connect cannot be had yet",
+    ),
+    (
+        "[[service]]",
+        "[limits]\nconnections = 2000\n\n[[service]]",
+        "limits: connections = 2000 has to be a whole number from 0 to 1024, without quotes",
+    ),
+    (
+        "[[service]]",
+        "[web]\n\n[[service]]",
+        "web cannot be had yet",
+    ),
+    (
+        "[[service]]",
+        "[capture]\n\n[[service]]",
+        "capture cannot be had yet",
+    ),
+    (
+        "[[service]]",
+        "[[line]]\n\n[[service]]",
+        "line cannot be had yet",
+    ),
+    (
+        "[[service]]",
+        "[[caller]]\n\n[[service]]",
+        "caller cannot be had yet",
+    ),
+];
+
+const RULES: &[Edit] = &[
+    (
+        "nothing",
+        "",
+        "terminals 0 to 3 of desk at 127.0.0.1:7001\nterminals 4 to 7 of desk at 127.0.0.1:7002\nhost echo: builtin echo\ncontrol at 127.0.0.1:7999\nat most 64 connections",
+    ),
+    (
+        r#"pad = "desk""#,
+        r#"pad = "dask""#,
+        r#"terminals 0: pad = "dask" is no node (did you mean 'desk'?)"#,
+    ),
+    (
+        r#"pad = "desk""#,
+        r#"pad = "echo""#,
+        r#"terminals 0: pad = "echo" is no PAD"#,
+    ),
+    (
+        "first = 4",
+        "first = 8",
+        "terminals 1: first = 8 is no terminal of 'desk', which has 8, counted from 0",
+    ),
+    (
+        "last = 3",
+        "last = 8",
+        "terminals 0: last = 8 is no terminal of 'desk' from first = 0 on; it has 8, counted from 0",
+    ),
+    (
+        "last = 3",
+        "last = 4",
+        "terminals 0: a terminal of 'desk' stands in another table too",
+    ),
+    (
+        "127.0.0.1:7002",
+        "127.0.0.1:7001",
+        r#"terminals 0: listen = "127.0.0.1:7001" stands in another table too, or is control"#,
+    ),
+    (
+        "127.0.0.1:7999",
+        "127.0.0.1:7002",
+        r#"terminals 1: listen = "127.0.0.1:7002" stands in another table too, or is control"#,
+    ),
+    (
+        "first = 4",
+        "first = 4\ngreeting = \"Hello\"",
+        r#"terminals 1: a greeting is for mode = "telnet" alone"#,
+    ),
+    (
+        "127.0.0.1:7001",
+        "0.0.0.0:7001",
+        r#"terminals 0: listen = "0.0.0.0:7001" is beyond this machine, and allow has to say who may connect"#,
+    ),
+    (
+        r#"host = "echo""#,
+        r#"host = "ekho""#,
+        r#"service 0: host = "ekho" is no node (did you mean 'echo'?)"#,
+    ),
+    (
+        r#"host = "echo""#,
+        r#"host = "tower""#,
+        r#"service 0: host = "tower" is no host"#,
+    ),
+    (
+        "[[service]]",
+        "[[service]]\nhost = \"echo\"\nbuiltin = \"time\"\n\n[[service]]",
+        "service 0: 'echo' has another service too",
+    ),
+    (
+        "127.0.0.1:7999",
+        "192.0.2.1:7999",
+        "control has to be an address of this machine alone, as 127.0.0.1:7999",
+    ),
+];
+
+#[test]
+fn each_is_told(rt: HostRuntime) -> Result<(), AllocError> {
+    for rows in [FORMS, RULES] {
+        for (old, new, told) in rows {
+            let text = edited(rt.alloc(), SERVICE, old, new)?;
+            let checked = check_service(rt.alloc(), text.as_bytes(), NETWORK.as_bytes())?;
+            assert_eq!(rt; checked.text.trim_end(), *told);
+        }
+    }
+    Ok(())
+}

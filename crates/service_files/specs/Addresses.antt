@@ -1,0 +1,41 @@
+-- Addresses of this machine, and addresses that are the same.
+use Rattle.std.specs.Prelude.{ℕ, Bool, true, false, ◌==◌, ◌&&◌, ◌/◌, ◌-◌, ◌^◌, nat_lt, if◌then◌else◌}
+use Rattle.std.specs.declared.net.ip_addr.IpAddr.{IpAddr}
+use Rattle.std.specs.declared.net.ip_addr.IpAddr.TheVariants as ip
+use Rattle.std.specs.declared.net.socket_addr.SocketAddr.{SocketAddr}
+use Rattle.std.specs.Net.Addr.{ipv4_bits, ipv6_bits}
+use Rattle.std.specs.Net.Socket.{socket_ip, socket_port}
+
+-- how many bits an address has
+abbrev pub width : IpAddr → ℕ
+width (ip.V4 address) = 32
+width (ip.V6 address) = 128
+
+abbrev pub bits_of : IpAddr → ℕ
+bits_of (ip.V4 address) = ipv4_bits address
+bits_of (ip.V6 address) = ipv6_bits address
+
+-- the first bits of an address, none if all 128 are left out
+abbrev pub first_bits : IpAddr → (length : ℕ) → ℕ
+first_bits address length =
+    if nat_lt (width address - length) 128 then bits_of address / 2 ^ (width address - length) else 0
+
+-- the address is of the same kind as the prefix, and begins with its first bits
+abbrev pub has_first_bits : (prefix : IpAddr) → (length : ℕ) → IpAddr → Bool
+has_first_bits prefix length address =
+    (width address == width prefix) && (first_bits address length == first_bits prefix length)
+
+-- an address of this machine alone: one of 127.0.0.0/8, or ::1
+abbrev pub is_here : IpAddr → Bool
+is_here (ip.V4 address) = (ipv4_bits address / 16777216) == 127
+is_here (ip.V6 address) = ipv6_bits address == 1
+
+abbrev pub same_address : IpAddr → IpAddr → Bool
+same_address (ip.V4 one) (ip.V4 other) = ipv4_bits one == ipv4_bits other
+same_address (ip.V4 one) (ip.V6 other) = false
+same_address (ip.V6 one) (ip.V4 other) = false
+same_address (ip.V6 one) (ip.V6 other) = ipv6_bits one == ipv6_bits other
+
+-- the same port of the same address
+abbrev pub same_place : SocketAddr → SocketAddr → Bool
+same_place one other = (socket_port one == socket_port other) && same_address (socket_ip one) (socket_ip other)

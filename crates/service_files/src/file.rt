@@ -1,0 +1,59 @@
+//! What a service file says. Its texts lie in the document that it was read from.
+use crate::addresses::Allow;
+use std::net::SocketAddr;
+
+/// How octets of a client are taken.
+#[derive(Clone, Copy)]
+pub enum Mode {
+    /// By the telnet protocol.
+    Telnet,
+    /// Every octet is a key.
+    Raw,
+}
+
+/// A service of `x25d` itself.
+#[derive(Clone, Copy)]
+pub enum BuiltIn {
+    /// It says what it hears.
+    Echo,
+    /// It says the time and clears the call.
+    Time,
+    /// It takes what comes and says nothing.
+    Discard,
+}
+
+/// A port on which terminals of a PAD are had.
+#[derive(Clone, Copy)]
+pub struct TerminalsTable<'a> {
+    pub pad: &'a str,
+    pub listen: SocketAddr,
+    pub first: u16,
+    /// None: the PAD's last one.
+    pub last: Option<u16>,
+    pub mode: Mode,
+    pub greeting: Option<&'a str>,
+    /// How many ticks without an octet either way end the connection; 0: none do.
+    pub idle: u16,
+    pub allow: Allow<'a>,
+}
+
+/// What an incoming call at a host is.
+#[derive(Clone, Copy)]
+pub struct ServiceTable<'a> {
+    pub host: &'a str,
+    pub builtin: BuiltIn,
+}
+
+/// What a service file says.
+#[derive(Drop)]
+pub struct ServiceFile<'a> {
+    /// The name of the network's file, beside this one.
+    pub network: &'a str,
+    pub control: Option<SocketAddr>,
+    /// The name of the file that the log is appended to; none: standard error.
+    pub log: Option<&'a str>,
+    /// How many connections there may be at once.
+    pub connections: u16,
+    pub terminals: Vec<TerminalsTable<'a>>,
+    pub services: Vec<ServiceTable<'a>>,
+}
