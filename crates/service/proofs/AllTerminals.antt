@@ -1,0 +1,268 @@
+-- All terminals, and a round.
+use Rattle.std.proofs.Common.{◌≡◌, ◌≢◌, ◌⊎◌, ℕ, Bool, true, false, ◌||◌, List, [], ◌∷◌, ◌++◌, ◌<◌, ◌+◌, length, set, slice_get, Option, Some, None, refl, sym, ap, ◌∙◌, arith, inl, inr, append_assoc, subst, get_or, zero, suc}
+use Rattle.std.proofs.Math.ListN.{length-set}
+use Rattle.std.proofs.lemmas.Bool.{cases_eq}
+use Rattle.std.proofs.lemmas.Option.{slice_get_within}
+use Rattle.circular_buffer.proofs.Places.{slice_get-set_same, slice_get-set_other}
+use Rattle.frame_lines.specs.declared.line.Direction.{Direction}
+use Rattle.frame_lines.specs.declared.line.Direction.TheVariants.{FromDte, FromDce}
+use Rattle.frame_lines.specs.Lines.{LineService}
+use Rattle.net_events.specs.declared.event.Event.{Event}
+use Rattle.net_events.specs.declared.event.Event.TheVariants.{Deliver}
+use Rattle.net_events.specs.Network.{Network}
+use Rattle.net_nodes.specs.Due.{net_due}
+use Rattle.service.specs.declared.terminal.Terminal.{Terminal}
+use Rattle.service.specs.Steps.{Step, Steps, HasTried, AreIdle, IsSilent, Does, PassesBy, Passes, is_at_terminal}
+use Rattle.service.specs.Serving.{IsServed, Wishes, Serves, WorksBy, ServesBelow, DeliversBelow, Expires, NoneIsDue, is_expiry, Rests, Works}
+use Rattle.service.proofs.Stepping.{steps-append, silent-none, idle-append, tried-left, tried-right, tried_step, neither_left, neither_right, passes_by-then, passes_step}
+use Rattle.service.proofs.Served.{served_silent, served_then}
+
+-- ---- all terminals
+
+pub works_by-none : (L : LineService) (pad : ℕ) (s : Network) (terminals : List Terminal) → WorksBy L pad [] s s terminals terminals
+works_by-none L pad s terminals = record {
+  made = refl;
+  count = refl;
+  each = λ number p there. (p, there, served_silent pad number [] p (silent-none pad number));
+}
+
+pub works_by-then : (L : LineService) (pad : ℕ) (xs ys : List Step) (s m t : Network) (before between after : List Terminal)
+    → WorksBy L pad xs s m before between → WorksBy L pad ys m t between after → WorksBy L pad (xs ++ ys) s t before after
+works_by-then L pad xs ys s m t before between after one two = record {
+  made = steps-append L s m t xs ys one.made two.made;
+  count = two.count ∙ one.count;
+  each = λ number p there.
+      let first = one.each number p there in
+      let second = two.each number first.0 first.1 in
+      (second.0, second.1, served_then pad number xs ys p first.0 second.0 first.2 second.2);
+}
+
+-- steps that are nothing at any terminal
+pub works_by-pass : (L : LineService) (pad : ℕ) (steps : List Step) (more : Bool) (s t : Network) (terminals : List Terminal)
+    → PassesBy L steps more s t → WorksBy L pad steps s t terminals terminals
+works_by-pass L pad steps more s t terminals passes = record {
+  made = passes.made;
+  count = refl;
+  each = λ number p there. (p, there, served_silent pad number steps p (passes.silent pad number));
+}
+
+one_at : (L : LineService) (pad number : ℕ) (Wish : Terminal → Event → Type 0) (more : Bool) (s t : Network) (p q : Terminal) (terminals : List Terminal)
+    (one : Serves L pad number Wish more s t p q) → slice_get terminals number ≡ Some p → (other : ℕ) (r : Terminal) → slice_get terminals other ≡ Some r
+    → (after : Terminal) × (slice_get (set terminals number q) other ≡ Some after) × IsServed pad other one.steps r after
+one_at L pad number Wish more s t p q terminals one there other r is = elim (cases_eq other number) [
+  | inl e ↦
+      let at : slice_get terminals number ≡ Some r = ap (λ n. slice_get terminals n) (sym e) ∙ is in
+      let same_terminal : p ≡ r = cc in (
+        q,
+        ap (λ n. slice_get (set terminals number q) n) e ∙ slice_get-set_same terminals number q (slice_get_within terminals number p there),
+        subst (λ n. IsServed pad n one.steps r q) (sym e) (subst (λ (x : Terminal). IsServed pad number one.steps x q) same_terminal one.served),
+      )
+  | inr apart ↦
+      (r, slice_get-set_other terminals number other q apart ∙ is, served_silent pad other one.steps r (one.silent other apart))
+]
+
+works_by-one : (L : LineService) (pad number : ℕ) (Wish : Terminal → Event → Type 0) (more : Bool) (s t : Network) (p q : Terminal) (terminals : List Terminal)
+    (one : Serves L pad number Wish more s t p q) → slice_get terminals number ≡ Some p → WorksBy L pad one.steps s t terminals (set terminals number q)
+works_by-one L pad number Wish more s t p q terminals one there = record {
+  made = one.made;
+  count = length-set terminals number q;
+  each = λ other r is. one_at L pad number Wish more s t p q terminals one there other r is;
+}
+
+set_same : (terminals : List Terminal) (number : ℕ) (p : Terminal) → slice_get terminals number ≡ Some p → set terminals number p ≡ terminals
+set_same [] number p there = cc
+set_same (q ∷ terminals) zero p there = let is : p ≡ q = cc in ap (λ r. r ∷ terminals) is
+set_same (q ∷ terminals) (suc number) p there = ap (λ rest. q ∷ rest) (set_same terminals number p there)
+
+pub below_none : (L : LineService) (pad : ℕ) (s : Network) (terminals : List Terminal) → ServesBelow L pad 0 false s s terminals terminals
+below_none L pad s terminals = record {
+  steps = [];
+  works = works_by-none L pad s terminals;
+  same = λ none. refl;
+  idle = λ none. refl;
+  tried = λ none number q event below there wish. absurd (omega arith);
+}
+
+-- what the terminals below the next number wish
+tried_below : (pad number : ℕ) (xs ys : List Step) (q : Terminal) (between : List Terminal) (p : Terminal)
+    → slice_get between number ≡ Some p
+    → ((other : ℕ) (r : Terminal) (event : Event) → other < number → slice_get between other ≡ Some r → Wishes pad other r event → HasTried event xs)
+    → ((event : Event) → Wishes pad number q event → HasTried event ys)
+    → (other : ℕ) (r : Terminal) (event : Event) → other < number + 1 → slice_get (set between number q) other ≡ Some r → Wishes pad other r event
+    → HasTried event (xs ++ ys)
+tried_below pad number xs ys q between p there before here other r event below is wish = elim (cases_eq other number) [
+  | inl e ↦
+      let at : slice_get (set between number q) number ≡ Some q = slice_get-set_same between number q (slice_get_within between number p there) in
+      let found : slice_get (set between number q) number ≡ Some r = ap (λ n. slice_get (set between number q) n) (sym e) ∙ is in
+      let same_terminal : r ≡ q = cc in
+      tried-right event xs ys (here event (subst (λ n. Wishes pad n q event) e (subst (λ (x : Terminal). Wishes pad other x event) same_terminal wish)))
+  | inr apart ↦
+      let lower : other < number = omega arith in
+      tried-left event xs ys (before other r event lower (sym (slice_get-set_other between number other q apart) ∙ is) wish)
+]
+
+pub below_more : (L : LineService) (pad number : ℕ) (any done : Bool) (s m t : Network) (before between : List Terminal) (p q : Terminal)
+    → ServesBelow L pad number any s m before between → Serves L pad number (Wishes pad number) done m t p q → slice_get between number ≡ Some p
+    → ServesBelow L pad (number + 1) (any || done) s t before (set between number q)
+below_more L pad number any done s m t before between p q one two there = record {
+  steps = one.steps ++ two.steps;
+  works = works_by-then L pad one.steps two.steps s m t before between (set between number q) one.works
+      (works_by-one L pad number (Wishes pad number) done m t p q between two there);
+  same = λ none.
+      ap (λ r. set between number r) (two.same (neither_right any done none))
+      ∙ set_same between number p there
+      ∙ one.same (neither_left any done none);
+  idle = λ none. idle-append one.steps two.steps (one.idle (neither_left any done none)) (two.idle (neither_right any done none));
+  tried = λ none. tried_below pad number one.steps two.steps q between p there (one.tried (neither_left any done none)) (two.tried (neither_right any done none));
+}
+
+-- an element that is read at its place is there
+pub there_at : (terminals : List Terminal) (place : ℕ) (p : Terminal) → place < length terminals → p ≡ get_or terminals place p
+    → slice_get terminals place ≡ Some p
+there_at [] place p within is = absurd (omega arith)
+there_at (q ∷ terminals) zero p within is = ap Some (sym is)
+there_at (q ∷ terminals) (suc place) p within is = there_at terminals place p (omega arith) is
+
+-- ---- all lines
+
+pub delivers_none : (L : LineService) (s : Network) → DeliversBelow L 0 false s s
+delivers_none L s = record {
+  steps = [];
+  passes = record { made = refl; silent = λ pad number. silent-none pad number; idle = λ none. refl };
+  tried = λ none line direction below. absurd (omega arith);
+}
+
+delivered : (line other : ℕ) (direction : Direction) (xs ys zs : List Step) → (other ≡ line) ⊎ HasTried (Deliver other direction) xs
+    → HasTried (Deliver line FromDte) ys → HasTried (Deliver line FromDce) zs → HasTried (Deliver other direction) (xs ++ (ys ++ zs))
+delivered line other direction xs ys zs (inr before) from_dte from_dce = tried-left (Deliver other direction) xs (ys ++ zs) before
+delivered line other FromDte xs ys zs (inl e) from_dte from_dce =
+    tried-right (Deliver other FromDte) xs (ys ++ zs) (tried-left (Deliver other FromDte) ys zs
+    (subst (λ n. HasTried (Deliver n FromDte) ys) (sym e) from_dte))
+delivered line other FromDce xs ys zs (inl e) from_dte from_dce =
+    tried-right (Deliver other FromDce) xs (ys ++ zs) (tried-right (Deliver other FromDce) ys zs
+    (subst (λ n. HasTried (Deliver n FromDce) zs) (sym e) from_dce))
+
+here_or_below : (other line : ℕ) (P : Type 0) → (other < line → P) → other < line + 1 → (other ≡ line) ⊎ P
+here_or_below other line P before below = elim (cases_eq other line) [
+  | inl e ↦ inl e
+  | inr apart ↦ let lower : other < line = omega arith in inr (before lower)
+]
+
+pub delivers_more : (L : LineService) (line : ℕ) (any dte dce : Bool) (s m n t : Network) → DeliversBelow L line any s m
+    → Does L (Deliver line FromDte) dte m n → Does L (Deliver line FromDce) dce n t → DeliversBelow L (line + 1) (any || (dte || dce)) s t
+delivers_more L line any dte dce s m n t one from_dte from_dce =
+    let ys : List Step = record { event = Deliver line FromDte; answer = from_dte.answer } ∷ [] in
+    let zs : List Step = record { event = Deliver line FromDce; answer = from_dce.answer } ∷ [] in
+    record {
+      steps = one.steps ++ (ys ++ zs);
+      passes = passes_by-then L any (dte || dce) (any || (dte || dce)) s m t one.steps (ys ++ zs)
+          (λ none. neither_left any (dte || dce) none) (λ none. neither_right any (dte || dce) none) one.passes
+          (passes_by-then L dte dce (dte || dce) m n t ys zs (λ none. neither_left dte dce none) (λ none. neither_right dte dce none)
+          (passes_step L (Deliver line FromDte) dte m n refl from_dte) (passes_step L (Deliver line FromDce) dce n t refl from_dce));
+      tried = λ none other direction below.
+          delivered line other direction one.steps ys zs
+          (here_or_below other line (HasTried (Deliver other direction) one.steps)
+          (one.tried (neither_left any (dte || dce) none) other direction) below)
+          (tried_step (Deliver line FromDte) (Deliver line FromDte) from_dte.answer refl)
+          (tried_step (Deliver line FromDce) (Deliver line FromDce) from_dce.answer refl);
+    }
+
+-- ---- the timer that is due
+
+pub expires_none : (L : LineService) (s : Network) → net_due s ≡ None → Expires L false s s
+expires_none L s due = record {
+  steps = [];
+  passes = record { made = refl; silent = λ pad number. silent-none pad number; idle = λ none. refl };
+  none = λ none. inl due;
+}
+
+pub expires_one : (L : LineService) (event : Event) (done : Bool) (s t : Network) → is_at_terminal event ≡ false → is_expiry event ≡ true
+    → Does L event done s t → Expires L done s t
+expires_one L event done s t other expiry does = record {
+  steps = record { event = event; answer = does.answer } ∷ [];
+  passes = passes_step L event done s t other does;
+  none = λ none. inr (event, expiry, tried_step event event does.answer refl);
+}
+
+-- ---- a round
+
+within_before : (number : ℕ) (q : Terminal) (after before : List Terminal) → slice_get after number ≡ Some q → length after ≡ length before
+    → number < length before
+within_before number q after before there count =
+    let within = slice_get_within after number q there in
+    omega arith
+
+due_among : (xs ys zs ws : List Step) (t : Network) → NoneIsDue t ws → NoneIsDue t (xs ++ (ys ++ (zs ++ ws)))
+due_among xs ys zs ws t (inl none) = inl none
+due_among xs ys zs ws t (inr one) =
+    inr (one.0, one.1, tried-right one.0 xs (ys ++ (zs ++ ws)) (tried-right one.0 ys (zs ++ ws) (tried-right one.0 zs ws one.2)))
+
+pub rounds : (L : LineService) (pad lines : ℕ) (served called moved expired more : Bool) (s a b c t : Network) (before after : List Terminal)
+    → (more ≡ false → (served ≡ false) × (called ≡ false) × (moved ≡ false) × (expired ≡ false))
+    → ServesBelow L pad (length before) served s a before after → Passes L called a b → DeliversBelow L lines moved b c → Expires L expired c t
+    → Works L pad lines more s t before after
+rounds L pad lines served called moved expired more s a b c t before after nothing one two three four =
+    let xs = one.steps in
+    let ys = two.0 in
+    let zs = three.steps in
+    let ws = four.steps in
+    let last_two = passes_by-then L moved expired more b c t zs ws (λ none. (nothing none).2) (λ none. (nothing none).3) three.passes four.passes in
+    let last_three = passes_by-then L called more more a b t ys (zs ++ ws) (λ none. (nothing none).1) (λ none. none) two.1 last_two in
+    record {
+      steps = [];
+      last = xs ++ (ys ++ (zs ++ ws));
+      works = works_by-then L pad xs (ys ++ (zs ++ ws)) s a t before after after one.works (works_by-pass L pad (ys ++ (zs ++ ws)) more a t after last_three);
+      rests = λ none. record {
+        idle = idle-append xs (ys ++ (zs ++ ws)) (one.idle (nothing none).0) (last_three.idle none);
+        terminals_tried = λ number q event there wish. tried-left event xs (ys ++ (zs ++ ws))
+            (one.tried (nothing none).0 number q event (within_before number q after before there one.works.count) there wish);
+        lines_tried = λ line direction below. tried-right (Deliver line direction) xs (ys ++ (zs ++ ws))
+            (tried-right (Deliver line direction) ys (zs ++ ws) (tried-left (Deliver line direction) zs ws (three.tried (nothing none).2 line direction below)));
+        none_is_due = due_among xs ys zs ws t (four.none (nothing none).3);
+      };
+    }
+
+-- ---- round after round
+
+pub works_start : (L : LineService) (pad lines : ℕ) (s : Network) (terminals : List Terminal) → Works L pad lines true s s terminals terminals
+works_start L pad lines s terminals = record {
+  steps = [];
+  last = [];
+  works = works_by-none L pad s terminals;
+  rests = λ none. cc;
+}
+
+pub works_then : (L : LineService) (pad lines : ℕ) (more : Bool) (s m t : Network) (before between after : List Terminal)
+    → Works L pad lines true s m before between → Works L pad lines more m t between after → Works L pad lines more s t before after
+works_then L pad lines more s m t before between after one two = record {
+  steps = (one.steps ++ one.last) ++ two.steps;
+  last = two.last;
+  works = subst (λ steps. WorksBy L pad steps s t before after) (sym (append_assoc (one.steps ++ one.last) two.steps two.last))
+      (works_by-then L pad (one.steps ++ one.last) (two.steps ++ two.last) s m t before between after one.works two.works);
+  rests = two.rests;
+}
+
+pub works_on : (L : LineService) (pad lines here there : ℕ) (done more : Bool) (s m t : Network) (before between after : List Terminal)
+    → here ≡ pad → there ≡ lines → done ≡ more → Works L pad lines true s m before between → Works L here there done m t between after
+    → Works L pad lines more s t before after
+works_on L pad lines here there done more s m t before between after pad_is lines_is more_is one two =
+    works_then L pad lines more s m t before between after one
+    (subst (λ b. Works L pad lines b m t between after) more_is
+    (subst (λ n. Works L pad n done m t between after) lines_is
+    (subst (λ n. Works L n there done m t between after) pad_is two)))
+
+pub below_all : (L : LineService) (pad below all : ℕ) (more : Bool) (s t : Network) (before after : List Terminal) → below ≡ all
+    → ServesBelow L pad below more s t before after → ServesBelow L pad all more s t before after
+below_all L pad below all more s t before after is serves = subst (λ n. ServesBelow L pad n more s t before after) is serves
+
+pub delivers_all : (L : LineService) (below all : ℕ) (more : Bool) (s t : Network) → below ≡ all → DeliversBelow L below more s t
+    → DeliversBelow L all more s t
+delivers_all L below all more s t is delivers = subst (λ n. DeliversBelow L n more s t) is delivers
+
+-- what a round found, of which each part is a test
+pub round_none : (a b c d : Bool) → (((a || b) || c) || d) ≡ false → (a ≡ false) × (b ≡ false) × (c ≡ false) × (d ≡ false)
+round_none false false false false none = (refl, refl, refl, refl)
+round_none true b c d none = cc
+round_none false true c d none = cc
+round_none false false true d none = cc
+round_none false false false true none = cc

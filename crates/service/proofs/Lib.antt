@@ -1,0 +1,6 @@
+pub mod Stepping
+pub mod Served
+pub mod AllTerminals
+pub mod Heard
+pub mod Clients
+pub mod Ports

@@ -1,0 +1,17 @@
+use Rattle.std.proofs.Common.{refl, ◌∙◌, true, false}
+use Rattle.service.proofs.AllTerminals.{works_start, works_then, works_on}
+use Rattle.service.proofs.service.Service.work.Goals as goal
+
+pub loop-init : goal.loop-init
+loop-init g c = record { works = works_start g.L.Line.service _ _ _ _; pad = refl; lines = refl }
+
+pub loop-preserved : goal.loop-preserved
+loop-preserved g c = record {
+  works = works_on g.L.Line.service _ _ _ _ c.round.result true _ _ _ _ _ _ c.loop.invariant.pad c.loop.invariant.lines c.if-not-round.false c.loop.invariant.works c.round.ensures.works;
+  pad = c.round.ensures.pad ∙ c.loop.invariant.pad;
+  lines = c.round.ensures.lines ∙ c.loop.invariant.lines;
+}
+
+pub returns-then-not-round-clause-works : goal.returns-then-not-round-clause-works
+returns-then-not-round-clause-works g c =
+    works_on g.L.Line.service _ _ _ _ c.round.result false _ _ _ _ _ _ c.loop.invariant.pad c.loop.invariant.lines c.if-not-round.true c.loop.invariant.works c.round.ensures.works

@@ -1,0 +1,5 @@
+pub mod Terminals
+pub mod Orders
+pub mod Steps
+pub mod Serving
+pub mod Clients

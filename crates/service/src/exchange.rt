@@ -1,0 +1,334 @@
+//! A network and the built-in services of its hosts.
+ghost use Rattle.std.specs.Prelude.{◌≡◌, false};
+ghost use Rattle.net_events.specs.declared.event.Event.TheVariants.{AtTerminal, Deliver};
+ghost use Rattle.service.specs.Steps.{Does, Passes, is_at_terminal, is_idle_answer, is_idle_outcome, key_event, presence_event};
+ghost use Rattle.service.specs.Serving.{DeliversBelow, Expires, Serves, WishesKey, WishesPresence, WishesText};
+
+use crate::builtin::Turn;
+use crate::hosts::{HostChannel, Hosts};
+use crate::terminal::{Presence, Terminal};
+use clock_texts::utc_text;
+use line_sim::{Answer, Direction, Event, HostRequest, Line, Outcome, PadAnswer, TerminalEvent};
+use live_net::LiveNet;
+use service_ports::Key;
+use std::alloc::{AllocError, Global};
+
+/// A network, the built-in services of its hosts, and the time.
+#[derive(Drop)]
+pub(crate) struct Exchange<L: Line> {
+    pub(crate) alloc: Global,
+    pub(crate) net: LiveNet<L>,
+    pub(crate) hosts: Hosts,
+    pub(crate) seconds: i64,
+}
+
+#[tactic(auto, using(crate::proofs::Stepping::passes_none))]
+impl<L: Line> Exchange<L> {
+    /// Lets an event happen of which only the notes are wanted, and says whether it did anything.
+    fn happen(&mut self, event: &Event) -> bool
+        ensures does { Does L.service event.now result self.old.net self.new.net }
+        ensures passes { is_at_terminal event.now ≡ false → Passes L.service result self.old.net self.new.net }
+    {
+        match self.net.step(event) {
+            Ok(answer) => {
+                self.hosts.hear(answer.notes.as_slice());
+                !is_idle(answer)
+            }
+            Err(_) => false,
+        }
+    }
+
+    /// Tells a PAD who is at a terminal, if it was not told yet, and says whether there was anything to tell.
+    pub(crate) fn tell(&mut self, pad: usize, number: u16, terminal: &mut Terminal) -> bool
+        ensures { Serves L.service pad number (WishesPresence pad number) result self.old.net self.new.net
+            terminal.old terminal.new }
+    {
+        let Some(presence) = terminal.untold else {
+            return false;
+        };
+        if !self.happen(&at_terminal(pad, number, presence_event(presence))) {
+            return false;
+        }
+        terminal.untold = None;
+        true
+    }
+
+    /// Types the next key of a terminal, and says whether there was one that could be typed, or that others gave way to.
+    pub(crate) fn type_next(&mut self, pad: usize, number: u16, terminal: &mut Terminal) -> bool
+        ensures { Serves L.service pad number (WishesKey pad number) result self.old.net self.new.net
+            terminal.old terminal.new }
+    {
+        let Some(key) = terminal.next_key() else {
+            return false;
+        };
+        if self.happen(&at_terminal(pad, number, key_event(key))) {
+            terminal.typed();
+            return true;
+        }
+        terminal.overtake()
+    }
+
+    /// Shows what waits at a terminal, if a client is there to whom it can be shown, and says whether there was
+    /// anything.
+    pub(crate) fn show_next(&mut self, pad: usize, number: u16, terminal: &mut Terminal) -> bool
+        ensures { Serves L.service pad number (WishesText pad number) result self.old.net self.new.net
+            terminal.old terminal.new }
+    {
+        if !terminal.may_show() {
+            return false;
+        }
+        match self
+            .net
+            .step(&at_terminal(pad, number, TerminalEvent::Print))
+        {
+            Ok(answer) => {
+                self.hosts.hear(answer.notes.as_slice());
+                if is_idle(answer) {
+                    return false;
+                }
+                terminal.show(answer.text.as_slice());
+                true
+            }
+            Err(_) => false,
+        }
+    }
+
+    /// Does what is to be done next in each call.
+    pub(crate) fn serve_calls(&mut self) -> bool
+        ensures { Passes L.service result self.old.net self.new.net }
+    {
+        let mut any = false;
+        for host in 0..self.hosts.len() {
+            for place in 0..self.hosts.channels(host) {
+                let done = self.serve_call(host, place);
+                any |= done;
+            }
+        }
+        any
+    }
+
+    fn serve_call(&mut self, host: usize, place: u8) -> bool
+        ensures { Passes L.service result self.old.net self.new.net }
+    {
+        let Some((at, turn)) = self.hosts.turn(host, place) else {
+            return false;
+        };
+        match turn {
+            Turn::Rest => false,
+            Turn::Answer => self.answer(at),
+            Turn::Take => self.take_next(at),
+            Turn::SayHeld => self.say_held(at),
+            Turn::SayTime => self.say_time(at),
+            Turn::AwaitConfirmation => self.clear_if_confirmed(at),
+            Turn::Clear => self.clear(at),
+        }
+    }
+
+    /// Answers a call.
+    fn answer(&mut self, at: HostChannel) -> bool
+        ensures { Passes L.service result self.old.net self.new.net }
+    {
+        let done = self.ask(at, HostRequest::Answer);
+        if let Some(call) = self.hosts.call_mut(at) {
+            call.answered(done);
+        }
+        done
+    }
+
+    /// Says what is held as one message, if the host takes it.
+    fn say_held(&mut self, at: HostChannel) -> bool
+        ensures { Passes L.service result self.old.net self.new.net }
+    {
+        let Some(call) = self.hosts.call_mut(at) else {
+            return false;
+        };
+        let octets = call.lend_held(self.alloc);
+        let event = say(at, octets, false);
+        let said = self.happen(&event);
+        if let Some(call) = self.hosts.call_mut(at) {
+            call.give_back(octets_of(self.alloc, event), said);
+        }
+        said
+    }
+
+    /// Says the time, and asks that it is confirmed.
+    fn say_time(&mut self, at: HostChannel) -> bool
+        ensures { Passes L.service result self.old.net self.new.net }
+    {
+        let Ok(text) = time_message(self.alloc, self.seconds) else {
+            return false;
+        };
+        if !self.happen(&say(at, text, true)) {
+            return false;
+        }
+        if let Some(call) = self.hosts.call_mut(at) {
+            call.said_all();
+        }
+        true
+    }
+
+    /// Clears a call once all that was said is confirmed.
+    fn clear_if_confirmed(&mut self, at: HostChannel) -> bool
+        ensures { Passes L.service result self.old.net self.new.net }
+    {
+        if !self.net.confirmed(at.node, u16::from(at.channel)) {
+            return false;
+        }
+        self.clear(at)
+    }
+
+    /// Clears a call.
+    fn clear(&mut self, at: HostChannel) -> bool
+        ensures { Passes L.service result self.old.net self.new.net }
+    {
+        let done = self.ask(at, HostRequest::Clear);
+        if let Some(call) = self.hosts.call_mut(at) {
+            call.end();
+        }
+        done
+    }
+
+    /// Asks something of the call of a channel, and says whether that was done.
+    fn ask(&mut self, at: HostChannel, request: HostRequest) -> bool
+        ensures { Passes L.service result self.old.net self.new.net }
+    {
+        let event = Event::Ask {
+            node: at.node,
+            channel: u16::from(at.channel),
+            request,
+        };
+        self.happen(&event)
+    }
+
+    /// Takes what comes next on a channel, and says whether there was anything. What is qualified, and interrupts, are
+    /// dropped.
+    fn take_next(&mut self, at: HostChannel) -> bool
+        ensures { Passes L.service result self.old.net self.new.net }
+    {
+        let event = Event::Take {
+            node: at.node,
+            channel: u16::from(at.channel),
+        };
+        match self.net.step(&event) {
+            Ok(answer) => {
+                self.hosts.hear(answer.notes.as_slice());
+                self.hosts.take(at, &answer.outcome, answer.text.as_slice());
+                !is_idle(answer)
+            }
+            Err(_) => false,
+        }
+    }
+
+    /// Delivers the first frame in flight in each direction of so many lines.
+    pub(crate) fn deliver_frames(&mut self, lines: usize) -> bool
+        ensures { DeliversBelow L.service lines result self.old.net self.new.net }
+    {
+        let mut any = false;
+        for line in 0..lines {
+            let from_dte = self.deliver(line, Direction::FromDte);
+            let from_dce = self.deliver(line, Direction::FromDce);
+            any |= from_dte | from_dce;
+        }
+        any
+    }
+
+    fn deliver(&mut self, line: usize, direction: Direction) -> bool
+        ensures { Does L.service (Deliver line direction) result self.old.net self.new.net }
+    {
+        self.happen(&Event::Deliver { line, direction })
+    }
+
+    /// Handles the expiry of the first timer that is due.
+    pub(crate) fn expire(&mut self) -> bool
+        ensures { Expires L.service result self.old.net self.new.net }
+    {
+        match self.net.next_due() {
+            Some(expiry) => self.happen(&expiry),
+            None => false,
+        }
+    }
+}
+
+/// Whether an answer says that the event did nothing.
+fn is_idle(answer: &Answer) -> bool
+    ensures { result ≡ is_idle_answer answer.now }
+{
+    answer.text.is_empty() && is_idle_outcome(answer.outcome)
+}
+
+/// Whether it is the outcome of an event that did nothing, if no text was shown or taken.
+fn is_idle_outcome(outcome: Outcome) -> bool
+    ensures { result ≡ is_idle_outcome outcome }
+{
+    match outcome {
+        Outcome::Delivered(arrived) => !arrived,
+        Outcome::Typed(answer) => matches!(answer, PadAnswer::Dropped),
+        Outcome::Printed => true,
+        Outcome::Took(front) => front.is_none(),
+        Outcome::Called { .. } | Outcome::Done => false,
+    }
+}
+
+/// The event of a key.
+fn key_event(key: Key) -> TerminalEvent
+    ensures { result ≡ key_event key }
+{
+    match key {
+        Key::Octet(octet) => TerminalEvent::Key(octet),
+        Key::Break => TerminalEvent::Break,
+    }
+}
+
+/// The event that a client came to a terminal or left it.
+fn presence_event(presence: Presence) -> TerminalEvent
+    ensures { result ≡ presence_event presence }
+{
+    match presence {
+        Presence::Here => TerminalEvent::Arrives,
+        Presence::Gone => TerminalEvent::Leaves,
+    }
+}
+
+/// Something happens at a terminal.
+fn at_terminal(pad: usize, number: u16, event: TerminalEvent) -> Event
+    ensures { result ≡ AtTerminal pad number event }
+{
+    Event::AtTerminal {
+        node: pad,
+        terminal: number,
+        event,
+    }
+}
+
+/// A host says a message.
+fn say(at: HostChannel, octets: Vec<u8>, delivery: bool) -> Event
+    ensures { is_at_terminal result ≡ false }
+{
+    Event::Ask {
+        node: at.node,
+        channel: u16::from(at.channel),
+        request: HostRequest::Say {
+            octets,
+            qualified: false,
+            delivery,
+        },
+    }
+}
+
+/// The octets that an event says.
+fn octets_of(alloc: Global, event: Event) -> Vec<u8> {
+    match event {
+        Event::Ask {
+            request: HostRequest::Say { octets, .. },
+            ..
+        } => octets,
+        _ => Vec::new(alloc),
+    }
+}
+
+/// What the service `time` says.
+fn time_message(alloc: Global, seconds: i64) -> Result<Vec<u8>, AllocError> {
+    let mut text = utc_text(alloc, seconds)?;
+    text.push_str("\r\n")?;
+    Ok(text.into_bytes())
+}
