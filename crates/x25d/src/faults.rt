@@ -10,6 +10,10 @@ pub(crate) enum Fault {
     NoSocket(SocketAddr, io::Error),
     /// No service answers at this control port.
     NoAnswer(SocketAddr, io::Error),
+    /// The service file cannot be read.
+    NoServiceFile(io::Error),
+    /// The file of the network cannot be read.
+    NoNetworkFile(io::Error),
     /// The service has no client at this port.
     NoClient(u16),
     /// The system fails in something else, or there is no memory.
@@ -21,6 +25,8 @@ impl fmt::Display for Fault {
         match self {
             Fault::NoSocket(at, error) => write!(f, "no socket at {at}: {error}"),
             Fault::NoAnswer(at, error) => write!(f, "no service answers at {at}: {error}"),
+            Fault::NoServiceFile(error) => write!(f, "the service file cannot be read: {error}"),
+            Fault::NoNetworkFile(error) => write!(f, "the network file cannot be read: {error}"),
             Fault::NoClient(port) => write!(f, "no client at port {port}"),
             Fault::System(error) => write!(f, "{error}"),
         }

@@ -2,6 +2,7 @@
 #![tactic(auto)]
 
 mod asking;
+mod checking;
 mod clients;
 mod clock;
 mod controls;
@@ -32,7 +33,7 @@ fn main(rt: HostRuntime) -> ExitCode {
 fn run(rt: &HostRuntime) -> io::Result<u8> {
     let words = arguments(rt)?;
     match words::read_words(rt.alloc(), words.as_slice()) {
-        Ok(words) => Ok(status_of(rt, obey(rt, words))),
+        Ok(words) => Ok(status_of(rt, obey(rt, &words))),
         Err(error) => {
             error.print(rt)?;
             Ok(if error.use_stderr() { 2 } else { 0 })
@@ -40,20 +41,24 @@ fn run(rt: &HostRuntime) -> io::Result<u8> {
     }
 }
 
-/// Does what the words ask for.
-fn obey(rt: &HostRuntime, words: Words) -> Result<(), Fault> {
+/// Does what the words ask for, and says whether nothing is wrong.
+fn obey(rt: &HostRuntime, words: &Words<'_>) -> Result<bool, Fault> {
     match words.asked {
-        Asked::Serve { listen } => shell::serve(rt, listen, words.control),
-        Asked::Status => asking::ask(rt, words.control, "status"),
-        Asked::Stop => asking::ask(rt, words.control, "stop"),
-        Asked::Clear { port } => asking::ask_to_clear(rt, words.control, port),
+        Asked::CheckService { file } => return checking::check_service(rt, file),
+        Asked::CheckNetwork { file } => return checking::check_network(rt, file),
+        Asked::Serve { listen } => shell::serve(rt, listen, words.control)?,
+        Asked::Status => asking::ask(rt, words.control, "status")?,
+        Asked::Stop => asking::ask(rt, words.control, "stop")?,
+        Asked::Clear { port } => asking::ask_to_clear(rt, words.control, port)?,
     }
+    Ok(true)
 }
 
 /// The status to end with. A fault is told first.
-fn status_of(rt: &HostRuntime, outcome: Result<(), Fault>) -> u8 {
+fn status_of(rt: &HostRuntime, outcome: Result<bool, Fault>) -> u8 {
     match outcome {
-        Ok(()) => 0,
+        Ok(true) => 0,
+        Ok(false) => 1,
         Err(fault) => {
             let _ = eprintln!(rt; "x25d: {fault}");
             1

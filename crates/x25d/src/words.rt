@@ -18,7 +18,11 @@ const NO_ADDRESS: &str = "an address is an IP address and a port, as 127.0.0.1:7
 
 /// What is asked for.
 #[derive(Clone, Copy)]
-pub(crate) enum Asked {
+pub(crate) enum Asked<'a> {
+    /// The service file of this name is to be checked.
+    CheckService { file: &'a str },
+    /// The network's file of this name is to be checked.
+    CheckNetwork { file: &'a str },
     /// The built-in network is to be served, with its terminals at this address.
     Serve { listen: SocketAddr },
     /// What a running one does is to be told.
@@ -31,14 +35,14 @@ pub(crate) enum Asked {
 
 /// What the words ask for, and where the control port is.
 #[derive(Clone, Copy)]
-pub(crate) struct Words {
-    pub(crate) asked: Asked,
+pub(crate) struct Words<'a> {
+    pub(crate) asked: Asked<'a>,
     pub(crate) control: SocketAddr,
 }
 
 /// Reads the words of a command line, without the program's name. An error has the text of help, of the version or of
 /// what is wrong.
-pub(crate) fn read_words(alloc: Global, words: &[String]) -> Result<Words, Error> {
+pub(crate) fn read_words<'a>(alloc: Global, words: &'a [String]) -> Result<Words<'a>, Error> {
     let mut program = program(alloc)?;
     let matches = program.try_get_matches_from_mut(words)?;
     match words_of(&matches) {
@@ -49,7 +53,7 @@ pub(crate) fn read_words(alloc: Global, words: &[String]) -> Result<Words, Error
 
 /// The words that the program takes.
 fn program<'a>(alloc: Global) -> Result<Command<'a>, AllocError> {
-    add_clearing(alloc, options(alloc)?)?
+    add_checking(alloc, add_clearing(alloc, options(alloc)?)?)?
         .subcommand(question(alloc, "status", "Tells what the running service does"))?
         .subcommand(question(alloc, "stop", "Stops the running service"))
 }
@@ -94,23 +98,53 @@ fn clearing<'a>(alloc: Global) -> Result<Command<'a>, AllocError> {
     question(alloc, "clear", "Ends the port of this number").arg(port)
 }
 
+/// The command with the word that checks a file.
+fn add_checking<'a>(alloc: Global, command: Command<'a>) -> Result<Command<'a>, AllocError> {
+    command.subcommand(checking(alloc)?)
+}
+
+/// The word that checks a file.
+fn checking<'a>(alloc: Global) -> Result<Command<'a>, AllocError> {
+    let service = file(alloc, "service").help("A service file, with its network");
+    let network = file(alloc, "network").help("The file of a network");
+    question(alloc, "check", "Says what is wrong with a file")
+        .arg(service.required_unless_present("network")?)?
+        .arg(network.conflicts_with("service")?)
+}
+
+/// An option that has the name of a file.
+fn file<'a>(alloc: Global, name: &'a str) -> Arg<'a> {
+    Arg::new(alloc, name).long(name).value_name("FILE")
+}
+
 /// What the words were found to ask for; none if an address is none.
-fn words_of(matches: &ArgMatches<'_>) -> Option<Words> {
+fn words_of<'a>(matches: &ArgMatches<'a>) -> Option<Words<'a>> {
     Some(Words {
         asked: asked_by(matches)?,
         control: matches.get_one("control")?,
     })
 }
 
-fn asked_by(matches: &ArgMatches<'_>) -> Option<Asked> {
+fn asked_by<'a>(matches: &ArgMatches<'a>) -> Option<Asked<'a>> {
     match matches.subcommand() {
         None => Some(Asked::Serve {
             listen: matches.get_one("listen")?,
         }),
         Some(("status", _)) => Some(Asked::Status),
         Some(("stop", _)) => Some(Asked::Stop),
+        Some(("check", found)) => checked_by(found),
         Some((_, found)) => Some(Asked::Clear {
             port: found.get_one("port")?,
+        }),
+    }
+}
+
+/// Which file is to be checked.
+fn checked_by<'a>(found: &ArgMatches<'a>) -> Option<Asked<'a>> {
+    match found.get_str("service") {
+        Some(file) => Some(Asked::CheckService { file }),
+        None => Some(Asked::CheckNetwork {
+            file: found.get_str("network")?,
         }),
     }
 }
