@@ -6,6 +6,6 @@ use Rattle.x25_pad.specs.declared.pad.Pad.TheInside.{Inside}
 abbrev pub pad_of : Inside → PadState
 pad_of a = record { line = a.line; ports = a.ports.items; noted_at = a.noted_at }
 
--- there are 1 to 16 terminals
+-- there are at most 16 terminals
 pub record IsPad (a : Inside) : Type 0 where
   pub most : length a.ports.items ≤ 16

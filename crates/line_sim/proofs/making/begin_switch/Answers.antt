@@ -27,11 +27,11 @@ put_lines-requires g c =
 
 pub returns-clause-switch : goal.returns-clause-switch
 returns-clause-switch g c = λ n is. elim c.match-node.branch [
-    in-User w ↦ (
+  | in-User w ↦ (
       let m : PlacedNode = record { line = w.in-User.line; node = node_of w.in-User.node } in
       let no : User m ≡ Switching n = ap kind_of (sym w.in-User.is) ∙ c.node.view_is ∙ is in
       absurd (cc)
-    )
+      )
   | in-Switching+in_ok-puts-in-Switching w ↦ (
       let p : PlacedSwitch = record { lines = w.in-Switching.own.items; switch = w.in-Switching.switch } in
       let same : p ≡ n = switch_is p n (ap kind_of (sym w.in-Switching.is) ∙ c.node.view_is ∙ is) in
@@ -42,5 +42,5 @@ returns-clause-switch g c = λ n is. elim c.match-node.branch [
         lines_put = subst (λ (x : PlacedSwitch). LinesPut g.L.Line.service false x.lines x.switch c.args.lines.now.items w.put_lines.new.lines.items)
             (ap (λ (own : List ℕ). record p { lines = own }) w.deref.ensures.value ∙ same) put.lines;
       })
-    )
-  ]
+      )
+]
