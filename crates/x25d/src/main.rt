@@ -1,0 +1,71 @@
+//! An X.25 network that people can use: telnet to it and dial.
+#![tactic(auto)]
+
+mod asking;
+mod clients;
+mod clock;
+mod controls;
+mod faults;
+mod log;
+mod network;
+mod shell;
+mod sockets;
+mod status;
+mod words;
+
+use faults::Fault;
+use std::process::ExitCode;
+use std::{env, io};
+use words::{Asked, Words};
+
+fn main(rt: HostRuntime) -> ExitCode {
+    match run(&rt) {
+        Ok(status) => ExitCode::from(status),
+        Err(error) => {
+            let _ = eprintln!(rt; "x25d: {error}");
+            ExitCode::from(1)
+        }
+    }
+}
+
+/// Runs the program on its command words, and gives the status to end with.
+fn run(rt: &HostRuntime) -> io::Result<u8> {
+    let words = arguments(rt)?;
+    match words::read_words(rt.alloc(), words.as_slice()) {
+        Ok(words) => Ok(status_of(rt, obey(rt, words))),
+        Err(error) => {
+            error.print(rt)?;
+            Ok(if error.use_stderr() { 2 } else { 0 })
+        }
+    }
+}
+
+/// Does what the words ask for.
+fn obey(rt: &HostRuntime, words: Words) -> Result<(), Fault> {
+    match words.asked {
+        Asked::Serve { listen } => shell::serve(rt, listen, words.control),
+        Asked::Status => asking::ask(rt, words.control, "status"),
+        Asked::Stop => asking::ask(rt, words.control, "stop"),
+        Asked::Clear { port } => asking::ask_to_clear(rt, words.control, port),
+    }
+}
+
+/// The status to end with. A fault is told first.
+fn status_of(rt: &HostRuntime, outcome: Result<(), Fault>) -> u8 {
+    match outcome {
+        Ok(()) => 0,
+        Err(fault) => {
+            let _ = eprintln!(rt; "x25d: {fault}");
+            1
+        }
+    }
+}
+
+/// The command words, without the program's name.
+fn arguments(rt: &HostRuntime) -> io::Result<Vec<String>> {
+    let mut words = Vec::new(rt.alloc());
+    for word in env::args(rt)?.skip(1) {
+        words.push(word)?;
+    }
+    Ok(words)
+}
