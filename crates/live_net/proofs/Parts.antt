@@ -1,6 +1,6 @@
 -- One process of a network in several goes on, also when frames are carried off or brought.
-use Rattle.std.proofs.Common.{◌≡◌, ◌≢◌, ℕ, Bool, false, List, Option, Some, None, Result, Ok, Err, refl, sym, ◌∙◌, subst}
-use Rattle.std.specs.Prelude.{length, slice_get}
+use Rattle.std.proofs.Common.{◌≡◌, ◌≢◌, ℕ, Bool, List, Option, Some, None, Result, Ok, Err, refl, sym, ◌∙◌, subst}
+use Rattle.std.specs.Prelude.{IfOk, length, slice_get}
 use Rattle.std.proofs.lemmas.List.{length-set}
 use Rattle.call_records.specs.Register.{HasNoRecords}
 use Rattle.frame_lines.specs.declared.line.Direction.{Direction}
@@ -16,13 +16,13 @@ use Rattle.net_events.specs.declared.event.Event.{Event}
 use Rattle.net_events.specs.declared.event.StepFault.{StepFault}
 use Rattle.net_events.specs.declared.event.StepFault.TheVariants.{OutOfMemory}
 use Rattle.net_nodes.specs.Carrying.{with_flights, HandedOn, PutAt, blind}
-use Rattle.net_nodes.specs.Faults.{step_fault, takes_memory}
+use Rattle.net_nodes.specs.Faults.{step_fault}
 use Rattle.net_nodes.specs.Happening.{Happens, IsRefusedSo}
 use Rattle.network_laws.proofs.Switched.UsersAny.{loss_any}
 use Rattle.line_sim.proofs.Events.{made, happens}
+use Rattle.net_turns.specs.AnswerRoom.{IsWithinLimits, IsRoomy}
 use Rattle.line_sim.proofs.Refusals.{refusals}
 use Rattle.line_sim.proofs.Registered.{lost_registered}
-use Rattle.line_sim.proofs.RunsMore.{has-memory}
 use Rattle.line_sim.proofs.Stepped.{stepped}
 use Rattle.parted_laws.proofs.Blind.{happens_blind}
 use Rattle.live_laws.specs.Registers.{on, bare}
@@ -31,7 +31,7 @@ use Rattle.live_laws.proofs.Apart.{happens_apart}
 use Rattle.live_laws.proofs.Lives.{live_made}
 use Rattle.live_net.specs.Making.{IsMadeBare}
 use Rattle.live_net.specs.Parting.{HasLivedApart}
-use Rattle.live_net.proofs.Events.{lives_answered}
+use Rattle.live_net.proofs.Events.{lives_answered, within, answer_is_none, refusal_is_none}
 
 -- ---- the making
 
@@ -102,24 +102,28 @@ pub record PartSteps (L : LineService) (e : Event) (old : Network) (r : Result A
     : Type 0 where
   pub lived : HasLivedApart L e old r left
   pub faults : IsRefusedSo (step_fault e old) r
-  pub memory : takes_memory e ≡ false → r ≢ Err OutOfMemory
+  pub memory : r ≢ Err OutOfMemory
+  pub limits : IfOk r IsWithinLimits
 
 pub part_answered : (L : LineService) (e : Event) (s old : Network) (answer : Answer) (t left : Network) → s ≡ old
-    → Happens L e s (Ok answer) t → left ≡ bare t → PartSteps L e old (Ok answer) left
-part_answered L e s old answer t left same h is =
+    → Happens L e s (Ok answer) t → left ≡ bare t → IsRoomy answer → PartSteps L e old (Ok answer) left
+part_answered L e s old answer t left same h is roomy =
     subst (λ (x : Network). PartSteps L e x (Ok answer) left) same (record {
       lived = answered_apart L e s (Ok answer) t left h is;
       faults = refusals L e s (Ok answer) t h;
-      memory = has-memory L e s (Ok answer) t h;
+      memory = answer_is_none answer;
+      limits = within answer roomy;
     })
 
 pub part_refused : (L : LineService) (e : Event) (s old : Network) (r : Result Answer StepFault) (fault : StepFault)
-    (t : Network) → s ≡ old → Err fault ≡ r → IsLive (blind L) s → Happens L e s (Err fault) t → PartSteps L e old r t
-part_refused L e s old r fault t same is live h =
+    (t : Network) → s ≡ old → Err fault ≡ r → IsLive (blind L) s → Happens L e s (Err fault) t
+    → fault ≢ OutOfMemory → PartSteps L e old r t
+part_refused L e s old r fault t same is live h wants_none =
     let at_fault : PartSteps L e s (Err fault) t = record {
       lived = refused_apart L e s fault t live h;
       faults = refusals L e s (Err fault) t h;
-      memory = has-memory L e s (Err fault) t h;
+      memory = refusal_is_none fault wants_none;
+      limits = tt;
     } in
     subst (λ (x : Network). PartSteps L e x r t) same
     (subst (λ (x : Result Answer StepFault). PartSteps L e s x t) is at_fault)

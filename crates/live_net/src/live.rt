@@ -7,19 +7,20 @@ ghost use Rattle.net_config.specs.Served.{is_served};
 ghost use Rattle.net_events.specs.Network.{all_elapsed};
 ghost use Rattle.net_events.specs.declared.event.StepFault.TheVariants as step_fault_is;
 ghost use Rattle.net_nodes.specs.Due.{net_due};
-ghost use Rattle.net_nodes.specs.Faults.{step_fault, takes_memory};
+ghost use Rattle.net_nodes.specs.Faults.{step_fault};
 ghost use Rattle.net_nodes.specs.Happening.{IsRefusedSo, FindsNoFrame, FindNoFrames};
-ghost use Rattle.net_nodes.specs.Questions.{net_confirmed, net_rests};
+ghost use Rattle.net_nodes.specs.Questions.{net_confirmed, net_has_to_take, net_room_to_say, net_rests, MaySay};
 ghost use Rattle.network_laws.specs.Switched.Promise.{NetworkPromise};
 ghost use Rattle.network_laws.specs.Switched.Rest.{MissesNothing, IsDelivered};
 ghost use Rattle.line_sim.specs.Between.{IsBetweenEvents};
 ghost use Rattle.line_sim.specs.Courses.{HaveNoEvent, CoursesPass};
 ghost use Rattle.line_sim.specs.Receipts.{IsTakenBeyond};
+ghost use Rattle.net_turns.specs.AnswerRoom.{IsWithinLimits};
 ghost use Rattle.line_sim.specs.Runs.{IsMadeBy};
 ghost use Rattle.live_laws.specs.Registers.{on};
 ghost use Rattle.live_net.specs.Making.{register_made};
 
-use crate::making::{bare_answer, bare_nodes};
+use crate::making::{bare_nodes, roomy_answer};
 use frame_codec::FrameBuf;
 use frame_lines::{Direction, Line};
 use net_config::{Config, MakeFault};
@@ -49,11 +50,12 @@ impl<L: Line> Model for LiveNet<L> {
 
     ghost coded = { Prim.hlevel (codes, map.code {R = by_digits} (coded_list coded_ℕ) coded_ℕ) };
 
+    ghost use Rattle.net_turns.specs.AnswerRoom.{IsRoomy};
     ghost use Rattle.live_laws.specs.Living.{IsLive};
 
     ghost view = { λ n. n.nodes };
 
-    ghost invariant = { λ n. IsLive L.service n.nodes };
+    ghost invariant = { λ n. IsLive L.service n.nodes × IsRoomy n.answer };
 }
 
 impl<L: Line> LiveNet<L> {
@@ -82,7 +84,7 @@ impl<L: Line> LiveNet<L> {
         Ok(LiveNet {
             nodes: bare_nodes(alloc, config, lines)?,
             arrived: FrameBuf::new(),
-            answer: bare_answer(alloc),
+            answer: roomy_answer(alloc)?,
         })
     }
 
@@ -107,6 +109,22 @@ impl<L: Line> LiveNet<L> {
             → result ≡ true → IsTakenBeyond node channel (on g self.now) }
     {
         self.nodes.confirmed(node, channel)
+    }
+
+    /// Whether the node of this place is a host, and anything waits to be taken on the channel.
+    pub fn has_to_take(&self, node: usize, channel: u16) -> bool
+        ensures { result ≡ net_has_to_take node channel self.now }
+    {
+        self.nodes.has_to_take(node, channel)
+    }
+
+    /// How many octets a message without Q may have now on the channel of the host of this place, at most 1,024: so many
+    /// are not refused, if there are any. At any other node it is 0.
+    pub fn room_to_say(&self, node: usize, channel: u16) -> usize
+        ensures exact { result ≡ net_room_to_say node channel self.now }
+        ensures said { MaySay node channel result self.now }
+    {
+        self.nodes.room_to_say(node, channel)
     }
 
     /// Lets ticks pass, each a twentieth of a second: each timer that runs has so many less, not below 0.
@@ -148,12 +166,14 @@ impl<L: Line> LiveNet<L> {
     /// Handles an event, lends the answer, which the network keeps until the next event, and keeps no record of it. A
     /// refused event changes nothing, nor does an expiry of a timer that does not run.
     ///
-    /// `NoSuchNode`, `NoSuchTerminal`, `NoSuchCall`, `OutOfMemory` and `Refused` come when they come of
-    /// [`line_sim::Net::step`], in this order.
+    /// `NoSuchNode`, `NoSuchTerminal`, `NoSuchCall` and `Refused` come when they come of [`line_sim::Net::step`], in this
+    /// order. No event wants memory: all of it was taken when the network was made. An answer has at most 576 frames, 96 notes
+    /// and 3,200 octets of text.
     #[inline(always)]
     pub fn step(&mut self, event: &Event) -> Result<&Answer, StepFault>
         ensures faults { IsRefusedSo (step_fault event.now self.old) (lent result) }
-        ensures memory { takes_memory event.now ≡ false → lent result ≢ Err step_fault_is.OutOfMemory }
+        ensures memory { lent result ≢ Err step_fault_is.OutOfMemory }
+        ensures limits { IfOk (lent result) IsWithinLimits }
 
         // The network once the answer is given back.
         ensures* after { sem 𝓛 (Rests (the_row L.row L.Line) self.entry (λ net.

@@ -2,6 +2,7 @@
 ghost use Rattle.std.specs.Prelude.{◌≡◌, true, false, Err, IsOkUnless, IfOk, vec_len};
 ghost use Rattle.net_config.specs.declared.fault.MakeFault.TheVariants as make_fault_is;
 ghost use Rattle.net_config.specs.Served.{is_served};
+ghost use Rattle.net_turns.specs.AnswerRoom.{IsRoomy};
 ghost use Rattle.live_net.specs.Making.{IsMadeBare};
 
 use frame_lines::Line;
@@ -9,7 +10,10 @@ use line_sim::Net;
 use net_config::{Config, MakeFault};
 use net_events::{Answer, Outcome, Puts};
 use net_nodes::Nodes;
-use std::alloc::Global;
+use net_turns::MOST_PUTS;
+use packet_end::MOST_NOTES;
+use std::alloc::{AllocError, Global};
+use x25_pad::MOST_TEXT;
 
 /// The nodes and lines of a network as it is made, without its records.
 pub(crate) fn bare_nodes<L: Line>(
@@ -27,12 +31,16 @@ pub(crate) fn bare_nodes<L: Line>(
     Ok(nodes)
 }
 
-/// An answer without frames, notes and text, which takes no memory.
-pub(crate) fn bare_answer(alloc: Global) -> Answer {
-    Answer {
-        frames: Puts::new(alloc),
-        notes: Vec::new(alloc),
-        text: Vec::new(alloc),
+/// An answer without frames, notes and text, with room for those of any event.
+pub(crate) fn roomy_answer(alloc: Global) -> Result<Answer, AllocError>
+    ensures { IfOk result IsRoomy }
+{
+    let mut frames = Puts::new(alloc);
+    frames.reserve(MOST_PUTS)?;
+    Ok(Answer {
+        frames,
+        notes: Vec::with_capacity(alloc, MOST_NOTES)?,
+        text: Vec::with_capacity(alloc, MOST_TEXT)?,
         outcome: Outcome::Done,
-    }
+    })
 }

@@ -8,14 +8,15 @@ ghost use Rattle.net_events.specs.Network.{all_elapsed};
 ghost use Rattle.net_events.specs.declared.event.StepFault.TheVariants as step_fault_is;
 ghost use Rattle.net_nodes.specs.Carrying.{HandedOn, PutAt};
 ghost use Rattle.net_nodes.specs.Due.{net_due_at};
-ghost use Rattle.net_nodes.specs.Faults.{step_fault, takes_memory};
+ghost use Rattle.net_nodes.specs.Faults.{step_fault};
 ghost use Rattle.net_nodes.specs.Happening.{IsRefusedSo, FindsNoFrame, FindNoFrames};
 ghost use Rattle.net_nodes.specs.Questions.{net_confirmed};
+ghost use Rattle.net_turns.specs.AnswerRoom.{IsWithinLimits};
 ghost use Rattle.line_sim.specs.Runs.{IsMadeBy};
 ghost use Rattle.live_laws.specs.Registers.{on};
 ghost use Rattle.live_net.specs.Making.{register_made};
 
-use crate::making::{bare_answer, bare_nodes};
+use crate::making::{bare_nodes, roomy_answer};
 use frame_codec::FrameBuf;
 use frame_lines::{Direction, Line};
 use net_config::{Config, MakeFault};
@@ -48,11 +49,12 @@ impl<L: Line> Model for LivePart<L> {
     ghost coded = { Prim.hlevel (codes, map.code {R = by_digits} (coded_list coded_ℕ) coded_ℕ) };
 
     ghost use Rattle.net_nodes.specs.Carrying.{blind};
+    ghost use Rattle.net_turns.specs.AnswerRoom.{IsRoomy};
     ghost use Rattle.live_laws.specs.Living.{IsLive};
 
     ghost view = { λ n. n.nodes };
 
-    ghost invariant = { λ n. IsLive (blind L.service) n.nodes };
+    ghost invariant = { λ n. IsLive (blind L.service) n.nodes × IsRoomy n.answer };
 }
 
 impl<L: Line> LivePart<L> {
@@ -77,7 +79,7 @@ impl<L: Line> LivePart<L> {
         Ok(LivePart {
             nodes: bare_nodes(alloc, config, lines)?,
             arrived: FrameBuf::new(),
-            answer: bare_answer(alloc),
+            answer: roomy_answer(alloc)?,
         })
     }
 
@@ -146,12 +148,14 @@ impl<L: Line> LivePart<L> {
     /// Handles an event at one of its own nodes, lends the answer, which it keeps until the next event, and keeps no
     /// record of it. A refused event changes nothing, nor does an expiry of a timer that does not run.
     ///
-    /// `NoSuchNode`, `NoSuchTerminal`, `NoSuchCall`, `OutOfMemory` and `Refused` come when they come of
-    /// [`line_sim::Net::step`], in this order.
+    /// `NoSuchNode`, `NoSuchTerminal`, `NoSuchCall` and `Refused` come when they come of [`line_sim::Net::step`], in this
+    /// order. No event wants memory: all of it was taken when the process was made. An answer has at most 576 frames, 96 notes
+    /// and 3,200 octets of text.
     #[inline(always)]
     pub fn step(&mut self, event: &Event) -> Result<&Answer, StepFault>
         ensures faults { IsRefusedSo (step_fault event.now self.old) (lent result) }
-        ensures memory { takes_memory event.now ≡ false → lent result ≢ Err step_fault_is.OutOfMemory }
+        ensures memory { lent result ≢ Err step_fault_is.OutOfMemory }
+        ensures limits { IfOk (lent result) IsWithinLimits }
 
         // The process once the answer is given back.
         ensures* after { sem 𝓛 (Rests (the_row L.row L.Line) self.entry (λ part.

@@ -6,7 +6,8 @@ use Rattle.live_laws.proofs.Lives.{live_elapsed}
 use Rattle.live_net.proofs.live.LiveNet.elapse.Goals as goal
 
 pub invariant_of-self : goal.invariant_of-self
-invariant_of-self g c = rw c.elapse.ensures (live_elapsed g.L.Line.service _ c.args.ticks c.self.invariant)
+invariant_of-self g c =
+    (rw c.elapse.ensures (live_elapsed g.L.Line.service _ c.args.ticks c.self.invariant.0), c.self.invariant.1)
 
 pub returns-clause-between : goal.returns-clause-between
 returns-clause-between g c = rw (← c.self.view_is, c.elapse.ensures) (λ register between.

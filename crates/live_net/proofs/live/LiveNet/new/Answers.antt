@@ -2,7 +2,8 @@ use Rattle.live_net.proofs.Made.{lives_made, made_on, between_on, courses_on, pr
 use Rattle.live_net.proofs.live.LiveNet.new.Goals as goal
 
 pub invariant_of-result : goal.invariant_of-result
-invariant_of-result g c = lives_made g.L.Line.service c.args.config.now _ c.in_ok-bare_nodes.ensures.ok
+invariant_of-result g c =
+    (lives_made g.L.Line.service c.args.config.now _ c.in_ok-bare_nodes.ensures.ok, c.in_ok-roomy_answer.ensures)
 
 pub returns-clause-ok : goal.returns-clause-ok
 returns-clause-ok g c = made_on g.L.Line.service c.args.config.now _ c.in_ok-bare_nodes.ensures.ok

@@ -1,4 +1,4 @@
-use Rattle.std.proofs.Common.{◌≡◌, Result, Ok, Err, refl, rules}
+use Rattle.std.proofs.Common.{◌≡◌, Result, Ok, Err, refl, ap, ◌∙◌, rules}
 use Rattle.net_events.specs.declared.answer.Answer.{Answer}
 use Rattle.net_events.specs.declared.event.StepFault.{StepFault}
 use Rattle.line_sim.specs.Stepping.{lent}
@@ -7,17 +7,21 @@ use Rattle.live_net.proofs.Events.{lives_answered, lives_refused, Steps, steps_a
 use Rattle.live_net.proofs.live.LiveNet.step.Goals as goal
 
 pub happen-requires : goal.happen-requires
-happen-requires g c = live_standing g.L.Line.service _ c.self.invariant
+happen-requires g c = live_standing g.L.Line.service _ c.self.invariant.0
 
 pub invariant_of-self : goal.invariant_of-self
-invariant_of-self g c =
-    lives_refused g.L.Line.service c.args.event.now c.self.inside.nodes c.in_err-happen.field-0.0 c.happen.new.self
-    c.self.invariant c.in_err-happen.ensures.done
+invariant_of-self g c = (
+  lives_refused g.L.Line.service c.args.event.now c.self.inside.nodes c.in_err-happen.field-0.0 c.happen.new.self
+      c.self.invariant.0 c.in_err-happen.ensures.done,
+  c.happen.ensures.kept c.self.invariant.1,
+)
 
 pub invariant_of-self-2 : goal.invariant_of-self-2
-invariant_of-self-2 g c =
-    lives_answered g.L.Line.service c.args.event.now c.self.inside.nodes (Ok c.happen.new.answer) c.happen.new.self
-    c.forget.new.self c.self.invariant c.in_ok-happen.ensures.done c.forget.ensures
+invariant_of-self-2 g c = (
+  lives_answered g.L.Line.service c.args.event.now c.self.inside.nodes (Ok c.happen.new.answer) c.happen.new.self
+      c.forget.new.self c.self.invariant.0 c.in_ok-happen.ensures.done c.forget.ensures,
+  c.happen.ensures.kept c.self.invariant.1,
+)
 
 pub returns-in_err-happen : goal.returns-in_err-happen
 returns-in_err-happen g c =
@@ -26,12 +30,14 @@ returns-in_err-happen g c =
     let same : refused ≡ told = search rules in
     let k : Steps g.L.Line.service c.args.event.now c.args.self.now told c.happen.new.self
     = steps_refused g.L.Line.service c.args.event.now c.self.inside.nodes c.args.self.now told c.in_err-happen.field-0.0
-    c.happen.new.self c.self.view_is same c.self.invariant c.in_err-happen.ensures.done in
-    ((refl, λ _. tt, k.lived), record { faults = k.faults; memory = k.memory; after = tt })
+    c.happen.new.self c.self.view_is same c.self.invariant.0 c.in_err-happen.ensures.done
+    (λ e. c.happen.ensures.ready c.self.invariant.1 c.self.invariant.0.stored (c.in_err-happen.was ∙ ap (λ (x : StepFault). Err x) e)) in
+    ((refl, λ _. tt, k.lived), record { faults = k.faults; memory = k.memory; limits = k.limits; after = tt })
 
 pub returns : goal.returns
 returns g c =
     let k : Steps g.L.Line.service c.args.event.now c.args.self.now (Ok c.happen.new.answer) c.forget.new.self
     = steps_answered g.L.Line.service c.args.event.now c.self.inside.nodes c.args.self.now c.happen.new.answer
-    c.happen.new.self c.forget.new.self c.self.view_is c.in_ok-happen.ensures.done c.forget.ensures in
-    ((refl, λ _. tt, k.lived), record { faults = k.faults; memory = k.memory; after = tt })
+    c.happen.new.self c.forget.new.self c.self.view_is c.in_ok-happen.ensures.done c.forget.ensures
+    (c.happen.ensures.kept c.self.invariant.1) in
+    ((refl, λ _. tt, k.lived), record { faults = k.faults; memory = k.memory; limits = k.limits; after = tt })
