@@ -1,0 +1,6 @@
+use Rattle.std.proofs.Common.{sym, ◌∙◌}
+use Rattle.net_nodes.proofs.Saying.{prints_nothing}
+use Rattle.line_sim.proofs.net.Net.shows.Goals as goal
+
+pub returns-clause-nothing : goal.returns-clause-nothing
+returns-clause-nothing g c = λ nothing. prints_nothing c.args.node c.args.terminal c.args.self.now (sym c.shows.ensures ∙ nothing)
