@@ -178,7 +178,7 @@ impl<L: Line> LiveNet<L> {
     ///
     /// `NoSuchNode`, `NoSuchTerminal`, `NoSuchCall` and `Refused` come when they come of [`line_sim::Net::step`], in this
     /// order. No event wants memory: all of it was taken when the network was made. An answer has at most 576 frames,
-    /// 96 notes and 3,200 octets of text.
+    /// 104 notes and 3,200 octets of text.
     #[inline(always)]
     pub fn step(&mut self, event: &Event) -> Result<&Answer, StepFault>
         ensures faults { IsRefusedSo (step_fault event.now self.old) (lent result) }
