@@ -1,6 +1,6 @@
 //! The hosts of a network that have built-in services.
 use crate::builtin::{BuiltIn, Call, Turn};
-use line_sim::{HostNote, NoteKind, Outcome};
+use line_sim::{CallUser, NoteKind, Outcome, UserNote};
 use packet_layer::Front;
 use std::alloc::{AllocError, Global};
 
@@ -80,13 +80,16 @@ impl Hosts {
     }
 
     /// Hears what the hosts were told.
-    pub(crate) fn hear(&mut self, notes: &[HostNote]) {
+    pub(crate) fn hear(&mut self, notes: &[UserNote]) {
         for note in notes {
             self.hear_note(note);
         }
     }
 
-    fn hear_note(&mut self, note: &HostNote) {
+    fn hear_note(&mut self, note: &UserNote) {
+        if note.user != CallUser::Host {
+            return;
+        }
         let at = HostChannel {
             node: note.node,
             channel: note.channel,
@@ -96,7 +99,7 @@ impl Hosts {
         };
         match note.kind {
             NoteKind::Incoming { .. } => call.ring(),
-            NoteKind::Connected => {}
+            NoteKind::Dialled { .. } | NoteKind::Connected => {}
             NoteKind::Cleared { .. } => call.end(),
             NoteKind::Reset { .. } => call.reset(),
         }
