@@ -1,0 +1,7 @@
+mod Numbered
+mod Steps
+mod Plans
+mod Running
+mod OneSwitch
+mod Trunk
+mod Pads
