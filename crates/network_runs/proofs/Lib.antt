@@ -5,3 +5,4 @@ mod Running
 mod OneSwitch
 mod Trunk
 mod Pads
+mod Numbers

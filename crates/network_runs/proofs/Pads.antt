@@ -20,16 +20,17 @@ use Rattle.pad_terminal.specs.Messages.{after_octets}
 use Rattle.packet_end.specs.PacketEnd.{finished, all_offered}
 use Rattle.packet_layer.specs.LayerTimers.{brought}
 use Rattle.x25_pad.specs.Pad.{all_heard}
+use Rattle.network_runs.specs.Making.{network_of}
 use Rattle.network_runs.specs.Pads.{plan, dialled_stages, standing_stages, PadRun}
-use Rattle.network_runs.proofs.Running.{run_is}
+use Rattle.network_runs.proofs.Running.{run_is, no_calls}
 
 pub pad_run : PadRun
 unfolding finished all_offered brought all_heard after_pairs after_line request_of_line after_octets echo_of editing.after_key editing.after_idle display.shown class_of command_of trimmed selection_of spells signal_text pairs_of message_of octets_of number_of pair_of entries numeral parameter_text allows
 pad_run = record {
-  dialled = run_is (plan false) dialled_stages refl (tt, (tt, tt)) refl;
+  dialled = run_is (plan false) dialled_stages refl (no_calls dialled_stages (network_of (plan false)) refl) refl;
   dialled_records = refl;
   dialled_said = record { messages = refl; told = refl; interrupts = refl };
-  standing = run_is (plan true) standing_stages refl (tt, (tt, (tt, tt))) refl;
+  standing = run_is (plan true) standing_stages refl (no_calls standing_stages (network_of (plan true)) refl) refl;
   standing_records = refl;
   standing_said = record { messages = refl; told = refl; interrupts = refl };
 }

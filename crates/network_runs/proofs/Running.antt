@@ -22,16 +22,45 @@ use Rattle.network_runs.proofs.Steps.{act_goes, then_goes, any_after}
 use Rattle.network_runs.proofs.Plans.{plan_is, made_so}
 
 -- what is said of the calls among the acts
-calls_then : (act : Act) (acts : List Act) (s : Network) → AreCalling (act ∷ acts) s → IsCalling act s × MatchOption (acted act s) ⊥ (λ t. AreCalling acts t)
+calls_then : (act : Act) (acts : List Act) (s : Network) → AreCalling (act ∷ acts) s → IsCalling act s × MatchOption (acted act s) (Unit {0}) (λ t. AreCalling acts t)
 calls_then (AtNode line role event) acts s are = (tt, are)
 calls_then (AtSwitch place event) acts s are = (tt, are)
 calls_then (Arrives line to) acts s are = (tt, are)
 calls_then (Calling line to call) acts s are = are
 calls_then (IsLost line d) acts s are = (tt, are)
 
-act_then : (act : Act) (acts : List Act) (s t : Network) (o : Option Network) → IsAny lossless_service s → IsCalling act s → acted act s ≡ o → MatchOption o ⊥ (λ mid. AreCalling acts mid)
+-- acts among which there is none
+abbrev is_no_call : Act → Bool
+is_no_call (AtNode line role event) = true
+is_no_call (AtSwitch place event) = true
+is_no_call (Arrives line to) = true
+is_no_call (Calling line to call) = false
+is_no_call (IsLost line d) = true
+
+then_all : (P : Network → Type 0) (o : Option Network) → ((t : Network) → P t) → MatchOption o (Unit {0}) P
+then_all P None all = tt
+then_all P (Some t) all = all t
+
+none_calling : (acts : List Act) (s : Network) → list_all is_no_call acts ≡ true → AreCalling acts s
+none_calling [] s h = tt
+none_calling (AtNode line role event ∷ acts) s h = then_all (λ t. AreCalling acts t) (acted (AtNode line role event) s) (λ t. none_calling acts t h)
+none_calling (AtSwitch place event ∷ acts) s h = then_all (λ t. AreCalling acts t) (acted (AtSwitch place event) s) (λ t. none_calling acts t h)
+none_calling (Arrives line to ∷ acts) s h = then_all (λ t. AreCalling acts t) (acted (Arrives line to) s) (λ t. none_calling acts t h)
+none_calling (Calling line to call ∷ acts) s h = absurd (true≢false (sym h))
+none_calling (IsLost line d ∷ acts) s h = then_all (λ t. AreCalling acts t) (acted (IsLost line d) s) (λ t. none_calling acts t h)
+
+abbrev pub have_no_call : List Stage → Bool
+have_no_call stages = list_all (λ stage. list_all is_no_call stage.acts) stages
+
+pub no_calls : (stages : List Stage) (s : Network) → have_no_call stages ≡ true → AllCalling stages s
+no_calls [] s h = tt
+no_calls (stage ∷ stages) s h =
+    let both = and_parts (list_all is_no_call stage.acts) (have_no_call stages) h in
+    (none_calling stage.acts s both.0, then_all (λ t. AllCalling stages t) (acted_all stage.acts s) (λ t. no_calls stages t both.1))
+
+act_then : (act : Act) (acts : List Act) (s t : Network) (o : Option Network) → IsAny lossless_service s → IsCalling act s → acted act s ≡ o → MatchOption o (Unit {0}) (λ mid. AreCalling acts mid)
     → ((mid : Network) → IsAny lossless_service mid → AreCalling acts mid → acted_all acts mid ≡ Some t → Goes mid t) → option_and_then (λ mid. acted_all acts mid) o ≡ Some t → Goes s t
-act_then act acts s t None any call is are later e = absurd are
+act_then act acts s t None any call is are later e = absurd (none-some t e)
 act_then act acts s t (Some mid) any call is are later e =
     let goes : Goes s mid = act_goes act s mid any call is in then_goes goes (later mid (any_after goes any) are e)
 
@@ -49,7 +78,7 @@ all_rest s h =
       switches = λ place n there. each_at is_node_at_rest place s.nodes (Switching n) nodes.0 there;
     }
 
-stage_through : (stage : Stage) (stages : List Stage) (s : Network) (o : Option Network) → IsAny lossless_service s → AreCalling stage.acts s → acted_all stage.acts s ≡ o → MatchOption o ⊥ (λ t. AllCalling stages t)
+stage_through : (stage : Stage) (stages : List Stage) (s : Network) (o : Option Network) → IsAny lossless_service s → AreCalling stage.acts s → acted_all stage.acts s ≡ o → MatchOption o (Unit {0}) (λ t. AllCalling stages t)
     → ((t : Network) → IsAny lossless_service t → AllCalling stages t → passes stages t ≡ true → GoesThrough stages t)
     → option_map_or (λ t. stage.test t && passes stages t) o false ≡ true → GoesThrough (stage ∷ stages) s
 stage_through stage stages s None any are is calls later h = absurd (true≢false (sym h))

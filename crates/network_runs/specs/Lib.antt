@@ -4,3 +4,4 @@ pub mod Runs
 pub mod OneSwitch
 pub mod Trunk
 pub mod Pads
+pub mod Numbers

@@ -42,18 +42,20 @@ passes (stage ∷ stages) s =
 abbrev pub AreCalling : List Act → Network → Type 0
 AreCalling [] s = Unit {0}
 AreCalling (AtNode line role event ∷ acts) s =
-    MatchOption (acted (AtNode line role event) s) ⊥ (λ t. AreCalling acts t)
+    MatchOption (acted (AtNode line role event) s) (Unit {0}) (λ t. AreCalling acts t)
 AreCalling (AtSwitch place event ∷ acts) s =
-    MatchOption (acted (AtSwitch place event) s) ⊥ (λ t. AreCalling acts t)
-AreCalling (Arrives line to ∷ acts) s = MatchOption (acted (Arrives line to) s) ⊥ (λ t. AreCalling acts t)
+    MatchOption (acted (AtSwitch place event) s) (Unit {0}) (λ t. AreCalling acts t)
+AreCalling (Arrives line to ∷ acts) s =
+    MatchOption (acted (Arrives line to) s) (Unit {0}) (λ t. AreCalling acts t)
 AreCalling (Calling line to call ∷ acts) s =
-    IsCalling (Calling line to call) s × MatchOption (acted (Calling line to call) s) ⊥ (λ t. AreCalling acts t)
-AreCalling (IsLost line d ∷ acts) s = MatchOption (acted (IsLost line d) s) ⊥ (λ t. AreCalling acts t)
+    IsCalling (Calling line to call) s
+    × MatchOption (acted (Calling line to call) s) (Unit {0}) (λ t. AreCalling acts t)
+AreCalling (IsLost line d ∷ acts) s = MatchOption (acted (IsLost line d) s) (Unit {0}) (λ t. AreCalling acts t)
 
 abbrev pub AllCalling : List Stage → Network → Type 0
 AllCalling [] s = Unit {0}
 AllCalling (stage ∷ stages) s =
-    AreCalling stage.acts s × MatchOption (acted_all stage.acts s) ⊥ (λ t. AllCalling stages t)
+    AreCalling stage.acts s × MatchOption (acted_all stage.acts s) (Unit {0}) (λ t. AllCalling stages t)
 
 -- ---- what happens
 

@@ -4,6 +4,7 @@
 
 ghost use Rattle.network_runs.specs.Acting.{ActLaw};
 ghost use Rattle.network_runs.specs.Making.{MakingLaw};
+ghost use Rattle.network_runs.specs.Numbers.{NumbersRun};
 ghost use Rattle.network_runs.specs.OneSwitch.{SwitchRun};
 ghost use Rattle.network_runs.specs.Pads.{PadRun};
 ghost use Rattle.network_runs.specs.Runs.{RunLaw};
@@ -41,4 +42,10 @@ pub fn trunk_run()
 /// are its echo and the service signals (X.28).
 pub fn pad_run()
     ensures { PadRun }
+{}
+
+/// A run with numbers modulo 128: one of two hosts says 130 messages on a standing call, and the other takes them, so that
+/// P(S) and P(R) pass number 127.
+pub fn numbers_run()
+    ensures { NumbersRun }
 {}
