@@ -1,4 +1,3 @@
-pub mod Plan
 pub mod World
 pub mod Seen
 pub mod Promise
