@@ -48,9 +48,9 @@ both_sent plan l dte dce dte_is dce_is =
       from_other = are_put FromDce down between;
     } in
     let dte_so : first_flights plan l ≡ put_all FromDce (first_frames (slice_get plan.nodes l.dce) Dce l.params) between =
-        ap (λ (o : Option Planned). put_all FromDce (first_frames (slice_get plan.nodes l.dce) Dce l.params) (put_all FromDte (first_frames o Dte l.params) no_flights)) dte_is in
+    ap (λ (o : Option Planned). put_all FromDce (first_frames (slice_get plan.nodes l.dce) Dce l.params) (put_all FromDte (first_frames o Dte l.params) no_flights)) dte_is in
     let dce_so : put_all FromDce (first_frames (slice_get plan.nodes l.dce) Dce l.params) between ≡ put_all FromDce down between =
-        ap (λ (o : Option Planned). put_all FromDce (first_frames o Dce l.params) between) dce_is in
+    ap (λ (o : Option Planned). put_all FromDce (first_frames o Dce l.params) between) dce_is in
     subst (λ (f : Flights). AreSent lossless_service (new_at dte Dte l.params) (new_at dce Dce l.params) f) (sym (dte_so ∙ dce_so)) sent
 
 line_made : (plan : NetPlan) (line : ℕ) (l : NewLine) → slice_get plan.lines line ≡ Some l → LineIsMade lossless_service plan (network_of plan) line l

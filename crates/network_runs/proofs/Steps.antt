@@ -32,7 +32,7 @@ use Rattle.network_laws.specs.Switched.IsSwitched.{IsAny}
 use Rattle.network_laws.proofs.Switched.UsersAny.{event_any, loss_any}
 use Rattle.network_laws.proofs.Switched.SwitchEvents.{switch_event_holds}
 use Rattle.network_runs.specs.Acting.{map_numbered, place_among, put_all, are_octets, are_digits, has_terminal, may_happen, left_by, after_turn, may_befall, left_on, own_served, line_served, with_switch, after_switch, same_role}
-use Rattle.network_runs.specs.Acting.{Incomer, heard_lines, noted_lines, channel_of, forwarded_switch, forwarded_joins, IsForwarded, may_hear, forwarded_on, forwarded_by, called_in, IsCalledOn}
+use Rattle.network_runs.specs.Acting.{Incomer, heard_lines, noted_lines, channel_of, forwarded_switch, forwarded_joins, BringsCall, may_hear, forwarded_on, forwarded_by, called_in, IsCalledOn}
 use Rattle.network_runs.specs.Acting.{Act, AtNode, AtSwitch, Arrives, Calling, IsLost, at_user, at_its_switch, heard_on, heard_by, arrived, lost, acted, Goes, stays, by_user, by_switch, by_loss, ActLaw}
 use Rattle.network_runs.proofs.Numbered.{length_numbered, numbered_at, place_there, place_is, other_none, if_some}
 
@@ -199,7 +199,7 @@ heard_left : (octets : List ℕ) (own at : ℕ) (role : Role) (f : Flights) → 
     → LeftOn (at_switch.Hears at octets) own role f (left_on (at_switch.Hears at octets) own role f)
 heard_left octets own at role f front = (
   (λ same. (front same, ap (λ (b : Bool). if b then without_first (direction_to role) f else f) (eq-eqb own at same))),
-  (λ other. ap (λ (b : Bool). if b then without_first (direction_to role) f else f) (ne_eqb own at other))
+  (λ other. ap (λ (b : Bool). if b then without_first (direction_to role) f else f) (ne_eqb own at other)),
 )
 
 -- what the switch takes from each own line as it hears the first frame to its end of this one
@@ -251,14 +251,14 @@ call_heeded routes own call ls notes are bare found onward =
         ap (λ (b : Bool). if b then Clears invalid_facility else answer_by ls (route_from own ls (line_for routes call.parts.called))) bare
         ∙ ap (λ (o : Option ℕ). answer_by ls (route_from own ls o)) found ∙ ap (λ (o : Option ℕ). answer_by ls o) onward
 
-forwarded_so : (own : ℕ) (octets : List ℕ) (call : Incomer) (s : Switch) → IsForwarded own octets call s → IsSo own octets call s
+forwarded_so : (own : ℕ) (octets : List ℕ) (call : Incomer) (s : Switch) → BringsCall own octets call s → IsSo own octets call s
 forwarded_so own octets call s f =
     let both = call_heeded s.routes own call (noted_lines own octets s) (notes_of (slice_get (heard_lines own octets s) own)) f.noted f.bare f.found f.onward in
     record { switch = ap (λ (ls : List SwitchLine). record s { lines = finished s.routes own ls }) (sym both.0); joins = sym both.1 }
 
 called_on : (octets : List ℕ) (call : Incomer) (line : ℕ) (role : Role) (l : NetLine) (n : PlacedSwitch) (own : Option ℕ) (s t : Network) → IsAny lossless_service s → slice_get s.lines line ≡ Some l
     → slice_get s.nodes (place_at role l) ≡ Some (Switching n) → slice_get (flying (direction_to role) l.flights) 0 ≡ Some octets → place_among n.lines line ≡ own
-    → MatchOption own ⊥ (λ k. IsForwarded k octets call n.switch) → forwarded_on octets call (place_at role l) role own n s ≡ Some t → Goes s t
+    → MatchOption own ⊥ (λ k. BringsCall k octets call n.switch) → forwarded_on octets call (place_at role l) role own n s ≡ Some t → Goes s t
 called_on octets call line role l n None s t any line_is there front at is e = absurd is
 called_on octets call line role l n (Some own) s t any line_is there front at is e =
     let event : SwitchEvent = at_switch.Hears own octets in

@@ -152,7 +152,7 @@ abbrev pub forwarded_joins : (own : ℕ) → List ℕ → Incomer → Switch →
 forwarded_joins own octets call s = join_of (answer_of own octets call s) (channel_of own call) ++ []
 
 -- the frame brings this call alone, it asks for no facility, and that is its route
-pub record IsForwarded (own : ℕ) (octets : List ℕ) (call : Incomer) (s : Switch) : Type 0 where
+pub record BringsCall (own : ℕ) (octets : List ℕ) (call : Incomer) (s : Switch) : Type 0 where
   pub noted : notes_of (slice_get (heard_lines own octets s) own) ≡ Incoming call.channel call.parts ∷ []
   pub bare : has_any call.parts.facilities ≡ false
   pub found : line_for s.routes call.parts.called ≡ call.route
@@ -213,7 +213,7 @@ forwarded_on octets call place role None n s = None
 forwarded_on octets call place role (Some own) n s =
     if may_hear own octets role n.switch
     then Some (with_switch (at_switch.Hears own octets) place n (forwarded_switch own octets call n.switch)
-        (forwarded_joins own octets call n.switch) s)
+    (forwarded_joins own octets call n.switch) s)
     else None
 
 abbrev pub forwarded_by : List ℕ → Incomer → (line : ℕ) → Role → NetLine → Option NetNode → Network → Option Network
@@ -261,7 +261,7 @@ IsCalledOn None call line node = ⊥
 IsCalledOn (Some octets) call line None = ⊥
 IsCalledOn (Some octets) call line (Some (User n)) = ⊥
 IsCalledOn (Some octets) call line (Some (Switching n)) =
-    MatchOption (place_among n.lines line) ⊥ (λ own. IsForwarded own octets call n.switch)
+    MatchOption (place_among n.lines line) ⊥ (λ own. BringsCall own octets call n.switch)
 
 abbrev pub IsCalling : Act → Network → Type 0
 IsCalling (AtNode line role event) s = Unit {0}

@@ -107,7 +107,6 @@ confirms channel (Some (Switching n)) = false
 abbrev pub is_confirmed : (place channel : ℕ) → Network → Bool
 is_confirmed place channel s = confirms channel (slice_get s.nodes place)
 
-
 abbrev pub are_packets : List DataPacket → (texts : List (List ℕ)) → Bool
 are_packets packets texts = pointwise (λ p octets. pointwise nat_eq p.octets octets) packets texts
 
