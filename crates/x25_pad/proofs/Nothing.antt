@@ -1,5 +1,5 @@
 -- A terminal that has nothing to show shows and takes nothing.
-use Rattle.std.proofs.Common.{◌≡◌, ℕ, Bool, false, List, [], ◌∷◌, length, refl, ap, ◌∙◌}
+use Rattle.std.proofs.Common.{◌≡◌, ℕ, Bool, true, false, List, [], ◌∷◌, length, refl, ap, ◌∙◌}
 use Rattle.std.specs.Prelude.{Option, Some, None, not, ◌||◌, ◌==◌, ◌++◌, is_some, if◌then◌else◌, slice_get}
 use Rattle.std.specs.Option.{option_map_or}
 use Rattle.data_transfer.specs.Traffic.{Taken as TakenValue}
@@ -23,8 +23,8 @@ taken_begun found p = ap (λ next. if may_show found.terminal then next else Non
 neither : (t : TerminalState) (text : List ℕ) (taken : Option TakenValue) → (not (length text == 0) || is_some taken) ≡ false
     → (text ++ text_taken taken t ≡ []) × (taken ≡ None)
 neither t [] None nothing = (refl, refl)
-neither t [] (Some taken) nothing = absurd (cc)
-neither t (o ∷ text) taken nothing = absurd (cc)
+neither t [] (Some taken) nothing = let wrong : true ≡ false = nothing in absurd (cc)
+neither t (o ∷ text) taken nothing = let wrong : true ≡ false = nothing in absurd (cc)
 
 at_port : (o : Option PortState) (p : PadState) → option_map_or (λ found. port.shows (at found p)) o false ≡ false
     → (option_map_or (λ found. printed (at found (begun p))) o [] ≡ [])
