@@ -6,3 +6,4 @@ mod OneSwitch
 mod Trunk
 mod Pads
 mod Numbers
+mod Sizes

@@ -1,16 +1,16 @@
 -- The run of two hosts at a switch, by computation.
-use Rattle.std.proofs.Common.{◌≡◌, ℕ, true, List, [], ◌∷◌, Option, Some, None, refl, ap}
+use Rattle.std.proofs.Common.{◌≡◌, ℕ, List, [], ◌∷◌, Option, Some, None, refl, ap}
 use Rattle.std.specs.FinMap.{empty, insert, get-insert}
 use Rattle.std.proofs.lemmas.Cmp.{nat_list_cmp_total}
 use Rattle.packet_end.specs.PacketEnd as offers
 use Rattle.address_routes.specs.Routes.{line_for, or_else}
 use Rattle.switch_lines.specs.Relay as relaying
-use Rattle.network_runs.specs.Making.{is_plan, network_of}
-use Rattle.network_runs.specs.Runs.{passes, AllCalling}
+use Rattle.network_runs.specs.Making.{network_of}
+use Rattle.network_runs.specs.Runs.{AllCalling}
 use Rattle.network_runs.specs.OneSwitch.{routes, plan, stages, SwitchRun}
 use Rattle.network_runs.proofs.Running.{run_is}
 
-has_route : line_for routes (2 ∷ []) ≡ Some 1
+pub has_route : line_for routes (2 ∷ []) ≡ Some 1
 has_route = ap (λ (o : Option ℕ). or_else o None) (get-insert nat_list_cmp_total (insert empty (1 ∷ []) 0) (2 ∷ []) 1 (2 ∷ []))
 
 calls : AllCalling stages (network_of plan)

@@ -5,3 +5,4 @@ pub mod OneSwitch
 pub mod Trunk
 pub mod Pads
 pub mod Numbers
+pub mod Sizes

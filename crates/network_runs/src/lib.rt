@@ -8,6 +8,7 @@ ghost use Rattle.network_runs.specs.Numbers.{NumbersRun};
 ghost use Rattle.network_runs.specs.OneSwitch.{SwitchRun};
 ghost use Rattle.network_runs.specs.Pads.{PadRun};
 ghost use Rattle.network_runs.specs.Runs.{RunLaw};
+ghost use Rattle.network_runs.specs.Sizes.{SizesRun};
 ghost use Rattle.network_runs.specs.Trunk.{TrunkRun};
 
 /// The law of runs, on lines in memory that lose no frame. A plan that passes a test is one of a network that there can
@@ -48,4 +49,10 @@ pub fn pad_run()
 /// P(S) and P(R) pass number 127.
 pub fn numbers_run()
     ensures { NumbersRun }
+{}
+
+/// A run with packets of 128 octets on the line of one host and of 256 on that of the other: the switch between them
+/// gathers the packets of a message, and cuts that of the answer.
+pub fn sizes_run()
+    ensures { SizesRun }
 {}
