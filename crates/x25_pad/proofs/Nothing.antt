@@ -1,5 +1,6 @@
 -- A terminal that has nothing to show shows and takes nothing.
-use Rattle.std.proofs.Common.{◌≡◌, ℕ, Bool, true, false, List, [], ◌∷◌, length, refl, ap, ◌∙◌}
+use Rattle.std.proofs.Common.{◌≡◌, ℕ, Bool, true, false, List, [], ◌∷◌, length, arith, refl, ap, ◌∙◌, true≢false}
+use Rattle.std.proofs.lemmas.Bool.{eqb-true}
 use Rattle.std.specs.Prelude.{Option, Some, None, not, ◌||◌, ◌==◌, ◌++◌, is_some, if◌then◌else◌, slice_get}
 use Rattle.std.specs.Option.{option_map_or}
 use Rattle.data_transfer.specs.Traffic.{Taken as TakenValue}
@@ -20,11 +21,17 @@ next_begun (Some channel) found p = refl
 taken_begun : (found : PortState) (p : PadState) → taken_of (at found (begun p)) ≡ taken_of (at found p)
 taken_begun found p = ap (λ next. if may_show found.terminal then next else None) (next_begun found.call found p)
 
+none_there : (none more : Bool) → (not none || more) ≡ false → none ≡ true
+none_there true more h = refl
+none_there false more h = absurd (true≢false h)
+
 neither : (t : TerminalState) (text : List ℕ) (taken : Option TakenValue) → (not (length text == 0) || is_some taken) ≡ false
     → (text ++ text_taken taken t ≡ []) × (taken ≡ None)
 neither t [] None nothing = (refl, refl)
 neither t [] (Some taken) nothing = let wrong : true ≡ false = nothing in absurd (cc)
-neither t (o ∷ text) taken nothing = let wrong : true ≡ false = nothing in absurd (cc)
+neither t (o ∷ text) taken nothing =
+    let none = eqb-true (length (o ∷ text)) 0 (none_there (length (o ∷ text) == 0) (is_some taken) nothing) in
+    absurd (omega (arith, none))
 
 at_port : (o : Option PortState) (p : PadState) → option_map_or (λ found. port.shows (at found p)) o false ≡ false
     → (option_map_or (λ found. printed (at found (begun p))) o [] ≡ [])
