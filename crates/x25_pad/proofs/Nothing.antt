@@ -1,5 +1,5 @@
 -- A terminal that has nothing to show shows and takes nothing.
-use Rattle.std.proofs.Common.{◌≡◌, ℕ, Bool, true, false, List, [], ◌∷◌, length, refl, ap, ◌∙◌}
+use Rattle.std.proofs.Common.{◌≡◌, ℕ, suc, Bool, true, false, List, [], ◌∷◌, length, refl, ap, ◌∙◌, arith, eqb-true}
 use Rattle.std.specs.Prelude.{Option, Some, None, not, ◌||◌, ◌==◌, ◌++◌, is_some, if◌then◌else◌, slice_get}
 use Rattle.std.specs.Option.{option_map_or}
 use Rattle.data_transfer.specs.Traffic.{Taken as TakenValue}
@@ -20,11 +20,16 @@ next_begun (Some channel) found p = refl
 taken_begun : (found : PortState) (p : PadState) → taken_of (at found (begun p)) ≡ taken_of (at found p)
 taken_begun found p = ap (λ next. if may_show found.terminal then next else None) (next_begun found.call found p)
 
+neither_by : (t : TerminalState) (text : List ℕ) (taken : Option TakenValue) (empty : Bool) → (length text == 0) ≡ empty
+    → (not empty || is_some taken) ≡ false → (text ++ text_taken taken t ≡ []) × (taken ≡ None)
+neither_by t text taken false is nothing = absurd (let wrong : true ≡ false = nothing in cc)
+neither_by t text (Some taken) true is nothing = absurd (let wrong : true ≡ false = nothing in cc)
+neither_by t [] None true is nothing = (refl, refl)
+neither_by t (o ∷ text) None true is nothing = let none = eqb-true (suc (length text)) 0 is in absurd (omega arith)
+
 neither : (t : TerminalState) (text : List ℕ) (taken : Option TakenValue) → (not (length text == 0) || is_some taken) ≡ false
     → (text ++ text_taken taken t ≡ []) × (taken ≡ None)
-neither t [] None nothing = (refl, refl)
-neither t [] (Some taken) nothing = let wrong : true ≡ false = nothing in absurd (cc)
-neither t (o ∷ text) taken nothing = let wrong : true ≡ false = nothing in absurd (cc)
+neither t text taken nothing = neither_by t text taken (length text == 0) refl nothing
 
 at_port : (o : Option PortState) (p : PadState) → option_map_or (λ found. port.shows (at found p)) o false ≡ false
     → (option_map_or (λ found. printed (at found (begun p))) o [] ≡ [])
