@@ -189,8 +189,8 @@ stands_so lines place (PlannedSwitch n) h =
 -- of two lines of which one switch is the DTE, one is the other
 one_trunk : (nodes : List Planned) (line other : ℕ) (k l : NewLine) (n : NewSwitch) → slice_get nodes k.dte ≡ Some (PlannedSwitch n) → k.dte ≡ l.dte
     → (not (is_switch (slice_get nodes k.dte)) ≡ true) ⊎ (((line == other) || not (k.dte == l.dte)) ≡ true) → line ≡ other
-one_trunk nodes line other k l n switch same (inl no) =
-    absurd (true≢false (sym no ∙ ap (λ (o : Option Planned). not (is_switch o)) switch))
+one_trunk nodes line other k l n switch same (inl user) =
+    absurd (true≢false (sym user ∙ ap (λ (o : Option Planned). not (is_switch o)) switch))
 one_trunk nodes line other k l n switch same (inr h) = either (or_cases (line == other) (not (k.dte == l.dte)) h)
   where
     either : ((line == other) ≡ true) ⊎ (not (k.dte == l.dte) ≡ true) → line ≡ other
