@@ -1,6 +1,6 @@
 -- The runs of a PAD and a host, by computation.
-use Rattle.std.proofs.Common.{◌≡◌, refl}
-use Rattle.std.specs.Prelude.{true, false, ◌++◌, ◌∷◌, [], Some}
+use Rattle.std.proofs.Common.{refl}
+use Rattle.std.specs.Prelude.{true, false}
 use Rattle.pad_editing.specs.Edited as editing
 use Rattle.pad_editing.specs.Echoes.{echo_of}
 use Rattle.pad_editing.specs.Shown as display

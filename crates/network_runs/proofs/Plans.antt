@@ -1,9 +1,9 @@
 -- A plan that passes the test is one of a network that there can be, and its network is made as planned.
-use Rattle.std.proofs.Common.{◌≡◌, ◌≢◌, ◌<◌, ◌≤◌, ℕ, zero, suc, ◌==◌, Bool, true, false, List, [], ◌∷◌, length, Option, Some, None, inl, inr, refl, sym, ap, subst, ◌∙◌, true≢false}
-use Rattle.std.specs.Prelude.{◌&&◌, ◌||◌, ◌⊎◌, not, nat_le, slice_get, map, is_none, is_some}
+use Rattle.std.proofs.Common.{◌≡◌, ◌≢◌, ℕ, zero, suc, ◌==◌, Bool, true, false, List, [], ◌∷◌, length, Option, Some, None, inl, inr, refl, sym, ap, subst, ◌∙◌, true≢false}
+use Rattle.std.specs.Prelude.{◌&&◌, ◌||◌, ◌⊎◌, not, nat_le, slice_get, is_none, is_some}
 use Rattle.std.specs.Option.{option_map}
 use Rattle.std.specs.List.{list_all}
-use Rattle.std.proofs.lemmas.Option.{none-some, same_Some, slice_get-map}
+use Rattle.std.proofs.lemmas.Option.{none-some, slice_get-map}
 use Rattle.std.proofs.lemmas.Bool.{and_parts, or_cases, not-true, leb-true, eqb-true, eqb-false}
 use Rattle.std.proofs.lemmas.List.{length-map}
 use Rattle.link_timers.specs.declared.role.Role.{Role}
@@ -18,7 +18,7 @@ use Rattle.frame_lines.specs.declared.line.Direction.TheVariants.{FromDte, FromD
 use Rattle.frame_lines.specs.Lines.{Flights, lossless_service, no_flights}
 use Rattle.net_config.specs.NetPlan.{NewDte, NewPad, NewHost, NewLine, NewSwitch, NetPlan, Planned, PlannedUser, PlannedSwitch, switch_places}
 use Rattle.net_config.specs.NetPlan.{IsNewDte, IsEndPlan, IsKindOfLine, IsLinePlan, HasEndAt, IsNodePlan, IsPlan}
-use Rattle.net_events.specs.Network.{NetNode, User, NetLine}
+use Rattle.net_events.specs.Network.{User}
 use Rattle.net_events.specs.Opening.{placed_new, new_at, NodeIsMade, LineIsMade, AreSent, IsMade}
 use Rattle.network_runs.specs.Acting.{place_among, put_all, are_digits, same_role}
 use Rattle.network_runs.specs.Making.{params_of, new_node, first_frames, first_flights, new_line, network_of, all_numbered, is_flow, is_between, are_params, is_new_dte, is_end_plan, is_empty, is_kind_of_line, are_its_ends, is_line_plan, ends_at, are_apart, is_node_plan, is_switch, are_two_up, is_plan}
@@ -189,8 +189,8 @@ stands_so lines place (PlannedSwitch n) h =
 -- of two lines of which one switch is the DTE, one is the other
 one_trunk : (nodes : List Planned) (line other : ℕ) (k l : NewLine) (n : NewSwitch) → slice_get nodes k.dte ≡ Some (PlannedSwitch n) → k.dte ≡ l.dte
     → (not (is_switch (slice_get nodes k.dte)) ≡ true) ⊎ (((line == other) || not (k.dte == l.dte)) ≡ true) → line ≡ other
-one_trunk nodes line other k l n switch same (inl no) =
-    absurd (true≢false (sym no ∙ ap (λ (o : Option Planned). not (is_switch o)) switch))
+one_trunk nodes line other k l n switch same (inl user) =
+    absurd (true≢false (sym user ∙ ap (λ (o : Option Planned). not (is_switch o)) switch))
 one_trunk nodes line other k l n switch same (inr h) = either (or_cases (line == other) (not (k.dte == l.dte)) h)
   where
     either : ((line == other) ≡ true) ⊎ (not (k.dte == l.dte) ≡ true) → line ≡ other

@@ -1,6 +1,6 @@
 -- A plan and a list of acts that pass the tests are a run.
-use Rattle.std.proofs.Common.{◌≡◌, ℕ, Bool, true, false, List, [], ◌∷◌, Option, Some, None, refl, sym, subst, true≢false}
-use Rattle.std.specs.Prelude.{◌&&◌, slice_get, MatchOption}
+use Rattle.std.proofs.Common.{◌≡◌, Bool, true, false, List, [], ◌∷◌, Option, Some, None, refl, sym, subst, true≢false}
+use Rattle.std.specs.Prelude.{◌&&◌, MatchOption}
 use Rattle.std.specs.Option.{option_and_then, option_map_or}
 use Rattle.std.specs.List.{list_all}
 use Rattle.std.proofs.lemmas.Option.{none-some, same_Some}
@@ -8,7 +8,7 @@ use Rattle.std.proofs.lemmas.Bool.{and_parts}
 use Rattle.frame_lines.specs.Lines.{lossless_service}
 use Rattle.net_events.specs.Network.{User, Switching, Network}
 use Rattle.net_events.specs.Opening.{IsMade}
-use Rattle.net_config.specs.NetPlan.{NetPlan, IsPlan}
+use Rattle.net_config.specs.NetPlan.{IsPlan}
 use Rattle.network_laws.specs.Switched.IsSwitched.{IsAny}
 use Rattle.network_laws.specs.Switched.Rest.{AreAllAtRest}
 use Rattle.network_laws.proofs.Switched.MadeHeld.{made_any}

@@ -1,5 +1,5 @@
 -- The run with packets of two sizes, by computation.
-use Rattle.std.proofs.Common.{◌∷◌, [], refl}
+use Rattle.std.proofs.Common.{refl}
 use Rattle.packet_end.specs.PacketEnd as offers
 use Rattle.switch_lines.specs.Relay as relaying
 use Rattle.network_runs.specs.Making.{network_of}

@@ -1,5 +1,5 @@
 -- What an act makes of a network is a step of it.
-use Rattle.std.proofs.Common.{◌≡◌, ◌≢◌, ◌<◌, ◌≤◌, ℕ, zero, suc, ◌==◌, Bool, true, false, if◌then◌else◌, List, [], ◌∷◌, ◌++◌, length, Option, Some, None, inl, refl, sym, ap, subst, ◌∙◌, true≢false}
+use Rattle.std.proofs.Common.{◌≡◌, ◌≢◌, ℕ, Bool, true, false, if◌then◌else◌, List, [], ◌∷◌, ◌++◌, length, Option, Some, None, inl, refl, sym, ap, subst, ◌∙◌, true≢false}
 use Rattle.std.specs.Prelude.{◌&&◌, not, nat_lt, nat_le, slice_get, IsTrue, MatchOption}
 use Rattle.std.specs.Option.{option_map, option_and_then}
 use Rattle.std.proofs.lemmas.Option.{none-some, same_Some}
@@ -13,7 +13,7 @@ use Rattle.line_nodes.specs.Node.{NodeState, Pad, Host, is_pad, frames_of}
 use Rattle.line_nodes.specs.Terminals.{HasTerminal}
 use Rattle.frame_lines.specs.declared.line.Direction.{Direction}
 use Rattle.frame_lines.specs.declared.line.Direction.TheVariants.{FromDte, FromDce}
-use Rattle.frame_lines.specs.Lines.{Flights, lossless_service, no_flights, flying, with_flying, without_first, ArePut}
+use Rattle.frame_lines.specs.Lines.{Flights, lossless_service, flying, with_flying, without_first, ArePut}
 use Rattle.data_transfer.specs.Packets.{Note}
 use Rattle.data_transfer.specs.Packets.Note.{Incoming}
 use Rattle.packet_codec.specs.ClearCause.{invalid_facility}
@@ -31,9 +31,9 @@ use Rattle.net_events.specs.Network.{PlacedNode, PlacedSwitch, NetNode, User, Sw
 use Rattle.network_laws.specs.Switched.IsSwitched.{IsAny}
 use Rattle.network_laws.proofs.Switched.UsersAny.{event_any, loss_any}
 use Rattle.network_laws.proofs.Switched.SwitchEvents.{switch_event_holds}
-use Rattle.network_runs.specs.Acting.{map_numbered, place_among, put_all, are_octets, are_digits, has_terminal, may_happen, left_by, after_turn, may_befall, left_on, own_served, line_served, with_switch, after_switch, same_role}
+use Rattle.network_runs.specs.Acting.{place_among, put_all, are_octets, are_digits, has_terminal, may_happen, left_by, after_turn, may_befall, left_on, line_served, with_switch, after_switch, same_role}
 use Rattle.network_runs.specs.Acting.{Incomer, heard_lines, noted_lines, channel_of, forwarded_switch, forwarded_joins, BringsCall, may_hear, forwarded_on, forwarded_by, called_in, IsCalledOn}
-use Rattle.network_runs.specs.Acting.{Act, AtNode, AtSwitch, Arrives, Calling, IsLost, at_user, at_its_switch, heard_on, heard_by, arrived, lost, acted, Goes, stays, by_user, by_switch, by_loss, ActLaw}
+use Rattle.network_runs.specs.Acting.{AtNode, AtSwitch, Arrives, Calling, IsLost, at_user, at_its_switch, heard_on, heard_by, arrived, lost, Goes, stays, by_user, by_switch, by_loss, ActLaw}
 use Rattle.network_runs.proofs.Numbered.{length_numbered, numbered_at, place_there, place_is, other_none, if_some}
 
 -- ---- frames are put

@@ -257,7 +257,7 @@ pub data Goes : Network → Network → Type 0 where
 
 -- a call that comes to a switch is what the act says
 abbrev pub IsCalledOn : (octets : Option (List ℕ)) → Incomer → (line : ℕ) → Option NetNode → Type 0
-IsCalledOn None call line node = ⊥
+IsCalledOn None call line n = ⊥
 IsCalledOn (Some octets) call line None = ⊥
 IsCalledOn (Some octets) call line (Some (User n)) = ⊥
 IsCalledOn (Some octets) call line (Some (Switching n)) =

@@ -13,7 +13,7 @@ use Rattle.call_records.specs.Register.{made_register}
 use Rattle.line_nodes.specs.Node.{frames_of}
 use Rattle.frame_lines.specs.declared.line.Direction.TheVariants.{FromDte, FromDce}
 use Rattle.frame_lines.specs.Lines.{Flights, lossless_service, no_flights}
-use Rattle.net_config.specs.NetPlan.{NewDte, NewPad, NewHost, NewLine, NewSwitch, NetPlan, Planned, IsPlan}
+use Rattle.net_config.specs.NetPlan.{NewDte, NewPad, NewHost, NewLine, NetPlan, Planned, IsPlan}
 use Rattle.net_config.specs.NetPlan.{PlannedUser, PlannedSwitch, switch_places}
 use Rattle.net_events.specs.Network.{NetNode, User, Switching, NetLine, Network}
 use Rattle.net_events.specs.Opening.{placed_new, placed_switch, line_plan, new_at, IsMade}

@@ -1,15 +1,15 @@
 -- A run of two hosts at a switch, with packets of 128 octets on the line of the first one and of 256 on the other line.
 -- A message of 200 octets goes each way: the switch gathers the two packets of the first host into one, and cuts that of
 -- the second one into two. All is at rest then.
-use Rattle.std.specs.Prelude.{ℕ, Bool, true, false, ◌&&◌, nat_eq, List, [], ◌∷◌, ◌++◌, length, map, replicate, Some}
+use Rattle.std.specs.Prelude.{ℕ, Bool, false, ◌&&◌, nat_eq, List, [], ◌∷◌, ◌++◌, length, map, replicate, Some}
 use Rattle.std.specs.Cmp.Lexicographic.{pointwise}
-use Rattle.link_timers.specs.declared.role.Role.TheVariants.{Dte, Dce}
+use Rattle.link_timers.specs.declared.role.Role.TheVariants.{Dce}
 use Rattle.epochs.specs.Item.{DataPacket}
 use Rattle.packet_codec.specs.declared.packet.Numbering.TheVariants.{Modulo8}
 use Rattle.packet_end.specs.declared.params.EndParams.{EndParams}
 use Rattle.packet_channel.specs.Channel.Request.{Accept}
 use Rattle.call_records.specs.Records.{RecordValue}
-use Rattle.net_events.specs.NodeEvents.{NodeEvent, Calls, Asks, Says, Takes}
+use Rattle.net_events.specs.NodeEvents.{Calls, Asks, Says, Takes}
 use Rattle.net_events.specs.Network.{Network}
 use Rattle.net_config.specs.NetPlan.{NetPlan, PlannedSwitch}
 use Rattle.network_runs.specs.Acting.{Act, Calling}
