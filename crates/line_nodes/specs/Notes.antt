@@ -1,28 +1,35 @@
 -- What users are told of their calls: the user of a host, and those at the terminals of a PAD.
-use Rattle.std.specs.Prelude.{ℕ, List, [], ◌∷◌, ◌++◌, map, drop, Option}
+use Rattle.std.specs.Prelude.{ℕ, List, [], ◌∷◌, ◌++◌, drop, Option}
 use Rattle.data_transfer.specs.Packets.{Note}
 use Rattle.data_transfer.specs.Packets.Note.{Incoming, Connected, Closed, WasReset, InterruptConfirmed, Covered}
 use Rattle.pad_ports.specs.Notes as pad
-use Rattle.pad_ports.specs.Notes.{ChannelNote, first_terminal}
+use Rattle.pad_ports.specs.Notes.{ChannelNote, PadNote, first_terminal}
 use Rattle.call_records.specs.Book.{address_of}
 use Rattle.line_nodes.specs.declared.note.CallUser.{CallUser}
 use Rattle.line_nodes.specs.declared.note.CallUser.TheVariants as user
 use Rattle.line_nodes.specs.declared.note.UserNote.{UserNote}
 use Rattle.line_nodes.specs.declared.note.NoteKind.TheVariants as kind
 
--- a note of a node: what the packet layer told a host, or what a PAD noted, with the terminal whose call it is of, if
--- one has the call
-pub data NodeNote : Type 0 where
-  AtHost : Note → NodeNote
-  AtPad : (terminal : Option ℕ) → ChannelNote → NodeNote
+-- the notes of a node, in order: those that its packet layer told a host, or those of a PAD, with the terminals whose
+-- calls they are of
+pub record NodeNotes : Type 0 where
+  pub host : List Note
+  pub pad : List PadNote
 
-abbrev pub at_host : List Note → List NodeNote
-at_host notes = map AtHost notes
+abbrev pub no_notes : NodeNotes
+no_notes = record { host = []; pad = [] }
 
--- the notes of a PAD with their terminals, which are in the same order
-abbrev pub at_pad : List (Option ℕ) → List ChannelNote → List NodeNote
-at_pad terminals [] = []
-at_pad terminals (note ∷ notes) = AtPad (first_terminal terminals) note ∷ at_pad (drop 1 terminals) notes
+abbrev pub at_host : List Note → NodeNotes
+at_host notes = record { host = notes; pad = [] }
+
+-- the terminals are in the order of the notes
+abbrev pub with_terminals : List (Option ℕ) → List ChannelNote → List PadNote
+with_terminals terminals [] = []
+with_terminals terminals (note ∷ notes) =
+    record { terminal = first_terminal terminals; note = note } ∷ with_terminals (drop 1 terminals) notes
+
+abbrev pub at_pad : List (Option ℕ) → List ChannelNote → NodeNotes
+at_pad terminals notes = record { host = []; pad = with_terminals terminals notes }
 
 -- a call that comes in, with its addresses and its user data, that is connected, cleared or reset; that an interrupt
 -- was confirmed, or packets sent were covered, is not told
@@ -59,11 +66,10 @@ told_by_pad node terminal (pad.Sent channel d) = []
 told_by_pad node terminal (pad.Interrupted channel octets) = []
 told_by_pad node terminal (pad.Took channel taken) = []
 
-abbrev pub user_note : (node : ℕ) → NodeNote → List UserNote
-user_note node (AtHost note) = told_by_layer node user.Host note
-user_note node (AtPad terminal note) = told_by_pad node terminal note
+abbrev pub all_listed : (node : ℕ) → List Note → List PadNote → List UserNote
+all_listed node [] [] = []
+all_listed node [] (n ∷ notes) = told_by_pad node n.terminal n.note ++ all_listed node [] notes
+all_listed node (note ∷ notes) of_pad = told_by_layer node user.Host note ++ all_listed node notes of_pad
 
--- in order
-abbrev pub user_notes : (node : ℕ) → List NodeNote → List UserNote
-user_notes node [] = []
-user_notes node (note ∷ notes) = user_note node note ++ user_notes node notes
+abbrev pub user_notes : (node : ℕ) → NodeNotes → List UserNote
+user_notes node notes = all_listed node notes.host notes.pad

@@ -1,23 +1,21 @@
 -- What an event makes of a node and of the book of its line.
-use Rattle.std.specs.Prelude.{List, []}
 use Rattle.link_timers.specs.declared.role.Role.{Role}
 use Rattle.call_records.specs.Book.{Book, all_told}
 use Rattle.call_records.specs.Writes.{all_written}
 pub use Rattle.call_records.specs.Writes.{all_sent}
 use Rattle.line_nodes.specs.PadWriting.{writes_of}
 use Rattle.line_nodes.specs.Node.{NodeState, Pad, Host, without_notes}
-use Rattle.line_nodes.specs.Notes.{NodeNote, at_host, at_pad}
+use Rattle.line_nodes.specs.Notes.{NodeNotes, no_notes, at_host, at_pad}
 
--- the node with the frames that wait and with all notes read, the book with all that was written, and the notes, in
--- order
+-- the node with the frames that wait and with all notes read, the book with all that was written, and the notes
 pub record Turn : Type 0 where
   pub node : NodeState
   pub book : Book
-  pub notes : List NodeNote
+  pub notes : NodeNotes
 
 -- nothing happens
 abbrev pub unchanged : NodeState → Book → Turn
-unchanged n b = record { node = n; book = b; notes = [] }
+unchanged n b = record { node = n; book = b; notes = no_notes }
 
 -- the notes of a node are read, and written into the book
 abbrev pub told : Role → NodeState → Book → Turn

@@ -157,7 +157,7 @@ taken_none role e channel b q = by (front_on e.layer channel) refl
     by : (o : Option Taken) → front_on e.layer channel ≡ o → opening_notes (after_take e channel).notes ≡ 0
     by None is = ap (λ (o : Option Taken). opening_notes (taken_as o channel e).notes) is ∙ ap opening_notes q.node.read
     by (Some x) is =
-        let P : Option Taken → Type 0 = λ o. opening_notes (taken_turn o role e channel b).notes ≡ 0 in
+        let P : Option Taken → Type 0 = λ o. opening_notes (taken_turn o role e channel b).notes.host ≡ 0 in
         subst P is (opens-takes role e channel b q)
 
 taken_reads : (role : Role) (e : PacketEnd) (channel : ℕ) (b : Book) → IsQuiet (Host e)
