@@ -1,14 +1,16 @@
 -- A run of two hosts at a switch, with one channel on each line. The links are set up, the first host calls the second
 -- one, a message goes over with D = 1, whose frame is lost and sent again after a poll, and is confirmed, a reply comes
--- back, and all is at rest.
-use Rattle.std.specs.Prelude.{ℕ, Bool, true, false, ◌&&◌, ◌==◌, not, List, [], ◌∷◌, ◌++◌, Some}
+-- back, and all is at rest. Then both hosts reset the call at once, the first one clears it, and calls again on the same
+-- channels.
+use Rattle.std.specs.Prelude.{ℕ, Bool, true, false, ◌&&◌, ◌==◌, not, nat_le, List, [], ◌∷◌, ◌++◌, length, Some}
+use Rattle.std.specs.List.{list_all}
 use Rattle.std.specs.FinMap.{empty, insert}
 use Rattle.link_timers.specs.declared.role.Role.TheVariants.{Dte, Dce}
 use Rattle.link_timers.specs.declared.timers.TimerId.TheVariants.{T1}
 use Rattle.data_transfer.specs.Flow.{modulo_8}
 use Rattle.packet_end.specs.declared.params.EndParams.{EndParams}
-use Rattle.packet_channel.specs.Channel.Request.{Accept}
-use Rattle.call_records.specs.Records.{RecordValue}
+use Rattle.packet_channel.specs.Channel.Request.{Accept, Resetting, Clearing}
+use Rattle.call_records.specs.Records.{RecordValue, PairValue}
 use Rattle.frame_lines.specs.declared.line.Direction.TheVariants.{FromDte}
 use Rattle.address_routes.specs.Routes.{RouteMap}
 use Rattle.net_events.specs.NodeEvents.{NodeEvent, Expires, Calls, Asks, Says, Takes}
@@ -67,8 +69,46 @@ abbrev pub has_come_to_rest : Network → Bool
 has_come_to_rest s =
     is_at_rest s && (is_confirmed 0 1 s && (is_one s.register.pairs && are_two s.register.records))
 
+-- ---- the call is reset and cleared, and its channels are used again
+
+abbrev pub resetting : List Act
+resetting = first (Asks 1 (Resetting 0 0)) ∷ second (Asks 1 (Resetting 0 0)) ∷ passes 4 []
+
+abbrev pub clearing : List Act
+clearing = first (Asks 1 (Clearing 0 0)) ∷ passes 4 []
+
+abbrev pub calling_again : List Act
+calling_again =
+    first (Calls (2 ∷ []) []) ∷ Calling 0 Dce (call_to (2 ∷ []) [] (Some 1))
+    ∷ passes 3 (second (Asks 1 Accept) ∷ passes 3 [])
+
+-- what was sent and taken is of epochs before the present ones
+abbrev pub is_reset : RecordValue → Bool
+is_reset r =
+    not r.closed
+    && (nat_le 1 (length r.sent_before) && (are_packets r.sent.packets [] && are_packets r.taken.packets []))
+
+abbrev pub are_reset : Network → Bool
+are_reset s = is_at_rest s && list_all is_reset s.register.records
+
+abbrev pub are_cleared : Network → Bool
+are_cleared s = is_at_rest s && list_all (λ r. r.closed) s.register.records
+
+-- the third record called the fourth one
+abbrev pub are_called_again : List RecordValue → List PairValue → Bool
+are_called_again (r ∷ q ∷ t ∷ u ∷ []) (p ∷ o ∷ []) =
+    not t.closed && (not u.closed && ((o.caller == 2) && (o.callee == 3)))
+are_called_again records pairs = false
+
+abbrev pub has_called_again : Network → Bool
+has_called_again s = is_at_rest s && are_called_again s.register.records s.register.pairs
+
 abbrev pub stages : List Stage
-stages = record { acts = calling ++ talking; test = has_come_to_rest } ∷ []
+stages =
+    record { acts = calling ++ talking; test = has_come_to_rest }
+    ∷ record { acts = resetting; test = are_reset }
+    ∷ record { acts = clearing; test = are_cleared }
+    ∷ record { acts = calling_again; test = has_called_again } ∷ []
 
 abbrev pub SwitchRun : Type 0
 SwitchRun = IsRun plan stages

@@ -23,7 +23,8 @@ pub fn run_law()
 
 /// A run over frames: two hosts at a switch set their links up, and one calls the other. Data goes both ways, and a
 /// message with D = 1, whose first frame is lost, is confirmed. With the call open all comes to rest, so that the law of
-/// rest says that nothing is missing.
+/// rest says that nothing is missing. Then both hosts reset the call at once, one clears it, and calls again on the same
+/// channels.
 pub fn switch_run()
     ensures { SwitchRun }
 {}
