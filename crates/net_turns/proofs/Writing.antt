@@ -19,6 +19,7 @@ use Rattle.call_records.specs.Carried.{carried, unless_refused, placed_on}
 use Rattle.call_records.specs.Room.{BookState, opening_notes}
 use Rattle.line_nodes.specs.Node.{NodeState, Pad, Host, is_pad}
 use Rattle.line_nodes.specs.NodeEvents.{heard, expired, relinked}
+use Rattle.line_nodes.specs.Notes.{at_host}
 use Rattle.line_nodes.specs.Turn.{told, all_sent}
 use Rattle.line_nodes.specs.Terminals.{after_terminal}
 use Rattle.line_nodes.specs.declared.terminal.TerminalEvent.{TerminalEvent}
@@ -171,7 +172,7 @@ taken_reads role e channel b q = by (front_on e.layer channel) refl
         ∙ (λ i. record {
           node = Host (record e { notes = sym q.node.read i });
           book = Rattle.call_records.specs.Book.all_told role (q.node.read i) b;
-          notes = q.node.read i;
+          notes = at_host (q.node.read i);
         })
     by (Some x) is = refl
 
