@@ -19,8 +19,8 @@ use Rattle.call_records.specs.Carried.{carried, unless_refused, placed_on}
 use Rattle.call_records.specs.Room.{BookState, opening_notes}
 use Rattle.line_nodes.specs.Node.{NodeState, Pad, Host, is_pad}
 use Rattle.line_nodes.specs.NodeEvents.{heard, expired, relinked}
-use Rattle.line_nodes.specs.Notes.{at_host}
 use Rattle.line_nodes.specs.Turn.{told, all_sent}
+use Rattle.line_nodes.specs.Notes.{at_host}
 use Rattle.line_nodes.specs.Terminals.{after_terminal}
 use Rattle.line_nodes.specs.declared.terminal.TerminalEvent.{TerminalEvent}
 use Rattle.line_nodes.specs.HostTurns.{taken_turn}
