@@ -1,0 +1,599 @@
+//! The calls of a line: the table of its channels and that of connections.
+ghost use Rattle.std.specs.Prelude.{◌≡◌, ◌≤◌, length, take, replicate, slice_get, is_some, position, IfOk, IfSome, IfNone, Some, None};
+ghost use Rattle.packet_codec.specs.Packet.{IsPacket};
+ghost use Rattle.packet_codec.specs.View.{content_view, view};
+ghost use Rattle.xot_gateway.specs.declared.connection.Connection.{Connection as ConnectionValue};
+ghost use Rattle.xot_gateway.specs.declared.calls.LineState.TheVariants as line_is;
+ghost use Rattle.xot_gateway.specs.Connections.{absent, elapsed, granted, is_on, opened, wished, writes, written};
+ghost use Rattle.xot_gateway.specs.Packets.{read_on};
+ghost use Rattle.xot_gateway.specs.Calls.{
+  AllChange,
+  AllEnd,
+  Hears,
+  HearsOn,
+  HearsPacket,
+  IsMade,
+  Loses,
+  OthersStay,
+  PaysOwed,
+  Restarts,
+  Serves,
+  absent_one,
+  after_confirmation,
+  after_restart,
+  alone_heard,
+  attached,
+  changed_at,
+  come,
+  ends_calls,
+  first_owed,
+  free_in,
+  heard_at,
+  highest_free,
+  is_call,
+  is_line_ready,
+  is_ready,
+  left_by,
+  number_of,
+  owed_packet,
+  owes,
+  place_of,
+  taken,
+  with_call,
+  with_paid,
+};
+
+use crate::connection::{CallState, Connection, Wish};
+use crate::line::XotLine;
+use crate::packets::{
+    read_on, write_clear, write_confirmation, write_restart, write_restart_confirmation,
+};
+use crate::states::ChannelState;
+use packet_codec::clear_cause::{NUMBER_BUSY, OUT_OF_ORDER};
+use packet_codec::{Content, MAX_USER_DATA, Packet, PacketBuf};
+use std::alloc::{AllocError, Global};
+
+/// The most places of channels.
+const MOST_PLACES: usize = 255;
+
+/// What the packet layer of the line is in. The gateway is its DTE (X.25 3).
+#[derive(Clone, Copy, PartialEq, Eq)]
+pub(crate) enum LineState {
+    /// The link is not up.
+    Down,
+    /// r2: a Restart Request is to go to the line.
+    ToRestart,
+    /// r2: it went, and is not confirmed.
+    Restarting,
+    /// r3: a Restart Confirmation is to go to the line.
+    ToConfirm,
+    /// r1.
+    Ready,
+}
+
+/// What is to be done with a connection.
+#[derive(Clone, Copy, PartialEq, Eq)]
+pub enum Order {
+    /// Make the connection of this number.
+    Connect(usize),
+    /// Close the connection of this number, if it was made. The gateway knows it no more.
+    Close(usize),
+}
+
+/// What a packet of a connection came to.
+#[derive(Clone, Copy, PartialEq, Eq)]
+pub enum Work {
+    /// No whole packet is there.
+    Nothing,
+    /// One was taken, and nothing goes to the line for it.
+    Taken,
+    /// One was taken, and a packet is to go to the line.
+    Sends,
+}
+
+/// The calls of one line, each over one connection.
+#[derive(Drop)]
+pub struct XotCalls {
+    line: XotLine,
+    state: LineState,
+    channels: Vec<ChannelState>,
+    connections: Vec<Connection>,
+}
+
+impl XotCalls {
+    /// The table of a line with so many channels, counted from 1, and so many connections. Its link is not up.
+    /// `AllocError` comes for want of memory; no other call wants any.
+    pub fn new(
+        alloc: Global,
+        line: XotLine,
+        channels: u8,
+        connections: usize,
+    ) -> Result<Self, AllocError>
+        ensures { IfOk result (IsMade line channels connections) }
+    {
+        Ok(XotCalls {
+            line,
+            state: LineState::Down,
+            channels: new_channels(alloc, channels)?,
+            connections: new_connections(alloc, connections)?,
+        })
+    }
+
+    /// Whether packets of connections may go to the line: it is in r1.
+    pub fn is_ready(&self) -> bool
+        ensures { result ≡ is_line_ready self.now.state }
+    {
+        matches!(self.state, LineState::Ready)
+    }
+
+    /// The link has come up: the gateway restarts the line (X.25 3), and each call is cleared with cause 9.
+    pub fn link_up(&mut self)
+        ensures { AllEnd line_is.ToRestart self.old self.new }
+    {
+        self.end_calls(LineState::ToRestart);
+    }
+
+    /// The link is lost: each call is cleared with cause 9.
+    pub fn link_down(&mut self)
+        ensures { AllEnd line_is.Down self.old self.new }
+    {
+        self.end_calls(LineState::Down);
+    }
+
+    // Each call is cleared with cause 9, and no channel owes the line anything.
+    fn end_calls(&mut self, state: LineState)
+        ensures { AllEnd state self.old self.new }
+    {
+        self.state = state;
+        self.channels.as_mut_slice().fill(ChannelState::Ready);
+        let line = self.line;
+        for number in 0..self.connections.len() {
+            self.connections[number].restart(line);
+        }
+    }
+
+    /// Takes a packet of the line. One that is no packet, or that neither a call nor a free channel has a place for, is
+    /// dropped.
+    pub fn from_line(&mut self, octets: &[u8])
+        ensures { Hears (read_on self.old.line octets.now) self.old self.new }
+    {
+        if let Ok(packet) = read_on(self.line, octets) {
+            self.hear(&packet);
+        }
+    }
+
+    fn hear(&mut self, packet: &Packet)
+        requires { IsPacket MAX_USER_DATA (view packet.now) }
+        ensures { HearsPacket (view packet.now) self.old self.new }
+    {
+        match packet.content {
+            Content::RestartRequest { .. } => self.hear_restart(after_restart(self.state)),
+            Content::RestartConfirmation => self.hear_restart(after_confirmation(self.state)),
+            _ => {
+                if let (LineState::Ready, Some(place)) = (self.state, place_of(packet.channel)) {
+                    self.hear_on(packet, place);
+                }
+            }
+        }
+    }
+
+    // A Restart of the line, or its confirmation.
+    fn hear_restart(&mut self, after: LineState)
+        ensures { Restarts after self.old self.new }
+    {
+        if ends_calls(self.state, after) {
+            self.end_calls(after);
+        }
+        self.state = after;
+    }
+
+    // A packet of the line on the channel of a place.
+    fn hear_on(&mut self, packet: &Packet, place: u8)
+        requires { IsPacket MAX_USER_DATA (view packet.now) }
+        ensures { HearsOn place (view packet.now) self.old self.new }
+    {
+        let line = self.line;
+        let channels = self.channels.as_mut_slice();
+        let connections = self.connections.as_mut_slice();
+        match find_on(connections, place) {
+            Some(number) => hear_at(line, packet, place, number, channels, connections),
+            None if is_call(&packet.content) && is_ready(channels, place) => {
+                begin_call(line, packet, place, channels, connections);
+            }
+            None => hear_alone(&packet.content, place, channels),
+        }
+    }
+
+    /// A connection came, and is to bring a Call. The answer is its number; none if there is no room for it.
+    pub fn attach(&mut self) -> Option<usize>
+        ensures came { result ≡ position absent_one self.old.connections.items }
+        ensures connections { self.new.connections.items ≡ attached result self.old.connections.items }
+        ensures others { OthersStay self.old self.new }
+    {
+        let number = find_absent(self.connections.as_slice())?;
+        if let Some(connection) = self.connections.get_mut(number) {
+            connection.begin();
+        }
+        Some(number)
+    }
+
+    /// The connection that was ordered stands.
+    pub fn opened(&mut self, number: usize)
+        ensures connections { self.new.connections.items ≡ changed_at number opened self.old.connections.items }
+        ensures others { OthersStay self.old self.new }
+    {
+        if let Some(connection) = self.connections.get_mut(number) {
+            connection.stand();
+        }
+    }
+
+    /// The connection that was ordered could not be made.
+    pub fn failed(&mut self, number: usize)
+        ensures { Loses number self.old self.new }
+    {
+        self.lost(number);
+    }
+
+    /// The connection is lost: its call is cleared with cause 9, and what came over it and was not taken is dropped.
+    pub fn lost(&mut self, number: usize)
+        ensures { Loses number self.old self.new }
+    {
+        if let Some(connection) = self.connections.get_mut(number) {
+            let call = connection.call;
+            let leaves = connection.alone();
+            connection.leave();
+            leave_by(call, leaves, self.channels.as_mut_slice());
+        }
+    }
+
+    /// Takes octets of a connection, from the first on, as many as there is room for. The answer is how many were taken. Of
+    /// one whose call has ended all are taken, and dropped.
+    pub fn came(&mut self, number: usize, octets: &[u8]) -> usize
+        ensures within { result ≤ length octets.now }
+        ensures connections { self.new.connections.items ≡ changed_at number (come (take result octets.now)) self.old.connections.items }
+        ensures others { OthersStay self.old self.new }
+    {
+        match self.connections.get_mut(number) {
+            Some(connection) if connection.listens() => connection.octets(octets),
+            _ => octets.len(),
+        }
+    }
+
+    /// Octets that wait to be written to a connection, from the first on: some if there are any, and not always all. None
+    /// wait before it stands.
+    pub fn waiting(&self, number: usize) -> &[u8]
+        ensures { (c : ConnectionValue) → slice_get self.now.connections.items number ≡ Some c → writes c ≡ true
+            → take (length result.now) c.stream.output ≡ result.now }
+    {
+        match self.connections.get(number) {
+            Some(connection) if connection.writes() => connection.stream.waiting(),
+            _ => &[],
+        }
+    }
+
+    /// The first `count` octets that wait were written.
+    pub fn written(&mut self, number: usize, count: usize)
+        ensures connections { self.new.connections.items ≡ changed_at number (written count) self.old.connections.items }
+        ensures others { OthersStay self.old self.new }
+    {
+        if let Some(connection) = self.connections.get_mut(number) {
+            connection.written(count);
+        }
+    }
+
+    /// Takes the next packet of a connection, if the whole of it came. What is to go to the line is then in `out`.
+    pub fn serve(&mut self, number: usize, out: &mut PacketBuf) -> Work
+        ensures { Serves number result out.old.items out.new.items self.old self.new }
+    {
+        let free = self.free();
+        let line = self.line;
+        let Some(connection) = self.connections.get_mut(number) else {
+            return Work::Nothing;
+        };
+        let call = connection.call;
+        let Some(served) = connection.serve_next(line, free, out) else {
+            return Work::Nothing;
+        };
+        leave_by(call, served.leaves, self.channels.as_mut_slice());
+        if served.sends { Work::Sends } else { Work::Taken }
+    }
+
+    // The place of a free channel, or the cause why there is none.
+    fn free(&self) -> Result<u8, u8>
+        ensures { result ≡ free_in self.now.state self.now.channels.items self.now.connections.items }
+    {
+        if !self.is_ready() {
+            return Err(OUT_OF_ORDER);
+        }
+        let channels = self.channels.as_slice();
+        let below = channels.len().min(MOST_PLACES) as u8;
+        match highest_free(channels, self.connections.as_slice(), below) {
+            Some(place) => Ok(place),
+            None => Err(NUMBER_BUSY),
+        }
+    }
+
+    /// Takes the next packet that the gateway itself owes to the line, if there is one, and says so: a Restart or its
+    /// confirmation, else that of the first channel which owes one. It is then in `out`.
+    pub fn next_owed(&mut self, out: &mut PacketBuf) -> bool
+        ensures { PaysOwed result out.old.items out.new.items self.old self.new }
+    {
+        match self.state {
+            LineState::Down | LineState::Restarting => false,
+            LineState::ToRestart => {
+                self.state = LineState::Restarting;
+                write_restart(self.line, out);
+                true
+            }
+            LineState::ToConfirm => {
+                self.state = LineState::Ready;
+                write_restart_confirmation(self.line, out);
+                true
+            }
+            LineState::Ready => {
+                let line = self.line;
+                next_of_channels(line, self.channels.as_mut_slice(), out)
+            }
+        }
+    }
+
+    /// Lets ticks pass, each a twentieth of a second. A connection whose other side was to act for a minute, and did not, is
+    /// closed, and its call is cleared.
+    pub fn elapse(&mut self, ticks: u16)
+        ensures line { self.new.line ≡ self.old.line }
+        ensures state { self.new.state ≡ self.old.state }
+        ensures connections { AllChange (λ c. (elapsed ticks c).connection) self.old.connections.items self.new.connections.items }
+    {
+        for number in 0..self.connections.len() {
+            let call = self.connections[number].call;
+            let leaves = self.connections[number].elapse(ticks);
+            leave_by(call, leaves, self.channels.as_mut_slice());
+        }
+    }
+
+    /// What is to be done with a connection next, if anything. Each order is given once.
+    pub fn next_order(&mut self) -> Option<Order>
+        ensures some { IfSome result (λ order.
+            self.new.connections.items ≡ changed_at (number_of order) (λ c. granted (wished c) c) self.old.connections.items) }
+        ensures none { IfNone result (self.new.connections.items ≡ self.old.connections.items) }
+        ensures others { OthersStay self.old self.new }
+    {
+        for number in 0..self.connections.len() {
+            let wish = self.connections[number].wants();
+            self.connections[number].grant(wish);
+            match wish {
+                Wish::Rests => {}
+                Wish::Connects => return Some(Order::Connect(number)),
+                Wish::Closes => return Some(Order::Close(number)),
+            }
+        }
+        None
+    }
+}
+
+// So many channels in p1.
+fn new_channels(alloc: Global, count: u8) -> Result<Vec<ChannelState>, AllocError>
+    ensures { IfOk result (λ channels. channels.items ≡ replicate count ChannelState.Ready) }
+{
+    let mut channels = Vec::new(alloc);
+    for _ in 0..count {
+        channels.push(ChannelState::Ready)?;
+    }
+    Ok(channels)
+}
+
+// So many connections, of which none is there.
+fn new_connections(alloc: Global, count: usize) -> Result<Vec<Connection>, AllocError>
+    ensures { IfOk result (λ connections. connections.items ≡ replicate count absent) }
+{
+    let mut connections = Vec::new(alloc);
+    for _ in 0..count {
+        connections.push(Connection::new(alloc)?)?;
+    }
+    Ok(connections)
+}
+
+// The line after a Restart that came (X.25 3): in r2 it is a confirmation.
+fn after_restart(state: LineState) -> LineState
+    ensures { result ≡ after_restart state }
+{
+    match state {
+        LineState::Down => LineState::Down,
+        LineState::Restarting => LineState::Ready,
+        _ => LineState::ToConfirm,
+    }
+}
+
+// The line after a Restart Confirmation that came, which is an error in r1.
+fn after_confirmation(state: LineState) -> LineState
+    ensures { result ≡ after_confirmation state }
+{
+    match state {
+        LineState::Restarting => LineState::Ready,
+        LineState::Ready => LineState::ToRestart,
+        _ => state,
+    }
+}
+
+// Whether the calls of the line end by this change.
+fn ends_calls(before: LineState, after: LineState) -> bool
+    ensures { result ≡ ends_calls before after }
+{
+    before != LineState::Restarting
+        && matches!(after, LineState::ToConfirm | LineState::ToRestart)
+}
+
+// The place of a channel, which is counted from 1.
+fn place_of(channel: u16) -> Option<u8>
+    ensures { result ≡ place_of channel }
+{
+    u8::try_from(channel.checked_sub(1)?).ok()
+}
+
+// The connection that has a call on the channel of this place.
+fn find_on(connections: &[Connection], place: u8) -> Option<usize>
+    ensures { result ≡ position (is_on place) connections.now }
+{
+    connections
+        .iter()
+        .position(|connection| connection.is_on(place))
+}
+
+fn find_absent(connections: &[Connection]) -> Option<usize>
+    ensures { result ≡ position absent_one connections.now }
+{
+    connections
+        .iter()
+        .position(|connection| connection.is_absent())
+}
+
+// Whether the channel of the place is in p1, as far as the table of channels says.
+fn is_ready(channels: &[ChannelState], place: u8) -> bool
+    ensures { result ≡ is_ready (slice_get channels.now place) }
+{
+    matches!(
+        channels.get(usize::from(place)),
+        Some(ChannelState::Ready)
+    )
+}
+
+// The highest free place below one.
+fn highest_free(channels: &[ChannelState], connections: &[Connection], below: u8) -> Option<u8>
+    ensures { result ≡ highest_free channels.now connections.now below }
+{
+    let place = below.checked_sub(1)?;
+    if is_ready(channels, place) && find_on(connections, place).is_none() {
+        return Some(place);
+    }
+    highest_free(channels, connections, place)
+}
+
+fn is_call(content: &Content) -> bool
+    ensures { result ≡ is_call (content_view content.now) }
+{
+    matches!(content, Content::CallRequest(_))
+}
+
+// A packet of the line on the channel of a call.
+fn hear_at(
+    line: XotLine,
+    packet: &Packet,
+    place: u8,
+    number: usize,
+    channels: &mut [ChannelState],
+    connections: &mut [Connection],
+)
+    requires { IsPacket MAX_USER_DATA (view packet.now) }
+    ensures connections { connections.new ≡ (heard_at line (view packet.now) place number (record { channels = channels.old; connections = connections.old })).connections }
+    ensures channels { channels.new ≡ (heard_at line (view packet.now) place number (record { channels = channels.old; connections = connections.old })).channels }
+{
+    if let Some(connection) = connections.get_mut(number) {
+        let leaves = connection.hear_on(line, packet, place);
+        set_channel(place, leaves, channels);
+    }
+}
+
+// A Call of the line on a free channel.
+fn begin_call(
+    line: XotLine,
+    packet: &Packet,
+    place: u8,
+    channels: &mut [ChannelState],
+    connections: &mut [Connection],
+)
+    requires { IsPacket MAX_USER_DATA (view packet.now) }
+    ensures connections { connections.new ≡ (with_call line (view packet.now) place (record { channels = channels.old; connections = connections.old }) (position absent_one connections.old)).connections }
+    ensures channels { channels.new ≡ (with_call line (view packet.now) place (record { channels = channels.old; connections = connections.old }) (position absent_one connections.old)).channels }
+{
+    let Some(number) = find_absent(connections) else {
+        set_channel(place, Some(ChannelState::ToClear(NUMBER_BUSY)), channels);
+        return;
+    };
+    if let Some(connection) = connections.get_mut(number) {
+        let leaves = connection.begin_call(line, packet, place);
+        set_channel(place, leaves, channels);
+    }
+}
+
+// A packet of the line on a channel whose call has no connection.
+fn hear_alone(content: &Content, place: u8, channels: &mut [ChannelState])
+    ensures { channels.new ≡ changed_at place (alone_heard (content_view content.now)) channels.old }
+{
+    if let Some(channel) = channels.get_mut(usize::from(place)) {
+        *channel = alone_heard(content, *channel);
+    }
+}
+
+fn alone_heard(content: &Content, state: ChannelState) -> ChannelState
+    ensures { result ≡ alone_heard (content_view content.now) state }
+{
+    match (content, state) {
+        (Content::ClearRequest { .. }, ChannelState::Ready | ChannelState::ToClear(_)) => {
+            ChannelState::ToConfirm
+        }
+        (Content::ClearRequest { .. } | Content::ClearConfirmation, ChannelState::Clearing) => {
+            ChannelState::Ready
+        }
+        _ => state,
+    }
+}
+
+// The channel of the place is in this state, if one is given.
+fn set_channel(place: u8, leaves: Option<ChannelState>, channels: &mut [ChannelState])
+    ensures { channels.new ≡ taken place leaves channels.old }
+{
+    if let Some(state) = leaves
+        && let Some(channel) = channels.get_mut(usize::from(place))
+    {
+        *channel = state;
+    }
+}
+
+// The channel of a call that has lost its connection is in this state.
+fn leave_by(call: CallState, leaves: Option<ChannelState>, channels: &mut [ChannelState])
+    ensures { channels.new ≡ left_by call leaves channels.old }
+{
+    if let CallState::Call { place, .. } = call {
+        set_channel(place, leaves, channels);
+    }
+}
+
+// The next packet that a channel owes to the line.
+fn next_of_channels(line: XotLine, channels: &mut [ChannelState], out: &mut PacketBuf) -> bool
+    ensures answer { result ≡ is_some (first_owed channels.old) }
+    ensures channels { channels.new ≡ with_paid (first_owed channels.old) channels.old }
+    ensures out { out.new.items ≡ owed_packet line (first_owed channels.old) channels.old out.old.items }
+{
+    let Some(place) = first_owed(channels) else {
+        return false;
+    };
+    let Some(channel) = channels.get_mut(usize::from(place)) else {
+        return false;
+    };
+    match *channel {
+        ChannelState::ToClear(cause) => {
+            write_clear(line, place, cause, out);
+            *channel = ChannelState::Clearing;
+        }
+        ChannelState::ToConfirm => {
+            write_confirmation(line, place, out);
+            *channel = ChannelState::Ready;
+        }
+        ChannelState::Ready | ChannelState::Clearing => {}
+    }
+    true
+}
+
+// The place of the first channel that owes a packet to the line.
+fn first_owed(channels: &[ChannelState]) -> Option<u8>
+    ensures { result ≡ first_owed channels.now }
+{
+    let place = channels.iter().position(|state| owes(*state))?;
+    u8::try_from(place).ok()
+}
+
+fn owes(state: ChannelState) -> bool
+    ensures { result ≡ owes state }
+{
+    matches!(state, ChannelState::ToClear(_) | ChannelState::ToConfirm)
+}
