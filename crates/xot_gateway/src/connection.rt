@@ -158,19 +158,19 @@ impl Connection {
     pub(crate) fn leave(&mut self)
         ensures { self.new ≡ absent }
     {
-        self.become(Socket::Absent);
+        self.renew(Socket::Absent);
     }
 
     /// A connection came, and is to bring a Call.
     pub(crate) fn begin(&mut self)
         ensures { self.new ≡ fresh }
     {
-        self.become(Socket::Standing);
+        self.renew(Socket::Standing);
         self.left.start(PEER_TICKS);
     }
 
     // A connection that nothing came over yet.
-    fn become(&mut self, socket: Socket)
+    fn renew(&mut self, socket: Socket)
         ensures { self.new ≡ record absent { socket = socket } }
     {
         self.socket = socket;
@@ -185,7 +185,7 @@ impl Connection {
         ensures connection { self.new ≡ (called line (view packet.now) place).connection }
         ensures leaves { result ≡ (called line (view packet.now) place).leaves }
     {
-        self.become(Socket::Wanted);
+        self.renew(Socket::Wanted);
         self.pass(line, packet, place, Phase::DceWaiting)
     }
 
