@@ -30,7 +30,7 @@ use Rattle.xot_gateway.specs.Laws as laws
 use Rattle.xot_gateway.specs.Laws.{Deed, Fate, passed, dropped, cleared, confirmed, forms, fate_form, IsCarried, CarryLaw, ChannelLaw, IsThere, after_deed, after_deeds, heard_if, heard_of, heard_when, written_of, all_heard, all_written}
 
 -- what more comes and goes
-record Grows (line : XotLine) (came : List PacketValue) (gone : List ℕ) (c next : Connection) : Type 0 where
+pub record Grows (line : XotLine) (came : List PacketValue) (gone : List ℕ) (c next : Connection) : Type 0 where
   pub more : List Fate
   pub heard : came ≡ laws.heard_in more
   pub octets : gone ++ next.stream.output ≡ c.stream.output ++ forms line more
@@ -71,7 +71,7 @@ confirmation_told line c old place same = record {
 
 -- ---- a packet of the line
 
-passed_or_dropped : PacketValue → Bool → Fate
+abbrev passed_or_dropped : PacketValue → Bool → Fate
 passed_or_dropped p true = passed p
 passed_or_dropped p false = dropped p
 
@@ -177,7 +177,7 @@ takes_first line free c (xot.broken fault) = nothing_more line c _ refl
 
 -- ---- all else
 
-waited : Connection → Bool → Step
+abbrev waited : Connection → Bool → Step
 waited c b = cond b (record { connection = broken c; leaves = alone_after c.call }) (stays c)
 
 comes_if : (line : XotLine) (octets : List ℕ) (c : Connection) (b : Bool)

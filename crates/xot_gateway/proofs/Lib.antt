@@ -1,2 +1,4 @@
 pub mod Carrying
 pub mod Fits
+pub mod AllConnections
+pub mod Places

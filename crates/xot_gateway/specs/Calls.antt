@@ -17,7 +17,9 @@ use Rattle.xot_gateway.specs.declared.calls.Work.TheVariants as work
 use Rattle.xot_gateway.specs.declared.calls.Order.{Order}
 use Rattle.xot_gateway.specs.declared.calls.Order.TheVariants as order
 use Rattle.xot_gateway.specs.Packets.{clear_on, confirmation_on, restart_of, restart_confirmation_of}
-use Rattle.xot_gateway.specs.Connections.{Serving, absent, alone_after, called, fresh, heard_on, is_absent, is_on, listens, next_connection, next_packet, next_served, restarted, with_octets}
+use Rattle.xot_gateway.specs.Connections.{Serving, absent, alone_after, called, fresh, granted, heard_on, is_absent, is_on, listens, next_connection, next_packet, next_served, restarted, wished, with_octets}
+use Rattle.xot_gateway.specs.declared.connection.Wish.{Wish}
+use Rattle.xot_gateway.specs.declared.connection.Wish.TheVariants as wish
 
 -- ---- one of many
 
@@ -310,6 +312,31 @@ PaysIn line_is.Ready answer old new before after = PaysChannel answer old new be
 abbrev pub PaysOwed : (answer : Bool) → (old new : List ℕ) → (before after : XotCalls) → Type 0
 PaysOwed answer old new before after = PaysIn before.state answer old new before after
 
-abbrev pub number_of : Order → ℕ
-number_of (order.Connect number) = number
-number_of (order.Close number) = number
+-- ---- what is to be done with connections
+
+abbrev pub is_wish : Wish → Bool
+is_wish wish.Rests = false
+is_wish some = true
+
+abbrev pub has_wish : Connection → Bool
+has_wish c = is_wish (wished c)
+
+abbrev pub order_for : (number : ℕ) → Wish → Option Order
+order_for number wish.Rests = None
+order_for number wish.Connects = Some (order.Connect number)
+order_for number wish.Closes = Some (order.Close number)
+
+abbrev pub order_at : Option ℕ → List Connection → Option Order
+order_at None connections = None
+order_at (Some number) connections = option_and_then (λ c. order_for number (wished c)) (slice_get connections number)
+
+-- that of the first one that something is to be done with
+abbrev pub order_among : List Connection → Option Order
+order_among connections = order_at (position has_wish connections) connections
+
+abbrev pub granted_at : Option ℕ → List Connection → List Connection
+granted_at None connections = connections
+granted_at (Some number) connections = changed_at number (λ c. granted (wished c) c) connections
+
+abbrev pub ordered : List Connection → List Connection
+ordered connections = granted_at (position has_wish connections) connections

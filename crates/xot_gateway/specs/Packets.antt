@@ -1,9 +1,9 @@
 -- Packets as the gateway reads them and passes them on.
-use Rattle.std.specs.Prelude.{◌≡◌, ℕ, ◌+◌, ◌*◌, ◌/◌, ◌==◌, Bool, true, false, List, [], ◌∷◌, ◌++◌, length, take, drop, set, slice_get, min, Option, Some, None, Result, Ok, Err, if◌then◌else◌}
+use Rattle.std.specs.Prelude.{◌≡◌, ℕ, ◌+◌, ◌*◌, ◌/◌, ◌%◌, ◌==◌, Bool, true, false, List, [], ◌∷◌, ◌++◌, take, drop, set, slice_get, min, Option, Some, None, Result, Ok, Err, if◌then◌else◌}
 use Rattle.packet_codec.specs.declared.fault.PacketFault.{PacketFault}
 use Rattle.packet_codec.specs.declared.packet.Numbering.{Numbering}
 use Rattle.packet_codec.specs.Packet.{PacketValue, ContentValue, CallRequest, CallAccepted, ClearRequest, ClearConfirmation, RestartRequest, RestartConfirmation, spelling}
-use Rattle.packet_codec.specs.Reading.{reading, named_channel, octet, facilities_of, after_addresses}
+use Rattle.packet_codec.specs.Reading.{reading, named_channel, octet}
 use Rattle.xot_codec.specs.declared.facilities.LineFlow.{LineFlow}
 use Rattle.xot_codec.specs.Facilities.{put}
 use Rattle.xot_gateway.specs.declared.line.XotLine.{XotLine}
@@ -40,9 +40,19 @@ prepared octets = on_channel_1 (cut octets)
 abbrev pub IsPrepared : List ℕ → Type 0
 IsPrepared octets = (channel : ℕ) → named_channel octets ≡ Some channel → channel ≡ 1
 
--- the facility field of a Call Accepted, none if there is none
+-- the octets of two addresses, by their lengths
+abbrev pub address_octets : (lengths : ℕ) → ℕ
+address_octets lengths = (lengths % 16 + lengths / 16 + 1) / 2
+
+-- the field that stands first, behind its length
+abbrev pub first_field : List ℕ → List ℕ
+first_field [] = []
+first_field (length ∷ field) = take length field
+
+-- the facility field of a Call Accepted, behind its header and its addresses
 abbrev pub accepted_facilities : List ℕ → List ℕ
-accepted_facilities octets = facilities_of (after_addresses (drop 3 octets))
+accepted_facilities (first ∷ second ∷ third ∷ lengths ∷ rest) = first_field (drop (address_octets lengths) rest)
+accepted_facilities octets = []
 
 -- ---- what goes
 

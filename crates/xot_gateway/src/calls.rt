@@ -1,10 +1,10 @@
 //! The calls of a line: the table of its channels and that of connections.
-ghost use Rattle.std.specs.Prelude.{◌≡◌, ◌≤◌, length, take, replicate, slice_get, is_some, position, IfOk, IfSome, IfNone, Some, None};
+ghost use Rattle.std.specs.Prelude.{◌≡◌, ◌≤◌, true, length, take, replicate, slice_get, is_some, position, IfOk, Some};
 ghost use Rattle.packet_codec.specs.Packet.{IsPacket};
 ghost use Rattle.packet_codec.specs.View.{content_view, view};
 ghost use Rattle.xot_gateway.specs.declared.connection.Connection.{Connection as ConnectionValue};
 ghost use Rattle.xot_gateway.specs.declared.calls.LineState.TheVariants as line_is;
-ghost use Rattle.xot_gateway.specs.Connections.{absent, elapsed, granted, is_on, opened, wished, writes, written};
+ghost use Rattle.xot_gateway.specs.Connections.{absent, elapsed, is_on, opened, restarted, writes, written};
 ghost use Rattle.xot_gateway.specs.Packets.{read_on};
 ghost use Rattle.xot_gateway.specs.Calls.{
   AllChange,
@@ -29,12 +29,15 @@ ghost use Rattle.xot_gateway.specs.Calls.{
   first_owed,
   free_in,
   heard_at,
+  has_wish,
   highest_free,
   is_call,
   is_line_ready,
   is_ready,
   left_by,
-  number_of,
+  order_among,
+  order_for,
+  ordered,
   owed_packet,
   owes,
   place_of,
@@ -53,8 +56,11 @@ use packet_codec::clear_cause::{NUMBER_BUSY, OUT_OF_ORDER};
 use packet_codec::{Content, MAX_USER_DATA, Packet, PacketBuf};
 use std::alloc::{AllocError, Global};
 
-/// The most places of channels.
+/// The most channels that are looked at for a free one.
 const MOST_PLACES: usize = 255;
+
+/// The most channels that an octet has places for.
+const MOST_OWING: usize = 256;
 
 /// What the packet layer of the line is in. The gateway is its DTE (X.25 3).
 #[derive(Clone, Copy, PartialEq, Eq)]
@@ -145,11 +151,8 @@ impl XotCalls {
         ensures { AllEnd state self.old self.new }
     {
         self.state = state;
-        self.channels.as_mut_slice().fill(ChannelState::Ready);
-        let line = self.line;
-        for number in 0..self.connections.len() {
-            self.connections[number].restart(line);
-        }
+        ready_all(&mut self.channels);
+        restart_all(self.line, &mut self.connections);
     }
 
     /// Takes a packet of the line. One that is no packet, or that neither a call nor a free channel has a place for, is
@@ -158,13 +161,13 @@ impl XotCalls {
         ensures { Hears (read_on self.old.line octets.now) self.old self.new }
     {
         if let Ok(packet) = read_on(self.line, octets) {
-            self.hear(&packet);
+            self.hear(packet);
         }
     }
 
-    fn hear(&mut self, packet: &Packet)
-        requires { IsPacket MAX_USER_DATA (view packet.now) }
-        ensures { HearsPacket (view packet.now) self.old self.new }
+    fn hear(&mut self, packet: Packet<'_>)
+        requires { IsPacket MAX_USER_DATA (view packet) }
+        ensures { HearsPacket (view packet) self.old self.new }
     {
         match packet.content {
             Content::RestartRequest { .. } => self.hear_restart(after_restart(self.state)),
@@ -188,19 +191,19 @@ impl XotCalls {
     }
 
     // A packet of the line on the channel of a place.
-    fn hear_on(&mut self, packet: &Packet, place: u8)
-        requires { IsPacket MAX_USER_DATA (view packet.now) }
-        ensures { HearsOn place (view packet.now) self.old self.new }
+    fn hear_on(&mut self, packet: Packet<'_>, place: u8)
+        requires { IsPacket MAX_USER_DATA (view packet) }
+        ensures { HearsOn place (view packet) self.old self.new }
     {
         let line = self.line;
-        let channels = self.channels.as_mut_slice();
-        let connections = self.connections.as_mut_slice();
-        match find_on(connections, place) {
-            Some(number) => hear_at(line, packet, place, number, channels, connections),
-            None if is_call(&packet.content) && is_ready(channels, place) => {
-                begin_call(line, packet, place, channels, connections);
+        match find_on(self.connections.as_slice(), place) {
+            Some(number) => {
+                hear_at(line, packet, place, number, &mut self.channels, &mut self.connections);
             }
-            None => hear_alone(&packet.content, place, channels),
+            None if is_call(&packet.content) && is_ready(self.channels.as_slice(), place) => {
+                begin_call(line, packet, place, &mut self.channels, &mut self.connections);
+            }
+            None => hear_alone(&packet.content, place, &mut self.channels),
         }
     }
 
@@ -242,7 +245,7 @@ impl XotCalls {
             let call = connection.call;
             let leaves = connection.alone();
             connection.leave();
-            leave_by(call, leaves, self.channels.as_mut_slice());
+            leave_by(call, leaves, &mut self.channels);
         }
     }
 
@@ -294,7 +297,7 @@ impl XotCalls {
         let Some(served) = connection.serve_next(line, free, out) else {
             return Work::Nothing;
         };
-        leave_by(call, served.leaves, self.channels.as_mut_slice());
+        leave_by(call, served.leaves, &mut self.channels);
         if served.sends { Work::Sends } else { Work::Taken }
     }
 
@@ -332,7 +335,7 @@ impl XotCalls {
             }
             LineState::Ready => {
                 let line = self.line;
-                next_of_channels(line, self.channels.as_mut_slice(), out)
+                next_of_channels(line, &mut self.channels, out)
             }
         }
     }
@@ -344,30 +347,66 @@ impl XotCalls {
         ensures state { self.new.state ≡ self.old.state }
         ensures connections { AllChange (λ c. (elapsed ticks c).connection) self.old.connections.items self.new.connections.items }
     {
-        for number in 0..self.connections.len() {
-            let call = self.connections[number].call;
-            let leaves = self.connections[number].elapse(ticks);
-            leave_by(call, leaves, self.channels.as_mut_slice());
-        }
+        elapse_all(ticks, &mut self.connections, &mut self.channels);
     }
 
     /// What is to be done with a connection next, if anything. Each order is given once.
     pub fn next_order(&mut self) -> Option<Order>
-        ensures some { IfSome result (λ order.
-            self.new.connections.items ≡ changed_at (number_of order) (λ c. granted (wished c) c) self.old.connections.items) }
-        ensures none { IfNone result (self.new.connections.items ≡ self.old.connections.items) }
+        ensures answer { result ≡ order_among self.old.connections.items }
+        ensures connections { self.new.connections.items ≡ ordered self.old.connections.items }
         ensures others { OthersStay self.old self.new }
     {
-        for number in 0..self.connections.len() {
-            let wish = self.connections[number].wants();
-            self.connections[number].grant(wish);
-            match wish {
-                Wish::Rests => {}
-                Wish::Connects => return Some(Order::Connect(number)),
-                Wish::Closes => return Some(Order::Close(number)),
-            }
-        }
-        None
+        let number = find_wish(self.connections.as_slice())?;
+        let connection = self.connections.get_mut(number)?;
+        let wish = connection.wants();
+        connection.grant(wish);
+        order_for(number, wish)
+    }
+}
+
+// The first connection that something is to be done with.
+fn find_wish(connections: &[Connection]) -> Option<usize>
+    ensures { result ≡ position has_wish connections.now }
+{
+    connections
+        .iter()
+        .position(|connection| connection.has_wish())
+}
+
+fn order_for(number: usize, wish: Wish) -> Option<Order>
+    ensures { result ≡ order_for number wish }
+{
+    match wish {
+        Wish::Rests => None,
+        Wish::Connects => Some(Order::Connect(number)),
+        Wish::Closes => Some(Order::Close(number)),
+    }
+}
+
+// No channel owes the line anything.
+fn ready_all(channels: &mut Vec<ChannelState>)
+    ensures { channels.new.items ≡ replicate (length channels.old.items) ChannelState.Ready }
+{
+    channels.as_mut_slice().fill(ChannelState::Ready);
+}
+
+// Each call is cleared with cause 9.
+fn restart_all(line: XotLine, connections: &mut Vec<Connection>)
+    ensures { AllChange (restarted line) connections.old.items connections.new.items }
+{
+    for number in 0..connections.len() {
+        connections[number].restart(line);
+    }
+}
+
+// Ticks pass at each connection.
+fn elapse_all(ticks: u16, connections: &mut Vec<Connection>, channels: &mut Vec<ChannelState>)
+    ensures { AllChange (λ c. (elapsed ticks c).connection) connections.old.items connections.new.items }
+{
+    for number in 0..connections.len() {
+        let call = connections[number].call;
+        let leaves = connections[number].elapse(ticks);
+        leave_by(call, leaves, channels);
     }
 }
 
@@ -458,6 +497,7 @@ fn is_ready(channels: &[ChannelState], place: u8) -> bool
 }
 
 // The highest free place below one.
+#[tactic(auto, using(crate::proofs::Places::one_below))]
 fn highest_free(channels: &[ChannelState], connections: &[Connection], below: u8) -> Option<u8>
     ensures { result ≡ highest_free channels.now connections.now below }
 {
@@ -477,15 +517,15 @@ fn is_call(content: &Content) -> bool
 // A packet of the line on the channel of a call.
 fn hear_at(
     line: XotLine,
-    packet: &Packet,
+    packet: Packet<'_>,
     place: u8,
     number: usize,
-    channels: &mut [ChannelState],
-    connections: &mut [Connection],
+    channels: &mut Vec<ChannelState>,
+    connections: &mut Vec<Connection>,
 )
-    requires { IsPacket MAX_USER_DATA (view packet.now) }
-    ensures connections { connections.new ≡ (heard_at line (view packet.now) place number (record { channels = channels.old; connections = connections.old })).connections }
-    ensures channels { channels.new ≡ (heard_at line (view packet.now) place number (record { channels = channels.old; connections = connections.old })).channels }
+    requires { IsPacket MAX_USER_DATA (view packet) }
+    ensures connections { connections.new.items ≡ (heard_at line (view packet) place number (record { channels = channels.old.items; connections = connections.old.items })).connections }
+    ensures channels { channels.new.items ≡ (heard_at line (view packet) place number (record { channels = channels.old.items; connections = connections.old.items })).channels }
 {
     if let Some(connection) = connections.get_mut(number) {
         let leaves = connection.hear_on(line, packet, place);
@@ -496,16 +536,16 @@ fn hear_at(
 // A Call of the line on a free channel.
 fn begin_call(
     line: XotLine,
-    packet: &Packet,
+    packet: Packet<'_>,
     place: u8,
-    channels: &mut [ChannelState],
-    connections: &mut [Connection],
+    channels: &mut Vec<ChannelState>,
+    connections: &mut Vec<Connection>,
 )
-    requires { IsPacket MAX_USER_DATA (view packet.now) }
-    ensures connections { connections.new ≡ (with_call line (view packet.now) place (record { channels = channels.old; connections = connections.old }) (position absent_one connections.old)).connections }
-    ensures channels { channels.new ≡ (with_call line (view packet.now) place (record { channels = channels.old; connections = connections.old }) (position absent_one connections.old)).channels }
+    requires { IsPacket MAX_USER_DATA (view packet) }
+    ensures connections { connections.new.items ≡ (with_call line (view packet) place (record { channels = channels.old.items; connections = connections.old.items }) (position absent_one connections.old.items)).connections }
+    ensures channels { channels.new.items ≡ (with_call line (view packet) place (record { channels = channels.old.items; connections = connections.old.items }) (position absent_one connections.old.items)).channels }
 {
-    let Some(number) = find_absent(connections) else {
+    let Some(number) = find_absent(connections.as_slice()) else {
         set_channel(place, Some(ChannelState::ToClear(NUMBER_BUSY)), channels);
         return;
     };
@@ -516,8 +556,8 @@ fn begin_call(
 }
 
 // A packet of the line on a channel whose call has no connection.
-fn hear_alone(content: &Content, place: u8, channels: &mut [ChannelState])
-    ensures { channels.new ≡ changed_at place (alone_heard (content_view content.now)) channels.old }
+fn hear_alone(content: &Content, place: u8, channels: &mut Vec<ChannelState>)
+    ensures { channels.new.items ≡ changed_at place (alone_heard (content_view content.now)) channels.old.items }
 {
     if let Some(channel) = channels.get_mut(usize::from(place)) {
         *channel = alone_heard(content, *channel);
@@ -539,8 +579,8 @@ fn alone_heard(content: &Content, state: ChannelState) -> ChannelState
 }
 
 // The channel of the place is in this state, if one is given.
-fn set_channel(place: u8, leaves: Option<ChannelState>, channels: &mut [ChannelState])
-    ensures { channels.new ≡ taken place leaves channels.old }
+fn set_channel(place: u8, leaves: Option<ChannelState>, channels: &mut Vec<ChannelState>)
+    ensures { channels.new.items ≡ taken place leaves channels.old.items }
 {
     if let Some(state) = leaves
         && let Some(channel) = channels.get_mut(usize::from(place))
@@ -550,8 +590,8 @@ fn set_channel(place: u8, leaves: Option<ChannelState>, channels: &mut [ChannelS
 }
 
 // The channel of a call that has lost its connection is in this state.
-fn leave_by(call: CallState, leaves: Option<ChannelState>, channels: &mut [ChannelState])
-    ensures { channels.new ≡ left_by call leaves channels.old }
+fn leave_by(call: CallState, leaves: Option<ChannelState>, channels: &mut Vec<ChannelState>)
+    ensures { channels.new.items ≡ left_by call leaves channels.old.items }
 {
     if let CallState::Call { place, .. } = call {
         set_channel(place, leaves, channels);
@@ -559,12 +599,12 @@ fn leave_by(call: CallState, leaves: Option<ChannelState>, channels: &mut [Chann
 }
 
 // The next packet that a channel owes to the line.
-fn next_of_channels(line: XotLine, channels: &mut [ChannelState], out: &mut PacketBuf) -> bool
-    ensures answer { result ≡ is_some (first_owed channels.old) }
-    ensures channels { channels.new ≡ with_paid (first_owed channels.old) channels.old }
-    ensures out { out.new.items ≡ owed_packet line (first_owed channels.old) channels.old out.old.items }
+fn next_of_channels(line: XotLine, channels: &mut Vec<ChannelState>, out: &mut PacketBuf) -> bool
+    ensures answer { result ≡ is_some (first_owed channels.old.items) }
+    ensures channels { channels.new.items ≡ with_paid (first_owed channels.old.items) channels.old.items }
+    ensures out { out.new.items ≡ owed_packet line (first_owed channels.old.items) channels.old.items out.old.items }
 {
-    let Some(place) = first_owed(channels) else {
+    let Some(place) = first_owed(channels.as_slice()) else {
         return false;
     };
     let Some(channel) = channels.get_mut(usize::from(place)) else {
@@ -588,8 +628,10 @@ fn next_of_channels(line: XotLine, channels: &mut [ChannelState], out: &mut Pack
 fn first_owed(channels: &[ChannelState]) -> Option<u8>
     ensures { result ≡ first_owed channels.now }
 {
-    let place = channels.iter().position(|state| owes(*state))?;
-    u8::try_from(place).ok()
+    match channels.iter().position(|state| owes(*state)) {
+        Some(place) if place < MOST_OWING => Some(place as u8),
+        _ => None,
+    }
 }
 
 fn owes(state: ChannelState) -> bool

@@ -14,6 +14,7 @@ ghost use Rattle.xot_gateway.specs.Connections.{
   elapsed,
   called_at,
   cause_at_connection,
+  cause_at_line,
   first_content,
   first_move,
   first_served,
@@ -44,6 +45,7 @@ ghost use Rattle.xot_gateway.specs.Connections.{
   writes,
   written,
 };
+ghost use Rattle.xot_gateway.specs.Calls.{has_wish};
 ghost use Rattle.xot_gateway.specs.Packets.{IsPrepared, clear_on, confirmation_on, read_on};
 ghost use Rattle.xot_gateway.specs.declared.states.Move.TheVariants.{Passes};
 ghost use Rattle.xot_gateway.specs.declared.states.ChannelState.TheVariants.{ToClear};
@@ -180,10 +182,10 @@ impl Connection {
     }
 
     /// A Call of the line on a free channel wants a connection.
-    pub(crate) fn begin_call(&mut self, line: XotLine, packet: &Packet, place: u8) -> Option<ChannelState>
-        requires { IsPacket MAX_USER_DATA (view packet.now) }
-        ensures connection { self.new ≡ (called line (view packet.now) place).connection }
-        ensures leaves { result ≡ (called line (view packet.now) place).leaves }
+    pub(crate) fn begin_call(&mut self, line: XotLine, packet: Packet<'_>, place: u8) -> Option<ChannelState>
+        requires { IsPacket MAX_USER_DATA (view packet) }
+        ensures connection { self.new ≡ (called line (view packet) place).connection }
+        ensures leaves { result ≡ (called line (view packet) place).leaves }
     {
         self.renew(Socket::Wanted);
         self.pass(line, packet, place, Phase::DceWaiting)
@@ -191,10 +193,10 @@ impl Connection {
 
     /// Takes a packet of the line on the channel of its call, if it has one. The answer is what the channel is in, if it has
     /// no connection any more.
-    pub(crate) fn hear_on(&mut self, line: XotLine, packet: &Packet, place: u8) -> Option<ChannelState>
-        requires { IsPacket MAX_USER_DATA (view packet.now) }
-        ensures connection { self.new ≡ (heard_on line (view packet.now) place self.old).connection }
-        ensures leaves { result ≡ (heard_on line (view packet.now) place self.old).leaves }
+    pub(crate) fn hear_on(&mut self, line: XotLine, packet: Packet<'_>, place: u8) -> Option<ChannelState>
+        requires { IsPacket MAX_USER_DATA (view packet) }
+        ensures connection { self.new ≡ (heard_on line (view packet) place self.old).connection }
+        ensures leaves { result ≡ (heard_on line (view packet) place self.old).leaves }
     {
         match self.call {
             CallState::Call { phase, .. } => self.hear(line, packet, place, phase),
@@ -205,13 +207,13 @@ impl Connection {
     fn hear(
         &mut self,
         line: XotLine,
-        packet: &Packet,
+        packet: Packet<'_>,
         place: u8,
         phase: Phase,
     ) -> Option<ChannelState>
-        requires { IsPacket MAX_USER_DATA (view packet.now) }
-        ensures connection { self.new ≡ (heard line (view packet.now) place phase self.old).connection }
-        ensures leaves { result ≡ (heard line (view packet.now) place phase self.old).leaves }
+        requires { IsPacket MAX_USER_DATA (view packet) }
+        ensures connection { self.new ≡ (heard line (view packet) place phase self.old).connection }
+        ensures leaves { result ≡ (heard line (view packet) place phase self.old).leaves }
     {
         match line_move(phase, &packet.content) {
             Move::Passes(next) => self.pass(line, packet, place, next),
@@ -227,13 +229,13 @@ impl Connection {
     fn pass(
         &mut self,
         line: XotLine,
-        packet: &Packet,
+        packet: Packet<'_>,
         place: u8,
         phase: Phase,
     ) -> Option<ChannelState>
-        requires { IsPacket MAX_USER_DATA (view packet.now) }
-        ensures connection { self.new ≡ (heard_by line (view packet.now) place self.old (Passes phase)).connection }
-        ensures leaves { result ≡ (heard_by line (view packet.now) place self.old (Passes phase)).leaves }
+        requires { IsPacket MAX_USER_DATA (view packet) }
+        ensures connection { self.new ≡ (heard_by line (view packet) place self.old (Passes phase)).connection }
+        ensures leaves { result ≡ (heard_by line (view packet) place self.old (Passes phase)).leaves }
     {
         let mut out = PacketBuf::new();
         write_over_connection(line.flow, packet, &mut out);
@@ -372,9 +374,10 @@ impl Connection {
         ensures out { out.new.items ≡ packet_after out.old.items (first_served line free octets.now self.old) }
     {
         let read = read_on(line, octets);
-        match (first_move(line.flow, free, octets, &read), read) {
+        let next = first_move(line.flow, free, octets, &read);
+        match (next, read) {
             (FirstMove::Calls(place), Ok(packet)) => {
-                write_over_line(&packet, place, out);
+                write_over_line(packet, place, out);
                 self.enter(place, Phase::DteWaiting);
                 SENDS
             }
@@ -408,7 +411,7 @@ impl Connection {
         match read_on(line, octets) {
             Ok(packet) => {
                 let next = connection_move(phase, carried, &packet.content);
-                self.serve_packet(line, place, &packet, next, out)
+                self.serve_packet(line, place, packet, next, out)
             }
             Err(_) => match fault_move(phase) {
                 Move::Refuses(refusal) => self.refuse(line, place, refusal),
@@ -421,15 +424,15 @@ impl Connection {
         &mut self,
         line: XotLine,
         place: u8,
-        packet: &Packet,
+        packet: Packet<'_>,
         next: Move,
         out: &mut PacketBuf,
     ) -> Served
-        requires fits { IsPacket MAX_USER_DATA (view packet.now) }
-        requires channel { (view packet.now).channel ≡ 1 }
-        ensures connection { self.new ≡ (served_by line (view packet.now) place self.old next).connection }
-        ensures answer { result ≡ answer_of (served_by line (view packet.now) place self.old next) }
-        ensures out { out.new.items ≡ packet_after out.old.items (served_by line (view packet.now) place self.old next) }
+        requires fits { IsPacket MAX_USER_DATA (view packet) }
+        requires channel { (view packet).channel ≡ 1 }
+        ensures connection { self.new ≡ (served_by line (view packet) place self.old next).connection }
+        ensures answer { result ≡ answer_of (served_by line (view packet) place self.old next) }
+        ensures out { out.new.items ≡ packet_after out.old.items (served_by line (view packet) place self.old next) }
     {
         match next {
             Move::Drops => QUIET,
@@ -569,6 +572,13 @@ impl Connection {
             (Socket::Wanted, _) => Wish::Connects,
             _ => Wish::Rests,
         }
+    }
+
+    /// Whether something is to be done with it.
+    pub(crate) fn has_wish(&self) -> bool
+        ensures { result ≡ has_wish self.now }
+    {
+        self.wants() != Wish::Rests
     }
 
     /// What was wished is being done.

@@ -1,12 +1,14 @@
 //! Packets as the gateway reads them and passes them on.
-ghost use Rattle.std.specs.Prelude.{◌≡◌, ◌+◌, Some, IfOk};
+ghost use Rattle.std.specs.Prelude.{◌≡◌, drop, Some, IfOk};
 ghost use Rattle.packet_codec.specs.Packet.{IsPacket};
 ghost use Rattle.packet_codec.specs.Reading.{named_channel};
 ghost use Rattle.packet_codec.specs.View.{answer_view, content_view, view};
 ghost use Rattle.xot_gateway.specs.Packets.{
   accepted_facilities,
+  address_octets,
   clear_on,
   confirmation_on,
+  first_field,
   over_connection,
   over_line,
   prepared,
@@ -48,11 +50,10 @@ pub(crate) fn prepare(packet: &mut XotPacket)
         Some(CLEAR_CONFIRMATION) => packet.truncate(CONFIRMATION_LENGTH),
         _ => {}
     }
-    let octets = packet.as_mut_slice();
-    if let Some(first) = octets.get_mut(0) {
+    if let Some(first) = packet.get_mut(0) {
         *first = *first / 16 * 16;
     }
-    if let Some(second) = octets.get_mut(1) {
+    if let Some(second) = packet.get_mut(1) {
         *second = 1;
     }
 }
@@ -70,42 +71,61 @@ pub(crate) fn read_on(line: XotLine, octets: &[u8]) -> Result<Packet<'_>, Packet
 pub(crate) fn accepted_facilities(octets: &[u8]) -> &[u8]
     ensures { result.now ≡ accepted_facilities octets.now }
 {
-    let [_, _, _, lengths, rest @ ..] = octets else {
-        return &[];
-    };
-    let addresses = (usize::from(lengths % 16) + usize::from(lengths / 16) + 1) / 2;
-    match rest.get(addresses..) {
-        Some([length, facilities @ ..]) => {
-            &facilities[..facilities.len().min(usize::from(*length))]
-        }
+    match octets {
+        [_, _, _, lengths, rest @ ..] => first_field(after_addresses(*lengths, rest)),
         _ => &[],
     }
 }
 
+// What follows the addresses of these lengths.
+fn after_addresses(lengths: u8, rest: &[u8]) -> &[u8]
+    ensures { result.now ≡ drop (address_octets lengths) rest.now }
+{
+    let octets = (usize::from(lengths % 16) + usize::from(lengths / 16) + 1) / 2;
+    if octets <= rest.len() {
+        &rest[octets..]
+    } else {
+        &[]
+    }
+}
+
+// The field that stands first, behind its length.
+fn first_field(octets: &[u8]) -> &[u8]
+    ensures { result.now ≡ first_field octets.now }
+{
+    match octets {
+        [length, field @ ..] if usize::from(*length) < field.len() => {
+            &field[..usize::from(*length)]
+        }
+        [_, field @ ..] => field,
+        [] => &[],
+    }
+}
+
 /// Writes a packet of the connection for the line: on the channel of its call, and a Call without facilities.
-pub(crate) fn write_over_line(packet: &Packet, place: u8, out: &mut PacketBuf)
-    requires fits { IsPacket MAX_USER_DATA (view packet.now) }
-    requires channel { (view packet.now).channel ≡ 1 }
-    ensures { out.new.items ≡ over_line (view packet.now) place }
+pub(crate) fn write_over_line(packet: Packet<'_>, place: u8, out: &mut PacketBuf)
+    requires fits { IsPacket MAX_USER_DATA (view packet) }
+    requires channel { (view packet).channel ≡ 1 }
+    ensures { out.new.items ≡ over_line (view packet) place }
 {
     let packet = Packet {
         numbering: packet.numbering,
         channel: u16::from(place) + 1,
-        content: with_facilities(&packet.content, &[]),
+        content: with_facilities(packet.content, &[]),
     };
     write_packet(&packet, out);
 }
 
 /// Writes a packet of the line for the connection: a Call and a Call Accepted have packet size and window of the line.
-pub(crate) fn write_over_connection(flow: LineFlow, packet: &Packet, out: &mut PacketBuf)
-    requires { IsPacket MAX_USER_DATA (view packet.now) }
-    ensures { out.new.items ≡ over_connection flow (view packet.now) }
+pub(crate) fn write_over_connection(flow: LineFlow, packet: Packet<'_>, out: &mut PacketBuf)
+    requires { IsPacket MAX_USER_DATA (view packet) }
+    ensures { out.new.items ≡ over_connection flow (view packet) }
 {
     let facilities = put_facilities(flow);
     let packet = Packet {
         numbering: packet.numbering,
         channel: packet.channel,
-        content: with_facilities(&packet.content, &facilities),
+        content: with_facilities(packet.content, &facilities),
     };
     write_packet(&packet, out);
     if let Content::CallAccepted = packet.content {
@@ -116,11 +136,16 @@ pub(crate) fn write_over_connection(flow: LineFlow, packet: &Packet, out: &mut P
 }
 
 // What a packet says, a Call with this facility field.
-fn with_facilities<'a>(content: &Content<'a>, facilities: &'a [u8]) -> Content<'a>
-    ensures { content_view result ≡ with_facilities facilities.now (content_view content.now) }
+fn with_facilities<'a>(content: Content<'a>, facilities: &'a [u8]) -> Content<'a>
+    ensures { content_view result ≡ with_facilities facilities.now (content_view content) }
 {
-    match *content {
-        Content::CallRequest(call) => Content::CallRequest(CallData { facilities, ..call }),
+    match content {
+        Content::CallRequest(call) => Content::CallRequest(CallData {
+            called: call.called,
+            calling: call.calling,
+            facilities,
+            user_data: call.user_data,
+        }),
         other => other,
     }
 }
