@@ -3,7 +3,8 @@ use Rattle.std.proofs.Common.{◌≡◌, ℕ, Bool, true, false, cond, List, [],
 use Rattle.std.specs.Prelude.{position, is_none}
 use Rattle.std.proofs.lemmas.List.Quantifiers.{position-Some}
 use Rattle.packet_codec.specs.declared.fault.PacketFault.{PacketFault}
-use Rattle.packet_codec.specs.Packet.{PacketValue}
+use Rattle.packet_codec.specs.Packet.{PacketValue, ContentValue}
+use Rattle.xot_gateway.specs.declared.states.Refusal.{Refusal}
 use Rattle.xot_codec.specs.Facilities.{refusal}
 use Rattle.xot_codec.specs.Xot as xot
 use Rattle.xot_codec.specs.Xot.{First, part, whole, first_packet, packet_form, takes_packet}
@@ -24,13 +25,13 @@ use Rattle.xot_gateway.specs.declared.connection.Wish.{Wish}
 use Rattle.xot_gateway.specs.declared.connection.Wish.TheVariants.{Rests, Connects, Closes}
 use Rattle.xot_gateway.specs.States.{line_move, connection_move, fault_move}
 use Rattle.xot_gateway.specs.Packets.{read_on, prepared, accepted_facilities, over_connection, clear_on, confirmation_on}
-use Rattle.xot_gateway.specs.Connections.{Step, told, broken, alone_after, heard_by, heard_in, heard_on, served_by, in_call, opened_by, first_move, first_served, served_in, served, by_first, next_connection, next_served, no_packet, is_absent, is_end, is_on, opened_from, opened, restarted_in, restarted, elapsed, wished, granted, listens, in_phase, stays, cause_at_connection, after_call, with_rest}
+use Rattle.xot_gateway.specs.Connections.{Step, told, broken, alone_after, heard_by, heard_in, heard_on, served_by, faulty, refused, place_in, in_call, opened_by, first_move, served_in, by_first, next_connection, next_served, is_absent, is_end, is_on, opened_from, opened, restarted_in, restarted, elapsed, wished, granted, listens, in_phase, stays, cause_at_connection, after_call, with_rest}
 use Rattle.xot_gateway.specs.Calls.{come}
 use Rattle.xot_gateway.specs.Laws as laws
-use Rattle.xot_gateway.specs.Laws.{Deed, Fate, passed, dropped, cleared, confirmed, forms, fate_form, IsCarried, CarryLaw, ChannelLaw, IsThere, after_deed, after_deeds, heard_if, heard_of, heard_when, written_of, all_heard, all_written}
+use Rattle.xot_gateway.specs.Laws.{Said, Deed, Fate, passed, dropped, cleared, confirmed, forms, fate_form, IsCarried, CarryLaw, ChannelLaw, IsThere, after_deed, after_deeds, heard_if, heard_of, heard_when, written_of, all_heard, all_written}
 
 -- what more comes and goes
-pub record Grows (line : XotLine) (came : List PacketValue) (gone : List ℕ) (c next : Connection) : Type 0 where
+pub record Grows (line : XotLine) (came : List Said) (gone : List ℕ) (c next : Connection) : Type 0 where
   pub more : List Fate
   pub heard : came ≡ laws.heard_in more
   pub octets : gone ++ next.stream.output ≡ c.stream.output ++ forms line more
@@ -71,31 +72,31 @@ confirmation_told line c old place same = record {
 
 -- ---- a packet of the line
 
-abbrev passed_or_dropped : PacketValue → Bool → Fate
+abbrev passed_or_dropped : Said → Bool → Fate
 passed_or_dropped p true = passed p
 passed_or_dropped p false = dropped p
 
-passed_heard : (p : PacketValue) (b : Bool) → p ∷ [] ≡ laws.heard_in (passed_or_dropped p b ∷ [])
+passed_heard : (p : Said) (b : Bool) → p ∷ [] ≡ laws.heard_in (passed_or_dropped p b ∷ [])
 passed_heard p true = refl
 passed_heard p false = refl
 
-passed_octets : (line : XotLine) (p : PacketValue) (c : Connection) (b : Bool)
-    → (cond b (record c { stream = record c.stream { output = c.stream.output ++ packet_form (over_connection line.flow p) } }) (broken c)).stream.output
+passed_octets : (line : XotLine) (p : Said) (c : Connection) (b : Bool)
+    → (cond b (record c { stream = record c.stream { output = c.stream.output ++ packet_form (over_connection line.flow p.content p.octets) } }) (broken c)).stream.output
     ≡ c.stream.output ++ forms line (passed_or_dropped p b ∷ [])
-passed_octets line p c true = ap (λ x. c.stream.output ++ x) (sym (append-nil (packet_form (over_connection line.flow p))))
+passed_octets line p c true = ap (λ x. c.stream.output ++ x) (sym (append-nil (packet_form (over_connection line.flow p.content p.octets))))
 passed_octets line p c false = sym (append-nil c.stream.output)
 
-with_dropped : (line : XotLine) (p : PacketValue) (c next : Connection) → Grows line [] [] c next → Grows line (p ∷ []) [] c next
+with_dropped : (line : XotLine) (p : Said) (c next : Connection) → Grows line [] [] c next → Grows line (p ∷ []) [] c next
 with_dropped line p c next grows = record {
   more = dropped p ∷ grows.more;
   heard = ap (λ xs. p ∷ xs) grows.heard;
   octets = grows.octets;
 }
 
-hears_by : (line : XotLine) (p : PacketValue) (place : ℕ) (c : Connection) (move : Move)
-    → Grows line (p ∷ []) [] c (heard_by line p place c move).connection
+hears_by : (line : XotLine) (p : Said) (place : ℕ) (c : Connection) (move : Move)
+    → Grows line (p ∷ []) [] c (heard_by line p.content p.octets place c move).connection
 hears_by line p place c (Passes phase) =
-    let b = takes_packet c.stream (over_connection line.flow p) in record {
+    let b = takes_packet c.stream (over_connection line.flow p.content p.octets) in record {
       more = passed_or_dropped p b ∷ [];
       heard = passed_heard p b;
       octets = passed_octets line p (in_phase c place phase) b;
@@ -105,8 +106,8 @@ hears_by line p place c Confirms =
 hears_by line p place c Drops = with_dropped line p c c (nothing_more line c c refl)
 hears_by line p place c (Refuses refusal) = with_dropped line p c c (nothing_more line c c refl)
 
-hears_in : (line : XotLine) (p : PacketValue) (place : ℕ) (c : Connection) (state : CallState)
-    → Grows line (p ∷ []) [] c (heard_in line p place c state).connection
+hears_in : (line : XotLine) (p : Said) (place : ℕ) (c : Connection) (state : CallState)
+    → Grows line (p ∷ []) [] c (heard_in line p.content p.octets place c state).connection
 hears_in line p place c (Call own phase) = hears_by line p place c (line_move phase p.content)
 hears_in line p place c NoCall = with_dropped line p c c (nothing_more line c c refl)
 hears_in line p place c Cleared = with_dropped line p c c (nothing_more line c c refl)
@@ -114,7 +115,7 @@ hears_in line p place c Confirmed = with_dropped line p c c (nothing_more line c
 hears_in line p place c Ending = with_dropped line p c c (nothing_more line c c refl)
 hears_in line p place c Broken = with_dropped line p c c (nothing_more line c c refl)
 
-hears_if : (line : XotLine) (p : PacketValue) (place : ℕ) (c : Connection) (own : Bool)
+hears_if : (line : XotLine) (p : Said) (place : ℕ) (c : Connection) (own : Bool)
     → Grows line (heard_when own p) [] c (heard_if line p place c own)
 hears_if line p place c true = hears_in line p place c c.call
 hears_if line p place c false = nothing_more line c c refl
@@ -130,28 +131,37 @@ from_same line c same next is grows = record {
   octets = grows.octets ∙ ap (λ x. x ++ forms line grows.more) is;
 }
 
-serves_by : (line : XotLine) (p : PacketValue) (place : ℕ) (c : Connection) (move : Move)
-    → Grows line [] [] c (served_by line p place c move).connection
-serves_by line p place c Drops = nothing_more line c c refl
-serves_by line p place c (Passes phase) = nothing_more line c _ refl
-serves_by line p place c Confirms = nothing_more line c _ refl
-serves_by line p place c (Refuses refusal) =
-    clear_told line (after_call c Cleared) c place (cause_at_connection refusal) refl
+refuses : (line : XotLine) (place : ℕ) (c : Connection) (refusal : Refusal)
+    → Grows line [] [] c (refused line place c refusal).connection
+refuses line place c refusal = clear_told line (after_call c Cleared) c place (cause_at_connection refusal) refl
+
+serves_by : (line : XotLine) (content : ContentValue) (octets : List ℕ) (place : ℕ) (c : Connection) (move : Move)
+    → Grows line [] [] c (served_by line content octets place c move).connection
+serves_by line content octets place c Drops = nothing_more line c c refl
+serves_by line content octets place c (Passes phase) = nothing_more line c _ refl
+serves_by line content octets place c Confirms = nothing_more line c _ refl
+serves_by line content octets place c (Refuses refusal) = refuses line place c refusal
+
+serves_faulty : (line : XotLine) (place : ℕ) (c : Connection) (move : Move) → Grows line [] [] c (faulty line place c move).connection
+serves_faulty line place c Drops = nothing_more line c c refl
+serves_faulty line place c (Passes phase) = nothing_more line c c refl
+serves_faulty line place c Confirms = nothing_more line c c refl
+serves_faulty line place c (Refuses refusal) = refuses line place c refusal
 
 serves_call : (line : XotLine) (place : ℕ) (phase : Phase) (octets : List ℕ) (c : Connection) (read : Result PacketValue PacketFault)
     → Grows line [] [] c (in_call line place phase octets c read).connection
 serves_call line place phase octets c (Ok p) =
-    serves_by line p place c (connection_move phase (is_none (refusal line.flow (accepted_facilities octets))) p.content)
-serves_call line place phase octets c (Err fault) = serves_by line (no_packet line) place c (fault_move phase)
+    serves_by line p.content octets place c (connection_move phase (is_none (refusal line.flow (accepted_facilities octets))) p.content)
+serves_call line place phase octets c (Err fault) = serves_faulty line place c (fault_move phase)
 
-serves_first : (line : XotLine) (c : Connection) (read : Result PacketValue PacketFault) (move : FirstMove)
-    → Grows line [] [] c (opened_by line read c move).connection
-serves_first line c (Ok p) (first_is.Calls place) = nothing_more line c _ refl
-serves_first line c (Err fault) (first_is.Calls place) = nothing_more line c c refl
-serves_first line c (Ok p) (first_is.Clears cause) = clear_told line (after_call c Cleared) c 0 cause refl
-serves_first line c (Err fault) (first_is.Clears cause) = clear_told line (after_call c Cleared) c 0 cause refl
-serves_first line c (Ok p) first_is.Confirms = confirmation_told line (after_call c Confirmed) c 0 refl
-serves_first line c (Err fault) first_is.Confirms = confirmation_told line (after_call c Confirmed) c 0 refl
+serves_first : (line : XotLine) (octets : List ℕ) (c : Connection) (read : Result PacketValue PacketFault) (move : FirstMove)
+    → Grows line [] [] c (opened_by line octets read c move).connection
+serves_first line octets c (Ok p) (first_is.Calls place) = nothing_more line c _ refl
+serves_first line octets c (Err fault) (first_is.Calls place) = nothing_more line c c refl
+serves_first line octets c (Ok p) (first_is.Clears cause) = clear_told line (after_call c Cleared) c 0 cause refl
+serves_first line octets c (Err fault) (first_is.Clears cause) = clear_told line (after_call c Cleared) c 0 cause refl
+serves_first line octets c (Ok p) first_is.Confirms = confirmation_told line (after_call c Confirmed) c 0 refl
+serves_first line octets c (Err fault) first_is.Confirms = confirmation_told line (after_call c Confirmed) c 0 refl
 
 ends_if : (line : XotLine) (c : Connection) (b : Bool) → Grows line [] [] c (cond b (after_call c Ending) c)
 ends_if line c true = nothing_more line c _ refl
@@ -160,7 +170,7 @@ ends_if line c false = nothing_more line c c refl
 serves_in : (line : XotLine) (free : Result ℕ ℕ) (octets : List ℕ) (c : Connection) (state : CallState)
     → Grows line [] [] c (served_in line free octets c state).connection
 serves_in line free octets c NoCall =
-    serves_first line c (read_on line octets) (first_move line.flow free octets (read_on line octets))
+    serves_first line octets c (read_on line octets) (first_move line.flow free octets (read_on line octets))
 serves_in line free octets c (Call place phase) = serves_call line place phase octets c (read_on line octets)
 serves_in line free octets c Cleared = ends_if line c (is_end (read_on line octets))
 serves_in line free octets c Confirmed = nothing_more line c c refl
@@ -172,7 +182,7 @@ takes_first : (line : XotLine) (free : Result ℕ ℕ) (c : Connection) (first :
 takes_first line free c part = nothing_more line c c refl
 takes_first line free c (whole packet rest) =
     from_same line c (with_rest rest c) _ refl
-    (serves_in line free (prepared packet) (with_rest rest c) (with_rest rest c).call)
+    (serves_in line free (prepared (place_in free c.call) packet) (with_rest rest c) (with_rest rest c).call)
 takes_first line free c (xot.broken fault) = nothing_more line c _ refl
 
 -- ---- all else
@@ -249,7 +259,7 @@ forms_append line (fate ∷ xs) ys =
     ap (λ r. fate_form line fate ++ r) (forms_append line xs ys)
     ∙ sym (append_assoc (fate_form line fate) (forms line xs) (forms line ys))
 
-grown : (line : XotLine) (heard came : List PacketValue) (written gone : List ℕ) (c next : Connection) → IsCarried line heard written c
+grown : (line : XotLine) (heard came : List Said) (written gone : List ℕ) (c next : Connection) → IsCarried line heard written c
     → Grows line came gone c next → IsCarried line (heard ++ came) (written ++ gone) next
 grown line heard came written gone c next is more = record {
   fates = is.fates ++ more.more;
@@ -266,7 +276,7 @@ there_now : (line : XotLine) (c : Connection) (deeds : List Deed) → IsThere li
 there_now line c [] there = there
 there_now line c (deed ∷ deeds) there = there.0
 
-carried_on : (line : XotLine) (heard : List PacketValue) (written : List ℕ) (c : Connection) (deeds : List Deed) → IsThere line c deeds
+carried_on : (line : XotLine) (heard : List Said) (written : List ℕ) (c : Connection) (deeds : List Deed) → IsThere line c deeds
     → IsCarried line heard written c
     → IsCarried line (all_heard line heard c deeds) (all_written line written c deeds) (after_deeds line c deeds)
 carried_on line heard written c [] there is = is

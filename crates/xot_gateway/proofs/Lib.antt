@@ -1,4 +1,3 @@
 pub mod Carrying
-pub mod Fits
 pub mod AllConnections
 pub mod Places

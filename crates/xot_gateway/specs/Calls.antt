@@ -93,33 +93,33 @@ taken place None channels = channels
 taken place (Some state) channels = set channels place state
 
 -- a Call on a free channel gets a connection, or is cleared with cause 1 if there is none for it
-abbrev pub with_call : XotLine → PacketValue → (place : ℕ) → Tables → Option ℕ → Tables
-with_call line p place t None = record t { channels = set t.channels place (ToClear number_busy) }
-with_call line p place t (Some number) = record {
-  channels = taken place (called line p place).leaves t.channels;
-  connections = set t.connections number (called line p place).connection;
+abbrev pub with_call : XotLine → ContentValue → (octets : List ℕ) → (place : ℕ) → Tables → Option ℕ → Tables
+with_call line content octets place t None = record t { channels = set t.channels place (ToClear number_busy) }
+with_call line content octets place t (Some number) = record {
+  channels = taken place (called line content octets place).leaves t.channels;
+  connections = set t.connections number (called line content octets place).connection;
 }
 
-abbrev pub leaves_at : XotLine → PacketValue → (place : ℕ) → Option Connection → Option ChannelState
-leaves_at line p place None = None
-leaves_at line p place (Some c) = (heard_on line p place c).leaves
+abbrev pub leaves_at : XotLine → ContentValue → (octets : List ℕ) → (place : ℕ) → Option Connection → Option ChannelState
+leaves_at line content octets place None = None
+leaves_at line content octets place (Some c) = (heard_on line content octets place c).leaves
 
-abbrev pub heard_at : XotLine → PacketValue → (place number : ℕ) → Tables → Tables
-heard_at line p place number t = record {
-  channels = taken place (leaves_at line p place (slice_get t.connections number)) t.channels;
-  connections = changed_at number (λ c. (heard_on line p place c).connection) t.connections;
+abbrev pub heard_at : XotLine → ContentValue → (octets : List ℕ) → (place number : ℕ) → Tables → Tables
+heard_at line content octets place number t = record {
+  channels = taken place (leaves_at line content octets place (slice_get t.connections number)) t.channels;
+  connections = changed_at number (λ c. (heard_on line content octets place c).connection) t.connections;
 }
 
 -- the connection of a call hears it alone; without one, the channel does
-abbrev pub with_packet : XotLine → PacketValue → (place : ℕ) → Tables → Option ℕ → Tables
-with_packet line p place t (Some number) = heard_at line p place number t
-with_packet line p place t None =
-    if is_call p.content && is_ready (slice_get t.channels place)
-    then with_call line p place t (position absent_one t.connections)
-    else record t { channels = changed_at place (alone_heard p.content) t.channels }
+abbrev pub with_packet : XotLine → ContentValue → (octets : List ℕ) → (place : ℕ) → Tables → Option ℕ → Tables
+with_packet line content octets place t (Some number) = heard_at line content octets place number t
+with_packet line content octets place t None =
+    if is_call content && is_ready (slice_get t.channels place)
+    then with_call line content octets place t (position absent_one t.connections)
+    else record t { channels = changed_at place (alone_heard content) t.channels }
 
-abbrev pub on_channel : XotLine → PacketValue → (place : ℕ) → Tables → Tables
-on_channel line p place t = with_packet line p place t (position (is_on place) t.connections)
+abbrev pub on_channel : XotLine → ContentValue → (octets : List ℕ) → (place : ℕ) → Tables → Tables
+on_channel line content octets place t = with_packet line content octets place t (position (is_on place) t.connections)
 
 -- ---- restart (X.25 3)
 
@@ -183,29 +183,28 @@ abbrev pub Restarts : LineState → (before after : XotCalls) → Type 0
 Restarts state before after = RestartsBy (ends_calls before.state state) state before after
 
 -- a packet on the channel of a place
-pub record HearsOn (place : ℕ) (p : PacketValue) (before after : XotCalls) : Type 0 where
+pub record HearsOn (place : ℕ) (content : ContentValue) (octets : List ℕ) (before after : XotCalls) : Type 0 where
   pub line : after.line ≡ before.line
   pub state : after.state ≡ before.state
-  pub channels : after.channels.items ≡ (on_channel before.line p place (tables before)).channels
-  pub connections : after.connections.items ≡ (on_channel before.line p place (tables before)).connections
+  pub channels : after.channels.items ≡ (on_channel before.line content octets place (tables before)).channels
+  pub connections : after.connections.items ≡ (on_channel before.line content octets place (tables before)).connections
 
 -- packets of calls are heard in r1 alone
-abbrev pub HearsIn : LineState → Option ℕ → PacketValue → (before after : XotCalls) → Type 0
-HearsIn line_is.Ready (Some place) p before after = HearsOn place p before after
-HearsIn state place p before after = after ≡ before
+abbrev pub HearsIn : LineState → Option ℕ → ContentValue → (octets : List ℕ) → (before after : XotCalls) → Type 0
+HearsIn line_is.Ready (Some place) content octets before after = HearsOn place content octets before after
+HearsIn state place content octets before after = after ≡ before
 
-abbrev pub HearsContent : ContentValue → PacketValue → (before after : XotCalls) → Type 0
-HearsContent (RestartRequest cause diagnostic) p before after = Restarts (after_restart before.state) before after
-HearsContent RestartConfirmation p before after = Restarts (after_confirmation before.state) before after
-HearsContent content p before after = HearsIn before.state (place_of p.channel) p before after
-
-abbrev pub HearsPacket : PacketValue → (before after : XotCalls) → Type 0
-HearsPacket p before after = HearsContent p.content p before after
+abbrev pub HearsContent : ContentValue → (channel : ℕ) → (octets : List ℕ) → (before after : XotCalls) → Type 0
+HearsContent (RestartRequest cause diagnostic) channel octets before after =
+    Restarts (after_restart before.state) before after
+HearsContent RestartConfirmation channel octets before after = Restarts (after_confirmation before.state) before after
+HearsContent content channel octets before after =
+    HearsIn before.state (place_of channel) content octets before after
 
 -- octets that are no packet are dropped
-abbrev pub Hears : Result PacketValue PacketFault → (before after : XotCalls) → Type 0
-Hears (Ok p) before after = HearsPacket p before after
-Hears (Err fault) before after = after ≡ before
+abbrev pub Hears : (octets : List ℕ) → Result PacketValue PacketFault → (before after : XotCalls) → Type 0
+Hears octets (Ok p) before after = HearsContent p.content p.channel octets before after
+Hears octets (Err fault) before after = after ≡ before
 
 abbrev pub attached : Option ℕ → List Connection → List Connection
 attached None connections = connections

@@ -92,30 +92,30 @@ pub record Step : Type 0 where
 abbrev pub stays : Connection → Step
 stays c = record { connection = c; leaves = None }
 
-abbrev pub heard_by : XotLine → PacketValue → (place : ℕ) → Connection → Move → Step
-heard_by line p place c (Passes phase) =
+abbrev pub heard_by : XotLine → ContentValue → (octets : List ℕ) → (place : ℕ) → Connection → Move → Step
+heard_by line content octets place c (Passes phase) =
     let next = in_phase c place phase in
-    let octets = over_connection line.flow p in record {
-      connection = told next octets;
-      leaves = if takes_packet next.stream octets then None else Some (alone_in phase);
+    let packet = over_connection line.flow content octets in record {
+      connection = told next packet;
+      leaves = if takes_packet next.stream packet then None else Some (alone_in phase);
     }
-heard_by line p place c Confirms =
+heard_by line content octets place c Confirms =
     record { connection = told (after_call c Confirmed) (confirmation_on line place); leaves = Some Ready }
-heard_by line p place c _ = stays c
+heard_by line content octets place c _ = stays c
 
-abbrev pub heard : XotLine → PacketValue → (place : ℕ) → Phase → Connection → Step
-heard line p place phase c = heard_by line p place c (line_move phase p.content)
+abbrev pub heard : XotLine → ContentValue → (octets : List ℕ) → (place : ℕ) → Phase → Connection → Step
+heard line content octets place phase c = heard_by line content octets place c (line_move phase content)
 
-abbrev pub heard_in : XotLine → PacketValue → (place : ℕ) → Connection → CallState → Step
-heard_in line p place c (Call own phase) = heard line p place phase c
-heard_in line p place c _ = stays c
+abbrev pub heard_in : XotLine → ContentValue → (octets : List ℕ) → (place : ℕ) → Connection → CallState → Step
+heard_in line content octets place c (Call own phase) = heard line content octets place phase c
+heard_in line content octets place c _ = stays c
 
-abbrev pub heard_on : XotLine → PacketValue → (place : ℕ) → Connection → Step
-heard_on line p place c = heard_in line p place c c.call
+abbrev pub heard_on : XotLine → ContentValue → (octets : List ℕ) → (place : ℕ) → Connection → Step
+heard_on line content octets place c = heard_in line content octets place c c.call
 
 -- a Call of the line on a free channel
-abbrev pub called : XotLine → PacketValue → (place : ℕ) → Step
-called line p place = heard_by line p place wanted (Passes DceWaiting)
+abbrev pub called : XotLine → ContentValue → (octets : List ℕ) → (place : ℕ) → Step
+called line content octets place = heard_by line content octets place wanted (Passes DceWaiting)
 
 -- ---- a packet of the connection
 
@@ -144,27 +144,32 @@ abbrev pub cause_at_line : Refusal → ℕ
 cause_at_line Facilities = invalid_facility
 cause_at_line Procedure = remote_procedure_error
 
-abbrev pub served_by : XotLine → PacketValue → (place : ℕ) → Connection → Move → Serving
-served_by line p place c (Passes phase) =
-    record { connection = in_phase c place phase; packet = Some (over_line p place); leaves = None }
-served_by line p place c Confirms =
-    record { connection = after_call c Ending; packet = Some (confirmation_on line place); leaves = Some Ready }
-served_by line p place c (Refuses refusal) = record {
+-- the call is cleared on both sides
+abbrev pub refused : XotLine → (place : ℕ) → Connection → Refusal → Serving
+refused line place c refusal = record {
   connection = told (after_call c Cleared) (clear_on line place (cause_at_connection refusal));
   packet = None;
   leaves = Some (ToClear (cause_at_line refusal));
 }
-served_by line p place c Drops = quiet c
 
--- what is said for octets that are no packet
-abbrev pub no_packet : XotLine → PacketValue
-no_packet line = record { numbering = line.numbering; channel = 0; content = ClearConfirmation }
+abbrev pub served_by : XotLine → ContentValue → (octets : List ℕ) → (place : ℕ) → Connection → Move → Serving
+served_by line content octets place c (Passes phase) =
+    record { connection = in_phase c place phase; packet = Some (over_line content octets); leaves = None }
+served_by line content octets place c Confirms =
+    record { connection = after_call c Ending; packet = Some (confirmation_on line place); leaves = Some Ready }
+served_by line content octets place c (Refuses refusal) = refused line place c refusal
+served_by line content octets place c Drops = quiet c
+
+-- octets that are no packet
+abbrev pub faulty : XotLine → (place : ℕ) → Connection → Move → Serving
+faulty line place c (Refuses refusal) = refused line place c refusal
+faulty line place c move = quiet c
 
 abbrev pub in_call : XotLine → (place : ℕ) → Phase → (octets : List ℕ) → Connection → Result PacketValue PacketFault → Serving
 in_call line place phase octets c (Ok p) =
-    served_by line p place c
+    served_by line p.content octets place c
     (connection_move phase (is_none (refusal line.flow (accepted_facilities octets))) p.content)
-in_call line place phase octets c (Err fault) = served_by line (no_packet line) place c (fault_move phase)
+in_call line place phase octets c (Err fault) = faulty line place c (fault_move phase)
 
 -- the first packet of a connection is to be a Call, for which there is a free place, or a cause why not. PVC set-up
 -- (F5) is not carried
@@ -187,17 +192,17 @@ first_move flow free octets (Ok p) = first_content flow free p.content
 first_move flow free octets (Err fault) =
     if is_pvc_set_up octets then first_is.Clears invalid_facility else first_is.Clears local_procedure_error
 
-abbrev pub opened_by : XotLine → Result PacketValue PacketFault → Connection → FirstMove → Serving
-opened_by line (Ok p) c (first_is.Calls place) =
-    record { connection = in_phase c place DteWaiting; packet = Some (over_line p place); leaves = None }
-opened_by line (Err fault) c (first_is.Calls place) = quiet c
-opened_by line read c (first_is.Clears cause) =
+abbrev pub opened_by : XotLine → (octets : List ℕ) → Result PacketValue PacketFault → Connection → FirstMove → Serving
+opened_by line octets (Ok p) c (first_is.Calls place) =
+    record { connection = in_phase c place DteWaiting; packet = Some (over_line p.content octets); leaves = None }
+opened_by line octets (Err fault) c (first_is.Calls place) = quiet c
+opened_by line octets read c (first_is.Clears cause) =
     quiet (told (after_call c Cleared) (clear_on line 0 cause))
-opened_by line read c first_is.Confirms = quiet (told (after_call c Confirmed) (confirmation_on line 0))
+opened_by line octets read c first_is.Confirms = quiet (told (after_call c Confirmed) (confirmation_on line 0))
 
 abbrev pub first_served : XotLine → (free : Result ℕ ℕ) → (octets : List ℕ) → Connection → Serving
 first_served line free octets c =
-    let read = read_on line octets in opened_by line read c (first_move line.flow free octets read)
+    let read = read_on line octets in opened_by line octets read c (first_move line.flow free octets read)
 
 -- a Clear or its confirmation ends what the gateway cleared
 abbrev pub ends : ContentValue → Bool
@@ -216,8 +221,14 @@ served_in line free octets c (Call place phase) = in_call line place phase octet
 served_in line free octets c Cleared = quiet (if is_end (read_on line octets) then after_call c Ending else c)
 served_in line free octets c _ = quiet c
 
+-- the place of its channel: that of its call, or the free one
+abbrev pub place_in : Result ℕ ℕ → CallState → ℕ
+place_in free (Call place phase) = place
+place_in (Ok place) state = place
+place_in (Err cause) state = 0
+
 abbrev pub served : XotLine → (free : Result ℕ ℕ) → (packet : List ℕ) → Connection → Serving
-served line free packet c = served_in line free (prepared packet) c c.call
+served line free packet c = served_in line free (prepared (place_in free c.call) packet) c c.call
 
 -- ---- what came next
 

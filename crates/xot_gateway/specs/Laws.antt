@@ -1,6 +1,6 @@
 -- A connection, from when it began on: what its channel brought, and what was written to it.
 use Rattle.std.specs.Prelude.{◌≡◌, ℕ, Bool, true, false, List, [], ◌∷◌, ◌++◌, take, position, slice_get, Option, Some, None, Result, if◌then◌else◌}
-use Rattle.packet_codec.specs.Packet.{PacketValue}
+use Rattle.packet_codec.specs.Packet.{ContentValue}
 use Rattle.xot_codec.specs.Xot.{packet_form}
 use Rattle.xot_gateway.specs.declared.line.XotLine.{XotLine}
 use Rattle.xot_gateway.specs.declared.states.Phase.TheVariants.{DceWaiting}
@@ -10,11 +10,16 @@ use Rattle.xot_gateway.specs.Packets.{over_connection, clear_on, confirmation_on
 use Rattle.xot_gateway.specs.Connections.{elapsed, granted, heard_by, heard_on, is_absent, is_on, next_connection, next_served, opened, restarted, wished, with_octets, written}
 use Rattle.xot_gateway.specs.Calls.{come}
 
+-- a packet of the line: its octets, and what they say
+pub record Said : Type 0 where
+  pub octets : List ℕ
+  pub content : ContentValue
+
 -- what happens at a connection: a Call of the line begins it, a packet of the line comes on the channel of a place, its
 -- next packet is taken, octets come, octets are written, it stands, the line restarts, ticks pass, an order is given
 pub data Deed : Type 0 where
-  calls : (p : PacketValue) → (place : ℕ) → Deed
-  hears : (p : PacketValue) → (place : ℕ) → Deed
+  calls : (p : Said) → (place : ℕ) → Deed
+  hears : (p : Said) → (place : ℕ) → Deed
   takes : (free : Result ℕ ℕ) → Deed
   comes : (octets : List ℕ) → Deed
   writes : (count : ℕ) → Deed
@@ -24,12 +29,12 @@ pub data Deed : Type 0 where
   orders : Deed
 
 -- packets of other channels do not come to it
-abbrev pub heard_if : XotLine → PacketValue → (place : ℕ) → Connection → (own : Bool) → Connection
-heard_if line p place c true = (heard_on line p place c).connection
+abbrev pub heard_if : XotLine → Said → (place : ℕ) → Connection → (own : Bool) → Connection
+heard_if line p place c true = (heard_on line p.content p.octets place c).connection
 heard_if line p place c false = c
 
 abbrev pub after_deed : XotLine → Connection → Deed → Connection
-after_deed line c (calls p place) = (heard_by line p place c (Passes DceWaiting)).connection
+after_deed line c (calls p place) = (heard_by line p.content p.octets place c (Passes DceWaiting)).connection
 after_deed line c (hears p place) = heard_if line p place c (is_on place c)
 after_deed line c (takes free) = next_connection c (next_served line free c)
 after_deed line c (comes octets) = come octets c
@@ -49,11 +54,11 @@ after_deeds line c [] = c
 after_deeds line c (deed ∷ deeds) = after_deeds line (after_deed line c deed) deeds
 
 -- the packets that came on the channel of its call
-abbrev pub heard_when : (own : Bool) → PacketValue → List PacketValue
+abbrev pub heard_when : (own : Bool) → Said → List Said
 heard_when true p = p ∷ []
 heard_when false p = []
 
-abbrev pub heard_of : Connection → Deed → List PacketValue
+abbrev pub heard_of : Connection → Deed → List Said
 heard_of c (calls p place) = p ∷ []
 heard_of c (hears p place) = heard_when (is_on place c) p
 heard_of c _ = []
@@ -62,7 +67,7 @@ abbrev pub written_of : Connection → Deed → List ℕ
 written_of c (writes count) = take count c.stream.output
 written_of c _ = []
 
-abbrev pub all_heard : XotLine → (so_far : List PacketValue) → Connection → List Deed → List PacketValue
+abbrev pub all_heard : XotLine → (so_far : List Said) → Connection → List Deed → List Said
 all_heard line so_far c [] = so_far
 all_heard line so_far c (deed ∷ deeds) = all_heard line (so_far ++ heard_of c deed) (after_deed line c deed) deeds
 
@@ -72,12 +77,12 @@ all_written line so_far c (deed ∷ deeds) = all_written line (so_far ++ written
 
 -- what became of a packet of the line, or a Clear or Clear Confirmation of the gateway itself
 pub data Fate : Type 0 where
-  passed : (p : PacketValue) → Fate
-  dropped : (p : PacketValue) → Fate
+  passed : (p : Said) → Fate
+  dropped : (p : Said) → Fate
   cleared : (place cause : ℕ) → Fate
   confirmed : (place : ℕ) → Fate
 
-abbrev pub heard_in : List Fate → List PacketValue
+abbrev pub heard_in : List Fate → List Said
 heard_in [] = []
 heard_in (passed p ∷ fates) = p ∷ heard_in fates
 heard_in (dropped p ∷ fates) = p ∷ heard_in fates
@@ -86,7 +91,7 @@ heard_in (confirmed place ∷ fates) = heard_in fates
 
 -- the packets that go out, each with its header
 abbrev pub fate_form : XotLine → Fate → List ℕ
-fate_form line (passed p) = packet_form (over_connection line.flow p)
+fate_form line (passed p) = packet_form (over_connection line.flow p.content p.octets)
 fate_form line (dropped p) = []
 fate_form line (cleared place cause) = packet_form (clear_on line place cause)
 fate_form line (confirmed place) = packet_form (confirmation_on line place)
@@ -97,7 +102,7 @@ forms line (fate ∷ fates) = fate_form line fate ++ forms line fates
 
 -- What was written and what waits is packets that came on the channel of its call, in order, each once at most, with the
 -- line's size and window in Call and Call Accepted, and between them the gateway's own Clears and confirmations.
-pub record IsCarried (line : XotLine) (heard : List PacketValue) (written : List ℕ) (c : Connection) : Type 0 where
+pub record IsCarried (line : XotLine) (heard : List Said) (written : List ℕ) (c : Connection) : Type 0 where
   pub fates : List Fate
   pub came : heard ≡ heard_in fates
   pub went : written ++ c.stream.output ≡ forms line fates

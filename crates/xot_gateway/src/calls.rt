@@ -1,7 +1,6 @@
 //! The calls of a line: the table of its channels and that of connections.
 ghost use Rattle.std.specs.Prelude.{◌≡◌, ◌≤◌, true, length, take, replicate, slice_get, is_some, position, IfOk, Some};
-ghost use Rattle.packet_codec.specs.Packet.{IsPacket};
-ghost use Rattle.packet_codec.specs.View.{content_view, view};
+ghost use Rattle.packet_codec.specs.View.{content_view};
 ghost use Rattle.xot_gateway.specs.declared.connection.Connection.{Connection as ConnectionValue};
 ghost use Rattle.xot_gateway.specs.declared.calls.LineState.TheVariants as line_is;
 ghost use Rattle.xot_gateway.specs.Connections.{absent, elapsed, is_on, opened, restarted, writes, written};
@@ -10,8 +9,8 @@ ghost use Rattle.xot_gateway.specs.Calls.{
   AllChange,
   AllEnd,
   Hears,
+  HearsContent,
   HearsOn,
-  HearsPacket,
   IsMade,
   Loses,
   OthersStay,
@@ -53,8 +52,9 @@ use crate::packets::{
 };
 use crate::states::ChannelState;
 use packet_codec::clear_cause::{NUMBER_BUSY, OUT_OF_ORDER};
-use packet_codec::{Content, MAX_USER_DATA, Packet, PacketBuf};
+use packet_codec::Content;
 use std::alloc::{AllocError, Global};
+use xot_codec::XotPacket;
 
 /// The most channels that are looked at for a free one.
 const MOST_PLACES: usize = 255;
@@ -158,23 +158,22 @@ impl XotCalls {
     /// Takes a packet of the line. One that is no packet, or that neither a call nor a free channel has a place for, is
     /// dropped.
     pub fn from_line(&mut self, octets: &[u8])
-        ensures { Hears (read_on self.old.line octets.now) self.old self.new }
+        ensures { Hears octets.now (read_on self.old.line octets.now) self.old self.new }
     {
         if let Ok(packet) = read_on(self.line, octets) {
-            self.hear(packet);
+            self.hear(&packet.content, packet.channel, octets);
         }
     }
 
-    fn hear(&mut self, packet: Packet<'_>)
-        requires { IsPacket MAX_USER_DATA (view packet) }
-        ensures { HearsPacket (view packet) self.old self.new }
+    fn hear(&mut self, content: &Content, channel: u16, octets: &[u8])
+        ensures { HearsContent (content_view content.now) channel octets.now self.old self.new }
     {
-        match packet.content {
+        match content {
             Content::RestartRequest { .. } => self.hear_restart(after_restart(self.state)),
             Content::RestartConfirmation => self.hear_restart(after_confirmation(self.state)),
             _ => {
-                if let (LineState::Ready, Some(place)) = (self.state, place_of(packet.channel)) {
-                    self.hear_on(packet, place);
+                if let (LineState::Ready, Some(place)) = (self.state, place_of(channel)) {
+                    self.hear_on(content, octets, place);
                 }
             }
         }
@@ -191,19 +190,18 @@ impl XotCalls {
     }
 
     // A packet of the line on the channel of a place.
-    fn hear_on(&mut self, packet: Packet<'_>, place: u8)
-        requires { IsPacket MAX_USER_DATA (view packet) }
-        ensures { HearsOn place (view packet) self.old self.new }
+    fn hear_on(&mut self, content: &Content, octets: &[u8], place: u8)
+        ensures { HearsOn place (content_view content.now) octets.now self.old self.new }
     {
         let line = self.line;
         match find_on(self.connections.as_slice(), place) {
             Some(number) => {
-                hear_at(line, packet, place, number, &mut self.channels, &mut self.connections);
+                hear_at(line, content, octets, place, number, &mut self.channels, &mut self.connections);
             }
-            None if is_call(&packet.content) && is_ready(self.channels.as_slice(), place) => {
-                begin_call(line, packet, place, &mut self.channels, &mut self.connections);
+            None if is_call(content) && is_ready(self.channels.as_slice(), place) => {
+                begin_call(line, content, octets, place, &mut self.channels, &mut self.connections);
             }
-            None => hear_alone(&packet.content, place, &mut self.channels),
+            None => hear_alone(content, place, &mut self.channels),
         }
     }
 
@@ -285,7 +283,7 @@ impl XotCalls {
     }
 
     /// Takes the next packet of a connection, if the whole of it came. What is to go to the line is then in `out`.
-    pub fn serve(&mut self, number: usize, out: &mut PacketBuf) -> Work
+    pub fn serve(&mut self, number: usize, out: &mut XotPacket) -> Work
         ensures { Serves number result out.old.items out.new.items self.old self.new }
     {
         let free = self.free();
@@ -318,7 +316,7 @@ impl XotCalls {
 
     /// Takes the next packet that the gateway itself owes to the line, if there is one, and says so: a Restart or its
     /// confirmation, else that of the first channel which owes one. It is then in `out`.
-    pub fn next_owed(&mut self, out: &mut PacketBuf) -> bool
+    pub fn next_owed(&mut self, out: &mut XotPacket) -> bool
         ensures { PaysOwed result out.old.items out.new.items self.old self.new }
     {
         match self.state {
@@ -517,18 +515,18 @@ fn is_call(content: &Content) -> bool
 // A packet of the line on the channel of a call.
 fn hear_at(
     line: XotLine,
-    packet: Packet<'_>,
+    content: &Content,
+    octets: &[u8],
     place: u8,
     number: usize,
     channels: &mut Vec<ChannelState>,
     connections: &mut Vec<Connection>,
 )
-    requires { IsPacket MAX_USER_DATA (view packet) }
-    ensures connections { connections.new.items ≡ (heard_at line (view packet) place number (record { channels = channels.old.items; connections = connections.old.items })).connections }
-    ensures channels { channels.new.items ≡ (heard_at line (view packet) place number (record { channels = channels.old.items; connections = connections.old.items })).channels }
+    ensures connections { connections.new.items ≡ (heard_at line (content_view content.now) octets.now place number (record { channels = channels.old.items; connections = connections.old.items })).connections }
+    ensures channels { channels.new.items ≡ (heard_at line (content_view content.now) octets.now place number (record { channels = channels.old.items; connections = connections.old.items })).channels }
 {
     if let Some(connection) = connections.get_mut(number) {
-        let leaves = connection.hear_on(line, packet, place);
+        let leaves = connection.hear_on(line, content, octets, place);
         set_channel(place, leaves, channels);
     }
 }
@@ -536,21 +534,21 @@ fn hear_at(
 // A Call of the line on a free channel.
 fn begin_call(
     line: XotLine,
-    packet: Packet<'_>,
+    content: &Content,
+    octets: &[u8],
     place: u8,
     channels: &mut Vec<ChannelState>,
     connections: &mut Vec<Connection>,
 )
-    requires { IsPacket MAX_USER_DATA (view packet) }
-    ensures connections { connections.new.items ≡ (with_call line (view packet) place (record { channels = channels.old.items; connections = connections.old.items }) (position absent_one connections.old.items)).connections }
-    ensures channels { channels.new.items ≡ (with_call line (view packet) place (record { channels = channels.old.items; connections = connections.old.items }) (position absent_one connections.old.items)).channels }
+    ensures connections { connections.new.items ≡ (with_call line (content_view content.now) octets.now place (record { channels = channels.old.items; connections = connections.old.items }) (position absent_one connections.old.items)).connections }
+    ensures channels { channels.new.items ≡ (with_call line (content_view content.now) octets.now place (record { channels = channels.old.items; connections = connections.old.items }) (position absent_one connections.old.items)).channels }
 {
     let Some(number) = find_absent(connections.as_slice()) else {
         set_channel(place, Some(ChannelState::ToClear(NUMBER_BUSY)), channels);
         return;
     };
     if let Some(connection) = connections.get_mut(number) {
-        let leaves = connection.begin_call(line, packet, place);
+        let leaves = connection.begin_call(line, content, octets, place);
         set_channel(place, leaves, channels);
     }
 }
@@ -599,7 +597,7 @@ fn leave_by(call: CallState, leaves: Option<ChannelState>, channels: &mut Vec<Ch
 }
 
 // The next packet that a channel owes to the line.
-fn next_of_channels(line: XotLine, channels: &mut Vec<ChannelState>, out: &mut PacketBuf) -> bool
+fn next_of_channels(line: XotLine, channels: &mut Vec<ChannelState>, out: &mut XotPacket) -> bool
     ensures answer { result ≡ is_some (first_owed channels.old.items) }
     ensures channels { channels.new.items ≡ with_paid (first_owed channels.old.items) channels.old.items }
     ensures out { out.new.items ≡ owed_packet line (first_owed channels.old.items) channels.old.items out.old.items }

@@ -1,8 +1,7 @@
 //! One connection and the call on it.
-ghost use Rattle.std.specs.Prelude.{◌≡◌, ◌-◌, false, length, min, take, Some, IfOk};
+ghost use Rattle.std.specs.Prelude.{◌≡◌, ◌-◌, ◌≤◌, false, length, min, take, Some, IfOk};
 ghost use Rattle.octet_rings.specs.Places.{most_octets};
-ghost use Rattle.packet_codec.specs.Packet.{IsPacket};
-ghost use Rattle.packet_codec.specs.View.{answer_view, content_view, view};
+ghost use Rattle.packet_codec.specs.View.{answer_view, content_view};
 ghost use Rattle.xot_codec.specs.Xot.{takes_packet};
 ghost use Rattle.xot_gateway.specs.Connections.{
   absent,
@@ -20,7 +19,6 @@ ghost use Rattle.xot_gateway.specs.Connections.{
   first_served,
   fresh,
   granted,
-  heard,
   heard_by,
   heard_on,
   in_call,
@@ -36,6 +34,7 @@ ghost use Rattle.xot_gateway.specs.Connections.{
   next_packet,
   opened,
   packet_after,
+  place_in,
   restarted,
   served,
   served_by,
@@ -46,24 +45,24 @@ ghost use Rattle.xot_gateway.specs.Connections.{
   written,
 };
 ghost use Rattle.xot_gateway.specs.Calls.{has_wish};
-ghost use Rattle.xot_gateway.specs.Packets.{IsPrepared, clear_on, confirmation_on, read_on};
+ghost use Rattle.xot_gateway.specs.Packets.{clear_on, confirmation_on, over_connection, read_on};
 ghost use Rattle.xot_gateway.specs.declared.states.Move.TheVariants.{Passes};
 ghost use Rattle.xot_gateway.specs.declared.states.ChannelState.TheVariants.{ToClear};
 ghost use Rattle.xot_gateway.specs.declared.connection.CallState.TheVariants.{Cleared, Confirmed};
 
 use crate::line::XotLine;
 use crate::packets::{
-    accepted_facilities, prepare, read_on, write_clear, write_confirmation, write_over_connection,
-    write_over_line,
+    accepted_facilities, prepare, read_on, write_accepted_over, write_call_over, write_clear,
+    write_confirmation, write_over_line,
 };
 use crate::states::{
     ChannelState, FirstMove, Move, Phase, Refusal, connection_move, fault_move, line_move,
 };
 use link_timers::Countdown;
 use packet_codec::clear_cause::{INVALID_FACILITY, LOCAL_PROCEDURE_ERROR, OUT_OF_ORDER};
-use packet_codec::{Content, MAX_USER_DATA, Packet, PacketBuf, PacketFault};
+use packet_codec::{Content, Packet, PacketFault};
 use std::alloc::{AllocError, Global};
-use xot_codec::{LineFlow, XotPacket, XotStream, take_facilities};
+use xot_codec::{LineFlow, MAX_XOT_PACKET, XotPacket, XotStream, take_facilities};
 
 /// How long the other side may take where it is to act, in ticks of a twentieth of a second: a minute.
 const PEER_TICKS: u16 = 1200;
@@ -182,41 +181,37 @@ impl Connection {
     }
 
     /// A Call of the line on a free channel wants a connection.
-    pub(crate) fn begin_call(&mut self, line: XotLine, packet: Packet<'_>, place: u8) -> Option<ChannelState>
-        requires { IsPacket MAX_USER_DATA (view packet) }
-        ensures connection { self.new ≡ (called line (view packet) place).connection }
-        ensures leaves { result ≡ (called line (view packet) place).leaves }
+    pub(crate) fn begin_call(
+        &mut self,
+        line: XotLine,
+        content: &Content,
+        octets: &[u8],
+        place: u8,
+    ) -> Option<ChannelState>
+        ensures connection { self.new ≡ (called line (content_view content.now) octets.now place).connection }
+        ensures leaves { result ≡ (called line (content_view content.now) octets.now place).leaves }
     {
         self.renew(Socket::Wanted);
-        self.pass(line, packet, place, Phase::DceWaiting)
+        self.pass(line, content, octets, place, Phase::DceWaiting)
     }
 
     /// Takes a packet of the line on the channel of its call, if it has one. The answer is what the channel is in, if it has
     /// no connection any more.
-    pub(crate) fn hear_on(&mut self, line: XotLine, packet: Packet<'_>, place: u8) -> Option<ChannelState>
-        requires { IsPacket MAX_USER_DATA (view packet) }
-        ensures connection { self.new ≡ (heard_on line (view packet) place self.old).connection }
-        ensures leaves { result ≡ (heard_on line (view packet) place self.old).leaves }
-    {
-        match self.call {
-            CallState::Call { phase, .. } => self.hear(line, packet, place, phase),
-            _ => None,
-        }
-    }
-
-    fn hear(
+    pub(crate) fn hear_on(
         &mut self,
         line: XotLine,
-        packet: Packet<'_>,
+        content: &Content,
+        octets: &[u8],
         place: u8,
-        phase: Phase,
     ) -> Option<ChannelState>
-        requires { IsPacket MAX_USER_DATA (view packet) }
-        ensures connection { self.new ≡ (heard line (view packet) place phase self.old).connection }
-        ensures leaves { result ≡ (heard line (view packet) place phase self.old).leaves }
+        ensures connection { self.new ≡ (heard_on line (content_view content.now) octets.now place self.old).connection }
+        ensures leaves { result ≡ (heard_on line (content_view content.now) octets.now place self.old).leaves }
     {
-        match line_move(phase, &packet.content) {
-            Move::Passes(next) => self.pass(line, packet, place, next),
+        let CallState::Call { phase, .. } = self.call else {
+            return None;
+        };
+        match line_move(phase, content) {
+            Move::Passes(next) => self.pass(line, content, octets, place, next),
             Move::Confirms => {
                 self.confirm(line, place);
                 Some(ChannelState::Ready)
@@ -229,21 +224,38 @@ impl Connection {
     fn pass(
         &mut self,
         line: XotLine,
-        packet: Packet<'_>,
+        content: &Content,
+        octets: &[u8],
         place: u8,
         phase: Phase,
     ) -> Option<ChannelState>
-        requires { IsPacket MAX_USER_DATA (view packet) }
-        ensures connection { self.new ≡ (heard_by line (view packet) place self.old (Passes phase)).connection }
-        ensures leaves { result ≡ (heard_by line (view packet) place self.old (Passes phase)).leaves }
+        ensures connection { self.new ≡ (heard_by line (content_view content.now) octets.now place self.old (Passes phase)).connection }
+        ensures leaves { result ≡ (heard_by line (content_view content.now) octets.now place self.old (Passes phase)).leaves }
     {
-        let mut out = PacketBuf::new();
-        write_over_connection(line.flow, packet, &mut out);
         self.enter(place, phase);
-        if self.tell(out.as_slice()) {
+        if self.tell_content(line.flow, content, octets) {
             None
         } else {
             Some(phase.alone())
+        }
+    }
+
+    fn tell_content(&mut self, flow: LineFlow, content: &Content, octets: &[u8]) -> bool
+        ensures connection { self.new ≡ told self.old (over_connection flow (content_view content.now) octets.now) }
+        ensures room { result ≡ takes_packet self.old.stream (over_connection flow (content_view content.now) octets.now) }
+    {
+        match content {
+            Content::CallRequest(_) => {
+                let mut out = XotPacket::new();
+                write_call_over(flow, octets, &mut out);
+                self.tell(out.as_slice())
+            }
+            Content::CallAccepted => {
+                let mut out = XotPacket::new();
+                write_accepted_over(flow, octets, &mut out);
+                self.tell(out.as_slice())
+            }
+            _ => self.tell(octets),
         }
     }
 
@@ -289,7 +301,7 @@ impl Connection {
     fn confirm(&mut self, line: XotLine, place: u8)
         ensures { self.new ≡ told (after_call self.old Confirmed) (confirmation_on line place) }
     {
-        let mut out = PacketBuf::new();
+        let mut out = XotPacket::new();
         write_confirmation(line, place, &mut out);
         self.end_call(CallState::Confirmed);
         self.tell(out.as_slice());
@@ -299,7 +311,7 @@ impl Connection {
     fn clear(&mut self, line: XotLine, place: u8, cause: u8)
         ensures { self.new ≡ told (after_call self.old Cleared) (clear_on line place cause) }
     {
-        let mut out = PacketBuf::new();
+        let mut out = XotPacket::new();
         write_clear(line, place, cause, &mut out);
         self.end_call(CallState::Cleared);
         self.tell(out.as_slice());
@@ -311,7 +323,7 @@ impl Connection {
         &mut self,
         line: XotLine,
         free: Result<u8, u8>,
-        out: &mut PacketBuf,
+        out: &mut XotPacket,
     ) -> Option<Served>
         ensures connection { self.new ≡ next_connection self.old (next_served line free self.old) }
         ensures answer { result ≡ next_answer (next_served line free self.old) }
@@ -320,7 +332,7 @@ impl Connection {
         let mut packet = XotPacket::new();
         match self.stream.next_packet(&mut packet) {
             Ok(false) => None,
-            Ok(true) => Some(self.serve(line, free, &mut packet, out)),
+            Ok(true) => Some(self.serve(line, free, packet.as_slice(), out)),
             Err(_) => {
                 let leaves = self.alone();
                 self.break_off();
@@ -338,15 +350,16 @@ impl Connection {
         &mut self,
         line: XotLine,
         free: Result<u8, u8>,
-        packet: &mut XotPacket,
-        out: &mut PacketBuf,
+        packet: &[u8],
+        out: &mut XotPacket,
     ) -> Served
-        ensures connection { self.new ≡ (served line free packet.old.items self.old).connection }
-        ensures answer { result ≡ answer_of (served line free packet.old.items self.old) }
-        ensures out { out.new.items ≡ packet_after out.old.items (served line free packet.old.items self.old) }
+        requires { length packet.now ≤ MAX_XOT_PACKET }
+        ensures connection { self.new ≡ (served line free packet.now self.old).connection }
+        ensures answer { result ≡ answer_of (served line free packet.now self.old) }
+        ensures out { out.new.items ≡ packet_after out.old.items (served line free packet.now self.old) }
     {
-        prepare(packet);
-        let octets = packet.as_slice();
+        let prepared = prepare(place_in(free, self.call), packet);
+        let octets = prepared.as_slice();
         match self.call {
             CallState::NoCall => self.serve_first(line, free, octets, out),
             CallState::Call { place, phase } => self.serve_call(line, place, phase, octets, out),
@@ -366,18 +379,18 @@ impl Connection {
         line: XotLine,
         free: Result<u8, u8>,
         octets: &[u8],
-        out: &mut PacketBuf,
+        out: &mut XotPacket,
     ) -> Served
-        requires { IsPrepared octets.now }
+        requires { length octets.now ≤ MAX_XOT_PACKET }
         ensures connection { self.new ≡ (first_served line free octets.now self.old).connection }
         ensures answer { result ≡ answer_of (first_served line free octets.now self.old) }
         ensures out { out.new.items ≡ packet_after out.old.items (first_served line free octets.now self.old) }
     {
         let read = read_on(line, octets);
         let next = first_move(line.flow, free, octets, &read);
-        match (next, read) {
+        match (next, &read) {
             (FirstMove::Calls(place), Ok(packet)) => {
-                write_over_line(packet, place, out);
+                write_over_line(&packet.content, octets, out);
                 self.enter(place, Phase::DteWaiting);
                 SENDS
             }
@@ -400,9 +413,9 @@ impl Connection {
         place: u8,
         phase: Phase,
         octets: &[u8],
-        out: &mut PacketBuf,
+        out: &mut XotPacket,
     ) -> Served
-        requires { IsPrepared octets.now }
+        requires { length octets.now ≤ MAX_XOT_PACKET }
         ensures connection { self.new ≡ (in_call line place phase octets.now self.old (read_on line octets.now)).connection }
         ensures answer { result ≡ answer_of (in_call line place phase octets.now self.old (read_on line octets.now)) }
         ensures out { out.new.items ≡ packet_after out.old.items (in_call line place phase octets.now self.old (read_on line octets.now)) }
@@ -411,7 +424,7 @@ impl Connection {
         match read_on(line, octets) {
             Ok(packet) => {
                 let next = connection_move(phase, carried, &packet.content);
-                self.serve_packet(line, place, packet, next, out)
+                self.serve_packet(line, &packet.content, octets, place, next, out)
             }
             Err(_) => match fault_move(phase) {
                 Move::Refuses(refusal) => self.refuse(line, place, refusal),
@@ -423,21 +436,21 @@ impl Connection {
     fn serve_packet(
         &mut self,
         line: XotLine,
+        content: &Content,
+        octets: &[u8],
         place: u8,
-        packet: Packet<'_>,
         next: Move,
-        out: &mut PacketBuf,
+        out: &mut XotPacket,
     ) -> Served
-        requires fits { IsPacket MAX_USER_DATA (view packet) }
-        requires channel { (view packet).channel ≡ 1 }
-        ensures connection { self.new ≡ (served_by line (view packet) place self.old next).connection }
-        ensures answer { result ≡ answer_of (served_by line (view packet) place self.old next) }
-        ensures out { out.new.items ≡ packet_after out.old.items (served_by line (view packet) place self.old next) }
+        requires { length octets.now ≤ MAX_XOT_PACKET }
+        ensures connection { self.new ≡ (served_by line (content_view content.now) octets.now place self.old next).connection }
+        ensures answer { result ≡ answer_of (served_by line (content_view content.now) octets.now place self.old next) }
+        ensures out { out.new.items ≡ packet_after out.old.items (served_by line (content_view content.now) octets.now place self.old next) }
     {
         match next {
             Move::Drops => QUIET,
             Move::Passes(phase) => {
-                write_over_line(packet, place, out);
+                write_over_line(content, octets, out);
                 self.enter(place, phase);
                 SENDS
             }
@@ -590,6 +603,17 @@ impl Connection {
             Wish::Connects => self.socket = Socket::Opening,
             Wish::Closes => self.leave(),
         }
+    }
+}
+
+/// The place of the channel of a connection's packet: that of its call, or the free one.
+fn place_in(free: Result<u8, u8>, call: CallState) -> u8
+    ensures { result ≡ place_in free call }
+{
+    match (call, free) {
+        (CallState::Call { place, .. }, _) => place,
+        (_, Ok(place)) => place,
+        (_, Err(_)) => 0,
     }
 }
 

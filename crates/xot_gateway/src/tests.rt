@@ -1,8 +1,8 @@
 //! Calls over TCP in octets, as Linux, a gateway of it and other equipment send them.
 use crate::{Order, Work, XotCalls, XotLine};
-use packet_codec::{Numbering, PacketBuf};
+use packet_codec::Numbering;
 use std::alloc::Global;
-use xot_codec::LineFlow;
+use xot_codec::{LineFlow, XotPacket};
 
 /// What happens at a gateway with one connection.
 #[derive(Clone, Copy)]
@@ -99,7 +99,7 @@ fn is_written(calls: &mut XotCalls, octets: &[u8]) -> bool {
 
 /// Whether the step comes to what it has to.
 fn goes(calls: &mut XotCalls, step: &Step) -> bool {
-    let mut out = PacketBuf::new();
+    let mut out = XotPacket::new();
     match step.act {
         Act::Line(octets) => calls.from_line(octets),
         Act::Peer(octets) => {
@@ -128,7 +128,7 @@ fn first_fault(alloc: Global, channels: u8, parts: [&[Step]; 2]) -> Option<usize
         },
     };
     let mut calls = XotCalls::new(alloc, line, channels, 1).ok()?;
-    let mut out = PacketBuf::new();
+    let mut out = XotPacket::new();
     calls.link_up();
     let _ = calls.next_owed(&mut out);
     calls.from_line(&[0x10, 0x00, 0xFF]);
