@@ -189,17 +189,29 @@ pub record HearsOn (place : ℕ) (content : ContentValue) (octets : List ℕ) (b
   pub channels : after.channels.items ≡ (on_channel before.line content octets place (tables before)).channels
   pub connections : after.connections.items ≡ (on_channel before.line content octets place (tables before)).connections
 
+-- what a Restart or its confirmation leaves, if it is one
+abbrev pub state_after : LineState → ContentValue → Option LineState
+state_after state (RestartRequest cause diagnostic) = Some (after_restart state)
+state_after state RestartConfirmation = Some (after_confirmation state)
+state_after state content = None
+
 -- packets of calls are heard in r1 alone
-abbrev pub HearsIn : LineState → Option ℕ → ContentValue → (octets : List ℕ) → (before after : XotCalls) → Type 0
-HearsIn line_is.Ready (Some place) content octets before after = HearsOn place content octets before after
-HearsIn state place content octets before after = after ≡ before
+abbrev pub heard_place : LineState → (channel : ℕ) → Option ℕ
+heard_place line_is.Ready channel = place_of channel
+heard_place state channel = None
+
+abbrev pub HearsAt : Option ℕ → ContentValue → (octets : List ℕ) → (before after : XotCalls) → Type 0
+HearsAt None content octets before after = after ≡ before
+HearsAt (Some place) content octets before after = HearsOn place content octets before after
+
+abbrev pub HearsBy : Option LineState → ContentValue → (channel : ℕ) → (octets : List ℕ) → (before after : XotCalls) → Type 0
+HearsBy (Some state) content channel octets before after = Restarts state before after
+HearsBy None content channel octets before after =
+    HearsAt (heard_place before.state channel) content octets before after
 
 abbrev pub HearsContent : ContentValue → (channel : ℕ) → (octets : List ℕ) → (before after : XotCalls) → Type 0
-HearsContent (RestartRequest cause diagnostic) channel octets before after =
-    Restarts (after_restart before.state) before after
-HearsContent RestartConfirmation channel octets before after = Restarts (after_confirmation before.state) before after
 HearsContent content channel octets before after =
-    HearsIn before.state (place_of channel) content octets before after
+    HearsBy (state_after before.state content) content channel octets before after
 
 -- octets that are no packet are dropped
 abbrev pub Hears : (octets : List ℕ) → Result PacketValue PacketFault → (before after : XotCalls) → Type 0

@@ -9,6 +9,7 @@ ghost use Rattle.xot_gateway.specs.Calls.{
   AllChange,
   AllEnd,
   Hears,
+  HearsAt,
   HearsContent,
   HearsOn,
   IsMade,
@@ -28,6 +29,7 @@ ghost use Rattle.xot_gateway.specs.Calls.{
   first_owed,
   free_in,
   heard_at,
+  heard_place,
   has_wish,
   highest_free,
   is_call,
@@ -40,6 +42,7 @@ ghost use Rattle.xot_gateway.specs.Calls.{
   owed_packet,
   owes,
   place_of,
+  state_after,
   taken,
   with_call,
   with_paid,
@@ -168,14 +171,17 @@ impl XotCalls {
     fn hear(&mut self, content: &Content, channel: u16, octets: &[u8])
         ensures { HearsContent (content_view content.now) channel octets.now self.old self.new }
     {
-        match content {
-            Content::RestartRequest { .. } => self.hear_restart(after_restart(self.state)),
-            Content::RestartConfirmation => self.hear_restart(after_confirmation(self.state)),
-            _ => {
-                if let (LineState::Ready, Some(place)) = (self.state, place_of(channel)) {
-                    self.hear_on(content, octets, place);
-                }
-            }
+        match state_after(self.state, content) {
+            Some(after) => self.hear_restart(after),
+            None => self.hear_at(content, channel, octets),
+        }
+    }
+
+    fn hear_at(&mut self, content: &Content, channel: u16, octets: &[u8])
+        ensures { HearsAt (heard_place self.old.state channel) (content_view content.now) octets.now self.old self.new }
+    {
+        if let Some(place) = heard_place(self.state, channel) {
+            self.hear_on(content, octets, place);
         }
     }
 
@@ -449,6 +455,27 @@ fn after_confirmation(state: LineState) -> LineState
         LineState::Restarting => LineState::Ready,
         LineState::Ready => LineState::ToRestart,
         _ => state,
+    }
+}
+
+// The line after a Restart or its confirmation, if the packet is one.
+fn state_after(state: LineState, content: &Content) -> Option<LineState>
+    ensures { result ≡ state_after state (content_view content.now) }
+{
+    match content {
+        Content::RestartRequest { .. } => Some(after_restart(state)),
+        Content::RestartConfirmation => Some(after_confirmation(state)),
+        _ => None,
+    }
+}
+
+// The place of a channel, if packets of calls are heard: in r1 alone.
+fn heard_place(state: LineState, channel: u16) -> Option<u8>
+    ensures { result ≡ heard_place state channel }
+{
+    match state {
+        LineState::Ready => place_of(channel),
+        _ => None,
     }
 }
 
