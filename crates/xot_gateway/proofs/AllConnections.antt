@@ -1,11 +1,22 @@
 -- All connections, one after the other.
-use Rattle.std.proofs.Common.{◌≡◌, ◌≢◌, ℕ, ◌<◌, ◌≤◌, ◌+◌, Bool, true, false, List, [], ◌∷◌, length, set, slice_get, get_or, Option, Some, None, refl, sym, ap, ◌∙◌, arith, inl, inr, subst}
+use Rattle.std.proofs.Common.{◌≡◌, ◌≢◌, ℕ, ◌<◌, ◌≤◌, ◌+◌, Bool, true, false, List, [], ◌∷◌, length, set, slice_get, get_or, zero, suc, Option, Some, None, refl, sym, ap, ◌∙◌, arith, inl, inr, subst}
 use Rattle.std.proofs.Math.ListN.{length-set}
 use Rattle.std.proofs.lemmas.Bool.{cases_eq}
 use Rattle.std.proofs.lemmas.Option.{slice_get_within}
-use Rattle.circular_buffer.proofs.Places.{slice_get-set_same, slice_get-set_other}
 use Rattle.xot_gateway.specs.declared.connection.Connection.{Connection}
 use Rattle.xot_gateway.specs.Calls.{AllChange}
+
+slice_get-set_same : (xs : List Connection) (i : ℕ) (w : Connection) → i < length xs → slice_get (set xs i w) i ≡ Some w
+slice_get-set_same [] i w h = absurd (omega arith)
+slice_get-set_same (x ∷ xs) zero w h = refl
+slice_get-set_same (x ∷ xs) (suc i) w h = slice_get-set_same xs i w (omega arith)
+
+slice_get-set_other : (xs : List Connection) (i j : ℕ) (w : Connection) → j ≢ i → slice_get (set xs i w) j ≡ slice_get xs j
+slice_get-set_other [] i j w apart = refl
+slice_get-set_other (x ∷ xs) zero zero w apart = absurd (apart refl)
+slice_get-set_other (x ∷ xs) zero (suc j) w apart = refl
+slice_get-set_other (x ∷ xs) (suc i) zero w apart = refl
+slice_get-set_other (x ∷ xs) (suc i) (suc j) w apart = slice_get-set_other xs i j w (λ e. apart (ap suc e))
 
 -- the connections below a number changed so, and no other
 pub record ChangeBelow (change : Connection → Connection) (below : ℕ) (before after : List Connection) : Type 0 where

@@ -8,7 +8,6 @@ use Rattle.xot_gateway.specs.declared.states.Refusal.{Refusal}
 use Rattle.xot_codec.specs.Facilities.{refusal}
 use Rattle.xot_codec.specs.Xot as xot
 use Rattle.xot_codec.specs.Xot.{First, part, whole, first_packet, packet_form, takes_packet}
-use Rattle.link_timers.specs.Timers.{lowered, is_due}
 use Rattle.xot_gateway.specs.declared.line.XotLine.{XotLine}
 use Rattle.xot_gateway.specs.declared.states.Phase.{Phase}
 use Rattle.xot_gateway.specs.declared.states.Phase.TheVariants.{DteWaiting, DceWaiting, DataTransfer, DteClear, DceClear}
@@ -25,7 +24,7 @@ use Rattle.xot_gateway.specs.declared.connection.Wish.{Wish}
 use Rattle.xot_gateway.specs.declared.connection.Wish.TheVariants.{Rests, Connects, Closes}
 use Rattle.xot_gateway.specs.States.{line_move, connection_move, fault_move}
 use Rattle.xot_gateway.specs.Packets.{read_on, prepared, accepted_facilities, over_connection, clear_on, confirmation_on}
-use Rattle.xot_gateway.specs.Connections.{Step, told, broken, alone_after, heard_by, heard_in, heard_on, served_by, faulty, refused, place_in, in_call, opened_by, first_move, served_in, by_first, next_connection, next_served, is_absent, is_end, is_on, opened_from, opened, restarted_in, restarted, elapsed, wished, granted, listens, in_phase, stays, cause_at_connection, after_call, with_rest}
+use Rattle.xot_gateway.specs.Connections.{told, broken, heard_by, heard_in, heard_on, served_by, faulty, refused, place_in, in_call, opened_by, first_move, served_in, by_first, next_connection, next_served, is_absent, is_end, is_on, opened_from, opened, restarted_in, restarted, elapsed, wished, granted, listens, in_phase, cause_at_connection, after_call, with_rest}
 use Rattle.xot_gateway.specs.Calls.{come}
 use Rattle.xot_gateway.specs.Laws as laws
 use Rattle.xot_gateway.specs.Laws.{Said, Deed, Fate, passed, dropped, cleared, confirmed, forms, fate_form, IsCarried, CarryLaw, ChannelLaw, IsThere, after_deed, after_deeds, heard_if, heard_of, heard_when, written_of, all_heard, all_written}
@@ -187,9 +186,6 @@ takes_first line free c (xot.broken fault) = nothing_more line c _ refl
 
 -- ---- all else
 
-abbrev waited : Connection → Bool → Step
-waited c b = cond b (record { connection = broken c; leaves = alone_after c.call }) (stays c)
-
 comes_if : (line : XotLine) (octets : List ℕ) (c : Connection) (b : Bool)
     → Grows line [] [] c (cond b (record c { stream = record c.stream { input = c.stream.input ++ octets } }) c)
 comes_if line octets c true = nothing_more line c _ refl
@@ -212,11 +208,6 @@ restarts_in line c Cleared = nothing_more line c c refl
 restarts_in line c Confirmed = nothing_more line c c refl
 restarts_in line c Ending = nothing_more line c c refl
 restarts_in line c Broken = nothing_more line c c refl
-
-waits_on : (line : XotLine) (ticks : ℕ) (c : Connection) (b : Bool)
-    → Grows line [] [] c (waited (record c { left = lowered ticks c.left }) b).connection
-waits_on line ticks c true = nothing_more line c _ refl
-waits_on line ticks c false = nothing_more line c _ refl
 
 grants : (line : XotLine) (c : Connection) (wish : Wish) → is_absent (granted wish c).socket ≡ false
     → Grows line [] [] c (granted wish c)
@@ -241,7 +232,7 @@ grows line c (laws.comes octets) there = comes_if line octets c (listens c)
 grows line c (laws.writes count) there = writes_some line c count
 grows line c laws.stands there = stands_from line c c.socket
 grows line c laws.restarts there = restarts_in line c c.call
-grows line c (laws.waits ticks) there = waits_on line ticks c (is_due (lowered ticks c.left))
+grows line c (laws.waits ticks) there = nothing_more line c _ refl
 grows line c laws.orders there = grants line c (wished c) there
 
 -- ---- all deeds

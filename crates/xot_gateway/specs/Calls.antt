@@ -17,7 +17,7 @@ use Rattle.xot_gateway.specs.declared.calls.Work.TheVariants as work
 use Rattle.xot_gateway.specs.declared.calls.Order.{Order}
 use Rattle.xot_gateway.specs.declared.calls.Order.TheVariants as order
 use Rattle.xot_gateway.specs.Packets.{clear_on, confirmation_on, restart_of, restart_confirmation_of}
-use Rattle.xot_gateway.specs.Connections.{Serving, absent, alone_after, called, fresh, granted, heard_on, is_absent, is_on, listens, next_connection, next_packet, next_served, restarted, wished, with_octets}
+use Rattle.xot_gateway.specs.Connections.{Serving, absent, alone_after, called, fresh, granted, heard_on, is_absent, is_on, leaves_when, listens, next_connection, next_packet, next_served, restarted, wished, with_octets}
 use Rattle.xot_gateway.specs.declared.connection.Wish.{Wish}
 use Rattle.xot_gateway.specs.declared.connection.Wish.TheVariants as wish
 
@@ -351,3 +351,12 @@ granted_at (Some number) connections = changed_at number (λ c. granted (wished 
 
 abbrev pub ordered : List Connection → List Connection
 ordered connections = granted_at (position has_wish connections) connections
+
+-- the channel of a call whose connection is closed before its end
+abbrev pub left_at : Option Connection → List ChannelState → List ChannelState
+left_at None channels = channels
+left_at (Some c) channels = left_by c.call (leaves_when (wished c) c.call) channels
+
+abbrev pub granted_channels : Option ℕ → List Connection → List ChannelState → List ChannelState
+granted_channels None connections channels = channels
+granted_channels (Some number) connections channels = left_at (slice_get connections number) channels

@@ -320,26 +320,29 @@ restarted_in line c _ = c
 abbrev pub restarted : XotLine → Connection → Connection
 restarted line c = restarted_in line c c.call
 
--- ticks pass: where the other side was to act and did not, the connection is broken
-abbrev pub expired : Connection → Step
-expired c = if is_due c.left then record { connection = broken c; leaves = alone_after c.call } else stays c
-
-abbrev pub elapsed : (ticks : ℕ) → Connection → Step
-elapsed ticks c = expired (record c { left = lowered ticks c.left })
+-- ticks pass
+abbrev pub elapsed : (ticks : ℕ) → Connection → Connection
+elapsed ticks c = record c { left = lowered ticks c.left }
 
 -- ---- what is to be done with it
 
-abbrev pub wish_in : Socket → (written_out : Bool) → CallState → Wish
-wish_in Absent written_out state = Rests
-wish_in socket written_out Broken = Closes
-wish_in Standing written_out Ending = if written_out then Closes else Rests
-wish_in socket written_out Ending = Closes
-wish_in Wanted written_out state = Connects
-wish_in socket written_out state = Rests
+-- it is closed if the other side was to act and did not, if it is broken, and if its call has ended and all is written
+abbrev pub wish_in : Socket → (due written_out : Bool) → CallState → Wish
+wish_in Absent due written_out state = Rests
+wish_in socket true written_out state = Closes
+wish_in socket false written_out Broken = Closes
+wish_in Standing false written_out Ending = if written_out then Closes else Rests
+wish_in socket false written_out Ending = Closes
+wish_in Wanted false written_out state = Connects
+wish_in socket false written_out state = Rests
 
--- a broken one is closed, and one whose call has ended once all is written
 abbrev pub wished : Connection → Wish
-wished c = wish_in c.socket (length c.stream.output == 0) c.call
+wished c = wish_in c.socket (is_due c.left) (length c.stream.output == 0) c.call
+
+-- what the channel of the call is in then, if there is a call
+abbrev pub leaves_when : Wish → CallState → Option ChannelState
+leaves_when Closes state = alone_after state
+leaves_when wish state = None
 
 abbrev pub granted : Wish → Connection → Connection
 granted Rests c = c

@@ -41,7 +41,7 @@ after_deed line c (comes octets) = come octets c
 after_deed line c (writes count) = written count c
 after_deed line c stands = opened c
 after_deed line c restarts = restarted line c
-after_deed line c (waits ticks) = (elapsed ticks c).connection
+after_deed line c (waits ticks) = elapsed ticks c
 after_deed line c orders = granted (wished c) c
 
 -- the connection is there all the while

@@ -28,6 +28,7 @@ ghost use Rattle.xot_gateway.specs.Calls.{
   ends_calls,
   first_owed,
   free_in,
+  granted_channels,
   heard_at,
   heard_place,
   has_wish,
@@ -345,25 +346,31 @@ impl XotCalls {
     }
 
     /// Lets ticks pass, each a twentieth of a second. A connection whose other side was to act for a minute, and did not, is
-    /// closed, and its call is cleared.
+    /// to be closed.
     pub fn elapse(&mut self, ticks: u16)
-        ensures line { self.new.line ≡ self.old.line }
-        ensures state { self.new.state ≡ self.old.state }
-        ensures connections { AllChange (λ c. (elapsed ticks c).connection) self.old.connections.items self.new.connections.items }
+        ensures connections { AllChange (elapsed ticks) self.old.connections.items self.new.connections.items }
+        ensures others { OthersStay self.old self.new }
     {
-        elapse_all(ticks, &mut self.connections, &mut self.channels);
+        elapse_all(ticks, &mut self.connections);
     }
 
-    /// What is to be done with a connection next, if anything. Each order is given once.
+    /// What is to be done with a connection next, if anything. Each order is given once. The call of one that is closed
+    /// before its end is cleared.
     pub fn next_order(&mut self) -> Option<Order>
         ensures answer { result ≡ order_among self.old.connections.items }
         ensures connections { self.new.connections.items ≡ ordered self.old.connections.items }
-        ensures others { OthersStay self.old self.new }
+        ensures channels { self.new.channels.items
+            ≡ granted_channels (position has_wish self.old.connections.items) self.old.connections.items self.old.channels.items }
+        ensures line { self.new.line ≡ self.old.line }
+        ensures state { self.new.state ≡ self.old.state }
     {
         let number = find_wish(self.connections.as_slice())?;
         let connection = self.connections.get_mut(number)?;
         let wish = connection.wants();
+        let call = connection.call;
+        let leaves = connection.leaves(wish);
         connection.grant(wish);
+        leave_by(call, leaves, &mut self.channels);
         order_for(number, wish)
     }
 }
@@ -404,13 +411,11 @@ fn restart_all(line: XotLine, connections: &mut Vec<Connection>)
 }
 
 // Ticks pass at each connection.
-fn elapse_all(ticks: u16, connections: &mut Vec<Connection>, channels: &mut Vec<ChannelState>)
-    ensures { AllChange (λ c. (elapsed ticks c).connection) connections.old.items connections.new.items }
+fn elapse_all(ticks: u16, connections: &mut Vec<Connection>)
+    ensures { AllChange (elapsed ticks) connections.old.items connections.new.items }
 {
     for number in 0..connections.len() {
-        let call = connections[number].call;
-        let leaves = connections[number].elapse(ticks);
-        leave_by(call, leaves, channels);
+        connections[number].elapse(ticks);
     }
 }
 
@@ -653,14 +658,20 @@ fn next_of_channels(line: XotLine, channels: &mut Vec<ChannelState>, out: &mut X
 fn first_owed(channels: &[ChannelState]) -> Option<u8>
     ensures { result ≡ first_owed channels.now }
 {
-    match channels.iter().position(|state| owes(*state)) {
+    match find_owing(channels) {
         Some(place) if place < MOST_OWING => Some(place as u8),
         _ => None,
     }
 }
 
-fn owes(state: ChannelState) -> bool
-    ensures { result ≡ owes state }
+fn find_owing(channels: &[ChannelState]) -> Option<usize>
+    ensures { result ≡ position owes channels.now }
+{
+    channels.iter().position(|state| owes(state))
+}
+
+fn owes(state: &ChannelState) -> bool
+    ensures { result ≡ owes state.now }
 {
     matches!(state, ChannelState::ToClear(_) | ChannelState::ToConfirm)
 }

@@ -27,6 +27,7 @@ ghost use Rattle.xot_gateway.specs.Connections.{
   is_end,
   is_on,
   is_pvc_set_up,
+  leaves_when,
   listens,
   next_served,
   next_answer,
@@ -547,18 +548,11 @@ impl Connection {
         }
     }
 
-    /// Lets ticks pass, each a twentieth of a second. Where the other side was to act and did not, the connection is broken.
-    pub(crate) fn elapse(&mut self, ticks: u16) -> Option<ChannelState>
-        ensures connection { self.new ≡ (elapsed ticks self.old).connection }
-        ensures leaves { result ≡ (elapsed ticks self.old).leaves }
+    /// Lets ticks pass, each a twentieth of a second.
+    pub(crate) fn elapse(&mut self, ticks: u16)
+        ensures { self.new ≡ elapsed ticks self.old }
     {
         self.left.elapse(ticks);
-        if !self.left.is_due() {
-            return None;
-        }
-        let leaves = self.alone();
-        self.break_off();
-        leaves
     }
 
     /// What the channel of the call is in if the connection is gone, if there is a call.
@@ -571,12 +565,14 @@ impl Connection {
         }
     }
 
-    /// What is to be done with it: it is made for a Call, or closed when its call has ended and all is written.
+    /// What is to be done with it: it is made for a Call, or closed, because the other side was to act and did not, or
+    /// because its call has ended and all is written.
     pub(crate) fn wants(&self) -> Wish
         ensures { result ≡ wished self.now }
     {
         match (self.socket, self.call) {
             (Socket::Absent, _) => Wish::Rests,
+            _ if self.left.is_due() => Wish::Closes,
             (_, CallState::Broken) => Wish::Closes,
             (Socket::Standing, CallState::Ending) if !self.stream.waiting().is_empty() => {
                 Wish::Rests
@@ -584,6 +580,16 @@ impl Connection {
             (_, CallState::Ending) => Wish::Closes,
             (Socket::Wanted, _) => Wish::Connects,
             _ => Wish::Rests,
+        }
+    }
+
+    /// What the channel of the call is in then, if there is a call.
+    pub(crate) fn leaves(&self, wish: Wish) -> Option<ChannelState>
+        ensures { result ≡ leaves_when wish self.now.call }
+    {
+        match wish {
+            Wish::Closes => self.alone(),
+            _ => None,
         }
     }
 

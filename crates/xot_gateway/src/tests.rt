@@ -202,7 +202,7 @@ fn packets_pass_both_ways(rt: HostRuntime) {
             &[0x10, 0x01, 0x17],
         ),
     ];
-    let fault = first_fault(rt.alloc(), 2, [&CALLED, &steps]);
+    let fault = first_fault(rt.alloc(), 2, [&CALLED[..], &steps[..]]);
     assert!(rt; fault.is_none(), "step {fault:?}");
 }
 
@@ -221,7 +221,7 @@ fn the_other_side_calls_and_clears(rt: HostRuntime) {
         ),
         then(Act::Ticks(1200), Order::Close(0), &[], &[]),
     ];
-    let fault = first_fault(rt.alloc(), 2, [&CALLING, &steps]);
+    let fault = first_fault(rt.alloc(), 2, [&CALLING[..], &steps[..]]);
     assert!(rt; fault.is_none(), "step {fault:?}");
 }
 
@@ -232,7 +232,7 @@ fn a_lost_connection_clears_with_9(rt: HostRuntime) {
         step(Act::Line(&[0x10, 0x01, 0x17]), &[], &[]),
         then(LINE_CALL, Order::Connect(0), &[], &[]),
     ];
-    let fault = first_fault(rt.alloc(), 2, [&CALLED, &steps]);
+    let fault = first_fault(rt.alloc(), 2, [&CALLED[..], &steps[..]]);
     assert!(rt; fault.is_none(), "step {fault:?}");
 }
 
@@ -251,7 +251,7 @@ fn a_restart_of_the_line_clears_with_9(rt: HostRuntime) {
             &[],
         ),
     ];
-    let fault = first_fault(rt.alloc(), 2, [&CALLED, &steps]);
+    let fault = first_fault(rt.alloc(), 2, [&CALLED[..], &steps[..]]);
     assert!(rt; fault.is_none(), "step {fault:?}");
 }
 
@@ -262,7 +262,7 @@ fn what_is_not_allowed_clears_both_sides(rt: HostRuntime) {
         &[0x00, 0x00, 0x00, 0x05, 0x10, 0x01, 0x13, 0x13, 0x00],
         &[0x10, 0x01, 0x13, 0x11, 0x00],
     )];
-    let fault = first_fault(rt.alloc(), 2, [&CALLED, &reject]);
+    let fault = first_fault(rt.alloc(), 2, [&CALLED[..], &reject[..]]);
     assert!(rt; fault.is_none(), "step {fault:?}");
     let small = [step(
         Act::Peer(&[
@@ -272,7 +272,7 @@ fn what_is_not_allowed_clears_both_sides(rt: HostRuntime) {
         &[0x00, 0x00, 0x00, 0x05, 0x10, 0x01, 0x13, 0x03, 0x00],
         &[0x10, 0x01, 0x13, 0x03, 0x00],
     )];
-    let fault = first_fault(rt.alloc(), 2, [&CALLED[..2], &small]);
+    let fault = first_fault(rt.alloc(), 2, [&CALLED[..2], &small[..]]);
     assert!(rt; fault.is_none(), "step {fault:?}");
 }
 
@@ -331,7 +331,7 @@ fn calls_are_refused(rt: HostRuntime) {
         ),
     ];
     for (place, (channels, steps)) in examples.iter().enumerate() {
-        let fault = first_fault(rt.alloc(), *channels, [steps, &[]]);
+        let fault = first_fault(rt.alloc(), *channels, [&steps[..], &CALLED[..0]]);
         assert!(rt; fault.is_none(), "example {place} step {fault:?}");
     }
 }
@@ -358,6 +358,6 @@ fn no_other_packets_are_carried_while_the_link_is_lost(rt: HostRuntime) {
             &[],
         ),
     ];
-    let fault = first_fault(rt.alloc(), 2, [&CALLED, &steps]);
+    let fault = first_fault(rt.alloc(), 2, [&CALLED[..], &steps[..]]);
     assert!(rt; fault.is_none(), "step {fault:?}");
 }
