@@ -55,8 +55,8 @@ use crate::packets::{
     read_on, write_clear, write_confirmation, write_restart, write_restart_confirmation,
 };
 use crate::states::ChannelState;
-use packet_codec::clear_cause::{NUMBER_BUSY, OUT_OF_ORDER};
 use packet_codec::Content;
+use packet_codec::clear_cause::{NUMBER_BUSY, OUT_OF_ORDER};
 use std::alloc::{AllocError, Global};
 use xot_codec::XotPacket;
 
@@ -203,10 +203,25 @@ impl XotCalls {
         let line = self.line;
         match find_on(self.connections.as_slice(), place) {
             Some(number) => {
-                hear_at(line, content, octets, place, number, &mut self.channels, &mut self.connections);
+                hear_at(
+                    line,
+                    content,
+                    octets,
+                    place,
+                    number,
+                    &mut self.channels,
+                    &mut self.connections,
+                );
             }
             None if is_call(content) && is_ready(self.channels.as_slice(), place) => {
-                begin_call(line, content, octets, place, &mut self.channels, &mut self.connections);
+                begin_call(
+                    line,
+                    content,
+                    octets,
+                    place,
+                    &mut self.channels,
+                    &mut self.connections,
+                );
             }
             None => hear_alone(content, place, &mut self.channels),
         }
@@ -303,7 +318,11 @@ impl XotCalls {
             return Work::Nothing;
         };
         leave_by(call, served.leaves, &mut self.channels);
-        if served.sends { Work::Sends } else { Work::Taken }
+        if served.sends {
+            Work::Sends
+        } else {
+            Work::Taken
+        }
     }
 
     // The place of a free channel, or the cause why there is none.
@@ -488,8 +507,7 @@ fn heard_place(state: LineState, channel: u16) -> Option<u8>
 fn ends_calls(before: LineState, after: LineState) -> bool
     ensures { result ≡ ends_calls before after }
 {
-    before != LineState::Restarting
-        && matches!(after, LineState::ToConfirm | LineState::ToRestart)
+    before != LineState::Restarting && matches!(after, LineState::ToConfirm | LineState::ToRestart)
 }
 
 // The place of a channel, which is counted from 1.
@@ -520,10 +538,7 @@ fn find_absent(connections: &[Connection]) -> Option<usize>
 fn is_ready(channels: &[ChannelState], place: u8) -> bool
     ensures { result ≡ is_ready (slice_get channels.now place) }
 {
-    matches!(
-        channels.get(usize::from(place)),
-        Some(ChannelState::Ready)
-    )
+    matches!(channels.get(usize::from(place)), Some(ChannelState::Ready))
 }
 
 // The highest free place below one.

@@ -75,7 +75,11 @@ fn kept(third: u8, rest: &[u8]) -> &[u8]
 pub(crate) fn read_on(line: XotLine, octets: &[u8]) -> Result<Packet<'_>, PacketFault>
     ensures { answer_view result ≡ read_on line octets.now }
 {
-    read_packet(octets, line.numbering, line.flow.size.min(MAX_USER_DATA as u16))
+    read_packet(
+        octets,
+        line.numbering,
+        line.flow.size.min(MAX_USER_DATA as u16),
+    )
 }
 
 /// The facility field of a Call Accepted: none if it has no block, or no facilities behind its addresses.
@@ -153,7 +157,10 @@ fn write_call(octets: &[u8], field: &[u8], out: &mut XotPacket)
         return;
     };
     let addresses = front(rest, address_octets(*lengths));
-    let user_data = front(after_field(after_addresses(*lengths, rest)), MAX_CALL_USER_DATA);
+    let user_data = front(
+        after_field(after_addresses(*lengths, rest)),
+        MAX_CALL_USER_DATA,
+    );
     let _ = out.try_extend_from_slice(&[*first, *second, *third, *lengths]);
     let _ = out.try_extend_from_slice(addresses);
     out.push(field.len() as u8);
