@@ -32,7 +32,7 @@ struct Step {
     order: Option<Order>,
 }
 
-const fn step(act: Act, written: &'static [u8], sent: &'static [u8]) -> Step {
+fn row(act: Act, written: &'static [u8], sent: &'static [u8]) -> Step {
     Step {
         act,
         written,
@@ -41,7 +41,7 @@ const fn step(act: Act, written: &'static [u8], sent: &'static [u8]) -> Step {
     }
 }
 
-const fn then(act: Act, order: Order, written: &'static [u8], sent: &'static [u8]) -> Step {
+fn then(act: Act, order: Order, written: &'static [u8], sent: &'static [u8]) -> Step {
     Step {
         act,
         written,
@@ -73,25 +73,29 @@ const PEER_CALL: Act = Act::Peer(&[
 const CALL_ON_LINE: &[u8] = &[0x10, 0x02, 0x0B, 0x44, 0x20, 0x01, 0x10, 0x01, 0x00];
 
 /// A call of the line is set up on channel 1.
-const CALLED: [Step; 3] = [
-    then(LINE_CALL, Order::Connect(0), &[], &[]),
-    step(Act::Stands, CALL_OVER_TCP, &[]),
-    step(ACCEPTED_OVER_TCP, &[], &[0x10, 0x01, 0x0F]),
-];
+fn called() -> [Step; 3] {
+    [
+        then(LINE_CALL, Order::Connect(0), &[], &[]),
+        row(Act::Stands, CALL_OVER_TCP, &[]),
+        row(ACCEPTED_OVER_TCP, &[], &[0x10, 0x01, 0x0F]),
+    ]
+}
 
 /// A call of the other side is set up on channel 2.
-const CALLING: [Step; 3] = [
-    step(Act::Comes, &[], &[]),
-    step(PEER_CALL, &[], CALL_ON_LINE),
-    step(
-        Act::Line(&[0x10, 0x02, 0x0F]),
-        &[
-            0x00, 0x00, 0x00, 0x0B, 0x10, 0x02, 0x0F, 0x00, 0x06, 0x42, 0x07, 0x07, 0x43, 0x02,
-            0x02,
-        ],
-        &[],
-    ),
-];
+fn calling() -> [Step; 3] {
+    [
+        row(Act::Comes, &[], &[]),
+        row(PEER_CALL, &[], CALL_ON_LINE),
+        row(
+            Act::Line(&[0x10, 0x02, 0x0F]),
+            &[
+                0x00, 0x00, 0x00, 0x0B, 0x10, 0x02, 0x0F, 0x00, 0x06, 0x42, 0x07, 0x07, 0x43, 0x02,
+                0x02,
+            ],
+            &[],
+        ),
+    ]
+}
 
 /// The octets that wait are these, and are written.
 fn is_written(calls: &mut XotCalls, octets: &[u8]) -> bool {
@@ -150,48 +154,48 @@ fn first_fault(alloc: Global, channels: u8, parts: [&[Step]; 2]) -> Option<usize
 #[test]
 fn packets_pass_both_ways(rt: HostRuntime) {
     let steps = [
-        step(
+        row(
             Act::Line(&[0x10, 0x01, 0x00, 0x41, 0x42]),
             &[0x00, 0x00, 0x00, 0x05, 0x10, 0x01, 0x00, 0x41, 0x42],
             &[],
         ),
-        step(
+        row(
             Act::Peer(&[0x00, 0x00, 0x00, 0x03, 0x10, 0x09, 0x21]),
             &[],
             &[0x10, 0x01, 0x21],
         ),
-        step(
+        row(
             Act::Peer(&[0x00, 0x00, 0x00, 0x08, 0x90, 0x09, 0x08, 0x44, 0x41]),
             &[],
             &[],
         ),
-        step(
+        row(
             Act::Peer(&[0x54, 0x41, 0x2E]),
             &[],
             &[0x90, 0x01, 0x08, 0x44, 0x41, 0x54, 0x41, 0x2E],
         ),
-        step(
+        row(
             Act::Line(&[0x10, 0x01, 0x23, 0x2A]),
             &[0x00, 0x00, 0x00, 0x04, 0x10, 0x01, 0x23, 0x2A],
             &[],
         ),
-        step(
+        row(
             Act::Peer(&[0x00, 0x00, 0x00, 0x03, 0x10, 0x01, 0x27]),
             &[],
             &[0x10, 0x01, 0x27],
         ),
-        step(
+        row(
             Act::Peer(&[0x00, 0x00, 0x00, 0x05, 0x10, 0x01, 0x1B, 0x00, 0x07]),
             &[],
             &[0x10, 0x01, 0x1B, 0x00, 0x07],
         ),
-        step(
+        row(
             Act::Line(&[0x10, 0x01, 0x1F]),
             &[0x00, 0x00, 0x00, 0x03, 0x10, 0x01, 0x1F],
             &[],
         ),
-        step(Act::Line(&[0x10, 0x02, 0x00, 0x41]), &[], &[]),
-        step(
+        row(Act::Line(&[0x10, 0x02, 0x00, 0x41]), &[], &[]),
+        row(
             Act::Line(&[0x10, 0x01, 0x13, 0x00, 0x4D]),
             &[0x00, 0x00, 0x00, 0x05, 0x10, 0x01, 0x13, 0x00, 0x4D],
             &[],
@@ -205,46 +209,46 @@ fn packets_pass_both_ways(rt: HostRuntime) {
             &[0x10, 0x01, 0x17],
         ),
     ];
-    let fault = first_fault(rt.alloc(), 2, [&CALLED[..], &steps[..]]);
+    let fault = first_fault(rt.alloc(), 2, [&called()[..], &steps[..]]);
     assert!(rt; fault.is_none(), "step {fault:?}");
 }
 
 #[test]
 fn the_other_side_calls_and_clears(rt: HostRuntime) {
     let steps = [
-        step(
+        row(
             Act::Peer(&[
                 0x00, 0x00, 0x00, 0x07, 0x10, 0x07, 0x13, 0x00, 0x00, 0x00, 0x00,
             ]),
             &[],
             &[0x10, 0x02, 0x13, 0x00, 0x00],
         ),
-        step(
+        row(
             Act::Line(&[0x10, 0x02, 0x17]),
             &[0x00, 0x00, 0x00, 0x03, 0x10, 0x02, 0x17],
             &[],
         ),
         then(Act::Ticks(1200), Order::Close(0), &[], &[]),
     ];
-    let fault = first_fault(rt.alloc(), 2, [&CALLING[..], &steps[..]]);
+    let fault = first_fault(rt.alloc(), 2, [&calling()[..], &steps[..]]);
     assert!(rt; fault.is_none(), "step {fault:?}");
 }
 
 #[test]
 fn a_lost_connection_clears_with_9(rt: HostRuntime) {
     let steps = [
-        step(Act::Lost, &[], &[0x10, 0x01, 0x13, 0x09, 0x00]),
-        step(Act::Line(&[0x10, 0x01, 0x17]), &[], &[]),
+        row(Act::Lost, &[], &[0x10, 0x01, 0x13, 0x09, 0x00]),
+        row(Act::Line(&[0x10, 0x01, 0x17]), &[], &[]),
         then(LINE_CALL, Order::Connect(0), &[], &[]),
     ];
-    let fault = first_fault(rt.alloc(), 2, [&CALLED[..], &steps[..]]);
+    let fault = first_fault(rt.alloc(), 2, [&called()[..], &steps[..]]);
     assert!(rt; fault.is_none(), "step {fault:?}");
 }
 
 #[test]
 fn a_restart_of_the_line_clears_with_9(rt: HostRuntime) {
     let steps = [
-        step(
+        row(
             Act::Line(&[0x10, 0x00, 0xFB, 0x07, 0x00]),
             &[0x00, 0x00, 0x00, 0x05, 0x10, 0x01, 0x13, 0x09, 0x00],
             &[0x10, 0x00, 0xFF],
@@ -256,20 +260,20 @@ fn a_restart_of_the_line_clears_with_9(rt: HostRuntime) {
             &[],
         ),
     ];
-    let fault = first_fault(rt.alloc(), 2, [&CALLED[..], &steps[..]]);
+    let fault = first_fault(rt.alloc(), 2, [&called()[..], &steps[..]]);
     assert!(rt; fault.is_none(), "step {fault:?}");
 }
 
 #[test]
 fn what_is_not_allowed_clears_both_sides(rt: HostRuntime) {
-    let reject = [step(
+    let reject = [row(
         Act::Peer(&[0x00, 0x00, 0x00, 0x03, 0x10, 0x01, 0x29]),
         &[0x00, 0x00, 0x00, 0x05, 0x10, 0x01, 0x13, 0x13, 0x00],
         &[0x10, 0x01, 0x13, 0x11, 0x00],
     )];
-    let fault = first_fault(rt.alloc(), 2, [&CALLED[..], &reject[..]]);
+    let fault = first_fault(rt.alloc(), 2, [&called()[..], &reject[..]]);
     assert!(rt; fault.is_none(), "step {fault:?}");
-    let small = [step(
+    let small = [row(
         Act::Peer(&[
             0x00, 0x00, 0x00, 0x0B, 0x10, 0x01, 0x0F, 0x00, 0x06, 0x42, 0x06, 0x06, 0x43, 0x02,
             0x02,
@@ -277,15 +281,15 @@ fn what_is_not_allowed_clears_both_sides(rt: HostRuntime) {
         &[0x00, 0x00, 0x00, 0x05, 0x10, 0x01, 0x13, 0x03, 0x00],
         &[0x10, 0x01, 0x13, 0x03, 0x00],
     )];
-    let fault = first_fault(rt.alloc(), 2, [&CALLED[..2], &small[..]]);
+    let fault = first_fault(rt.alloc(), 2, [&called()[..2], &small[..]]);
     assert!(rt; fault.is_none(), "step {fault:?}");
 }
 
 /// The Clear of a connection that has no call.
-const fn refused(octets: &'static [u8], clear: &'static [u8]) -> [Step; 2] {
+fn refused(octets: &'static [u8], clear: &'static [u8]) -> [Step; 2] {
     [
-        step(Act::Comes, &[], &[]),
-        step(Act::Peer(octets), clear, &[]),
+        row(Act::Comes, &[], &[]),
+        row(Act::Peer(octets), clear, &[]),
     ]
 }
 
@@ -340,7 +344,7 @@ fn calls_are_refused(rt: HostRuntime) {
         ),
     ];
     for (place, (channels, steps)) in examples.iter().enumerate() {
-        let fault = first_fault(rt.alloc(), *channels, [&steps[..], &CALLED[..0]]);
+        let fault = first_fault(rt.alloc(), *channels, [&steps[..], &steps[..0]]);
         assert!(rt; fault.is_none(), "example {place} step {fault:?}");
     }
 }
@@ -348,25 +352,25 @@ fn calls_are_refused(rt: HostRuntime) {
 #[test]
 fn no_other_packets_are_carried_while_the_link_is_lost(rt: HostRuntime) {
     let steps = [
-        step(
+        row(
             Act::Down,
             &[0x00, 0x00, 0x00, 0x05, 0x10, 0x01, 0x13, 0x09, 0x00],
             &[],
         ),
-        step(LINE_CALL, &[], &[]),
+        row(LINE_CALL, &[], &[]),
         then(
             Act::Peer(&[0x00, 0x00, 0x00, 0x03, 0x10, 0x01, 0x17]),
             Order::Close(0),
             &[],
             &[],
         ),
-        step(Act::Comes, &[], &[]),
-        step(
+        row(Act::Comes, &[], &[]),
+        row(
             PEER_CALL,
             &[0x00, 0x00, 0x00, 0x05, 0x10, 0x01, 0x13, 0x09, 0x00],
             &[],
         ),
     ];
-    let fault = first_fault(rt.alloc(), 2, [&CALLED[..], &steps[..]]);
+    let fault = first_fault(rt.alloc(), 2, [&called()[..], &steps[..]]);
     assert!(rt; fault.is_none(), "step {fault:?}");
 }
