@@ -1,5 +1,5 @@
 //! What a check of a service file says.
-use crate::reading::read_service;
+use crate::reading::{read_document, read_service};
 use crate::refusal::Refusal;
 use crate::rules::first_broken_binding;
 use crate::telling::{tell_bindings, tell_broken};
@@ -52,20 +52,6 @@ fn tell_service(
         None => Ok(tell_bindings(out, &config, &file)?),
         Some(broken) => {
             tell_broken(alloc, out, &config, &file, broken)?;
-            Err(Refusal::Told)
-        }
-    }
-}
-
-fn read_document(alloc: Global, out: &mut String, octets: &[u8]) -> Result<Table, Refusal> {
-    let Some(text) = text_of(octets) else {
-        out.push_str("the text is no UTF-8")?;
-        return Err(Refusal::Told);
-    };
-    match toml::table_from_str(alloc, text) {
-        Ok(document) => Ok(document),
-        Err(error) => {
-            tell_no_toml(alloc, out, &error)?;
             Err(Refusal::Told)
         }
     }
