@@ -1,7 +1,7 @@
 -- Lines of a log that repeat.
 use Rattle.std.specs.Prelude.{ℕ, List, Bool, ◌-◌, ◌&&◌, nat_eq, nat_lt, string_bytes}
 use Rattle.std.specs.Cmp.Lexicographic.{pointwise}
-use Rattle.log_repeats.specs.declared.Lib.Told.{Told}
+use Rattle.log_repeats.specs.declared.Told.{Told}
 
 -- how many seconds a line is not told again
 abbrev pub minute : ℕ

@@ -31,7 +31,7 @@ pub struct Repeats {
 
 impl Model for Repeats {
     ghost use Rattle.std.specs.Prelude.{◌≡◌, List};
-    ghost use Rattle.log_repeats.specs.declared.Lib.Told.{Told};
+    ghost use Rattle.log_repeats.specs.declared.Told.{Told};
     ghost use Rattle.log_repeats.specs.Repeats.{most_lines};
 
     ghost Value = { List Told };

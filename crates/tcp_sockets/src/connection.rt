@@ -1,5 +1,5 @@
 //! The place of a connection: its socket, and what was read from it and not taken yet.
-ghost use Rattle.std.specs.Prelude.{◌≡◌, ◌≤◌, ◌<◌, ◌→◌, [], length, drop, not, IfOk};
+ghost use Rattle.std.specs.Prelude.{◌≡◌, ◌≤◌, ◌<◌, [], length, drop, not, IfOk};
 ghost use Rattle.tcp_sockets.specs.Connections.{unread};
 
 use mio::event::Event;
