@@ -54,7 +54,7 @@ impl<'a> Names<'a> {
 
     /// A call at a host, in words.
     pub(crate) fn call(&self, alloc: Global, call: &CallStatus) -> Result<CallLine<'a>, AllocError> {
-        let far = digits_or_unknown(alloc, call.far)?;
+        let far = digits_or_unknown(alloc, call.far.as_ref())?;
         let here = String::from_str(alloc, self.address(call.node))?;
         let (from, to) = if call.is_ours { (here, far) } else { (far, here) };
         Ok(CallLine {
@@ -76,9 +76,9 @@ pub(crate) fn call_text(
     note: &CallNote,
 ) -> Result<String, AllocError> {
     let (node, channel) = (names.node(note.node), note.channel);
-    match note.change {
+    match &note.change {
         CallChange::Incoming { from } => {
-            let from = digits_or_unknown(alloc, from)?;
+            let from = digits_or_unknown(alloc, from.as_ref())?;
             let to = names.address(note.node);
             format!(in alloc; "call from={from} to={to} node={node} channel={channel}")
         }
@@ -99,7 +99,7 @@ pub(crate) fn call_text(
 }
 
 /// The digits of an address, or what stands for one that is not known.
-fn digits_or_unknown(alloc: Global, address: Option<Address>) -> Result<String, AllocError> {
+fn digits_or_unknown(alloc: Global, address: Option<&Address>) -> Result<String, AllocError> {
     match address {
         None => String::from_str(alloc, "unknown"),
         Some(address) => {

@@ -12,8 +12,14 @@ pub(crate) fn read_port(service: &mut Running, port: usize, connection: &mut Con
         match connection.read() {
             Heard::Octets => {}
             Heard::Nothing => return,
-            Heard::End => return service.ended(port),
-            Heard::Loss => return service.lost(port),
+            Heard::End => {
+                service.ended(port);
+                return;
+            }
+            Heard::Loss => {
+                service.lost(port);
+                return;
+            }
         }
     }
 }

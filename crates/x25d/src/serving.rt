@@ -1,6 +1,6 @@
 //! What is served: the built-in network, or what a service file says.
 use crate::bindings::Bound;
-use crate::checking::checked;
+use crate::checking::check_octets;
 use crate::faults::Fault;
 use crate::files::read_both;
 use crate::log::Log;
@@ -45,7 +45,7 @@ pub(crate) fn serve_built_in(
 pub(crate) fn serve_file(rt: &HostRuntime, name: &str) -> Result<bool, Fault> {
     let alloc = rt.alloc();
     let octets = read_both(rt, name)?;
-    let checked = checked(alloc, &octets)?;
+    let checked = check_octets(alloc, &octets)?;
     if !checked.is_right {
         eprint!(rt; "{}", checked.text)?;
         return Ok(false);
@@ -132,7 +132,8 @@ fn net_of(alloc: Global, config: &Config) -> io::Result<LiveNet<MemLine>> {
 
 /// The network of a text that was checked.
 fn config_of(alloc: Global, octets: &[u8]) -> Result<Config, Fault> {
-    match read_network(alloc, &mut String::new(alloc), octets)? {
+    let mut told = String::new(alloc);
+    match read_network(alloc, &mut told, octets)? {
         Some(config) => Ok(config),
         None => Err(Fault::from(Refusal::Told)),
     }
@@ -140,10 +141,12 @@ fn config_of(alloc: Global, octets: &[u8]) -> Result<Config, Fault> {
 
 /// The document of a text that was checked.
 fn document_of(alloc: Global, octets: &[u8]) -> Result<Table, Fault> {
-    Ok(read_document(alloc, &mut String::new(alloc), octets)?)
+    let mut told = String::new(alloc);
+    Ok(read_document(alloc, &mut told, octets)?)
 }
 
 /// What a document says that was checked.
 fn file_of(alloc: Global, document: &Table) -> Result<ServiceFile<'_>, Fault> {
-    Ok(read_service(alloc, &mut String::new(alloc), document)?)
+    let mut told = String::new(alloc);
+    Ok(read_service(alloc, &mut told, document)?)
 }
