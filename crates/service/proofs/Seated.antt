@@ -1,5 +1,5 @@
 -- Terminals of tables, and terminals of none.
-use Rattle.std.proofs.Common.{◌≡◌, ◌≢◌, ◌⊎◌, ℕ, zero, suc, Bool, List, [], ◌∷◌, ◌++◌, ◌<◌, ◌≤◌, ◌+◌, length, slice_get, Some, None, refl, sym, ap, ◌∙◌, arith, inl, inr, subst, length-append}
+use Rattle.std.proofs.Common.{◌≡◌, ◌≢◌, ◌⊎◌, ℕ, zero, suc, Bool, List, [], ◌∷◌, ◌++◌, ◌<◌, ◌≤◌, ◌+◌, ◌&&◌, ◌||◌, true, false, eqb, eq-eqb, length, slice_get, Some, None, refl, sym, ap, ◌∙◌, arith, inl, inr, subst, length-append}
 use Rattle.std.proofs.lemmas.Bool.{cases_eq}
 use Rattle.std.proofs.lemmas.Option.{slice_get_within}
 use Rattle.frame_lines.specs.Lines.{LineService}
@@ -11,12 +11,12 @@ use Rattle.service.specs.declared.place.Place.{Place}
 use Rattle.service.specs.declared.seats.TerminalsBinding.{TerminalsBinding}
 use Rattle.service.specs.declared.terminal.Presence.TheVariants.{Gone}
 use Rattle.service.specs.declared.terminal.Terminal.{Terminal}
-use Rattle.service.specs.Places.{IsBound, IsFree, AreApart}
+use Rattle.service.specs.Places.{is_place, is_bound, AreApart}
 use Rattle.service.specs.Seats.{IsOfTable, AreSeated, IsOfSomeTable}
 use Rattle.service.specs.Absent.{PassesPlaces, IsTold, LeavesBelow, LeavesPads}
 use Rattle.service.specs.Steps.{Step, Steps, IsSilent, HasTried, Does}
 use Rattle.service.proofs.Stepping.{steps-append, silent-none, silent-append, tried-left, tried-right, tried_step}
-use Rattle.service.proofs.Served.{same_place, presence_is_silent}
+use Rattle.service.proofs.Served.{presence_is_silent}
 
 -- ---- lists that get longer
 
@@ -42,12 +42,31 @@ got_push (z ∷ xs) x y (suc place) is = elim (got_push xs x y place is) [
 
 -- ---- a place among others
 
-pub bound_at : (places : List Place) (port : ℕ) (at found : Place) → slice_get places port ≡ Some found → found.node ≡ at.node → found.number ≡ at.number
-    → IsBound places at
-bound_at places port at found there node number = (port, there ∙ ap Some (same_place found at node number))
+-- a place that is not bound is none of these
+abbrev pub IsFree : List Place → Place → Type 0
+IsFree places at = (port : ℕ) (other : Place) → slice_get places port ≡ Some other → other ≢ at
 
-pub bound-left : (places more : List Place) (at : Place) → IsBound places at → IsBound (places ++ more) at
-bound-left places more at bound = (bound.0, got-left places more bound.0 at bound.1)
+same_number : (n : ℕ) → eqb n n ≡ true
+same_number n = eq-eqb n n refl
+
+is_place_self : (at : Place) → is_place at at ≡ true
+is_place_self at = λ i. same_number at.node i && same_number at.number i
+
+no_test : (a b : Bool) → a ≡ true → (a || b) ≡ false → ⊥
+no_test true b yes no = cc
+no_test false b yes no = cc
+
+rest_test : (a b : Bool) → (a || b) ≡ false → b ≡ false
+rest_test true b no = cc
+rest_test false b no = no
+
+pub free_at : (places : List Place) (at : Place) → is_bound at places ≡ false → IsFree places at
+free_at [] at free port other there = cc
+free_at (place ∷ places) at free zero other there = λ is.
+    let first : place ≡ other = cc in
+    no_test (is_place at place) (is_bound at places) (ap (λ (p : Place). is_place at p) (first ∙ is) ∙ is_place_self at) free
+free_at (place ∷ places) at free (suc port) other there =
+    free_at places at (rest_test (is_place at place) (is_bound at places) free) port other there
 
 -- a place that is free may come beside the others
 apart_push : (places : List Place) (at : Place) → AreApart places → IsFree places at → AreApart (places ++ at ∷ [])
@@ -151,7 +170,7 @@ leaves_one L node number done places s m t before free does =
     }
 
 pub leaves_bound : (L : LineService) (node number : ℕ) (places : List Place) (s t : Network) → LeavesBelow L node number places s t
-    → IsBound places (place_at node number) → LeavesBelow L node (number + 1) places s t
+    → is_bound (place_at node number) places ≡ true → LeavesBelow L node (number + 1) places s t
 leaves_bound L node number places s t before bound = record {
   steps = before.steps ++ [];
   passes = passes_then_at L places before.steps [] s t t before.passes (passes_none_at L places t);

@@ -190,7 +190,7 @@ neither_second : (a b : Bool) → b ≡ false → (a && b) ≡ false
 neither_second true b e = e
 neither_second false b e = refl
 
-pub same_place : (one other : Place) → one.node ≡ other.node → one.number ≡ other.number → one ≡ other
+same_place : (one other : Place) → one.node ≡ other.node → one.number ≡ other.number → one ≡ other
 same_place one other node number = λ i. record { node = node i; number = number i }
 
 -- a step at this terminal, and one at another

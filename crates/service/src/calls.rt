@@ -1,4 +1,7 @@
 //! The calls at the hosts of a network, and what is to be logged of them.
+ghost use Rattle.std.specs.Prelude.{◌≡◌, length, slice_get};
+ghost use Rattle.service.specs.Calls.{call_of};
+
 use crate::hosts::{HostBinding, HostChannel};
 use circular_buffer::HeapCircularBuffer;
 use line_sim::{HostNote, NoteKind};
@@ -57,17 +60,19 @@ pub struct CallStatus {
     pub said: u64,
 }
 
-/// The calls of a host, by their channels from 1 on.
-#[derive(Drop)]
-struct HostCalls {
+/// The places for calls of a host: that of its channel 1, and how many there are.
+#[derive(Clone, Copy)]
+struct HostPlaces {
     node: usize,
-    calls: Vec<Option<CallStatus>>,
+    first: usize,
+    channels: u8,
 }
 
 /// The calls at all hosts, and what is to be logged of them.
 #[derive(Drop)]
 pub(crate) struct Calls {
-    hosts: Vec<HostCalls>,
+    hosts: Vec<HostPlaces>,
+    calls: Vec<Option<CallStatus>>,
     notes: HeapCircularBuffer<CallNote>,
     missed: u64,
 }
@@ -76,11 +81,20 @@ impl Calls {
     /// No call at these hosts.
     pub(crate) fn new(alloc: Global, bindings: &[HostBinding]) -> Result<Self, AllocError> {
         let mut hosts = Vec::new(alloc);
+        let mut calls = Vec::new(alloc);
         for binding in bindings {
-            hosts.push(HostCalls::new(alloc, binding)?)?;
+            hosts.push(HostPlaces {
+                node: binding.node,
+                first: calls.len(),
+                channels: binding.channels,
+            })?;
+            for _ in 0..binding.channels {
+                calls.push(None)?;
+            }
         }
         Ok(Calls {
             hosts,
+            calls,
             notes: HeapCircularBuffer::with_capacity(alloc, MOST_NOTES)?,
             missed: 0,
         })
@@ -185,42 +199,29 @@ impl Calls {
     }
 
     /// How many places for calls there are.
-    pub(crate) fn len(&self) -> usize {
-        let mut count: usize = 0;
-        for host in &self.hosts {
-            count = count.saturating_add(host.calls.len());
-        }
-        count
+    pub(crate) fn len(&self) -> usize
+        ensures { result ≡ length self.now.calls.items }
+    {
+        self.calls.len()
     }
 
-    /// The call of this place, counted over all hosts, if one is there.
-    pub(crate) fn get(&self, place: usize) -> Option<CallStatus> {
-        let mut left = place;
-        for host in &self.hosts {
-            match host.calls.get(left) {
-                Some(call) => return *call,
-                None => left -= host.calls.len(),
-            }
+    /// The call of this place, if one is there.
+    pub(crate) fn get(&self, place: usize) -> Option<CallStatus>
+        ensures { result ≡ call_of (slice_get self.now.calls.items place) }
+    {
+        match self.calls.get(place) {
+            Some(call) => *call,
+            None => None,
         }
-        None
     }
 
     fn place_mut(&mut self, at: HostChannel) -> Option<&mut Option<CallStatus>> {
-        let host = self.hosts.iter_mut().find(|host| host.node == at.node)?;
-        host.calls.get_mut(usize::from(at.channel.checked_sub(1)?))
-    }
-}
-
-impl HostCalls {
-    fn new(alloc: Global, binding: &HostBinding) -> Result<Self, AllocError> {
-        let mut calls = Vec::new(alloc);
-        for _ in 0..binding.channels {
-            calls.push(None)?;
+        let host = self.hosts.iter().find(|host| host.node == at.node)?;
+        if at.channel > host.channels {
+            return None;
         }
-        Ok(HostCalls {
-            node: binding.node,
-            calls,
-        })
+        let after_first = usize::from(at.channel.checked_sub(1)?);
+        self.calls.get_mut(host.first.checked_add(after_first)?)
     }
 }
 

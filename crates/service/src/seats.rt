@@ -80,7 +80,7 @@ impl Seats {
             node: binding.node,
             number,
         };
-        if is_bound(&self.places, place) {
+        if is_bound(place, &self.places) {
             return Ok(());
         }
         let terms = Terms {

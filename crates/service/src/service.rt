@@ -1,6 +1,7 @@
 //! A network with terminals for clients and built-in services.
 ghost use Rattle.std.specs.Prelude.{◌≡◌, ◌≤◌, ◌×◌, true, length, option_map, take, slice_get, None, Some, IfOk, IfSome, IfNone};
 ghost use Rattle.net_events.specs.Network.{all_elapsed};
+ghost use Rattle.service.specs.Calls.{call_of};
 ghost use Rattle.service.specs.Orders.{after_order, port_of};
 ghost use Rattle.service.specs.Places.{AreApart};
 ghost use Rattle.service.specs.Serving.{Begins};
@@ -310,13 +311,17 @@ impl<L: Line> Service<L> {
         })
     }
 
-    /// How many places for calls the hosts have.
-    pub fn calls(&self) -> usize {
+    /// How many places for calls the hosts have, one for each logical channel.
+    pub fn calls(&self) -> usize
+        ensures { result ≡ length self.now.exchange.calls.calls.items }
+    {
         self.exchange.calls.len()
     }
 
-    /// The call of this place, if one is there.
-    pub fn call(&self, place: usize) -> Option<CallStatus> {
+    /// The call of this place, from 0, if one is there.
+    pub fn call(&self, place: usize) -> Option<CallStatus>
+        ensures { result ≡ call_of (slice_get self.now.exchange.calls.calls.items place) }
+    {
         self.exchange.calls.get(place)
     }
 }
