@@ -1,10 +1,11 @@
 //! What a service file binds, with the numbers of the nodes in the network.
-use net_config::{Config, NodeKind};
+use net_config::{Config, NodeKind, TerminalsConfig};
 use service::{Bindings, BuiltIn, HostBinding, Mode, PadBinding, TerminalsBinding};
 use service_files::{
     HostService, ServiceFile, TerminalsTable, channels_of, last_of, node_of,
 };
 use std::alloc::{AllocError, Global};
+use x3_params::Params;
 
 /// All that a service file binds.
 #[derive(Drop)]
@@ -65,7 +66,28 @@ fn bound_table<'a>(
         mode: mode_of(table.mode),
         greeting: table.greeting,
         idle: table.idle,
+        has_xon: match config.nodes.get(node) {
+            Some(found) => has_xon(&found.kind),
+            None => false,
+        },
     }
+}
+
+/// Whether DC1 is XON at the terminals of a node at first.
+fn has_xon(kind: &NodeKind) -> bool {
+    match kind {
+        NodeKind::Pad(pad) => initial_params(pad).has_flow_control(),
+        _ => false,
+    }
+}
+
+/// The parameters that a PAD's terminals have at first.
+fn initial_params(pad: &TerminalsConfig) -> Params {
+    let mut params = Params::profile(pad.profile, 0);
+    for setting in &pad.settings {
+        let _ = params.set(setting.number, setting.value);
+    }
+    params
 }
 
 fn mode_of(mode: service_files::Mode) -> Mode {
