@@ -219,11 +219,11 @@ fn count_overlaps(config: &Config, file: &ServiceFile<'_>, table: &TerminalsTabl
         .count()
 }
 
-/// Whether one table alone listens there, and the control port does not.
+/// Whether no two tables listen there, nor the control port.
 fn listens_once(file: &ServiceFile<'_>, listen: SocketAddr) -> bool
     ensures { result ≡ spec.listens_once file.now listen }
 {
-    is_apart(listen, file.control) && count_listen(file, listen) == 1
+    is_apart(listen, file.control) && count_listen(file, listen) <= 1
 }
 
 /// How many tables listen there.
