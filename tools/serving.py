@@ -296,3 +296,101 @@ class Client:
         self.wait(line.encode())
         self.wait(line.encode())
 
+
+
+class Peer:
+    """A TCP service of this machine. Each of its connections is handled in a thread of its own."""
+
+    def __init__(self, handle, backlog: int = 64):
+        self.handle, self.accepted, self.tasks = handle, 0, []
+        self.socket = socket.create_server(("127.0.0.1", 0), backlog=backlog)
+        self.address = "%s:%d" % self.socket.getsockname()
+        threading.Thread(target=self.accept, daemon=True).start()
+
+    def accept(self) -> None:
+        with contextlib.suppress(OSError):
+            while True:
+                connection, _ = self.socket.accept()
+                connection.settimeout(2 * PATIENCE)
+                self.accepted += 1
+                threading.Thread(target=self.serve, args=(connection,), daemon=True).start()
+
+    def serve(self, connection: socket.socket) -> None:
+        with connection, contextlib.suppress(OSError):
+            self.handle(connection)
+
+    def __enter__(self):
+        return self
+
+    def __exit__(self, *_):
+        self.socket.close()
+
+
+def read_all(connection: socket.socket) -> bytes:
+    """All octets up to the end of the other side."""
+    parts = []
+    while part := connection.recv(65536):
+        parts.append(part)
+    return b"".join(parts)
+
+
+def says_back(connection: socket.socket) -> None:
+    while part := connection.recv(65536):
+        connection.sendall(part)
+
+
+def tells_digest(connection: socket.socket) -> None:
+    """Takes all, and then tells how many octets there were, and their digest."""
+    octets = read_all(connection)
+    connection.sendall(f"{len(octets)} {digest(octets)}\n".encode())
+
+
+def answers_lines(connection: socket.socket) -> None:
+    with connection.makefile("rwb") as lines:
+        for line in lines:
+            lines.write(b"you said " + line)
+            lines.flush()
+
+
+def never_reads(connection: socket.socket) -> None:
+    connection.sendall(b"I do not read.\r\n")
+    time.sleep(2 * PATIENCE)
+
+
+def pours(octets: bytes):
+    """A service that says these octets, ends its side and takes all that comes."""
+    def handle(connection: socket.socket) -> None:
+        connection.sendall(octets)
+        connection.shutdown(socket.SHUT_WR)
+        read_all(connection)
+    return handle
+
+
+def swaps(octets: bytes, seen: list):
+    """A service that says these octets and takes others at the same time: their digest is added to what was seen."""
+    def handle(connection: socket.socket) -> None:
+        sender = threading.Thread(target=pour, args=(connection, octets), daemon=True)
+        sender.start()
+        seen.append(digest(read_all(connection)))
+        sender.join()
+    return handle
+
+
+def pour(connection: socket.socket, octets: bytes) -> None:
+    """Says these octets and ends this side."""
+    with contextlib.suppress(OSError):
+        connection.sendall(octets)
+        connection.shutdown(socket.SHUT_WR)
+
+
+def called(address: str) -> socket.socket:
+    """A connection to a port whose connections are calls."""
+    connection = reach(address)
+    connection.settimeout(2 * PATIENCE)
+    return connection
+
+
+def break_off(connection: socket.socket) -> None:
+    """Ends a connection as the system does for a program that is killed in the middle: by a reset."""
+    connection.setsockopt(socket.SOL_SOCKET, socket.SO_LINGER, struct.pack("ii", 1, 0))
+    connection.close()
