@@ -1,5 +1,5 @@
 -- Addresses of this machine, and addresses that are the same.
-use Rattle.std.specs.Prelude.{ℕ, Bool, true, false, ◌==◌, ◌&&◌, ◌/◌, ◌-◌, ◌^◌, nat_lt, if◌then◌else◌}
+use Rattle.std.specs.Prelude.{ℕ, Bool, true, false, not, ◌==◌, ◌&&◌, ◌/◌, ◌-◌, ◌^◌, nat_lt, if◌then◌else◌}
 use Rattle.std.specs.declared.net.ip_addr.IpAddr.{IpAddr}
 use Rattle.std.specs.declared.net.ip_addr.IpAddr.TheVariants as ip
 use Rattle.std.specs.declared.net.socket_addr.SocketAddr.{SocketAddr}
@@ -65,6 +65,8 @@ is_allowed (Some prefixes) address =
 abbrev pub allows : Allow → IpAddr → Bool
 allows allow address = is_allowed allow.prefixes address
 
--- the same port of the same address
+-- the same port of the same address; at port 0 the system chooses one, which is never another's
 abbrev pub same_place : SocketAddr → SocketAddr → Bool
-same_place one other = (socket_port one == socket_port other) && same_address (socket_ip one) (socket_ip other)
+same_place one other =
+    not (socket_port one == 0) && (socket_port one == socket_port other)
+    && same_address (socket_ip one) (socket_ip other)

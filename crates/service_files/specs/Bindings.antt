@@ -79,9 +79,9 @@ count_listen f listen =
     length (filter (λ other. same_place listen other.listen) f.terminals.items)
     + length (filter (λ other. same_place listen other.listen) f.callers.items)
 
--- one table alone listens there, and the control port is elsewhere
+-- no two tables listen there, and the control port is elsewhere
 abbrev pub listens_once : ServiceFile → SocketAddr → Bool
-listens_once f listen = is_apart listen f.control && (count_listen f listen == 1)
+listens_once f listen = is_apart listen f.control && nat_le (count_listen f listen) 1
 
 abbrev pub terminals_keep : Config → ServiceFile → TerminalsTable → TerminalsRule → Bool
 terminals_keep c f t terminals_rule.PadIsNode = list_any (is_named t.pad.now) c.nodes.items

@@ -1,11 +1,9 @@
 -- What the readers of a service file answer, and what stands at the keys of its tables.
-use Rattle.std.specs.Prelude.{◌≡◌, ◌⊎◌, ℕ, List, [], ◌∷◌, Bool, true, false, not, is_some, Option, Some, None, option_and_then, unwrap_or, Result, Ok, Err}
+use Rattle.std.specs.Prelude.{◌≡◌, ◌⊎◌, ℕ, List, [], ◌∷◌, Bool, true, false, not, is_some, Option, Some, None, option_and_then, unwrap_or, Result, Ok, Err, IsUtf8}
 use Rattle.std.specs.List.{list_any}
 use Rattle.std.specs.Prelude.{Bor}
 use Rattle.toml.specs.Data.{Data, Items, no_items, item, Members, get_member, as_str, as_integer, as_bool, as_array, as_table}
 use Rattle.toml.specs.Parse.{parse_document}
-use Rattle.toml.specs.View.{table_view}
-use Rattle.toml.specs.declared.Table.{Table}
 use Rattle.net_files.specs.Entries.{small}
 use Rattle.service_files.specs.declared.refusal.Refusal.{Refusal}
 use Rattle.service_files.specs.declared.refusal.Refusal.TheVariants.{Told, OutOfMemory}
@@ -15,9 +13,9 @@ abbrev pub Reads : {A : Type 0} → (A → Type 0) → Result A Refusal → Type
 Reads Says (Ok x) = Says x
 Reads Says (Err refusal) = (refusal ≡ OutOfMemory) ⊎ ((refusal ≡ Told) × ((x : _) → ¬ Says x))
 
--- the octets are a TOML document
-abbrev pub IsDocument : List ℕ → Table → Type 0
-IsDocument octets document = parse_document octets ≡ Some (table_view document)
+-- the octets are a text, which is a TOML document
+abbrev pub IsDocument : List ℕ → Members → Type 0
+IsDocument octets document = IsUtf8 octets × (parse_document octets ≡ Some document)
 
 -- each value says what is given of it, in order
 pub data EachSays (A : Type 0) (Says : Data → A → Type 0) : Items → List A → Type 0 where

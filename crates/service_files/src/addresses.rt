@@ -92,11 +92,11 @@ pub(crate) fn is_here(address: IpAddr) -> bool
     }
 }
 
-/// Whether two ports of IP addresses are the same.
+/// Whether two ports of IP addresses are the same. At port 0 the system chooses one, which is never another's.
 pub(crate) fn same_place(one: SocketAddr, other: SocketAddr) -> bool
     ensures { result ≡ same_place one other }
 {
-    one.port() == other.port() && same_address(one.ip(), other.ip())
+    one.port() != 0 && one.port() == other.port() && same_address(one.ip(), other.ip())
 }
 
 fn same_address(one: IpAddr, other: IpAddr) -> bool

@@ -1,6 +1,5 @@
 //! How a service file is read.
-ghost use Rattle.std.specs.Prelude.{◌≡◌, IsUtf8, option_map};
-ghost use Rattle.toml.specs.Parse.{parse_document};
+ghost use Rattle.std.specs.Prelude.{◌≡◌, option_map};
 ghost use Rattle.toml.specs.View.{view, table_view, items_view};
 ghost use Rattle.service_files.specs.Reads.{Reads};
 ghost use Rattle.service_files.specs.Reads.{EachSays, IsDocument, IsTable};
@@ -22,7 +21,7 @@ const CONNECTIONS: u16 = 64;
 
 /// Reads the octets of a service file as TOML. If they are none, it is added to `out` where and why.
 pub fn read_document(alloc: Global, out: &mut String, octets: &[u8]) -> Result<Table, Refusal>
-    ensures { Reads (IsDocument octets.now) result }
+    ensures { Reads (λ document. IsDocument octets.now (table_view document)) result }
 {
     let Some(text) = text_of(octets) else {
         out.push_str("the text is no UTF-8")?;
@@ -30,6 +29,7 @@ pub fn read_document(alloc: Global, out: &mut String, octets: &[u8]) -> Result<T
     };
     match toml::table_from_str(alloc, text) {
         Ok(document) => Ok(document),
+        Err(error) if error.is_memory() => Err(Refusal::OutOfMemory),
         Err(error) => {
             tell_no_toml(alloc, out, &error)?;
             Err(Refusal::Told)

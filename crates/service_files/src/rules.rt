@@ -103,10 +103,10 @@ fn find_node<'a>(nodes: &'a [NodeConfig], name: &str) -> Option<&'a NodeConfig>
 }
 
 /// The number in the network of the node of this name.
-pub fn node_of(config: &Config, name: &str) -> Option<usize>
-    ensures { result ≡ position (is_named name.now) config.now.nodes.items }
+pub fn node_of(nodes: &[NodeConfig], name: &str) -> Option<usize>
+    ensures { result ≡ position (is_named name.now) nodes.now }
 {
-    config.nodes.iter().position(|node| is_named(name, node))
+    nodes.iter().position(|node| is_named(name, node))
 }
 
 fn has_end(name: &str, line: &LineConfig) -> bool
@@ -219,11 +219,11 @@ fn count_overlaps(config: &Config, file: &ServiceFile<'_>, table: &TerminalsTabl
         .count()
 }
 
-/// Whether one table alone listens there, and the control port does not.
+/// Whether no two tables listen there, nor the control port.
 fn listens_once(file: &ServiceFile<'_>, listen: SocketAddr) -> bool
     ensures { result ≡ spec.listens_once file.now listen }
 {
-    is_apart(listen, file.control) && count_listen(file, listen) == 1
+    is_apart(listen, file.control) && count_listen(file, listen) <= 1
 }
 
 /// How many tables listen there.
