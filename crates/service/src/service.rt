@@ -1,13 +1,19 @@
 //! A network with terminals for clients and built-in services.
-ghost use Rattle.std.specs.Prelude.{◌≡◌, ◌≤◌, ◌<◌, false, true, length, replicate, take, slice_get, Some, IfOk, IfSome, IfNone};
+ghost use Rattle.std.specs.Prelude.{◌≡◌, ◌≤◌, ◌×◌, true, length, option_map, take, slice_get, None, Some, IfOk, IfSome, IfNone};
 ghost use Rattle.net_events.specs.Network.{all_elapsed};
-ghost use Rattle.service.specs.Orders.{port_of};
+ghost use Rattle.service.specs.Calls.{call_of};
+ghost use Rattle.service.specs.Orders.{after_order, port_of};
+ghost use Rattle.service.specs.Places.{AreApart};
 ghost use Rattle.service.specs.Serving.{Begins};
-ghost use Rattle.service.specs.Terminals.{fresh, ordered};
+ghost use Rattle.service.specs.Terminals.{ordered};
 
+use crate::absent::{PadBinding, leave_absent};
+use crate::calls::{CallNote, CallStatus, Calls};
 use crate::exchange::Exchange;
 use crate::hosts::{HostBinding, Hosts};
+use crate::place::Place;
 use crate::rounds::serve_terminals;
+use crate::seats::{Seats, TerminalsBinding};
 use crate::terminal::{Phase, Terminal};
 use line_sim::Line;
 use live_net::LiveNet;
@@ -16,12 +22,13 @@ use std::alloc::{AllocError, Global};
 /// How long the service may take to stop, in ticks: until all is written out and the calls are cleared.
 const MOST_STOPPING: u16 = 160;
 
-/// The PAD whose terminals clients have: its name, its number in the network, and how many terminals it has.
+/// What of a network is served: the tables of terminals, all PADs and all hosts. A terminal of these PADs that is in no
+/// table stays absent.
 #[derive(Clone, Copy)]
-pub struct TerminalsBinding<'a> {
-    pub name: &'a str,
-    pub node: usize,
-    pub terminals: u8,
+pub struct Bindings<'a> {
+    pub terminals: &'a [TerminalsBinding<'a>],
+    pub pads: &'a [PadBinding],
+    pub hosts: &'a [HostBinding],
 }
 
 /// What the shell is to do.
@@ -31,6 +38,12 @@ pub enum Order {
     Close(usize),
     /// It is to be logged that so many keys of this port were dropped because a recall or a break came after them.
     LogOvertaken { port: usize, keys: u64 },
+    /// It is to be logged that the client of this port goes because it was silent too long.
+    LogIdle(usize),
+    /// It is to be logged what became of a call.
+    LogCall(CallNote),
+    /// It is to be logged that so many notes of calls were dropped for want of a place.
+    LogMissed(u64),
 }
 
 /// What waits at a port.
@@ -46,56 +59,60 @@ pub struct PortStatus {
     pub overtaken: u64,
 }
 
-/// A network with terminals for clients, each at the port of its own number, and built-in services.
+/// A network with terminals for clients, each at the port of its place in the tables, and built-in services.
 #[derive(Drop)]
 pub struct Service<L: Line> {
     pub(crate) exchange: Exchange<L>,
-    pub(crate) pad: usize,
     pub(crate) lines: usize,
+    pub(crate) places: Vec<Place>,
     pub(crate) terminals: Vec<Terminal>,
-    greetings: Vec<String>,
     stopping: Option<u16>,
-    ghost few: { length terminals.items ≤ 255 },
+    ghost seated: { length terminals.items ≡ length places.items },
+    ghost apart: { AreApart places.items },
 }
 
 impl<L: Line> Service<L> {
-    ghost use Rattle.service.specs.declared.terminal.Terminal.{Terminal};
-    ghost use Rattle.service.specs.Terminals.{AllChange, HasCome, changed_at, fresh, ordered, elapsed, ended, freed, has_client, heard, left, written};
+    ghost use Rattle.service.specs.Terminals.{AllChange, HasCome, changed_at, elapsed, ended, freed, has_client, are_deserted, has_stopped, heard, is_free_in, left, may_take, status_of, written};
+    ghost use Rattle.std.specs.Prelude.{position, is_some, if◌then◌else◌};
 
-    /// A service without clients on a network of so many lines: nobody is at the terminals of the PAD.
+    /// A service without clients on a network of so many lines: nobody is at the terminals of the PADs.
     pub fn new(
         alloc: Global,
         net: LiveNet<L>,
         lines: usize,
-        pad: &TerminalsBinding<'_>,
-        hosts: &[HostBinding],
+        bindings: &Bindings<'_>,
     ) -> Result<Self, AllocError>
-        ensures begins { IfOk result (λ service. Begins L.service pad.now.node (replicate pad.now.terminals fresh) net
-            service.exchange.net service.terminals.items) }
-        ensures pad { IfOk result (λ service. service.pad ≡ pad.now.node) }
+        ensures begins { IfOk result (λ service. Begins L.service bindings.now.terminals.now bindings.now.pads.now net
+            service.exchange.net service.places.items service.terminals.items) }
         ensures lines { IfOk result (λ service. service.lines ≡ lines) }
     {
         let mut exchange = Exchange {
             alloc,
             net,
-            hosts: Hosts::new(alloc, hosts)?,
+            hosts: Hosts::new(alloc, bindings.hosts)?,
+            calls: Calls::new(alloc, bindings.hosts)?,
             seconds: 0,
         };
-        let mut terminals = new_terminals(alloc, pad.terminals)?;
-        serve_terminals(&mut exchange, pad.node, &mut terminals);
+        let Seats {
+            places,
+            mut terminals,
+        } = Seats::new(alloc, bindings.terminals)?;
+        leave_absent(&mut exchange, bindings.pads, &places);
+        serve_terminals(&mut exchange, &places, &mut terminals);
         Ok(Service {
             exchange,
-            pad: pad.node,
             lines,
+            places,
             terminals,
-            greetings: greetings(alloc, pad)?,
             stopping: None,
         })
     }
 
-    /// A client came. It gets the lowest terminal that is free, and the answer is its port; none if none is free, or the
-    /// service stops.
-    pub fn attach(&mut self) -> Option<usize>
+    /// A client came to the listener of a table. It gets the table's lowest terminal that is free, and the answer is its
+    /// port; none if none is free, or the service stops.
+    pub fn attach(&mut self, table: usize) -> Option<usize>
+        ensures which { result ≡ if is_some self.old.stopping then None
+            else position (is_free_in table) self.old.terminals.items }
         ensures came { IfSome result (HasCome self.old.terminals.items self.new.terminals.items) }
         ensures none { IfNone result (self.new.terminals.items ≡ self.old.terminals.items) }
         ensures network { self.new.exchange.net ≡ self.old.exchange.net }
@@ -106,10 +123,8 @@ impl<L: Line> Service<L> {
         let port = self
             .terminals
             .iter()
-            .position(|terminal| terminal.is_free())?;
-        let greeting = self.greetings.get(port)?;
-        let terminal = self.terminals.get_mut(port)?;
-        terminal.attach(greeting.as_bytes());
+            .position(|terminal| terminal.is_free_in(table))?;
+        self.terminals[port].attach();
         Some(port)
     }
 
@@ -178,8 +193,10 @@ impl<L: Line> Service<L> {
         }
     }
 
-    /// The time, in seconds since the beginning of 1970, which the service `time` tells.
-    pub fn time(&mut self, seconds: i64) {
+    /// The time, in seconds since the beginning of 1970, which the service `time` tells and calls are counted by.
+    pub fn time(&mut self, seconds: i64)
+        ensures { self.new ≡ record self.old { exchange = record self.old.exchange { seconds = seconds } } }
+    {
         self.exchange.seconds = seconds;
     }
 
@@ -197,7 +214,9 @@ impl<L: Line> Service<L> {
     }
 
     /// Whether it has stopped: it was given time enough, or nobody is there and the network is at rest.
-    pub fn has_stopped(&self) -> bool {
+    pub fn has_stopped(&self) -> bool
+        ensures { result ≡ has_stopped self.now.stopping self.now.terminals.items self.now.exchange.net }
+    {
         match self.stopping {
             None => false,
             Some(0) => true,
@@ -205,10 +224,10 @@ impl<L: Line> Service<L> {
         }
     }
 
-    fn is_deserted(&self) -> bool {
-        self.terminals
-            .iter()
-            .all(|terminal| matches!(terminal.phase, Phase::Free))
+    fn is_deserted(&self) -> bool
+        ensures { result ≡ are_deserted self.now.terminals.items }
+    {
+        self.terminals.iter().all(|terminal| terminal.is_deserted())
     }
 
     /// Octets that wait to be written to the client of a port, from the first on: some if there are any, and not always
@@ -234,9 +253,11 @@ impl<L: Line> Service<L> {
     }
 
     /// Whether it takes an octet of the client of a port.
-    pub fn wants(&self, port: usize) -> bool {
+    pub fn wants(&self, port: usize) -> bool
+        ensures { result ≡ may_take (slice_get self.now.terminals.items port) }
+    {
         match self.terminals.get(port) {
-            Some(terminal) => !terminal.is_open() || terminal.port.wants(),
+            Some(terminal) => terminal.wants(),
             None => true,
         }
     }
@@ -244,7 +265,7 @@ impl<L: Line> Service<L> {
     /// What the shell is to do next, if anything. Each order is given once.
     pub fn next_order(&mut self) -> Option<Order>
         ensures given { IfSome result (λ order.
-            self.new.terminals.items ≡ changed_at (port_of order) ordered self.old.terminals.items) }
+            self.new.terminals.items ≡ after_order order self.old.terminals.items) }
         ensures none { IfNone result (self.new.terminals.items ≡ self.old.terminals.items) }
         ensures network { self.new.exchange.net ≡ self.old.exchange.net }
     {
@@ -253,7 +274,18 @@ impl<L: Line> Service<L> {
                 return Some(order);
             }
         }
-        None
+        self.next_call_order()
+    }
+
+    fn next_call_order(&mut self) -> Option<Order>
+        ensures none { IfSome result (λ order. port_of order ≡ None) }
+        ensures terminals { self.new.terminals ≡ self.old.terminals }
+        ensures network { self.new.exchange.net ≡ self.old.exchange.net }
+    {
+        match self.exchange.calls.next_note() {
+            Some(note) => Some(Order::LogCall(note)),
+            None => Some(Order::LogMissed(self.exchange.calls.next_missed()?)),
+        }
     }
 
     /// Gives back all that it has.
@@ -267,7 +299,9 @@ impl<L: Line> Service<L> {
     }
 
     /// What waits at a port, if there is such a port.
-    pub fn status(&self, port: usize) -> Option<PortStatus> {
+    pub fn status(&self, port: usize) -> Option<PortStatus>
+        ensures { result ≡ option_map status_of (slice_get self.now.terminals.items port) }
+    {
         let terminal = self.terminals.get(port)?;
         Some(PortStatus {
             in_use: !terminal.is_free(),
@@ -276,13 +310,31 @@ impl<L: Line> Service<L> {
             overtaken: terminal.overtaken,
         })
     }
+
+    /// How many places for calls the hosts have, one for each logical channel.
+    pub fn calls(&self) -> usize
+        ensures { result ≡ length self.now.exchange.calls.calls.items }
+    {
+        self.exchange.calls.len()
+    }
+
+    /// The call of this place, from 0, if one is there.
+    pub fn call(&self, place: usize) -> Option<CallStatus>
+        ensures { result ≡ call_of (slice_get self.now.exchange.calls.calls.items place) }
+    {
+        self.exchange.calls.get(place)
+    }
 }
 
 /// The next order of a port, if there is one.
 fn order_of(port: usize, terminal: &mut Terminal) -> Option<Order>
-    ensures given { IfSome result (λ order. (port_of order ≡ port) × (terminal.new ≡ ordered terminal.old)) }
+    ensures given { IfSome result (λ order. (port_of order ≡ Some port) × (terminal.new ≡ ordered terminal.old)) }
     ensures none { IfNone result (terminal.new ≡ terminal.old) }
 {
+    if terminal.was_silent {
+        terminal.was_silent = false;
+        return Some(Order::LogIdle(port));
+    }
     if matches!(terminal.phase, Phase::Closing) {
         terminal.phase = Phase::Closed;
         return Some(Order::Close(port));
@@ -293,30 +345,4 @@ fn order_of(port: usize, terminal: &mut Terminal) -> Option<Order>
     }
     terminal.logged = terminal.overtaken;
     Some(Order::LogOvertaken { port, keys })
-}
-
-/// So many terminals.
-fn new_terminals(alloc: Global, count: u8) -> Result<Vec<Terminal>, AllocError>
-    ensures { IfOk result (λ terminals. terminals.items ≡ replicate count fresh) }
-{
-    let mut terminals = Vec::new(alloc);
-    for _ in 0..count {
-        terminals.push(Terminal::new(alloc)?)?;
-    }
-    Ok(terminals)
-}
-
-/// What is shown first at each terminal of a PAD.
-fn greetings(alloc: Global, pad: &TerminalsBinding<'_>) -> Result<Vec<String>, AllocError> {
-    let mut greetings = Vec::new(alloc);
-    for terminal in 0..pad.terminals {
-        greetings.push(greeting(alloc, pad.name, terminal)?)?;
-    }
-    Ok(greetings)
-}
-
-fn greeting(alloc: Global, name: &str, terminal: u8) -> Result<String, AllocError> {
-    format!(in alloc;
-        "Terminal {terminal} of {name}. Dial a number and Return; Ctrl-P, then CLR and Return, clears the call.\r\n"
-    )
 }
