@@ -75,15 +75,15 @@ pub in_are_said : OctetsInAreSaid
 in_are_said [] b = sym (append-nil b.input)
 in_are_said (deed ∷ deeds) b =
     joined (said_by deed b) (all_by said_by deeds (after_deed deed b)) (after_deeds deeds (after_deed deed b)).input
-        (after_deed deed b).input b.input (heard_by deed b) (all_by heard_by deeds (after_deed deed b))
-        (in_are_said deeds (after_deed deed b)) (in_step deed b)
+    (after_deed deed b).input b.input (heard_by deed b) (all_by heard_by deeds (after_deed deed b))
+    (in_are_said deeds (after_deed deed b)) (in_step deed b)
 
 pub taken_are_written : OctetsTakenAreWritten
 taken_are_written [] b = sym (append-nil b.output)
 taken_are_written (deed ∷ deeds) b =
     joined (written_by deed b) (all_by written_by deeds (after_deed deed b)) (after_deeds deeds (after_deed deed b)).output
-        (after_deed deed b).output b.output (taken_by deed b) (all_by taken_by deeds (after_deed deed b))
-        (taken_are_written deeds (after_deed deed b)) (out_step deed b)
+    (after_deed deed b).output b.output (taken_by deed b) (all_by taken_by deeds (after_deed deed b))
+    (taken_are_written deeds (after_deed deed b)) (out_step deed b)
 
 -- octets that fill a ring that is empty
 pub filled : (octets before after : List ℕ) (count : ℕ) → before ≡ [] → count ≡ min (length octets) (65536 - length before)

@@ -33,6 +33,10 @@ most_message = 1024
 abbrev pub new_bridge : BridgeState
 new_bridge = record { terms = no_terms; input = []; output = []; phases = absent }
 
+-- it has a call, or is to place one
+abbrev pub has_call : BridgeState → Bool
+has_call b = not (is_idle b.phases.call)
+
 -- a bridge begins, and the first that its peer is written are these octets
 abbrev pub begun : BridgeTerms → (hello : List ℕ) → Phases → BridgeState
 begun terms hello phases =

@@ -1,7 +1,7 @@
 //! A bridge: what waits either way, what is to be done next, and what is to be asked of the shell.
 ghost use Rattle.std.specs.Prelude.{◌≡◌, [], ◌++◌, ◌≤◌, take, drop, length, min, IfOk};
 ghost use Rattle.octet_rings.specs.Places.{most_octets};
-ghost use Rattle.bridge_ports.specs.Bridges.{begun, is_free, may_take, most_message, new_bridge, order_of, ordered, turn_of, with_call, with_connection, written_order, own_turn};
+ghost use Rattle.bridge_ports.specs.Bridges.{begun, has_call, is_free, may_take, most_message, new_bridge, order_of, ordered, turn_of, with_call, with_connection, written_order, own_turn};
 
 use crate::phases::{BridgeTerms, CallPhase, Connection, FarEnd, FarSide, OwnSide, Phases};
 use octet_rings::OctetRing;
@@ -81,6 +81,13 @@ impl Bridge {
     {
         matches!(self.phases.call, CallPhase::Idle)
             && matches!(self.phases.connection, Connection::Absent)
+    }
+
+    /// Whether it has a call, or is to place one.
+    pub fn has_call(&self) -> bool
+        ensures { result ≡ has_call self.now }
+    {
+        !matches!(self.phases.call, CallPhase::Idle)
     }
 
     /// Takes over a call that came, and wants a connection for it, on which `hello` is written first. Nothing changes if it

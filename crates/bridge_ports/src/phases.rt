@@ -190,12 +190,9 @@ impl Phases {
     pub(crate) fn has_whole_end(&self, cause: u8, diagnostic: u8) -> bool
         ensures { result ≡ has_whole_end cause diagnostic self.now }
     {
-        let far_has_ended =
-            matches!(self.far_end, FarEnd::Pad) || !matches!(self.far, FarSide::Coming);
-        cause == 0
-            && diagnostic == 0
-            && matches!(self.call, CallPhase::Standing)
-            && far_has_ended
+        let far_has_ended = matches!(self.far_end, FarEnd::Pad)
+            || !matches!(self.far, FarSide::Coming);
+        cause == 0 && diagnostic == 0 && matches!(self.call, CallPhase::Standing) && far_has_ended
     }
 
     /// Lets ticks pass, in which nothing waited to be written or something did.
