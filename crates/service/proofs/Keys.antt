@@ -10,16 +10,16 @@ use Rattle.service.specs.Serving.{Fate, pressed, hastened, overtaken, Befall, be
 
 -- ---- fates after fates
 
-pub befall-then : (xs ys : List Fate) (keys typed between more left : List Key) → Befall xs keys typed between
-    → Befall ys between more left → Befall (xs ++ ys) keys (typed ++ more) left
-befall-then [] ys keys typed between more left (same, none) two =
-    subst (λ k. Befall ys k (typed ++ more) left) (sym same) (subst (λ t. Befall ys between (t ++ more) left) (sym none) two)
-befall-then (pressed key ∷ xs) ys keys typed between more left (rest, later, is, first, on) two =
-    (rest, later ++ more, is, ap (λ t. t ++ more) first, befall-then xs ys rest later between more left on two)
-befall-then (hastened before ∷ xs) ys keys typed between more left (rest, later, is, first, on) two =
-    (rest, later ++ more, is, ap (λ t. t ++ more) first, befall-then xs ys (before ++ rest) later between more left on two)
-befall-then (overtaken first ∷ xs) ys keys typed between more left (rest, is, urgent, on) two =
-    (rest, is, urgent, befall-then xs ys rest typed between more left on two)
+pub befall-then : (has_xon : Bool) (xs ys : List Fate) (keys typed between more left : List Key) → Befall has_xon xs keys typed between
+    → Befall has_xon ys between more left → Befall has_xon (xs ++ ys) keys (typed ++ more) left
+befall-then has_xon [] ys keys typed between more left (same, none) two =
+    subst (λ k. Befall has_xon ys k (typed ++ more) left) (sym same) (subst (λ t. Befall has_xon ys between (t ++ more) left) (sym none) two)
+befall-then has_xon (pressed key ∷ xs) ys keys typed between more left (rest, later, is, first, on) two =
+    (rest, later ++ more, is, ap (λ t. t ++ more) first, befall-then has_xon xs ys rest later between more left on two)
+befall-then has_xon (hastened before ∷ xs) ys keys typed between more left (rest, later, may, is, first, on) two =
+    (rest, later ++ more, may, is, ap (λ t. t ++ more) first, befall-then has_xon xs ys (before ++ rest) later between more left on two)
+befall-then has_xon (overtaken first ∷ xs) ys keys typed between more left (rest, is, urgent, on) two =
+    (rest, is, urgent, befall-then has_xon xs ys rest typed between more left on two)
 
 pub overtaken_in-append : (xs ys : List Fate) → overtaken_in (xs ++ ys) ≡ overtaken_in xs + overtaken_in ys
 overtaken_in-append [] ys = refl
@@ -33,16 +33,16 @@ urgent-more : (rest more : List Key) → begins_urgently rest ≡ true → begin
 urgent-more [] more urgent = cc
 urgent-more (key ∷ rest) more urgent = urgent
 
-pub befall-more : (fates : List Fate) (keys typed left more : List Key) → Befall fates keys typed left
-    → Befall fates (keys ++ more) typed (left ++ more)
-befall-more [] keys typed left more (same, none) = (ap (λ k. k ++ more) same, none)
-befall-more (pressed key ∷ fates) keys typed left more (rest, later, is, first, on) =
-    (rest ++ more, later, ap (λ k. k ++ more) is, first, befall-more fates rest later left more on)
-befall-more (hastened before ∷ fates) keys typed left more (rest, later, is, first, on) =
-    (rest ++ more, later, ap (λ k. k ++ more) is ∙ append_assoc before (xon ∷ rest) more, first,
-    subst (λ k. Befall fates k later (left ++ more)) (append_assoc before rest more) (befall-more fates (before ++ rest) later left more on))
-befall-more (overtaken first ∷ fates) keys typed left more (rest, is, urgent, on) =
-    (rest ++ more, ap (λ k. k ++ more) is ∙ append_assoc first rest more, urgent-more rest more urgent, befall-more fates rest typed left more on)
+pub befall-more : (has_xon : Bool) (fates : List Fate) (keys typed left more : List Key) → Befall has_xon fates keys typed left
+    → Befall has_xon fates (keys ++ more) typed (left ++ more)
+befall-more has_xon [] keys typed left more (same, none) = (ap (λ k. k ++ more) same, none)
+befall-more has_xon (pressed key ∷ fates) keys typed left more (rest, later, is, first, on) =
+    (rest ++ more, later, ap (λ k. k ++ more) is, first, befall-more has_xon fates rest later left more on)
+befall-more has_xon (hastened before ∷ fates) keys typed left more (rest, later, may, is, first, on) =
+    (rest ++ more, later, may, ap (λ k. k ++ more) is ∙ append_assoc before (xon ∷ rest) more, first,
+    subst (λ k. Befall has_xon fates k later (left ++ more)) (append_assoc before rest more) (befall-more has_xon fates (before ++ rest) later left more on))
+befall-more has_xon (overtaken first ∷ fates) keys typed left more (rest, is, urgent, on) =
+    (rest ++ more, ap (λ k. k ++ more) is ∙ append_assoc first rest more, urgent-more rest more urgent, befall-more has_xon fates rest typed left more on)
 
 -- ---- one key
 
@@ -95,3 +95,7 @@ urgent_found keys place is =
 pub is_xon : (key : Key) → is_octet 17 key ≡ true → key ≡ xon
 is_xon (Octet octet) is = let same : octet ≡ 17 = grind (arith, nat_tests, is) in ap Octet same
 is_xon Break is = cc
+
+pub xon_found : (has_xon : Bool) (found : Option ℕ) (place : ℕ) → cond has_xon found None ≡ Some place → (has_xon ≡ true) × (found ≡ Some place)
+xon_found true found place is = (refl, is)
+xon_found false found place is = cc

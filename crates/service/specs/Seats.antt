@@ -13,6 +13,7 @@ pub record IsOfTable (table : ℕ) (binding : TerminalsBinding) (at : Place) (p 
   pub to : at.number ≤ binding.last
   pub table_is : p.terms.table ≡ table
   pub idle : p.terms.idle ≡ binding.idle
+  pub xon : p.terms.has_xon ≡ binding.has_xon
   pub made : p ≡ fresh binding.mode p.terms
 
 abbrev pub IsOfSomeTable : List TerminalsBinding → Place → Terminal → Type 0

@@ -8,7 +8,7 @@ use Rattle.service_ports.specs.declared.command.Command.TheVariants.{NoOperation
 use Rattle.service_ports.specs.declared.input.Key.{Key}
 use Rattle.service_ports.specs.declared.mode.Mode.{Mode}
 use Rattle.service_ports.specs.Modes.{is_telnet, with_shown}
-use Rattle.service_ports.specs.Ports.{PortState, begun, after_octets, is_break_or, takes_octet}
+use Rattle.service_ports.specs.Ports.{PortState, begun, after_octets, is_break_or, is_octet, takes_octet}
 use Rattle.service_ports.specs.Writing.{with_command}
 use Rattle.service.specs.declared.service.PortStatus.{PortStatus}
 use Rattle.service.specs.declared.terminal.Phase.{Phase}
@@ -170,6 +170,10 @@ without_key_at place p =
 -- the place of the key that is to be typed next: the first recall (16) or break that waits, else the first key
 abbrev pub urgent_place : List Key → ℕ
 urgent_place keys = unwrap_or (position (is_break_or 16) keys) 0
+
+-- the place of the first XON that waits, if the PAD has one
+abbrev pub xon_place : Terminal → Option ℕ
+xon_place p = if p.terms.has_xon then position (is_octet 17) p.port.keys.items else None
 
 -- a count that stays at the most that there is place for
 abbrev pub counted : (count more : ℕ) → ℕ

@@ -20,6 +20,8 @@ pub struct TerminalsBinding<'a> {
     pub greeting: Option<&'a str>,
     /// After how many ticks without an octet either way a client goes. 0: never.
     pub idle: u16,
+    /// Whether the PAD takes DC1 as XON there at first (X.3 3.12). Then it may be typed before keys that wait.
+    pub has_xon: bool,
 }
 
 /// The terminals that clients have, and where each is.
@@ -86,6 +88,7 @@ impl Seats {
         let terms = Terms {
             table,
             idle: binding.idle,
+            has_xon: binding.has_xon,
             greeting: greeting(alloc, binding, number)?.into_bytes(),
         };
         self.terminals
