@@ -7,3 +7,4 @@ pub mod Steps
 pub mod Absent
 pub mod Serving
 pub mod Clients
+pub mod Bridging

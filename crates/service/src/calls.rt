@@ -25,7 +25,13 @@ pub struct CallNote {
 #[derive(Clone, Copy)]
 pub enum CallChange {
     /// A call came in, from this address if it was told.
-    Incoming { from: Option<Address> },
+    Incoming {
+        from: Option<Address>,
+    },
+    /// A call of this address was placed.
+    Called {
+        to: Address,
+    },
     /// The call was accepted, by either end.
     Connected,
     /// The call is over, for this cause and diagnostic (0 and 0 if the host cleared it), after so many seconds, in which
@@ -38,7 +44,10 @@ pub enum CallChange {
         said: u64,
     },
     /// The call was reset, for this cause and diagnostic.
-    Reset { cause: u8, diagnostic: u8 },
+    Reset {
+        cause: u8,
+        diagnostic: u8,
+    },
 }
 
 /// A call that is there.
@@ -130,6 +139,12 @@ impl Calls {
                 said: 0,
             });
         }
+    }
+
+    /// A call of this address was placed.
+    pub(crate) fn place(&mut self, at: HostChannel, to: Address, seconds: i64) {
+        self.begin(at, Some(to), true, seconds);
+        self.note(at, CallChange::Called { to });
     }
 
     /// A call was accepted.

@@ -2,11 +2,15 @@
 #![tactic(auto)]
 
 mod absent;
+mod bridges;
+mod bridging;
 mod builtin;
 mod calls;
 mod exchange;
+mod hello;
 mod hosts;
 mod law;
+mod mail;
 mod place;
 mod rounds;
 mod seats;
@@ -14,6 +18,8 @@ mod service;
 mod terminal;
 
 pub use absent::PadBinding;
+pub use bridge_ports::{AtReset, BridgeTerms};
+pub use bridges::{BridgeBindings, CallerBinding, ServiceBinding};
 pub use builtin::BuiltIn;
 pub use calls::{CallChange, CallNote, CallStatus};
 pub use hosts::HostBinding;

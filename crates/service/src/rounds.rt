@@ -3,6 +3,7 @@ ghost use Rattle.std.specs.Prelude.{◌≡◌, ◌≤◌, length};
 ghost use Rattle.service.specs.Places.{AreApart};
 ghost use Rattle.service.specs.Serving.{Serves, ServesBelow, Wishes, WishesKeys, Works};
 
+use crate::bridging::serve_bridges;
 use crate::exchange::Exchange;
 use crate::place::Place;
 use crate::service::Service;
@@ -38,9 +39,10 @@ impl<L: Line> Service<L> {
     {
         let served = serve_terminals(&mut self.exchange, &self.places, &mut self.terminals);
         let called = self.exchange.serve_calls();
+        let bridged = serve_bridges(&mut self.exchange, &mut self.bridges);
         let moved = self.exchange.deliver_frames(self.lines);
         let expired = self.exchange.expire();
-        served | called | moved | expired
+        served | called | bridged | moved | expired
     }
 }
 

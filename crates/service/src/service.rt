@@ -8,9 +8,11 @@ ghost use Rattle.service.specs.Serving.{Begins};
 ghost use Rattle.service.specs.Terminals.{ordered};
 
 use crate::absent::{PadBinding, leave_absent};
+use crate::bridges::{BridgeBindings, Bridges};
 use crate::calls::{CallNote, CallStatus, Calls};
 use crate::exchange::Exchange;
 use crate::hosts::{HostBinding, Hosts};
+use crate::mail::Mail;
 use crate::place::Place;
 use crate::rounds::serve_terminals;
 use crate::seats::{Seats, TerminalsBinding};
@@ -29,6 +31,7 @@ pub struct Bindings<'a> {
     pub terminals: &'a [TerminalsBinding<'a>],
     pub pads: &'a [PadBinding],
     pub hosts: &'a [HostBinding],
+    pub bridges: BridgeBindings<'a>,
 }
 
 /// What the shell is to do.
@@ -36,6 +39,10 @@ pub struct Bindings<'a> {
 pub enum Order {
     /// The connection of this port is to be closed.
     Close(usize),
+    /// A connection to this service is to be made for this port.
+    Connect { port: usize, service: usize },
+    /// The connection of this port is to be ended for writing, and read on.
+    EndWriting(usize),
     /// It is to be logged that so many keys of this port were dropped because a recall or a break came after them.
     LogOvertaken { port: usize, keys: u64 },
     /// It is to be logged that the client of this port goes because it was silent too long.
@@ -66,6 +73,7 @@ pub struct Service<L: Line> {
     pub(crate) lines: usize,
     pub(crate) places: Vec<Place>,
     pub(crate) terminals: Vec<Terminal>,
+    pub(crate) bridges: Bridges,
     stopping: Option<u16>,
     ghost seated: { length terminals.items ≡ length places.items },
     ghost apart: { AreApart places.items },
@@ -91,6 +99,7 @@ impl<L: Line> Service<L> {
             net,
             hosts: Hosts::new(alloc, bindings.hosts)?,
             calls: Calls::new(alloc, bindings.hosts)?,
+            mail: Mail::new(alloc, &bindings.bridges)?,
             seconds: 0,
         };
         let Seats {
@@ -104,6 +113,7 @@ impl<L: Line> Service<L> {
             lines,
             places,
             terminals,
+            bridges: Bridges::new(alloc, &bindings.bridges)?,
             stopping: None,
         })
     }
@@ -128,24 +138,63 @@ impl<L: Line> Service<L> {
         Some(port)
     }
 
+    /// A connection came to the listener of a caller. The answer is its port; none if no bridge is free, or the service
+    /// stops.
+    pub fn attach_caller(&mut self, caller: usize) -> Option<usize>
+        ensures terminals { self.new.terminals ≡ self.old.terminals }
+        ensures network { self.new.exchange.net ≡ self.old.exchange.net }
+    {
+        let place = self.bridges.attach(caller)?;
+        self.terminals.len().checked_add(place)
+    }
+
+    /// The place among the bridges of a port that is no terminal's.
+    fn bridge_place(&self, port: usize) -> usize {
+        port.saturating_sub(self.terminals.len())
+    }
+
+    /// The connection stands that was ordered for this port.
+    pub fn opened(&mut self, port: usize)
+        ensures terminals { self.new.terminals ≡ self.old.terminals }
+        ensures network { self.new.exchange.net ≡ self.old.exchange.net }
+    {
+        let place = self.bridge_place(port);
+        if port >= self.terminals.len() {
+            self.bridges.opened(place);
+        }
+    }
+
+    /// The connection could not be had that was ordered for this port.
+    pub fn failed(&mut self, port: usize)
+        ensures port { self.new.terminals.items ≡ changed_at port left self.old.terminals.items }
+        ensures network { self.new.exchange.net ≡ self.old.exchange.net }
+    {
+        self.lost(port);
+    }
+
     /// Takes octets of a client, from the first on, as long as there is room. The answer is how many were taken.
     pub fn octets(&mut self, port: usize, octets: &[u8]) -> usize
         ensures within { result ≤ length octets.now }
         ensures taken { self.new.terminals.items ≡ changed_at port (heard (take result octets.now)) self.old.terminals.items }
         ensures network { self.new.exchange.net ≡ self.old.exchange.net }
     {
+        let place = self.bridge_place(port);
         match self.terminals.get_mut(port) {
             Some(terminal) => terminal.hear(octets),
-            None => octets.len(),
+            None => self.bridges.octets(place, octets),
         }
     }
 
-    /// The client of a port sends no more: it is gone.
+    /// The peer of a port sends no more. A terminal's client is gone.
     pub fn ended(&mut self, port: usize)
         ensures port { self.new.terminals.items ≡ changed_at port left self.old.terminals.items }
         ensures network { self.new.exchange.net ≡ self.old.exchange.net }
     {
-        self.lost(port);
+        let place = self.bridge_place(port);
+        match self.terminals.get_mut(port) {
+            Some(terminal) => terminal.leave(),
+            None => self.bridges.ended(place),
+        }
     }
 
     /// The connection of a port is lost.
@@ -153,8 +202,10 @@ impl<L: Line> Service<L> {
         ensures port { self.new.terminals.items ≡ changed_at port left self.old.terminals.items }
         ensures network { self.new.exchange.net ≡ self.old.exchange.net }
     {
-        if let Some(terminal) = self.terminals.get_mut(port) {
-            terminal.leave();
+        let place = self.bridge_place(port);
+        match self.terminals.get_mut(port) {
+            Some(terminal) => terminal.leave(),
+            None => self.bridges.lost(place),
         }
     }
 
@@ -163,9 +214,13 @@ impl<L: Line> Service<L> {
         ensures port { self.new.terminals.items ≡ changed_at port freed self.old.terminals.items }
         ensures network { self.new.exchange.net ≡ self.old.exchange.net }
     {
-        if let Some(terminal) = self.terminals.get_mut(port) {
-            terminal.leave();
-            terminal.phase = Phase::Free;
+        let place = self.bridge_place(port);
+        match self.terminals.get_mut(port) {
+            Some(terminal) => {
+                terminal.leave();
+                terminal.phase = Phase::Free;
+            }
+            None => self.bridges.closed(place),
         }
     }
 
@@ -174,8 +229,10 @@ impl<L: Line> Service<L> {
         ensures port { self.new.terminals.items ≡ changed_at port ended self.old.terminals.items }
         ensures network { self.new.exchange.net ≡ self.old.exchange.net }
     {
-        if let Some(terminal) = self.terminals.get_mut(port) {
-            terminal.end();
+        let place = self.bridge_place(port);
+        match self.terminals.get_mut(port) {
+            Some(terminal) => terminal.end(),
+            None => self.bridges.end(place),
         }
     }
 
@@ -188,6 +245,7 @@ impl<L: Line> Service<L> {
         for port in 0..self.terminals.len() {
             self.terminals[port].elapse(ticks);
         }
+        self.bridges.elapse(ticks);
         if let Some(left) = self.stopping {
             self.stopping = Some(left.saturating_sub(ticks));
         }
@@ -211,6 +269,7 @@ impl<L: Line> Service<L> {
         for port in 0..self.terminals.len() {
             self.terminals[port].end();
         }
+        self.bridges.stop();
     }
 
     /// Whether it has stopped: it was given time enough, or nobody is there and the network is at rest.
@@ -220,7 +279,9 @@ impl<L: Line> Service<L> {
         match self.stopping {
             None => false,
             Some(0) => true,
-            Some(_) => self.is_deserted() && self.exchange.net.at_rest(),
+            Some(_) => {
+                self.is_deserted() && self.bridges.are_free() && self.exchange.net.at_rest()
+            }
         }
     }
 
@@ -238,7 +299,8 @@ impl<L: Line> Service<L> {
     {
         match self.terminals.get(port) {
             Some(terminal) if terminal.has_client() => terminal.port.waiting(),
-            _ => &[],
+            Some(_) => &[],
+            None => self.bridges.waiting(self.bridge_place(port)),
         }
     }
 
@@ -247,8 +309,10 @@ impl<L: Line> Service<L> {
         ensures port { self.new.terminals.items ≡ changed_at port (written count) self.old.terminals.items }
         ensures network { self.new.exchange.net ≡ self.old.exchange.net }
     {
-        if let Some(terminal) = self.terminals.get_mut(port) {
-            terminal.written(count);
+        let place = self.bridge_place(port);
+        match self.terminals.get_mut(port) {
+            Some(terminal) => terminal.written(count),
+            None => self.bridges.written(place, count),
         }
     }
 
@@ -258,7 +322,7 @@ impl<L: Line> Service<L> {
     {
         match self.terminals.get(port) {
             Some(terminal) => terminal.wants(),
-            None => true,
+            None => self.bridges.wants(self.bridge_place(port)),
         }
     }
 
@@ -273,6 +337,9 @@ impl<L: Line> Service<L> {
             if let Some(order) = order_of(port, &mut self.terminals[port]) {
                 return Some(order);
             }
+        }
+        if let Some(order) = self.bridges.order(self.terminals.len()) {
+            return Some(order);
         }
         self.next_call_order()
     }

@@ -1,4 +1,5 @@
 //! What a service file binds, with the numbers of the nodes in the network.
+use crate::bridging::BoundBridges;
 use net_config::{Config, NodeKind, TerminalsConfig};
 use service::{Bindings, BuiltIn, HostBinding, Mode, PadBinding, TerminalsBinding};
 use service_files::{
@@ -13,6 +14,7 @@ pub(crate) struct Bound<'a> {
     terminals: Vec<TerminalsBinding<'a>>,
     pads: Vec<PadBinding>,
     hosts: Vec<HostBinding>,
+    bridges: BoundBridges<'a>,
 }
 
 impl<'a> Bound<'a> {
@@ -26,6 +28,7 @@ impl<'a> Bound<'a> {
             terminals: bound_terminals(alloc, config, file)?,
             pads: bound_pads(alloc, config)?,
             hosts: bound_hosts(alloc, config, file)?,
+            bridges: BoundBridges::new(alloc, config, file)?,
         })
     }
 
@@ -34,6 +37,7 @@ impl<'a> Bound<'a> {
             terminals: self.terminals.as_slice(),
             pads: self.pads.as_slice(),
             hosts: self.hosts.as_slice(),
+            bridges: self.bridges.bindings(),
         }
     }
 }

@@ -82,6 +82,11 @@ pub(crate) fn call_text(
             let to = names.address(note.node);
             format!(in alloc; "call from={from} to={to} node={node} channel={channel}")
         }
+        CallChange::Called { to } => {
+            let from = names.address(note.node);
+            let to = digits_or_unknown(alloc, Some(to))?;
+            format!(in alloc; "call from={from} to={to} node={node} channel={channel}")
+        }
         CallChange::Connected => format!(in alloc; "connected node={node} channel={channel}"),
         CallChange::Cleared {
             cause,

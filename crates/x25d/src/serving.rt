@@ -3,10 +3,11 @@ use crate::bindings::Bound;
 use crate::checking::check_octets;
 use crate::faults::Fault;
 use crate::files::read_both;
+use crate::first_lines::say_first;
 use crate::log::Log;
 use crate::names::Names;
 use crate::network::{NETWORK, NUMBERS, SERVICE};
-use crate::shell::{Shell, say_first};
+use crate::shell::Shell;
 use crate::sockets::Sockets;
 use frame_lines::MemLine;
 use line_sim::{Config, MakeFault, mem_lines};
@@ -89,7 +90,7 @@ fn serve(
     let bound = Bound::new(rt.alloc(), config, file)?;
     let mut service = service_on(rt.alloc(), config, &bound)?;
     let _ = say_first(rt, &sockets, numbers);
-    let outcome = serve_at(rt, Names::new(config), file.connections, sockets, log, &mut service);
+    let outcome = serve_at(rt, Names::new(config), file, sockets, log, &mut service);
     service.release();
     outcome
 }
@@ -98,12 +99,12 @@ fn serve(
 fn serve_at(
     rt: &HostRuntime,
     names: Names<'_>,
-    connections: u16,
+    file: &ServiceFile<'_>,
     sockets: Sockets<'_>,
     log: Log,
     service: &mut Running,
 ) -> Result<(), Fault> {
-    let mut shell = Shell::new(rt, names, connections, sockets, log, service.ports())?;
+    let mut shell = Shell::new(rt, names, file, sockets, log, service.ports())?;
     shell.begin(rt);
     for _ in 0..u64::MAX {
         if !shell.turn(rt, service)? {

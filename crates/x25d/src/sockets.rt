@@ -17,6 +17,8 @@ const MOST_EVENTS: usize = 256;
 pub(crate) enum Leads<'a> {
     /// To the terminals of this table, with the name of their PAD.
     Terminals(usize, Mode, &'a str),
+    /// To calls from this caller, with the name of its host.
+    Caller(usize, &'a str),
     /// To the control port.
     Control,
 }
@@ -54,6 +56,10 @@ impl<'a> Sockets<'a> {
         let mut sockets = Sockets::without_doors(rt)?;
         for (place, table) in file.terminals.iter().enumerate() {
             let leads = Leads::Terminals(place, table.mode, table.pad);
+            sockets.add(rt, table.listen, leads, Some(&table.allow))?;
+        }
+        for (place, table) in file.callers.iter().enumerate() {
+            let leads = Leads::Caller(place, table.host);
             sockets.add(rt, table.listen, leads, Some(&table.allow))?;
         }
         if let Some(control) = file.control {
