@@ -1,5 +1,5 @@
 -- Octets are carried in order, each once, whatever is done at a bridge.
-use Rattle.std.proofs.Common.{◌≡◌, ◌≤◌, ℕ, Bool, true, false, not, ◌&&◌, List, [], ◌∷◌, ◌++◌, refl, sym, ap, ◌∙◌, append_assoc, append-nil, cond, eqb, length, take, drop, min, ◌-◌, arith}
+use Rattle.std.proofs.Common.{◌≡◌, ◌≤◌, ℕ, Bool, true, false, not, ◌&&◌, List, [], ◌∷◌, ◌++◌, refl, sym, ap, ◌∙◌, append_assoc, append-nil, cond, eqb, length, flat_map, take, drop, min, ◌-◌, arith}
 use Rattle.std.proofs.Math.Nat.{min_comm}
 use Rattle.std.proofs.lemmas.Bool.{eqb-true}
 use Rattle.std.proofs.lemmas.List.{take-append-drop, take_min}
@@ -7,7 +7,7 @@ use Rattle.bridge_ports.specs.declared.phases.FarSide.TheVariants.{EndTaken}
 use Rattle.bridge_ports.specs.declared.phases.Phases.{Phases}
 use Rattle.bridge_ports.specs.Phases.{broken, own_moved}
 use Rattle.bridge_ports.specs.Bridges.{BridgeState, fits, heard, is_end, is_taking, listens, said, taken, written}
-use Rattle.bridge_ports.specs.Laws.{Deed, hears, says, takes, writes, turns, after_deed, after_deeds, heard_by, said_by, taken_by, written_by, all_by, OctetsInAreSaid, OctetsTakenAreWritten}
+use Rattle.bridge_ports.specs.Laws.{Deed, hears, says, takes, writes, turns, after_deed, after_deeds, heard_by, said_by, taken_by, written_by, all_by, OctetsInAreSaid, OctetsTakenAreWritten, IsBeginning, BridgesCarry, BlocksAreWritten}
 
 heard_input : (is : Bool) (octets : List ℕ) (b : BridgeState)
     → (cond is (record b { input = b.input ++ octets }) b).input ≡ b.input ++ cond is octets []
@@ -92,3 +92,25 @@ filled octets before after count none is then =
     then ∙ ap (λ xs. xs ++ take count octets) none
     ∙ ap (λ n. take n octets) (is ∙ ap (λ xs. min (length octets) (65536 - length xs)) none ∙ min_comm (length octets) 65536)
     ∙ take_min 65536 octets
+
+-- what is written is the beginning of anything of which what was taken is
+written_beginning : (far : List Deed) (c : BridgeState) (sent : List ℕ) → IsBeginning (all_by taken_by far c) sent
+    → IsBeginning (all_by written_by far c) (c.output ++ sent)
+written_beginning far c sent (rest, is) =
+    let written = all_by written_by far c in
+    let left = (after_deeds far c).output in
+    let taken_all = all_by taken_by far c in (
+      left ++ rest,
+      sym (append_assoc written left rest) ∙ ap (λ xs. xs ++ rest) (taken_are_written far c)
+          ∙ append_assoc c.output taken_all rest ∙ ap (λ xs. c.output ++ xs) is,
+    )
+
+pub bridges_carry : BridgesCarry
+bridges_carry near far b c (rest, is) =
+    let said_all = all_by said_by near b in
+    let left = (after_deeds near b).input in
+    written_beginning far c (b.input ++ all_by heard_by near b)
+    (rest ++ left, sym (append_assoc (all_by taken_by far c) rest left) ∙ ap (λ xs. xs ++ left) is ∙ in_are_said near b)
+
+pub blocks_are_written : BlocksAreWritten
+blocks_are_written far c blocks taken_first = written_beginning far c (flat_map (λ block. block) blocks) taken_first

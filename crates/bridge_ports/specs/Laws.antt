@@ -1,5 +1,5 @@
 -- The octets of a bridge over all its calls.
-use Rattle.std.specs.Prelude.{◌≡◌, ℕ, Bool, not, ◌&&◌, List, [], ◌∷◌, ◌++◌, take, if◌then◌else◌}
+use Rattle.std.specs.Prelude.{◌≡◌, ℕ, Bool, not, ◌&&◌, List, [], ◌∷◌, ◌++◌, take, flat_map, if◌then◌else◌}
 use Rattle.bridge_ports.specs.declared.phases.Phases.{Phases}
 use Rattle.bridge_ports.specs.Bridges.{BridgeState, fits, heard, is_end, is_taking, listens, said, taken, written}
 
@@ -56,3 +56,23 @@ OctetsInAreSaid = (deeds : List Deed) (b : BridgeState)
 abbrev pub OctetsTakenAreWritten : Type 0
 OctetsTakenAreWritten = (deeds : List Deed) (b : BridgeState)
     → all_by written_by deeds b ++ (after_deeds deeds b).output ≡ b.output ++ all_by taken_by deeds b
+
+-- ---- two ends of a call
+
+-- some octets are the first of others
+abbrev pub IsBeginning : (octets others : List ℕ) → Type 0
+IsBeginning octets others = (rest : List ℕ) × (octets ++ rest ≡ others)
+
+-- Two bridges have the two ends of a call, and this is done at them between two resets. The network promises that what is
+-- taken at one is the beginning of what is said at the other. Then what is written to the peer of the one, after what
+-- waited there, is the beginning of what the other heard of its peer, after what waited there.
+abbrev pub BridgesCarry : Type 0
+BridgesCarry = (near far : List Deed) (b c : BridgeState)
+    → IsBeginning (all_by taken_by far c) (all_by said_by near b)
+    → IsBeginning (all_by written_by far c) (c.output ++ (b.input ++ all_by heard_by near b))
+
+-- So it is with the blocks of a PAD at the other end.
+abbrev pub BlocksAreWritten : Type 0
+BlocksAreWritten = (far : List Deed) (c : BridgeState) (blocks : List (List ℕ))
+    → IsBeginning (all_by taken_by far c) (flat_map (λ block. block) blocks)
+    → IsBeginning (all_by written_by far c) (c.output ++ flat_map (λ block. block) blocks)

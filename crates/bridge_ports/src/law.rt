@@ -1,5 +1,5 @@
 //! What becomes of a call and its connection, over definitions alone.
-ghost use Rattle.bridge_ports.specs.Laws.{OctetsInAreSaid, OctetsTakenAreWritten};
+ghost use Rattle.bridge_ports.specs.Laws.{BlocksAreWritten, BridgesCarry, OctetsInAreSaid, OctetsTakenAreWritten};
 ghost use Rattle.bridge_ports.specs.Rows.{BrokenConnections, ClearsWhenConfirmed, ComingCalls, EndsOfFarSides, EndsOfPeers, FailedConnections, FreeOnceClosed, OtherEnds, PlacedCalls, SaysOctetsFirst, WholeEnds};
 
 /// The law of one bridge, over all that is done at it. What was said is what came from the peer, and what was written is
@@ -23,4 +23,12 @@ pub fn bridge_port_rows()
     ensures other { OtherEnds }
     ensures broken { BrokenConnections }
     ensures closed { FreeOnceClosed }
+{}
+
+/// The law of bridges, with the promise of the network for what is taken at one end of a call and said at the other. Between
+/// two resets, what comes out at one connection is the beginning of what went in at the other, and with a PAD at the other
+/// end, of its blocks.
+pub fn bridge_law()
+    ensures bridges { BridgesCarry }
+    ensures blocks { BlocksAreWritten }
 {}

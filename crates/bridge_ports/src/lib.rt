@@ -8,5 +8,5 @@ mod law;
 mod phases;
 
 pub use bridge::{Bridge, MOST_MESSAGE, Order, Turn};
-pub use law::{bridge_port_law, bridge_port_rows};
+pub use law::{bridge_law, bridge_port_law, bridge_port_rows};
 pub use phases::{AtReset, BridgeTerms, CallPhase, Connection, FarEnd, FarSide, OwnSide, Phases};

@@ -4,6 +4,7 @@ use Rattle.std.specs.List.{list_all}
 use Rattle.std.specs.Borrow.{Bor}
 use Rattle.std.proofs.lemmas.Bool.{eqb-true, eq-eqb}
 use Rattle.std.proofs.lemmas.Grind.{flat_map-append}
+use Rattle.std.proofs.lemmas.Option.{slice_get_past}
 use Rattle.std.proofs.lemmas.List.Folds.{list_all-append}
 use Rattle.std.proofs.lemmas.List.{length-take, take_min}
 use Rattle.bridge_ports.specs.declared.phases.Phases.{Phases}
@@ -19,6 +20,10 @@ use Rattle.net_events.specs.declared.answer.Answer.{Answer}
 use Rattle.net_events.specs.Network.{Network}
 use Rattle.line_sim.specs.Stepping.{lent}
 use Rattle.service.specs.declared.hosts.HostChannel.{HostChannel}
+use Rattle.service.specs.declared.service.Order.{Order}
+use Rattle.service.specs.declared.terminal.Terminal.{Terminal}
+use Rattle.service.specs.Orders.{ordered_at, after_order, IsFrom}
+use Rattle.service.specs.Terminals.{changed, changed_at, ordered}
 use Rattle.service.specs.Steps.{Step, Makes, Steps, is_idle, is_idle_answer, is_at_terminal, AreIdle, Does, PassesBy, Passes}
 use Rattle.service.specs.Bridging.{Packet, is_on, said_of, said_in, packet_of, packet_in, packet_from, taken_in, with_packets, all_said, all_taken, IsStill, is_of_network, packets_by, IsCarried, Carries, MayHave}
 use Rattle.service.proofs.Stepping.{steps-append, silent-none, passes_none, passes_by-then, passes_step, neither_left, neither_right, was_done, not_done, elsewhere, idle_step, Lent}
@@ -350,3 +355,15 @@ pub carries_pass : (L : LineService) (may : Option HostChannel) (more : Bool) (s
     → ((at : HostChannel) → MayHave may at → Carries L at more s t b c) → Passes L more s t
 carries_pass L may more s t b c carries =
     let done = carries (some_channel may) (may_have_some may) in (done.steps, done.passes)
+
+-- ---- orders
+
+ordered_past : (port : ℕ) (terminals : List Terminal) → length terminals ≤ port → terminals ≡ changed_at port ordered terminals
+ordered_past port terminals past =
+    sym (ap (λ found. changed port ordered found terminals) (slice_get_past terminals port past))
+
+-- an order for a bridge changes no terminal
+pub order_past : (order : Order) (terminals : List Terminal) → IsFrom (length terminals) order
+    → terminals ≡ after_order order terminals
+order_past order terminals (port, is, past) =
+    ordered_past port terminals past ∙ sym (ap (λ found. ordered_at found terminals) is)

@@ -1,7 +1,7 @@
 -- What steps of a network do on a logical channel of a host, and what that is at the bridge that has its call.
 use Rattle.std.specs.Prelude.{◌≡◌, ◌≢◌, ◌⊎◌, ℕ, Bool, true, false, not, List, [], ◌∷◌, ◌==◌, ◌&&◌, flat_map, Option, Some, None, Result, Ok, Err, if◌then◌else◌}
 use Rattle.std.specs.List.{list_all}
-use Rattle.bridge_ports.specs.Bridges.{BridgeState, taken}
+use Rattle.bridge_ports.specs.Bridges.{BridgeState, is_free, taken}
 use Rattle.bridge_ports.specs.Laws.{Deed, hears, says, takes, writes, turns, after_deeds, all_by, said_by}
 use Rattle.data_transfer.specs.declared.taken.Front.{Front}
 use Rattle.data_transfer.specs.declared.taken.Front.TheVariants.{Data}
@@ -15,6 +15,7 @@ use Rattle.net_events.specs.declared.answer.Answer.{Answer}
 use Rattle.net_events.specs.declared.answer.Outcome.{Outcome}
 use Rattle.net_events.specs.declared.answer.Outcome.TheVariants.{Took}
 use Rattle.net_events.specs.Network.{Network}
+use Rattle.service.specs.declared.bridges.BridgePort.{BridgePort}
 use Rattle.service.specs.declared.hosts.HostChannel.{HostChannel}
 use Rattle.service.specs.Steps.{Step, PassesBy, is_idle}
 
@@ -101,3 +102,7 @@ pub record Carries (L : LineService) (at : HostChannel) (more : Bool) (s t : Net
 abbrev pub MayHave : Option HostChannel → HostChannel → Type 0
 MayHave None at = Unit {0}
 MayHave (Some own) at = own ≡ at
+
+-- no bridge has a call or a connection
+abbrev pub are_free : List BridgePort → Bool
+are_free = list_all (λ (port : BridgePort). is_free port.bridge)

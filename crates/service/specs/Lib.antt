@@ -8,3 +8,4 @@ pub mod Absent
 pub mod Serving
 pub mod Clients
 pub mod Bridging
+pub mod Hello

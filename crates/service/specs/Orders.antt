@@ -1,5 +1,5 @@
 -- What the shell is told to do.
-use Rattle.std.specs.Prelude.{ℕ, List, Option, Some, None}
+use Rattle.std.specs.Prelude.{◌≡◌, ◌≤◌, ℕ, List, Option, Some, None}
 use Rattle.service.specs.declared.service.Order.{Order}
 use Rattle.service.specs.declared.service.Order.TheVariants.{Close, Connect, EndWriting, LogOvertaken, LogIdle, LogCall, LogMissed}
 use Rattle.service.specs.declared.terminal.Terminal.{Terminal}
@@ -22,3 +22,7 @@ ordered_at (Some port) terminals = changed_at port ordered terminals
 -- the terminals once an order was given
 abbrev pub after_order : Order → List Terminal → List Terminal
 after_order order terminals = ordered_at (port_of order) terminals
+
+-- an order for a port from this one on
+abbrev pub IsFrom : (first : ℕ) → Order → Type 0
+IsFrom first order = (port : ℕ) × (port_of order ≡ Some port) × (first ≤ port)

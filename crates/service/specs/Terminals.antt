@@ -217,9 +217,9 @@ status_of p = record {
   overtaken = p.overtaken;
 }
 
--- whether a service has stopped that may take so many ticks more: there are none left, or nobody is there and the network
--- rests
-abbrev pub has_stopped : Option ℕ → List Terminal → Network → Bool
-has_stopped None terminals s = false
-has_stopped (Some zero) terminals s = true
-has_stopped (Some (suc ticks)) terminals s = are_deserted terminals && net_rests s
+-- whether a service has stopped that may take so many ticks more: there are none left, or nobody is there, all bridges are
+-- free, and the network rests
+abbrev pub has_stopped : Option ℕ → List Terminal → (are_free : Bool) → Network → Bool
+has_stopped None terminals are_free s = false
+has_stopped (Some zero) terminals are_free s = true
+has_stopped (Some (suc ticks)) terminals are_free s = are_deserted terminals && are_free && net_rests s

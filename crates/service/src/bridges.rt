@@ -1,10 +1,12 @@
 //! The bridges of a service: connections of services and callers, and the calls at hosts that they have.
-ghost use Rattle.std.specs.Prelude.{◌≡◌, ◌≤◌, length};
+ghost use Rattle.std.specs.Prelude.{◌≡◌, ◌≤◌, length, IfSome};
+ghost use Rattle.service.specs.Bridging.{are_free};
+ghost use Rattle.service.specs.Orders.{IsFrom, port_of};
 
-use crate::hello::hello_line;
+use crate::hello::write_hello;
 use crate::hosts::HostChannel;
 use crate::mail::{Letter, News};
-use crate::service::Order;
+use crate::service::{Order, PortStatus};
 use arrayvec::ArrayVec;
 use bridge_ports::{Bridge, BridgeTerms, FarEnd, MOST_MESSAGE};
 use line_sim::Event;
@@ -202,10 +204,15 @@ impl Bridges {
         let Some(port) = self.free_port() else {
             return false;
         };
-        let hello = hello_line(calling, called, user_data);
-        let first = if service.hello { hello.as_slice() } else { &[] };
         let port = &mut self.ports[port];
-        port.bridge.ring(service.terms, far_end, first);
+        let is_written = service.hello
+            && write_hello(&mut port.message, calling, called, user_data).is_ok();
+        let hello = if is_written {
+            port.message.as_slice()
+        } else {
+            &[]
+        };
+        port.bridge.ring(service.terms, far_end, hello);
         port.at = Some(at);
         port.owner = Owner::Service(place);
         true
@@ -308,7 +315,9 @@ impl Bridges {
     }
 
     /// What the shell is to do next for a bridge, if anything; their ports begin with this one.
-    pub(crate) fn order(&mut self, first: usize) -> Option<Order> {
+    pub(crate) fn order(&mut self, first: usize) -> Option<Order>
+        ensures { IfSome result (IsFrom first) }
+    {
         for place in 0..self.ports.len() {
             let port = first.checked_add(place)?;
             if let Some(order) = order_of(port, &mut self.ports[place]) {
@@ -319,8 +328,21 @@ impl Bridges {
     }
 
     /// How many bridges there are.
-    pub(crate) fn len(&self) -> usize {
+    pub(crate) fn len(&self) -> usize
+        ensures { result ≡ length self.now.ports.items }
+    {
         self.ports.len()
+    }
+
+    /// What waits at a bridge, if there is such a bridge.
+    pub(crate) fn status(&self, place: usize) -> Option<PortStatus> {
+        let port = self.ports.get(place)?;
+        Some(PortStatus {
+            in_use: !port.bridge.is_free(),
+            keys: port.bridge.waiting_to_say(),
+            octets: port.bridge.waiting_to_write(),
+            overtaken: 0,
+        })
     }
 
     /// Lets ticks pass.
@@ -339,13 +361,17 @@ impl Bridges {
     }
 
     /// Whether no bridge has a call or a connection.
-    pub(crate) fn are_free(&self) -> bool {
+    pub(crate) fn are_free(&self) -> bool
+        ensures { result ≡ are_free self.now.ports.items }
+    {
         self.ports.iter().all(|port| port.bridge.is_free())
     }
 }
 
 /// The next order of a bridge, if there is one.
-fn order_of(port: usize, bridge: &mut BridgePort) -> Option<Order> {
+fn order_of(port: usize, bridge: &mut BridgePort) -> Option<Order>
+    ensures { IfSome result (λ order. port_of order ≡ Some port) }
+{
     match (bridge.bridge.order()?, bridge.owner) {
         (bridge_ports::Order::Connect, Owner::Service(service)) => {
             Some(Order::Connect { port, service })

@@ -1,61 +1,74 @@
 //! The first line that a service is sent: who calls.
-use arrayvec::ArrayVec;
+ghost use Rattle.std.specs.Prelude.{◌≡◌, ◌<◌, [], ◌++◌, map, flat_map, OnOk};
+ghost use Rattle.service.specs.Hello.{digits_text, hello_line, hexadecimal, octet_text, octets_text};
+
 use packet_codec::Address;
+use std::alloc::AllocError;
 
-/// The octets of a first line, at most: two addresses of 15 digits, 16 octets of user data, and what is between them.
-const MOST_HELLO: usize = 80;
-
-/// A first line.
-pub(crate) type Hello = ArrayVec<u8, MOST_HELLO>;
-
-/// The line `CALL`, the calling address, the called one, user data in hexadecimal, CR LF. What is not told is `-`.
-pub(crate) fn hello_line(
+/// Writes the line `CALL`, the calling address, the called one, user data in hexadecimal, CR LF. What is not told is `-`.
+/// `AllocError` comes for want of memory, which a line with room for 80 octets does not want.
+pub(crate) fn write_hello(
+    line: &mut Vec<u8>,
     calling: Option<Address>,
     called: Option<Address>,
     user_data: &[u8],
-) -> Hello {
-    let mut line = Hello::new();
-    push(&mut line, b"CALL ");
-    push_address(&mut line, calling);
-    push(&mut line, b" ");
-    push_address(&mut line, called);
-    push(&mut line, b" ");
-    push_user_data(&mut line, user_data);
-    push(&mut line, b"\r\n");
-    line
+) -> Result<(), AllocError>
+    ensures { OnOk result (line.new.items ≡ hello_line calling called user_data.now) }
+{
+    line.clear();
+    line.extend_from_slice(b"CALL ")?;
+    push_address(line, calling)?;
+    line.extend_from_slice(b" ")?;
+    push_address(line, called)?;
+    line.extend_from_slice(b" ")?;
+    push_user_data(line, user_data)?;
+    line.extend_from_slice(b"\r\n")
 }
 
-fn push(line: &mut Hello, octets: &[u8]) {
-    for octet in octets {
-        let _ = line.try_push(*octet);
-    }
-}
-
-fn push_address(line: &mut Hello, address: Option<Address>) {
+fn push_address(line: &mut Vec<u8>, address: Option<Address>) -> Result<(), AllocError>
+    ensures { OnOk result (line.new.items ≡ line.old.items ++ digits_text address) }
+{
     match address {
-        Some(address) => {
-            for digit in address.digits() {
-                let _ = line.try_push(b'0' + digit % 10);
-            }
-        }
-        None => push(line, b"-"),
+        Some(address) => push_digits(line, address.digits()),
+        None => line.extend_from_slice(b"-"),
     }
 }
 
-fn push_user_data(line: &mut Hello, user_data: &[u8]) {
+fn push_digits(line: &mut Vec<u8>, digits: &[u8]) -> Result<(), AllocError>
+    ensures { OnOk result (line.new.items ≡ line.old.items ++ map (λ digit. 48 + digit % 10) digits.now) }
+{
+    for digit in digits {
+        line.push(b'0' + *digit % 10)?;
+    }
+    Ok(())
+}
+
+fn push_user_data(line: &mut Vec<u8>, user_data: &[u8]) -> Result<(), AllocError>
+    ensures { OnOk result (line.new.items ≡ line.old.items ++ octets_text user_data.now) }
+{
     if user_data.is_empty() {
-        push(line, b"-");
+        return line.extend_from_slice(b"-");
     }
-    for octet in user_data {
-        let _ = line.try_push(hexadecimal(octet / 16));
-        let _ = line.try_push(hexadecimal(octet % 16));
+    push_octets(line, user_data)
+}
+
+fn push_octets(line: &mut Vec<u8>, octets: &[u8]) -> Result<(), AllocError>
+    ensures { OnOk result (line.new.items ≡ line.old.items ++ flat_map octet_text octets.now) }
+{
+    for octet in octets {
+        line.extend_from_slice(&[hexadecimal(*octet / 16), hexadecimal(*octet % 16)])?;
     }
+    Ok(())
 }
 
 /// The hexadecimal digit of a number below 16.
-fn hexadecimal(number: u8) -> u8 {
-    match number {
-        0..=9 => b'0' + number,
-        _ => b'a' + number % 16 - 10,
+fn hexadecimal(number: u8) -> u8
+    requires { number < 16 }
+    ensures { result ≡ hexadecimal number }
+{
+    if number < 10 {
+        b'0' + number
+    } else {
+        87 + number
     }
 }

@@ -1,6 +1,7 @@
 //! A network with terminals for clients and built-in services.
-ghost use Rattle.std.specs.Prelude.{◌≡◌, ◌≤◌, ◌×◌, true, length, option_map, take, slice_get, None, Some, IfOk, IfSome, IfNone};
+ghost use Rattle.std.specs.Prelude.{◌≡◌, ◌≤◌, ◌+◌, ◌×◌, true, length, min, take, slice_get, None, Some, IfOk, IfSome, IfNone};
 ghost use Rattle.net_events.specs.Network.{all_elapsed};
+ghost use Rattle.service.specs.Bridging.{are_free};
 ghost use Rattle.service.specs.Calls.{call_of};
 ghost use Rattle.service.specs.Orders.{after_order, port_of};
 ghost use Rattle.service.specs.Places.{AreApart};
@@ -81,7 +82,8 @@ pub struct Service<L: Line> {
 
 impl<L: Line> Service<L> {
     ghost use Rattle.service.specs.Terminals.{AllChange, HasCome, changed_at, elapsed, ended, freed, has_client, are_deserted, has_stopped, heard, is_free_in, left, may_take, status_of, written};
-    ghost use Rattle.std.specs.Prelude.{position, is_some, if◌then◌else◌};
+    ghost use Rattle.service.specs.declared.terminal.Terminal.{Terminal};
+    ghost use Rattle.std.specs.Prelude.{position, is_some, if◌then◌else◌, ◌&&◌};
 
     /// A service without clients on a network of so many lines: nobody is at the terminals of the PADs.
     pub fn new(
@@ -274,7 +276,8 @@ impl<L: Line> Service<L> {
 
     /// Whether it has stopped: it was given time enough, or nobody is there and the network is at rest.
     pub fn has_stopped(&self) -> bool
-        ensures { result ≡ has_stopped self.now.stopping self.now.terminals.items self.now.exchange.net }
+        ensures { result ≡ has_stopped self.now.stopping self.now.terminals.items (are_free self.now.bridges.ports.items)
+            self.now.exchange.net }
     {
         match self.stopping {
             None => false,
@@ -318,7 +321,7 @@ impl<L: Line> Service<L> {
 
     /// Whether it takes an octet of the client of a port.
     pub fn wants(&self, port: usize) -> bool
-        ensures { result ≡ may_take (slice_get self.now.terminals.items port) }
+        ensures { (p : Terminal) → slice_get self.now.terminals.items port ≡ Some p → result ≡ may_take (Some p) }
     {
         match self.terminals.get(port) {
             Some(terminal) => terminal.wants(),
@@ -358,24 +361,26 @@ impl<L: Line> Service<L> {
     /// Gives back all that it has.
     pub fn release(self) {}
 
-    /// How many ports there are.
+    /// How many ports there are: those of terminals, and after them those of bridges.
     pub fn ports(&self) -> usize
-        ensures { result ≡ length self.now.terminals.items }
+        ensures { result ≡ min (length self.now.terminals.items + length self.now.bridges.ports.items) usize.MAX }
     {
-        self.terminals.len()
+        self.terminals.len().saturating_add(self.bridges.len())
     }
 
-    /// What waits at a port, if there is such a port.
+    /// What waits at a port, if there is such a port. The keys of a bridge are the octets of its peer that wait to be said.
     pub fn status(&self, port: usize) -> Option<PortStatus>
-        ensures { result ≡ option_map status_of (slice_get self.now.terminals.items port) }
+        ensures { (p : Terminal) → slice_get self.now.terminals.items port ≡ Some p → result ≡ Some (status_of p) }
     {
-        let terminal = self.terminals.get(port)?;
-        Some(PortStatus {
-            in_use: !terminal.is_free(),
-            keys: terminal.port.waiting_keys(),
-            octets: terminal.port.waiting_octets(),
-            overtaken: terminal.overtaken,
-        })
+        match self.terminals.get(port) {
+            Some(terminal) => Some(PortStatus {
+                in_use: !terminal.is_free(),
+                keys: terminal.port.waiting_keys(),
+                octets: terminal.port.waiting_octets(),
+                overtaken: terminal.overtaken,
+            }),
+            None => self.bridges.status(self.bridge_place(port)),
+        }
     }
 
     /// How many places for calls the hosts have, one for each logical channel.
