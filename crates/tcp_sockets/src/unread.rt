@@ -71,7 +71,8 @@ impl Unread {
         ensures ok { IfOk result (λ count. length self.new ≡ count) }
         ensures err { OnErr result (self.new ≡ []) }
     {
-        self.clear();
+        self.from = 0;
+        self.to = 0;
         let count = stream.read(self.octets.as_mut_slice())?;
         self.to = count;
         Ok(count)
