@@ -2,9 +2,7 @@
 use crate::bridging::BoundBridges;
 use net_config::{Config, NodeKind, TerminalsConfig};
 use service::{Bindings, BuiltIn, HostBinding, Mode, PadBinding, TerminalsBinding};
-use service_files::{
-    HostService, ServiceFile, TerminalsTable, channels_of, last_of, node_of,
-};
+use service_files::{HostService, ServiceFile, TerminalsTable, channels_of, last_of, node_of};
 use std::alloc::{AllocError, Global};
 use x3_params::Params;
 

@@ -122,7 +122,9 @@ impl Log {
     /// A port has no connection any more.
     pub(crate) fn leave(&mut self, rt: &HostRuntime, port: usize, peer: Peer) {
         let line = match peer {
-            Peer::Client(at) | Peer::Caller(at) => format!(in rt.alloc(); "leave port={port} from={at}"),
+            Peer::Client(at) | Peer::Caller(at) => format!(in rt.alloc();
+                "leave port={port} from={at}"
+            ),
             Peer::Service(at) => format!(in rt.alloc(); "leave port={port} to={at}"),
         };
         self.write(rt, line);

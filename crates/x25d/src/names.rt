@@ -27,7 +27,12 @@ impl<'a> Names<'a> {
     /// The address of the line whose DTE a node is; none if it has none.
     fn address(&self, node: usize) -> &'a str {
         let name = self.node(node);
-        match self.config.lines.iter().find(|line| line.dte.as_str() == name) {
+        match self
+            .config
+            .lines
+            .iter()
+            .find(|line| line.dte.as_str() == name)
+        {
             Some(line) if !line.address.is_empty() => line.address.as_str(),
             _ => "unknown",
         }
@@ -53,10 +58,18 @@ impl<'a> Names<'a> {
     }
 
     /// A call at a host, in words.
-    pub(crate) fn call(&self, alloc: Global, call: &CallStatus) -> Result<CallLine<'a>, AllocError> {
+    pub(crate) fn call(
+        &self,
+        alloc: Global,
+        call: &CallStatus,
+    ) -> Result<CallLine<'a>, AllocError> {
         let far = digits_or_unknown(alloc, call.far.as_ref())?;
         let here = String::from_str(alloc, self.address(call.node))?;
-        let (from, to) = if call.is_ours { (here, far) } else { (far, here) };
+        let (from, to) = if call.is_ours {
+            (here, far)
+        } else {
+            (far, here)
+        };
         Ok(CallLine {
             from,
             to,
