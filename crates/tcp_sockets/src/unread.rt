@@ -18,11 +18,11 @@ pub(crate) struct Unread {
 }
 
 impl Model for Unread {
-    ghost use Rattle.std.specs.Prelude.{List, ℕ, ◌-◌, ◌≤◌, take, drop, length};
+    ghost use Rattle.std.specs.Prelude.{List, ℕ, ◌≤◌, take, drop, length};
 
     ghost Value = { List ℕ };
 
-    ghost view = { λ u. take (u.to - u.from) (drop u.from u.octets.items) };
+    ghost view = { λ u. drop u.from (take u.to u.octets.items) };
 
     ghost invariant = { λ u. (u.from ≤ u.to) × (u.to ≤ length u.octets.items) };
 }
@@ -56,10 +56,11 @@ impl Unread {
     pub(crate) fn as_slice(&self) -> &[u8]
         ensures { result.now ≡ self.now }
     {
-        &self.octets[self.from..self.to]
+        &self.octets[..self.to][self.from..]
     }
 
     /// Drops the first `count` octets; all, if there are fewer.
+    #[tactic(auto, using(crate::proofs::Fronts::drop_within))]
     pub(crate) fn drop_front(&mut self, count: usize)
         ensures { self.new ≡ drop count self.old }
     {
