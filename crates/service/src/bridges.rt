@@ -123,14 +123,10 @@ impl BridgePort {
 
 impl Caller {
     fn new(binding: &CallerBinding<'_>) -> Self {
-        let mut user_data = ArrayVec::new();
-        for octet in binding.user_data {
-            let _ = user_data.try_push(*octet);
-        }
         Caller {
             node: binding.node,
             address: binding.call,
-            user_data,
+            user_data: kept(binding.user_data),
             terms: binding.terms,
         }
     }
@@ -140,9 +136,16 @@ impl Caller {
         Event::Call {
             node: self.node,
             address: self.address,
-            user_data: self.user_data.clone(),
+            user_data: kept(self.user_data.as_slice()),
         }
     }
+}
+
+/// User data, kept in place; none if there are over 16 octets.
+fn kept(user_data: &[u8]) -> ArrayVec<u8, 16> {
+    let mut kept = ArrayVec::new();
+    let _ = kept.try_extend_from_slice(user_data);
+    kept
 }
 
 impl Bridges {

@@ -244,7 +244,7 @@ impl<L: Line> Exchange<L> {
                     self.seconds,
                     answer.notes.as_slice(),
                 );
-                self.calls.took(at, answer.text.len());
+                self.calls.take(at, answer.outcome, answer.text.len());
                 let done = !is_idle(answer);
                 hand_over(bridge, answer.outcome, answer.text.as_slice());
                 done

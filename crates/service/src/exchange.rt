@@ -238,7 +238,7 @@ impl<L: Line> Exchange<L> {
     }
 
     /// Asks something of the call of a channel, and says whether that was done.
-    fn ask(&mut self, at: HostChannel, request: HostRequest) -> bool
+    pub(crate) fn ask(&mut self, at: HostChannel, request: HostRequest) -> bool
         ensures { Passes L.service result self.old.net self.new.net }
     {
         let event = Event::Ask {

@@ -1,5 +1,5 @@
 use Rattle.service.proofs.Bridged.{carries_none, carries_packet, carries_no_take}
-use Rattle.service.proofs.bridging.Exchange.take_packet.Goals as goal
+use Rattle.service.proofs.exchange.Exchange.take_packet.Goals as goal
 
 pub returns-then-not-takes : goal.returns-then-not-takes
 returns-then-not-takes g c = carries_none g.L.Line.service c.args.at _ _ _

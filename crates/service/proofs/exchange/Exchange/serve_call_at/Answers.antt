@@ -1,5 +1,5 @@
 use Rattle.service.proofs.Bridged.{carries_either, carries_same}
-use Rattle.service.proofs.bridging.Exchange.serve_call_at.Goals as goal
+use Rattle.service.proofs.exchange.Exchange.serve_call_at.Goals as goal
 
 pub returns : goal.returns
 returns g c =

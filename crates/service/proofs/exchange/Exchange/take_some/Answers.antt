@@ -1,6 +1,6 @@
 use Rattle.std.proofs.Common.{true, false}
 use Rattle.service.proofs.Bridged.{carries_with, carries_more}
-use Rattle.service.proofs.bridging.Exchange.take_some.Goals as goal
+use Rattle.service.proofs.exchange.Exchange.take_some.Goals as goal
 
 pub returns-then-not-take_packet : goal.returns-then-not-take_packet
 returns-then-not-take_packet g c =

@@ -1,7 +1,7 @@
 use Rattle.std.proofs.Common.{ap, ◌∙◌}
 use Rattle.service.specs.Bridging.{said_of}
 use Rattle.service.proofs.Bridged.{carries_ask, carries_refused, carries_with}
-use Rattle.service.proofs.bridging.Exchange.say_end.Goals as goal
+use Rattle.service.proofs.exchange.Exchange.say_end.Goals as goal
 
 pub returns-then-not-happen : goal.returns-then-not-happen
 returns-then-not-happen g c =

@@ -1,7 +1,7 @@
 use Rattle.std.proofs.Common.{refl}
 use Rattle.packet_host.specs.declared.request.HostRequest.TheVariants.{Answer}
 use Rattle.service.proofs.Bridged.{carries_ask}
-use Rattle.service.proofs.bridging.Exchange.answer_for.Goals as goal
+use Rattle.service.proofs.exchange.Exchange.answer_for.Goals as goal
 
 pub returns : goal.returns
 returns g c =

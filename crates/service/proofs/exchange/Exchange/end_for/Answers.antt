@@ -1,5 +1,5 @@
 use Rattle.service.proofs.Bridged.{carries_ask}
-use Rattle.service.proofs.bridging.Exchange.end_for.Goals as goal
+use Rattle.service.proofs.exchange.Exchange.end_for.Goals as goal
 
 pub returns : goal.returns
 returns g c =

@@ -1,7 +1,7 @@
 use Rattle.std.proofs.Common.{ap, ◌∙◌, ◌&&◌, false}
 use Rattle.service.specs.Bridging.{said_of}
 use Rattle.service.proofs.Bridged.{carries_none, carries_refused, carries_say}
-use Rattle.service.proofs.bridging.Exchange.say_next.Goals as goal
+use Rattle.service.proofs.exchange.Exchange.say_next.Goals as goal
 
 pub returns-then-not-fill_message : goal.returns-then-not-fill_message
 returns-then-not-fill_message g c = carries_none g.L.Line.service c.args.at _ _ _
