@@ -1,6 +1,6 @@
 //! The bridges of a service: connections of services and callers, and the calls at hosts that they have.
-ghost use Rattle.std.specs.Prelude.{◌≡◌, ◌≤◌, length, IfSome};
-ghost use Rattle.service.specs.Bridging.{are_free};
+ghost use Rattle.std.specs.Prelude.{◌≡◌, ◌≤◌, true, length, IfSome};
+ghost use Rattle.service.specs.Bridging.{are_free, is_calling};
 ghost use Rattle.service.specs.Orders.{IsFrom, port_of};
 
 use crate::hello::write_hello;
@@ -132,7 +132,9 @@ impl Caller {
     }
 
     /// The event of its call.
-    pub(crate) fn call(&self) -> Event {
+    pub(crate) fn call(&self) -> Event
+        ensures { is_calling result ≡ true }
+    {
         Event::Call {
             node: self.node,
             address: self.address,
@@ -142,7 +144,7 @@ impl Caller {
 }
 
 /// User data, kept in place; none if there are over 16 octets.
-fn kept(user_data: &[u8]) -> ArrayVec<u8, 16> {
+pub(crate) fn kept(user_data: &[u8]) -> ArrayVec<u8, 16> {
     let mut kept = ArrayVec::new();
     let _ = kept.try_extend_from_slice(user_data);
     kept
