@@ -50,8 +50,8 @@ pub(crate) fn serve_terminals<L: Line>(
     places: &[Place],
     terminals: &mut Vec<Terminal>,
 ) -> bool
-    requires { length terminals.old.items ≡ length places.now }
-    requires { AreApart places.now }
+    requires seated { length terminals.old.items ≡ length places.now }
+    requires apart { AreApart places.now }
     ensures { ServesBelow L.service places.now (length terminals.old.items) result exchange.old.net exchange.new.net
         terminals.old.items terminals.new.items }
 {
