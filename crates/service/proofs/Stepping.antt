@@ -16,6 +16,7 @@ use Rattle.net_events.specs.Network.{Network}
 use Rattle.net_events.specs.NextDue.{DueTimer}
 use Rattle.net_nodes.specs.Due.{expiry_of}
 use Rattle.line_sim.specs.Stepping.{lent}
+use Rattle.service.specs.declared.place.Place.{Place}
 use Rattle.service.specs.Serving.{is_expiry}
 use Rattle.service.specs.Steps.{Step, Makes, Steps, is_idle, is_idle_answer, AreIdle, HasTried, is_at_terminal, shown_by, typed_by, told_by, shown, typed, told, IsSilent, Does, PassesBy, Passes}
 
@@ -23,33 +24,33 @@ pub steps-append : (L : LineService) (s m t : Network) (xs ys : List Step) → S
 steps-append L s m t [] ys none more = subst (λ n. Steps L n ys t) (sym none) more
 steps-append L s m t (x ∷ xs) ys (mid, stepped, rest) more = (mid, stepped, steps-append L mid m t xs ys rest more)
 
-pub shown-append : (pad number : ℕ) (xs ys : List Step) → shown pad number (xs ++ ys) ≡ shown pad number xs ++ shown pad number ys
-shown-append pad number xs ys = flat_map-append (λ (step : Step). shown_by pad number step.event step.answer) xs ys
+pub shown-append : (at : Place) (xs ys : List Step) → shown at (xs ++ ys) ≡ shown at xs ++ shown at ys
+shown-append at xs ys = flat_map-append (λ (step : Step). shown_by at step.event step.answer) xs ys
 
-pub typed-append : (pad number : ℕ) (xs ys : List Step) → typed pad number (xs ++ ys) ≡ typed pad number xs ++ typed pad number ys
-typed-append pad number xs ys = flat_map-append (λ (step : Step). typed_by pad number step.event step.answer) xs ys
+pub typed-append : (at : Place) (xs ys : List Step) → typed at (xs ++ ys) ≡ typed at xs ++ typed at ys
+typed-append at xs ys = flat_map-append (λ (step : Step). typed_by at step.event step.answer) xs ys
 
-pub told-append : (pad number : ℕ) (xs ys : List Step) → told pad number (xs ++ ys) ≡ told pad number xs ++ told pad number ys
-told-append pad number xs ys = flat_map-append (λ (step : Step). told_by pad number step.event step.answer) xs ys
+pub told-append : (at : Place) (xs ys : List Step) → told at (xs ++ ys) ≡ told at xs ++ told at ys
+told-append at xs ys = flat_map-append (λ (step : Step). told_by at step.event step.answer) xs ys
 
-pub silent-none : (pad number : ℕ) → IsSilent pad number []
-silent-none pad number = record { shows = refl; types = refl; tells = refl }
+pub silent-none : (at : Place) → IsSilent at []
+silent-none at = record { shows = refl; types = refl; tells = refl }
 
-pub silent-append : (pad number : ℕ) (xs ys : List Step) → IsSilent pad number xs → IsSilent pad number ys → IsSilent pad number (xs ++ ys)
-silent-append pad number xs ys one two = record {
-  shows = shown-append pad number xs ys ∙ (λ i. one.shows i ++ two.shows i);
-  types = typed-append pad number xs ys ∙ (λ i. one.types i ++ two.types i);
-  tells = told-append pad number xs ys ∙ (λ i. one.tells i ++ two.tells i);
+pub silent-append : (at : Place) (xs ys : List Step) → IsSilent at xs → IsSilent at ys → IsSilent at (xs ++ ys)
+silent-append at xs ys one two = record {
+  shows = shown-append at xs ys ∙ (λ i. one.shows i ++ two.shows i);
+  types = typed-append at xs ys ∙ (λ i. one.types i ++ two.types i);
+  tells = told-append at xs ys ∙ (λ i. one.tells i ++ two.tells i);
 }
 
 -- one step that is nothing there
-pub silent_step : (pad number : ℕ) (event : Event) (answer : Result Answer StepFault) → shown_by pad number event answer ≡ []
-    → typed_by pad number event answer ≡ [] → told_by pad number event answer ≡ []
-    → IsSilent pad number (record { event = event; answer = answer } ∷ [])
-silent_step pad number event answer shows types tells = record {
-  shows = append-nil (shown_by pad number event answer) ∙ shows;
-  types = append-nil (typed_by pad number event answer) ∙ types;
-  tells = append-nil (told_by pad number event answer) ∙ tells;
+pub silent_step : (at : Place) (event : Event) (answer : Result Answer StepFault) → shown_by at event answer ≡ []
+    → typed_by at event answer ≡ [] → told_by at event answer ≡ []
+    → IsSilent at (record { event = event; answer = answer } ∷ [])
+silent_step at event answer shows types tells = record {
+  shows = append-nil (shown_by at event answer) ∙ shows;
+  types = append-nil (typed_by at event answer) ∙ types;
+  tells = append-nil (told_by at event answer) ∙ tells;
 }
 
 -- ---- idle steps, and events that were tried
@@ -102,27 +103,27 @@ was_done done answer is some = is_false (is_idle answer) (sym is ∙ some)
 -- ---- what happens elsewhere
 
 -- it shows nothing at a terminal, types nothing there and tells nothing of it
-pub elsewhere : (pad number : ℕ) (event : Event) (answer : Result Answer StepFault) → is_at_terminal event ≡ false
-    → IsSilent pad number (record { event = event; answer = answer } ∷ [])
-elsewhere pad number (AtTerminal node terminal event) answer e = cc
-elsewhere pad number (Call node address octets) answer e = silent_step pad number (Call node address octets) answer refl refl refl
-elsewhere pad number (Ask node channel request) answer e = silent_step pad number (Ask node channel request) answer refl refl refl
-elsewhere pad number (Take node channel) answer e = silent_step pad number (Take node channel) answer refl refl refl
-elsewhere pad number (Deliver line direction) answer e = silent_step pad number (Deliver line direction) answer refl refl refl
-elsewhere pad number (Lose line direction) answer e = silent_step pad number (Lose line direction) answer refl refl refl
-elsewhere pad number (Expire node line timer) answer e = silent_step pad number (Expire node line timer) answer refl refl refl
-elsewhere pad number (Relink line) answer e = silent_step pad number (Relink line) answer refl refl refl
-elsewhere pad number (GivesUp line) answer e = silent_step pad number (GivesUp line) answer refl refl refl
-elsewhere pad number (Restart node) answer e = silent_step pad number (Restart node) answer refl refl refl
+pub elsewhere : (at : Place) (event : Event) (answer : Result Answer StepFault) → is_at_terminal event ≡ false
+    → IsSilent at (record { event = event; answer = answer } ∷ [])
+elsewhere at (AtTerminal node terminal event) answer e = cc
+elsewhere at (Call node address octets) answer e = silent_step at (Call node address octets) answer refl refl refl
+elsewhere at (Ask node channel request) answer e = silent_step at (Ask node channel request) answer refl refl refl
+elsewhere at (Take node channel) answer e = silent_step at (Take node channel) answer refl refl refl
+elsewhere at (Deliver line direction) answer e = silent_step at (Deliver line direction) answer refl refl refl
+elsewhere at (Lose line direction) answer e = silent_step at (Lose line direction) answer refl refl refl
+elsewhere at (Expire node line timer) answer e = silent_step at (Expire node line timer) answer refl refl refl
+elsewhere at (Relink line) answer e = silent_step at (Relink line) answer refl refl refl
+elsewhere at (GivesUp line) answer e = silent_step at (GivesUp line) answer refl refl refl
+elsewhere at (Restart node) answer e = silent_step at (Restart node) answer refl refl refl
 
 pub passes_none : (L : LineService) (more : Bool) (s : Network) → Passes L more s s
-passes_none L more s = ([], record { made = refl; silent = λ pad number. silent-none pad number; idle = λ none. refl })
+passes_none L more s = ([], record { made = refl; silent = λ at. silent-none at; idle = λ none. refl })
 
 pub passes_by-then : (L : LineService) (a b more : Bool) (s m t : Network) (xs ys : List Step) → (more ≡ false → a ≡ false)
     → (more ≡ false → b ≡ false) → PassesBy L xs a s m → PassesBy L ys b m t → PassesBy L (xs ++ ys) more s t
 passes_by-then L a b more s m t xs ys no_a no_b one two = record {
   made = steps-append L s m t xs ys one.made two.made;
-  silent = λ pad number. silent-append pad number xs ys (one.silent pad number) (two.silent pad number);
+  silent = λ at. silent-append at xs ys (one.silent at) (two.silent at);
   idle = λ none. idle-append xs ys (one.idle (no_a none)) (two.idle (no_b none));
 }
 
@@ -146,7 +147,7 @@ pub passes_step : (L : LineService) (event : Event) (done : Bool) (s t : Network
     → (does : Does L event done s t) → PassesBy L (record { event = event; answer = does.answer } ∷ []) done s t
 passes_step L event done s t other does = record {
   made = (t, does.stepped, refl);
-  silent = λ pad number. elsewhere pad number event does.answer other;
+  silent = λ at. elsewhere at event does.answer other;
   idle = λ none. idle_step event does.answer (not_done done does.answer does.done_is none);
 }
 
