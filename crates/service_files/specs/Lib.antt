@@ -1,3 +1,5 @@
 pub mod Addresses
-pub mod Bindings
+pub mod Reads
 pub mod Says
+pub mod Bindings
+pub mod Checks

@@ -22,8 +22,17 @@ pub enum BuiltIn {
     Discard,
 }
 
-/// A port on which terminals of a PAD are had.
+/// What becomes of a call that is reset.
 #[derive(Clone, Copy)]
+pub enum AtReset {
+    /// It is cleared.
+    Clear,
+    /// It goes on, with a gap.
+    Continue,
+}
+
+/// A port on which terminals of a PAD are had.
+#[derive(Drop)]
 pub struct TerminalsTable<'a> {
     pub pad: &'a str,
     pub listen: SocketAddr,
@@ -34,14 +43,49 @@ pub struct TerminalsTable<'a> {
     pub greeting: Option<&'a str>,
     /// How many ticks without an octet either way end the connection; 0: none do.
     pub idle: u16,
-    pub allow: Allow<'a>,
+    pub allow: Allow,
+}
+
+/// A service that a connection leads to.
+#[derive(Clone, Copy)]
+pub struct Connect {
+    pub at: SocketAddr,
+    /// Whether a line that tells of the call is said first.
+    pub hello: bool,
+    /// After how many ticks a connection must stand.
+    pub wait: u16,
+    pub at_reset: AtReset,
+    /// How many ticks of quiet end the call after the service ended its side.
+    pub linger: u16,
+}
+
+/// What serves the incoming calls of a host.
+#[derive(Clone, Copy)]
+pub enum HostService {
+    BuiltIn(BuiltIn),
+    Connect(Connect),
 }
 
 /// What an incoming call at a host is.
 #[derive(Clone, Copy)]
 pub struct ServiceTable<'a> {
     pub host: &'a str,
-    pub builtin: BuiltIn,
+    pub service: HostService,
+}
+
+/// A port at which each connection places a call from a host.
+#[derive(Drop)]
+pub struct CallerTable<'a> {
+    pub host: &'a str,
+    pub listen: SocketAddr,
+    /// The address that is called, 1 to 15 digits.
+    pub call: &'a str,
+    /// Up to 16 octets.
+    pub user_data: Vec<u8>,
+    pub at_reset: AtReset,
+    /// How many ticks of quiet end the call after the caller ended its side.
+    pub linger: u16,
+    pub allow: Allow,
 }
 
 /// What a service file says.
@@ -56,4 +100,5 @@ pub struct ServiceFile<'a> {
     pub connections: u16,
     pub terminals: Vec<TerminalsTable<'a>>,
     pub services: Vec<ServiceTable<'a>>,
+    pub callers: Vec<CallerTable<'a>>,
 }

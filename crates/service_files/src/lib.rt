@@ -4,14 +4,24 @@
 mod addresses;
 mod checking;
 mod file;
+mod hosts;
+mod keys;
+mod places;
 mod reading;
 mod refusal;
 mod rules;
 mod telling;
+mod values;
 
 pub use addresses::{Allow, Prefix};
 pub use checking::{check_service, network_name};
-pub use file::{BuiltIn, Mode, ServiceFile, ServiceTable, TerminalsTable};
-pub use reading::read_service;
+pub use file::{
+    AtReset, BuiltIn, CallerTable, Connect, HostService, Mode, ServiceFile, ServiceTable,
+    TerminalsTable,
+};
+pub use reading::{read_document, read_service};
 pub use refusal::Refusal;
-pub use rules::{BrokenBinding, ServiceRule, TerminalsRule, first_broken_binding, terminals_in};
+pub use rules::{
+    BrokenBinding, CallerRule, ServiceRule, TerminalsRule, channels_of, first_broken_binding,
+    last_of, node_of, terminals_in,
+};
