@@ -46,7 +46,7 @@ pub fn read_service<'a>(
 ) -> Result<ServiceFile<'a>, Refusal>
     ensures { Reads (SaysFile (table_view document.entry.now)) result }
 {
-    look_at(alloc, out, Place::Document, DOCUMENT, document)?;
+    look_at(alloc, out, Place::Document, &DOCUMENT, document)?;
     refuse_keys(out, Place::Document, document, &LATER, "cannot be had yet")?;
     Ok(ServiceFile {
         network: text_at(document, "network").unwrap_or(""),
@@ -73,7 +73,7 @@ fn read_connections(alloc: Global, out: &mut String, document: &Table) -> Result
 {
     match table_at(document, "limits") {
         Some(limits) => {
-            look_at(alloc, out, Place::Limits, LIMITS, limits)?;
+            look_at(alloc, out, Place::Limits, &LIMITS, limits)?;
             Ok(number_at(limits, "connections").unwrap_or(CONNECTIONS))
         }
         None => Ok(CONNECTIONS),
@@ -116,7 +116,7 @@ fn read_binding<'a>(
 ) -> Result<TerminalsTable<'a>, Refusal>
     ensures { Reads (SaysTerminals (table_view table.entry.now)) result }
 {
-    look_at(alloc, out, place, TERMINALS, table)?;
+    look_at(alloc, out, place, &TERMINALS, table)?;
     Ok(TerminalsTable {
         pad: text_at(table, "pad").unwrap_or(""),
         first: number_at(table, "first").unwrap_or(0),
