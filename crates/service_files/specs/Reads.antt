@@ -13,6 +13,11 @@ abbrev pub Reads : {A : Type 0} → (A → Type 0) → Result A Refusal → Type
 Reads Says (Ok x) = Says x
 Reads Says (Err refusal) = (refusal ≡ OutOfMemory) ⊎ ((refusal ≡ Told) × ((x : _) → ¬ Says x))
 
+-- the same of what is given, seen as a value
+abbrev pub ReadsAs : {A B : Type 0} → (A → B) → (B → Type 0) → Result A Refusal → Type 0
+ReadsAs value Says (Ok x) = Says (value x)
+ReadsAs value Says (Err refusal) = (refusal ≡ OutOfMemory) ⊎ ((refusal ≡ Told) × ((y : _) → ¬ Says y))
+
 -- the octets are a text, which is a TOML document
 abbrev pub IsDocument : List ℕ → Members → Type 0
 IsDocument octets document = IsUtf8 octets × (parse_document octets ≡ Some document)

@@ -1,7 +1,7 @@
 //! How a service file is read.
 ghost use Rattle.std.specs.Prelude.{◌≡◌, option_map};
 ghost use Rattle.toml.specs.View.{view, table_view, items_view};
-ghost use Rattle.service_files.specs.Reads.{Reads};
+ghost use Rattle.service_files.specs.Reads.{Reads, ReadsAs};
 ghost use Rattle.service_files.specs.Reads.{EachSays, IsDocument, IsTable};
 ghost use Rattle.service_files.specs.Says.{mode_of, SaysControl, SaysConnections, SaysTerminals, SaysService, SaysCaller, SaysFile};
 
@@ -21,7 +21,7 @@ const CONNECTIONS: u16 = 64;
 
 /// Reads the octets of a service file as TOML. If they are none, it is added to `out` where and why.
 pub fn read_document(alloc: Global, out: &mut String, octets: &[u8]) -> Result<Table, Refusal>
-    ensures { Reads (λ document. IsDocument octets.now (table_view document)) result }
+    ensures { ReadsAs table_view (IsDocument octets.now) result }
 {
     let Some(text) = text_of(octets) else {
         out.push_str("the text is no UTF-8")?;
