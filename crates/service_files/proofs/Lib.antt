@@ -1,4 +1,4 @@
 pub mod Each
 pub mod Prefixes
-pub mod Checking
+pub mod WhyRefused
 mod Fitting
