@@ -1,12 +1,10 @@
 -- Octets are carried in order, each once, whatever is done at a bridge.
-use Rattle.std.proofs.Common.{◌≡◌, ◌≤◌, ℕ, Bool, true, false, not, ◌&&◌, List, [], ◌∷◌, ◌++◌, refl, sym, ap, ◌∙◌, append_assoc, append-nil, cond, eqb, length, flat_map, take, drop, min, ◌-◌, arith}
+use Rattle.std.proofs.Common.{◌≡◌, ℕ, Bool, true, false, not, ◌&&◌, List, [], ◌∷◌, ◌++◌, refl, sym, ap, ◌∙◌, append_assoc, append-nil, cond, eqb, length, flat_map, take, min, ◌-◌, arith}
 use Rattle.std.proofs.Math.Nat.{min_comm}
 use Rattle.std.proofs.lemmas.Bool.{eqb-true}
 use Rattle.std.proofs.lemmas.List.{take-append-drop, take_min}
-use Rattle.bridge_ports.specs.declared.phases.FarSide.TheVariants.{EndTaken}
 use Rattle.bridge_ports.specs.declared.phases.Phases.{Phases}
-use Rattle.bridge_ports.specs.Phases.{broken, own_moved}
-use Rattle.bridge_ports.specs.Bridges.{BridgeState, fits, heard, is_end, is_taking, listens, said, taken, written}
+use Rattle.bridge_ports.specs.Bridges.{BridgeState, fits, is_end, is_taking, listens}
 use Rattle.bridge_ports.specs.Laws.{Deed, hears, says, takes, writes, turns, after_deed, after_deeds, heard_by, said_by, taken_by, written_by, all_by, OctetsInAreSaid, OctetsTakenAreWritten, IsBeginning, BridgesCarry, BlocksAreWritten}
 
 heard_input : (is : Bool) (octets : List ℕ) (b : BridgeState)

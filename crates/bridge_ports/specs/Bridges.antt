@@ -1,5 +1,5 @@
 -- A bridge: the octets that wait either way, what is to be done next, and what its calls make of it.
-use Rattle.std.specs.Prelude.{ℕ, ◌+◌, ◌-◌, ◌==◌, ◌&&◌, ◌||◌, min, Bool, true, false, nat_lt, nat_le, not, List, [], ◌∷◌, ◌++◌, take, drop, length, Option, Some, None, if◌then◌else◌}
+use Rattle.std.specs.Prelude.{ℕ, ◌+◌, ◌-◌, ◌==◌, ◌&&◌, ◌||◌, min, Bool, nat_lt, nat_le, not, List, [], ◌++◌, take, drop, length, Option, Some, None, if◌then◌else◌}
 use Rattle.octet_rings.specs.Places.{most_octets}
 use Rattle.bridge_ports.specs.declared.bridge.Turn.{Turn}
 use Rattle.bridge_ports.specs.declared.bridge.Turn.TheVariants as turn
@@ -9,14 +9,14 @@ use Rattle.bridge_ports.specs.declared.phases.BridgeTerms.{BridgeTerms}
 use Rattle.bridge_ports.specs.declared.phases.CallPhase.{CallPhase}
 use Rattle.bridge_ports.specs.declared.phases.CallPhase.TheVariants.{ToAnswer, ToRefuse, ToPlace, Standing, ToClear}
 use Rattle.bridge_ports.specs.declared.phases.Connection.{Connection}
-use Rattle.bridge_ports.specs.declared.phases.Connection.TheVariants.{Wanted, Awaited, Open, Flushing, Closing, Closed}
+use Rattle.bridge_ports.specs.declared.phases.Connection.TheVariants.{Wanted, Open, Flushing, Closing, Closed}
 use Rattle.bridge_ports.specs.declared.phases.FarEnd.{FarEnd}
 use Rattle.bridge_ports.specs.declared.phases.FarSide.{FarSide}
-use Rattle.bridge_ports.specs.declared.phases.FarSide.TheVariants.{Coming, EndTaken, Shut}
+use Rattle.bridge_ports.specs.declared.phases.FarSide.TheVariants.{EndTaken, Shut}
 use Rattle.bridge_ports.specs.declared.phases.OwnSide.{OwnSide}
 use Rattle.bridge_ports.specs.declared.phases.OwnSide.TheVariants.{Speaking, Ended, EndSaid, EndConfirmed}
 use Rattle.bridge_ports.specs.declared.phases.Phases.{Phases}
-use Rattle.bridge_ports.specs.Phases.{absent, no_terms, rung, attached, is_idle, is_standing, is_absent, is_open, is_flushing, is_speaking, is_coming, broken, timed, far_ended, own_moved, connection_awaited}
+use Rattle.bridge_ports.specs.Phases.{absent, no_terms, rung, attached, is_idle, is_standing, is_absent, is_open, is_flushing, is_speaking, is_coming, broken, timed, own_moved, connection_awaited}
 
 -- what it is set to, the octets of the peer that wait to be said, those taken that wait to be written, and what the call
 -- and the connection are at

@@ -1,7 +1,7 @@
 -- The octets of a bridge over all its calls.
-use Rattle.std.specs.Prelude.{◌≡◌, ℕ, Bool, not, ◌&&◌, List, [], ◌∷◌, ◌++◌, take, flat_map, if◌then◌else◌}
+use Rattle.std.specs.Prelude.{◌≡◌, ℕ, Bool, ◌&&◌, List, [], ◌∷◌, ◌++◌, take, flat_map, if◌then◌else◌}
 use Rattle.bridge_ports.specs.declared.phases.Phases.{Phases}
-use Rattle.bridge_ports.specs.Bridges.{BridgeState, fits, heard, is_end, is_taking, listens, said, taken, written}
+use Rattle.bridge_ports.specs.Bridges.{BridgeState, fits, heard, is_taking, listens, said, taken, written}
 
 -- what is done at a bridge: octets of the peer, a message that was said, a packet that was taken, octets that were written,
 -- and all else, which changes neither what waits to be said nor what waits to be written

@@ -1,5 +1,5 @@
 -- What becomes of what, row by row.
-use Rattle.std.specs.Prelude.{◌≡◌, ◌≢◌, ◌⊎◌, ℕ, ◌≤◌, ◌<◌, Bool, true, false, List, [], ◌∷◌, Some, None, length}
+use Rattle.std.specs.Prelude.{◌≡◌, ◌≢◌, ◌⊎◌, ℕ, ◌≤◌, ◌<◌, true, false, List, [], Some, None, length}
 use Rattle.bridge_ports.specs.declared.bridge.Turn.TheVariants as turn
 use Rattle.bridge_ports.specs.declared.bridge.Order.TheVariants.{Connect, EndWriting, Close}
 use Rattle.bridge_ports.specs.declared.phases.AtReset.TheVariants.{ClearCall, Continue}
@@ -9,10 +9,10 @@ use Rattle.bridge_ports.specs.declared.phases.Connection.TheVariants as connecti
 use Rattle.bridge_ports.specs.declared.phases.FarEnd.{FarEnd}
 use Rattle.bridge_ports.specs.declared.phases.FarEnd.TheVariants.{Pad}
 use Rattle.bridge_ports.specs.declared.phases.FarSide.TheVariants.{Coming, EndTaken, Shut}
-use Rattle.bridge_ports.specs.declared.phases.OwnSide.TheVariants.{Speaking, Ended, EndSaid, EndConfirmed}
+use Rattle.bridge_ports.specs.declared.phases.OwnSide.TheVariants.{Speaking, Ended, EndConfirmed}
 use Rattle.bridge_ports.specs.declared.phases.Phases.{Phases}
-use Rattle.bridge_ports.specs.Phases.{answered, attached, broken, call_ended, cleared, closed, connected, opened, own_confirmed, own_end_said, own_ended, placed, reset, rung, timed, is_open, is_speaking}
-use Rattle.bridge_ports.specs.Bridges.{BridgeState, is_free, may_take, may_write, most_message, order_of, ordered, own_turn, taken, turn_of, wants_octets, with_call, with_connection}
+use Rattle.bridge_ports.specs.Phases.{attached, broken, call_ended, cleared, connected, opened, own_end_said, own_ended, placed, reset, rung, timed}
+use Rattle.bridge_ports.specs.Bridges.{BridgeState, is_free, may_take, may_write, order_of, ordered, taken, turn_of, wants_octets, with_call, with_connection}
 
 -- A call that came waits for a connection, which is ordered at once. When it stands, the call is answered.
 pub record AnswersWhenItStands (b : BridgeState) (terms : BridgeTerms) (far_end : FarEnd) (hello : List ℕ) : Type 0 where

@@ -207,14 +207,9 @@ const FORMS: &[Edit] = &[
         "no key 'callers' is known here (did you mean 'caller'?)",
     ),
     (
-        "[[caller]]",
-        "caller = [1]\n\n[[callers]]",
-        "the text is torn",
-    ),
-    (
         "network =",
         "network",
-        "the text is torn",
+        "TOML parse error at line 2, column 9: ",
     ),
 ];
 

@@ -25,7 +25,7 @@ use Rattle.service.specs.declared.terminal.Terminal.{Terminal}
 use Rattle.service.specs.Orders.{ordered_at, after_order, IsFrom}
 use Rattle.service.specs.Terminals.{changed, changed_at, ordered}
 use Rattle.service.specs.Steps.{Step, Makes, Steps, is_idle, is_idle_answer, is_at_terminal, AreIdle, Does, PassesBy, Passes}
-use Rattle.service.specs.Bridging.{Packet, is_on, said_of, said_in, packet_of, packet_in, packet_from, taken_in, with_packets, all_said, all_taken, IsStill, is_of_network, packets_by, IsCarried, Carries, MayHave}
+use Rattle.service.specs.Bridging.{Packet, is_on, said_of, said_in, packet_of, packet_in, packet_from, taken_in, with_packets, all_said, all_taken, IsStill, is_of_network, packets_by, IsCarried, Carries, MayHave, is_calling}
 use Rattle.service.proofs.Stepping.{steps-append, silent-none, passes_none, passes_by-then, passes_step, neither_left, neither_right, was_done, not_done, elsewhere, idle_step, Lent}
 
 -- ---- channels
@@ -313,10 +313,6 @@ carries_no_take L at event r fault s t b event_is stepped err =
         (sym (ap (λ a. not (is_idle (lent a))) err)) (sym (ap (λ a. with_packets (packet_from (lent a)) b) err))
 
 -- ---- a call is placed
-
-abbrev pub is_calling : Event → Bool
-is_calling (Call node address octets) = true
-is_calling _ = false
 
 pub carries_call : (L : LineService) (event : Event) (answer : Result Answer StepFault) (s t : Network)
     → is_calling event ≡ true → Makes L s (record { event = event; answer = answer }) t

@@ -9,7 +9,7 @@ use Rattle.frame_lines.specs.Lines.{LineService}
 use Rattle.packet_host.specs.declared.request.HostRequest.{HostRequest}
 use Rattle.packet_host.specs.declared.request.HostRequest.TheVariants.{Say}
 use Rattle.net_events.specs.declared.event.Event.{Event}
-use Rattle.net_events.specs.declared.event.Event.TheVariants.{Ask, Take}
+use Rattle.net_events.specs.declared.event.Event.TheVariants.{Ask, Call, Take}
 use Rattle.net_events.specs.declared.event.StepFault.{StepFault}
 use Rattle.net_events.specs.declared.answer.Answer.{Answer}
 use Rattle.net_events.specs.declared.answer.Outcome.{Outcome}
@@ -97,6 +97,11 @@ pub record Carries (L : LineService) (at : HostChannel) (more : Bool) (s t : Net
   pub passes : PassesBy L steps more s t
   pub carried : IsCarried at steps b c
   pub elsewhere : (other : HostChannel) → other ≢ at → IsStill other steps
+
+-- a host calls
+abbrev pub is_calling : Event → Bool
+is_calling (Call node address octets) = true
+is_calling _ = false
 
 -- a bridge that has a call has it on one channel
 abbrev pub MayHave : Option HostChannel → HostChannel → Type 0

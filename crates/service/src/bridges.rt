@@ -1,6 +1,6 @@
 //! The bridges of a service: connections of services and callers, and the calls at hosts that they have.
-ghost use Rattle.std.specs.Prelude.{◌≡◌, ◌≤◌, length, IfSome};
-ghost use Rattle.service.specs.Bridging.{are_free};
+ghost use Rattle.std.specs.Prelude.{◌≡◌, ◌≤◌, true, length, IfSome};
+ghost use Rattle.service.specs.Bridging.{are_free, is_calling};
 ghost use Rattle.service.specs.Orders.{IsFrom, port_of};
 
 use crate::hello::write_hello;
@@ -123,26 +123,31 @@ impl BridgePort {
 
 impl Caller {
     fn new(binding: &CallerBinding<'_>) -> Self {
-        let mut user_data = ArrayVec::new();
-        for octet in binding.user_data {
-            let _ = user_data.try_push(*octet);
-        }
         Caller {
             node: binding.node,
             address: binding.call,
-            user_data,
+            user_data: kept(binding.user_data),
             terms: binding.terms,
         }
     }
 
     /// The event of its call.
-    pub(crate) fn call(&self) -> Event {
+    pub(crate) fn call(&self) -> Event
+        ensures { is_calling result ≡ true }
+    {
         Event::Call {
             node: self.node,
             address: self.address,
-            user_data: self.user_data.clone(),
+            user_data: kept(self.user_data.as_slice()),
         }
     }
+}
+
+/// User data, kept in place; none if there are over 16 octets.
+pub(crate) fn kept(user_data: &[u8]) -> ArrayVec<u8, 16> {
+    let mut kept = ArrayVec::new();
+    let _ = kept.try_extend_from_slice(user_data);
+    kept
 }
 
 impl Bridges {

@@ -19,13 +19,15 @@ use std::mem;
 /// How many packets of a call are taken in a round.
 const MOST_TAKEN: u32 = 8;
 
-/// Tells each bridge what became of its call, and does what is to be done next for each.
-pub(crate) fn serve_bridges<L: Line>(exchange: &mut Exchange<L>, bridges: &mut Bridges) -> bool
+/// Does what is to be done next in each call: of built-in services, and of bridges, which first are told what became of
+/// theirs.
+pub(crate) fn serve_calls<L: Line>(exchange: &mut Exchange<L>, bridges: &mut Bridges) -> bool
     ensures { Passes L.service result exchange.old.net exchange.new.net }
 {
+    let called = exchange.serve_calls();
     let told = deliver_letters(exchange, bridges);
     let served = serve_ports(exchange, bridges);
-    told | served
+    called | told | served
 }
 
 /// Tells each bridge what became of its call, and says whether there was anything to tell.
@@ -244,7 +246,7 @@ impl<L: Line> Exchange<L> {
                     self.seconds,
                     answer.notes.as_slice(),
                 );
-                self.calls.took(at, answer.text.len());
+                self.calls.take(at, answer.outcome, answer.text.len());
                 let done = !is_idle(answer);
                 hand_over(bridge, answer.outcome, answer.text.as_slice());
                 done

@@ -4,8 +4,9 @@ ghost use Rattle.service.specs.Calls.{call_of};
 
 use crate::hosts::{HostBinding, HostChannel};
 use circular_buffer::HeapCircularBuffer;
-use line_sim::{HostNote, NoteKind};
+use line_sim::{NoteKind, Outcome, UserNote};
 use packet_codec::Address;
+use packet_layer::Front;
 use std::alloc::{AllocError, Global};
 
 /// How many notes of calls may wait to be logged.
@@ -43,6 +44,8 @@ pub enum CallChange {
         taken: u64,
         said: u64,
     },
+    /// An interrupt or a packet with Q = 1 of so many octets was taken, which no service or caller has, and was dropped.
+    Dropped { octets: usize },
     /// The call was reset, for this cause and diagnostic.
     Reset {
         cause: u8,
@@ -110,10 +113,11 @@ impl Calls {
     }
 
     /// Hears what a host was told.
-    pub(crate) fn hear(&mut self, note: &HostNote, seconds: i64) {
+    pub(crate) fn hear(&mut self, note: &UserNote, seconds: i64) {
         let at = HostChannel::of(note);
         match note.kind {
-            NoteKind::Incoming { calling } => self.ring(at, calling, seconds),
+            NoteKind::Incoming { calling, .. } => self.ring(at, calling, seconds),
+            NoteKind::Dialled { called } => self.place(at, called, seconds),
             NoteKind::Connected => self.connect(at),
             NoteKind::Cleared { cause, diagnostic } => self.clear(at, cause, diagnostic, seconds),
             NoteKind::Reset { cause, diagnostic } => {
@@ -170,6 +174,17 @@ impl Calls {
                 said: call.said,
             },
         );
+    }
+
+    /// Something was taken for a bridge: user data without Q, or what is dropped.
+    pub(crate) fn take(&mut self, at: HostChannel, outcome: Outcome, octets: usize) {
+        match outcome {
+            Outcome::Took(Some(Front::Data {
+                qualified: false, ..
+            })) => self.took(at, octets),
+            Outcome::Took(Some(_)) => self.note(at, CallChange::Dropped { octets }),
+            _ => {}
+        }
     }
 
     /// So many octets were taken from the network.

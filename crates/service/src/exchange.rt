@@ -13,7 +13,7 @@ use crate::place::Place;
 use crate::terminal::{Presence, Terminal, XON};
 use clock_texts::utc_text;
 use line_sim::{
-    Answer, Direction, Event, HostNote, HostRequest, Line, Outcome, PadAnswer, TerminalEvent,
+    Answer, CallUser, Direction, Event, HostRequest, Line, Outcome, PadAnswer, TerminalEvent, UserNote,
 };
 use live_net::LiveNet;
 use service_ports::Key;
@@ -238,7 +238,7 @@ impl<L: Line> Exchange<L> {
     }
 
     /// Asks something of the call of a channel, and says whether that was done.
-    fn ask(&mut self, at: HostChannel, request: HostRequest) -> bool
+    pub(crate) fn ask(&mut self, at: HostChannel, request: HostRequest) -> bool
         ensures { Passes L.service result self.old.net self.new.net }
     {
         let event = Event::Ask {
@@ -311,9 +311,12 @@ pub(crate) fn hear(
     calls: &mut Calls,
     mail: &mut Mail,
     seconds: i64,
-    notes: &[HostNote],
+    notes: &[UserNote],
 ) {
     for note in notes {
+        if note.user != CallUser::Host {
+            continue;
+        }
         if !mail.hear(note) {
             hosts.hear(note);
         }

@@ -1,9 +1,9 @@
 //! What hosts with bridges were told, until their bridges hear it.
-use crate::bridges::BridgeBindings;
+use crate::bridges::{BridgeBindings, kept};
 use crate::hosts::HostChannel;
 use arrayvec::ArrayVec;
 use circular_buffer::HeapCircularBuffer;
-use line_sim::{HostNote, NoteKind};
+use line_sim::{NoteKind, UserNote};
 use packet_codec::Address;
 use std::alloc::{AllocError, Global};
 
@@ -64,10 +64,13 @@ impl Mail {
     }
 
     /// Hears what a host was told, and says whether that is for its bridges alone.
-    pub(crate) fn hear(&mut self, note: &HostNote) -> bool {
+    pub(crate) fn hear(&mut self, note: &UserNote) -> bool {
         let is_service = self.services.contains(&note.node);
         if is_service || self.callers.contains(&note.node) && !is_call(note) {
-            let _ = self.letters.try_push_back(letter_of(note));
+            if let Some(news) = news_of(&note.kind) {
+                let at = HostChannel::of(note);
+                let _ = self.letters.try_push_back(Letter { at, news });
+            }
         }
         is_service
     }
@@ -84,23 +87,25 @@ impl Mail {
 }
 
 /// Whether it is the note of a call that came.
-fn is_call(note: &HostNote) -> bool {
+fn is_call(note: &UserNote) -> bool {
     matches!(note.kind, NoteKind::Incoming { .. })
 }
 
-fn letter_of(note: &HostNote) -> Letter {
-    let news = match note.kind {
-        NoteKind::Incoming { calling } => News::Rings {
+/// What a note says of the call of a host, if anything.
+fn news_of(kind: &NoteKind) -> Option<News> {
+    match *kind {
+        NoteKind::Dialled { .. } => None,
+        NoteKind::Incoming {
             calling,
-            called: None,
-            user_data: ArrayVec::new(),
-        },
-        NoteKind::Connected => News::Connected,
-        NoteKind::Cleared { cause, diagnostic } => News::Cleared { cause, diagnostic },
-        NoteKind::Reset { .. } => News::Reset,
-    };
-    Letter {
-        at: HostChannel::of(note),
-        news,
+            called,
+            ref user_data,
+        } => Some(News::Rings {
+            calling,
+            called: Some(called),
+            user_data: kept(user_data.octets()),
+        }),
+        NoteKind::Connected => Some(News::Connected),
+        NoteKind::Cleared { cause, diagnostic } => Some(News::Cleared { cause, diagnostic }),
+        NoteKind::Reset { .. } => Some(News::Reset),
     }
 }

@@ -72,8 +72,8 @@ impl Seats {
         binding: &TerminalsBinding<'_>,
         number: u16,
     ) -> Result<(), AllocError>
-        requires { binding.now.first ≤ number }
-        requires { number ≤ binding.now.last }
+        requires from { binding.now.first ≤ number }
+        requires to { number ≤ binding.now.last }
         ensures { IfOk result (λ _. (tables : List TerminalsBinding)
             → AreSeated tables self.old.places.items self.old.terminals.items
             → slice_get tables table ≡ Some binding.now → AreSeated tables self.new.places.items self.new.terminals.items) }

@@ -1,5 +1,5 @@
 //! A network with terminals for clients and built-in services.
-ghost use Rattle.std.specs.Prelude.{◌≡◌, ◌≤◌, ◌+◌, ◌×◌, true, length, min, take, slice_get, None, Some, IfOk, IfSome, IfNone};
+ghost use Rattle.std.specs.Prelude.{◌≡◌, ◌≤◌, ◌+◌, true, length, min, take, slice_get, None, Some, IfOk, IfSome, IfNone};
 ghost use Rattle.net_events.specs.Network.{all_elapsed};
 ghost use Rattle.service.specs.Bridging.{are_free};
 ghost use Rattle.service.specs.Calls.{call_of};

@@ -264,8 +264,8 @@ impl Terminal {
 
     /// Shows text.
     pub(crate) fn show(&mut self, text: &[u8])
-        requires { may_show self.old ≡ true }
-        requires { length text.now ≤ MOST_TEXT }
+        requires may { may_show self.old ≡ true }
+        requires short { length text.now ≤ MOST_TEXT }
         ensures { self.new ≡ shown_at text.now self.old }
     {
         self.silence = 0;

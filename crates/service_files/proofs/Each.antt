@@ -4,11 +4,12 @@ use Rattle.std.proofs.Common.{Some, None, Vec, Global, inl, inr, Option}
 use Rattle.std.specs.Prelude.{Result, Ok, Err, IsErrAnd}
 use Rattle.std.proofs.lemmas.List.{take_more}
 use Rattle.toml.specs.Data.{Data, Items, item, Members, as_table, get_item, push_item}
-use Rattle.toml.specs.View.{view, items_view}
+use Rattle.toml.specs.View.{view, table_view, items_view}
+use Rattle.std.specs.Borrow.{Bor}
 use Rattle.toml.specs.declared.value.Value.{Value}
 use Rattle.toml.proofs.Views.{items_view-push, get_item_within}
 use Rattle.service_files.specs.declared.refusal.Refusal.{Refusal}
-use Rattle.service_files.specs.Reads.{Reads, EachSays, IsTable}
+use Rattle.service_files.specs.Reads.{Reads, ReadsAs, EachSays, IsTable}
 use Rattle.service_files.specs.Reads.EachSays.{none, more}
 
 -- one value more at the end
@@ -65,6 +66,13 @@ pub part_refused : {A B : Type 0} (Part : A → Type 0) (Whole : B → Type 0) (
 part_refused Part Whole refusal has (inl memory) = inl memory
 part_refused Part Whole refusal has (inr bad) =
     inr (bad.0, λ x whole. (let part = has x whole in bad.1 part.0 part.1))
+
+-- what is no table says nothing
+pub no_table : {A : Type 0} (Says : Members → A → Type 0) (value : Data) (refusal : Refusal)
+    → ReadsAs {Bor Table} (λ table. table_view table.now) (λ entry. as_table value ≡ Some entry) (Err refusal)
+    → Reads (IsTable Says value) (Err refusal)
+no_table Says value refusal (inl memory) = inl memory
+no_table Says value refusal (inr bad) = inr (bad.0, λ x whole. bad.1 whole.entry whole.is)
 
 -- a table is read as its members are
 pub table_read : {A : Type 0} (Says : Members → A → Type 0) (value : Data) (entry : Members) (result : Result A Refusal)

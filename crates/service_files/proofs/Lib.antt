@@ -1,3 +1,4 @@
 pub mod Each
 pub mod Prefixes
+pub mod WhyRefused
 mod Fitting

@@ -1,6 +1,7 @@
 -- What is read of the text of a prefix.
 use Rattle.std.proofs.Common.{◌≡◌, ℕ, ◌+◌, ◌<◌, ◌≤◌, List, [], ◌∷◌, length, drop, Some, None, Option, Result, Ok, Err, refl, sym, ap, ◌∙◌, eqb}
-use Rattle.std.specs.Prelude.{MatchOption, Bor}
+use Rattle.std.specs.Prelude.{MatchOption}
+use Rattle.std.specs.Borrow.{Bor}
 use Rattle.std.specs.List.{position_or_len}
 use Rattle.std.specs.Net.Grammar.{IsIpText, Parses}
 use Rattle.std.specs.Result.{OkIff}

@@ -1,5 +1,5 @@
 -- Which service files fit a network, rule by rule, and the first rule that does not hold.
-use Rattle.std.specs.Prelude.{true, false, ℕ, ◌+◌, length, ◌==◌, ◌&&◌, ◌||◌, not, ◌-◌, Bool, List, [], ◌∷◌, find, nat_le, nat_lt}
+use Rattle.std.specs.Prelude.{true, false, ℕ, length, ◌==◌, ◌&&◌, ◌||◌, not, ◌-◌, Bool, List, [], ◌∷◌, find, nat_le, nat_lt}
 use Rattle.std.specs.Prelude.{◌≡◌, slice_get, is_none, is_some, Option, Some, None, unwrap_or, if◌then◌else◌}
 use Rattle.std.specs.List.{list_all, list_any, filter}
 use Rattle.std.specs.Option.{option_or}
@@ -73,15 +73,18 @@ abbrev pub is_apart : SocketAddr → Option SocketAddr → Bool
 is_apart listen None = true
 is_apart listen (Some other) = not (same_place listen other)
 
--- how many tables listen there
-abbrev pub count_listen : ServiceFile → SocketAddr → ℕ
-count_listen f listen =
-    length (filter (λ other. same_place listen other.listen) f.terminals.items)
-    + length (filter (λ other. same_place listen other.listen) f.callers.items)
+-- how many tables of terminals listen there, and how many callers
+abbrev pub count_terminals : ServiceFile → SocketAddr → ℕ
+count_terminals f listen = length (filter (λ other. same_place listen other.listen) f.terminals.items)
+
+abbrev pub count_callers : ServiceFile → SocketAddr → ℕ
+count_callers f listen = length (filter (λ other. same_place listen other.listen) f.callers.items)
 
 -- no two tables listen there, and the control port is elsewhere
 abbrev pub listens_once : ServiceFile → SocketAddr → Bool
-listens_once f listen = is_apart listen f.control && nat_le (count_listen f listen) 1
+listens_once f listen =
+    is_apart listen f.control && nat_le (count_terminals f listen) 1 && nat_le (count_callers f listen) 1
+    && ((count_terminals f listen == 0) || (count_callers f listen == 0))
 
 abbrev pub terminals_keep : Config → ServiceFile → TerminalsTable → TerminalsRule → Bool
 terminals_keep c f t terminals_rule.PadIsNode = list_any (is_named t.pad.now) c.nodes.items

@@ -1,5 +1,6 @@
 -- What a check of the octets of a service file, and of those of its network's file, answers.
-use Rattle.std.specs.Prelude.{◌≡◌, ◌⊎◌, ℕ, Bool, true, false, List, codes, string_bytes, Result, Ok, Err, Option, Some, None, String, Global}
+use Rattle.std.specs.Prelude.{◌≡◌, ◌⊎◌, ℕ, Bool, true, false, List, codes, string_bytes, Result, Ok, Err, Option, Some, None, String, ⊤}
+use Rattle.std.specs.Global.{Global}
 use Rattle.toml.specs.Data.{Members}
 use Rattle.net_config.specs.declared.config.Config.{Config}
 use Rattle.network_reasons.specs.Checks.{IsRead, IsRefused as IsNoNetwork}

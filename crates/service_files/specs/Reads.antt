@@ -1,7 +1,7 @@
 -- What the readers of a service file answer, and what stands at the keys of its tables.
 use Rattle.std.specs.Prelude.{◌≡◌, ◌⊎◌, ℕ, List, [], ◌∷◌, Bool, true, false, not, is_some, Option, Some, None, option_and_then, unwrap_or, Result, Ok, Err, IsUtf8}
 use Rattle.std.specs.List.{list_any}
-use Rattle.std.specs.Prelude.{Bor}
+use Rattle.std.specs.Borrow.{Bor}
 use Rattle.toml.specs.Data.{Data, Items, no_items, item, Members, get_member, as_str, as_integer, as_bool, as_array, as_table}
 use Rattle.toml.specs.Parse.{parse_document}
 use Rattle.net_files.specs.Entries.{small}
@@ -12,6 +12,11 @@ use Rattle.service_files.specs.declared.refusal.Refusal.TheVariants.{Told, OutOf
 abbrev pub Reads : {A : Type 0} → (A → Type 0) → Result A Refusal → Type 0
 Reads Says (Ok x) = Says x
 Reads Says (Err refusal) = (refusal ≡ OutOfMemory) ⊎ ((refusal ≡ Told) × ((x : _) → ¬ Says x))
+
+-- the same of what is given, seen as a value
+abbrev pub ReadsAs : {A B : Type 0} → (A → B) → (B → Type 0) → Result A Refusal → Type 0
+ReadsAs value Says (Ok x) = Says (value x)
+ReadsAs value Says (Err refusal) = (refusal ≡ OutOfMemory) ⊎ ((refusal ≡ Told) × ((y : _) → ¬ Says y))
 
 -- the octets are a text, which is a TOML document
 abbrev pub IsDocument : List ℕ → Members → Type 0

@@ -1,5 +1,6 @@
 -- What the tables of a service file say, with what stands for what is left out.
-use Rattle.std.specs.Prelude.{◌≡◌, ◌≤◌, ℕ, List, [], length, codes, true, false, Option, Some, None, option_map, unwrap_or, Vec, Global}
+use Rattle.std.specs.Prelude.{◌≡◌, ◌≤◌, ℕ, List, [], length, codes, true, false, Option, Some, None, option_map, unwrap_or, Vec, ⊤, ⊥}
+use Rattle.std.specs.Global.{Global}
 use Rattle.std.specs.Prelude.{if◌then◌else◌, Ok}
 use Rattle.std.specs.Net.Grammar.{IsSocketText}
 use Rattle.std.specs.declared.net.socket_addr.SocketAddr.{SocketAddr}
@@ -56,7 +57,7 @@ SaysAllow entry allow = SaysPrefixes (values_at (codes "allow") entry) allow.pre
 -- ---- `[[terminals]]`
 
 pub record SaysTerminals (entry : Members) (table : TerminalsTable) : Type 0 where
-  pub keys : is_right TERMINALS.now entry ≡ true
+  pub keys : is_right TERMINALS entry ≡ true
   pub pad : table.pad.now ≡ unwrap_or (text_at (codes "pad") entry) []
   pub listen : IsSocketText (unwrap_or (text_at (codes "listen") entry) []) table.listen
   pub first : table.first ≡ unwrap_or (number_at (codes "first") entry) 0
@@ -87,7 +88,7 @@ abbrev pub SaysHost : Members → HostService → Type 0
 SaysHost entry = IsHost entry (text_at (codes "builtin") entry) (text_at (codes "connect") entry)
 
 pub record SaysService (entry : Members) (table : ServiceTable) : Type 0 where
-  pub keys : is_right SERVICE.now entry ≡ true
+  pub keys : is_right SERVICE entry ≡ true
   pub host : table.host.now ≡ unwrap_or (text_at (codes "host") entry) []
   pub service : SaysHost entry table.service
 
@@ -99,7 +100,7 @@ SaysUserData None octets = octets.items ≡ []
 SaysUserData (Some text) octets = (decode_of text ≡ Ok octets.items) × (length octets.items ≤ 16)
 
 pub record SaysCaller (entry : Members) (table : CallerTable) : Type 0 where
-  pub keys : is_right CALLER.now entry ≡ true
+  pub keys : is_right CALLER entry ≡ true
   pub host : table.host.now ≡ unwrap_or (text_at (codes "host") entry) []
   pub listen : IsSocketText (unwrap_or (text_at (codes "listen") entry) []) table.listen
   pub call : table.call.now ≡ unwrap_or (text_at (codes "call") entry) []
@@ -118,14 +119,14 @@ SaysControl _ _ = ⊥
 abbrev pub IsConnections : Option Members → ℕ → Type 0
 IsConnections None connections = connections ≡ 64
 IsConnections (Some limits) connections =
-    (is_right LIMITS.now limits ≡ true)
+    (is_right LIMITS limits ≡ true)
     × (connections ≡ unwrap_or (number_at (codes "connections") limits) 64)
 
 abbrev pub SaysConnections : Members → ℕ → Type 0
 SaysConnections document = IsConnections (table_at (codes "limits") document)
 
 pub record SaysFile (document : Members) (file : ServiceFile) : Type 0 where
-  pub keys : is_right DOCUMENT.now document ≡ true
+  pub keys : is_right DOCUMENT document ≡ true
   pub later : has_one document LATER ≡ false
   pub network : file.network.now ≡ unwrap_or (text_at (codes "network") document) []
   pub log : option_map (λ text. text.now) file.log ≡ text_at (codes "log") document

@@ -35,7 +35,7 @@ pub(crate) fn read_host<'a>(
 ) -> Result<ServiceTable<'a>, Refusal>
     ensures { Reads (SaysService (table_view table.entry.now)) result }
 {
-    look_at(alloc, out, place, SERVICE, table)?;
+    look_at(alloc, out, place, &SERVICE, table)?;
     Ok(ServiceTable {
         host: text_at(table, "host").unwrap_or(""),
         service: read_host_service(out, place, table)?,
@@ -110,7 +110,7 @@ pub(crate) fn read_caller<'a>(
 ) -> Result<CallerTable<'a>, Refusal>
     ensures { Reads (SaysCaller (table_view table.entry.now)) result }
 {
-    look_at(alloc, out, place, CALLER, table)?;
+    look_at(alloc, out, place, &CALLER, table)?;
     Ok(CallerTable {
         host: text_at(table, "host").unwrap_or(""),
         call: text_at(table, "call").unwrap_or(""),

@@ -16,7 +16,7 @@ const AT_RESET: Form = Form::Text(TextForm::OneOf(&["clear", "continue"]));
 const SMALL: Form = Form::Number(u16::MAX);
 
 /// The keys that stand in no table, and the tables.
-pub(crate) const DOCUMENT: &[Key] = &[
+pub(crate) const DOCUMENT: [Key; 10] = [
     Key {
         name: "network",
         form: TEXT,
@@ -69,7 +69,7 @@ pub(crate) const DOCUMENT: &[Key] = &[
     },
 ];
 
-pub(crate) const TERMINALS: &[Key] = &[
+pub(crate) const TERMINALS: [Key; 8] = [
     Key {
         name: "pad",
         form: NAME,
@@ -112,7 +112,7 @@ pub(crate) const TERMINALS: &[Key] = &[
     },
 ];
 
-pub(crate) const SERVICE: &[Key] = &[
+pub(crate) const SERVICE: [Key; 7] = [
     Key {
         name: "host",
         form: NAME,
@@ -150,7 +150,7 @@ pub(crate) const SERVICE: &[Key] = &[
     },
 ];
 
-pub(crate) const CALLER: &[Key] = &[
+pub(crate) const CALLER: [Key; 7] = [
     Key {
         name: "host",
         form: NAME,
@@ -188,7 +188,7 @@ pub(crate) const CALLER: &[Key] = &[
     },
 ];
 
-pub(crate) const LIMITS: &[Key] = &[
+pub(crate) const LIMITS: [Key; 1] = [
     Key {
         name: "connections",
         form: Form::Number(1024),

@@ -1,7 +1,7 @@
 //! How a service file is read.
 ghost use Rattle.std.specs.Prelude.{◌≡◌, option_map};
 ghost use Rattle.toml.specs.View.{view, table_view, items_view};
-ghost use Rattle.service_files.specs.Reads.{Reads};
+ghost use Rattle.service_files.specs.Reads.{Reads, ReadsAs};
 ghost use Rattle.service_files.specs.Reads.{EachSays, IsDocument, IsTable};
 ghost use Rattle.service_files.specs.Says.{mode_of, SaysControl, SaysConnections, SaysTerminals, SaysService, SaysCaller, SaysFile};
 
@@ -21,7 +21,7 @@ const CONNECTIONS: u16 = 64;
 
 /// Reads the octets of a service file as TOML. If they are none, it is added to `out` where and why.
 pub fn read_document(alloc: Global, out: &mut String, octets: &[u8]) -> Result<Table, Refusal>
-    ensures { Reads (λ document. IsDocument octets.now (table_view document)) result }
+    ensures { ReadsAs table_view (IsDocument octets.now) result }
 {
     let Some(text) = text_of(octets) else {
         out.push_str("the text is no UTF-8")?;
@@ -46,7 +46,7 @@ pub fn read_service<'a>(
 ) -> Result<ServiceFile<'a>, Refusal>
     ensures { Reads (SaysFile (table_view document.entry.now)) result }
 {
-    look_at(alloc, out, Place::Document, DOCUMENT, document)?;
+    look_at(alloc, out, Place::Document, &DOCUMENT, document)?;
     refuse_keys(out, Place::Document, document, &LATER, "cannot be had yet")?;
     Ok(ServiceFile {
         network: text_at(document, "network").unwrap_or(""),
@@ -73,7 +73,7 @@ fn read_connections(alloc: Global, out: &mut String, document: &Table) -> Result
 {
     match table_at(document, "limits") {
         Some(limits) => {
-            look_at(alloc, out, Place::Limits, LIMITS, limits)?;
+            look_at(alloc, out, Place::Limits, &LIMITS, limits)?;
             Ok(number_at(limits, "connections").unwrap_or(CONNECTIONS))
         }
         None => Ok(CONNECTIONS),
@@ -116,7 +116,7 @@ fn read_binding<'a>(
 ) -> Result<TerminalsTable<'a>, Refusal>
     ensures { Reads (SaysTerminals (table_view table.entry.now)) result }
 {
-    look_at(alloc, out, place, TERMINALS, table)?;
+    look_at(alloc, out, place, &TERMINALS, table)?;
     Ok(TerminalsTable {
         pad: text_at(table, "pad").unwrap_or(""),
         first: number_at(table, "first").unwrap_or(0),

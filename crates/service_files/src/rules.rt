@@ -223,14 +223,12 @@ fn count_overlaps(config: &Config, file: &ServiceFile<'_>, table: &TerminalsTabl
 fn listens_once(file: &ServiceFile<'_>, listen: SocketAddr) -> bool
     ensures { result ≡ spec.listens_once file.now listen }
 {
-    is_apart(listen, file.control) && count_listen(file, listen) <= 1
-}
-
-/// How many tables listen there.
-fn count_listen(file: &ServiceFile<'_>, listen: SocketAddr) -> usize
-    ensures { result ≡ spec.count_listen file.now listen }
-{
-    count_terminals(file, listen).saturating_add(count_callers(file, listen))
+    let terminals = count_terminals(file, listen);
+    let callers = count_callers(file, listen);
+    is_apart(listen, file.control)
+        && terminals <= 1
+        && callers <= 1
+        && (terminals == 0 || callers == 0)
 }
 
 fn count_terminals(file: &ServiceFile<'_>, listen: SocketAddr) -> usize

@@ -1,10 +1,10 @@
 //! What stands at the keys of a table.
-ghost use Rattle.std.specs.Prelude.{◌≡◌, option_map};
+ghost use Rattle.std.specs.Prelude.{◌≡◌, Some, option_map};
 ghost use Rattle.std.specs.Net.Grammar.{IsSocketText};
 ghost use Rattle.toml.specs.Data.{as_table};
 ghost use Rattle.toml.specs.View.{view, table_view, items_view};
 ghost use Rattle.net_files.specs.Entries.{small};
-ghost use Rattle.service_files.specs.Reads.{Reads, EachSays, text_at, number_at, flag_at, values_at, items_at, table_at};
+ghost use Rattle.service_files.specs.Reads.{Reads, ReadsAs, EachSays, text_at, number_at, flag_at, values_at, items_at, table_at};
 ghost use Rattle.service_files.specs.Says.{SaysPrefix, SaysAllow};
 
 use crate::addresses::{Allow, Prefix};
@@ -83,7 +83,7 @@ pub(crate) fn read_table<'a>(
     place: Place,
     value: &'a Value,
 ) -> Result<&'a Table, Refusal>
-    ensures { Reads (λ table. as_table (view value.entry.now) ≡ Some (table_view table.now)) result }
+    ensures { ReadsAs (λ table. table_view table.now) (λ entry. as_table (view value.entry.now) ≡ Some entry) result }
 {
     let Some(table) = value.as_table() else {
         tell_place(out, place)?;

@@ -1,5 +1,0 @@
-use Rattle.service.proofs.Stepping.{passes-then}
-use Rattle.service.proofs.bridging.serve_bridges.Goals as goal
-
-pub returns : goal.returns
-returns g c = passes-then g.L.Line.service _ _ _ _ _ c.deliver_letters-told.ensures c.serve_ports-served.ensures
