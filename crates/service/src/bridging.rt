@@ -125,7 +125,7 @@ impl<L: Line> Exchange<L> {
                     node: caller.node,
                     channel,
                 };
-                self.calls.place(at, caller.address, self.seconds);
+                self.calls.place(at, &caller.address, self.seconds);
                 Some(at)
             }
             Err(_) => None,
