@@ -190,7 +190,7 @@ impl<L: Line> Exchange<L> {
         if !fill_message(&mut octets, first, second) {
             return false;
         }
-        let count = octets.len();
+        let count = octets.as_slice().len();
         let event = ask_event(at, say_request(octets, false));
         let said = self.happen(&event);
         port.message = octets_of(self.alloc, event);
