@@ -1,6 +1,7 @@
 -- What the steps for a bridge carry.
 use Rattle.std.proofs.Common.{◌≡◌, ◌≢◌, ◌⊎◌, ◌+◌, ◌<◌, ◌≤◌, ℕ, Bool, true, false, List, [], ◌∷◌, ◌++◌, refl, sym, ap, ◌∙◌, subst, append_assoc, append-nil, cond, eqb, take, drop, length, min, Result, Ok, Err, Option, Some, None, not, ◌&&◌, ◌||◌, flat_map, arith}
 use Rattle.std.specs.List.{list_all}
+use Rattle.std.specs.Bool.{OnTrue}
 use Rattle.std.specs.Borrow.{Bor}
 use Rattle.std.proofs.lemmas.Bool.{eqb-true, eq-eqb}
 use Rattle.std.proofs.lemmas.Grind.{flat_map-append}
@@ -51,8 +52,8 @@ same_channel other at is =
     }
 
 off_by : (b : Bool) → (b ≡ true → ⊥) → b ≡ false
-off_by true no = absurd (no refl)
-off_by false no = refl
+off_by true never = absurd (never refl)
+off_by false never = refl
 
 off_others : (other at : HostChannel) → other ≢ at → is_on other at.node at.channel ≡ false
 off_others other at apart = off_by (is_on other at.node at.channel) (λ is. apart (same_channel other at is))
@@ -79,9 +80,9 @@ still-append at xs ys one two = record {
 
 still_step : (at : HostChannel) (event : Event) (answer : Result Answer StepFault) → said_in at event answer ≡ []
     → taken_in at event answer ≡ [] → IsStill at (record { event = event; answer = answer } ∷ [])
-still_step at event answer says takes = record {
-  says = append-nil (said_in at event answer) ∙ says;
-  takes = append-nil (taken_in at event answer) ∙ takes;
+still_step at event answer no_saying no_taking = record {
+  says = append-nil (said_in at event answer) ∙ no_saying;
+  takes = append-nil (taken_in at event answer) ∙ no_taking;
 }
 
 -- ---- what is done at a bridge
@@ -149,7 +150,7 @@ pub carries_turn : (L : LineService) (at : HostChannel) (more : Bool) (s : Netwo
     → c ≡ record b { phases = phases } → Carries L at more s s b c
 carries_turn L at more s b c phases is = record {
   steps = [];
-  passes = (passes_none L more s).1;
+  passes = record { made = refl; silent = λ terminal. silent-none terminal; idle = λ none. refl };
   carried = record { deeds = turns phases ∷ []; after = is; own = refl; said = refl; taken = refl };
   elsewhere = λ other apart. record { says = refl; takes = refl };
 }
@@ -171,15 +172,15 @@ carries_step : (L : LineService) (at : HostChannel) (event : Event) (done : Bool
     → flat_map packets_by deeds ≡ taken_in at event does.answer
     → ((other : HostChannel) → other ≢ at → (said_in other event does.answer ≡ []) × (taken_in other event does.answer ≡ []))
     → Carries L at done s t b c
-carries_step L at event done s t b c deeds not_there does after own says takes others = record {
+carries_step L at event done s t b c deeds not_there does after own spoken packets others = record {
   steps = record { event = event; answer = does.answer } ∷ [];
   passes = passes_step L event done s t not_there does;
   carried = record {
     deeds = deeds;
     after = after;
     own = own;
-    said = says ∙ sym (append-nil (said_in at event does.answer));
-    taken = takes ∙ sym (append-nil (taken_in at event does.answer));
+    said = spoken ∙ sym (append-nil (said_in at event does.answer));
+    taken = packets ∙ sym (append-nil (taken_in at event does.answer));
   };
   elsewhere = λ other apart. still_step other event does.answer (others other apart).0 (others other apart).1;
 }
@@ -241,17 +242,20 @@ take_whole : (count most : ℕ) (octets xs : List ℕ) → count ≡ length octe
 take_whole count most octets xs count_is is =
     ap (λ n. take n xs) (count_is ∙ ap length is ∙ length-take most xs) ∙ take_min most xs ∙ sym is
 
+pub on_filled : (filled : Bool) (xs ys : List ℕ) → filled ≡ true → OnTrue filled (xs ≡ ys) → xs ≡ ys
+on_filled filled xs ys is on = subst (λ b. OnTrue b (xs ≡ ys)) is on
+
 -- octets that were said
 pub carries_say : (L : LineService) (at : HostChannel) (event : Event) (request : HostRequest) (done : Bool) (octets : List ℕ)
     (count most : ℕ) (s t : Network) (b c : BridgeState) → event ≡ Ask at.node at.channel request → said_of request ≡ octets
     → octets ≡ take most b.input → count ≡ length octets → done ≡ true → Does L event done s t → c ≡ said count b
     → Carries L at true s t b c
-carries_say L at event request done octets count most s t b c event_is says octets_are count_is was does is =
+carries_say L at event request done octets count most s t b c event_is spoken octets_are count_is was does is =
     let asked : Does L (Ask at.node at.channel request) true s t =
         subst (λ (e : Event). Does L e true s t) event_is (subst (λ (d : Bool). Does L event d s t) was does) in
     let idle : is_idle asked.answer ≡ false = was_done true asked.answer asked.done_is refl in
     carries_step L at (Ask at.node at.channel request) true s t b c (says count ∷ []) refl asked is refl
-        (append-nil (take count b.input) ∙ take_whole count most octets b.input count_is octets_are ∙ sym says
+        (append-nil (take count b.input) ∙ take_whole count most octets b.input count_is octets_are ∙ sym spoken
         ∙ sym (cond_done (is_on at at.node at.channel) (is_idle asked.answer) (said_of request) (on_itself at) idle)) refl
         (λ other apart. (cond_off (is_on other at.node at.channel) (not (is_idle asked.answer)) (said_of request)
             (off_others other at apart), refl))
@@ -328,6 +332,13 @@ carries_call L (Call node address octets) answer s t is stepped at b = record {
   elsewhere = λ other apart. record { says = refl; takes = refl };
 }
 carries_call L _ answer s t is stepped at b = absurd (cc)
+
+-- what became of it is told
+pub carries_placed : (L : LineService) (s t : Network) (b c : BridgeState) (phases : Phases)
+    → ((at : HostChannel) (x : BridgeState) → Carries L at true s t x x) → c ≡ record b { phases = phases }
+    → (at : HostChannel) → Carries L at true s t b c
+carries_placed L s t b c phases called is at =
+    carries_more L at true true s t t b b c (called at b) (carries_turn L at true t b c phases is)
 
 -- ---- a bridge and its channel
 

@@ -125,7 +125,7 @@ impl<L: Line> Exchange<L> {
                     node: caller.node,
                     channel,
                 };
-                self.calls.place(at, caller.address, self.seconds);
+                self.calls.place(at, &caller.address, self.seconds);
                 Some(at)
             }
             Err(_) => None,
@@ -190,7 +190,7 @@ impl<L: Line> Exchange<L> {
         if !fill_message(&mut octets, first, second) {
             return false;
         }
-        let count = octets.len();
+        let count = octets.as_slice().len();
         let event = ask_event(at, say_request(octets, false));
         let said = self.happen(&event);
         port.message = octets_of(self.alloc, event);

@@ -255,7 +255,9 @@ impl<L: Line> Service<L> {
 
     /// The time, in seconds since the beginning of 1970, which the service `time` tells and calls are counted by.
     pub fn time(&mut self, seconds: i64)
-        ensures { self.new ≡ record self.old { exchange = record self.old.exchange { seconds = seconds } } }
+        ensures seconds { self.new.exchange.seconds ≡ seconds }
+        ensures terminals { self.new.terminals ≡ self.old.terminals }
+        ensures network { self.new.exchange.net ≡ self.old.exchange.net }
     {
         self.exchange.seconds = seconds;
     }

@@ -6,8 +6,8 @@ returns-then-not-takes g c = carries_none g.L.Line.service c.args.at _ _ _
 
 pub returns-in-Ok : goal.returns-in-Ok
 returns-in-Ok g c =
-    carries_packet g.L.Line.service c.args.at _ c.step.result c.in-Ok.answer c.is_idle.result _ _ _ _ _ c.take_event.ensures
-        c.step.follows.holds-at-none c.in-Ok.is c.is_idle.ensures c.as_slice-2-in-Ok.ensures.value c.hand_over.ensures
+    carries_packet g.L.Line.service c.args.at _ c.step.result c.in-Ok.answer c.is_idle-done.result _ _ _ _ _ c.take_event.ensures
+        c.step.follows.holds-at-none c.in-Ok.is c.is_idle-done.ensures c.as_slice-in-Ok.ensures.value c.hand_over.ensures
 
 pub returns : goal.returns
 returns g c =
