@@ -3,7 +3,7 @@ use Rattle.std.specs.Prelude.{◌≡◌, ◌≤◌, ◌<◌, ℕ, List, length, 
 use Rattle.service.specs.declared.place.Place.{Place}
 use Rattle.service.specs.declared.seats.TerminalsBinding.{TerminalsBinding}
 use Rattle.service.specs.declared.terminal.Terminal.{Terminal}
-use Rattle.service.specs.Places.{AreApart, IsBound}
+use Rattle.service.specs.Places.{AreApart}
 use Rattle.service.specs.Terminals.{fresh}
 
 -- a terminal of a table, as made

@@ -2,13 +2,13 @@
 ghost use Rattle.std.specs.Prelude.{◌≡◌, length, slice_get};
 ghost use Rattle.service.specs.Calls.{call_of};
 
+use crate::call_address::CallAddress;
 use crate::hosts::{HostBinding, HostChannel};
-use circular_buffer::HeapCircularBuffer;
 use line_sim::{HostNote, NoteKind};
 use packet_codec::Address;
 use std::alloc::{AllocError, Global};
 
-/// How many notes of calls may wait to be logged.
+/// How many notes of calls may be there. Their places are free again once all are logged.
 const MOST_NOTES: usize = 1024;
 
 /// What became of a call at a host, to be logged.
@@ -25,7 +25,7 @@ pub struct CallNote {
 #[derive(Clone, Copy)]
 pub enum CallChange {
     /// A call came in, from this address if it was told.
-    Incoming { from: Option<Address> },
+    Incoming { from: Option<CallAddress> },
     /// The call was accepted, by either end.
     Connected,
     /// The call is over, for this cause and diagnostic (0 and 0 if the host cleared it), after so many seconds, in which
@@ -49,7 +49,7 @@ pub struct CallStatus {
     /// The logical channel of the call.
     pub channel: u8,
     /// The address of the other end, if it was told.
-    pub far: Option<Address>,
+    pub far: Option<CallAddress>,
     /// Whether the host placed it.
     pub is_ours: bool,
     /// When it began, in seconds since the beginning of 1970.
@@ -73,7 +73,9 @@ struct HostPlaces {
 pub(crate) struct Calls {
     hosts: Vec<HostPlaces>,
     calls: Vec<Option<CallStatus>>,
-    notes: HeapCircularBuffer<CallNote>,
+    /// Notes that are to be logged, from the next one on.
+    notes: Vec<CallNote>,
+    next: usize,
     missed: u64,
 }
 
@@ -95,7 +97,8 @@ impl Calls {
         Ok(Calls {
             hosts,
             calls,
-            notes: HeapCircularBuffer::with_capacity(alloc, MOST_NOTES)?,
+            notes: Vec::with_capacity(alloc, MOST_NOTES)?,
+            next: 0,
             missed: 0,
         })
     }
@@ -104,7 +107,7 @@ impl Calls {
     pub(crate) fn hear(&mut self, note: &HostNote, seconds: i64) {
         let at = HostChannel::of(note);
         match note.kind {
-            NoteKind::Incoming { calling } => self.ring(at, calling, seconds),
+            NoteKind::Incoming { ref calling } => self.ring(at, address_of(calling), seconds),
             NoteKind::Connected => self.connect(at),
             NoteKind::Cleared { cause, diagnostic } => self.clear(at, cause, diagnostic, seconds),
             NoteKind::Reset { cause, diagnostic } => {
@@ -113,12 +116,12 @@ impl Calls {
         }
     }
 
-    fn ring(&mut self, at: HostChannel, from: Option<Address>, seconds: i64) {
+    fn ring(&mut self, at: HostChannel, from: Option<CallAddress>, seconds: i64) {
         self.begin(at, from, false, seconds);
         self.note(at, CallChange::Incoming { from });
     }
 
-    fn begin(&mut self, at: HostChannel, far: Option<Address>, is_ours: bool, seconds: i64) {
+    fn begin(&mut self, at: HostChannel, far: Option<CallAddress>, is_ours: bool, seconds: i64) {
         if let Some(place) = self.place_mut(at) {
             *place = Some(CallStatus {
                 node: at.node,
@@ -178,14 +181,20 @@ impl Calls {
             channel: at.channel,
             change,
         };
-        if self.notes.try_push_back(note).is_err() {
+        if self.notes.len() >= MOST_NOTES || self.notes.push(note).is_err() {
             self.missed = self.missed.saturating_add(1);
         }
     }
 
     /// The next note that is to be logged.
     pub(crate) fn next_note(&mut self) -> Option<CallNote> {
-        self.notes.pop_front()
+        let note = *self.notes.get(self.next)?;
+        self.next += 1;
+        if self.next == self.notes.len() {
+            self.notes.clear();
+            self.next = 0;
+        }
+        Some(note)
     }
 
     /// How many notes had no place since this was last asked, if any.
@@ -228,4 +237,12 @@ impl Calls {
 /// How many seconds one time is after another; 0 if it is before it.
 fn seconds_between(from: i64, to: i64) -> u64 {
     u64::try_from(to.saturating_sub(from)).unwrap_or(0)
+}
+
+/// The digits of an address, if there is one.
+fn address_of(address: &Option<Address>) -> Option<CallAddress> {
+    match address {
+        Some(address) => Some(CallAddress::of(address)),
+        None => None,
+    }
 }

@@ -3,6 +3,7 @@
 
 mod absent;
 mod builtin;
+mod call_address;
 mod calls;
 mod exchange;
 mod hosts;
@@ -15,6 +16,7 @@ mod terminal;
 
 pub use absent::PadBinding;
 pub use builtin::BuiltIn;
+pub use call_address::CallAddress;
 pub use calls::{CallChange, CallNote, CallStatus};
 pub use hosts::HostBinding;
 pub use law::port_law;

@@ -1,5 +1,5 @@
 //! A network with terminals for clients and built-in services.
-ghost use Rattle.std.specs.Prelude.{◌≡◌, ◌≤◌, ◌×◌, true, length, option_map, take, slice_get, None, Some, IfOk, IfSome, IfNone};
+ghost use Rattle.std.specs.Prelude.{◌≡◌, ◌≤◌, true, length, option_map, take, slice_get, None, Some, IfOk, IfSome, IfNone};
 ghost use Rattle.net_events.specs.Network.{all_elapsed};
 ghost use Rattle.service.specs.Calls.{call_of};
 ghost use Rattle.service.specs.Orders.{after_order, port_of};
@@ -120,12 +120,17 @@ impl<L: Line> Service<L> {
         if self.stopping.is_some() {
             return None;
         }
-        let port = self
-            .terminals
-            .iter()
-            .position(|terminal| terminal.is_free_in(table))?;
+        let port = self.first_free(table)?;
         self.terminals[port].attach();
         Some(port)
+    }
+
+    fn first_free(&self, table: usize) -> Option<usize>
+        ensures { result ≡ position (is_free_in table) self.now.terminals.items }
+    {
+        self.terminals
+            .iter()
+            .position(|terminal| terminal.is_free_in(table))
     }
 
     /// Takes octets of a client, from the first on, as long as there is room. The answer is how many were taken.
@@ -195,7 +200,9 @@ impl<L: Line> Service<L> {
 
     /// The time, in seconds since the beginning of 1970, which the service `time` tells and calls are counted by.
     pub fn time(&mut self, seconds: i64)
-        ensures { self.new ≡ record self.old { exchange = record self.old.exchange { seconds = seconds } } }
+        ensures seconds { self.new.exchange.seconds ≡ seconds }
+        ensures terminals { self.new.terminals ≡ self.old.terminals }
+        ensures network { self.new.exchange.net ≡ self.old.exchange.net }
     {
         self.exchange.seconds = seconds;
     }
@@ -205,12 +212,10 @@ impl<L: Line> Service<L> {
         ensures ports { AllChange ended self.old.terminals.items self.new.terminals.items }
         ensures network { self.new.exchange.net ≡ self.old.exchange.net }
     {
-        if self.stopping.is_none() {
-            self.stopping = Some(MOST_STOPPING);
-        }
         for port in 0..self.terminals.len() {
             self.terminals[port].end();
         }
+        self.stopping = Some(self.stopping.unwrap_or(MOST_STOPPING));
     }
 
     /// Whether it has stopped: it was given time enough, or nobody is there and the network is at rest.
