@@ -1,5 +1,5 @@
 -- Terminals of tables, and terminals of none.
-use Rattle.std.proofs.Common.{◌≡◌, ◌≢◌, ◌⊎◌, ℕ, zero, suc, Bool, List, [], ◌∷◌, ◌++◌, ◌<◌, ◌≤◌, ◌+◌, ◌&&◌, ◌||◌, true, false, eqb, eq-eqb, length, slice_get, Some, None, refl, sym, ap, ◌∙◌, arith, inl, inr, subst, length-append}
+use Rattle.std.proofs.Common.{◌≡◌, ◌≢◌, ◌⊎◌, ℕ, zero, suc, Bool, List, [], ◌∷◌, ◌++◌, ◌<◌, ◌≤◌, ◌+◌, ◌&&◌, ◌||◌, true, false, eqb, eq-eqb, ◌==◌, length, position, set, slice_get, Some, None, refl, sym, ap, ◌∙◌, arith, inl, inr, subst, length-append}
 use Rattle.std.proofs.lemmas.Bool.{cases_eq}
 use Rattle.std.proofs.lemmas.Option.{slice_get_within}
 use Rattle.frame_lines.specs.Lines.{LineService}
@@ -15,8 +15,10 @@ use Rattle.service.specs.Places.{is_place, is_bound, AreApart}
 use Rattle.service.specs.Seats.{IsOfTable, AreSeated, IsOfSomeTable}
 use Rattle.service.specs.Absent.{PassesPlaces, IsTold, LeavesBelow, LeavesPads}
 use Rattle.service.specs.Serving.{Begins, ServesBelow}
+use Rattle.service.specs.Terminals.{HasCome, attached, is_free, is_free_in}
 use Rattle.service.specs.Steps.{Step, Steps, IsSilent, HasTried, Does}
 use Rattle.service.proofs.Stepping.{steps-append, silent-none, silent-append, tried-left, tried-right, tried_step}
+use Rattle.service.proofs.Keys.{first_found}
 use Rattle.service.proofs.Served.{presence_is_silent}
 
 -- ---- lists that get longer
@@ -54,12 +56,12 @@ is_place_self : (at : Place) → is_place at at ≡ true
 is_place_self at = λ i. same_number at.node i && same_number at.number i
 
 no_test : (a b : Bool) → a ≡ true → (a || b) ≡ false → ⊥
-no_test true b yes no = cc
-no_test false b yes no = cc
+no_test true b is isnt = cc
+no_test false b is isnt = cc
 
 rest_test : (a b : Bool) → (a || b) ≡ false → b ≡ false
-rest_test true b no = cc
-rest_test false b no = no
+rest_test true b isnt = cc
+rest_test false b isnt = isnt
 
 pub free_at : (places : List Place) (at : Place) → is_bound at places ≡ false → IsFree places at
 free_at [] at free port other there = cc
@@ -220,3 +222,21 @@ begins_so L tables pads more s m t places first after below seated leaves serves
   steps = serves.steps;
   served = serves.works;
 }
+
+-- ---- a client comes
+
+second_holds : (a b : Bool) → (a && b) ≡ true → b ≡ true
+second_holds true b is = is
+second_holds false b is = cc
+
+pub has_come : (table port : ℕ) (terminals after : List Terminal) (p q : Terminal) → position (is_free_in table) terminals ≡ Some port
+    → slice_get terminals port ≡ Some p → q ≡ attached p → after ≡ set terminals port q → HasCome terminals after port
+has_come table port terminals after p q found there came is =
+    let first = first_found (is_free_in table) terminals port found in
+    let same_terminal : first.0 ≡ p = let both : Some first.0 ≡ Some p = sym first.2 ∙ there in cc in
+    record {
+      was = p;
+      there = there;
+      free = second_holds (p.terms.table == table) (is_free p) (subst (λ (x : Terminal). is_free_in table x ≡ true) same_terminal first.1);
+      came = is ∙ ap (λ (x : Terminal). set terminals port x) came;
+    }

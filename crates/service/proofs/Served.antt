@@ -314,7 +314,7 @@ key_hastened L at Wish place event done s t p q is does was there after =
     let keys = p.port.keys.items in
     let where_it_is = xon_found p.terms.has_xon (position (is_octet 17) keys) place there in
     let found = first_found (is_octet 17) keys place where_it_is.1 in
-    let split = subst (λ key. keys ≡ take place keys ++ key ∷ drop (suc place) keys) (is_xon found.0 found.1) found.2 in
+    let split = subst (λ key. keys ≡ take place keys ++ key ∷ drop (suc place) keys) (is_xon found.0 found.1) found.3 in
     key_typed L at Wish xon event done s t p q (hastened (take place keys)) (remove keys place) is does was
     (drop (suc place) keys, [], where_it_is.0, split, refl, (refl, refl)) refl after
 

@@ -1,5 +1,5 @@
 //! A network with terminals for clients and built-in services.
-ghost use Rattle.std.specs.Prelude.{◌≡◌, ◌≤◌, ◌+◌, true, length, min, take, slice_get, None, Some, IfOk, IfSome, IfNone};
+ghost use Rattle.std.specs.Prelude.{◌≡◌, ◌≤◌, ◌+◌, true, length, min, option_map, take, slice_get, None, Some, IfOk, IfSome, IfNone};
 ghost use Rattle.net_events.specs.Network.{all_elapsed};
 ghost use Rattle.service.specs.Bridging.{are_free};
 ghost use Rattle.service.specs.Calls.{call_of};
@@ -132,10 +132,7 @@ impl<L: Line> Service<L> {
         if self.stopping.is_some() {
             return None;
         }
-        let port = self
-            .terminals
-            .iter()
-            .position(|terminal| terminal.is_free_in(table))?;
+        let port = self.first_free(table)?;
         self.terminals[port].attach();
         Some(port)
     }
@@ -172,6 +169,14 @@ impl<L: Line> Service<L> {
         ensures network { self.new.exchange.net ≡ self.old.exchange.net }
     {
         self.lost(port);
+    }
+
+    fn first_free(&self, table: usize) -> Option<usize>
+        ensures { result ≡ position (is_free_in table) self.now.terminals.items }
+    {
+        self.terminals
+            .iter()
+            .position(|terminal| terminal.is_free_in(table))
     }
 
     /// Takes octets of a client, from the first on, as long as there is room. The answer is how many were taken.
@@ -267,13 +272,11 @@ impl<L: Line> Service<L> {
         ensures ports { AllChange ended self.old.terminals.items self.new.terminals.items }
         ensures network { self.new.exchange.net ≡ self.old.exchange.net }
     {
-        if self.stopping.is_none() {
-            self.stopping = Some(MOST_STOPPING);
-        }
         for port in 0..self.terminals.len() {
             self.terminals[port].end();
         }
         self.bridges.stop();
+        self.stopping = Some(self.stopping.unwrap_or(MOST_STOPPING));
     }
 
     /// Whether it has stopped: it was given time enough, or nobody is there and the network is at rest.
