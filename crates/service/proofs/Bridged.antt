@@ -2,6 +2,7 @@
 use Rattle.std.proofs.Common.{◌≡◌, ◌≢◌, ◌⊎◌, ◌+◌, ◌<◌, ◌≤◌, ℕ, Bool, true, false, List, [], ◌∷◌, ◌++◌, refl, sym, ap, ◌∙◌, subst, append_assoc, append-nil, cond, eqb, take, drop, length, min, Result, Ok, Err, Option, Some, None, not, ◌&&◌, ◌||◌, flat_map, arith}
 use Rattle.std.specs.List.{list_all}
 use Rattle.std.specs.Bool.{OnTrue}
+use Rattle.std.specs.Prelude.{IfSome}
 use Rattle.std.specs.Borrow.{Bor}
 use Rattle.std.proofs.lemmas.Bool.{eqb-true, eq-eqb}
 use Rattle.std.proofs.lemmas.Grind.{flat_map-append}
@@ -23,7 +24,7 @@ use Rattle.line_sim.specs.Stepping.{lent}
 use Rattle.service.specs.declared.hosts.HostChannel.{HostChannel}
 use Rattle.service.specs.declared.service.Order.{Order}
 use Rattle.service.specs.declared.terminal.Terminal.{Terminal}
-use Rattle.service.specs.Orders.{ordered_at, after_order, IsFrom}
+use Rattle.service.specs.Orders.{ordered_at, after_order, port_of, IsFrom}
 use Rattle.service.specs.Terminals.{changed, changed_at, ordered}
 use Rattle.service.specs.Steps.{Step, Makes, Steps, is_idle, is_idle_answer, is_at_terminal, AreIdle, Does, PassesBy, Passes}
 use Rattle.service.specs.Bridging.{Packet, is_on, said_of, said_in, packet_of, packet_in, packet_from, taken_in, with_packets, all_said, all_taken, IsStill, is_of_network, packets_by, IsCarried, Carries, MayHave, is_calling}
@@ -139,11 +140,14 @@ carries_either L at p q s m t b x c one two =
     carries-then L at p q (p || q) s m t b x c (λ none. neither_left p q none) (λ none. neither_right p q none) one two
 
 pub passes_some : (L : LineService) (done : Bool) (s t : Network) → Passes L done s t → Passes L true s t
-passes_some L done s t passes = (passes.0, record {
-  made = passes.1.made;
-  silent = passes.1.silent;
-  idle = λ none. absurd (cc);
-})
+passes_some L done s t passes = (
+  passes.0,
+  record {
+    made = passes.1.made;
+    silent = passes.1.silent;
+    idle = λ none. absurd (cc);
+  },
+)
 
 -- phases change without a step
 pub carries_turn : (L : LineService) (at : HostChannel) (more : Bool) (s : Network) (b c : BridgeState) (phases : Phases)
@@ -223,8 +227,8 @@ pub carries_ask : (L : LineService) (at : HostChannel) (event : Event) (request 
 carries_ask L at event request done s t b c phases event_is none does is =
     let asked : Does L (Ask at.node at.channel request) done s t = subst (λ (e : Event). Does L e done s t) event_is does in
     carries_step L at (Ask at.node at.channel request) done s t b c (turns phases ∷ []) refl asked is refl
-        (sym (asks_nothing at at.node at.channel request asked.answer none)) refl
-        (λ other apart. (asks_nothing other at.node at.channel request asked.answer none, refl))
+    (sym (asks_nothing at at.node at.channel request asked.answer none)) refl
+    (λ other apart. (asks_nothing other at.node at.channel request asked.answer none, refl))
 
 -- a request that was refused
 pub carries_refused : (L : LineService) (at : HostChannel) (event : Event) (request : HostRequest) (done : Bool)
@@ -232,11 +236,11 @@ pub carries_refused : (L : LineService) (at : HostChannel) (event : Event) (requ
     → Carries L at false s t b b
 carries_refused L at event request done s t b event_is was does =
     let asked : Does L (Ask at.node at.channel request) false s t =
-        subst (λ (e : Event). Does L e false s t) event_is (subst (λ (d : Bool). Does L event d s t) was does) in
+    subst (λ (e : Event). Does L e false s t) event_is (subst (λ (d : Bool). Does L event d s t) was does) in
     let idle : is_idle asked.answer ≡ true = not_done false asked.answer asked.done_is refl in
     carries_step L at (Ask at.node at.channel request) false s t b b [] refl asked refl refl
-        (sym (cond_idle (is_on at at.node at.channel) (is_idle asked.answer) (said_of request) idle)) refl
-        (λ other apart. (cond_idle (is_on other at.node at.channel) (is_idle asked.answer) (said_of request) idle, refl))
+    (sym (cond_idle (is_on at at.node at.channel) (is_idle asked.answer) (said_of request) idle)) refl
+    (λ other apart. (cond_idle (is_on other at.node at.channel) (is_idle asked.answer) (said_of request) idle, refl))
 
 take_whole : (count most : ℕ) (octets xs : List ℕ) → count ≡ length octets → octets ≡ take most xs → take count xs ≡ octets
 take_whole count most octets xs count_is is =
@@ -252,13 +256,16 @@ pub carries_say : (L : LineService) (at : HostChannel) (event : Event) (request 
     → Carries L at true s t b c
 carries_say L at event request done octets count most s t b c event_is spoken octets_are count_is was does is =
     let asked : Does L (Ask at.node at.channel request) true s t =
-        subst (λ (e : Event). Does L e true s t) event_is (subst (λ (d : Bool). Does L event d s t) was does) in
+    subst (λ (e : Event). Does L e true s t) event_is (subst (λ (d : Bool). Does L event d s t) was does) in
     let idle : is_idle asked.answer ≡ false = was_done true asked.answer asked.done_is refl in
     carries_step L at (Ask at.node at.channel request) true s t b c (says count ∷ []) refl asked is refl
-        (append-nil (take count b.input) ∙ take_whole count most octets b.input count_is octets_are ∙ sym spoken
-        ∙ sym (cond_done (is_on at at.node at.channel) (is_idle asked.answer) (said_of request) (on_itself at) idle)) refl
-        (λ other apart. (cond_off (is_on other at.node at.channel) (not (is_idle asked.answer)) (said_of request)
-            (off_others other at apart), refl))
+    (append-nil (take count b.input) ∙ take_whole count most octets b.input count_is octets_are ∙ sym spoken
+    ∙ sym (cond_done (is_on at at.node at.channel) (is_idle asked.answer) (said_of request) (on_itself at) idle)) refl
+    (λ other apart. (
+      cond_off (is_on other at.node at.channel) (not (is_idle asked.answer)) (said_of request)
+          (off_others other at apart),
+      refl,
+    ))
 
 -- ---- packets that were taken
 
@@ -294,9 +301,9 @@ carries_take L at event answer done s t b c event_is stepped done_is is =
     } in
     let packets = packet_from answer in
     carries_step L at (Take at.node at.channel) done s t b c (deeds_of packets) refl asked
-        (is ∙ with_packets_is packets b) (deeds_are_own packets) (deeds_say_nothing packets b)
-        (packets_of_deeds packets ∙ sym (if_on (is_on at at.node at.channel) packets (on_itself at)))
-        (λ other apart. (refl, if_off (is_on other at.node at.channel) packets (off_others other at apart)))
+    (is ∙ with_packets_is packets b) (deeds_are_own packets) (deeds_say_nothing packets b)
+    (packets_of_deeds packets ∙ sym (if_on (is_on at at.node at.channel) packets (on_itself at)))
+    (λ other apart. (refl, if_off (is_on other at.node at.channel) packets (off_others other at apart)))
 
 pub carries_packet : (L : LineService) (at : HostChannel) (event : Event) (r : Lent) (answer : Bor Answer) (idle : Bool)
     (octets : List ℕ) (s t : Network) (b c : BridgeState) → event ≡ Take at.node at.channel
@@ -305,16 +312,16 @@ pub carries_packet : (L : LineService) (at : HostChannel) (event : Event) (r : L
     → Carries L at (not idle) s t b c
 carries_packet L at event r answer idle octets s t b c event_is stepped ok idle_is octets_are is =
     carries_take L at event (lent r) (not idle) s t b c event_is stepped
-        (ap not idle_is ∙ sym (ap (λ a. not (is_idle (lent a))) ok))
-        (is ∙ ap (λ xs. with_packets (packet_in answer.now.outcome xs) b) octets_are
-        ∙ sym (ap (λ a. with_packets (packet_from (lent a)) b) ok))
+    (ap not idle_is ∙ sym (ap (λ a. not (is_idle (lent a))) ok))
+    (is ∙ ap (λ xs. with_packets (packet_in answer.now.outcome xs) b) octets_are
+    ∙ sym (ap (λ a. with_packets (packet_from (lent a)) b) ok))
 
 pub carries_no_take : (L : LineService) (at : HostChannel) (event : Event) (r : Lent) (fault : StepFault) (s t : Network)
     (b : BridgeState) → event ≡ Take at.node at.channel → Makes L s (record { event = event; answer = lent r }) t
     → r ≡ Err fault → Carries L at false s t b b
 carries_no_take L at event r fault s t b event_is stepped err =
     carries_take L at event (lent r) false s t b b event_is stepped
-        (sym (ap (λ a. not (is_idle (lent a))) err)) (sym (ap (λ a. with_packets (packet_from (lent a)) b) err))
+    (sym (ap (λ a. not (is_idle (lent a))) err)) (sym (ap (λ a. with_packets (packet_from (lent a)) b) err))
 
 -- ---- a call is placed
 
@@ -374,3 +381,13 @@ pub order_past : (order : Order) (terminals : List Terminal) → IsFrom (length 
     → terminals ≡ after_order order terminals
 order_past order terminals (port, is, past) =
     ordered_past port terminals past ∙ sym (ap (λ found. ordered_at found terminals) is)
+
+pub orders_past : (found : Option Order) (terminals : List Terminal) (first : ℕ) → first ≡ length terminals
+    → IfSome found (IsFrom first) → IfSome found (λ order. terminals ≡ after_order order terminals)
+orders_past None terminals first is from = tt
+orders_past (Some order) terminals first is from =
+    order_past order terminals (subst (λ (n : ℕ). IsFrom n order) is from)
+
+-- an order for the bridge of a place
+pub order_from : (order : Order) (first place port : ℕ) → port_of order ≡ Some port → port ≡ first + place → IsFrom first order
+order_from order first place port is at = (port, is, omega arith)

@@ -173,18 +173,15 @@ impl Bridges {
     /// Hears what a host was told. The answer is whether a call came for which no bridge is free: it is to be refused.
     pub(crate) fn hear(&mut self, letter: &Letter) -> bool {
         if let News::Rings {
-            calling,
-            called,
+            ref calling,
+            ref called,
             ref user_data,
         } = letter.news
         {
             return !self.ring(letter.at, calling, called, user_data.as_slice());
         }
-        for port in 0..self.ports.len() {
-            if self.ports[port].is_at(letter.at) {
-                self.ports[port].hear(&letter.news);
-                return false;
-            }
+        if let Some(port) = self.ports.iter_mut().find(|port| port.is_at(letter.at)) {
+            port.hear(&letter.news);
         }
         false
     }
@@ -193,10 +190,17 @@ impl Bridges {
     fn ring(
         &mut self,
         at: HostChannel,
-        calling: Option<Address>,
-        called: Option<Address>,
+        calling: &Option<Address>,
+        called: &Option<Address>,
         user_data: &[u8],
     ) -> bool {
+        let far_end = match calling {
+            Some(calling) => self.far_end(calling),
+            None => FarEnd::Host,
+        };
+        let Some(free) = self.free_port() else {
+            return false;
+        };
         let Some(place) = self
             .services
             .iter()
@@ -204,20 +208,17 @@ impl Bridges {
         else {
             return false;
         };
-        let service = self.services[place];
-        let far_end = self.far_end(calling);
-        let Some(port) = self.free_port() else {
+        let (Some(service), Some(port)) = (self.services.get(place), self.ports.get_mut(free))
+        else {
             return false;
         };
-        let port = &mut self.ports[port];
-        let is_written = service.hello
+        let is_told = service.hello
             && write_hello(&mut port.message, calling, called, user_data).is_ok();
-        let hello = if is_written {
-            port.message.as_slice()
-        } else {
-            &[]
-        };
-        port.bridge.ring(service.terms, far_end, hello);
+        if !is_told {
+            port.message.clear();
+        }
+        port.bridge
+            .ring(service.terms, far_end, port.message.as_slice());
         port.at = Some(at);
         port.owner = Owner::Service(place);
         true
@@ -225,10 +226,11 @@ impl Bridges {
 
     /// A connection came to a caller: the first free bridge has it, and the answer is its place.
     pub(crate) fn attach(&mut self, caller: usize) -> Option<usize> {
-        let Caller { address, terms, .. } = *self.callers.get(caller)?;
-        let far_end = self.far_end(Some(address));
+        let binding = self.callers.get(caller)?;
+        let terms = binding.terms;
+        let far_end = self.far_end(&binding.address);
         let place = self.free_port()?;
-        let port = &mut self.ports[place];
+        let port = self.ports.get_mut(place)?;
         port.bridge.attach(terms, far_end);
         port.at = None;
         port.owner = Owner::Caller(caller);
@@ -244,10 +246,11 @@ impl Bridges {
     }
 
     /// What is at the far end of a call from or to this address.
-    fn far_end(&self, address: Option<Address>) -> FarEnd {
-        match address {
-            Some(address) if self.pads.contains(&address) => FarEnd::Pad,
-            _ => FarEnd::Host,
+    fn far_end(&self, address: &Address) -> FarEnd {
+        if self.pads.iter().any(|pad| pad.digits() == address.digits()) {
+            FarEnd::Pad
+        } else {
+            FarEnd::Host
         }
     }
 
@@ -325,7 +328,8 @@ impl Bridges {
     {
         for place in 0..self.ports.len() {
             let port = first.checked_add(place)?;
-            if let Some(order) = order_of(port, &mut self.ports[place]) {
+            let bridge = self.ports.get_mut(place)?;
+            if let Some(order) = order_of(port, bridge) {
                 return Some(order);
             }
         }
@@ -352,16 +356,16 @@ impl Bridges {
 
     /// Lets ticks pass.
     pub(crate) fn elapse(&mut self, ticks: u16) {
-        for port in 0..self.ports.len() {
-            self.ports[port].bridge.elapse(ticks);
+        for port in self.ports.iter_mut() {
+            port.bridge.elapse(ticks);
         }
     }
 
     /// No call comes any more, and those that are there are cleared, once what waits is written out.
     pub(crate) fn stop(&mut self) {
         self.stopping = true;
-        for port in 0..self.ports.len() {
-            self.ports[port].bridge.end();
+        for port in self.ports.iter_mut() {
+            port.bridge.end();
         }
     }
 

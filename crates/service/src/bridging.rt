@@ -47,8 +47,8 @@ fn serve_ports<L: Line>(exchange: &mut Exchange<L>, bridges: &mut Bridges) -> bo
     ensures { Passes L.service result exchange.old.net exchange.new.net }
 {
     let mut any = false;
-    for port in 0..bridges.ports.len() {
-        let done = exchange.serve_bridge(&bridges.callers, &mut bridges.ports[port]);
+    for port in bridges.ports.iter_mut() {
+        let done = exchange.serve_bridge(&bridges.callers, port);
         any |= done;
     }
     any
@@ -292,11 +292,15 @@ fn say_request(octets: Vec<u8>, delivery: bool) -> HostRequest
 fn hand_over(bridge: &mut Bridge, outcome: Outcome, octets: &[u8])
     ensures { bridge.new ≡ with_packets (packet_in outcome octets.now) bridge.old }
 {
-    if let Outcome::Took(Some(Front::Data {
-        qualified: false,
-        more,
-        ..
-    })) = outcome
+    if let Outcome::Took(
+        Some(
+            Front::Data {
+                qualified: false,
+                more,
+                ..
+            },
+        ),
+    ) = outcome
     {
         bridge.took(octets, more);
     }

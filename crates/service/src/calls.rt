@@ -45,7 +45,9 @@ pub enum CallChange {
         said: u64,
     },
     /// An interrupt or a packet with Q = 1 of so many octets was taken, which no service or caller has, and was dropped.
-    Dropped { octets: usize },
+    Dropped {
+        octets: usize,
+    },
     /// The call was reset, for this cause and diagnostic.
     Reset {
         cause: u8,
@@ -185,9 +187,14 @@ impl Calls {
     /// Something was taken for a bridge: user data without Q, or what is dropped.
     pub(crate) fn take(&mut self, at: HostChannel, outcome: Outcome, octets: usize) {
         match outcome {
-            Outcome::Took(Some(Front::Data {
-                qualified: false, ..
-            })) => self.took(at, octets),
+            Outcome::Took(
+                Some(
+                    Front::Data {
+                        qualified: false,
+                        ..
+                    },
+                ),
+            ) => self.took(at, octets),
             Outcome::Took(Some(_)) => self.note(at, CallChange::Dropped { octets }),
             _ => {}
         }

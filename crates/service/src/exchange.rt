@@ -13,7 +13,8 @@ use crate::place::Place;
 use crate::terminal::{Presence, Terminal, XON};
 use clock_texts::utc_text;
 use line_sim::{
-    Answer, CallUser, Direction, Event, HostRequest, Line, Outcome, PadAnswer, TerminalEvent, UserNote,
+    Answer, CallUser, Direction, Event, HostRequest, Line, Outcome, PadAnswer, TerminalEvent,
+    UserNote,
 };
 use live_net::LiveNet;
 use service_ports::Key;

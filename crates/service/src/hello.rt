@@ -1,5 +1,5 @@
 //! The first line that a service is sent: who calls.
-ghost use Rattle.std.specs.Prelude.{◌≡◌, ◌<◌, [], ◌++◌, map, flat_map, OnOk};
+ghost use Rattle.std.specs.Prelude.{◌≡◌, ◌+◌, ◌%◌, ◌<◌, ◌++◌, map, flat_map, OnOk};
 ghost use Rattle.service.specs.Hello.{digits_text, hello_line, hexadecimal, octet_text, octets_text};
 
 use packet_codec::Address;
@@ -9,11 +9,11 @@ use std::alloc::AllocError;
 /// `AllocError` comes for want of memory, which a line with room for 80 octets does not want.
 pub(crate) fn write_hello(
     line: &mut Vec<u8>,
-    calling: Option<Address>,
-    called: Option<Address>,
+    calling: &Option<Address>,
+    called: &Option<Address>,
     user_data: &[u8],
 ) -> Result<(), AllocError>
-    ensures { OnOk result (line.new.items ≡ hello_line calling called user_data.now) }
+    ensures { OnOk result (line.new.items ≡ hello_line calling.now called.now user_data.now) }
 {
     line.clear();
     line.extend_from_slice(b"CALL ")?;
@@ -25,8 +25,8 @@ pub(crate) fn write_hello(
     line.extend_from_slice(b"\r\n")
 }
 
-fn push_address(line: &mut Vec<u8>, address: Option<Address>) -> Result<(), AllocError>
-    ensures { OnOk result (line.new.items ≡ line.old.items ++ digits_text address) }
+fn push_address(line: &mut Vec<u8>, address: &Option<Address>) -> Result<(), AllocError>
+    ensures { OnOk result (line.new.items ≡ line.old.items ++ digits_text address.now) }
 {
     match address {
         Some(address) => push_digits(line, address.digits()),

@@ -346,10 +346,18 @@ impl<L: Line> Service<L> {
                 return Some(order);
             }
         }
-        if let Some(order) = self.bridges.order(self.terminals.len()) {
+        if let Some(order) = self.next_bridge_order() {
             return Some(order);
         }
         self.next_call_order()
+    }
+
+    fn next_bridge_order(&mut self) -> Option<Order>
+        ensures given { IfSome result (λ order. self.old.terminals.items ≡ after_order order self.old.terminals.items) }
+        ensures terminals { self.new.terminals ≡ self.old.terminals }
+        ensures network { self.new.exchange.net ≡ self.old.exchange.net }
+    {
+        self.bridges.order(self.terminals.len())
     }
 
     fn next_call_order(&mut self) -> Option<Order>

@@ -8,4 +8,4 @@ loop-port-init g c = passes_none g.L.Line.service _ _
 pub loop-port-preserved : goal.loop-port-preserved
 loop-port-preserved g c =
     passes-then g.L.Line.service _ _ _ _ _ c.loop-port.invariant
-        (carries_pass g.L.Line.service _ _ _ _ _ _ c.serve_bridge-done.ensures)
+    (carries_pass g.L.Line.service _ _ _ _ _ _ c.serve_bridge-done.ensures)

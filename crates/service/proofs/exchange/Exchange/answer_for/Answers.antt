@@ -6,9 +6,9 @@ use Rattle.service.proofs.exchange.Exchange.answer_for.Goals as goal
 pub returns-then-done : goal.returns-then-done
 returns-then-done g c =
     carries_ask g.L.Line.service c.args.at _ Answer _ _ _ _ _ _ c.ask_event.ensures refl c.happen-done.ensures.does
-        c.answered.ensures
+    c.answered.ensures
 
 pub returns-else-done : goal.returns-else-done
 returns-else-done g c =
     carries_ask g.L.Line.service c.args.at _ Answer _ _ _ _ _ _ c.ask_event.ensures refl c.happen-done.ensures.does
-        c.answered.ensures
+    c.answered.ensures

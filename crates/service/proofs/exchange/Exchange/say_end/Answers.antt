@@ -10,5 +10,5 @@ returns-then-not-happen g c =
 pub returns : goal.returns
 returns g c =
     carries_with g.L.Line.service c.args.at _ _ _ _ _ _ c.if-not-happen.false
-        (carries_ask g.L.Line.service c.args.at _ _ _ _ _ _ _ _ c.ask_event.ensures
-            (ap said_of c.say_request-request.ensures ∙ c.new.ensures.items) c.happen.ensures.does c.said_end.ensures)
+    (carries_ask g.L.Line.service c.args.at _ _ _ _ _ _ _ _ c.ask_event.ensures
+    (ap said_of c.say_request-request.ensures ∙ c.new.ensures.items) c.happen.ensures.does c.said_end.ensures)

@@ -13,5 +13,5 @@ returns-then-not-said g c =
 pub returns : goal.returns
 returns g c =
     carries_say g.L.Line.service c.args.at _ _ _ _ _ 1024 _ _ _ _ c.ask_event-event.ensures (ap said_of c.say_request.ensures)
-        (on_filled _ _ _ c.if-not-fill_message.false c.fill_message.ensures ∙ c.message.ensures)
-        (ap length c.as_slice-count.ensures.value) c.if-not-said.false c.happen-said.ensures.does c.said.ensures
+    (on_filled _ _ _ c.if-not-fill_message.false c.fill_message.ensures ∙ c.message.ensures)
+    (ap length c.as_slice-count.ensures.value) c.if-not-said.false c.happen-said.ensures.does c.said.ensures
