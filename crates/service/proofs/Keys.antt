@@ -38,9 +38,14 @@ pub befall-more : (has_xon : Bool) (fates : List Fate) (keys typed left more : L
 befall-more has_xon [] keys typed left more (same, none) = (ap (λ k. k ++ more) same, none)
 befall-more has_xon (pressed key ∷ fates) keys typed left more (rest, later, is, first, on) =
     (rest ++ more, later, ap (λ k. k ++ more) is, first, befall-more has_xon fates rest later left more on)
-befall-more has_xon (hastened before ∷ fates) keys typed left more (rest, later, may, is, first, on) =
-    (rest ++ more, later, may, ap (λ k. k ++ more) is ∙ append_assoc before (xon ∷ rest) more, first,
-    subst (λ k. Befall has_xon fates k later (left ++ more)) (append_assoc before rest more) (befall-more has_xon fates (before ++ rest) later left more on))
+befall-more has_xon (hastened before ∷ fates) keys typed left more (rest, later, may, is, first, on) = (
+  rest ++ more,
+  later,
+  may,
+  ap (λ k. k ++ more) is ∙ append_assoc before (xon ∷ rest) more,
+  first,
+  subst (λ k. Befall has_xon fates k later (left ++ more)) (append_assoc before rest more) (befall-more has_xon fates (before ++ rest) later left more on),
+)
 befall-more has_xon (overtaken first ∷ fates) keys typed left more (rest, is, urgent, on) =
     (rest ++ more, ap (λ k. k ++ more) is ∙ append_assoc first rest more, urgent-more rest more urgent, befall-more has_xon fates rest typed left more on)
 

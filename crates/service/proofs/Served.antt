@@ -391,7 +391,7 @@ pub key_gives_way : (L : LineService) (at : Place) (key : Key) (event : Event) (
 key_gives_way L at key event done over s m t p q is does was hastens over_is =
     let Any = λ (x : Terminal) (e : Event). IsKey at key x e ⊎ WishesXon at x e in
     let both = serves-then L at (IsKey at key) (WishesXon at) Any false over s m t p p q (λ e wish. wish)
-        (key_refused L at (IsKey at key) key event done s m p is does was (λ e wish. wish)) hastens in
+    (key_refused L at (IsKey at key) key event done s m p is does was (λ e wish. wish)) hastens in
     record {
       steps = both.steps;
       made = both.made;
