@@ -147,6 +147,13 @@ impl<L: Line> Service<L> {
         self.terminals.len().checked_add(place)
     }
 
+    /// The port of the first bridge.
+    fn first_bridge(&self) -> usize
+        ensures { result ≡ length self.now.terminals.items }
+    {
+        self.terminals.len()
+    }
+
     /// The place among the bridges of a port that is no terminal's.
     fn bridge_place(&self, port: usize) -> usize {
         port.saturating_sub(self.terminals.len())
@@ -357,7 +364,8 @@ impl<L: Line> Service<L> {
         ensures terminals { self.new.terminals ≡ self.old.terminals }
         ensures network { self.new.exchange.net ≡ self.old.exchange.net }
     {
-        self.bridges.order(self.terminals.len())
+        let first = self.first_bridge();
+        self.bridges.order(first)
     }
 
     fn next_call_order(&mut self) -> Option<Order>
