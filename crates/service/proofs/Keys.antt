@@ -122,9 +122,3 @@ is_xon Break is = cc
 pub xon_found : (has_xon : Bool) (found : Option ℕ) (place : ℕ) → cond has_xon found None ≡ Some place → (has_xon ≡ true) × (found ≡ Some place)
 xon_found true found place is = (refl, is)
 xon_found false found place is = cc
-
-pub found_within : (test : Key → Bool) (keys : List Key) (place : ℕ) → position test keys ≡ Some place → place ≤ length keys
-found_within test keys place is =
-    let found = place_is (nat_lt (position_or_len test keys) (length keys)) (position_or_len test keys) place is in
-    let within : position_or_len test keys < length keys = grind (arith, nat_tests, found.0) in
-    omega (arith, within, found.1)

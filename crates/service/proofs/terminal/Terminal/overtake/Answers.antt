@@ -5,10 +5,12 @@ use Rattle.service.proofs.terminal.Terminal.overtake.Goals as goal
 
 pub returns-in-Some-clause-dropped : goal.returns-in-Some-clause-dropped
 returns-in-Some-clause-dropped c =
-    let found : position (is_break_or 16) c.args.self.now.port.keys.items ≡ Some c.in-Some.place = sym c.find_key.ensures ∙ c.in-Some.is in
+    let keys = c.args.self.now.port.keys.items in
+    let place = c.in-Some.place in
+    let found : position (is_break_or 16) keys ≡ Some place = sym c.find_key.ensures ∙ c.in-Some.is in
     record {
-      count = c.in-Some.place;
-      within = omega (arith, found_within (is_break_or 16) _ _ found);
-      urgent = urgent_found _ _ found;
+      count = place;
+      within = omega (arith, found_within (is_break_or 16) keys place found);
+      urgent = urgent_found keys place found;
       dropped = search rules;
     }
