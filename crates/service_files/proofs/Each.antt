@@ -1,15 +1,14 @@
 -- What the values of an array say, read one after the other, and refusals that are passed on.
 use Rattle.std.proofs.Common.{◌≡◌, ℕ, suc, zero, ◌+◌, ◌<◌, List, [], ◌∷◌, ◌++◌, length, take, get_or, sym, ◌∙◌, ap}
 use Rattle.std.proofs.Common.{Some, None, Vec, Global, inl, inr, Option}
-use Rattle.std.specs.Prelude.{Result, Ok, Err, IsErrAnd}
+use Rattle.std.specs.Prelude.{Result, Ok, Err, IsErrAnd, IfOk}
 use Rattle.std.proofs.lemmas.List.{take_more}
 use Rattle.toml.specs.Data.{Data, Items, item, Members, as_table, get_item, push_item}
-use Rattle.toml.specs.View.{view, table_view, items_view}
-use Rattle.std.specs.Borrow.{Bor}
+use Rattle.toml.specs.View.{view, items_view}
 use Rattle.toml.specs.declared.value.Value.{Value}
 use Rattle.toml.proofs.Views.{items_view-push, get_item_within}
 use Rattle.service_files.specs.declared.refusal.Refusal.{Refusal}
-use Rattle.service_files.specs.Reads.{Reads, ReadsAs, EachSays, IsTable}
+use Rattle.service_files.specs.Reads.{Reads, EachSays, IsTable}
 use Rattle.service_files.specs.Reads.EachSays.{none, more}
 
 -- one value more at the end
@@ -60,30 +59,8 @@ pub told_on : {A : Type 0} (Says : A → Type 0) (result : Result A Refusal) (re
 told_on Says (Ok x) refusal told reads = absurd told
 told_on Says (Err e) refusal told reads = rw told reads
 
--- what is needed cannot be had
-pub part_refused : {A B : Type 0} (Part : A → Type 0) (Whole : B → Type 0) (refusal : Refusal)
-    → ((x : B) → Whole x → (y : A) × Part y) → Reads Part (Err refusal) → Reads Whole (Err refusal)
-part_refused Part Whole refusal has (inl memory) = inl memory
-part_refused Part Whole refusal has (inr bad) =
-    inr (bad.0, λ x whole. (let part = has x whole in bad.1 part.0 part.1))
-
--- what is no table says nothing
-pub no_table : {A : Type 0} (Says : Members → A → Type 0) (value : Data) (refusal : Refusal)
-    → ReadsAs {Bor Table} (λ table. table_view table.now) (λ entry. as_table value ≡ Some entry) (Err refusal)
-    → Reads (IsTable Says value) (Err refusal)
-no_table Says value refusal (inl memory) = inl memory
-no_table Says value refusal (inr bad) = inr (bad.0, λ x whole. bad.1 whole.entry whole.is)
-
 -- a table is read as its members are
 pub table_read : {A : Type 0} (Says : Members → A → Type 0) (value : Data) (entry : Members) (result : Result A Refusal)
-    → as_table value ≡ Some entry → Reads (Says entry) result → Reads (IsTable Says value) result
+    → as_table value ≡ Some entry → IfOk result (Says entry) → IfOk result (IsTable Says value)
 table_read Says value entry (Ok x) is says = record { entry = entry; is = is; says = says }
-table_read Says value entry (Err refusal) is (inl memory) = inl memory
-table_read Says value entry (Err refusal) is (inr bad) =
-    inr (
-      bad.0,
-      λ x whole. (
-          let same : whole.entry ≡ entry = (let other = whole.is in cc) in
-          bad.1 x (rw same at whole.says)
-          ),
-    )
+table_read Says value entry (Err refusal) is says = tt

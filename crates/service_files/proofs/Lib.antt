@@ -1,4 +1,3 @@
 pub mod Each
 pub mod Prefixes
-pub mod WhyRefused
 mod Fitting

@@ -1,5 +1,5 @@
 -- What the tables of a service file say, with what stands for what is left out.
-use Rattle.std.specs.Prelude.{◌≡◌, ◌≤◌, ℕ, List, [], length, codes, true, false, Option, Some, None, option_map, unwrap_or, Vec, ⊤, ⊥}
+use Rattle.std.specs.Prelude.{◌≡◌, ◌≤◌, ℕ, List, [], length, codes, Option, Some, None, option_map, unwrap_or, Vec, ⊤}
 use Rattle.std.specs.Global.{Global}
 use Rattle.std.specs.Prelude.{if◌then◌else◌, Ok}
 use Rattle.std.specs.Net.Grammar.{IsSocketText}
@@ -7,7 +7,6 @@ use Rattle.std.specs.declared.net.socket_addr.SocketAddr.{SocketAddr}
 use Rattle.hex.specs.Hex.{decode_of}
 use Rattle.toml.specs.Data.{Data, Items, Members, as_str}
 use Rattle.net_config.specs.Served.{same_text}
-use Rattle.file_tables.specs.Faults.{is_right}
 use Rattle.service_files.specs.declared.file.Mode.{Mode}
 use Rattle.service_files.specs.declared.file.Mode.TheVariants.{Telnet, Raw}
 use Rattle.service_files.specs.declared.file.BuiltIn.{BuiltIn as BuiltInService}
@@ -23,9 +22,8 @@ use Rattle.service_files.specs.declared.file.CallerTable.{CallerTable}
 use Rattle.service_files.specs.declared.file.ServiceFile.{ServiceFile}
 use Rattle.service_files.specs.declared.addresses.Allow.{Allow}
 use Rattle.service_files.specs.declared.addresses.Prefix.{Prefix}
-use Rattle.service_files.specs.declared.keys.TheConstants.{DOCUMENT, TERMINALS, SERVICE, CALLER, LIMITS, LATER, OF_CONNECT}
 use Rattle.service_files.specs.Addresses.{IsPrefixText}
-use Rattle.service_files.specs.Reads.{EachSays, IsTable, text_at, number_at, flag_at, values_at, items_at, table_at, has_one}
+use Rattle.service_files.specs.Reads.{EachSays, IsTable, text_at, number_at, flag_at, values_at, items_at, table_at}
 
 abbrev pub mode_of : Option (List ℕ) → Mode
 mode_of None = Telnet
@@ -57,7 +55,6 @@ SaysAllow entry allow = SaysPrefixes (values_at (codes "allow") entry) allow.pre
 -- ---- `[[terminals]]`
 
 pub record SaysTerminals (entry : Members) (table : TerminalsTable) : Type 0 where
-  pub keys : is_right TERMINALS entry ≡ true
   pub pad : table.pad.now ≡ unwrap_or (text_at (codes "pad") entry) []
   pub listen : IsSocketText (unwrap_or (text_at (codes "listen") entry) []) table.listen
   pub first : table.first ≡ unwrap_or (number_at (codes "first") entry) 0
@@ -80,7 +77,7 @@ pub record SaysConnect (entry : Members) (text : List ℕ) (connect : Connect) :
 -- either it is built in, or there is an address to connect to
 abbrev pub IsHost : Members → (builtin : Option (List ℕ)) → (connect : Option (List ℕ)) → HostService → Type 0
 IsHost entry (Some word) None (host_service.BuiltIn builtin) =
-    (builtin ≡ builtin_of word) × (has_one entry OF_CONNECT ≡ false)
+    builtin ≡ builtin_of word
 IsHost entry None (Some text) (host_service.Connect connect) = SaysConnect entry text connect
 IsHost _ _ _ _ = ⊥
 
@@ -88,7 +85,6 @@ abbrev pub SaysHost : Members → HostService → Type 0
 SaysHost entry = IsHost entry (text_at (codes "builtin") entry) (text_at (codes "connect") entry)
 
 pub record SaysService (entry : Members) (table : ServiceTable) : Type 0 where
-  pub keys : is_right SERVICE entry ≡ true
   pub host : table.host.now ≡ unwrap_or (text_at (codes "host") entry) []
   pub service : SaysHost entry table.service
 
@@ -100,7 +96,6 @@ SaysUserData None octets = octets.items ≡ []
 SaysUserData (Some text) octets = (decode_of text ≡ Ok octets.items) × (length octets.items ≤ 16)
 
 pub record SaysCaller (entry : Members) (table : CallerTable) : Type 0 where
-  pub keys : is_right CALLER entry ≡ true
   pub host : table.host.now ≡ unwrap_or (text_at (codes "host") entry) []
   pub listen : IsSocketText (unwrap_or (text_at (codes "listen") entry) []) table.listen
   pub call : table.call.now ≡ unwrap_or (text_at (codes "call") entry) []
@@ -119,15 +114,12 @@ SaysControl _ _ = ⊥
 abbrev pub IsConnections : Option Members → ℕ → Type 0
 IsConnections None connections = connections ≡ 64
 IsConnections (Some limits) connections =
-    (is_right LIMITS limits ≡ true)
-    × (connections ≡ unwrap_or (number_at (codes "connections") limits) 64)
+    connections ≡ unwrap_or (number_at (codes "connections") limits) 64
 
 abbrev pub SaysConnections : Members → ℕ → Type 0
 SaysConnections document = IsConnections (table_at (codes "limits") document)
 
 pub record SaysFile (document : Members) (file : ServiceFile) : Type 0 where
-  pub keys : is_right DOCUMENT document ≡ true
-  pub later : has_one document LATER ≡ false
   pub network : file.network.now ≡ unwrap_or (text_at (codes "network") document) []
   pub log : option_map (λ text. text.now) file.log ≡ text_at (codes "log") document
   pub control : SaysControl (text_at (codes "control") document) file.control

@@ -1,8 +1,8 @@
 //! What a check of a service file says.
-ghost use Rattle.std.specs.Prelude.{◌≡◌, IfOk, codes, string_bytes, option_map};
+ghost use Rattle.std.specs.Prelude.{◌≡◌, true, IfOk, codes, string_bytes, option_map};
 ghost use Rattle.toml.specs.View.{table_view};
 ghost use Rattle.service_files.specs.Reads.{text_at};
-ghost use Rattle.service_files.specs.Checks.{Checks, Tells, Names};
+ghost use Rattle.service_files.specs.Checks.{IsRight, Names};
 
 use crate::reading::{read_document, read_service};
 use crate::refusal::Refusal;
@@ -38,7 +38,7 @@ fn name_in(alloc: Global, document: &Table) -> Result<Option<String>, AllocError
 /// Checks the octets of a service file, and those of the network's file that it names. What is wrong first is told in
 /// one line: of the service file's form, of the network, else of how they fit. If nothing is, each binding has a line.
 pub fn check_service(alloc: Global, octets: &[u8], network: &[u8]) -> Result<Checked, AllocError>
-    ensures { IfOk result (λ checked. Checks octets.now network.now checked.is_right) }
+    ensures { IfOk result (λ checked. checked.is_right ≡ true → IsRight octets.now network.now) }
 {
     let mut text = String::new(alloc);
     let is_right = match tell_service(alloc, &mut text, octets, network) {
@@ -56,7 +56,7 @@ fn tell_service(
     octets: &[u8],
     network: &[u8],
 ) -> Result<(), Refusal>
-    ensures { Tells octets.now network.now result }
+    ensures { IfOk result (λ _. IsRight octets.now network.now) }
 {
     let document = read_document(alloc, out, octets)?;
     let file = read_service(alloc, out, &document)?;

@@ -1,5 +1,5 @@
 //! How the tables of hosts are read: of services that they are, and of callers.
-ghost use Rattle.std.specs.Prelude.{◌≡◌, option_map};
+ghost use Rattle.std.specs.Prelude.{◌≡◌, IfOk, option_map};
 ghost use Rattle.toml.specs.View.{table_view};
 ghost use Rattle.service_files.specs.Reads.{Reads};
 ghost use Rattle.service_files.specs.Says.{at_reset_of, builtin_of, SaysHost, SaysConnect, SaysService, SaysUserData, SaysCaller};
@@ -33,7 +33,7 @@ pub(crate) fn read_host<'a>(
     place: Place,
     table: &'a Table,
 ) -> Result<ServiceTable<'a>, Refusal>
-    ensures { Reads (SaysService (table_view table.entry.now)) result }
+    ensures { IfOk result (SaysService (table_view table.entry.now)) }
 {
     look_at(alloc, out, place, &SERVICE, table)?;
     Ok(ServiceTable {
@@ -43,7 +43,7 @@ pub(crate) fn read_host<'a>(
 }
 
 fn read_host_service(out: &mut String, place: Place, table: &Table) -> Result<HostService, Refusal>
-    ensures { Reads (SaysHost (table_view table.now)) result }
+    ensures { IfOk result (SaysHost (table_view table.now)) }
 {
     match (text_at(table, "builtin"), text_at(table, "connect")) {
         (Some(word), None) => {
@@ -81,7 +81,7 @@ fn read_connect(
     table: &Table,
     text: &str,
 ) -> Result<Connect, Refusal>
-    ensures { Reads (SaysConnect (table_view table.now) text.now) result }
+    ensures { IfOk result (SaysConnect (table_view table.now) text.now) }
 {
     Ok(Connect {
         at: read_address(out, place, "connect", text)?,
@@ -108,7 +108,7 @@ pub(crate) fn read_caller<'a>(
     place: Place,
     table: &'a Table,
 ) -> Result<CallerTable<'a>, Refusal>
-    ensures { Reads (SaysCaller (table_view table.entry.now)) result }
+    ensures { IfOk result (SaysCaller (table_view table.entry.now)) }
 {
     look_at(alloc, out, place, &CALLER, table)?;
     Ok(CallerTable {

@@ -1,5 +1,5 @@
 //! How a service file is read.
-ghost use Rattle.std.specs.Prelude.{◌≡◌, option_map};
+ghost use Rattle.std.specs.Prelude.{◌≡◌, IfOk, option_map};
 ghost use Rattle.toml.specs.View.{view, table_view, items_view};
 ghost use Rattle.service_files.specs.Reads.{Reads, ReadsAs};
 ghost use Rattle.service_files.specs.Reads.{EachSays, IsDocument, IsTable};
@@ -44,7 +44,7 @@ pub fn read_service<'a>(
     out: &mut String,
     document: &'a Table,
 ) -> Result<ServiceFile<'a>, Refusal>
-    ensures { Reads (SaysFile (table_view document.entry.now)) result }
+    ensures { IfOk result (SaysFile (table_view document.entry.now)) }
 {
     look_at(alloc, out, Place::Document, &DOCUMENT, document)?;
     refuse_keys(out, Place::Document, document, &LATER, "cannot be had yet")?;
@@ -69,7 +69,7 @@ fn read_control(out: &mut String, text: Option<&str>) -> Result<Option<SocketAdd
 }
 
 fn read_connections(alloc: Global, out: &mut String, document: &Table) -> Result<u16, Refusal>
-    ensures { Reads (SaysConnections (table_view document.now)) result }
+    ensures { IfOk result (SaysConnections (table_view document.now)) }
 {
     match table_at(document, "limits") {
         Some(limits) => {
@@ -85,7 +85,7 @@ fn read_terminals<'a>(
     out: &mut String,
     values: &'a [Value],
 ) -> Result<Vec<TerminalsTable<'a>>, Refusal>
-    ensures { Reads (λ tables. EachSays TerminalsTable (IsTable SaysTerminals) (items_view values.entry.now) tables.items) result }
+    ensures { IfOk result (λ tables. EachSays TerminalsTable (IsTable SaysTerminals) (items_view values.entry.now) tables.items) }
 {
     let mut tables = Vec::new(alloc);
     for value in values {
@@ -101,7 +101,7 @@ fn read_terminals_table<'a>(
     place: Place,
     value: &'a Value,
 ) -> Result<TerminalsTable<'a>, Refusal>
-    ensures { Reads (IsTable SaysTerminals (view value.entry.now)) result }
+    ensures { IfOk result (IsTable SaysTerminals (view value.entry.now)) }
 {
     let table = read_table(out, place, value)?;
     read_binding(alloc, out, place, table)
@@ -114,7 +114,7 @@ fn read_binding<'a>(
     place: Place,
     table: &'a Table,
 ) -> Result<TerminalsTable<'a>, Refusal>
-    ensures { Reads (SaysTerminals (table_view table.entry.now)) result }
+    ensures { IfOk result (SaysTerminals (table_view table.entry.now)) }
 {
     look_at(alloc, out, place, &TERMINALS, table)?;
     Ok(TerminalsTable {
@@ -143,7 +143,7 @@ fn read_services<'a>(
     out: &mut String,
     values: &'a [Value],
 ) -> Result<Vec<ServiceTable<'a>>, Refusal>
-    ensures { Reads (λ tables. EachSays ServiceTable (IsTable SaysService) (items_view values.entry.now) tables.items) result }
+    ensures { IfOk result (λ tables. EachSays ServiceTable (IsTable SaysService) (items_view values.entry.now) tables.items) }
 {
     let mut tables = Vec::new(alloc);
     for value in values {
@@ -159,7 +159,7 @@ fn read_service_table<'a>(
     place: Place,
     value: &'a Value,
 ) -> Result<ServiceTable<'a>, Refusal>
-    ensures { Reads (IsTable SaysService (view value.entry.now)) result }
+    ensures { IfOk result (IsTable SaysService (view value.entry.now)) }
 {
     let table = read_table(out, place, value)?;
     read_host(alloc, out, place, table)
@@ -170,7 +170,7 @@ fn read_callers<'a>(
     out: &mut String,
     values: &'a [Value],
 ) -> Result<Vec<CallerTable<'a>>, Refusal>
-    ensures { Reads (λ tables. EachSays CallerTable (IsTable SaysCaller) (items_view values.entry.now) tables.items) result }
+    ensures { IfOk result (λ tables. EachSays CallerTable (IsTable SaysCaller) (items_view values.entry.now) tables.items) }
 {
     let mut tables = Vec::new(alloc);
     for value in values {
@@ -186,7 +186,7 @@ fn read_caller_table<'a>(
     place: Place,
     value: &'a Value,
 ) -> Result<CallerTable<'a>, Refusal>
-    ensures { Reads (IsTable SaysCaller (view value.entry.now)) result }
+    ensures { IfOk result (IsTable SaysCaller (view value.entry.now)) }
 {
     let table = read_table(out, place, value)?;
     read_caller(alloc, out, place, table)

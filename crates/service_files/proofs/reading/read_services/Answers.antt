@@ -1,10 +1,8 @@
--- A value more is read, or one is refused.
-use Rattle.toml.specs.View.{items_view}
-use Rattle.service_files.specs.declared.file.ServiceTable.{ServiceTable}
-use Rattle.service_files.specs.Reads.{EachSays, IsTable}
+-- A value more is read.
+use Rattle.service_files.specs.Reads.{IsTable}
 use Rattle.service_files.specs.Reads.EachSays.{none}
 use Rattle.service_files.specs.Says.{SaysService}
-use Rattle.service_files.proofs.Each.{next_value, value_refused, told_on}
+use Rattle.service_files.proofs.Each.{next_value}
 use Rattle.service_files.proofs.reading.read_services.Goals as goal
 
 pub loop-value-init : goal.loop-value-init
@@ -15,10 +13,3 @@ loop-value-preserved c =
     rw c.in_ok-push.ensures.items
     (next_value (IsTable SaysService) c.args.values.now c.loop-value.value-index c.value-item.result c.loop-value.tables.items
     c.in_ok-read_service_table.field-0 c.loop-value-test.true c.value-item.is c.in_ok-read_service_table.ensures c.loop-value.invariant)
-
-pub returns-in_err-read_service_table : goal.returns-in_err-read_service_table
-returns-in_err-read_service_table c =
-    told_on (λ xs. EachSays ServiceTable (IsTable SaysService) (items_view c.args.values.now) xs.items) c.from_residual.result
-    c.in_err-read_service_table.field-0.0 c.from_residual.ensures.1
-    (value_refused (IsTable SaysService) c.args.values.now c.loop-value.value-index c.value-item.result c.in_err-read_service_table.field-0.0
-    c.loop-value-test.true c.value-item.is c.in_err-read_service_table.ensures)
