@@ -209,7 +209,7 @@ const FORMS: &[Edit] = &[
     (
         "network =",
         "network",
-        "TOML parse error at line 2, column 9: ",
+        "TOML parse error at line 2, column 9: key with no value, expected `=`",
     ),
 ];
 
