@@ -9,8 +9,6 @@ mod law;
 mod line;
 mod packets;
 mod states;
-#[cfg(test)]
-mod tests;
 
 pub use calls::{Order, Work, XotCalls};
 pub use law::xot_calls_law;
