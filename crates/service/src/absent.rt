@@ -33,8 +33,9 @@ fn leave_pad<L: Line>(exchange: &mut Exchange<L>, pad: PadBinding, places: &[Pla
             node: pad.node,
             number,
         };
-        if !is_bound(place, places) {
-            exchange.leave(place);
+        if is_bound(place, places) {
+            continue;
         }
+        exchange.leave(place);
     }
 }

@@ -185,15 +185,13 @@ impl<L: Line> Exchange<L> {
         let Some(call) = self.hosts.call_mut(at) else {
             return false;
         };
-        let octets = call.lend_held(self.alloc);
-        let count = octets.len();
-        let event = say(at, octets, false);
+        let event = say(at, call.lend_held(self.alloc), false);
         let said = self.happen(&event);
-        if said {
-            self.calls.said(at, count);
-        }
+        let octets = octets_of(self.alloc, event);
+        let count = if said { octets.len() } else { 0 };
+        self.calls.said(at, count);
         if let Some(call) = self.hosts.call_mut(at) {
-            call.give_back(octets_of(self.alloc, event), said);
+            call.give_back(octets, said);
         }
         said
     }
