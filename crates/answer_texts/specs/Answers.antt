@@ -12,9 +12,11 @@ use Rattle.data_transfer.specs.declared.taken.Front.{Front}
 use Rattle.data_transfer.specs.declared.taken.Front.TheVariants as front
 use Rattle.line_nodes.specs.declared.fault.NodeFault.{NodeFault}
 use Rattle.line_nodes.specs.declared.fault.NodeFault.TheVariants.{Call, Channel}
-use Rattle.line_nodes.specs.declared.note.HostNote.{HostNote}
+use Rattle.line_nodes.specs.declared.note.CallUser.{CallUser}
+use Rattle.line_nodes.specs.declared.note.CallUser.TheVariants as user
+use Rattle.line_nodes.specs.declared.note.UserNote.{UserNote}
 use Rattle.line_nodes.specs.declared.note.NoteKind.{NoteKind}
-use Rattle.line_nodes.specs.declared.note.NoteKind.TheVariants.{Incoming, Connected, Cleared, Reset}
+use Rattle.line_nodes.specs.declared.note.NoteKind.TheVariants.{Dialled, Incoming, Connected, Cleared, Reset}
 use Rattle.x25_pad.specs.declared.answer.PadAnswer.TheVariants.{Dropped}
 use Rattle.frame_lines.specs.declared.line.Direction.{Direction}
 use Rattle.frame_lines.specs.declared.line.Direction.TheVariants.{FromDte, FromDce}
@@ -100,17 +102,23 @@ abbrev pub frame_text : Put → List ℕ
 frame_text put = decimal put.line ++ (32 ∷ way_of put.direction ++ (flat_map spaced put.octets ++ 10 ∷ []))
 
 -- what happened to a call, with the calling address that it gave, if it came in with one, and with the cause and the
--- diagnostic
+-- diagnostic; what a terminal dialled is no host's
 abbrev pub happening : NoteKind → List ℕ
-happening (Incoming None) = codes "incoming"
-happening (Incoming (Some digits)) = codes "incoming " ++ flat_map decimal digits
+happening (Dialled called) = []
+happening (Incoming None called user_data) = codes "incoming"
+happening (Incoming (Some digits) called user_data) = codes "incoming " ++ flat_map decimal digits
 happening Connected = codes "connected"
 happening (Cleared cause diagnostic) = codes "cleared " ++ (decimal cause ++ (32 ∷ decimal diagnostic))
 happening (Reset cause diagnostic) = codes "reset " ++ (decimal cause ++ (32 ∷ decimal diagnostic))
 
--- the line of what a host noted
-abbrev pub note_text : Names → HostNote → List ℕ
-note_text names note = name_of names note.node ++ (47 ∷ decimal note.channel ++ (32 ∷ happening note.kind ++ 10 ∷ []))
+-- the line of what the user of a host is told; what a terminal is told has none
+abbrev pub text_for : CallUser → Names → UserNote → List ℕ
+text_for user.Host names note =
+    name_of names note.node ++ (47 ∷ decimal note.channel ++ (32 ∷ happening note.kind ++ 10 ∷ []))
+text_for (user.Terminal terminal) names note = []
+
+abbrev pub note_text : Names → UserNote → List ℕ
+note_text names note = text_for note.user names note
 
 -- the lines of the frames, if they are traced, and of the notes
 abbrev pub frames_text : (traces : Bool) → List Put → List ℕ

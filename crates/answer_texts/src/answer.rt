@@ -8,7 +8,7 @@ ghost use Rattle.answer_texts.specs.Answers.{frame_text, note_text, happening, a
 
 use frame_lines::Direction;
 use itoa::Buffer;
-use line_nodes::{HostNote, NodeFault, NoteKind};
+use line_nodes::{CallUser, NodeFault, NoteKind, UserNote};
 use net_events::{Answer, Event, Outcome, Put, StepFault};
 use packet_layer::{CallFault, ChannelFault, Front};
 use std::alloc::AllocError;
@@ -30,7 +30,8 @@ pub fn prints_nothing(event: &Event, outcome: &Outcome) -> bool
 }
 
 /// Adds the text of an answer, by the names of the network's nodes: the lines of its frames, if they are traced, of
-/// what a host noted, and of its outcome. For want of memory it is refused; some of the text may then have been added.
+/// what the users of hosts are told, and of its outcome. For want of memory it is refused; some of the text may then
+/// have been added.
 pub fn add_answer(
     text: &mut Vec<u8>,
     names: &[String],
@@ -225,8 +226,8 @@ fn add_spaced(text: &mut Vec<u8>, octets: &[u8]) -> Result<(), AllocError>
 
 // ---- notes
 
-/// Adds the lines of what a host noted.
-fn add_notes(text: &mut Vec<u8>, names: &[String], notes: &[HostNote]) -> Result<(), AllocError>
+/// Adds the lines of what users are told: of hosts alone.
+fn add_notes(text: &mut Vec<u8>, names: &[String], notes: &[UserNote]) -> Result<(), AllocError>
     ensures { OnOk result (text.new.items ≡ text.old.items ++ flat_map (note_text names.now) notes.now) }
 {
     for note in notes {
@@ -235,10 +236,13 @@ fn add_notes(text: &mut Vec<u8>, names: &[String], notes: &[HostNote]) -> Result
     Ok(())
 }
 
-/// Adds the line of what a host noted of a call.
-fn add_note(text: &mut Vec<u8>, names: &[String], note: &HostNote) -> Result<(), AllocError>
+/// Adds the line of what the user of a host is told of a call. What a terminal is told has none.
+fn add_note(text: &mut Vec<u8>, names: &[String], note: &UserNote) -> Result<(), AllocError>
     ensures { OnOk result (text.new.items ≡ text.old.items ++ note_text names.now note.now) }
 {
+    if let CallUser::Terminal(_) = note.user {
+        return Ok(());
+    }
     add_place(
         text,
         node_name(names, note.node),
@@ -255,9 +259,11 @@ fn add_happening(text: &mut Vec<u8>, kind: &NoteKind) -> Result<(), AllocError>
     ensures { OnOk result (text.new.items ≡ text.old.items ++ happening kind.now) }
 {
     match kind {
-        NoteKind::Incoming { calling: None } => text.extend_from_slice(b"incoming"),
+        NoteKind::Dialled { .. } => Ok(()),
+        NoteKind::Incoming { calling: None, .. } => text.extend_from_slice(b"incoming"),
         NoteKind::Incoming {
             calling: Some(address),
+            ..
         } => {
             text.extend_from_slice(b"incoming ")?;
             add_digits(text, address.digits())

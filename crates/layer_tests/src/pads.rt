@@ -1,9 +1,9 @@
-//! What is typed at a PAD on a call that stands, written into the book of its line.
-ghost use Rattle.std.specs.Prelude.{◌≤◌, length};
+//! What is typed at a PAD on a call that stands, written into the book of its line and told to its terminal.
+ghost use Rattle.std.specs.Prelude.{◌≡◌, ◌≤◌, [], length, vec_capacity};
 
 use crate::lines::{LINE, STANDING};
 use call_records::{Book, Record};
-use line_nodes::write_pad_notes;
+use line_nodes::{Attachment, CallUser, MOST_NOTES, NoteKind, UserNote, write_pad_notes};
 use link_timers::Role;
 use node_laws::pad_room_law;
 use packet_codec::Numbering;
@@ -42,25 +42,37 @@ fn the_line_of_a_pad_has_packets_of_128_octets(rt: HostRuntime) {
     assert!(rt; is_refused(rt.alloc(), WIDE));
 }
 
-// A key on a call that stands: with room for two writes all that the PAD notes is written.
-fn type_key(pad: &mut Pad, octet: u8, book: &mut Book)
+/// Where the PAD is attached: its line, its end of it, and its number.
+const AT: Attachment = Attachment {
+    line: 0,
+    role: Role::Dte,
+    node: 5,
+};
+
+// A key on a call that stands: with room for two writes all that the PAD notes is written and told.
+fn type_key(pad: &mut Pad, octet: u8, book: &mut Book, notes: &mut Vec<UserNote>)
     requires room { 2 ≤ book.old.room }
     requires pairs { 1 ≤ book.old.pairs }
     requires there { 1 ≤ length pad.old.ports }
+    requires empty { notes.old.items ≡ [] }
+    requires places { MOST_NOTES ≤ vec_capacity notes.old }
 {
     pad_room_law();
     let _ = pad.on_key(0, octet);
-    write_pad_notes(pad, Role::Dte, book);
+    if pad.waiting_notes() > 0 {
+        write_pad_notes(pad, AT, book, notes);
+    }
 }
 
-// Types at the first terminal. Whether there was room for all.
-fn type_keys(pad: &mut Pad, octets: &[u8], book: &mut Book) -> bool {
+// Types at the first terminal, and lists what it is told at the last key. Whether there was room for all.
+fn type_keys(pad: &mut Pad, octets: &[u8], book: &mut Book, notes: &mut Vec<UserNote>) -> bool {
     for octet in octets {
-        if pad.terminals() == 0 {
+        notes.clear();
+        if pad.terminals() == 0 || notes.capacity() < MOST_NOTES {
             return false;
         }
         match book.reserve(2) {
-            Ok(()) => type_key(pad, *octet, book),
+            Ok(()) => type_key(pad, *octet, book, notes),
             Err(_) => return false,
         }
     }
@@ -75,11 +87,34 @@ fn are_typed(records: &[Record]) -> bool {
     }
 }
 
-fn writes_keys(pad: &mut Pad, book: &mut Book) -> bool {
-    type_keys(pad, b"HI\r", book) && are_typed(book.records())
+// Whether a terminal is told that its call on channel 1 was cleared by its PAD.
+fn are_of_clearing(notes: &[UserNote]) -> bool {
+    match notes {
+        [note] => {
+            note.node == AT.node
+                && note.channel == 1
+                && note.user == CallUser::Terminal(Some(0))
+                && matches!(
+                    note.kind,
+                    NoteKind::Cleared {
+                        cause: 0,
+                        diagnostic: 0,
+                    }
+                )
+        }
+        _ => false,
+    }
 }
 
-// Whether what is typed at a new PAD is written into a new book.
+fn writes_keys(pad: &mut Pad, book: &mut Book, notes: &mut Vec<UserNote>) -> bool {
+    type_keys(pad, b"HI\r", book, notes) && notes.is_empty() && are_typed(book.records())
+}
+
+fn tells_of_clearing(pad: &mut Pad, book: &mut Book, notes: &mut Vec<UserNote>) -> bool {
+    type_keys(pad, b"\x10CLR\r", book, notes) && are_of_clearing(notes.as_slice())
+}
+
+// Whether what is typed at a new PAD is written into a new book, and told.
 fn is_written(alloc: Global) -> bool {
     match Book::new(alloc, 3, 4, 2, true) {
         Ok(mut book) => is_typed(alloc, &mut book),
@@ -88,13 +123,18 @@ fn is_written(alloc: Global) -> bool {
 }
 
 fn is_typed(alloc: Global, book: &mut Book) -> bool {
-    match new_pad(alloc, STANDING, 1) {
-        Ok(mut pad) => writes_keys(&mut pad, book),
-        Err(_) => false,
+    match (
+        new_pad(alloc, STANDING, 1),
+        Vec::with_capacity(alloc, MOST_NOTES),
+    ) {
+        (Ok(mut pad), Ok(mut notes)) => {
+            writes_keys(&mut pad, book, &mut notes) && tells_of_clearing(&mut pad, book, &mut notes)
+        }
+        _ => false,
     }
 }
 
 #[test]
-fn what_a_terminal_types_is_written(rt: HostRuntime) {
+fn what_a_terminal_types_is_written_and_told(rt: HostRuntime) {
     assert!(rt; is_written(rt.alloc()));
 }

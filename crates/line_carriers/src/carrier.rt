@@ -186,6 +186,13 @@ impl Carrier {
         self.started && matches!(self.connection, Connection::Met(partner) if partner.opened)
     }
 
+    /// Whether the node here has restarted over this line: this end opens the line at each connection.
+    pub fn has_started(&self) -> bool
+        ensures { result ≡ self.now.started }
+    {
+        self.started
+    }
+
     /// The node here has restarted: this end opens the line, now and at each connection to come. Only the first call
     /// does anything. If there is no room to say so the connection is closed, with `NoRoom`.
     pub fn start(&mut self) -> Result<(), CarrierFault>

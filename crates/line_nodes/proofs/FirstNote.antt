@@ -4,8 +4,10 @@ use Rattle.std.specs.Prelude.{IsTrue}
 use Rattle.data_transfer.specs.Packets.{Note}
 use Rattle.data_transfer.specs.Packets.Note.{Incoming, Connected, Closed, WasReset, InterruptConfirmed, Covered}
 use Rattle.call_records.specs.Room.{opens, room_after, opening_notes}
-use Rattle.line_nodes.specs.declared.note.HostNote.{HostNote}
-use Rattle.line_nodes.specs.Notes.{host_note, host_notes}
+use Rattle.line_nodes.specs.declared.note.UserNote.{UserNote}
+use Rattle.line_nodes.specs.declared.note.CallUser.{CallUser}
+use Rattle.line_nodes.specs.declared.note.CallUser.TheVariants.{Host}
+use Rattle.line_nodes.specs.Notes.{told_by_layer, at_host, user_notes}
 
 -- the first note, and then the others
 pub first_is : (notes : List Note) (note : Note) → slice_get notes 0 ≡ Some note → note ∷ drop 1 notes ≡ notes
@@ -49,29 +51,29 @@ room_left notes note room first few fits =
 
 -- ---- what its user is told
 
-one_told : (node : ℕ) (note : Note) → length (host_note node note) ≤ 1
-one_told node (Incoming channel parts) = omega arith
-one_told node (Connected channel) = omega arith
-one_told node (Closed channel cause diagnostic reason) = omega arith
-one_told node (WasReset channel cause diagnostic reason) = omega arith
-one_told node (InterruptConfirmed channel) = omega arith
-one_told node (Covered channel count) = omega arith
+pub one_told : (node : ℕ) (who : CallUser) (note : Note) → length (told_by_layer node who note) ≤ 1
+one_told node who (Incoming channel parts) = omega arith
+one_told node who (Connected channel) = omega arith
+one_told node who (Closed channel cause diagnostic reason) = omega arith
+one_told node who (WasReset channel cause diagnostic reason) = omega arith
+one_told node who (InterruptConfirmed channel) = omega arith
+one_told node who (Covered channel count) = omega arith
 
-pub listed_then : (node : ℕ) (notes : List Note) (note : Note) (before after : List HostNote) → slice_get notes 0 ≡ Some note →
-    after ≡ before ++ host_note node note → after ++ host_notes node (drop 1 notes) ≡ before ++ host_notes node notes
+pub listed_then : (node : ℕ) (notes : List Note) (note : Note) (before after : List UserNote) → slice_get notes 0 ≡ Some note →
+    after ≡ before ++ told_by_layer node Host note → after ++ user_notes node (at_host (drop 1 notes)) ≡ before ++ user_notes node (at_host notes)
 listed_then node notes note before after first is =
-    ap (λ (all : List HostNote). all ++ host_notes node (drop 1 notes)) is
-    ∙ append_assoc {A = HostNote} before (host_note node note) (host_notes node (drop 1 notes))
-    ∙ ap (λ (all : List Note). before ++ host_notes node all) (first_is notes note first)
+    ap (λ (all : List UserNote). all ++ user_notes node (at_host (drop 1 notes))) is
+    ∙ append_assoc {A = UserNote} before (told_by_layer node Host note) (user_notes node (at_host (drop 1 notes)))
+    ∙ ap (λ (all : List Note). before ++ user_notes node (at_host all)) (first_is notes note first)
 
-pub record HasOneLess (node : ℕ) (notes : List Note) (before after : List HostNote) : Type 0 where
+pub record HasOneLess (node : ℕ) (notes : List Note) (before after : List UserNote) : Type 0 where
   pub rest : length (drop 1 notes) + 1 ≡ length notes
   pub places : length after + length (drop 1 notes) ≤ length before + length notes
 
-pub one_less : (node : ℕ) (notes : List Note) (note : Note) (before after : List HostNote) → slice_get notes 0 ≡ Some note →
-    after ≡ before ++ host_note node note → HasOneLess node notes before after
+pub one_less : (node : ℕ) (notes : List Note) (note : Note) (before after : List UserNote) → slice_get notes 0 ≡ Some note →
+    after ≡ before ++ told_by_layer node Host note → HasOneLess node notes before after
 one_less node notes note before after first is =
     let all = ap (λ (all : List Note). length all) (first_is notes note first) in
-    let told = ap (λ (all : List HostNote). length all) is ∙ length-append before (host_note node note) in
-    let one = one_told node note in
+    let told = ap (λ (all : List UserNote). length all) is ∙ length-append before (told_by_layer node Host note) in
+    let one = one_told node Host note in
     record { rest = omega (arith, all); places = omega (arith, all, told, one) }

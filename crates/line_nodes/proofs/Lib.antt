@@ -3,3 +3,4 @@ pub mod Sending
 pub mod Noted
 pub mod Short
 pub mod FirstNote
+pub mod FirstPadNote

@@ -2,7 +2,13 @@
 use Rattle.std.specs.Prelude.{ℕ, Bool, false, is_some}
 use Rattle.packet_layer.specs.Layer.{front_on}
 use Rattle.packet_host.specs.Saying.{room_to_say}
+use Rattle.x25_pad.specs.Showing.{shows}
 use Rattle.line_nodes.specs.Node.{NodeState, Pad, Host}
+
+-- whether a terminal has anything to show: a PAD has terminals, a host has none
+abbrev pub node_shows : NodeState → (terminal : ℕ) → Bool
+node_shows (Pad p) terminal = shows terminal p
+node_shows (Host e) terminal = false
 
 -- whether anything waits to be taken on a channel, and how many octets may be said there now: a host's user takes and
 -- says, a PAD's does not

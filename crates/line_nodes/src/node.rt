@@ -4,7 +4,7 @@ ghost use Rattle.std.specs.Bool.{OnTrue, OnFalse};
 ghost use Rattle.packet_end.specs.PacketEnd.{without_first_frame};
 ghost use Rattle.line_nodes.specs.Node.{end_of, with_end, frames_of, node_rests, node_due};
 ghost use Rattle.line_nodes.specs.Node.{node_elapsed, node_confirmed};
-ghost use Rattle.line_nodes.specs.Questions.{node_has_to_take, node_room_to_say};
+ghost use Rattle.line_nodes.specs.Questions.{node_shows, node_has_to_take, node_room_to_say};
 ghost use Rattle.line_nodes.specs.NodeView.{node_of};
 ghost use Rattle.line_nodes.specs.NodeEvents.{heard, node_runs, expired, relinked, restarted};
 
@@ -117,6 +117,16 @@ impl Node {
         match self {
             Node::Pad(pad) => pad.is_at_rest(),
             Node::Host(host) => host.is_at_rest(),
+        }
+    }
+
+    /// Whether the node is a PAD, and the terminal has anything to show, as [`Pad::shows`].
+    pub fn shows(&self, terminal: u16) -> bool
+        ensures { result ≡ node_shows (node_of self.now) terminal }
+    {
+        match self {
+            Node::Pad(pad) => pad.shows(terminal),
+            Node::Host(_) => false,
         }
     }
 

@@ -1,5 +1,5 @@
-//! What a PAD noted, written into the book of its line.
-ghost use Rattle.std.specs.Prelude.{◌≡◌, ◌≤◌, ◌-◌, length};
+//! What a PAD noted, written into the book of its line and told to its terminals.
+ghost use Rattle.std.specs.Prelude.{◌≡◌, ◌≤◌, ◌-◌, [], length, vec_capacity};
 ghost use Rattle.data_transfer.specs.TakenView.{taken_with, HasFewOctets};
 ghost use Rattle.epochs.specs.Packets.{data_packet_of};
 ghost use Rattle.call_records.specs.Book.{packet_of};
@@ -8,9 +8,12 @@ ghost use Rattle.call_records.specs.Writes.{all_written, written_by};
 ghost use Rattle.call_records.specs.Writes.Write.{Took};
 ghost use Rattle.pad_ports.specs.NoteView.{pad_note_of};
 ghost use Rattle.pad_ports.specs.TakenView.{taken_of as pad_taken_of};
+ghost use Rattle.line_nodes.specs.Notes.{at_pad, user_notes};
 ghost use Rattle.line_nodes.specs.PadWriting.{writes_of, without_notes};
 ghost use Rattle.line_nodes.specs.PadRoom.{HasRoom, HaveRoom, written};
 
+use crate::attachment::Attachment;
+use crate::note::{UserNote, list_pad_note};
 use call_records::{Book, EditStep};
 use epochs::Packet;
 use link_timers::Role;
@@ -18,15 +21,20 @@ use packet_layer::Front;
 use x25_pad::{ChannelNote, Pad, PadData, PadTaken};
 
 /// Reads the notes of an event at a PAD, and writes them in order into the book, at the PAD's end of the line. The book
-/// has room for them.
+/// has room for them. `notes` lists what the terminals are told, in order; it is empty before, with a place for each.
 #[inline(always)]
-pub fn write_pad_notes(pad: &mut Pad, role: Role, book: &mut Book)
-    requires { HaveRoom pad.old.line.notes book.old.room book.old.pairs }
+pub fn write_pad_notes(pad: &mut Pad, at: Attachment, book: &mut Book, notes: &mut Vec<UserNote>)
+    requires room { HaveRoom pad.old.line.notes book.old.room book.old.pairs }
+    requires empty { notes.old.items ≡ [] }
+    requires capacity { length pad.old.line.notes ≤ vec_capacity notes.old }
     ensures pad { pad.new ≡ without_notes pad.old }
-    ensures book { book.new.book ≡ all_written role (writes_of pad.old.line.notes) book.old.book }
+    ensures book { book.new.book ≡ all_written at.role (writes_of pad.old.line.notes) book.old.book }
+    ensures notes { notes.new.items ≡ user_notes at.node (at_pad pad.old.noted_at pad.old.line.notes) }
+    ensures kept { vec_capacity notes.new ≡ vec_capacity notes.old }
 {
     while let Some(note) = pad.first_note() {
-        write_pad_note(book, role, note);
+        write_pad_note(book, at.role, note);
+        list_pad_note(at.node, pad.first_terminal(), note, notes);
         pad.drop_note();
     }
 }

@@ -7,19 +7,18 @@ ghost use Rattle.call_records.specs.Book.{all_told};
 ghost use Rattle.call_records.specs.Room.{opening_notes};
 ghost use Rattle.line_nodes.specs.Node.{all_read};
 ghost use Rattle.line_nodes.specs.NodeView.{node_of};
-ghost use Rattle.line_nodes.specs.Notes.{host_notes};
+ghost use Rattle.line_nodes.specs.Notes.{at_host, user_notes};
 ghost use Rattle.line_nodes.specs.Turn.{all_sent, told};
 ghost use Rattle.line_nodes.specs.Writing.{request_written, IsShort, IsRoomFor};
 
 use crate::attachment::Attachment;
 use crate::node::Node;
-use crate::note::{HostNote, list_note};
+use crate::note::{CallUser, MOST_NOTES, UserNote, list_layer_note};
 use crate::pad_notes::write_pad_notes;
 use call_records::Book;
 use data_transfer::full_packets;
 use epochs::Packet;
 use link_timers::Role;
-use packet_end::MOST_NOTES;
 use packet_host::{Host, HostRequest};
 
 /// Writes what a host was asked on a channel and did not refuse, on a line of this packet size. The book has room for
@@ -52,20 +51,24 @@ pub fn write_request(book: &mut Book, role: Role, channel: u8, size: u16, reques
     }
 }
 
-/// Reads the notes of an event at a node, and writes them. `notes` lists those that the user of a host is told, in
-/// order; it is empty before, with [`MOST_NOTES`] places.
+/// Reads the notes of an event at a node, and writes them. `notes` lists what its users are told, in order; it is empty
+/// before, with [`MOST_NOTES`] places.
 #[inline(always)]
-pub fn write_notes(node: &mut Node, at: Attachment, book: &mut Book, notes: &mut Vec<HostNote>)
+pub fn write_notes(node: &mut Node, at: Attachment, book: &mut Book, notes: &mut Vec<UserNote>)
     requires room { IsRoomFor (node_of node.old) book.old.room book.old.pairs }
     requires empty { notes.old.items ≡ [] }
     requires capacity { MOST_NOTES ≤ vec_capacity notes.old }
     ensures node { node_of node.new ≡ (told at.role (node_of node.old) book.old.book).node }
     ensures book { book.new.book ≡ (told at.role (node_of node.old) book.old.book).book }
-    ensures notes { notes.new.items ≡ host_notes at.node (told at.role (node_of node.old) book.old.book).notes }
+    ensures notes { notes.new.items ≡ user_notes at.node (told at.role (node_of node.old) book.old.book).notes }
     ensures kept { vec_capacity notes.new ≡ vec_capacity notes.old }
 {
     match node {
-        Node::Pad(pad) => write_pad_notes(pad, at.role, book),
+        Node::Pad(pad) => {
+            if pad.waiting_notes() > 0 {
+                write_pad_notes(pad, at, book, notes);
+            }
+        }
         Node::Host(host) => {
             if host.waiting_notes() > 0 {
                 write_host_notes(host, at, book, notes);
@@ -112,14 +115,14 @@ fn write_message(
 
 // Reads the notes of a host, writes them, and lists those that its user is told.
 #[inline(never)]
-fn write_host_notes(host: &mut Host, at: Attachment, book: &mut Book, notes: &mut Vec<HostNote>)
+fn write_host_notes(host: &mut Host, at: Attachment, book: &mut Book, notes: &mut Vec<UserNote>)
     requires opening { opening_notes host.old.notes ≤ 1 }
     requires room { opening_notes host.old.notes ≤ book.old.room }
     requires empty { notes.old.items ≡ [] }
     requires capacity { MOST_NOTES ≤ vec_capacity notes.old }
     ensures host { host.new ≡ all_read host.old }
     ensures book { book.new.book ≡ all_told at.role host.old.notes book.old.book }
-    ensures notes { notes.new.items ≡ host_notes at.node host.old.notes }
+    ensures notes { notes.new.items ≡ user_notes at.node (at_host host.old.notes) }
     ensures kept { vec_capacity notes.new ≡ vec_capacity notes.old }
 {
     for _ in 0..host.waiting_notes() {
@@ -127,7 +130,7 @@ fn write_host_notes(host: &mut Host, at: Attachment, book: &mut Book, notes: &mu
             return;
         };
         book.tell(at.role, note);
-        list_note(at.node, note, notes);
+        list_layer_note(at.node, CallUser::Host, note, notes);
         let _ = host.notes();
     }
 }

@@ -8,7 +8,7 @@ mod running;
 pub use call_records::{EditStep, Hop, Pair, Record};
 pub use epochs::{Epoch, Interrupt, Packet, Passed, matches};
 pub use frame_lines::{Direction, FRAMES_IN_FLIGHT, Line, MemLine, mem_lines};
-pub use line_nodes::{HostNote, NodeFault, NoteKind, TerminalEvent};
+pub use line_nodes::{CallUser, CallUserData, NodeFault, NoteKind, TerminalEvent, UserNote};
 pub use net::Net;
 pub use net_config::{
     Config, LineConfig, MakeFault, NodeConfig, NodeKind, RouteConfig, Setting, TerminalsConfig,

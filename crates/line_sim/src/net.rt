@@ -13,7 +13,8 @@ ghost use Rattle.net_nodes.specs.Faults.{step_fault, takes_memory};
 ghost use Rattle.net_nodes.specs.Happening.{IsRefusedSo, FindsNoFrame, FindNoFrames};
 ghost use Rattle.net_nodes.specs.Due.{net_due, net_due_at};
 ghost use Rattle.line_sim.specs.Receipts.{IsTakenBeyond};
-ghost use Rattle.net_nodes.specs.Questions.{net_confirmed, net_has_to_take, net_room_to_say, net_rests, MaySay};
+ghost use Rattle.net_nodes.specs.Questions.{net_confirmed, net_shows, net_has_to_take, net_room_to_say, net_rests};
+ghost use Rattle.net_nodes.specs.Questions.{MaySay, PrintsNothing};
 ghost use Rattle.line_sim.specs.Courses.{HaveNoEvent, CoursesPass};
 ghost use Rattle.line_sim.specs.Runs.{IsMadeBy};
 
@@ -146,6 +147,15 @@ impl<L: Line> Net<L> {
         ensures taken { L.service.faithful → result ≡ true → IsTakenBeyond node channel self.now }
     {
         self.nodes.confirmed(node, channel)
+    }
+
+    /// Whether the node of this place is a PAD, and the terminal has anything to show. If not, to print there shows
+    /// nothing and takes nothing.
+    pub fn shows(&self, node: usize, terminal: u16) -> bool
+        ensures exact { result ≡ net_shows node terminal self.now }
+        ensures nothing { result ≡ false → PrintsNothing node terminal self.now }
+    {
+        self.nodes.shows(node, terminal)
     }
 
     /// Whether the node of this place is a host, and anything waits to be taken on the channel.

@@ -5,10 +5,9 @@ use Rattle.std.proofs.lemmas.List.{length-set}
 use Rattle.link_timers.specs.declared.role.Role.{Role}
 use Rattle.link_timers.specs.declared.role.Role.TheVariants.{Dte, Dce}
 use Rattle.link_timers.specs.declared.timers.TimerId.{TimerId}
-use Rattle.data_transfer.specs.Packets.{Note}
 use Rattle.call_records.specs.Register.{Register, book_at, with_book}
 use Rattle.line_nodes.specs.Node.{NodeState, frames_of}
-use Rattle.line_nodes.specs.Notes.{host_notes}
+use Rattle.line_nodes.specs.Notes.{NodeNotes, user_notes}
 use Rattle.frame_lines.specs.declared.line.Direction.{Direction}
 use Rattle.frame_lines.specs.Lines.{LineService, ArePut}
 use Rattle.net_events.specs.OneLine.{direction_of}
@@ -90,7 +89,7 @@ end_on L end event g s a t d =
       puts =
           subst (λ (n : NodeState). ArePutsOf (direction_of end.role) end.line (frames_of n) a.frames.items) alike.node d.puts;
       told =
-          subst (λ (notes : List Note). a.notes.items ≡ host_notes (place_at end.role d.happened.line_is) notes) alike.notes
+          subst (λ (notes : NodeNotes). a.notes.items ≡ user_notes (place_at end.role d.happened.line_is) notes) alike.notes
           d.told;
       text = d.text;
       outcome = d.outcome;

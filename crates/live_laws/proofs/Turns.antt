@@ -1,4 +1,4 @@
--- What a turn makes of a node, and what its user is told, does not depend on the book.
+-- What a turn makes of a node, and what its users are told, does not depend on the book.
 use Rattle.std.proofs.Common.{ℕ, Bool, true, false, Option, Some, None, refl}
 use Rattle.std.specs.Prelude.{if◌then◌else◌}
 use Rattle.link_timers.specs.declared.role.Role.{Role}

@@ -14,7 +14,7 @@ use Rattle.net_events.specs.declared.event.StepFault.{StepFault}
 use Rattle.net_nodes.specs.Happening.{Happens}
 use Rattle.live_laws.specs.Registers.{on}
 
--- two turns leave the node alike and tell its user the same
+-- two turns leave the node alike and tell its users the same
 pub record AreAlike (x y : Turn) : Type 0 where
   pub node : x.node ≡ y.node
   pub notes : x.notes ≡ y.notes

@@ -9,7 +9,8 @@ ghost use Rattle.net_events.specs.declared.event.StepFault.TheVariants as step_f
 ghost use Rattle.net_nodes.specs.Due.{net_due};
 ghost use Rattle.net_nodes.specs.Faults.{step_fault};
 ghost use Rattle.net_nodes.specs.Happening.{IsRefusedSo, FindsNoFrame, FindNoFrames};
-ghost use Rattle.net_nodes.specs.Questions.{net_confirmed, net_has_to_take, net_room_to_say, net_rests, MaySay};
+ghost use Rattle.net_nodes.specs.Questions.{net_confirmed, net_shows, net_has_to_take, net_room_to_say, net_rests};
+ghost use Rattle.net_nodes.specs.Questions.{MaySay, PrintsNothing};
 ghost use Rattle.network_laws.specs.Switched.Promise.{NetworkPromise};
 ghost use Rattle.network_laws.specs.Switched.Rest.{MissesNothing, IsDelivered};
 ghost use Rattle.line_sim.specs.Between.{IsBetweenEvents};
@@ -111,6 +112,15 @@ impl<L: Line> LiveNet<L> {
         self.nodes.confirmed(node, channel)
     }
 
+    /// Whether the node of this place is a PAD, and the terminal has anything to show. If not, to print there shows
+    /// nothing and takes nothing.
+    pub fn shows(&self, node: usize, terminal: u16) -> bool
+        ensures exact { result ≡ net_shows node terminal self.now }
+        ensures nothing { result ≡ false → PrintsNothing node terminal self.now }
+    {
+        self.nodes.shows(node, terminal)
+    }
+
     /// Whether the node of this place is a host, and anything waits to be taken on the channel.
     pub fn has_to_take(&self, node: usize, channel: u16) -> bool
         ensures { result ≡ net_has_to_take node channel self.now }
@@ -167,8 +177,8 @@ impl<L: Line> LiveNet<L> {
     /// refused event changes nothing, nor does an expiry of a timer that does not run.
     ///
     /// `NoSuchNode`, `NoSuchTerminal`, `NoSuchCall` and `Refused` come when they come of [`line_sim::Net::step`], in this
-    /// order. No event wants memory: all of it was taken when the network was made. An answer has at most 576 frames, 96 notes
-    /// and 3,200 octets of text.
+    /// order. No event wants memory: all of it was taken when the network was made. An answer has at most 576 frames,
+    /// 104 notes and 3,200 octets of text.
     #[inline(always)]
     pub fn step(&mut self, event: &Event) -> Result<&Answer, StepFault>
         ensures faults { IsRefusedSo (step_fault event.now self.old) (lent result) }

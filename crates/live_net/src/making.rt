@@ -6,12 +6,12 @@ ghost use Rattle.net_turns.specs.AnswerRoom.{IsRoomy};
 ghost use Rattle.live_net.specs.Making.{IsMadeBare};
 
 use frame_lines::Line;
+use line_nodes::MOST_NOTES;
 use line_sim::Net;
 use net_config::{Config, MakeFault};
 use net_events::{Answer, Outcome, Puts};
 use net_nodes::Nodes;
 use net_turns::MOST_PUTS;
-use packet_end::MOST_NOTES;
 use std::alloc::{AllocError, Global};
 use x25_pad::MOST_TEXT;
 

@@ -10,7 +10,8 @@ ghost use Rattle.net_nodes.specs.Carrying.{HandedOn, PutAt};
 ghost use Rattle.net_nodes.specs.Due.{net_due_at};
 ghost use Rattle.net_nodes.specs.Faults.{step_fault};
 ghost use Rattle.net_nodes.specs.Happening.{IsRefusedSo, FindsNoFrame, FindNoFrames};
-ghost use Rattle.net_nodes.specs.Questions.{net_confirmed};
+ghost use Rattle.net_nodes.specs.Questions.{net_confirmed, net_shows, net_has_to_take, net_room_to_say};
+ghost use Rattle.net_nodes.specs.Questions.{MaySay, PrintsNothing};
 ghost use Rattle.net_turns.specs.AnswerRoom.{IsWithinLimits};
 ghost use Rattle.line_sim.specs.Runs.{IsMadeBy};
 ghost use Rattle.live_laws.specs.Registers.{on};
@@ -122,6 +123,32 @@ impl<L: Line> LivePart<L> {
         self.nodes.confirmed(node, channel)
     }
 
+    /// Whether the node of this place, which is to be one of its own, is a PAD, and the terminal has anything to show. If
+    /// not, to print there shows nothing and takes nothing.
+    pub fn shows(&self, node: usize, terminal: u16) -> bool
+        ensures exact { result ≡ net_shows node terminal self.now }
+        ensures nothing { result ≡ false → PrintsNothing node terminal self.now }
+    {
+        self.nodes.shows(node, terminal)
+    }
+
+    /// Whether the node of this place, which is to be one of its own, is a host, and anything waits to be taken on the
+    /// channel.
+    pub fn has_to_take(&self, node: usize, channel: u16) -> bool
+        ensures { result ≡ net_has_to_take node channel self.now }
+    {
+        self.nodes.has_to_take(node, channel)
+    }
+
+    /// How many octets a message without Q may have now on the channel of the host of this place, which is to be one of
+    /// its own, at most 1,024: so many are not refused, if there are any. At any other node it is 0.
+    pub fn room_to_say(&self, node: usize, channel: u16) -> usize
+        ensures exact { result ≡ net_room_to_say node channel self.now }
+        ensures said { MaySay node channel result self.now }
+    {
+        self.nodes.room_to_say(node, channel)
+    }
+
     /// Takes the first frame in flight in a direction of a line, to carry it to another process, and says whether there
     /// was one. If there was none, or no such line, `frame` stays as it is. This is for the direction in which the node
     /// at this process sends.
@@ -149,8 +176,8 @@ impl<L: Line> LivePart<L> {
     /// record of it. A refused event changes nothing, nor does an expiry of a timer that does not run.
     ///
     /// `NoSuchNode`, `NoSuchTerminal`, `NoSuchCall` and `Refused` come when they come of [`line_sim::Net::step`], in this
-    /// order. No event wants memory: all of it was taken when the process was made. An answer has at most 576 frames, 96 notes
-    /// and 3,200 octets of text.
+    /// order. No event wants memory: all of it was taken when the process was made. An answer has at most 576 frames,
+    /// 104 notes and 3,200 octets of text.
     #[inline(always)]
     pub fn step(&mut self, event: &Event) -> Result<&Answer, StepFault>
         ensures faults { IsRefusedSo (step_fault event.now self.old) (lent result) }

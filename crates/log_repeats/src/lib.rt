@@ -54,9 +54,8 @@ impl Repeats {
     pub fn is_repeat(&self, line: &str, second: u64) -> bool
         ensures { result ≡ list_any (is_told_lately line.now second) self.now }
     {
-        self.lines
-            .iter()
-            .any(|told| told.line.as_str() == line && second.saturating_sub(told.second) < MINUTE)
+        self.lines.iter().any(|told| told.line.as_str() == line
+            && second.saturating_sub(told.second) < MINUTE)
     }
 
     /// Keeps a line that is told now. If there is no place, the one that was told first is forgotten.

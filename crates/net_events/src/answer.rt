@@ -2,7 +2,7 @@
 use crate::puts::Puts;
 use frame_codec::FrameBuf;
 use frame_lines::Direction;
-use line_nodes::HostNote;
+use line_nodes::UserNote;
 use packet_layer::Front;
 use x25_pad::PadAnswer;
 
@@ -31,12 +31,12 @@ pub struct Put {
     pub octets: FrameBuf,
 }
 
-/// The answer to an event: each frame that was put, in order, what a host noted, what a terminal shows or the octets
+/// The answer to an event: each frame that was put, in order, what users are told, what a terminal shows or the octets
 /// that a host took, and the outcome.
 #[derive(Drop)]
 pub struct Answer {
     pub frames: Puts,
-    pub notes: Vec<HostNote>,
+    pub notes: Vec<UserNote>,
     pub text: Vec<u8>,
     pub outcome: Outcome,
 }

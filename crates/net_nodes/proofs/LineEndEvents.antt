@@ -15,7 +15,7 @@ use Rattle.call_records.specs.RegisterView.{ends_of, lines_of, ends_in, register
 use Rattle.call_records.specs.declared.register.Register.{Register}
 use Rattle.node_laws.specs.Quiet.{IsQuiet}
 use Rattle.line_nodes.specs.Node.{NodeState, Pad, Host, drained}
-use Rattle.line_nodes.specs.Notes.{host_notes}
+use Rattle.line_nodes.specs.Notes.{user_notes}
 use Rattle.frame_lines.specs.declared.line.Direction.{Direction}
 use Rattle.frame_lines.specs.declared.line.Direction.TheVariants.{FromDte, FromDce}
 use Rattle.frame_lines.specs.Lines.{Flights, LineService, flying, without_first}
@@ -100,7 +100,7 @@ at_end L end event s l n between nodes line g a line_there node_there is_for lef
         };
       };
       puts = w.sends.puts_are;
-      told = w.told ∙ ap (λ k. host_notes k turn.notes) place;
+      told = w.told ∙ ap (λ k. user_notes k turn.notes) place;
       text = w.text;
       outcome = w.outcome;
     }

@@ -1,17 +1,27 @@
--- A message for which a host has room is not refused.
-use Rattle.std.proofs.Common.{◌≡◌, ℕ, ◌≤◌, Bool, true, false, List, length, refl, sym, ap, subst, arith}
+-- What the questions of a network promise.
+use Rattle.std.proofs.Common.{◌≡◌, ℕ, ◌≤◌, Bool, true, false, List, length, refl, sym, ap, ◌∙◌, subst, arith}
 use Rattle.std.specs.Prelude.{Option, Some, None, not, if◌then◌else◌}
 use Rattle.packet_host.proofs.Sayable.{sayable}
+use Rattle.x25_pad.proofs.Nothing.{shows_nothing}
 use Rattle.line_nodes.specs.Node.{NodeState, Pad, Host, is_pad}
-use Rattle.line_nodes.specs.Questions.{node_room_to_say}
+use Rattle.line_nodes.specs.Questions.{node_shows, node_room_to_say}
 use Rattle.net_events.specs.NodeEvents.{Says}
 use Rattle.net_events.specs.Network.{PlacedNode, Network}
 use Rattle.net_events.specs.declared.event.StepFault.TheVariants.{NoSuchNode, NoSuchCall}
 use Rattle.net_turns.specs.Outcomes.{event_fault, channel_fault_of}
 use Rattle.net_nodes.specs.Faults.{refused, is_channel_at, at_node, on_channel}
 use Rattle.net_nodes.specs.Places.{user_at}
-use Rattle.net_nodes.specs.Questions.{net_room_to_say, room_to_say_at, say_fault, MaySay}
+use Rattle.net_nodes.specs.Questions.{net_shows, net_room_to_say, room_to_say_at, say_fault, MaySay, PrintsNothing, PrintsNothingOf}
 use Rattle.placed_nodes.specs.Node.{is_host}
+use Rattle.placed_nodes.specs.Questions.{shows_by}
+
+nothing_of : (terminal : ℕ) (n : NodeState) → node_shows n terminal ≡ false → PrintsNothingOf terminal n
+nothing_of terminal (Pad p) nothing = shows_nothing terminal p nothing
+nothing_of terminal (Host e) nothing = tt
+
+pub prints_nothing : (node terminal : ℕ) (s : Network) → net_shows node terminal s ≡ false → PrintsNothing node terminal s
+prints_nothing node terminal s nothing =
+    λ n there. nothing_of terminal n.node (ap (shows_by terminal) (sym there) ∙ nothing)
 
 -- at a node, whose line has the channel or not
 said_of : (channel : ℕ) (octets : List ℕ) (delivery here : Bool) (node : NodeState) → 1 ≤ length octets

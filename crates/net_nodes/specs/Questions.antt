@@ -1,7 +1,7 @@
 -- What may be asked of a network without changing it.
-use Rattle.std.specs.Prelude.{◌≡◌, ℕ, ◌==◌, ◌≤◌, ◌&&◌, if◌then◌else◌, Bool, false, List, length, Option, Some, None}
+use Rattle.std.specs.Prelude.{◌≡◌, ℕ, ◌==◌, ◌≤◌, ◌&&◌, if◌then◌else◌, Bool, false, List, [], length, Option, Some, None}
 use Rattle.std.specs.List.{list_all}
-use Rattle.line_nodes.specs.Node.{node_confirmed}
+use Rattle.line_nodes.specs.Node.{NodeState, Pad, Host, node_confirmed}
 use Rattle.line_nodes.specs.Questions.{node_has_to_take, node_room_to_say}
 use Rattle.net_events.specs.Network.{PlacedNode, NetLine, Network}
 use Rattle.net_nodes.specs.Places.{user_at}
@@ -10,6 +10,8 @@ use Rattle.net_events.specs.declared.event.StepFault.{StepFault}
 use Rattle.net_turns.specs.Outcomes.{event_fault}
 use Rattle.net_nodes.specs.Faults.{is_channel_at, at_host, on_channel, refused}
 use Rattle.placed_nodes.specs.Node.{rests}
+use Rattle.placed_nodes.specs.Questions.{shows_by}
+use Rattle.x25_pad.specs.Pad.{print_text, print_taken}
 
 -- the channel of this number, if a node with users is there, and its line has the channel
 abbrev pub user_channel : (channel : ℕ) → Network → Option PlacedNode → Option ℕ
@@ -23,6 +25,18 @@ confirmed_at channel s (Some n) = is_channel_at n.line channel s && node_confirm
 
 abbrev pub net_confirmed : (node channel : ℕ) → Network → Bool
 net_confirmed node channel s = confirmed_at channel s (user_at node s)
+
+-- a terminal of the PAD of this place has anything to show
+abbrev pub net_shows : (node terminal : ℕ) → Network → Bool
+net_shows node terminal s = shows_by terminal (user_at node s)
+
+-- to print there shows nothing and takes nothing
+abbrev pub PrintsNothingOf : (terminal : ℕ) → NodeState → Type 0
+PrintsNothingOf terminal (Pad p) = (print_text terminal p ≡ []) × (print_taken terminal p ≡ None)
+PrintsNothingOf terminal (Host e) = Unit {0}
+
+abbrev pub PrintsNothing : (node terminal : ℕ) → Network → Type 0
+PrintsNothing node terminal s = (n : PlacedNode) → user_at node s ≡ Some n → PrintsNothingOf terminal n.node
 
 -- anything waits to be taken on a channel of the host of this place
 abbrev pub has_to_take_at : (channel : ℕ) → Network → Option PlacedNode → Bool

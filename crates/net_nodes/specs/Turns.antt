@@ -9,7 +9,7 @@ use Rattle.call_records.specs.declared.register.Register.{Register}
 use Rattle.node_laws.specs.Quiet.{IsQuiet}
 use Rattle.line_nodes.specs.Node.{NodeState, drained, frames_of}
 use Rattle.line_nodes.specs.Turn.{Turn}
-use Rattle.line_nodes.specs.Notes.{host_notes}
+use Rattle.line_nodes.specs.Notes.{user_notes}
 use Rattle.line_nodes.specs.declared.attachment.Attachment.{Attachment}
 use Rattle.frame_lines.specs.Lines.{Flights, LineService}
 use Rattle.net_events.specs.OneLine.{direction_of}
@@ -78,7 +78,7 @@ pub record HadTurn (L : LineService) (end : LineSide) (event : NodeEvent) (n : P
   pub outcome : IsOutcome event n.node a.outcome
   pub sends : Sends L (direction_of end.role) end.line (frames_of (its_turn end event n g).node) l.flights
       a.frames.items l'.flights
-  pub told : a.notes.items ≡ host_notes (place_at end.role l) (its_turn end event n g).notes
+  pub told : a.notes.items ≡ user_notes (place_at end.role l) (its_turn end event n g).notes
   pub text : a.text.items ≡ text_of event n.node
   pub nodes_are : nodes'
       ≡ set nodes (place_at end.role l) (User (record n { node = drained (its_turn end event n g).node }))
@@ -87,14 +87,14 @@ pub record HadTurn (L : LineService) (end : LineSide) (event : NodeEvent) (n : P
 
 -- ---- in the network
 
--- the event happened at an end of a line, and this is the answer: the frames that were put, what a host is told, what a
--- terminal shows, and what the event gives
+-- the event happened at an end of a line, and this is the answer: the frames that were put, what users are told,
+-- what a terminal shows, and what the event gives
 pub record AtEnd (L : LineService) (end : LineSide) (event : NodeEvent) (s : Network) (a : Answer)
     (t : Network) : Type 0 where
   pub happened : HappenedAt L event end.line end.role s t
   pub puts : ArePutsOf (direction_of end.role) end.line
       (frames_of (net_turn event end.line end.role happened.node s).node) a.frames.items
-  pub told : a.notes.items ≡ host_notes (place_at end.role happened.line_is)
+  pub told : a.notes.items ≡ user_notes (place_at end.role happened.line_is)
       (net_turn event end.line end.role happened.node s).notes
   pub text : a.text.items ≡ text_of event happened.node.node
   pub outcome : IsOutcome event happened.node.node a.outcome

@@ -20,6 +20,7 @@ use Rattle.call_records.specs.Room.{BookState, opening_notes}
 use Rattle.line_nodes.specs.Node.{NodeState, Pad, Host, is_pad}
 use Rattle.line_nodes.specs.NodeEvents.{heard, expired, relinked}
 use Rattle.line_nodes.specs.Turn.{told, all_sent}
+use Rattle.line_nodes.specs.Notes.{at_host}
 use Rattle.line_nodes.specs.Terminals.{after_terminal}
 use Rattle.line_nodes.specs.declared.terminal.TerminalEvent.{TerminalEvent}
 use Rattle.line_nodes.specs.HostTurns.{taken_turn}
@@ -157,7 +158,7 @@ taken_none role e channel b q = by (front_on e.layer channel) refl
     by : (o : Option Taken) → front_on e.layer channel ≡ o → opening_notes (after_take e channel).notes ≡ 0
     by None is = ap (λ (o : Option Taken). opening_notes (taken_as o channel e).notes) is ∙ ap opening_notes q.node.read
     by (Some x) is =
-        let P : Option Taken → Type 0 = λ o. opening_notes (taken_turn o role e channel b).notes ≡ 0 in
+        let P : Option Taken → Type 0 = λ o. opening_notes (taken_turn o role e channel b).notes.host ≡ 0 in
         subst P is (opens-takes role e channel b q)
 
 taken_reads : (role : Role) (e : PacketEnd) (channel : ℕ) (b : Book) → IsQuiet (Host e)
@@ -171,7 +172,7 @@ taken_reads role e channel b q = by (front_on e.layer channel) refl
         ∙ (λ i. record {
           node = Host (record e { notes = sym q.node.read i });
           book = Rattle.call_records.specs.Book.all_told role (q.node.read i) b;
-          notes = q.node.read i;
+          notes = at_host (q.node.read i);
         })
     by (Some x) is = refl
 

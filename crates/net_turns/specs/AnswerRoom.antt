@@ -1,10 +1,10 @@
 -- What room an answer has, and how much is in it.
 use Rattle.std.specs.Prelude.{◌≡◌, ◌≤◌, ℕ, length, Vec, vec_capacity}
-use Rattle.packet_end.specs.declared.notes.TheConstants.{MOST_NOTES}
+use Rattle.line_nodes.specs.declared.note.TheConstants.{MOST_NOTES}
 use Rattle.net_events.specs.declared.answer.Answer.{Answer}
 
--- there is no more in it than an event may give: 9 frames for each of the 64 lines of a switch, the notes of an end of a
--- line, and what a terminal shows at once
+-- there is no more in it than an event may give: 9 frames for each of the 64 lines of a switch, the notes of a PAD,
+-- and what a terminal shows at once
 pub record IsWithinLimits (a : Answer) : Type 0 where
   pub frames : length a.frames.items ≤ 576
   pub notes : length a.notes.items ≤ MOST_NOTES

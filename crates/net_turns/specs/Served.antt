@@ -1,16 +1,16 @@
 -- What serving an event does to one node, its line and the book.
 use Rattle.std.specs.Prelude.{◌≡◌, ℕ, ◌≤◌, List, [], vec_capacity, Option, Some, None}
 use Rattle.link_timers.specs.declared.role.Role.{Role}
-use Rattle.packet_end.specs.declared.notes.TheConstants.{MOST_NOTES}
+use Rattle.line_nodes.specs.declared.note.TheConstants.{MOST_NOTES}
 use Rattle.data_transfer.specs.Traffic.{Taken}
 use Rattle.call_records.specs.Book.{Book, takes}
 use Rattle.call_records.specs.Room.{BookState}
 use Rattle.line_nodes.specs.Node.{NodeState, is_pad, drained, frames_of}
 use Rattle.line_nodes.specs.Turn.{Turn, told}
 use Rattle.line_nodes.specs.HostTurns.{let_go}
-use Rattle.line_nodes.specs.Notes.{host_notes}
+use Rattle.line_nodes.specs.Notes.{user_notes}
 use Rattle.line_nodes.specs.Writing.{IsRoomFor}
-use Rattle.line_nodes.specs.declared.note.HostNote.{HostNote}
+use Rattle.line_nodes.specs.declared.note.UserNote.{UserNote}
 use Rattle.frame_lines.specs.Lines.{Flights, LineService}
 use Rattle.net_events.specs.OneLine.{direction_of}
 use Rattle.net_events.specs.NodeEvents.{NodeEvent, turn_of}
@@ -27,11 +27,11 @@ pub record IsCalled (event : NodeEvent) (role : Role) (old : NodeState) (before 
   pub room_for : IsRoomFor node book.room book.pairs
   pub kind : is_pad node ≡ is_pad old
 
--- the turn of a node is taken: its frames are put, a host is told its notes, and the book is written
+-- the turn of a node is taken: its frames are put, users are told its notes, and the book is written
 pub record Served (L : LineService) (at : Attachment) (turn : Turn) (before : Flights)
-    (frames : List Put) (notes : List HostNote) (node : NodeState) (after : Flights) (book : Book) : Type 0 where
+    (frames : List Put) (notes : List UserNote) (node : NodeState) (after : Flights) (book : Book) : Type 0 where
   pub sends : Sends L (direction_of at.role) at.line (frames_of turn.node) before frames after
-  pub told_of : notes ≡ host_notes at.node turn.notes
+  pub told_of : notes ≡ user_notes at.node turn.notes
   pub node_is : node ≡ drained turn.node
   pub book_is : book ≡ turn.book
 

@@ -4,8 +4,8 @@ ghost use Rattle.net_turns.specs.AnswerRoom.{IsRoomy};
 ghost use Rattle.net_turns.specs.Served.{IsEmpty};
 
 use line_end::MOST_FRAMES;
+use line_nodes::MOST_NOTES;
 use net_events::{Answer, Outcome};
-use packet_end::MOST_NOTES;
 use std::alloc::AllocError;
 use switch_joins::MOST_LINES;
 

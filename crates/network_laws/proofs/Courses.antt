@@ -40,7 +40,7 @@ use Rattle.network_laws.specs.Switched.IsSwitched.{IsAny}
 use Rattle.network_laws.specs.Switched.Promise.{InnerPromise}
 use Rattle.network_laws.proofs.Elsewhere.{IsAway, all_away}
 use Rattle.network_laws.proofs.LineCourses.{IsPadTurn, pad_turn}
-use Rattle.network_laws.proofs.PadRuns.{count, count_terminal_event, count_idle, count_line}
+use Rattle.network_laws.proofs.PadTerminals.{count, count_terminal_event, count_idle, count_line}
 use Rattle.network_laws.proofs.Switched.PromiseAny.{promise_any}
 use Rattle.network_laws.proofs.Uniform.{IsUniform, uniform}
 

@@ -14,11 +14,8 @@ pub mod Made
 pub mod PlacedTime
 pub mod Mapped
 pub mod Due
-mod Rows
-mod PadRows
-pub mod PadRuns
+pub mod PadTerminals
 mod Elsewhere
 pub mod Courses
 pub mod HandedCourses
 pub mod MadeCourses
-mod NumbersRun

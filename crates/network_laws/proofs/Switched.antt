@@ -27,7 +27,4 @@ pub mod MadeStanding
 pub mod MadeStands
 pub mod MadeSwitches
 pub mod MadeHeld
-pub mod RunSteps
-pub mod Running
-pub mod TrunkRunning
 pub mod IdleExpiry

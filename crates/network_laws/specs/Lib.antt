@@ -2,7 +2,6 @@ pub mod Switched
 pub mod IsLine
 pub mod LineLaw
 pub mod LineCourse
-pub mod PadRun
 pub mod CallsPromise
 pub mod Promise
 pub mod DueCount

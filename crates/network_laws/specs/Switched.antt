@@ -4,6 +4,4 @@ pub mod Histories
 pub mod Promise
 pub mod Rest
 pub mod Laws
-pub mod Run
-pub mod TrunkRun
 pub mod Idle

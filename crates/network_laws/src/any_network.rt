@@ -2,8 +2,6 @@
 ghost use Rattle.network_laws.specs.Switched.Laws.{MadeLaw, EventLaw, SwitchEventLaw, LossLaw, PlacedTimeLaw, PromiseLaw};
 ghost use Rattle.network_laws.specs.Switched.Idle.{IdleExpiryLaw};
 ghost use Rattle.network_laws.specs.Switched.Laws.{FewerLaw, SwitchFewerLaw, RestLaw, DeliveredLaw};
-ghost use Rattle.network_laws.specs.Switched.Run.{RunLaw};
-ghost use Rattle.network_laws.specs.Switched.TrunkRun.{TrunkRunLaw};
 
 use frame_lines::Line;
 
@@ -28,20 +26,4 @@ pub fn any_network_law<L: Line>()
     ensures idle_expiry { IdleExpiryLaw L.service }
     ensures rest { RestLaw L.service }
     ensures delivered { DeliveredLaw L.service }
-{}
-
-/// A run over frames, by computation. Two hosts at a switch set their links up, and one calls the other. Data goes both
-/// ways, and a message with D = 1 is confirmed. With the call open all comes to rest. Each step is an event of which
-/// the law speaks, so that what the law of rest asks for is met, and nothing is missing.
-pub fn run_law()
-    ensures { RunLaw }
-{}
-
-/// A run over frames and a trunk, by computation: a host at each of two switches. The links are set up, that of the
-/// trunk by the switch that is its DTE. One host calls the other. A message with D = 1 is confirmed when the other host
-/// took it, and not when a switch did. All comes to rest, and nothing is missing. Then that switch restarts, which ends
-/// the call, and sets the trunk's link up again. The other host's call goes up the trunk. Each step is an event of
-/// which the law speaks, so what it asks for can be met by a tree of switches.
-pub fn trunk_run_law()
-    ensures { TrunkRunLaw }
 {}

@@ -6,6 +6,6 @@ mod any_network;
 mod course;
 mod line;
 
-pub use any_network::{any_network_law, run_law, trunk_run_law};
+pub use any_network::any_network_law;
 pub use course::pad_course_law;
-pub use line::{line_course_law, one_line_law, pad_run_law};
+pub use line::{line_course_law, one_line_law};

@@ -1,7 +1,6 @@
 //! One line of a network.
 ghost use Rattle.network_laws.specs.LineLaw.{MadeLaw, EventLaw, LossLaw, TimeLaw, BookLaw, TypedLaw};
 ghost use Rattle.network_laws.specs.LineCourse.{MadeCourse, EventCourse, LossCourse, TimeCourse, SentCourse};
-ghost use Rattle.network_laws.specs.PadRun.{PadRunLaw};
 
 use frame_lines::Line;
 
@@ -29,14 +28,4 @@ pub fn line_course_law<L: Line>()
     ensures loss { LossCourse }
     ensures time { TimeCourse }
     ensures sent { SentCourse }
-{}
-
-/// Two runs of a PAD and a host on a line, by computation. The law of the line speaks of both from the making on. In
-/// the first a call is dialled and connected, text is typed with a deletion, the host reads a parameter (X.29), and the
-/// call is reset. In the second, on a standing call, there is a reset while text is held, a frame that is lost and sent
-/// again after a poll, a break, the command INT and a clear. Records and pair are what was typed, answered and told,
-/// with the occasions of what the PAD said of itself. What the terminal is shown are its echo and the service signals
-/// (X.28).
-pub fn pad_run_law()
-    ensures { PadRunLaw }
 {}

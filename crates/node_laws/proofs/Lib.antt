@@ -6,7 +6,6 @@ pub mod Asking
 pub mod Hearing
 pub mod Making
 pub mod Opening
-mod Rows
 mod PadEnds
 pub mod QuietEnds
 pub mod QuietTurns

@@ -7,7 +7,6 @@ pub mod KeptAfterActs
 pub mod LineLaw
 pub mod WholeEvents
 pub mod Opening
-pub mod Rows
 pub mod DueCounts
 pub mod DueEnds
 pub mod Hosting
@@ -16,4 +15,3 @@ pub mod Confirming
 pub mod Counting
 pub mod Histories
 pub mod Relinking
-pub mod NumbersRun

@@ -9,5 +9,3 @@ pub mod Offering
 pub mod Holding
 pub mod Finishing
 pub mod Resting
-pub mod Rows
-pub mod NumbersRun

@@ -18,14 +18,14 @@ use Rattle.line_nodes.specs.HostTurns.{host_calls, host_asks, host_refuses, host
 use Rattle.node_laws.specs.Nodes.{IsNode, StandsAt}
 
 abbrev pub OpensNothing : Turn → Type 0
-OpensNothing t = opening_notes t.notes ≡ 0
+OpensNothing t = opening_notes t.notes.host ≡ 0
 
 -- ---- what comes from the line
 
 -- a frame opens one thing at most
 abbrev pub HearingOpens : Type 0
 HearingOpens = (role : Role) (n : NodeState) (octets : Octets) (b : Book)
-    → opening_notes (hears role n octets b).notes ≤ 1
+    → opening_notes (hears role n octets b).notes.host ≤ 1
 
 abbrev pub ExpiryOpens : Type 0
 ExpiryOpens = (s : Setting) (b : Book) (l : Line) (role : Role) (n : NodeState) (id : TimerId) → StandsAt role l n

@@ -33,7 +33,7 @@ abbrev pub LeavesQuiet : Turn → Type 0
 LeavesQuiet t = IsQuiet (drained t.node)
 
 abbrev pub OpensOneAtMost : Turn → Type 0
-OpensOneAtMost t = opening_notes t.notes ≤ 1
+OpensOneAtMost t = opening_notes t.notes.host ≤ 1
 
 -- so it is, and nothing is opened
 pub record IsQuietTurn (t : Turn) : Type 0 where

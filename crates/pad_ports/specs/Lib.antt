@@ -4,3 +4,4 @@ pub mod Line
 pub mod Ports
 pub mod PortView
 pub mod TakenView
+pub mod Showing

@@ -209,6 +209,16 @@ impl NotedAt {
         }
     }
 
+    /// The first terminal, if there is one.
+    pub fn first(&self) -> Option<u8>
+        ensures { result ≡ first_terminal self.now }
+    {
+        match self.terminals.front() {
+            Some(terminal) => *terminal,
+            None => None,
+        }
+    }
+
     /// Takes the first terminal, if there is one.
     pub fn take(&mut self) -> Option<u8>
         ensures value { result ≡ first_terminal self.old }

@@ -1,5 +1,5 @@
 //! What waits to be shown at a terminal.
-ghost use Rattle.std.specs.Prelude.{◌≡◌, ◌≤◌, ◌+◌, ◌*◌, ◌∷◌, [], ◌++◌, length, true, IfOk};
+ghost use Rattle.std.specs.Prelude.{◌≡◌, ◌≤◌, ◌+◌, ◌*◌, ◌==◌, ◌∷◌, [], ◌++◌, length, not, true, IfOk};
 ghost use Rattle.arrayvec.specs.ArrayVec.{array_vec_len};
 ghost use Rattle.circular_buffer.specs.Buffer.{buffer, keep_last};
 ghost use Rattle.pad_editing.specs.Echoes.{echo_of_added};
@@ -108,6 +108,13 @@ impl Output {
         let mut text = ArrayVec::<u8, SIGNAL_LIMIT>::new();
         write_signal(signal, &mut text);
         self.write(text.as_slice());
+    }
+
+    /// Whether text waits.
+    pub(crate) fn has_text(&self) -> bool
+        ensures { result ≡ not (length self.now.text == 0) }
+    {
+        !self.text.is_empty()
     }
 
     /// Takes the text that waits, and adds it to `out`.

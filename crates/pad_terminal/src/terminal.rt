@@ -1,5 +1,5 @@
 //! The terminal.
-ghost use Rattle.std.specs.Prelude.{◌≡◌, ◌≤◌, ◌+◌, ◌*◌, ◌++◌, length, false, IfOk};
+ghost use Rattle.std.specs.Prelude.{◌≡◌, ◌≤◌, ◌+◌, ◌*◌, ◌==◌, ◌++◌, length, not, false, IfOk};
 ghost use Rattle.arrayvec.specs.ArrayVec.{array_vec_len};
 ghost use Rattle.pad_terminal.specs.Output as output;
 ghost use Rattle.pad_terminal.specs.Terminal as spec;
@@ -216,6 +216,13 @@ impl Terminal {
     }
 
     // ---- what is shown
+
+    /// Whether text waits to be shown.
+    pub fn has_text(&self) -> bool
+        ensures { result ≡ not (length self.now.output.text == 0) }
+    {
+        self.output.has_text()
+    }
 
     /// Takes the text that waits to be shown, at most 1,024 octets, and adds it to `out`.
     pub fn print<const N: usize>(&mut self, out: &mut ArrayVec<u8, N>)

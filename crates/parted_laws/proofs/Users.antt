@@ -5,11 +5,10 @@ use Rattle.std.proofs.lemmas.Bool.{ne_eqb}
 use Rattle.record_laws.proofs.Books.Basics.{number_is, set_here, set_elsewhere, eq_true, by_true, by_false}
 use Rattle.link_timers.specs.declared.role.Role.{Role}
 use Rattle.lapb.specs.Machine.{Octets}
-use Rattle.data_transfer.specs.Packets.{Note}
 use Rattle.call_records.specs.Register.{book_at}
 use Rattle.line_nodes.specs.Node.{NodeState, drained, frames_of}
 use Rattle.line_nodes.specs.Turn.{Turn}
-use Rattle.line_nodes.specs.Notes.{host_notes}
+use Rattle.line_nodes.specs.Notes.{NodeNotes, user_notes}
 use Rattle.frame_lines.specs.declared.line.Direction.{Direction}
 use Rattle.frame_lines.specs.Lines.{Flights, no_flights, flying, without_first, LineService, lossless_service, ArePut}
 use Rattle.net_events.specs.OneLine.{direction_of, direction_to}
@@ -281,7 +280,7 @@ end_in_one L f owner k part p q s are changes wires event line role a d own may 
       does = record {
         happened = u.happened;
         puts = subst (λ (n : NodeState). ArePutsOf (direction_of role) line (frames_of n) a.frames.items) u.alike.node d.puts;
-        told = d.told ∙ ap₂ (λ (i : ℕ) (notes : List Note). host_notes i notes) (sym u.at_place) u.alike.notes;
+        told = d.told ∙ ap₂ (λ (i : ℕ) (notes : NodeNotes). user_notes i notes) (sym u.at_place) u.alike.notes;
         text = d.text ∙ ap (λ (n : PlacedNode). text_of event n.node) (sym u.same_node);
         outcome = subst (λ (n : PlacedNode). IsOutcome event n.node a.outcome) (sym u.same_node) d.outcome;
       };

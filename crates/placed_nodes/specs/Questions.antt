@@ -1,7 +1,11 @@
 -- What may be asked of the node at a place about what its users have left to do.
 use Rattle.std.specs.Prelude.{ℕ, Bool, false, Option, Some, None}
-use Rattle.line_nodes.specs.Questions.{node_has_to_take, node_room_to_say}
+use Rattle.line_nodes.specs.Questions.{node_shows, node_has_to_take, node_room_to_say}
 use Rattle.net_events.specs.Network.{PlacedNode}
+
+abbrev pub shows_by : (terminal : ℕ) → Option PlacedNode → Bool
+shows_by terminal None = false
+shows_by terminal (Some n) = node_shows n.node terminal
 
 abbrev pub has_to_take_by : (channel : ℕ) → Option PlacedNode → Bool
 has_to_take_by channel None = false

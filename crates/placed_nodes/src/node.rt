@@ -5,7 +5,7 @@ ghost use Rattle.net_events.specs.NextDue.{due_at, due_on_lines, due_from};
 ghost use Rattle.net_events.specs.Network.{elapsed_node};
 ghost use Rattle.net_events.specs.Network as network;
 ghost use Rattle.placed_nodes.specs.Node.{user_of, own_line, rests, confirmed_by};
-ghost use Rattle.placed_nodes.specs.Questions.{has_to_take_by, room_to_say_by};
+ghost use Rattle.placed_nodes.specs.Questions.{shows_by, has_to_take_by, room_to_say_by};
 
 use line_nodes::Node;
 use link_timers::TimerId;
@@ -113,6 +113,16 @@ impl NetNode {
         match &self.kind {
             Equipment::User { .. } => 0,
             Equipment::Switching { switch, .. } => switch.lines(),
+        }
+    }
+
+    /// Whether a terminal of a PAD has anything to show.
+    pub fn shows(&self, terminal: u16) -> bool
+        ensures { result ≡ shows_by terminal (user_of self.now) }
+    {
+        match &self.kind {
+            Equipment::User { node, .. } => node.shows(terminal),
+            Equipment::Switching { .. } => false,
         }
     }
 

@@ -34,4 +34,3 @@ pub mod Keeping
 pub mod AcceptedPairs
 pub mod Delivery
 pub mod Rows
-pub mod NumbersRun

@@ -12,11 +12,6 @@ pub mod SeenAfterEvents
 pub mod Making
 pub mod Beginning
 pub mod Showing
-pub mod Each
-pub mod Going
-pub mod Worked
-pub mod Running
-pub mod RunningOpen
 pub mod Recording
 pub mod Owning
 pub mod Tracing
@@ -32,7 +27,3 @@ pub mod Forwarding
 pub mod Above
 pub mod Path
 pub mod Hopping
-pub mod TrunkRunning
-pub mod TrunkWorld
-pub mod TrunkHolding
-pub mod Colliding

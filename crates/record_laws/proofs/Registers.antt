@@ -6,4 +6,3 @@ pub mod Making
 pub mod Promising
 pub mod Having
 pub mod Missing
-pub mod Rows

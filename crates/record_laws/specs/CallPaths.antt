@@ -1,16 +1,12 @@
-pub mod Plan
 pub mod World
 pub mod Seen
 pub mod Promise
 pub mod Parts
 pub mod Forwards
 pub mod Law
-pub mod Run
 pub mod Lines
 pub mod Ends
 pub mod OwnAddresses
 pub mod Rest
 pub mod Tree
 pub mod Paths
-pub mod TrunkRun
-pub mod Collision

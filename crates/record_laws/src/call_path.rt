@@ -6,11 +6,8 @@ ghost use Rattle.record_laws.specs.CallPaths.Ends.{EndLaw, UserLaw, OpenLaw};
 ghost use Rattle.record_laws.specs.CallPaths.Lines.{MadeLinesLaw, TraceLaw, LinesLaw, WrittenLaw, BookCallsLaw, RecordedLaw};
 ghost use Rattle.record_laws.specs.CallPaths.OwnAddresses.{MadeOwnLaw, WriteOwnLaw, HandedOwnLaw, OwnRun};
 ghost use Rattle.record_laws.specs.CallPaths.Rest.{RestLaw};
-ghost use Rattle.record_laws.specs.CallPaths.Run.{RunLaw, OpenRunLaw};
 ghost use Rattle.record_laws.specs.CallPaths.Tree.{HopsLaw, RoomLaw};
 ghost use Rattle.record_laws.specs.CallPaths.Paths.{MadePathsLaw, PathsLaw};
-ghost use Rattle.record_laws.specs.CallPaths.TrunkRun.{TrunkRunLaw};
-ghost use Rattle.record_laws.specs.CallPaths.Collision.{CollisionLaw};
 
 /// The law of calls through switches, over definitions alone. Besides the register there is a whole one, which has a
 /// record of each leg of each switch too. Whatever happens, the register has what the whole one has of the ends with
@@ -82,14 +79,6 @@ pub fn lines_law()
     ensures recorded { RecordedLaw }
 {}
 
-/// A run of two hosts and a switch between them, by computation: it meets what the law asks for, with a message sent
-/// with D = 1 and confirmed, and with channels used again. Before the call is cleared nothing is missing on its lines,
-/// and the switch has handed on all that it took, which is what the law of rest asks for.
-pub fn run_law()
-    ensures whole { RunLaw }
-    ensures before_the_clear { OpenRunLaw }
-{}
-
 /// In a tree of switches a way has at most 16 hops, one for each switch; so if a switch may join a call, there is room
 /// for its hop in the path. The path of each record has the hops of its call's way.
 pub fn tree_law()
@@ -97,14 +86,4 @@ pub fn tree_law()
     ensures room { RoomLaw }
     ensures made { MadePathsLaw }
     ensures events { PathsLaw }
-{}
-
-/// A run of two hosts with two switches between them and a trunk between the switches, by computation: two calls there
-/// and one back, over two joins each, meet what the laws ask for. A message sent with D = 1 is confirmed from end to
-/// end, one host resets the call while a message is on the trunk, and both reset it at once. The first call is cleared,
-/// and the third one is on its channels. The switches are a tree. In a second run two calls collide on the trunk, and
-/// that of its DTE goes on.
-pub fn trunk_run_law()
-    ensures run { TrunkRunLaw }
-    ensures collision { CollisionLaw }
 {}

@@ -7,7 +7,5 @@ mod call_path;
 mod register;
 
 pub use book::{accepted_run, book_law, delivery_law};
-pub use call_path::{
-    end_law, forward_law, lines_law, own_address_law, path_law, run_law, tree_law, trunk_run_law,
-};
+pub use call_path::{end_law, forward_law, lines_law, own_address_law, path_law, tree_law};
 pub use register::register_law;

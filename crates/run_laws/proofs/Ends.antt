@@ -5,7 +5,7 @@ use Rattle.std.proofs.lemmas.Option.{same_Some}
 use Rattle.link_timers.specs.declared.role.Role.{Role}
 use Rattle.link_timers.specs.declared.role.Role.TheVariants.{Dte, Dce}
 use Rattle.line_nodes.specs.Node.{NodeState, Pad, Host, frames_of}
-use Rattle.line_nodes.specs.Notes.{host_notes}
+use Rattle.line_nodes.specs.Notes.{user_notes}
 use Rattle.frame_lines.specs.Lines.{Flights, memory_service, ArePut}
 use Rattle.net_events.specs.OneLine.{direction_of}
 use Rattle.net_events.specs.NodeEvents.{NodeEvent, Hears, Expires, Relinks, Restarts, Calls, Asks, Refuses, Says}
@@ -102,7 +102,7 @@ at_end_once line role event s t u a b p q =
             listed_once (frames_of (net_turn event line role p.happened.node s).node) (direction_of role) line
             a.frames.items b.frames.items p.puts (subst Q (sym node) q.puts);
         notes =
-            p.told ∙ (λ i. host_notes (place_at role (line_is i)) (net_turn event line role (node i) s).notes)
+            p.told ∙ (λ i. user_notes (place_at role (line_is i)) (net_turn event line role (node i) s).notes)
             ∙ sym q.told;
         text = p.text ∙ ap (λ (n : PlacedNode). text_of event n.node) node ∙ sym q.text;
         outcome =

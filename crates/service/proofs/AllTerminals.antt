@@ -68,9 +68,11 @@ one_at L places port at Wish more s t p q terminals one apart seat there other p
         ap (λ n. slice_get (set terminals port q) n) e ∙ slice_get-set_same terminals port q (slice_get_within terminals port p there),
         subst (λ (n : Place). IsServed n one.steps r q) same_place (subst (λ (x : Terminal). IsServed at one.steps x q) same_terminal one.served),
       )
-  | inr differ ↦
-      (r, slice_get-set_other terminals port other q differ ∙ is,
-      served_silent place one.steps r (one.silent place (apart_places places port other at place apart seat seated differ)))
+  | inr differ ↦ (
+    r,
+    slice_get-set_other terminals port other q differ ∙ is,
+    served_silent place one.steps r (one.silent place (apart_places places port other at place apart seat seated differ)),
+  )
 ]
 
 works_by-one : (L : LineService) (places : List Place) (port : ℕ) (at : Place) (Wish : Terminal → Event → Type 0) (more : Bool) (s t : Network) (p q : Terminal)
@@ -100,7 +102,7 @@ below_none L places s terminals = record {
 tried_below : (places : List Place) (port : ℕ) (at : Place) (xs ys : List Step) (q : Terminal) (between : List Terminal) (p : Terminal)
     → slice_get places port ≡ Some at → slice_get between port ≡ Some p
     → ((other : ℕ) (place : Place) (r : Terminal) (event : Event) → other < port → slice_get places other ≡ Some place → slice_get between other ≡ Some r
-        → Wishes place r event → HasTried event xs)
+    → Wishes place r event → HasTried event xs)
     → ((event : Event) → Wishes at q event → HasTried event ys)
     → (other : ℕ) (place : Place) (r : Terminal) (event : Event) → other < port + 1 → slice_get places other ≡ Some place
     → slice_get (set between port q) other ≡ Some r → Wishes place r event → HasTried event (xs ++ ys)

@@ -6,3 +6,4 @@ pub mod Heard
 pub mod Clients
 pub mod Ports
 pub mod Seated
+pub mod Bridged

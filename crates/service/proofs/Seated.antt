@@ -1,5 +1,5 @@
 -- Terminals of tables, and terminals of none.
-use Rattle.std.proofs.Common.{◌≡◌, ◌≢◌, ◌⊎◌, ℕ, zero, suc, Bool, List, [], ◌∷◌, ◌++◌, ◌<◌, ◌≤◌, ◌+◌, length, slice_get, Some, None, refl, sym, ap, ◌∙◌, arith, inl, inr, subst, length-append}
+use Rattle.std.proofs.Common.{◌≡◌, ◌≢◌, ◌⊎◌, ℕ, zero, suc, Bool, List, [], ◌∷◌, ◌++◌, ◌<◌, ◌≤◌, ◌+◌, ◌&&◌, ◌||◌, true, false, eqb, eq-eqb, ◌==◌, length, position, set, slice_get, Some, None, refl, sym, ap, ◌∙◌, arith, inl, inr, subst, length-append}
 use Rattle.std.proofs.lemmas.Bool.{cases_eq}
 use Rattle.std.proofs.lemmas.Option.{slice_get_within}
 use Rattle.frame_lines.specs.Lines.{LineService}
@@ -11,12 +11,15 @@ use Rattle.service.specs.declared.place.Place.{Place}
 use Rattle.service.specs.declared.seats.TerminalsBinding.{TerminalsBinding}
 use Rattle.service.specs.declared.terminal.Presence.TheVariants.{Gone}
 use Rattle.service.specs.declared.terminal.Terminal.{Terminal}
-use Rattle.service.specs.Places.{IsBound, IsFree, AreApart}
+use Rattle.service.specs.Places.{is_place, is_bound, AreApart}
 use Rattle.service.specs.Seats.{IsOfTable, AreSeated, IsOfSomeTable}
 use Rattle.service.specs.Absent.{PassesPlaces, IsTold, LeavesBelow, LeavesPads}
+use Rattle.service.specs.Serving.{Begins, ServesBelow}
+use Rattle.service.specs.Terminals.{HasCome, attached, is_free, is_free_in}
 use Rattle.service.specs.Steps.{Step, Steps, IsSilent, HasTried, Does}
 use Rattle.service.proofs.Stepping.{steps-append, silent-none, silent-append, tried-left, tried-right, tried_step}
-use Rattle.service.proofs.Served.{same_place, presence_is_silent}
+use Rattle.service.proofs.Keys.{first_found}
+use Rattle.service.proofs.Served.{presence_is_silent}
 
 -- ---- lists that get longer
 
@@ -42,12 +45,31 @@ got_push (z ∷ xs) x y (suc place) is = elim (got_push xs x y place is) [
 
 -- ---- a place among others
 
-pub bound_at : (places : List Place) (port : ℕ) (at found : Place) → slice_get places port ≡ Some found → found.node ≡ at.node → found.number ≡ at.number
-    → IsBound places at
-bound_at places port at found there node number = (port, there ∙ ap Some (same_place found at node number))
+-- a place that is not bound is none of these
+abbrev pub IsFree : List Place → Place → Type 0
+IsFree places at = (port : ℕ) (other : Place) → slice_get places port ≡ Some other → other ≢ at
 
-pub bound-left : (places more : List Place) (at : Place) → IsBound places at → IsBound (places ++ more) at
-bound-left places more at bound = (bound.0, got-left places more bound.0 at bound.1)
+same_number : (n : ℕ) → eqb n n ≡ true
+same_number n = eq-eqb n n refl
+
+is_place_self : (at : Place) → is_place at at ≡ true
+is_place_self at = λ i. same_number at.node i && same_number at.number i
+
+no_test : (a b : Bool) → a ≡ true → (a || b) ≡ false → ⊥
+no_test true b is isnt = cc
+no_test false b is isnt = cc
+
+rest_test : (a b : Bool) → (a || b) ≡ false → b ≡ false
+rest_test true b isnt = cc
+rest_test false b isnt = isnt
+
+pub free_at : (places : List Place) (at : Place) → is_bound at places ≡ false → IsFree places at
+free_at [] at free port other there = cc
+free_at (place ∷ places) at free zero other there = λ is.
+    let first : place ≡ other = cc in
+    no_test (is_place at place) (is_bound at places) (ap (λ (p : Place). is_place at p) (first ∙ is) ∙ is_place_self at) free
+free_at (place ∷ places) at free (suc port) other there =
+    free_at places at (rest_test (is_place at place) (is_bound at places) free) port other there
 
 -- a place that is free may come beside the others
 apart_push : (places : List Place) (at : Place) → AreApart places → IsFree places at → AreApart (places ++ at ∷ [])
@@ -151,7 +173,7 @@ leaves_one L node number done places s m t before free does =
     }
 
 pub leaves_bound : (L : LineService) (node number : ℕ) (places : List Place) (s t : Network) → LeavesBelow L node number places s t
-    → IsBound places (place_at node number) → LeavesBelow L node (number + 1) places s t
+    → is_bound (place_at node number) places ≡ true → LeavesBelow L node (number + 1) places s t
 leaves_bound L node number places s t before bound = record {
   steps = before.steps ++ [];
   passes = passes_then_at L places before.steps [] s t t before.passes (passes_none_at L places t);
@@ -186,3 +208,35 @@ pads_more L index pads pad places s m t before there now = record {
   passes = passes_then_at L places before.steps now.steps s m t before.passes now.passes;
   told = told_pad places pads index pad before.steps now.steps before.told now.told there;
 }
+
+-- ---- a service begins
+
+pub begins_so : (L : LineService) (tables : List TerminalsBinding) (pads : List PadBinding) (more : Bool) (s m t : Network) (places : List Place)
+    (first after : List Terminal) (below : ℕ) → AreSeated tables places first → LeavesPads L (length pads) pads places s m
+    → ServesBelow L places below more m t first after → Begins L tables pads s t places after
+begins_so L tables pads more s m t places first after below seated leaves serves = record {
+  first = first;
+  seated = seated;
+  between = m;
+  absent = leaves;
+  steps = serves.steps;
+  served = serves.works;
+}
+
+-- ---- a client comes
+
+second_holds : (a b : Bool) → (a && b) ≡ true → b ≡ true
+second_holds true b is = is
+second_holds false b is = cc
+
+pub has_come : (table port : ℕ) (terminals after : List Terminal) (p q : Terminal) → position (is_free_in table) terminals ≡ Some port
+    → slice_get terminals port ≡ Some p → q ≡ attached p → after ≡ set terminals port q → HasCome terminals after port
+has_come table port terminals after p q found there came is =
+    let first = first_found (is_free_in table) terminals port found in
+    let same_terminal : first.0 ≡ p = let both : Some first.0 ≡ Some p = sym first.2 ∙ there in cc in
+    record {
+      was = p;
+      there = there;
+      free = second_holds (p.terms.table == table) (is_free p) (subst (λ (x : Terminal). is_free_in table x ≡ true) same_terminal first.1);
+      came = is ∙ ap (λ (x : Terminal). set terminals port x) came;
+    }

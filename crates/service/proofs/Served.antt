@@ -23,14 +23,15 @@ use Rattle.service.specs.declared.place.Place.{Place}
 use Rattle.service.specs.declared.terminal.Presence.{Presence}
 use Rattle.service.specs.declared.terminal.Presence.TheVariants.{Here, Gone}
 use Rattle.service.specs.declared.terminal.Terminal.{Terminal}
-use Rattle.service.specs.Terminals.{without_keys, without_key_at, urgent_place, counted}
+use Rattle.service.specs.declared.terminal.Terms.{Terms}
+use Rattle.service.specs.Terminals.{without_keys, without_key_at, urgent_place, xon_place, counted}
 use Rattle.service.specs.Steps.{Step, Makes, Steps, HasTried, AreIdle, is_idle, is_idle_answer, is_idle_outcome, text_of, key_event, presence_event, shown_by, typed_by, told_by, shown, typed, told, IsSilent, Does}
 use Rattle.service.specs.Serving.{Fate, pressed, hastened, overtaken, Befall, begins_urgently, overtaken_in, xon, untold_list, IsServed, WishesPresence, WishesKey, WishesXon, WishesKeys, WishesText, Wishes, Serves, shown_at, IsOvertaken, may_show}
 use Rattle.line_sim.specs.Stepping.{lent}
 use Rattle.net_turns.specs.AnswerRoom.{IsWithinLimits}
 use Rattle.std.specs.Borrow.{Bor}
 use Rattle.std.specs.Bool.{OnTrue, OnFalse}
-use Rattle.service.proofs.Keys.{befall-then, overtaken_in-append, first_and_rest, first_found, is_xon}
+use Rattle.service.proofs.Keys.{befall-then, overtaken_in-append, first_and_rest, first_found, is_xon, xon_found}
 use Rattle.service.proofs.Stepping.{Lent, steps-append, shown-append, typed-append, told-append, silent-none, silent-append, silent_step, idle-append, idle_step, tried-left, tried-right, tried_step, not_done, was_done, neither_left, neither_right}
 
 -- ---- text after text
@@ -87,8 +88,9 @@ served_then at xs ys p m q one two = record {
       ∙ with_shown_then p.port.mode p.port.output (shown at xs) (shown at ys)
       ∙ ap (λ text. with_shown p.port.mode p.port.output text) (sym (shown-append at xs ys));
   fates = one.fates ++ two.fates;
-  keys = subst (λ keys. Befall (one.fates ++ two.fates) p.port.keys.items keys q.port.keys.items) (sym (typed-append at xs ys))
-      (befall-then one.fates two.fates p.port.keys.items (typed at xs) m.port.keys.items (typed at ys) q.port.keys.items one.keys two.keys);
+  keys = subst (λ keys. Befall p.terms.has_xon (one.fates ++ two.fates) p.port.keys.items keys q.port.keys.items) (sym (typed-append at xs ys))
+      (befall-then p.terms.has_xon one.fates two.fates p.port.keys.items (typed at xs) m.port.keys.items (typed at ys) q.port.keys.items one.keys
+      (subst (λ (terms : Terms). Befall terms.has_xon two.fates m.port.keys.items (typed at ys) q.port.keys.items) one.terms two.keys));
   overtaken_are = two.overtaken_are
       ∙ ap (λ count. counted count (overtaken_in two.fates)) one.overtaken_are
       ∙ counted_then p.overtaken (overtaken_in one.fates) (overtaken_in two.fates)
@@ -190,7 +192,7 @@ neither_second : (a b : Bool) → b ≡ false → (a && b) ≡ false
 neither_second true b e = e
 neither_second false b e = refl
 
-pub same_place : (one other : Place) → one.node ≡ other.node → one.number ≡ other.number → one ≡ other
+same_place : (one other : Place) → one.node ≡ other.node → one.number ≡ other.number → one ≡ other
 same_place one other node number = λ i. record { node = node i; number = number i }
 
 -- a step at this terminal, and one at another
@@ -263,7 +265,7 @@ unchanged mode o text none = sym (ap (λ text. with_shown mode o text) none ∙ 
 
 -- a key is typed, and these keys are left
 typed_served : (at : Place) (key : Key) (answer : Result Answer StepFault) (p : Terminal) (fate : Fate) (left : List Key)
-    → is_idle answer ≡ false → Befall (fate ∷ []) p.port.keys.items (key ∷ []) left → overtaken_in (fate ∷ []) ≡ 0
+    → is_idle answer ≡ false → Befall p.terms.has_xon (fate ∷ []) p.port.keys.items (key ∷ []) left → overtaken_in (fate ∷ []) ≡ 0
     → IsServed at (one_step (AtTerminal at.node at.number (key_event key)) answer) p (record p { port = record p.port { keys = buffer left p.port.keys.capacity } })
 typed_served at key answer p fate left busy goes none = record {
   terms = refl;
@@ -272,14 +274,14 @@ typed_served at key answer p fate left busy goes none = record {
   phase = refl;
   output = unchanged p.port.mode p.port.output _ (key_shows_nothing at key answer);
   fates = fate ∷ [];
-  keys = subst (λ keys. Befall (fate ∷ []) p.port.keys.items keys left) (sym (key_types at key answer busy)) goes;
+  keys = subst (λ keys. Befall p.terms.has_xon (fate ∷ []) p.port.keys.items keys left) (sym (key_types at key answer busy)) goes;
   overtaken_are = sym (counted-none p.overtaken) ∙ ap (λ count. counted p.overtaken count) (sym none);
   untold = ap (λ tells. tells ++ untold_list p.untold) (sym (key_tells_nothing at key answer));
 }
 
 key_typed : (L : LineService) (at : Place) (Wish : Terminal → Event → Type 0) (key : Key) (event : Event) (done : Bool) (s t : Network)
     (p q : Terminal) (fate : Fate) (left : List Key) → event ≡ AtTerminal at.node at.number (key_event key) → Does L event done s t → done ≡ true
-    → Befall (fate ∷ []) p.port.keys.items (key ∷ []) left → overtaken_in (fate ∷ []) ≡ 0
+    → Befall p.terms.has_xon (fate ∷ []) p.port.keys.items (key ∷ []) left → overtaken_in (fate ∷ []) ≡ 0
     → q ≡ record p { port = record p.port { keys = buffer left p.port.keys.capacity } } → Serves L at Wish true s t p q
 key_typed L at Wish key event done s t p q fate left is does was goes none after =
     let there = AtTerminal at.node at.number (key_event key) in
@@ -307,13 +309,14 @@ key_pressed L at Wish key event done s t p q is does was first after =
 -- an XON is typed before the keys that wait
 pub key_hastened : (L : LineService) (at : Place) (Wish : Terminal → Event → Type 0) (place : ℕ) (event : Event) (done : Bool) (s t : Network)
     (p q : Terminal) → event ≡ AtTerminal at.node at.number (key_event xon) → Does L event done s t → done ≡ true
-    → position (is_octet 17) p.port.keys.items ≡ Some place → q ≡ without_key_at place p → Serves L at Wish true s t p q
+    → xon_place p ≡ Some place → q ≡ without_key_at place p → Serves L at Wish true s t p q
 key_hastened L at Wish place event done s t p q is does was there after =
     let keys = p.port.keys.items in
-    let found = first_found (is_octet 17) keys place there in
-    let split = subst (λ key. keys ≡ take place keys ++ key ∷ drop (suc place) keys) (is_xon found.0 found.1) found.2 in
+    let where_it_is = xon_found p.terms.has_xon (position (is_octet 17) keys) place there in
+    let found = first_found (is_octet 17) keys place where_it_is.1 in
+    let split = subst (λ key. keys ≡ take place keys ++ key ∷ drop (suc place) keys) (is_xon found.0 found.1) found.3 in
     key_typed L at Wish xon event done s t p q (hastened (take place keys)) (remove keys place) is does was
-    (drop (suc place) keys, [], split, refl, (refl, refl)) refl after
+    (drop (suc place) keys, [], where_it_is.0, split, refl, (refl, refl)) refl after
 
 -- the first key is refused, and waits
 abbrev IsKey : Place → Key → Terminal → Event → Type 0
@@ -344,7 +347,7 @@ key_refused L at Wish key event done s t p is does was wishes =
 no_place : (found : Option ℕ) (place : ℕ) → found ≡ None → found ≡ Some place → ⊥
 no_place found place none some = cc
 
-pub xon_rests : (L : LineService) (at : Place) (s : Network) (p : Terminal) → position (is_octet 17) p.port.keys.items ≡ None
+pub xon_rests : (L : LineService) (at : Place) (s : Network) (p : Terminal) → xon_place p ≡ None
     → Serves L at (WishesXon at) false s s p p
 xon_rests L at s p none = serves-none L at (WishesXon at) s p (λ event wish. no_place _ wish.0 none wish.1)
 
@@ -388,7 +391,7 @@ pub key_gives_way : (L : LineService) (at : Place) (key : Key) (event : Event) (
 key_gives_way L at key event done over s m t p q is does was hastens over_is =
     let Any = λ (x : Terminal) (e : Event). IsKey at key x e ⊎ WishesXon at x e in
     let both = serves-then L at (IsKey at key) (WishesXon at) Any false over s m t p p q (λ e wish. wish)
-        (key_refused L at (IsKey at key) key event done s m p is does was (λ e wish. wish)) hastens in
+    (key_refused L at (IsKey at key) key event done s m p is does was (λ e wish. wish)) hastens in
     record {
       steps = both.steps;
       made = both.made;
@@ -448,7 +451,8 @@ no_key (other ∷ keys) key place none some = cc
 
 no_wish : (at : Place) (p : Terminal) (event : Event) → slice_get p.port.keys.items 0 ≡ None → WishesKeys at p event → ⊥
 no_wish at p event none (inl wish) = no_key p.port.keys.items wish.0 (urgent_place p.port.keys.items) none wish.1
-no_wish at p event none (inr wish) = no_xon p.port.keys.items wish.0 none wish.1
+no_wish at p event none (inr wish) =
+    no_xon p.port.keys.items wish.0 none (xon_found p.terms.has_xon (position (is_octet 17) p.port.keys.items) wish.0 wish.1).1
 
 pub key_rests : (L : LineService) (at : Place) (s : Network) (p : Terminal) → slice_get p.port.keys.items 0 ≡ None
     → Serves L at (WishesKeys at) false s s p p

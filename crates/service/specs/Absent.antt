@@ -1,12 +1,12 @@
 -- Terminals that no client has.
-use Rattle.std.specs.Prelude.{◌≡◌, ◌⊎◌, ◌<◌, ℕ, List, length, slice_get, Some}
+use Rattle.std.specs.Prelude.{◌≡◌, ◌⊎◌, ◌<◌, ℕ, true, List, length, slice_get, Some}
 use Rattle.frame_lines.specs.Lines.{LineService}
 use Rattle.line_nodes.specs.declared.terminal.TerminalEvent.TheVariants as what
 use Rattle.net_events.specs.declared.event.Event.TheVariants.{AtTerminal}
 use Rattle.net_events.specs.Network.{Network}
 use Rattle.service.specs.declared.absent.PadBinding.{PadBinding}
 use Rattle.service.specs.declared.place.Place.{Place}
-use Rattle.service.specs.Places.{IsBound}
+use Rattle.service.specs.Places.{is_bound}
 use Rattle.service.specs.Steps.{Step, Steps, IsSilent, HasTried}
 
 -- steps that are nothing at these places
@@ -16,7 +16,7 @@ pub record PassesPlaces (L : LineService) (places : List Place) (steps : List St
 
 -- of a terminal that has none of these places its PAD is told that nobody is there
 abbrev pub IsTold : (places : List Place) → (steps : List Step) → Place → Type 0
-IsTold places steps at = IsBound places at ⊎ HasTried (AtTerminal at.node at.number what.Leaves) steps
+IsTold places steps at = (is_bound at places ≡ true) ⊎ HasTried (AtTerminal at.node at.number what.Leaves) steps
 
 -- of each terminal of a PAD below a number, of each of a PAD, and of each of the PADs before a number
 pub record LeavesBelow (L : LineService) (node below : ℕ) (places : List Place) (s t : Network) : Type 0 where

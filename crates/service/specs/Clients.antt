@@ -85,11 +85,11 @@ all_shown at so_far p (deed ∷ deeds) q history =
 
 -- A client that reads what was written and what waits, as its mode has it, reads all that was shown. What it typed, as its
 -- mode has it, went to the terminal: each key was typed, or was overtaken, or waits.
-pub record IsClientServed (at : Place) (mode : Mode) (steps : List Step) (written heard shown : List ℕ) (q : Terminal)
-    : Type 0 where
+pub record IsClientServed (at : Place) (mode : Mode) (has_xon : Bool) (steps : List Step)
+    (written heard shown : List ℕ) (q : Terminal) : Type 0 where
   pub reads : text_seen mode (written ++ q.port.output.octets) ≡ shown
   pub fates : List Fate
-  pub keys : Befall fates (keys_heard mode heard) (typed at steps) q.port.keys.items
+  pub keys : Befall has_xon fates (keys_heard mode heard) (typed at steps) q.port.keys.items
 
 -- there is room for the greeting of a new client
 abbrev pub is_greeted : Terminal → Bool
@@ -99,5 +99,5 @@ is_greeted free = has_room (length free.terms.greeting.items) (begun free.port.m
 abbrev pub ClientsAreServed : Type 0
 ClientsAreServed = (at : Place) (free : Terminal) (deeds : List Deed) (q : Terminal) → is_greeted free ≡ true
     → (history : History at (attached free) deeds q)
-    → IsClientServed at free.port.mode (all_steps [] deeds) (all_written at [] (attached free) deeds q history)
+    → IsClientServed at free.port.mode free.terms.has_xon (all_steps [] deeds) (all_written at [] (attached free) deeds q history)
     (all_heard at [] (attached free) deeds q history) (all_shown at free.terms.greeting.items (attached free) deeds q history) q

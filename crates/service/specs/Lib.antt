@@ -1,3 +1,4 @@
+pub mod Calls
 pub mod Places
 pub mod Terminals
 pub mod Seats
@@ -6,3 +7,5 @@ pub mod Steps
 pub mod Absent
 pub mod Serving
 pub mod Clients
+pub mod Bridging
+pub mod Hello

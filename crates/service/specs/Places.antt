@@ -1,13 +1,14 @@
 -- Terminals by their places in a network.
-use Rattle.std.specs.Prelude.{◌≡◌, ◌≢◌, ℕ, List, slice_get, Some}
+use Rattle.std.specs.Prelude.{◌≡◌, ◌==◌, ◌&&◌, ℕ, Bool, List, slice_get, Some}
+use Rattle.std.specs.List.{list_any}
 use Rattle.service.specs.declared.place.Place.{Place}
 
--- a place is among these, or is none of them
-abbrev pub IsBound : List Place → Place → Type 0
-IsBound places at = (port : ℕ) × (slice_get places port ≡ Some at)
+abbrev pub is_place : (at other : Place) → Bool
+is_place at other = other.node == at.node && other.number == at.number
 
-abbrev pub IsFree : List Place → Place → Type 0
-IsFree places at = (port : ℕ) (other : Place) → slice_get places port ≡ Some other → other ≢ at
+-- whether a place is among these
+abbrev pub is_bound : Place → List Place → Bool
+is_bound at places = list_any (is_place at) places
 
 -- no two of these are the same
 abbrev pub AreApart : List Place → Type 0

@@ -3,7 +3,7 @@ use Rattle.std.specs.Prelude.{◌≡◌, ◌≤◌, ◌<◌, ℕ, List, length, 
 use Rattle.service.specs.declared.place.Place.{Place}
 use Rattle.service.specs.declared.seats.TerminalsBinding.{TerminalsBinding}
 use Rattle.service.specs.declared.terminal.Terminal.{Terminal}
-use Rattle.service.specs.Places.{AreApart, IsBound}
+use Rattle.service.specs.Places.{AreApart}
 use Rattle.service.specs.Terminals.{fresh}
 
 -- a terminal of a table, as made
@@ -13,6 +13,7 @@ pub record IsOfTable (table : ℕ) (binding : TerminalsBinding) (at : Place) (p 
   pub to : at.number ≤ binding.last
   pub table_is : p.terms.table ≡ table
   pub idle : p.terms.idle ≡ binding.idle
+  pub xon : p.terms.has_xon ≡ binding.has_xon
   pub made : p ≡ fresh binding.mode p.terms
 
 abbrev pub IsOfSomeTable : List TerminalsBinding → Place → Terminal → Type 0

@@ -1,5 +1,5 @@
 -- What the steps of a network are for one terminal, and for all.
-use Rattle.std.specs.Prelude.{◌≡◌, ◌≢◌, ◌⊎◌, ◌+◌, ◌<◌, ◌≤◌, ℕ, Bool, true, false, ◌&&◌, List, [], ◌∷◌, ◌++◌, drop, length, slice_get, position, Option, Some, None}
+use Rattle.std.specs.Prelude.{◌≡◌, ◌≢◌, ◌⊎◌, ◌+◌, ◌<◌, ◌≤◌, ℕ, Bool, true, false, ◌&&◌, List, [], ◌∷◌, ◌++◌, drop, length, slice_get, Option, Some, None}
 use Rattle.frame_lines.specs.declared.line.Direction.{Direction}
 use Rattle.frame_lines.specs.Lines.{LineService}
 use Rattle.line_nodes.specs.declared.terminal.TerminalEvent.TheVariants as what
@@ -10,7 +10,7 @@ use Rattle.net_nodes.specs.Due.{net_due}
 use Rattle.service_ports.specs.declared.input.Key.{Key}
 use Rattle.service_ports.specs.declared.input.Key.TheVariants.{Octet}
 use Rattle.service_ports.specs.Modes.{with_shown}
-use Rattle.service_ports.specs.Ports.{is_break_or, is_octet}
+use Rattle.service_ports.specs.Ports.{is_break_or}
 use Rattle.service.specs.declared.absent.PadBinding.{PadBinding}
 use Rattle.service.specs.declared.place.Place.{Place}
 use Rattle.service.specs.declared.seats.TerminalsBinding.{TerminalsBinding}
@@ -18,7 +18,7 @@ use Rattle.service.specs.declared.terminal.Presence.{Presence}
 use Rattle.service.specs.declared.terminal.Terminal.{Terminal}
 use Rattle.service.specs.Absent.{LeavesAbsent}
 use Rattle.service.specs.Seats.{AreSeated}
-use Rattle.service.specs.Terminals.{has_client, has_room, without_keys, urgent_place, counted}
+use Rattle.service.specs.Terminals.{has_client, has_room, without_keys, urgent_place, xon_place, counted}
 use Rattle.service.specs.Steps.{Step, Steps, HasTried, AreIdle, IsSilent, PassesBy, key_event, presence_event, shown, typed, told}
 
 -- ---- one terminal
@@ -38,15 +38,17 @@ abbrev pub begins_urgently : List Key → Bool
 begins_urgently [] = false
 begins_urgently (key ∷ keys) = is_break_or 16 key
 
--- with these fates, one after the other, these keys waited, these of them were typed, in this order, and these are left
-abbrev pub Befall : List Fate → (keys typed left : List Key) → Type 0
-Befall [] keys typed left = (keys ≡ left) × (typed ≡ [])
-Befall (pressed key ∷ fates) keys typed left =
-    (rest : List Key) × (more : List Key) × (keys ≡ key ∷ rest) × (typed ≡ key ∷ more) × Befall fates rest more left
-Befall (hastened before ∷ fates) keys typed left =
-    (rest : List Key) × (more : List Key) × (keys ≡ before ++ xon ∷ rest) × (typed ≡ xon ∷ more) × Befall fates (before ++ rest) more left
-Befall (overtaken first ∷ fates) keys typed left =
-    (rest : List Key) × (keys ≡ first ++ rest) × (begins_urgently rest ≡ true) × Befall fates rest typed left
+-- With these fates, one after the other, these keys waited, these of them were typed, in this order, and these are left.
+-- Only where there is an XON may one be typed before its turn.
+abbrev pub Befall : (has_xon : Bool) → List Fate → (keys typed left : List Key) → Type 0
+Befall has_xon [] keys typed left = (keys ≡ left) × (typed ≡ [])
+Befall has_xon (pressed key ∷ fates) keys typed left =
+    (rest : List Key) × (more : List Key) × (keys ≡ key ∷ rest) × (typed ≡ key ∷ more) × Befall has_xon fates rest more left
+Befall has_xon (hastened before ∷ fates) keys typed left =
+    (rest : List Key) × (more : List Key) × (has_xon ≡ true) × (keys ≡ before ++ xon ∷ rest) × (typed ≡ xon ∷ more)
+    × Befall has_xon fates (before ++ rest) more left
+Befall has_xon (overtaken first ∷ fates) keys typed left =
+    (rest : List Key) × (keys ≡ first ++ rest) × (begins_urgently rest ≡ true) × Befall has_xon fates rest typed left
 
 -- how many keys were dropped
 abbrev pub overtaken_in : List Fate → ℕ
@@ -69,7 +71,7 @@ pub record IsServed (at : Place) (steps : List Step) (p q : Terminal) : Type 0 w
   pub phase : q.phase ≡ p.phase
   pub output : q.port.output ≡ with_shown p.port.mode p.port.output (shown at steps)
   pub fates : List Fate
-  pub keys : Befall fates p.port.keys.items (typed at steps) q.port.keys.items
+  pub keys : Befall p.terms.has_xon fates p.port.keys.items (typed at steps) q.port.keys.items
   pub overtaken_are : q.overtaken ≡ counted p.overtaken (overtaken_in fates)
   pub untold : untold_list p.untold ≡ told at steps ++ untold_list q.untold
 
@@ -92,7 +94,7 @@ WishesKey at p event =
 
 abbrev pub WishesXon : Place → Terminal → Event → Type 0
 WishesXon at p event =
-    (place : ℕ) × (position (is_octet 17) p.port.keys.items ≡ Some place)
+    (place : ℕ) × (xon_place p ≡ Some place)
     × (event ≡ AtTerminal at.node at.number (key_event xon))
 
 abbrev pub WishesKeys : Place → Terminal → Event → Type 0

@@ -8,7 +8,7 @@ use Rattle.service_ports.specs.declared.command.Command.TheVariants.{NoOperation
 use Rattle.service_ports.specs.declared.input.Key.{Key}
 use Rattle.service_ports.specs.declared.mode.Mode.{Mode}
 use Rattle.service_ports.specs.Modes.{is_telnet, with_shown}
-use Rattle.service_ports.specs.Ports.{PortState, begun, after_octets, is_break_or, takes_octet}
+use Rattle.service_ports.specs.Ports.{PortState, begun, after_octets, is_break_or, is_octet, takes_octet}
 use Rattle.service_ports.specs.Writing.{with_command}
 use Rattle.service.specs.declared.service.PortStatus.{PortStatus}
 use Rattle.service.specs.declared.terminal.Phase.{Phase}
@@ -171,6 +171,10 @@ without_key_at place p =
 abbrev pub urgent_place : List Key → ℕ
 urgent_place keys = unwrap_or (position (is_break_or 16) keys) 0
 
+-- the place of the first XON that waits, if the PAD has one
+abbrev pub xon_place : Terminal → Option ℕ
+xon_place p = if p.terms.has_xon then position (is_octet 17) p.port.keys.items else None
+
 -- a count that stays at the most that there is place for
 abbrev pub counted : (count more : ℕ) → ℕ
 counted count more = max count (min (count + more) 18446744073709551615)
@@ -213,9 +217,9 @@ status_of p = record {
   overtaken = p.overtaken;
 }
 
--- whether a service has stopped that may take so many ticks more: there are none left, or nobody is there and the network
--- rests
-abbrev pub has_stopped : Option ℕ → List Terminal → Network → Bool
-has_stopped None terminals s = false
-has_stopped (Some zero) terminals s = true
-has_stopped (Some (suc ticks)) terminals s = are_deserted terminals && net_rests s
+-- whether a service has stopped that may take so many ticks more: there are none left, or nobody is there, all bridges are
+-- free, and the network rests
+abbrev pub has_stopped : Option ℕ → List Terminal → (are_free : Bool) → Network → Bool
+has_stopped None terminals are_free s = false
+has_stopped (Some zero) terminals are_free s = true
+has_stopped (Some (suc ticks)) terminals are_free s = are_deserted terminals && are_free && net_rests s

@@ -33,7 +33,7 @@ fn leave_pad<L: Line>(exchange: &mut Exchange<L>, pad: PadBinding, places: &[Pla
             node: pad.node,
             number,
         };
-        if !is_bound(places, place) {
+        if !is_bound(place, places) {
             exchange.leave(place);
         }
     }

@@ -1,11 +1,15 @@
 //! The calls at the hosts of a network, and what is to be logged of them.
+ghost use Rattle.std.specs.Prelude.{◌≡◌, length, slice_get};
+ghost use Rattle.service.specs.Calls.{call_of};
+
+use crate::call_address::CallAddress;
 use crate::hosts::{HostBinding, HostChannel};
-use circular_buffer::HeapCircularBuffer;
-use line_sim::{HostNote, NoteKind};
+use line_sim::{NoteKind, Outcome, UserNote};
 use packet_codec::Address;
+use packet_layer::Front;
 use std::alloc::{AllocError, Global};
 
-/// How many notes of calls may wait to be logged.
+/// How many notes of calls may be there. Their places are free again once all are logged.
 const MOST_NOTES: usize = 1024;
 
 /// What became of a call at a host, to be logged.
@@ -22,7 +26,13 @@ pub struct CallNote {
 #[derive(Clone, Copy)]
 pub enum CallChange {
     /// A call came in, from this address if it was told.
-    Incoming { from: Option<Address> },
+    Incoming {
+        from: Option<CallAddress>,
+    },
+    /// A call of this address was placed.
+    Called {
+        to: CallAddress,
+    },
     /// The call was accepted, by either end.
     Connected,
     /// The call is over, for this cause and diagnostic (0 and 0 if the host cleared it), after so many seconds, in which
@@ -34,8 +44,15 @@ pub enum CallChange {
         taken: u64,
         said: u64,
     },
+    /// An interrupt or a packet with Q = 1 of so many octets was taken, which no service or caller has, and was dropped.
+    Dropped {
+        octets: usize,
+    },
     /// The call was reset, for this cause and diagnostic.
-    Reset { cause: u8, diagnostic: u8 },
+    Reset {
+        cause: u8,
+        diagnostic: u8,
+    },
 }
 
 /// A call that is there.
@@ -46,7 +63,7 @@ pub struct CallStatus {
     /// The logical channel of the call.
     pub channel: u8,
     /// The address of the other end, if it was told.
-    pub far: Option<Address>,
+    pub far: Option<CallAddress>,
     /// Whether the host placed it.
     pub is_ours: bool,
     /// When it began, in seconds since the beginning of 1970.
@@ -57,18 +74,22 @@ pub struct CallStatus {
     pub said: u64,
 }
 
-/// The calls of a host, by their channels from 1 on.
-#[derive(Drop)]
-struct HostCalls {
+/// The places for calls of a host: that of its channel 1, and how many there are.
+#[derive(Clone, Copy)]
+struct HostPlaces {
     node: usize,
-    calls: Vec<Option<CallStatus>>,
+    first: usize,
+    channels: u8,
 }
 
 /// The calls at all hosts, and what is to be logged of them.
 #[derive(Drop)]
 pub(crate) struct Calls {
-    hosts: Vec<HostCalls>,
-    notes: HeapCircularBuffer<CallNote>,
+    hosts: Vec<HostPlaces>,
+    calls: Vec<Option<CallStatus>>,
+    /// Notes that are to be logged, from the next one on.
+    notes: Vec<CallNote>,
+    next: usize,
     missed: u64,
 }
 
@@ -76,21 +97,34 @@ impl Calls {
     /// No call at these hosts.
     pub(crate) fn new(alloc: Global, bindings: &[HostBinding]) -> Result<Self, AllocError> {
         let mut hosts = Vec::new(alloc);
+        let mut calls = Vec::new(alloc);
         for binding in bindings {
-            hosts.push(HostCalls::new(alloc, binding)?)?;
+            hosts.push(HostPlaces {
+                node: binding.node,
+                first: calls.len(),
+                channels: binding.channels,
+            })?;
+            for _ in 0..binding.channels {
+                calls.push(None)?;
+            }
         }
         Ok(Calls {
             hosts,
-            notes: HeapCircularBuffer::with_capacity(alloc, MOST_NOTES)?,
+            calls,
+            notes: Vec::with_capacity(alloc, MOST_NOTES)?,
+            next: 0,
             missed: 0,
         })
     }
 
     /// Hears what a host was told.
-    pub(crate) fn hear(&mut self, note: &HostNote, seconds: i64) {
+    pub(crate) fn hear(&mut self, note: &UserNote, seconds: i64) {
         let at = HostChannel::of(note);
         match note.kind {
-            NoteKind::Incoming { calling } => self.ring(at, calling, seconds),
+            NoteKind::Incoming { ref calling, .. } => {
+                self.ring(at, address_of(calling), seconds);
+            }
+            NoteKind::Dialled { ref called } => self.place(at, called, seconds),
             NoteKind::Connected => self.connect(at),
             NoteKind::Cleared { cause, diagnostic } => self.clear(at, cause, diagnostic, seconds),
             NoteKind::Reset { cause, diagnostic } => {
@@ -99,12 +133,12 @@ impl Calls {
         }
     }
 
-    fn ring(&mut self, at: HostChannel, from: Option<Address>, seconds: i64) {
+    fn ring(&mut self, at: HostChannel, from: Option<CallAddress>, seconds: i64) {
         self.begin(at, from, false, seconds);
         self.note(at, CallChange::Incoming { from });
     }
 
-    fn begin(&mut self, at: HostChannel, far: Option<Address>, is_ours: bool, seconds: i64) {
+    fn begin(&mut self, at: HostChannel, far: Option<CallAddress>, is_ours: bool, seconds: i64) {
         if let Some(place) = self.place_mut(at) {
             *place = Some(CallStatus {
                 node: at.node,
@@ -116,6 +150,13 @@ impl Calls {
                 said: 0,
             });
         }
+    }
+
+    /// A call of this address was placed.
+    pub(crate) fn place(&mut self, at: HostChannel, to: &Address, seconds: i64) {
+        let to = CallAddress::of(to);
+        self.begin(at, Some(to), true, seconds);
+        self.note(at, CallChange::Called { to });
     }
 
     /// A call was accepted.
@@ -143,6 +184,22 @@ impl Calls {
         );
     }
 
+    /// Something was taken for a bridge: user data without Q, or what is dropped.
+    pub(crate) fn take(&mut self, at: HostChannel, outcome: Outcome, octets: usize) {
+        match outcome {
+            Outcome::Took(
+                Some(
+                    Front::Data {
+                        qualified: false,
+                        ..
+                    },
+                ),
+            ) => self.took(at, octets),
+            Outcome::Took(Some(_)) => self.note(at, CallChange::Dropped { octets }),
+            _ => {}
+        }
+    }
+
     /// So many octets were taken from the network.
     pub(crate) fn took(&mut self, at: HostChannel, count: usize) {
         if let Some(Some(call)) = self.place_mut(at) {
@@ -164,14 +221,20 @@ impl Calls {
             channel: at.channel,
             change,
         };
-        if self.notes.try_push_back(note).is_err() {
+        if self.notes.len() >= MOST_NOTES || self.notes.push(note).is_err() {
             self.missed = self.missed.saturating_add(1);
         }
     }
 
     /// The next note that is to be logged.
     pub(crate) fn next_note(&mut self) -> Option<CallNote> {
-        self.notes.pop_front()
+        let note = *self.notes.get(self.next)?;
+        self.next += 1;
+        if self.next == self.notes.len() {
+            self.notes.clear();
+            self.next = 0;
+        }
+        Some(note)
     }
 
     /// How many notes had no place since this was last asked, if any.
@@ -185,46 +248,41 @@ impl Calls {
     }
 
     /// How many places for calls there are.
-    pub(crate) fn len(&self) -> usize {
-        let mut count: usize = 0;
-        for host in &self.hosts {
-            count = count.saturating_add(host.calls.len());
-        }
-        count
+    pub(crate) fn len(&self) -> usize
+        ensures { result ≡ length self.now.calls.items }
+    {
+        self.calls.len()
     }
 
-    /// The call of this place, counted over all hosts, if one is there.
-    pub(crate) fn get(&self, place: usize) -> Option<CallStatus> {
-        let mut left = place;
-        for host in &self.hosts {
-            match host.calls.get(left) {
-                Some(call) => return *call,
-                None => left -= host.calls.len(),
-            }
+    /// The call of this place, if one is there.
+    pub(crate) fn get(&self, place: usize) -> Option<CallStatus>
+        ensures { result ≡ call_of (slice_get self.now.calls.items place) }
+    {
+        match self.calls.get(place) {
+            Some(call) => *call,
+            None => None,
         }
-        None
     }
 
     fn place_mut(&mut self, at: HostChannel) -> Option<&mut Option<CallStatus>> {
-        let host = self.hosts.iter_mut().find(|host| host.node == at.node)?;
-        host.calls.get_mut(usize::from(at.channel.checked_sub(1)?))
-    }
-}
-
-impl HostCalls {
-    fn new(alloc: Global, binding: &HostBinding) -> Result<Self, AllocError> {
-        let mut calls = Vec::new(alloc);
-        for _ in 0..binding.channels {
-            calls.push(None)?;
+        let host = self.hosts.iter().find(|host| host.node == at.node)?;
+        if at.channel > host.channels {
+            return None;
         }
-        Ok(HostCalls {
-            node: binding.node,
-            calls,
-        })
+        let after_first = usize::from(at.channel.checked_sub(1)?);
+        self.calls.get_mut(host.first.checked_add(after_first)?)
     }
 }
 
 /// How many seconds one time is after another; 0 if it is before it.
 fn seconds_between(from: i64, to: i64) -> u64 {
     u64::try_from(to.saturating_sub(from)).unwrap_or(0)
+}
+
+/// The digits of an address, if there is one.
+fn address_of(address: &Option<Address>) -> Option<CallAddress> {
+    match address {
+        Some(address) => Some(CallAddress::of(address)),
+        None => None,
+    }
 }

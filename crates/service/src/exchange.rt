@@ -8,10 +8,14 @@ ghost use Rattle.service.specs.Steps.{Does, Passes, is_at_terminal, is_idle_answ
 use crate::builtin::Turn;
 use crate::calls::Calls;
 use crate::hosts::{HostChannel, Hosts};
+use crate::mail::Mail;
 use crate::place::Place;
 use crate::terminal::{Presence, Terminal, XON};
 use clock_texts::utc_text;
-use line_sim::{Answer, Direction, Event, HostNote, HostRequest, Line, Outcome, PadAnswer, TerminalEvent};
+use line_sim::{
+    Answer, CallUser, Direction, Event, HostRequest, Line, Outcome, PadAnswer, TerminalEvent,
+    UserNote,
+};
 use live_net::LiveNet;
 use service_ports::Key;
 use std::alloc::{AllocError, Global};
@@ -23,19 +27,26 @@ pub(crate) struct Exchange<L: Line> {
     pub(crate) net: LiveNet<L>,
     pub(crate) hosts: Hosts,
     pub(crate) calls: Calls,
+    pub(crate) mail: Mail,
     pub(crate) seconds: i64,
 }
 
 #[tactic(auto, using(crate::proofs::Stepping::passes_none))]
 impl<L: Line> Exchange<L> {
     /// Lets an event happen of which only the notes are wanted, and says whether it did anything.
-    fn happen(&mut self, event: &Event) -> bool
+    pub(crate) fn happen(&mut self, event: &Event) -> bool
         ensures does { Does L.service event.now result self.old.net self.new.net }
         ensures passes { is_at_terminal event.now ≡ false → Passes L.service result self.old.net self.new.net }
     {
         match self.net.step(event) {
             Ok(answer) => {
-                hear(&mut self.hosts, &mut self.calls, self.seconds, answer.notes.as_slice());
+                hear(
+                    &mut self.hosts,
+                    &mut self.calls,
+                    &mut self.mail,
+                    self.seconds,
+                    answer.notes.as_slice(),
+                );
                 !is_idle(answer)
             }
             Err(_) => false,
@@ -104,7 +115,13 @@ impl<L: Line> Exchange<L> {
         }
         match self.net.step(&at_terminal(at, TerminalEvent::Print)) {
             Ok(answer) => {
-                hear(&mut self.hosts, &mut self.calls, self.seconds, answer.notes.as_slice());
+                hear(
+                    &mut self.hosts,
+                    &mut self.calls,
+                    &mut self.mail,
+                    self.seconds,
+                    answer.notes.as_slice(),
+                );
                 if is_idle(answer) {
                     return false;
                 }
@@ -222,7 +239,7 @@ impl<L: Line> Exchange<L> {
     }
 
     /// Asks something of the call of a channel, and says whether that was done.
-    fn ask(&mut self, at: HostChannel, request: HostRequest) -> bool
+    pub(crate) fn ask(&mut self, at: HostChannel, request: HostRequest) -> bool
         ensures { Passes L.service result self.old.net self.new.net }
     {
         let event = Event::Ask {
@@ -244,7 +261,13 @@ impl<L: Line> Exchange<L> {
         };
         match self.net.step(&event) {
             Ok(answer) => {
-                hear(&mut self.hosts, &mut self.calls, self.seconds, answer.notes.as_slice());
+                hear(
+                    &mut self.hosts,
+                    &mut self.calls,
+                    &mut self.mail,
+                    self.seconds,
+                    answer.notes.as_slice(),
+                );
                 self.hosts.take(at, &answer.outcome, answer.text.as_slice());
                 self.calls.took(at, answer.text.len());
                 !is_idle(answer)
@@ -284,15 +307,26 @@ impl<L: Line> Exchange<L> {
 }
 
 /// Hears what the hosts were told.
-fn hear(hosts: &mut Hosts, calls: &mut Calls, seconds: i64, notes: &[HostNote]) {
+pub(crate) fn hear(
+    hosts: &mut Hosts,
+    calls: &mut Calls,
+    mail: &mut Mail,
+    seconds: i64,
+    notes: &[UserNote],
+) {
     for note in notes {
-        hosts.hear(note);
+        if note.user != CallUser::Host {
+            continue;
+        }
+        if !mail.hear(note) {
+            hosts.hear(note);
+        }
         calls.hear(note, seconds);
     }
 }
 
 /// Whether an answer says that the event did nothing.
-fn is_idle(answer: &Answer) -> bool
+pub(crate) fn is_idle(answer: &Answer) -> bool
     ensures { result ≡ is_idle_answer answer.now }
 {
     answer.text.is_empty() && is_idle_outcome(answer.outcome)
@@ -358,7 +392,7 @@ fn say(at: HostChannel, octets: Vec<u8>, delivery: bool) -> Event
 }
 
 /// The octets that an event says.
-fn octets_of(alloc: Global, event: Event) -> Vec<u8> {
+pub(crate) fn octets_of(alloc: Global, event: Event) -> Vec<u8> {
     match event {
         Event::Ask {
             request: HostRequest::Say { octets, .. },

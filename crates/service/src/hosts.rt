@@ -1,6 +1,6 @@
 //! The hosts of a network, and the calls of their built-in services.
 use crate::builtin::{BuiltIn, Call, Turn};
-use line_sim::{HostNote, NoteKind, Outcome};
+use line_sim::{NoteKind, Outcome, UserNote};
 use packet_layer::Front;
 use std::alloc::{AllocError, Global};
 
@@ -30,7 +30,7 @@ pub(crate) struct HostChannel {
 
 impl HostChannel {
     /// The one of a note.
-    pub(crate) fn of(note: &HostNote) -> Self {
+    pub(crate) fn of(note: &UserNote) -> Self {
         HostChannel {
             node: note.node,
             channel: note.channel,
@@ -91,13 +91,13 @@ impl Hosts {
     }
 
     /// Hears what a host was told.
-    pub(crate) fn hear(&mut self, note: &HostNote) {
+    pub(crate) fn hear(&mut self, note: &UserNote) {
         let Some(call) = self.call_mut(HostChannel::of(note)) else {
             return;
         };
         match note.kind {
             NoteKind::Incoming { .. } => call.ring(),
-            NoteKind::Connected => {}
+            NoteKind::Dialled { .. } | NoteKind::Connected => {}
             NoteKind::Cleared { .. } => call.end(),
             NoteKind::Reset { .. } => call.reset(),
         }

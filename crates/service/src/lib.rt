@@ -2,11 +2,16 @@
 #![tactic(auto)]
 
 mod absent;
+mod bridges;
+mod bridging;
 mod builtin;
+mod call_address;
 mod calls;
 mod exchange;
+mod hello;
 mod hosts;
 mod law;
+mod mail;
 mod place;
 mod rounds;
 mod seats;
@@ -14,7 +19,10 @@ mod service;
 mod terminal;
 
 pub use absent::PadBinding;
+pub use bridge_ports::{AtReset, BridgeTerms};
+pub use bridges::{BridgeBindings, CallerBinding, ServiceBinding};
 pub use builtin::BuiltIn;
+pub use call_address::CallAddress;
 pub use calls::{CallChange, CallNote, CallStatus};
 pub use hosts::HostBinding;
 pub use law::port_law;

@@ -1,7 +1,6 @@
 //! Terminals by their places in a network.
 ghost use Rattle.std.specs.Prelude.{◌≡◌};
-ghost use Rattle.std.specs.Bool.{OnTrue, OnFalse};
-ghost use Rattle.service.specs.Places.{IsBound, IsFree};
+ghost use Rattle.service.specs.Places.{is_bound, is_place};
 
 /// The place of a terminal: the number of its PAD in the network, and its own number there.
 #[derive(Clone, Copy)]
@@ -11,14 +10,15 @@ pub(crate) struct Place {
 }
 
 /// Whether a place is among these.
-pub(crate) fn is_bound(places: &[Place], place: Place) -> bool
-    ensures bound { OnTrue result (IsBound places.now place) }
-    ensures free { OnFalse result (IsFree places.now place) }
+pub(crate) fn is_bound(place: Place, places: &[Place]) -> bool
+    ensures { result ≡ is_bound place places.now }
 {
-    for other in places {
-        if other.node == place.node && other.number == place.number {
-            return true;
-        }
-    }
-    false
+    places.iter().any(|other| is_place(place, *other))
+}
+
+/// Whether two places are the same.
+fn is_place(place: Place, other: Place) -> bool
+    ensures { result ≡ is_place place other }
+{
+    other.node == place.node && other.number == place.number
 }

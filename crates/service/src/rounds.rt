@@ -3,6 +3,7 @@ ghost use Rattle.std.specs.Prelude.{◌≡◌, ◌≤◌, length};
 ghost use Rattle.service.specs.Places.{AreApart};
 ghost use Rattle.service.specs.Serving.{Serves, ServesBelow, Wishes, WishesKeys, Works};
 
+use crate::bridging::serve_calls;
 use crate::exchange::Exchange;
 use crate::place::Place;
 use crate::service::Service;
@@ -37,7 +38,7 @@ impl<L: Line> Service<L> {
         ensures lines { self.new.lines ≡ self.old.lines }
     {
         let served = serve_terminals(&mut self.exchange, &self.places, &mut self.terminals);
-        let called = self.exchange.serve_calls();
+        let called = serve_calls(&mut self.exchange, &mut self.bridges);
         let moved = self.exchange.deliver_frames(self.lines);
         let expired = self.exchange.expire();
         served | called | moved | expired
@@ -50,8 +51,8 @@ pub(crate) fn serve_terminals<L: Line>(
     places: &[Place],
     terminals: &mut Vec<Terminal>,
 ) -> bool
-    requires { length terminals.old.items ≡ length places.now }
-    requires { AreApart places.now }
+    requires seated { length terminals.old.items ≡ length places.now }
+    requires apart { AreApart places.now }
     ensures { ServesBelow L.service places.now (length terminals.old.items) result exchange.old.net exchange.new.net
         terminals.old.items terminals.new.items }
 {

@@ -20,6 +20,8 @@ pub struct TerminalsBinding<'a> {
     pub greeting: Option<&'a str>,
     /// After how many ticks without an octet either way a client goes. 0: never.
     pub idle: u16,
+    /// Whether the PAD takes DC1 as XON there at first (X.3 3.12). Then it may be typed before keys that wait.
+    pub has_xon: bool,
 }
 
 /// The terminals that clients have, and where each is.
@@ -70,8 +72,8 @@ impl Seats {
         binding: &TerminalsBinding<'_>,
         number: u16,
     ) -> Result<(), AllocError>
-        requires { binding.now.first ≤ number }
-        requires { number ≤ binding.now.last }
+        requires from { binding.now.first ≤ number }
+        requires to { number ≤ binding.now.last }
         ensures { IfOk result (λ _. (tables : List TerminalsBinding)
             → AreSeated tables self.old.places.items self.old.terminals.items
             → slice_get tables table ≡ Some binding.now → AreSeated tables self.new.places.items self.new.terminals.items) }
@@ -80,12 +82,13 @@ impl Seats {
             node: binding.node,
             number,
         };
-        if is_bound(&self.places, place) {
+        if is_bound(place, &self.places) {
             return Ok(());
         }
         let terms = Terms {
             table,
             idle: binding.idle,
+            has_xon: binding.has_xon,
             greeting: greeting(alloc, binding, number)?.into_bytes(),
         };
         self.terminals

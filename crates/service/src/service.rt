@@ -1,15 +1,19 @@
 //! A network with terminals for clients and built-in services.
-ghost use Rattle.std.specs.Prelude.{◌≡◌, ◌≤◌, ◌×◌, true, length, option_map, take, slice_get, None, Some, IfOk, IfSome, IfNone};
+ghost use Rattle.std.specs.Prelude.{◌≡◌, ◌≤◌, ◌+◌, true, length, min, option_map, take, slice_get, None, Some, IfOk, IfSome, IfNone};
 ghost use Rattle.net_events.specs.Network.{all_elapsed};
+ghost use Rattle.service.specs.Bridging.{are_free};
+ghost use Rattle.service.specs.Calls.{call_of};
 ghost use Rattle.service.specs.Orders.{after_order, port_of};
 ghost use Rattle.service.specs.Places.{AreApart};
 ghost use Rattle.service.specs.Serving.{Begins};
 ghost use Rattle.service.specs.Terminals.{ordered};
 
 use crate::absent::{PadBinding, leave_absent};
+use crate::bridges::{BridgeBindings, Bridges};
 use crate::calls::{CallNote, CallStatus, Calls};
 use crate::exchange::Exchange;
 use crate::hosts::{HostBinding, Hosts};
+use crate::mail::Mail;
 use crate::place::Place;
 use crate::rounds::serve_terminals;
 use crate::seats::{Seats, TerminalsBinding};
@@ -28,6 +32,7 @@ pub struct Bindings<'a> {
     pub terminals: &'a [TerminalsBinding<'a>],
     pub pads: &'a [PadBinding],
     pub hosts: &'a [HostBinding],
+    pub bridges: BridgeBindings<'a>,
 }
 
 /// What the shell is to do.
@@ -35,6 +40,10 @@ pub struct Bindings<'a> {
 pub enum Order {
     /// The connection of this port is to be closed.
     Close(usize),
+    /// A connection to this service is to be made for this port.
+    Connect { port: usize, service: usize },
+    /// The connection of this port is to be ended for writing, and read on.
+    EndWriting(usize),
     /// It is to be logged that so many keys of this port were dropped because a recall or a break came after them.
     LogOvertaken { port: usize, keys: u64 },
     /// It is to be logged that the client of this port goes because it was silent too long.
@@ -65,6 +74,7 @@ pub struct Service<L: Line> {
     pub(crate) lines: usize,
     pub(crate) places: Vec<Place>,
     pub(crate) terminals: Vec<Terminal>,
+    pub(crate) bridges: Bridges,
     stopping: Option<u16>,
     ghost seated: { length terminals.items ≡ length places.items },
     ghost apart: { AreApart places.items },
@@ -72,7 +82,8 @@ pub struct Service<L: Line> {
 
 impl<L: Line> Service<L> {
     ghost use Rattle.service.specs.Terminals.{AllChange, HasCome, changed_at, elapsed, ended, freed, has_client, are_deserted, has_stopped, heard, is_free_in, left, may_take, status_of, written};
-    ghost use Rattle.std.specs.Prelude.{position, is_some, if◌then◌else◌};
+    ghost use Rattle.service.specs.declared.terminal.Terminal.{Terminal};
+    ghost use Rattle.std.specs.Prelude.{position, is_some, if◌then◌else◌, ◌&&◌};
 
     /// A service without clients on a network of so many lines: nobody is at the terminals of the PADs.
     pub fn new(
@@ -90,6 +101,7 @@ impl<L: Line> Service<L> {
             net,
             hosts: Hosts::new(alloc, bindings.hosts)?,
             calls: Calls::new(alloc, bindings.hosts)?,
+            mail: Mail::new(alloc, &bindings.bridges)?,
             seconds: 0,
         };
         let Seats {
@@ -103,6 +115,7 @@ impl<L: Line> Service<L> {
             lines,
             places,
             terminals,
+            bridges: Bridges::new(alloc, &bindings.bridges)?,
             stopping: None,
         })
     }
@@ -119,12 +132,58 @@ impl<L: Line> Service<L> {
         if self.stopping.is_some() {
             return None;
         }
-        let port = self
-            .terminals
-            .iter()
-            .position(|terminal| terminal.is_free_in(table))?;
+        let port = self.first_free(table)?;
         self.terminals[port].attach();
         Some(port)
+    }
+
+    /// A connection came to the listener of a caller. The answer is its port; none if no bridge is free, or the service
+    /// stops.
+    pub fn attach_caller(&mut self, caller: usize) -> Option<usize>
+        ensures terminals { self.new.terminals ≡ self.old.terminals }
+        ensures network { self.new.exchange.net ≡ self.old.exchange.net }
+    {
+        let place = self.bridges.attach(caller)?;
+        self.terminals.len().checked_add(place)
+    }
+
+    /// The port of the first bridge.
+    fn first_bridge(&self) -> usize
+        ensures { result ≡ length self.now.terminals.items }
+    {
+        self.terminals.len()
+    }
+
+    /// The place among the bridges of a port that is no terminal's.
+    fn bridge_place(&self, port: usize) -> usize {
+        port.saturating_sub(self.terminals.len())
+    }
+
+    /// The connection stands that was ordered for this port.
+    pub fn opened(&mut self, port: usize)
+        ensures terminals { self.new.terminals ≡ self.old.terminals }
+        ensures network { self.new.exchange.net ≡ self.old.exchange.net }
+    {
+        let place = self.bridge_place(port);
+        if port >= self.terminals.len() {
+            self.bridges.opened(place);
+        }
+    }
+
+    /// The connection could not be had that was ordered for this port.
+    pub fn failed(&mut self, port: usize)
+        ensures port { self.new.terminals.items ≡ changed_at port left self.old.terminals.items }
+        ensures network { self.new.exchange.net ≡ self.old.exchange.net }
+    {
+        self.lost(port);
+    }
+
+    fn first_free(&self, table: usize) -> Option<usize>
+        ensures { result ≡ position (is_free_in table) self.now.terminals.items }
+    {
+        self.terminals
+            .iter()
+            .position(|terminal| terminal.is_free_in(table))
     }
 
     /// Takes octets of a client, from the first on, as long as there is room. The answer is how many were taken.
@@ -133,18 +192,23 @@ impl<L: Line> Service<L> {
         ensures taken { self.new.terminals.items ≡ changed_at port (heard (take result octets.now)) self.old.terminals.items }
         ensures network { self.new.exchange.net ≡ self.old.exchange.net }
     {
+        let place = self.bridge_place(port);
         match self.terminals.get_mut(port) {
             Some(terminal) => terminal.hear(octets),
-            None => octets.len(),
+            None => self.bridges.octets(place, octets),
         }
     }
 
-    /// The client of a port sends no more: it is gone.
+    /// The peer of a port sends no more. A terminal's client is gone.
     pub fn ended(&mut self, port: usize)
         ensures port { self.new.terminals.items ≡ changed_at port left self.old.terminals.items }
         ensures network { self.new.exchange.net ≡ self.old.exchange.net }
     {
-        self.lost(port);
+        let place = self.bridge_place(port);
+        match self.terminals.get_mut(port) {
+            Some(terminal) => terminal.leave(),
+            None => self.bridges.ended(place),
+        }
     }
 
     /// The connection of a port is lost.
@@ -152,8 +216,10 @@ impl<L: Line> Service<L> {
         ensures port { self.new.terminals.items ≡ changed_at port left self.old.terminals.items }
         ensures network { self.new.exchange.net ≡ self.old.exchange.net }
     {
-        if let Some(terminal) = self.terminals.get_mut(port) {
-            terminal.leave();
+        let place = self.bridge_place(port);
+        match self.terminals.get_mut(port) {
+            Some(terminal) => terminal.leave(),
+            None => self.bridges.lost(place),
         }
     }
 
@@ -162,9 +228,13 @@ impl<L: Line> Service<L> {
         ensures port { self.new.terminals.items ≡ changed_at port freed self.old.terminals.items }
         ensures network { self.new.exchange.net ≡ self.old.exchange.net }
     {
-        if let Some(terminal) = self.terminals.get_mut(port) {
-            terminal.leave();
-            terminal.phase = Phase::Free;
+        let place = self.bridge_place(port);
+        match self.terminals.get_mut(port) {
+            Some(terminal) => {
+                terminal.leave();
+                terminal.phase = Phase::Free;
+            }
+            None => self.bridges.closed(place),
         }
     }
 
@@ -173,8 +243,10 @@ impl<L: Line> Service<L> {
         ensures port { self.new.terminals.items ≡ changed_at port ended self.old.terminals.items }
         ensures network { self.new.exchange.net ≡ self.old.exchange.net }
     {
-        if let Some(terminal) = self.terminals.get_mut(port) {
-            terminal.end();
+        let place = self.bridge_place(port);
+        match self.terminals.get_mut(port) {
+            Some(terminal) => terminal.end(),
+            None => self.bridges.end(place),
         }
     }
 
@@ -187,6 +259,7 @@ impl<L: Line> Service<L> {
         for port in 0..self.terminals.len() {
             self.terminals[port].elapse(ticks);
         }
+        self.bridges.elapse(ticks);
         if let Some(left) = self.stopping {
             self.stopping = Some(left.saturating_sub(ticks));
         }
@@ -194,7 +267,9 @@ impl<L: Line> Service<L> {
 
     /// The time, in seconds since the beginning of 1970, which the service `time` tells and calls are counted by.
     pub fn time(&mut self, seconds: i64)
-        ensures { self.new ≡ record self.old { exchange = record self.old.exchange { seconds = seconds } } }
+        ensures seconds { self.new.exchange.seconds ≡ seconds }
+        ensures terminals { self.new.terminals ≡ self.old.terminals }
+        ensures network { self.new.exchange.net ≡ self.old.exchange.net }
     {
         self.exchange.seconds = seconds;
     }
@@ -204,22 +279,24 @@ impl<L: Line> Service<L> {
         ensures ports { AllChange ended self.old.terminals.items self.new.terminals.items }
         ensures network { self.new.exchange.net ≡ self.old.exchange.net }
     {
-        if self.stopping.is_none() {
-            self.stopping = Some(MOST_STOPPING);
-        }
         for port in 0..self.terminals.len() {
             self.terminals[port].end();
         }
+        self.bridges.stop();
+        self.stopping = Some(self.stopping.unwrap_or(MOST_STOPPING));
     }
 
     /// Whether it has stopped: it was given time enough, or nobody is there and the network is at rest.
     pub fn has_stopped(&self) -> bool
-        ensures { result ≡ has_stopped self.now.stopping self.now.terminals.items self.now.exchange.net }
+        ensures { result ≡ has_stopped self.now.stopping self.now.terminals.items (are_free self.now.bridges.ports.items)
+            self.now.exchange.net }
     {
         match self.stopping {
             None => false,
             Some(0) => true,
-            Some(_) => self.is_deserted() && self.exchange.net.at_rest(),
+            Some(_) => {
+                self.is_deserted() && self.bridges.are_free() && self.exchange.net.at_rest()
+            }
         }
     }
 
@@ -237,7 +314,8 @@ impl<L: Line> Service<L> {
     {
         match self.terminals.get(port) {
             Some(terminal) if terminal.has_client() => terminal.port.waiting(),
-            _ => &[],
+            Some(_) => &[],
+            None => self.bridges.waiting(self.bridge_place(port)),
         }
     }
 
@@ -246,18 +324,20 @@ impl<L: Line> Service<L> {
         ensures port { self.new.terminals.items ≡ changed_at port (written count) self.old.terminals.items }
         ensures network { self.new.exchange.net ≡ self.old.exchange.net }
     {
-        if let Some(terminal) = self.terminals.get_mut(port) {
-            terminal.written(count);
+        let place = self.bridge_place(port);
+        match self.terminals.get_mut(port) {
+            Some(terminal) => terminal.written(count),
+            None => self.bridges.written(place, count),
         }
     }
 
     /// Whether it takes an octet of the client of a port.
     pub fn wants(&self, port: usize) -> bool
-        ensures { result ≡ may_take (slice_get self.now.terminals.items port) }
+        ensures { (p : Terminal) → slice_get self.now.terminals.items port ≡ Some p → result ≡ may_take (Some p) }
     {
         match self.terminals.get(port) {
             Some(terminal) => terminal.wants(),
-            None => true,
+            None => self.bridges.wants(self.bridge_place(port)),
         }
     }
 
@@ -273,7 +353,19 @@ impl<L: Line> Service<L> {
                 return Some(order);
             }
         }
+        if let Some(order) = self.next_bridge_order() {
+            return Some(order);
+        }
         self.next_call_order()
+    }
+
+    fn next_bridge_order(&mut self) -> Option<Order>
+        ensures given { IfSome result (λ order. self.old.terminals.items ≡ after_order order self.old.terminals.items) }
+        ensures terminals { self.new.terminals ≡ self.old.terminals }
+        ensures network { self.new.exchange.net ≡ self.old.exchange.net }
+    {
+        let first = self.first_bridge();
+        self.bridges.order(first)
     }
 
     fn next_call_order(&mut self) -> Option<Order>
@@ -290,33 +382,39 @@ impl<L: Line> Service<L> {
     /// Gives back all that it has.
     pub fn release(self) {}
 
-    /// How many ports there are.
+    /// How many ports there are: those of terminals, and after them those of bridges.
     pub fn ports(&self) -> usize
-        ensures { result ≡ length self.now.terminals.items }
+        ensures { result ≡ min (length self.now.terminals.items + length self.now.bridges.ports.items) usize.MAX }
     {
-        self.terminals.len()
+        self.terminals.len().saturating_add(self.bridges.len())
     }
 
-    /// What waits at a port, if there is such a port.
+    /// What waits at a port, if there is such a port. The keys of a bridge are the octets of its peer that wait to be said.
     pub fn status(&self, port: usize) -> Option<PortStatus>
-        ensures { result ≡ option_map status_of (slice_get self.now.terminals.items port) }
+        ensures { (p : Terminal) → slice_get self.now.terminals.items port ≡ Some p → result ≡ Some (status_of p) }
     {
-        let terminal = self.terminals.get(port)?;
-        Some(PortStatus {
-            in_use: !terminal.is_free(),
-            keys: terminal.port.waiting_keys(),
-            octets: terminal.port.waiting_octets(),
-            overtaken: terminal.overtaken,
-        })
+        match self.terminals.get(port) {
+            Some(terminal) => Some(PortStatus {
+                in_use: !terminal.is_free(),
+                keys: terminal.port.waiting_keys(),
+                octets: terminal.port.waiting_octets(),
+                overtaken: terminal.overtaken,
+            }),
+            None => self.bridges.status(self.bridge_place(port)),
+        }
     }
 
-    /// How many places for calls the hosts have.
-    pub fn calls(&self) -> usize {
+    /// How many places for calls the hosts have, one for each logical channel.
+    pub fn calls(&self) -> usize
+        ensures { result ≡ length self.now.exchange.calls.calls.items }
+    {
         self.exchange.calls.len()
     }
 
-    /// The call of this place, if one is there.
-    pub fn call(&self, place: usize) -> Option<CallStatus> {
+    /// The call of this place, from 0, if one is there.
+    pub fn call(&self, place: usize) -> Option<CallStatus>
+        ensures { result ≡ call_of (slice_get self.now.exchange.calls.calls.items place) }
+    {
         self.exchange.calls.get(place)
     }
 }

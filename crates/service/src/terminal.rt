@@ -1,8 +1,8 @@
 //! A terminal, and the client that has it.
-ghost use Rattle.std.specs.Prelude.{◌≡◌, ◌≤◌, ◌<◌, ◌||◌, true, false, not, length, take, slice_get, position, IfOk};
+ghost use Rattle.std.specs.Prelude.{◌≡◌, ◌≤◌, ◌<◌, ◌||◌, true, false, not, length, take, slice_get, IfOk};
 ghost use Rattle.std.specs.Bool.{OnTrue, OnFalse};
-ghost use Rattle.service_ports.specs.Ports.{is_octet, takes_octet};
-ghost use Rattle.service.specs.Terminals.{attached, dismissed, elapsed, ended, fresh, has_client, heard, is_free, is_free_in, is_free_phase, is_open, kept_alive, left, left_if_written, urgent_place, waited, without_key_at, without_keys, written};
+ghost use Rattle.service_ports.specs.Ports.{takes_octet};
+ghost use Rattle.service.specs.Terminals.{attached, dismissed, elapsed, ended, fresh, has_client, heard, is_free, is_free_in, is_free_phase, is_open, kept_alive, left, left_if_written, urgent_place, waited, without_key_at, without_keys, written, xon_place};
 
 use service_ports::{Command, Key, Mode, Port};
 use std::alloc::{AllocError, Global};
@@ -56,6 +56,8 @@ pub(crate) struct Terms {
     pub(crate) table: usize,
     /// After how many ticks without an octet either way a client goes. 0: never.
     pub(crate) idle: u16,
+    /// Whether the PAD takes DC1 as XON.
+    pub(crate) has_xon: bool,
     /// What a client is shown first.
     pub(crate) greeting: Vec<u8>,
 }
@@ -262,8 +264,8 @@ impl Terminal {
 
     /// Shows text.
     pub(crate) fn show(&mut self, text: &[u8])
-        requires { may_show self.old ≡ true }
-        requires { length text.now ≤ MOST_TEXT }
+        requires may { may_show self.old ≡ true }
+        requires short { length text.now ≤ MOST_TEXT }
         ensures { self.new ≡ shown_at text.now self.old }
     {
         self.silence = 0;
@@ -284,10 +286,13 @@ impl Terminal {
         self.port.drop_keys(1);
     }
 
-    /// The place of the first key that waits and is an XON.
+    /// The place of the first key that waits and is an XON, if the PAD has one.
     pub(crate) fn find_xon(&self) -> Option<usize>
-        ensures { result ≡ position (is_octet XON) self.now.port.keys.items }
+        ensures { result ≡ xon_place self.now }
     {
+        if !self.terms.has_xon {
+            return None;
+        }
         self.port.find_octet(XON)
     }
 

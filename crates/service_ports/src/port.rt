@@ -179,7 +179,7 @@ impl Port {
         } }
     {
         if place < self.keys.len() {
-            self.keys.make_contiguous()[..=place].rotate_right(1);
+            bring_forward(self.keys.make_contiguous(), place);
             self.keys.pop_front();
         }
     }
@@ -232,6 +232,15 @@ impl Port {
     {
         self.output.written(count);
     }
+}
+
+/// Moves the key of a place before all others.
+fn bring_forward(keys: &mut [Key], place: usize)
+    requires { place < length keys.old }
+    ensures len { length keys.new ≡ length keys.old }
+    ensures others { drop 1 keys.new ≡ remove keys.old place }
+{
+    keys[..=place].rotate_right(1);
 }
 
 /// Whether a key is a break or of this octet.

@@ -17,9 +17,6 @@ mod Sequences
 pub mod SettingUp
 pub mod JoinsAfterNotes
 pub mod Effects
-pub mod Running
-pub mod SizesRunning
-pub mod TrunkRunning
 pub mod Turning
 pub mod Finishing
 pub mod NewJoins
@@ -42,4 +39,3 @@ pub mod Untouched
 pub mod Fitting
 pub mod Framing
 pub mod RolesStay
-mod NumbersRun

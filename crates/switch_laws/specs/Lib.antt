@@ -14,8 +14,5 @@ pub mod Events
 pub mod Pairs
 pub mod Concern
 pub mod Law
-pub mod Run
-pub mod SizesRun
-pub mod TrunkRun
 pub mod Isolated
 pub mod Sent

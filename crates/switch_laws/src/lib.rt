@@ -4,6 +4,6 @@
 mod relay;
 
 pub use relay::{
-    concern_law, isolation_law, join_law, pair_law, relay_law, run_law, sent_law,
-    switch_events_law, switch_law, turn_law,
+    concern_law, isolation_law, join_law, pair_law, relay_law, sent_law, switch_events_law,
+    switch_law, turn_law,
 };

@@ -4,10 +4,7 @@ ghost use Rattle.switch_laws.specs.Events.{EventLaw};
 ghost use Rattle.switch_laws.specs.Isolated.{IsolationLaw};
 ghost use Rattle.switch_laws.specs.Law.{JoinLaw, RelayLaw, SwitchLaw, TurnLaw};
 ghost use Rattle.switch_laws.specs.Pairs.{PairLaw};
-ghost use Rattle.switch_laws.specs.Run.{RunLaw};
 ghost use Rattle.switch_laws.specs.Sent.{SentLaw};
-ghost use Rattle.switch_laws.specs.SizesRun.{SizesRunLaw};
-ghost use Rattle.switch_laws.specs.TrunkRun.{TrunkRunLaw};
 
 /// One direction of a join, over the definitions of the layer and of the switch alone. What the switch sends on the far
 /// leg, with what it gathers after that, is what it takes on the near leg, item by item, and packet by packet between
@@ -69,12 +66,4 @@ pub fn sent_law()
 /// for.
 pub fn switch_events_law()
     ensures { EventLaw }
-{}
-
-/// Runs that meet what the laws above ask for: one join; a switch of two lines without calls; a join between lines of
-/// 128 and 256 octets, with packets that are cut and gathered; a switch with a trunk at which it is the DTE.
-pub fn run_law()
-    ensures join { RunLaw }
-    ensures sizes { SizesRunLaw }
-    ensures trunk { TrunkRunLaw }
 {}

@@ -4,4 +4,3 @@ pub mod Later
 pub mod Events
 pub mod Quieting
 pub mod Fewer
-pub mod Running

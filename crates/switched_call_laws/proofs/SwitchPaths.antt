@@ -16,8 +16,3 @@ pub mod Transferring
 pub mod Gathering
 pub mod Resting
 pub mod Begins
-pub mod Only
-pub mod Running
-pub mod TrunkRunning
-pub mod TrunkActing
-pub mod TrunkCalling

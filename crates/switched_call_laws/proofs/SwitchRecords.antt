@@ -19,4 +19,3 @@ pub mod Fitting
 pub mod Calming
 pub mod Events
 pub mod Tying
-pub mod Running

@@ -9,4 +9,3 @@ pub mod Kept
 pub mod Tied
 pub mod DueTimers
 pub mod Law
-pub mod Run

@@ -8,8 +8,8 @@ mod switch_path;
 mod switch_record;
 
 pub use joined_call::joined_call_law;
-pub use quiet_switch::{quiet_run_law, switch_due_law, switch_quiet_law};
-pub use switch_path::{run_law, switch_path_law, trunk_call_law, trunk_run_law};
+pub use quiet_switch::{switch_due_law, switch_quiet_law};
+pub use switch_path::switch_path_law;
 pub use switch_record::{
-    join_record_law, kept_lines_law, leg_record_law, run_record_law, switch_record_law, tied_law,
+    join_record_law, kept_lines_law, leg_record_law, switch_record_law, tied_law,
 };

@@ -2,7 +2,6 @@
 ghost use Rattle.switched_call_laws.specs.QuietSwitches.Quiet.{FrameQuietLaw, TimerQuietLaw, RelinkQuietLaw, RestartQuietLaw};
 ghost use Rattle.switched_call_laws.specs.QuietSwitches.Quiet.{TimeQuietLaw, OutQuietLaw, MakingQuietLaw, GoneOutLaw};
 ghost use Rattle.switched_call_laws.specs.QuietSwitches.Due.{SwitchFewerLaw};
-ghost use Rattle.switched_call_laws.specs.QuietSwitches.Run.{RunLaw};
 
 /// The law of a switch between two events, over definitions alone. From the making on, and whatever arrives: once the
 /// frames of an event went out, nothing of it is left at the end of any line (X.25 2.4, 3, 4).
@@ -26,10 +25,4 @@ pub fn switch_quiet_law()
 /// 2.4.8.1, annex D).
 pub fn switch_due_law()
     ensures { SwitchFewerLaw }
-{}
-
-/// T1 expires on a line of a switch of two lines, and a link is set up on the other one; on a trunk of which a switch
-/// is the DTE, T1 expires too, and the link is set up again.
-pub fn quiet_run_law()
-    ensures { RunLaw }
 {}

@@ -6,7 +6,6 @@ ghost use Rattle.switched_call_laws.specs.SwitchRecords.Kept.{StepsLaw, FrameKep
 ghost use Rattle.switched_call_laws.specs.SwitchRecords.Kept.{RestartKeptLaw, OutLaw, LeadsLaw, LegsLaw};
 ghost use Rattle.switched_call_laws.specs.SwitchRecords.Opened.{ComesLaw, PlacesLaw, HeadLaw, HeadsLaw};
 ghost use Rattle.switched_call_laws.specs.SwitchRecords.Tied.{TiedLaw};
-ghost use Rattle.switched_call_laws.specs.SwitchRecords.Run.{RunLaw};
 
 /// What a switch does at its end of a line is written in the line's book, so that the present record of each channel
 /// has the epochs of its leg, reset by reset: the packets and interrupts sent and taken, and how many of them were
@@ -71,10 +70,4 @@ pub fn kept_lines_law()
 /// them; and the present records of the two legs of a join have what the switch handed on.
 pub fn tied_law()
     ensures { TiedLaw }
-{}
-
-/// A call through a switch of two lines: a packet with D = 1 that is confirmed, and a reset. And a switch that is the
-/// DTE of a line.
-pub fn run_record_law()
-    ensures { RunLaw }
 {}

@@ -1,50 +1,14 @@
 //! The place of a connection: its socket, and what was read from it and not taken yet.
-ghost use Rattle.std.specs.Prelude.{◌≡◌, ◌≤◌, ◌<◌, [], length, drop, not, IfOk};
-ghost use Rattle.tcp_sockets.specs.Connections.{unread};
+ghost use Rattle.std.specs.Prelude.{◌≡◌, ◌≤◌, [], drop, length, IfOk};
+ghost use Rattle.tcp_sockets.specs.Connections.{IsRead, count_of};
 
+use crate::outcome::{Heard, Made, Written};
+use crate::unread::{MOST_READ, Unread};
 use mio::event::Event;
 use mio::net::TcpStream;
 use std::alloc::{AllocError, Global};
-use std::io::{self, ErrorKind, Read, Write};
+use std::io::{self, ErrorKind, Write};
 use std::net::Shutdown;
-
-/// How many octets are read at once, at most.
-const MOST_READ: usize = 16_384;
-
-/// What was read.
-#[derive(Clone, Copy, PartialEq, Eq)]
-pub enum Heard {
-    /// Octets, which are to be taken.
-    Octets,
-    /// Nothing: none are there, or not all that were read before are taken.
-    Nothing,
-    /// The peer sends no more.
-    End,
-    /// The connection is broken.
-    Loss,
-}
-
-/// What was written.
-#[derive(Clone, Copy, PartialEq, Eq)]
-pub enum Written {
-    /// So many octets, from the first on.
-    Octets(usize),
-    /// Nothing: there is no room.
-    Nothing,
-    /// The connection is broken.
-    Loss,
-}
-
-/// What became of a connection that is asked for.
-#[derive(Clone, Copy)]
-pub enum Made {
-    /// It is not known yet.
-    NotYet,
-    /// It stands.
-    Stands,
-    /// It cannot be had.
-    Failed(io::Error),
-}
 
 /// The place of a connection: its socket if there is one, what may be done with that, and what was read and not taken.
 #[derive(Drop)]
@@ -56,39 +20,34 @@ pub struct Connection {
     readable: bool,
     /// Whether something may be written.
     writable: bool,
-    /// Whether the peer has ended its side, or broken the connection.
-    has_end: bool,
-    octets: Vec<u8>,
-    from: usize,
-    to: usize,
-    ghost within: { (from ≤ to) × (to ≤ length octets.items) },
+    /// Whether the peer has ended its side.
+    has_ended: bool,
+    /// Whether the connection is broken.
+    is_broken: bool,
+    unread: Unread,
 }
 
 impl Connection {
-    ghost use Rattle.tcp_sockets.specs.Connections.{unread};
-
     /// A place without a connection. `AllocError` comes for want of memory; no other call wants any.
     pub fn new(alloc: Global) -> Result<Self, AllocError>
-        ensures { IfOk result (λ place. unread place ≡ []) }
+        ensures { IfOk result (λ place. place.unread ≡ []) }
     {
         Ok(Connection {
             stream: None,
             is_made: false,
             readable: false,
             writable: false,
-            has_end: false,
-            octets: vec![in alloc; 0; MOST_READ]?,
-            from: 0,
-            to: 0,
+            has_ended: false,
+            is_broken: false,
+            unread: Unread::new(alloc)?,
         })
     }
 
     /// A connection came, and stands.
     pub fn accept(&mut self, stream: TcpStream)
-        ensures { unread self.new ≡ [] }
+        ensures { self.new.unread ≡ [] }
     {
-        self.close();
-        self.stream = Some(stream);
+        self.ask(stream);
         self.is_made = true;
         self.readable = true;
         self.writable = true;
@@ -96,7 +55,7 @@ impl Connection {
 
     /// A connection is asked for, and does not stand yet.
     pub fn ask(&mut self, stream: TcpStream)
-        ensures { unread self.new ≡ [] }
+        ensures { self.new.unread ≡ [] }
     {
         self.close();
         self.stream = Some(stream);
@@ -105,67 +64,89 @@ impl Connection {
     /// Closes the connection. What was not taken is dropped. If octets of the peer are left unread in the system, that
     /// resets the connection.
     pub fn close(&mut self)
-        ensures { unread self.new ≡ [] }
+        ensures { self.new.unread ≡ [] }
     {
         self.stream = None;
         self.is_made = false;
         self.readable = false;
         self.writable = false;
-        self.has_end = false;
-        self.from = 0;
-        self.to = 0;
+        self.has_ended = false;
+        self.is_broken = false;
+        self.unread.clear();
     }
 
     /// Notes what the system tells of the socket.
     pub fn report(&mut self, event: &Event)
-        ensures { unread self.new ≡ unread self.old }
+        ensures { self.new.unread ≡ self.old.unread }
     {
-        let is_over = event.is_error() || event.is_read_closed();
-        self.has_end = self.has_end || is_over;
-        self.readable = self.readable || event.is_readable() || is_over;
-        self.writable = self.writable || event.is_writable() || event.is_error();
+        self.is_broken = self.is_broken || event.is_error();
+        self.has_ended = self.has_ended || event.is_read_closed();
+        self.readable = self.readable || event.is_readable() || self.is_over();
+        self.writable = self.writable || event.is_writable() || self.is_broken;
+    }
+
+    /// Whether nothing comes any more but what the system has already.
+    fn is_over(&self) -> bool {
+        self.has_ended || self.is_broken
+    }
+
+    /// Whether the system told that the peer has ended its side. Not all that came before may be read yet.
+    pub fn has_ended(&self) -> bool {
+        self.is_made && self.has_ended
+    }
+
+    /// Whether the system told that the connection is broken. Not all that came before may be read yet.
+    pub fn is_broken(&self) -> bool {
+        self.is_made && self.is_broken
     }
 
     /// What became of a connection that was asked for. It is told once.
     pub fn made(&mut self) -> Made
-        ensures { unread self.new ≡ unread self.old }
+        ensures { self.new.unread ≡ self.old.unread }
     {
-        if self.is_made || !self.writable {
+        if self.is_made || !self.writable || self.stream.is_none() {
             return Made::NotYet;
         }
-        match self.stream.as_ref() {
-            None => Made::NotYet,
-            Some(stream) => match fault_of(stream) {
-                Some(error) => {
-                    self.writable = false;
-                    Made::Failed(error)
-                }
-                None => {
-                    self.is_made = true;
-                    self.readable = true;
-                    Made::Stands
-                }
-            },
+        match self.fault() {
+            Some(error) => {
+                self.writable = false;
+                Made::Failed(error)
+            }
+            None => {
+                self.is_made = true;
+                self.readable = true;
+                Made::Stands
+            }
+        }
+    }
+
+    /// Why a connection that was asked for cannot be had, if so. The system tells of its error as of room to write.
+    fn fault(&self) -> Option<io::Error> {
+        let stream = self.stream.as_ref()?;
+        match stream.take_error() {
+            Ok(None) => stream.peer_addr().err(),
+            Ok(Some(error)) => Some(error),
+            Err(error) => Some(error),
         }
     }
 
     /// Octets that were read and are not taken yet.
     pub fn unread(&self) -> &[u8]
-        ensures { result.now ≡ unread self.now }
+        ensures { result.now ≡ self.now.unread }
     {
-        &self.octets[self.from..self.to]
+        self.unread.as_slice()
     }
 
     /// The first `count` of the octets that were read are taken; all, if there are fewer.
     pub fn taken(&mut self, count: usize)
-        ensures { unread self.new ≡ drop count (unread self.old) }
+        ensures { self.new.unread ≡ drop count self.old.unread }
     {
-        self.from += count.min(self.to - self.from);
+        self.unread.drop_front(count);
     }
 
     /// Whether there are octets to be taken, or something may be read.
     pub fn may_read(&self) -> bool {
-        self.is_made && (self.readable || self.from < self.to)
+        self.is_made && (self.readable || !self.unread.is_empty())
     }
 
     /// Whether something may be written.
@@ -175,55 +156,39 @@ impl Connection {
 
     /// Reads once, if all that was read before is taken and something may be there.
     pub fn read(&mut self) -> Heard
-        ensures first { result ≡ Heard.Octets → unread self.old ≡ [] }
-        ensures octets { result ≡ Heard.Octets → 1 ≤ length (unread self.new) }
-        ensures kept { (result ≡ Heard.Octets → ⊥) → unread self.new ≡ unread self.old }
+        ensures { IsRead result self.old.unread self.new.unread }
     {
-        if !self.is_made || !self.readable || self.from < self.to {
+        if !self.is_made || !self.readable || !self.unread.is_empty() {
             return Heard::Nothing;
         }
-        match self.fill() {
+        let Some(stream) = self.stream.as_mut() else {
+            return Heard::Nothing;
+        };
+        match self.unread.fill(stream) {
             Ok(0) => {
                 self.readable = false;
                 Heard::End
             }
             Ok(count) => {
-                self.readable = self.has_end || count == MOST_READ;
-                self.from = 0;
-                self.to = count;
+                self.readable = self.is_over() || count == MOST_READ;
                 Heard::Octets
             }
-            Err(error) => self.hear_error(error),
-        }
-    }
-
-    fn fill(&mut self) -> io::Result<usize>
-        ensures { IfOk result (λ count. count ≤ length self.old.octets.items) }
-    {
-        match self.stream.as_mut() {
-            Some(stream) => stream.read(self.octets.as_mut_slice()),
-            None => Ok(0),
-        }
-    }
-
-    fn hear_error(&mut self, error: io::Error) -> Heard {
-        match error.kind() {
-            ErrorKind::Interrupted => Heard::Nothing,
-            ErrorKind::WouldBlock => {
+            Err(error) if error.kind() == ErrorKind::Interrupted => Heard::Nothing,
+            Err(error) => {
                 self.readable = false;
-                Heard::Nothing
-            }
-            _ => {
-                self.readable = false;
-                Heard::Loss
+                if error.kind() == ErrorKind::WouldBlock {
+                    Heard::Nothing
+                } else {
+                    Heard::Loss
+                }
             }
         }
     }
 
     /// Writes once, if there is room.
     pub fn write(&mut self, octets: &[u8]) -> Written
-        ensures within { (count : ℕ) → result ≡ Written.Octets count → count ≤ length octets.now }
-        ensures kept { unread self.new ≡ unread self.old }
+        ensures within { count_of result ≤ length octets.now }
+        ensures kept { self.new.unread ≡ self.old.unread }
     {
         if !self.may_write() {
             return Written::Nothing;
@@ -250,20 +215,11 @@ impl Connection {
 
     /// Tells the peer that nothing more comes, and goes on reading.
     pub fn end_writing(&mut self)
-        ensures { unread self.new ≡ unread self.old }
+        ensures { self.new.unread ≡ self.old.unread }
     {
         self.writable = false;
         if let Some(stream) = self.stream.as_ref() {
             let _ = stream.shutdown(Shutdown::Write);
         }
-    }
-}
-
-/// Why a connection that was asked for cannot be had, if so. The system tells of its error as of room to write.
-fn fault_of(stream: &TcpStream) -> Option<io::Error> {
-    match stream.take_error() {
-        Ok(None) => stream.peer_addr().err(),
-        Ok(Some(error)) => Some(error),
-        Err(error) => Some(error),
     }
 }

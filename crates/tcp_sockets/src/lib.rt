@@ -3,6 +3,9 @@
 
 mod connection;
 mod door;
+mod outcome;
+mod unread;
 
-pub use connection::{Connection, Heard, Made, Written};
+pub use connection::Connection;
 pub use door::Door;
+pub use outcome::{Heard, Made, Written};

@@ -3,3 +3,4 @@ pub mod Making
 pub mod Blocks
 pub mod Acting
 pub mod Frames
+pub mod Nothing

@@ -3,3 +3,4 @@ pub mod Sending
 pub mod PadView
 pub mod Making
 pub mod Law
+pub mod Showing

@@ -2,6 +2,7 @@
 ghost use Rattle.std.specs.Prelude.{◌≡◌, ◌≤◌, ◌-◌, ◌∷◌, None, IfOk, MatchResult, length, replicate, slice_get};
 ghost use Rattle.std.specs.Prelude.{option_copied};
 ghost use Rattle.pad_ports.specs.Ports.{new_port};
+ghost use Rattle.pad_ports.specs.Notes.{first_terminal};
 ghost use Rattle.pad_ports.specs.NoteView.{maybe_pad_note, maybe_terminal_note};
 ghost use Rattle.x25_pad.specs.Pad as spec;
 ghost use Rattle.x25_pad.specs.Making.{made, IsConfig, MadeNot};
@@ -13,7 +14,7 @@ mod terminals;
 use crate::config::PadConfig;
 use data_transfer::DEFAULT_SIZE;
 use packet_end::EndFault;
-use pad_ports::{ChannelNote, NotedAt, PadEnd, PadLine, PadNote, PadNotes, Port};
+use pad_ports::{ChannelNote, MOST_NOTES, NotedAt, PadEnd, PadLine, PadNote, PadNotes, Port};
 use std::alloc::{AllocError, Global};
 use std::marker::Model;
 use x3_params::Params;
@@ -27,8 +28,8 @@ const STANDING_CHANNEL: u8 = 1;
 /// A PAD at the DTE's end of a line, for up to 16 terminals.
 ///
 /// Each call that changes the PAD, but `elapse` and what takes, is one event. Its notes are then taken by `notes`, or
-/// read by `first_note` and dropped by `drop_note`, and its frames are taken by `out`. After the next event they are
-/// gone, a frame as if the line had lost it.
+/// read by `first_note` and `first_terminal` and dropped by `drop_note`, and its frames are taken by `out`. After the
+/// next event they are gone, a frame as if the line had lost it.
 #[derive(Drop)]
 pub struct Pad {
     line: PadLine,
@@ -106,6 +107,21 @@ impl Pad {
         ensures { maybe_pad_note (option_copied result) ≡ slice_get self.now.line.notes 0 }
     {
         self.line.notes.first()
+    }
+
+    /// The terminal whose call the next note is of, if one has it.
+    pub fn first_terminal(&self) -> Option<u8>
+        ensures { result ≡ first_terminal self.now.noted_at }
+    {
+        self.noted_at.first()
+    }
+
+    /// How many notes of the event are not yet read.
+    pub fn waiting_notes(&self) -> usize
+        ensures count { result ≡ length self.now.line.notes }
+        ensures most { result ≤ MOST_NOTES }
+    {
+        self.line.notes.len()
     }
 
     /// Drops the next note of the event, if there is one.

@@ -1,10 +1,10 @@
 //! What a service file binds, with the numbers of the nodes in the network.
-use net_config::{Config, NodeKind};
+use crate::bridging::BoundBridges;
+use net_config::{Config, NodeKind, TerminalsConfig};
 use service::{Bindings, BuiltIn, HostBinding, Mode, PadBinding, TerminalsBinding};
-use service_files::{
-    HostService, ServiceFile, TerminalsTable, channels_of, last_of, node_of,
-};
+use service_files::{HostService, ServiceFile, TerminalsTable, channels_of, last_of, node_of};
 use std::alloc::{AllocError, Global};
+use x3_params::Params;
 
 /// All that a service file binds.
 #[derive(Drop)]
@@ -12,6 +12,7 @@ pub(crate) struct Bound<'a> {
     terminals: Vec<TerminalsBinding<'a>>,
     pads: Vec<PadBinding>,
     hosts: Vec<HostBinding>,
+    bridges: BoundBridges<'a>,
 }
 
 impl<'a> Bound<'a> {
@@ -25,6 +26,7 @@ impl<'a> Bound<'a> {
             terminals: bound_terminals(alloc, config, file)?,
             pads: bound_pads(alloc, config)?,
             hosts: bound_hosts(alloc, config, file)?,
+            bridges: BoundBridges::new(alloc, config, file)?,
         })
     }
 
@@ -33,6 +35,7 @@ impl<'a> Bound<'a> {
             terminals: self.terminals.as_slice(),
             pads: self.pads.as_slice(),
             hosts: self.hosts.as_slice(),
+            bridges: self.bridges.bindings(),
         }
     }
 }
@@ -65,7 +68,28 @@ fn bound_table<'a>(
         mode: mode_of(table.mode),
         greeting: table.greeting,
         idle: table.idle,
+        has_xon: match config.nodes.get(node) {
+            Some(found) => has_xon(&found.kind),
+            None => false,
+        },
     }
+}
+
+/// Whether DC1 is XON at the terminals of a node at first.
+fn has_xon(kind: &NodeKind) -> bool {
+    match kind {
+        NodeKind::Pad(pad) => initial_params(pad).has_flow_control(),
+        _ => false,
+    }
+}
+
+/// The parameters that a PAD's terminals have at first.
+fn initial_params(pad: &TerminalsConfig) -> Params {
+    let mut params = Params::profile(pad.profile, 0);
+    for setting in &pad.settings {
+        let _ = params.set(setting.number, setting.value);
+    }
+    params
 }
 
 fn mode_of(mode: service_files::Mode) -> Mode {

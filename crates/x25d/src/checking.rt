@@ -9,12 +9,12 @@ use std::path::Path;
 /// wrong.
 pub(crate) fn check_service(rt: &HostRuntime, file: &str) -> Result<bool, Fault> {
     let octets = read_both(rt, file)?;
-    let checked = checked(rt.alloc(), &octets)?;
+    let checked = check_octets(rt.alloc(), &octets)?;
     say(rt, &checked)
 }
 
 /// What a check of a service file and its network says.
-pub(crate) fn checked(alloc: Global, octets: &Octets) -> Result<Checked, AllocError> {
+pub(crate) fn check_octets(alloc: Global, octets: &Octets) -> Result<Checked, AllocError> {
     service_files::check_service(alloc, octets.service.as_slice(), octets.network.as_slice())
 }
 

@@ -13,11 +13,24 @@ use std::io::{self, Write};
 use std::net::{IpAddr, SocketAddr};
 use std::path::Path;
 
-/// Who is at the other end of a connection: a client that came, or a service that was called.
+/// Who is at the other end of a connection.
 #[derive(Clone, Copy)]
 pub(crate) enum Peer {
+    /// A client that has a terminal.
     Client(SocketAddr),
+    /// A program that came to place a call.
+    Caller(SocketAddr),
+    /// A service that was called.
     Service(SocketAddr),
+}
+
+impl Peer {
+    /// Where it is.
+    pub(crate) fn at(self) -> SocketAddr {
+        match self {
+            Peer::Client(at) | Peer::Caller(at) | Peer::Service(at) => at,
+        }
+    }
 }
 
 /// The log, and what was counted of what it tells.
@@ -81,6 +94,7 @@ impl Log {
         let at = entrance.door.at();
         let line = match entrance.leads {
             Leads::Terminals(_, _, pad) => format!(in rt.alloc(); "bind terminals={at} pad={pad}"),
+            Leads::Caller(_, host) => format!(in rt.alloc(); "bind caller={at} host={host}"),
             Leads::Control => format!(in rt.alloc(); "bind control={at}"),
         };
         self.write(rt, line);
@@ -92,10 +106,25 @@ impl Log {
         self.write(rt, format!(in rt.alloc(); "attach port={port} from={peer}"));
     }
 
+    /// A connection to a service is asked for.
+    pub(crate) fn connect(&mut self, rt: &HostRuntime, port: usize, at: SocketAddr) {
+        self.write(rt, format!(in rt.alloc(); "connect port={port} to={at}"));
+    }
+
+    /// A connection to a service cannot be had.
+    pub(crate) fn failed(&mut self, rt: &HostRuntime, port: usize, at: SocketAddr, why: io::Error) {
+        self.write(
+            rt,
+            format!(in rt.alloc(); "failed port={port} to={at} reason=\"{why}\""),
+        );
+    }
+
     /// A port has no connection any more.
     pub(crate) fn leave(&mut self, rt: &HostRuntime, port: usize, peer: Peer) {
         let line = match peer {
-            Peer::Client(at) => format!(in rt.alloc(); "leave port={port} from={at}"),
+            Peer::Client(at) | Peer::Caller(at) => format!(in rt.alloc();
+                "leave port={port} from={at}"
+            ),
             Peer::Service(at) => format!(in rt.alloc(); "leave port={port} to={at}"),
         };
         self.write(rt, line);

@@ -1,13 +1,17 @@
 //! An X.25 network that people can use: telnet to it and dial.
 #![tactic(auto)]
 
+mod admitting;
 mod asking;
 mod bindings;
+mod bridging;
 mod checking;
 mod clock;
+mod connecting;
 mod controls;
 mod faults;
 mod files;
+mod first_lines;
 mod log;
 mod names;
 mod network;

@@ -1,9 +1,11 @@
 //! What things of a network are called: in the log and in the status.
 use net_config::Config;
-use packet_codec::Address;
 use service::{CallChange, CallNote, CallStatus};
 use status_texts::{CallLine, LineEnds};
 use std::alloc::{AllocError, Global};
+
+/// What stands for a name or an address that is not known.
+const UNKNOWN: &str = "unknown";
 
 /// The names of a network's nodes, and the addresses of their lines.
 #[derive(Clone, Copy)]
@@ -20,16 +22,21 @@ impl<'a> Names<'a> {
     fn node(&self, node: usize) -> &'a str {
         match self.config.nodes.get(node) {
             Some(node) => node.name.as_str(),
-            None => "unknown",
+            None => UNKNOWN,
         }
     }
 
     /// The address of the line whose DTE a node is; none if it has none.
     fn address(&self, node: usize) -> &'a str {
         let name = self.node(node);
-        match self.config.lines.iter().find(|line| line.dte.as_str() == name) {
+        match self
+            .config
+            .lines
+            .iter()
+            .find(|line| line.dte.as_str() == name)
+        {
             Some(line) if !line.address.is_empty() => line.address.as_str(),
-            _ => "unknown",
+            _ => UNKNOWN,
         }
     }
 
@@ -53,10 +60,21 @@ impl<'a> Names<'a> {
     }
 
     /// A call at a host, in words.
-    pub(crate) fn call(&self, alloc: Global, call: &CallStatus) -> Result<CallLine<'a>, AllocError> {
-        let far = digits_or_unknown(alloc, call.far)?;
+    pub(crate) fn call(
+        &self,
+        alloc: Global,
+        call: &CallStatus,
+    ) -> Result<CallLine<'a>, AllocError> {
+        let far = match &call.far {
+            Some(far) => digits_text(alloc, far.digits())?,
+            None => String::from_str(alloc, UNKNOWN)?,
+        };
         let here = String::from_str(alloc, self.address(call.node))?;
-        let (from, to) = if call.is_ours { (here, far) } else { (far, here) };
+        let (from, to) = if call.is_ours {
+            (here, far)
+        } else {
+            (far, here)
+        };
         Ok(CallLine {
             from,
             to,
@@ -76,10 +94,18 @@ pub(crate) fn call_text(
     note: &CallNote,
 ) -> Result<String, AllocError> {
     let (node, channel) = (names.node(note.node), note.channel);
-    match note.change {
+    match &note.change {
         CallChange::Incoming { from } => {
-            let from = digits_or_unknown(alloc, from)?;
+            let from = match from {
+                Some(from) => digits_text(alloc, from.digits())?,
+                None => String::from_str(alloc, UNKNOWN)?,
+            };
             let to = names.address(note.node);
+            format!(in alloc; "call from={from} to={to} node={node} channel={channel}")
+        }
+        CallChange::Called { to } => {
+            let from = names.address(note.node);
+            let to = digits_text(alloc, to.digits())?;
             format!(in alloc; "call from={from} to={to} node={node} channel={channel}")
         }
         CallChange::Connected => format!(in alloc; "connected node={node} channel={channel}"),
@@ -95,19 +121,17 @@ pub(crate) fn call_text(
         CallChange::Reset { cause, diagnostic } => format!(in alloc;
             "reset node={node} channel={channel} cause={cause} diagnostic={diagnostic}"
         ),
+        CallChange::Dropped { octets } => {
+            format!(in alloc; "dropped node={node} channel={channel} octets={octets}")
+        }
     }
 }
 
-/// The digits of an address, or what stands for one that is not known.
-fn digits_or_unknown(alloc: Global, address: Option<Address>) -> Result<String, AllocError> {
-    match address {
-        None => String::from_str(alloc, "unknown"),
-        Some(address) => {
-            let mut text = String::new(alloc);
-            for digit in address.digits() {
-                write!(text, "{digit}")?;
-            }
-            Ok(text)
-        }
+/// The digits of an address as text.
+fn digits_text(alloc: Global, digits: &[u8]) -> Result<String, AllocError> {
+    let mut text = String::new(alloc);
+    for digit in digits {
+        write!(text, "{digit}")?;
     }
+    Ok(text)
 }

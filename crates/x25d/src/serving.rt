@@ -1,12 +1,13 @@
 //! What is served: the built-in network, or what a service file says.
 use crate::bindings::Bound;
-use crate::checking::checked;
+use crate::checking::check_octets;
 use crate::faults::Fault;
 use crate::files::read_both;
+use crate::first_lines::say_first;
 use crate::log::Log;
 use crate::names::Names;
 use crate::network::{NETWORK, NUMBERS, SERVICE};
-use crate::shell::{Shell, say_first};
+use crate::shell::Shell;
 use crate::sockets::Sockets;
 use frame_lines::MemLine;
 use line_sim::{Config, MakeFault, mem_lines};
@@ -45,7 +46,7 @@ pub(crate) fn serve_built_in(
 pub(crate) fn serve_file(rt: &HostRuntime, name: &str) -> Result<bool, Fault> {
     let alloc = rt.alloc();
     let octets = read_both(rt, name)?;
-    let checked = checked(alloc, &octets)?;
+    let checked = check_octets(alloc, &octets)?;
     if !checked.is_right {
         eprint!(rt; "{}", checked.text)?;
         return Ok(false);
@@ -89,7 +90,7 @@ fn serve(
     let bound = Bound::new(rt.alloc(), config, file)?;
     let mut service = service_on(rt.alloc(), config, &bound)?;
     let _ = say_first(rt, &sockets, numbers);
-    let outcome = serve_at(rt, Names::new(config), file.connections, sockets, log, &mut service);
+    let outcome = serve_at(rt, Names::new(config), file, sockets, log, &mut service);
     service.release();
     outcome
 }
@@ -98,12 +99,12 @@ fn serve(
 fn serve_at(
     rt: &HostRuntime,
     names: Names<'_>,
-    connections: u16,
+    file: &ServiceFile<'_>,
     sockets: Sockets<'_>,
     log: Log,
     service: &mut Running,
 ) -> Result<(), Fault> {
-    let mut shell = Shell::new(rt, names, connections, sockets, log, service.ports())?;
+    let mut shell = Shell::new(rt, names, file, sockets, log, service.ports())?;
     shell.begin(rt);
     for _ in 0..u64::MAX {
         if !shell.turn(rt, service)? {
@@ -132,7 +133,8 @@ fn net_of(alloc: Global, config: &Config) -> io::Result<LiveNet<MemLine>> {
 
 /// The network of a text that was checked.
 fn config_of(alloc: Global, octets: &[u8]) -> Result<Config, Fault> {
-    match read_network(alloc, &mut String::new(alloc), octets)? {
+    let mut told = String::new(alloc);
+    match read_network(alloc, &mut told, octets)? {
         Some(config) => Ok(config),
         None => Err(Fault::from(Refusal::Told)),
     }
@@ -140,10 +142,12 @@ fn config_of(alloc: Global, octets: &[u8]) -> Result<Config, Fault> {
 
 /// The document of a text that was checked.
 fn document_of(alloc: Global, octets: &[u8]) -> Result<Table, Fault> {
-    Ok(read_document(alloc, &mut String::new(alloc), octets)?)
+    let mut told = String::new(alloc);
+    Ok(read_document(alloc, &mut told, octets)?)
 }
 
 /// What a document says that was checked.
 fn file_of(alloc: Global, document: &Table) -> Result<ServiceFile<'_>, Fault> {
-    Ok(read_service(alloc, &mut String::new(alloc), document)?)
+    let mut told = String::new(alloc);
+    Ok(read_service(alloc, &mut told, document)?)
 }

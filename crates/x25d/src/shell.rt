@@ -1,23 +1,18 @@
 //! The sockets of a service, its clock and its log. It has no rule of its own.
+use crate::bridging::connects;
 use crate::clock::{self, Clock, TICK_MILLIS};
 use crate::controls::{self, Control};
-use crate::log::{Log, Peer};
+use crate::log::Log;
 use crate::names::Names;
 use crate::places::{Place, places};
 use crate::pumps::{is_busy, read_port, write_port};
 use crate::questions::serve_control;
 use crate::serving::Running;
-use crate::sockets::{Leads, Sockets};
-use crate::words::CONTROL;
+use crate::sockets::Sockets;
 use mio::Token;
-use mio::net::TcpStream;
 use service::Order;
-use service_files::Mode;
-use std::io::{self, Write};
-use std::net::SocketAddr;
-
-/// How many connections are accepted at a door in one turn.
-const MOST_ACCEPTED: usize = 128;
+use service_files::{Connect, ServiceFile};
+use std::io;
 
 /// How many orders of the service are done in one turn.
 const MOST_ORDERS: usize = 256;
@@ -25,35 +20,37 @@ const MOST_ORDERS: usize = 256;
 /// How many rounds the service has in one turn.
 const MOST_ROUNDS: u32 = 64;
 
-/// What a client is told for whom there is no terminal.
-const NO_TERMINAL: &[u8] = b"All terminals are taken. Try again later.\r\n";
-
 /// All that the shell has.
 #[derive(Drop)]
 pub(crate) struct Shell<'a> {
     names: Names<'a>,
     /// How many connections there may be at once.
-    connections: u16,
-    sockets: Sockets<'a>,
-    places: Vec<Place>,
-    controls: Vec<Option<Control>>,
+    pub(crate) connections: u16,
+    /// The services that connections lead to.
+    pub(crate) services: Vec<Connect>,
+    pub(crate) sockets: Sockets<'a>,
+    /// The connections of all ports.
+    pub(crate) places: Vec<Place>,
+    pub(crate) controls: Vec<Option<Control>>,
     clock: Clock,
-    log: Log,
+    pub(crate) log: Log,
     busy: bool,
 }
 
 impl<'a> Shell<'a> {
+    /// A shell that begins, without connections at so many ports.
     pub(crate) fn new(
         rt: &HostRuntime,
         names: Names<'a>,
-        connections: u16,
+        file: &ServiceFile<'_>,
         sockets: Sockets<'a>,
         log: Log,
         ports: usize,
     ) -> io::Result<Self> {
         Ok(Shell {
             names,
-            connections,
+            connections: file.connections,
+            services: connects(rt.alloc(), file)?,
             sockets,
             places: places(rt.alloc(), ports)?,
             controls: controls::places(rt.alloc())?,
@@ -81,12 +78,13 @@ impl<'a> Shell<'a> {
         self.wait()?;
         self.accept(rt, service);
         let ticks = self.pass_time(rt, service)?;
+        self.tell_made(rt, service);
         self.read(service);
         let more = service.work(MOST_ROUNDS);
         let wrote = self.write(service);
-        self.obey(rt, service);
+        let obeyed = self.obey(rt, service);
         self.serve_controls(rt, service, ticks);
-        self.busy = more || wrote || self.is_busy(service);
+        self.busy = more || wrote || obeyed || self.is_busy(service);
         Ok(!service.has_stopped())
     }
 
@@ -116,106 +114,12 @@ impl<'a> Shell<'a> {
         Ok(ticks)
     }
 
-    /// Accepts those who wait at the doors.
-    fn accept(&mut self, rt: &HostRuntime, service: &mut Running) {
-        for number in 0..self.sockets.entrances.len() {
-            for _ in 0..MOST_ACCEPTED {
-                if !self.accept_one(rt, service, number) {
-                    break;
-                }
-            }
-        }
-    }
-
-    /// Accepts one who waits at a door, and says whether there was one.
-    fn accept_one(&mut self, rt: &HostRuntime, service: &mut Running, number: usize) -> bool {
-        let has_control = self.controls.iter().any(|place| place.is_none());
-        let Some(entrance) = self.sockets.entrances.get_mut(number) else {
-            return false;
-        };
-        let (leads, at) = (entrance.leads, entrance.door.at());
-        if matches!(leads, Leads::Control) && !has_control {
-            return false;
-        }
-        let Some((stream, peer)) = entrance.door.next() else {
-            return false;
-        };
-        if !entrance.lets_in(peer.ip()) {
-            self.log.refuse(rt, peer.ip(), at);
-            return true;
-        }
-        match leads {
-            Leads::Control => self.hear(rt, stream),
-            Leads::Terminals(table, mode, _) => {
-                if let Some(stream) = self.seat(rt, service, stream, peer, table) {
-                    self.log.refuse(rt, peer.ip(), at);
-                    turn_away(stream, mode);
-                }
-            }
-        }
-        true
-    }
-
-    /// Gives a client a terminal of a table, if one is free. Otherwise its connection is handed back.
-    fn seat(
-        &mut self,
-        rt: &HostRuntime,
-        service: &mut Running,
-        stream: TcpStream,
-        peer: SocketAddr,
-        table: usize,
-    ) -> Option<TcpStream> {
-        if !self.has_place() {
-            return Some(stream);
-        }
-        match service.attach(table) {
-            Some(port) => {
-                self.connect(rt, service, stream, peer, port);
-                None
-            }
-            None => Some(stream),
-        }
-    }
-
-    /// Whether there may be one connection more.
-    fn has_place(&self) -> bool {
-        let taken = self.places.iter().filter(|place| place.peer.is_some());
-        taken.count() < usize::from(self.connections)
-    }
-
-    fn connect(
-        &mut self,
-        rt: &HostRuntime,
-        service: &mut Running,
-        mut stream: TcpStream,
-        peer: SocketAddr,
-        port: usize,
-    ) {
-        let _ = stream.set_nodelay(true);
-        if self.sockets.watch(&mut stream, port).is_err() {
-            service.closed(port);
-            return;
-        }
-        if let Some(place) = self.places.get_mut(port) {
-            place.connection.accept(stream);
-            place.peer = Some(Peer::Client(peer));
-        }
-        self.log.attach(rt, port, peer);
-    }
-
-    /// Hears a question, for which there is a place.
-    fn hear(&mut self, rt: &HostRuntime, stream: TcpStream) {
-        if let Some(place) = self.controls.iter_mut().find(|place| place.is_none()) {
-            *place = Some(Control::new(rt.alloc(), stream));
-        }
-    }
-
     fn read(&mut self, service: &mut Running) {
         for port in 0..self.places.len() {
             if let Some(place) = self.places.get_mut(port)
                 && place.connection.may_read()
             {
-                read_port(service, port, &mut place.connection);
+                read_port(service, port, place);
             }
         }
     }
@@ -227,7 +131,7 @@ impl<'a> Shell<'a> {
             if let Some(place) = self.places.get_mut(port)
                 && place.connection.may_write()
             {
-                let wrote = write_port(service, port, &mut place.connection);
+                let wrote = write_port(service, port, place);
                 any = any || wrote;
             }
         }
@@ -245,19 +149,25 @@ impl<'a> Shell<'a> {
         false
     }
 
-    /// Does what the service orders.
-    fn obey(&mut self, rt: &HostRuntime, service: &mut Running) {
-        for _ in 0..MOST_ORDERS {
+    /// Does what the service orders, and says whether there was any order.
+    fn obey(&mut self, rt: &HostRuntime, service: &mut Running) -> bool {
+        for done in 0..MOST_ORDERS {
             match service.next_order() {
                 Some(order) => self.obey_order(rt, service, order),
-                None => return,
+                None => return done > 0,
             }
         }
+        true
     }
 
     fn obey_order(&mut self, rt: &HostRuntime, service: &mut Running, order: Order) {
         match order {
             Order::Close(port) => self.close(rt, service, port),
+            Order::Connect {
+                port,
+                service: number,
+            } => self.connect(rt, service, port, number),
+            Order::EndWriting(port) => self.end_writing(port),
             Order::LogOvertaken { port, keys } => self.log.overtaken(rt, port, keys),
             Order::LogIdle(port) => self.log.idle(rt, port),
             Order::LogCall(note) => self.log.call(rt, self.names, &note),
@@ -267,12 +177,17 @@ impl<'a> Shell<'a> {
 
     fn close(&mut self, rt: &HostRuntime, service: &mut Running, port: usize) {
         service.closed(port);
-        let Some(place) = self.places.get_mut(port) else {
-            return;
-        };
-        place.connection.close();
-        if let Some(peer) = place.peer.take() {
+        if let Some(place) = self.places.get_mut(port)
+            && let Some(peer) = place.close()
+        {
             self.log.leave(rt, port, peer);
+        }
+    }
+
+    /// The connection of a port is to be ended for writing once what waits is written.
+    fn end_writing(&mut self, port: usize) {
+        if let Some(place) = self.places.get_mut(port) {
+            place.ends = true;
         }
     }
 
@@ -290,45 +205,5 @@ impl<'a> Shell<'a> {
                 *place = None;
             }
         }
-    }
-}
-
-/// Closes the connection of a client for whom there is no terminal. A client of telnet is told so.
-fn turn_away(mut stream: TcpStream, mode: Mode) {
-    match mode {
-        Mode::Telnet => {
-            let _ = stream.write(NO_TERMINAL);
-        }
-        Mode::Raw => {}
-    }
-}
-
-/// Prints where terminals are, what can be dialled, and how the service is asked and stopped.
-pub(crate) fn say_first(
-    rt: &HostRuntime,
-    sockets: &Sockets<'_>,
-    numbers: Option<&str>,
-) -> io::Result<()> {
-    for entrance in &sockets.entrances {
-        let at = entrance.door.at();
-        let (host, port) = (at.ip(), at.port());
-        match entrance.leads {
-            Leads::Terminals(_, Mode::Telnet, _) => println!(rt; "terminals  telnet {host} {port}")?,
-            Leads::Terminals(_, Mode::Raw, _) => println!(rt; "terminals  raw {host} {port}")?,
-            Leads::Control => say_control(rt, at, numbers)?,
-        }
-    }
-    Ok(())
-}
-
-fn say_control(rt: &HostRuntime, at: SocketAddr, numbers: Option<&str>) -> io::Result<()> {
-    if let Some(numbers) = numbers {
-        println!(rt; "numbers    {numbers}")?;
-    }
-    let at = format!(in rt.alloc(); "{at}")?;
-    if at.as_str() == CONTROL {
-        println!(rt; "status     x25d status     stop  x25d stop")
-    } else {
-        println!(rt; "status     x25d status --control {at}     stop  x25d stop --control {at}")
     }
 }

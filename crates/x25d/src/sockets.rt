@@ -3,7 +3,7 @@ use crate::faults::Fault;
 use mio::net::TcpStream;
 use mio::{Events, Interest, Poll, Token};
 use service_files::{Allow, Mode, ServiceFile};
-use std::alloc::Global;
+use std::alloc::AllocError;
 use std::io;
 use std::net::{IpAddr, SocketAddr};
 use std::time::Duration;
@@ -17,6 +17,8 @@ const MOST_EVENTS: usize = 256;
 pub(crate) enum Leads<'a> {
     /// To the terminals of this table, with the name of their PAD.
     Terminals(usize, Mode, &'a str),
+    /// To calls from this caller, with the name of its host.
+    Caller(usize, &'a str),
     /// To the control port.
     Control,
 }
@@ -32,6 +34,7 @@ pub(crate) struct Entrance<'a> {
 impl Entrance<'_> {
     /// Whether a client at this address may come in: if nothing else is said, those of this machine alone.
     pub(crate) fn lets_in(&self, address: IpAddr) -> bool {
+        let address = address.to_canonical();
         match self.allow {
             Some(allow) => allow.allows(address),
             None => Allow { prefixes: None }.allows(address),
@@ -53,6 +56,10 @@ impl<'a> Sockets<'a> {
         let mut sockets = Sockets::without_doors(rt)?;
         for (place, table) in file.terminals.iter().enumerate() {
             let leads = Leads::Terminals(place, table.mode, table.pad);
+            sockets.add(rt, table.listen, leads, Some(&table.allow))?;
+        }
+        for (place, table) in file.callers.iter().enumerate() {
+            let leads = Leads::Caller(place, table.host);
             sockets.add(rt, table.listen, leads, Some(&table.allow))?;
         }
         if let Some(control) = file.control {
@@ -78,9 +85,14 @@ impl<'a> Sockets<'a> {
     ) -> Result<(), Fault> {
         let token = Token(self.entrances.len());
         match Door::open(rt, self.poll.registry(), at, token) {
-            Ok(door) => Ok(self.entrances.push(Entrance { door, leads, allow })?),
+            Ok(door) => Ok(self.push(Entrance { door, leads, allow })?),
             Err(error) => Err(Fault::NoSocket(at, error)),
         }
+    }
+
+    fn push(&mut self, entrance: Entrance<'a>) -> Result<(), AllocError> {
+        self.entrances.push(entrance)?;
+        Ok(())
     }
 
     /// Waits until there is something to tell, so many thousandths of a second at most.

@@ -8,7 +8,7 @@ ghost use Rattle.net_events.specs.Network.{all_elapsed};
 ghost use Rattle.net_nodes.specs.Due.{net_due, net_due_at};
 ghost use Rattle.net_nodes.specs.Happening.{FindsNoFrame, FindNoFrames};
 ghost use Rattle.net_nodes.specs.Questions.{net_confirmed, net_has_to_take, net_room_to_say, net_rests, is_empty};
-ghost use Rattle.net_nodes.specs.Questions.{user_channel};
+ghost use Rattle.net_nodes.specs.Questions.{net_shows, user_channel};
 ghost use Rattle.placed_nodes.specs.Node.{rests, user_of};
 
 use crate::nodes::Nodes;
@@ -122,6 +122,16 @@ impl<L: Line> Nodes<L> {
     {
         let line = node.line()?;
         self.channel(line, channel).ok()
+    }
+
+    /// Whether the node of this place is a PAD, and the terminal has anything to show.
+    pub fn shows(&self, node: usize, terminal: u16) -> bool
+        ensures { result ≡ net_shows node terminal self.now }
+    {
+        let Some(node) = self.nodes.get(node) else {
+            return false;
+        };
+        node.shows(terminal)
     }
 
     /// Whether the node of this place is a host, and anything waits to be taken on the channel.

@@ -10,8 +10,7 @@ use Rattle.call_records.specs.Records.{RecordValue, HopValue, PairValue}
 use Rattle.call_records.specs.Book.{address_of}
 use Rattle.call_records.specs.Register.{LineEnds, found_ends}
 use Rattle.record_laws.specs.Words.{HasTyped}
-use Rattle.record_laws.specs.CallPaths.Plan.{Plan, address_at}
-use Rattle.record_laws.specs.CallPaths.Promise.{PathIsRight, PathHolds, PathsHold, IsPlacedAt, by_caller, by_switch}
+use Rattle.record_laws.specs.CallPaths.Promise.{Plan, address_at, PathIsRight, PathHolds, PathsHold, IsPlacedAt, by_caller, by_switch}
 use Rattle.record_laws.proofs.Books.Basics.{get_there}
 use Rattle.line_nodes.specs.Node.{NodeState, Pad, Host}
 use Rattle.net_events.specs.Network.{PlacedNode, NetNode, User, Switching, NetLine, Network, place_at}

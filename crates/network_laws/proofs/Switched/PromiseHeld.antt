@@ -21,8 +21,7 @@ use Rattle.node_laws.specs.LineRecords.Histories.{LineHistory}
 use Rattle.node_laws.proofs.LineRecords.Histories.{history_kept}
 use Rattle.record_laws.specs.CallPaths.Ends.{IsOf, IsOfPresent, EndIsSeen, IsOfUser}
 use Rattle.record_laws.specs.CallPaths.Seen.{SideIsSeen}
-use Rattle.record_laws.specs.CallPaths.Plan.{address_at}
-use Rattle.record_laws.specs.CallPaths.Promise.{PathsHold}
+use Rattle.record_laws.specs.CallPaths.Promise.{address_at, PathsHold}
 use Rattle.record_laws.proofs.CallPaths.Ending.{ends_seen, users_own, open_seen}
 use Rattle.switched_call_laws.specs.SwitchPaths.Law as paths
 use Rattle.switched_call_laws.proofs.SwitchPaths.Begins.{network_holds}

@@ -1,7 +1,8 @@
 //! What a terminal shows.
-ghost use Rattle.std.specs.Prelude.{◌≡◌, ◌≤◌, ◌<◌, ◌+◌, ◌++◌, length};
+ghost use Rattle.std.specs.Prelude.{◌≡◌, ◌≤◌, ◌<◌, ◌+◌, ◌++◌, length, is_some};
 ghost use Rattle.arrayvec.specs.ArrayVec.{array_vec_len};
 ghost use Rattle.pad_ports.specs.Ports as spec;
+ghost use Rattle.pad_ports.specs.Showing.{shows};
 ghost use Rattle.pad_ports.specs.TakenView.{taken_of as value_of, maybe_taken};
 
 use crate::line::PadLine;
@@ -20,6 +21,35 @@ const PACKET_TEXT: usize = OCTET_LIMIT * MOST_OCTETS;
 pub const MOST_TEXT: usize = TEXT_LIMIT + PACKET_TEXT;
 
 impl Port {
+    /// Whether there is anything to show: text waits, or what waits first on the call is to be shown now.
+    pub fn shows(&self, line: &PadLine) -> bool
+        ensures { result ≡ shows (record { port = self.now; line = line.now }) }
+    {
+        self.terminal.has_text() || self.has_next(line)
+    }
+
+    // Whether what waits first on the call is to be shown now: a message waits while the send queue is full.
+    fn has_next(&self, line: &PadLine) -> bool
+        ensures { result ≡ is_some (spec.taken_of (record { port = self.now; line = line.now })) }
+    {
+        if !self.terminal.may_show() {
+            return false;
+        }
+        let Some(channel) = self.call else {
+            return false;
+        };
+        match line.end.front(channel) {
+            None => false,
+            Some(
+                Front::Data {
+                    qualified: true,
+                    ..
+                },
+            ) => line.end.room(channel) != 0,
+            Some(_) => true,
+        }
+    }
+
     /// Shows the text that waits, and then what waits first on the call, if it is to be shown now: it is taken.
     pub fn print<const N: usize>(
         &mut self,
@@ -43,7 +73,7 @@ impl Port {
         taken
     }
 
-    // Takes what waits first on the call, if it is to be shown now: a message waits while the send queue is full.
+    // Takes what waits first on the call, if it is to be shown now.
     fn take_next(&self, line: &mut PadLine) -> Option<PadTaken>
         requires { length line.old.notes < MOST_NOTES }
         ensures taken { maybe_taken result ≡ spec.taken_of (record { port = self.now; line = line.old }) }
@@ -52,22 +82,11 @@ impl Port {
         ensures room { length line.new.notes ≤ length line.old.notes + 1 }
         ensures told { line.new.end.notes ≡ line.old.end.notes }
     {
-        if !self.terminal.may_show() {
+        if !self.has_next(line) {
             return None;
         }
-        let Some(channel) = self.call else {
-            return None;
-        };
-        match line.end.front(channel) {
-            None => None,
-            Some(
-                Front::Data {
-                    qualified: true,
-                    ..
-                },
-            ) if line.end.room(channel) == 0 => None,
-            Some(_) => line.take(channel),
-        }
+        let channel = self.call?;
+        line.take(channel)
     }
 
     // Shows what was taken, and lets P(R) pass it; an interrupt is confirmed.

@@ -15,17 +15,15 @@ use Rattle.call_records.specs.Register.{LineEnds, found_ends}
 use Rattle.record_laws.specs.Words.{IsTakenFrom, IsIn, TookNothing, sent_by, taken_by}
 use Rattle.record_laws.proofs.Books.Basics.{get_there, order}
 use Rattle.record_laws.specs.Registers.Seen.{positions}
-use Rattle.record_laws.specs.CallPaths.Plan.{IsOfEnd}
+use Rattle.record_laws.specs.CallPaths.Promise.{IsOfEnd, address_at, IsPlacedAt, PathHolds, PathsHold}
 use Rattle.record_laws.proofs.Registers.Positions.{IsNth, place_of, rises_from}
 use Rattle.record_laws.proofs.Registers.Steps.{same_place}
 use Rattle.record_laws.specs.CallPaths.World.{Origin, Join, placing, World, Plan, AreAddressed, calling_on}
 use Rattle.record_laws.specs.CallPaths.Seen.{kind, numbers, CameFrom, Way, Begins, own_on, own_of, shown, RecordIsShown, JoinIsSeen, PairIsSeen, PairCame, Seen}
-use Rattle.record_laws.specs.CallPaths.Plan.{address_at}
 use Rattle.record_laws.specs.CallPaths.Seen.Way.{here, onward}
 use Rattle.record_laws.specs.CallPaths.Tree.{WayOver}
 use Rattle.record_laws.specs.CallPaths.Tree.WayOver.{here as stands_here, onward as goes_on}
 use Rattle.record_laws.specs.CallPaths.Paths.{IsPath, ArePaths}
-use Rattle.record_laws.specs.CallPaths.Promise.{IsPlacedAt, PathHolds, PathsHold}
 use Rattle.record_laws.specs.CallPaths.Parts.{CallsHold, JoinsHold, JoinHolds}
 use Rattle.record_laws.specs.CallPaths.Promise.IsPlacedAt.{by_caller, by_switch}
 use Rattle.record_laws.specs.CallPaths.Law.{PromiseLaw}

@@ -1,13 +1,43 @@
--- What the register of a network with switches promises of its calls.
-use Rattle.std.specs.Prelude.{◌≡◌, ℕ, ◌<◌, true, false, List, [], ◌∷◌, ◌++◌, slice_get, Some}
+-- Where nodes are, and what the register of a network with switches promises of its calls.
+use Rattle.std.specs.Prelude.{◌≡◌, ◌⊎◌, ℕ, ◌<◌, Bool, true, false, List, [], ◌∷◌, ◌++◌, slice_get, Option, Some}
 use Rattle.link_timers.specs.declared.role.Role.{Role}
+use Rattle.link_timers.specs.declared.role.Role.TheVariants.{Dte, Dce}
 use Rattle.link_timers.specs.Role.{other_of}
 use Rattle.epochs.specs.Match.{Match}
 use Rattle.epochs.specs.Confirmed.{Confirms}
 use Rattle.call_records.specs.Records.{RecordValue, HopValue, PairValue, sent_epochs, taken_epochs}
-use Rattle.call_records.specs.Register.{Register}
+use Rattle.call_records.specs.Register.{Register, LineEnds}
 use Rattle.record_laws.specs.Words.{IsTakenFrom, sent_by, all_taken_by, ArePaired}
-use Rattle.record_laws.specs.CallPaths.Plan.{Plan, calling_on, IsOfEnd}
+
+-- ---- where nodes are
+
+-- the node at each end of each line, and whether it is one with users; the address of each line, of no digits where it
+-- has none; and, for each switch, the line to which it sends calls to an address, if it sends them anywhere
+pub record Plan : Type 0 where
+  pub node : (line : ℕ) → Role → ℕ
+  pub has_user : (line : ℕ) → Role → Bool
+  pub address : (line : ℕ) → List ℕ
+  pub route : (switch : ℕ) → (called : Option (List ℕ)) → Option ℕ
+
+-- the calling address of a call that was placed on a line with this address: it is the line's, or on a line without an
+-- address the one that the call has
+abbrev pub calling_on : (address : List ℕ) → (given : Option (List ℕ)) → Option (List ℕ)
+calling_on [] given = given
+calling_on (digit ∷ digits) given = Some (digit ∷ digits)
+
+-- the address that an end of a line has
+abbrev pub address_at : Plan → (line : ℕ) → Role → List ℕ
+address_at plan line Dte = plan.address line
+address_at plan line Dce = []
+
+-- a node is that of an end of some line
+pub record IsOfEnd (g : Register) (node : ℕ) : Type 0 where
+  pub line : ℕ
+  pub line_ends : LineEnds
+  pub line_there : slice_get g.lines line ≡ Some line_ends
+  pub at_end : (node ≡ line_ends.dte.node) ⊎ (node ≡ line_ends.dce.node)
+
+-- ---- calls
 
 -- what one end took matches what the other sent, both ways; by one such matching what is confirmed was taken
 pub record PathMatches (caller callee : RecordValue) : Type 0 where
@@ -19,8 +49,7 @@ pub record PathMatches (caller callee : RecordValue) : Type 0 where
 -- over these hops the call was placed at this end of a line: over none by the caller itself, on the first line of its
 -- way; over each more by a switch, at another of whose ends it came in, and whose route for the called address names
 -- the hop's line
-pub data IsPlacedAt : Plan → (caller : RecordValue) → (first : ℕ) → (hops : List HopValue) → (line : ℕ) → Role
-    → Type 0 where
+pub data IsPlacedAt : Plan → RecordValue → (first : ℕ) → List HopValue → (line : ℕ) → Role → Type 0 where
   by_caller : {plan : Plan} {caller : RecordValue} {line : ℕ} {role : Role} → caller.node ≡ plan.node line role
       → plan.has_user line role ≡ true → IsPlacedAt plan caller line [] line role
   by_switch : {plan : Plan} {caller : RecordValue} {first line : ℕ} {hops : List HopValue} {role : Role} (from : ℕ)

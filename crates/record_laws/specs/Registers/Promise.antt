@@ -6,7 +6,7 @@ use Rattle.call_records.specs.Book.{slot_at}
 use Rattle.call_records.specs.Register.{Register, LineEnds, book_at}
 use Rattle.record_laws.specs.Books.Headline.{PairMatches, AreEnds, IsOpenHere}
 use Rattle.record_laws.specs.Words.{ArePaired}
-use Rattle.record_laws.specs.CallPaths.Plan.{IsOfEnd}
+use Rattle.record_laws.specs.CallPaths.Promise.{IsOfEnd}
 
 -- the caller's record was made first; the nodes are those of the two ends of one line; the callee's own address is the
 -- one that was called, and the far one is the caller's own

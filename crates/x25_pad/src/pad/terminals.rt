@@ -1,5 +1,5 @@
 //! What happens at the terminals.
-ghost use Rattle.std.specs.Prelude.{◌≡◌, ◌≤◌, ◌<◌, ◌+◌, ◌++◌, [], true, length, map, position, IfSome};
+ghost use Rattle.std.specs.Prelude.{◌≡◌, ◌≤◌, ◌<◌, ◌+◌, ◌++◌, [], true, false, None, length, map, position, IfSome};
 ghost use Rattle.std.specs.Bool.{OnTrue};
 ghost use Rattle.arrayvec.specs.ArrayVec.{array_vec_len};
 ghost use Rattle.packet_end.specs.PacketEnd as end;
@@ -8,6 +8,7 @@ ghost use Rattle.packet_layer.specs.LayerTimers.{TimersAgree};
 ghost use Rattle.pad_ports.specs.Ports as port;
 ghost use Rattle.pad_ports.specs.TakenView.{maybe_taken};
 ghost use Rattle.x25_pad.specs.Pad as spec;
+ghost use Rattle.x25_pad.specs.Showing.{shows};
 ghost use Rattle.x25_pad.specs.Sending.{frames_at_terminal, frames_on_timer};
 
 use crate::answer::PadAnswer;
@@ -193,6 +194,19 @@ impl Pad {
         let taken = self.ports[usize::from(terminal)].pause(&mut self.line);
         self.name_notes(Some(terminal));
         taken
+    }
+
+    /// Whether a terminal has anything to show: text, or what waits first on its call and may be shown now. If not,
+    /// [`print`](Pad::print) shows nothing and takes nothing. A terminal that is not there has nothing to show.
+    pub fn shows(&self, terminal: u16) -> bool
+        ensures exact { result ≡ shows terminal self.now }
+        ensures nothing { result ≡ false → (spec.print_text terminal self.now ≡ [])
+            × (spec.print_taken terminal self.now ≡ None) }
+    {
+        let Some(port) = self.ports.get(usize::from(terminal)) else {
+            return false;
+        };
+        port.shows(&self.line)
     }
 
     /// Shows what a terminal has to show: the text that waits, at most 1,024 octets, and then what waits first on its

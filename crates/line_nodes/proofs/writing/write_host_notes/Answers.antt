@@ -6,7 +6,7 @@ use Rattle.packet_end.specs.PacketEnd.{PacketEnd}
 use Rattle.call_records.specs.Book.{all_told}
 use Rattle.call_records.specs.Room.{BookState, opening_notes}
 use Rattle.line_nodes.specs.Node.{all_read}
-use Rattle.line_nodes.specs.Notes.{host_notes}
+use Rattle.line_nodes.specs.Notes.{at_host, user_notes}
 use Rattle.line_nodes.proofs.FirstNote.{first_is, may_tell, room_left, listed_then, one_less}
 use Rattle.line_nodes.proofs.writing.write_host_notes.Goals as goal
 
@@ -23,9 +23,9 @@ loop-preserved c =
     let host = c.notes.ensures.host in
     let rest : c.notes.new.self.notes ≡ drop 1 notes = ap (λ (e : PacketEnd). e.notes) host in
     let told = c.tell.ensures in
-    let listed = c.list_note.ensures.listed in
+    let listed = c.list_layer_note.ensures.listed in
     let left = room_left notes note c.loop.book.room first invariant.opening invariant.room in
-    let fewer = one_less c.args.at.node notes note c.loop.notes.items c.list_note.new.notes.items first listed in
+    let fewer = one_less c.args.at.node notes note c.loop.notes.items c.list_layer_note.new.notes.items first listed in
     let back = sym rest in
     record {
       host = ap (λ (e : PacketEnd). all_read e) host ∙ invariant.host;
@@ -37,13 +37,13 @@ loop-preserved c =
       room = subst (λ (ns : List Note). opening_notes ns ≤ c.tell.new.self.room) back
           (subst (λ (b : BookState). opening_notes (drop 1 notes) ≤ b.room) (sym told) left.left);
       listed =
-          ap (λ (ns : List Note). c.list_note.new.notes.items ++ host_notes c.args.at.node ns) rest
-          ∙ listed_then c.args.at.node notes note c.loop.notes.items c.list_note.new.notes.items first listed
+          ap (λ (ns : List Note). c.list_layer_note.new.notes.items ++ user_notes c.args.at.node (at_host ns)) rest
+          ∙ listed_then c.args.at.node notes note c.loop.notes.items c.list_layer_note.new.notes.items first listed
           ∙ invariant.listed;
       left = let count = ap (λ (ns : List Note). length ns) rest in omega (arith, count, fewer.rest, invariant.left);
       places =
           let count = ap (λ (ns : List Note). length ns) rest in
-          omega (arith, count, fewer.places, invariant.places, c.list_note.ensures.capacity, c.list_note.new.notes.ok, c.loop.notes.ok);
+          omega (arith, count, fewer.places, invariant.places, c.list_layer_note.ensures.capacity, c.list_layer_note.new.notes.ok, c.loop.notes.ok);
     }
 
 pub returns-clause-book : goal.returns-clause-book

@@ -8,7 +8,7 @@ loop-port-init g c = below_none g.L.Line.service _ _ _
 pub loop-port-preserved : goal.loop-port-preserved
 loop-port-preserved g c =
     let within : c.loop-port.port < length c.loop-port.terminals.items = omega arith in
-    below_more g.L.Line.service _ c.loop-port.port _ _ _ _ _ _ _ c.loop-port.terminals.items _ _ c.requires.1 c.loop-port.invariant c.serve_terminal-done.ensures
+    below_more g.L.Line.service _ c.loop-port.port _ _ _ _ _ _ _ c.loop-port.terminals.items _ _ c.requires.apart c.loop-port.invariant c.serve_terminal-done.ensures
     ?
     (there_at c.loop-port.terminals.items c.loop-port.port c.index_mut.result.now _ within c.index_mut.ensures.value)
 

@@ -11,8 +11,8 @@ returns-then-is_idle g c =
     text_idle g.L.Line.service c.args.at _ c.step.result c.in-Ok.answer c.is_idle.result _ _ _ c.at_terminal.ensures
     c.step.follows.holds-at-none c.in-Ok.is c.is_idle.ensures c.if-is_idle.true
 
-pub show-requires-2 : goal.show-requires-2
-show-requires-2 g c = text_fits c.step.result c.in-Ok.answer _ c.in-Ok.is c.step.ensures.limits c.as_slice-in-Ok.ensures.value
+pub show-requires-short : goal.show-requires-short
+show-requires-short g c = text_fits c.step.result c.in-Ok.answer _ c.in-Ok.is c.step.ensures.limits c.as_slice-in-Ok.ensures.value
 
 pub returns-in-Ok : goal.returns-in-Ok
 returns-in-Ok g c =

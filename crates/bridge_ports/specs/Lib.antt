@@ -1,0 +1,4 @@
+pub mod Phases
+pub mod Bridges
+pub mod Rows
+pub mod Laws

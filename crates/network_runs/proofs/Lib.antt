@@ -1,0 +1,9 @@
+mod Numbered
+mod Steps
+mod Plans
+mod Running
+mod OneSwitch
+mod Trunk
+mod Pads
+mod Numbers
+mod Sizes

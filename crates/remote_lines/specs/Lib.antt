@@ -1,0 +1,2 @@
+pub mod RemoteLine
+pub mod Restart

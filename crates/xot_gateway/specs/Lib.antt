@@ -1,0 +1,5 @@
+pub mod States
+pub mod Packets
+pub mod Connections
+pub mod Calls
+pub mod Laws
