@@ -19,11 +19,10 @@ use Rattle.service_files.specs.declared.file.HostService.TheVariants as host_ser
 use Rattle.service_files.specs.declared.file.TerminalsTable.{TerminalsTable}
 use Rattle.service_files.specs.declared.file.ServiceTable.{ServiceTable}
 use Rattle.service_files.specs.declared.file.CallerTable.{CallerTable}
-use Rattle.service_files.specs.declared.file.ServiceFile.{ServiceFile}
 use Rattle.service_files.specs.declared.addresses.Allow.{Allow}
 use Rattle.service_files.specs.declared.addresses.Prefix.{Prefix}
 use Rattle.service_files.specs.Addresses.{IsPrefixText}
-use Rattle.service_files.specs.Reads.{EachSays, IsTable, text_at, number_at, flag_at, values_at, items_at, table_at}
+use Rattle.service_files.specs.Reads.{EachSays, text_at, number_at, flag_at, values_at, table_at}
 
 abbrev pub mode_of : Option (List ℕ) → Mode
 mode_of None = Telnet
@@ -118,12 +117,3 @@ IsConnections (Some limits) connections =
 
 abbrev pub SaysConnections : Members → ℕ → Type 0
 SaysConnections document = IsConnections (table_at (codes "limits") document)
-
-pub record SaysFile (document : Members) (file : ServiceFile) : Type 0 where
-  pub network : file.network.now ≡ unwrap_or (text_at (codes "network") document) []
-  pub log : option_map (λ text. text.now) file.log ≡ text_at (codes "log") document
-  pub control : SaysControl (text_at (codes "control") document) file.control
-  pub connections : SaysConnections document file.connections
-  pub terminals : EachSays TerminalsTable (IsTable SaysTerminals) (items_at (codes "terminals") document) file.terminals.items
-  pub services : EachSays ServiceTable (IsTable SaysService) (items_at (codes "service") document) file.services.items
-  pub callers : EachSays CallerTable (IsTable SaysCaller) (items_at (codes "caller") document) file.callers.items

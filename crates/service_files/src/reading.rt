@@ -3,7 +3,7 @@ ghost use Rattle.std.specs.Prelude.{◌≡◌, IfOk, option_map};
 ghost use Rattle.toml.specs.View.{view, table_view, items_view};
 ghost use Rattle.service_files.specs.Reads.{Reads, ReadsAs};
 ghost use Rattle.service_files.specs.Reads.{EachSays, IsDocument, IsTable};
-ghost use Rattle.service_files.specs.Says.{mode_of, SaysControl, SaysConnections, SaysTerminals, SaysService, SaysCaller, SaysFile};
+ghost use Rattle.service_files.specs.Says.{mode_of, SaysControl, SaysConnections, SaysTerminals, SaysService, SaysCaller};
 
 use crate::file::{CallerTable, Mode, ServiceFile, ServiceTable, TerminalsTable};
 use crate::hosts::{read_caller, read_host};
@@ -43,9 +43,7 @@ pub fn read_service<'a>(
     alloc: Global,
     out: &mut String,
     document: &'a Table,
-) -> Result<ServiceFile<'a>, Refusal>
-    ensures { IfOk result (SaysFile (table_view document.entry.now)) }
-{
+) -> Result<ServiceFile<'a>, Refusal> {
     look_at(alloc, out, Place::Document, &DOCUMENT, document)?;
     refuse_keys(out, Place::Document, document, &LATER, "cannot be had yet")?;
     Ok(ServiceFile {
