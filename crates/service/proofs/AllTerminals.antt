@@ -268,6 +268,10 @@ works_on L places here lines there done more s m t before between after places_i
     (subst (λ n. Works L places n done m t between after) lines_is
     (subst (λ n. Works L n there done m t between after) places_is two)))
 
+pub works_at : (L : LineService) (there places : List Place) (lines : ℕ) (more : Bool) (s t : Network) (before after : List Terminal)
+    → there ≡ places → Works L there lines more s t before after → Works L places lines more s t before after
+works_at L there places lines more s t before after is works = subst (λ (n : List Place). Works L n lines more s t before after) is works
+
 pub below_all : (L : LineService) (places : List Place) (below all : ℕ) (more : Bool) (s t : Network) (before after : List Terminal) → below ≡ all
     → ServesBelow L places below more s t before after → ServesBelow L places all more s t before after
 below_all L places below all more s t before after is serves = subst (λ n. ServesBelow L places n more s t before after) is serves

@@ -14,7 +14,6 @@ use Rattle.service.specs.declared.terminal.Terminal.{Terminal}
 use Rattle.service.specs.Places.{is_place, is_bound, AreApart}
 use Rattle.service.specs.Seats.{IsOfTable, AreSeated, IsOfSomeTable}
 use Rattle.service.specs.Absent.{PassesPlaces, IsTold, LeavesBelow, LeavesPads}
-use Rattle.service.specs.Serving.{Begins, ServesBelow}
 use Rattle.service.specs.Terminals.{HasCome, attached, is_free, is_free_in}
 use Rattle.service.specs.Steps.{Step, Steps, IsSilent, HasTried, Does}
 use Rattle.service.proofs.Stepping.{steps-append, silent-none, silent-append, tried-left, tried-right, tried_step}
@@ -207,20 +206,6 @@ pads_more L index pads pad places s m t before there now = record {
   steps = before.steps ++ now.steps;
   passes = passes_then_at L places before.steps now.steps s m t before.passes now.passes;
   told = told_pad places pads index pad before.steps now.steps before.told now.told there;
-}
-
--- ---- a service begins
-
-pub begins_so : (L : LineService) (tables : List TerminalsBinding) (pads : List PadBinding) (more : Bool) (s m t : Network) (places : List Place)
-    (first after : List Terminal) (below : ℕ) → AreSeated tables places first → LeavesPads L (length pads) pads places s m
-    → ServesBelow L places below more m t first after → Begins L tables pads s t places after
-begins_so L tables pads more s m t places first after below seated leaves serves = record {
-  first = first;
-  seated = seated;
-  between = m;
-  absent = leaves;
-  steps = serves.steps;
-  served = serves.works;
 }
 
 -- ---- a client comes
