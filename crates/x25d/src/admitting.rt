@@ -9,9 +9,6 @@ use service_files::Mode;
 use std::io::Write;
 use std::net::SocketAddr;
 
-/// How many connections are accepted at a door in one turn.
-const MOST_ACCEPTED: usize = 128;
-
 /// What a client is told for whom there is no terminal.
 const NO_TERMINAL: &[u8] = b"All terminals are taken. Try again later.\r\n";
 
@@ -24,15 +21,15 @@ struct Guest {
 }
 
 impl Shell<'_> {
-    /// Accepts those who wait at the doors.
-    pub(crate) fn accept(&mut self, rt: &HostRuntime, service: &mut Running) {
+    /// Accepts one who waits at each door, and says whether there was any. So the call of one who came has its connection
+    /// before the next one takes a place.
+    pub(crate) fn accept(&mut self, rt: &HostRuntime, service: &mut Running) -> bool {
+        let mut any = false;
         for number in 0..self.sockets.entrances.len() {
-            for _ in 0..MOST_ACCEPTED {
-                if !self.accept_one(rt, service, number) {
-                    break;
-                }
-            }
+            let came = self.accept_one(rt, service, number);
+            any = any || came;
         }
+        any
     }
 
     /// Accepts one who waits at a door, and says whether there was one.

@@ -76,7 +76,7 @@ impl<'a> Shell<'a> {
     /// Waits for something to happen, does what is to be done, and says whether the service goes on.
     pub(crate) fn turn(&mut self, rt: &HostRuntime, service: &mut Running) -> io::Result<bool> {
         self.wait()?;
-        self.accept(rt, service);
+        let came = self.accept(rt, service);
         let ticks = self.pass_time(rt, service)?;
         self.tell_made(rt, service);
         self.read(service);
@@ -84,7 +84,7 @@ impl<'a> Shell<'a> {
         let wrote = self.write(service);
         let obeyed = self.obey(rt, service);
         self.serve_controls(rt, service, ticks);
-        self.busy = more || wrote || obeyed || self.is_busy(service);
+        self.busy = came || more || wrote || obeyed || self.is_busy(service);
         Ok(!service.has_stopped())
     }
 
