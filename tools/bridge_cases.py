@@ -388,7 +388,7 @@ def told(program: str) -> None:
             read_all(call)
         for form in (r"connect port=\d+ to=" + re.escape(service.library.address),
                      r"call from=2002 to=2001 node=library channel=\d+",
-                     r"connected node=library channel=\d+",
+                     r"connected node=archive channel=\d+",
                      r"cleared node=library channel=\d+ cause=0 diagnostic=0 .*taken=16 said=16 .*",
                      r"leave port=\d+ .*"):
             service.wait_log(form)

@@ -267,7 +267,8 @@ class Client:
 
     def is_answered(self, number: str) -> bool:
         self.type(number)
-        return self.wait(b"COM\r\n", b"CLR ").endswith(b"COM\r\n")
+        cleared = [b"CLR " + bytes([letter]) for letter in b"DEINOR"]
+        return self.wait(b"COM\r\n", *cleared).endswith(b"COM\r\n")
 
     def dial_until_answered(self, number: str) -> None:
         limit = time.monotonic() + PATIENCE

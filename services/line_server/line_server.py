@@ -11,7 +11,9 @@ class Reader(socketserver.StreamRequestHandler):
         self.wfile.write(f"{text}\r\n".encode())
 
     def handle(self) -> None:
-        hello = self.rfile.readline().decode().split()      # CALL, the caller's address, the called one, user data
+        hello = self.rfile.readline().decode(errors="replace").split()
+        if hello[:1] != ["CALL"]:       # CALL, the caller's address, the called one, user data
+            return
         self.answer(f"Welcome, {hello[1]}. Which book? An empty line ends.")
         for line in self.rfile:
             title = line.decode(errors="replace").strip().lower()
