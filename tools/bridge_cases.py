@@ -337,15 +337,13 @@ def killed_service(program: str) -> None:
 def full(program: str) -> None:
     """Of 64 connections at a limit of 32 the rest are closed, and others are let in when those have ended."""
     with bridged(program, says_back, connections=MANY) as service:
-        with contextlib.ExitStack() as stack:
-            calls = [stack.enter_context(called(service.callers())) for _ in range(64)]
-            for call in calls:
-                with contextlib.suppress(OSError):
-                    call.sendall(b"x")
-            answers = [said(call) for call in calls]
-            served = answers.count(b"x")
-            if not 1 <= served <= MANY:
-                raise Failed(f"{served} calls were served, and {MANY} connections may be there")
+        calls = [called(service.callers(1)) for _ in range(64)]
+        for call in calls:
+            with contextlib.suppress(OSError):
+                call.sendall(b"x")
+        expect([said(call) for call in calls].count(b"x"), MANY, "how many of 64 calls were served")
+        for call in calls:
+            break_off(call)
         wait_until(lambda: "call " not in service.ask("status"), "the end of the calls")
         expect(swapped(service.callers(), b"again"), digest(b"again"), "the digest of a call after many")
 

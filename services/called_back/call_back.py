@@ -24,7 +24,7 @@ class Taker(socketserver.StreamRequestHandler):
         super().finish()
         self.request.close()                    # the terminal's call ends
         if self.wanted:
-            time.sleep(1)
+            time.sleep(2)
             call_back(self.wanted)
 
 
