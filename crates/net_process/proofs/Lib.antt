@@ -1,0 +1,6 @@
+mod Apart
+mod Restarts
+mod Acts
+mod Frames
+mod Sending
+mod Settling
