@@ -61,7 +61,7 @@ pub enum Connection {
     Absent,
     /// One is wanted, within so many ticks.
     Wanted(u16),
-    /// The same, and the order was given.
+    /// One is wanted so, and the order to make it was given.
     Awaited(u16),
     /// It stands.
     Open,
@@ -69,7 +69,7 @@ pub enum Connection {
     Flushing(u16),
     /// It is to be closed.
     Closing,
-    /// The same, and the order was given.
+    /// It is to be closed, and the order was given.
     Closed,
 }
 
@@ -93,7 +93,7 @@ pub enum FarSide {
     Coming,
     /// It sends no more: once what waits is written, the connection is to be ended for writing.
     EndTaken,
-    /// The same, and the order was given.
+    /// The far end sends no more, and the order to end the connection for writing was given.
     Shut,
 }
 

@@ -1,5 +1,5 @@
 //! The calls of a line: the table of its channels and that of connections.
-ghost use Rattle.std.specs.Prelude.{◌≡◌, ◌≤◌, true, length, take, replicate, slice_get, is_some, position, IfOk, Some};
+ghost use Rattle.std.specs.Prelude.{◌≡◌, ◌≤◌, [], true, false, length, take, replicate, slice_get, is_some, position, IfOk, Some, None};
 ghost use Rattle.packet_codec.specs.View.{content_view};
 ghost use Rattle.xot_gateway.specs.declared.connection.Connection.{Connection as ConnectionValue};
 ghost use Rattle.xot_gateway.specs.declared.calls.LineState.TheVariants as line_is;
@@ -285,8 +285,13 @@ impl XotCalls {
     /// Octets that wait to be written to a connection, from the first on: some if there are any, and not always all. None
     /// wait before it stands.
     pub fn waiting(&self, number: usize) -> &[u8]
-        ensures { (c : ConnectionValue) → slice_get self.now.connections.items number ≡ Some c → writes c ≡ true
+        ensures front { (c : ConnectionValue) → slice_get self.now.connections.items number ≡ Some c → writes c ≡ true
             → take (length result.now) c.stream.output ≡ result.now }
+        ensures some { (c : ConnectionValue) → slice_get self.now.connections.items number ≡ Some c → writes c ≡ true
+            → length result.now ≡ 0 → c.stream.output ≡ [] }
+        ensures none { (c : ConnectionValue) → slice_get self.now.connections.items number ≡ Some c → writes c ≡ false
+            → result.now ≡ [] }
+        ensures absent { slice_get self.now.connections.items number ≡ None → result.now ≡ [] }
     {
         match self.connections.get(number) {
             Some(connection) if connection.writes() => connection.stream.waiting(),
