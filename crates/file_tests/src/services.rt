@@ -22,6 +22,12 @@ mode = "raw"
 [[service]]
 host = "echo"
 builtin = "echo"
+
+[[caller]]
+host = "echo"
+listen = "127.0.0.1:7100"
+call = "1001"
+user_data = "01000000"
 "#;
 
 const FORMS: &[Edit] = &[
@@ -93,12 +99,87 @@ const FORMS: &[Edit] = &[
     (
         r#"builtin = "echo""#,
         "",
-        "service 0: the key 'builtin' is missing",
+        "service 0: it has neither 'connect' nor 'builtin'",
     ),
     (
         r#"builtin = "echo""#,
-        r#"connect = "127.0.0.1:8001""#,
-        "service 0: connect cannot be had yet",
+        "builtin = \"echo\"\nconnect = \"127.0.0.1:8001\"",
+        "service 0: it has both 'connect' and 'builtin'",
+    ),
+    (
+        r#"builtin = "echo""#,
+        "builtin = \"echo\"\nlinger = 9",
+        "service 0: linger is for a service to connect to",
+    ),
+    (
+        r#"builtin = "echo""#,
+        "builtin = \"echo\"\nhello = false",
+        "service 0: hello is for a service to connect to",
+    ),
+    (
+        r#"builtin = "echo""#,
+        r#"connect = "localhost:80""#,
+        r#"service 0: connect = "localhost:80" has to be an IP address and a port, as 127.0.0.1:7001"#,
+    ),
+    (
+        r#"builtin = "echo""#,
+        "connect = \"[::1]:80\"\nat_reset = \"close\"",
+        r#"service 0: at_reset = "close" has to be one of "clear" "continue""#,
+    ),
+    (
+        r#"builtin = "echo""#,
+        "connect = \"[::1]:80\"\nwait = 65536",
+        "service 0: wait = 65536 has to be a whole number from 0 to 65535, without quotes",
+    ),
+    (
+        r#"builtin = "echo""#,
+        "connect = \"[::1]:80\"\nhello = 1",
+        "service 0: hello = 1 has to be true or false, without quotes",
+    ),
+    (
+        r#"call = "1001""#,
+        "",
+        "caller 0: the key 'call' is missing",
+    ),
+    (
+        r#"call = "1001""#,
+        "call = 1001",
+        "caller 0: call = 1001 has to be 1 to 15 digits, in quotes",
+    ),
+    (
+        r#"call = "1001""#,
+        r#"call = "1234567890123456""#,
+        r#"caller 0: call = "1234567890123456" has to be 1 to 15 digits, in quotes"#,
+    ),
+    (
+        r#"user_data = "01000000""#,
+        r#"user_data = "010""#,
+        r#"caller 0: user_data = "010" has to be up to 16 octets, each as two hexadecimal digits"#,
+    ),
+    (
+        r#"user_data = "01000000""#,
+        r#"user_data = "0x01""#,
+        r#"caller 0: user_data = "0x01" has to be up to 16 octets, each as two hexadecimal digits"#,
+    ),
+    (
+        r#"user_data = "01000000""#,
+        r#"user_data = "0102030405060708090a0b0c0d0e0f1011""#,
+        r#"caller 0: user_data = "0102030405060708090a0b0c0d0e0f1011" has to be up to 16 octets, each as two hexadecimal digits"#,
+    ),
+    (
+        r#"user_data = "01000000""#,
+        r#"userdata = "01000000""#,
+        "caller 0: no key 'userdata' is known here (did you mean 'user_data'?)",
+    ),
+    (
+        "127.0.0.1:7100",
+        "127.0.0.1",
+        r#"caller 0: listen = "127.0.0.1" has to be an IP address and a port, as 127.0.0.1:7001"#,
+    ),
+    (
+        r#"call = "1001""#,
+        "call = \"1001\"\nallow = [\"10.0.0.0/8\", 7]",
+        "caller 0: allow = (array) has to be texts in quotes, between brackets",
     ),
     (
         "[[service]]",
@@ -108,22 +189,37 @@ const FORMS: &[Edit] = &[
     (
         "[[service]]",
         "[web]\n\n[[service]]",
-        "web cannot be had yet",
+        "web: the key 'listen' is missing",
     ),
     (
         "[[service]]",
         "[capture]\n\n[[service]]",
-        "capture cannot be had yet",
+        "capture: the key 'file' is missing",
+    ),
+    (
+        "[[service]]",
+        "[capture]\nfile = \"x25.pcapng\"\nsize = 0\n\n[[service]]",
+        "capture: size = 0 has to be 1 at least",
     ),
     (
         "[[service]]",
         "[[line]]\n\n[[service]]",
-        "line cannot be had yet",
+        "line 0: the key 'line' is missing",
     ),
     (
         "[[service]]",
-        "[[caller]]\n\n[[service]]",
-        "caller cannot be had yet",
+        "[[line]]\nline = 0\nhere = \"dte\"\nto = \"findravolo\"\n\n[[service]]",
+        "line 0: it has neither 'listen' nor 'connect'",
+    ),
+    (
+        "[[caller]]",
+        "[[callers]]",
+        "no key 'callers' is known here (did you mean 'caller'?)",
+    ),
+    (
+        "network =",
+        "network",
+        "TOML parse error at line 2, column 9: key with no value, expected `=`",
     ),
 ];
 
@@ -131,7 +227,7 @@ const RULES: &[Edit] = &[
     (
         "nothing",
         "",
-        "terminals 0 to 3 of desk at 127.0.0.1:7001\nterminals 4 to 7 of desk at 127.0.0.1:7002\nhost echo: builtin echo\ncontrol at 127.0.0.1:7999\nat most 64 connections",
+        "terminals 0 to 3 of desk at 127.0.0.1:7001\nterminals 4 to 7 of desk at 127.0.0.1:7002\nhost echo: builtin echo\ncalls of 1001 from host echo at 127.0.0.1:7100\ncontrol at 127.0.0.1:7999\nat most 64 connections",
     ),
     (
         r#"pad = "desk""#,
@@ -192,6 +288,36 @@ const RULES: &[Edit] = &[
         "[[service]]",
         "[[service]]\nhost = \"echo\"\nbuiltin = \"time\"\n\n[[service]]",
         "service 0: 'echo' has another service too",
+    ),
+    (
+        r#"builtin = "echo""#,
+        "connect = \"127.0.0.1:8001\"\nhello = true\nwait = 20\nat_reset = \"continue\"\nlinger = 0",
+        "terminals 0 to 3 of desk at 127.0.0.1:7001\nterminals 4 to 7 of desk at 127.0.0.1:7002\nhost echo: connect 127.0.0.1:8001\ncalls of 1001 from host echo at 127.0.0.1:7100\ncontrol at 127.0.0.1:7999\nat most 64 connections",
+    ),
+    (
+        "[[caller]]\nhost = \"echo\"",
+        "[[caller]]\nhost = \"eco\"",
+        r#"caller 0: host = "eco" is no node (did you mean 'echo'?)"#,
+    ),
+    (
+        "[[caller]]\nhost = \"echo\"",
+        "[[caller]]\nhost = \"desk\"",
+        r#"caller 0: host = "desk" is no host"#,
+    ),
+    (
+        "127.0.0.1:7100",
+        "127.0.0.1:7002",
+        r#"terminals 1: listen = "127.0.0.1:7002" stands in another table too, or is control"#,
+    ),
+    (
+        "127.0.0.1:7100",
+        "127.0.0.1:7999",
+        r#"caller 0: listen = "127.0.0.1:7999" stands in another table too, or is control"#,
+    ),
+    (
+        "127.0.0.1:7100",
+        "[::]:7100",
+        r#"caller 0: listen = "[::]:7100" is beyond this machine, and allow has to say who may connect"#,
     ),
     (
         "127.0.0.1:7999",

@@ -3,7 +3,7 @@ use Rattle.std.specs.Prelude.{ℕ, Bool, true, false, not, ◌&&◌, ◌+◌, �
 use Rattle.octet_rings.specs.Places.{most_octets}
 use Rattle.link_timers.specs.Timers.{lowered, is_due}
 use Rattle.line_carriers.specs.declared.fault.CarrierFault.{CarrierFault}
-use Rattle.line_carriers.specs.declared.fault.CarrierFault.TheVariants.{OutOfTurn, NoRoom}
+use Rattle.line_carriers.specs.declared.fault.CarrierFault.TheVariants.{OtherProtocol, OutOfTurn, NoRoom}
 use Rattle.line_carriers.specs.declared.sign.Sign.{Sign}
 use Rattle.line_carriers.specs.declared.sign.Sign.TheVariants.{StillHere, Starting, Ready, Open}
 use Rattle.line_carriers.specs.declared.hello.Hello.{Hello}
@@ -87,6 +87,11 @@ takes_octets c count = if stands c then min count (most_octets - length c.input)
 abbrev pub with_octets : Carrier → List ℕ → Carrier
 with_octets c octets =
     if stands c then record c { input = c.input ++ octets; left = Some c.silence } else c
+
+-- what an end makes of the first octets over a connection: the number of the partner's start, or the first thing that
+-- differs from the hello of a partner
+abbrev pub meets : Carrier → List ℕ → Result ℕ CarrierFault
+meets c octets = if nat_le 48 (length octets) then hello_read c.hello (take 48 octets) else Err OtherProtocol
 
 abbrev pub takes_frame : Carrier → List ℕ → Bool
 takes_frame c octets = is_frame octets && (is_open c && nat_le (length c.output + (2 + length octets)) most_octets)

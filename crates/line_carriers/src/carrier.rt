@@ -8,6 +8,7 @@ ghost use Rattle.line_carriers.specs.Carrier.{
   cut,
   connected,
   first_sign,
+  meets,
   stands,
   lost,
   is_ready,
@@ -163,6 +164,17 @@ impl Carrier {
         self.pulse.stop();
         self.input.clear();
         self.output.clear();
+    }
+
+    /// What the first octets over a connection say, before it replaces the one that stands: the number of the partner's
+    /// start, or the first thing that differs from the hello of a partner. Fewer than 48 octets are none.
+    pub fn meets(&self, octets: &[u8]) -> Result<u64, CarrierFault>
+        ensures { result ≡ meets self.now octets.now }
+    {
+        match octets.get(..HELLO) {
+            Some(hello) => self.hello.read_other(hello),
+            None => Err(CarrierFault::OtherProtocol),
+        }
     }
 
     /// Whether a connection stands.

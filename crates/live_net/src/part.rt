@@ -10,7 +10,7 @@ ghost use Rattle.net_nodes.specs.Carrying.{HandedOn, PutAt};
 ghost use Rattle.net_nodes.specs.Due.{net_due_at};
 ghost use Rattle.net_nodes.specs.Faults.{step_fault};
 ghost use Rattle.net_nodes.specs.Happening.{IsRefusedSo, FindsNoFrame, FindNoFrames};
-ghost use Rattle.net_nodes.specs.Questions.{net_confirmed, net_shows, net_has_to_take, net_room_to_say};
+ghost use Rattle.net_nodes.specs.Questions.{net_confirmed, net_shows, net_has_to_take, net_room_to_say, net_rests};
 ghost use Rattle.net_nodes.specs.Questions.{MaySay, PrintsNothing};
 ghost use Rattle.net_turns.specs.AnswerRoom.{IsWithinLimits};
 ghost use Rattle.line_sim.specs.Runs.{IsMadeBy};
@@ -113,6 +113,14 @@ impl<L: Line> LivePart<L> {
         ensures none { FindNoFrames L.service from result self.now }
     {
         self.nodes.next_with_frames(from)
+    }
+
+    /// Whether nothing is in flight, unacknowledged, owed or gathered, and nothing waits to be sent, passed on or taken, at
+    /// the copies of other processes' nodes too.
+    pub fn at_rest(&self) -> bool
+        ensures { result ≡ net_rests self.now }
+    {
+        self.nodes.is_at_rest()
     }
 
     /// Whether the host of this place, which is to be one of its own, has a call in data transfer on the channel in

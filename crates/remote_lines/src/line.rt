@@ -2,7 +2,7 @@
 ghost use Rattle.std.specs.Prelude.{◌≡◌, [], ◌++◌, length, take, drop, false, IfOk};
 ghost use Rattle.std.specs.Bool.{OnTrue, OnFalse};
 ghost use Rattle.std.specs.List.{list_all};
-ghost use Rattle.line_carriers.specs.Carrier.{is_open, takes_octets, with_octets, takes_frame, after_next};
+ghost use Rattle.line_carriers.specs.Carrier.{is_open, meets, takes_octets, with_octets, takes_frame, after_next};
 ghost use Rattle.line_carriers.specs.Wire.{frame_form};
 ghost use Rattle.remote_lines.specs.RemoteLine.{
   new_line,
@@ -21,7 +21,7 @@ ghost use Rattle.remote_lines.specs.RemoteLine.{
 
 use crate::order::{Ending, LineOrder};
 use frame_codec::FrameBuf;
-use line_carriers::{Carrier, Expiry, Heard, Hello};
+use line_carriers::{Carrier, CarrierFault, Expiry, Heard, Hello};
 use link_timers::Role;
 use std::alloc::{AllocError, Global};
 
@@ -129,6 +129,14 @@ impl RemoteLine {
         ensures { result ≡ is_open self.now.carrier }
     {
         self.carrier.is_open()
+    }
+
+    /// What the first octets over a connection say, before it replaces the one that stands: the number of the partner's
+    /// start, or the first thing that differs from the hello of a partner. Fewer than 48 octets are none.
+    pub fn meets(&self, octets: &[u8]) -> Result<u64, CarrierFault>
+        ensures { result ≡ meets self.now.carrier octets.now }
+    {
+        self.carrier.meets(octets)
     }
 
     /// A new connection to the partner stands, and replaces the old one: what that one had is dropped, and there is no

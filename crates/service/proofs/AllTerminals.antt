@@ -9,9 +9,10 @@ use Rattle.frame_lines.specs.declared.line.Direction.TheVariants.{FromDte, FromD
 use Rattle.frame_lines.specs.Lines.{LineService}
 use Rattle.net_events.specs.declared.event.Event.{Event}
 use Rattle.net_events.specs.declared.event.Event.TheVariants.{Deliver}
-use Rattle.net_events.specs.Network.{Network}
-use Rattle.net_nodes.specs.Due.{net_due}
+use Rattle.net_process.specs.Process.{ProcessState, due_here}
+use Rattle.service.specs.declared.place.Place.{Place}
 use Rattle.service.specs.declared.terminal.Terminal.{Terminal}
+use Rattle.service.specs.Places.{AreApart}
 use Rattle.service.specs.Steps.{Step, Steps, HasTried, AreIdle, IsSilent, Does, PassesBy, Passes, is_at_terminal}
 use Rattle.service.specs.Serving.{IsServed, Wishes, Serves, WorksBy, ServesBelow, DeliversBelow, Expires, NoneIsDue, is_expiry, Rests, Works}
 use Rattle.service.proofs.Stepping.{steps-append, silent-none, idle-append, tried-left, tried-right, tried_step, neither_left, neither_right, passes_by-then, passes_step}
@@ -19,116 +20,131 @@ use Rattle.service.proofs.Served.{served_silent, served_then}
 
 -- ---- all terminals
 
-pub works_by-none : (L : LineService) (pad : ℕ) (s : Network) (terminals : List Terminal) → WorksBy L pad [] s s terminals terminals
-works_by-none L pad s terminals = record {
+pub works_by-none : (L : LineService) (places : List Place) (s : ProcessState) (terminals : List Terminal) → WorksBy L places [] s s terminals terminals
+works_by-none L places s terminals = record {
   made = refl;
   count = refl;
-  each = λ number p there. (p, there, served_silent pad number [] p (silent-none pad number));
+  each = λ port at p seat there. (p, there, served_silent at [] p (silent-none at));
 }
 
-pub works_by-then : (L : LineService) (pad : ℕ) (xs ys : List Step) (s m t : Network) (before between after : List Terminal)
-    → WorksBy L pad xs s m before between → WorksBy L pad ys m t between after → WorksBy L pad (xs ++ ys) s t before after
-works_by-then L pad xs ys s m t before between after one two = record {
+pub works_by-then : (L : LineService) (places : List Place) (xs ys : List Step) (s m t : ProcessState) (before between after : List Terminal)
+    → WorksBy L places xs s m before between → WorksBy L places ys m t between after → WorksBy L places (xs ++ ys) s t before after
+works_by-then L places xs ys s m t before between after one two = record {
   made = steps-append L s m t xs ys one.made two.made;
   count = two.count ∙ one.count;
-  each = λ number p there.
-      let first = one.each number p there in
-      let second = two.each number first.0 first.1 in
-      (second.0, second.1, served_then pad number xs ys p first.0 second.0 first.2 second.2);
+  each = λ port at p seat there.
+      let first = one.each port at p seat there in
+      let second = two.each port at first.0 seat first.1 in
+      (second.0, second.1, served_then at xs ys p first.0 second.0 first.2 second.2);
 }
 
 -- steps that are nothing at any terminal
-pub works_by-pass : (L : LineService) (pad : ℕ) (steps : List Step) (more : Bool) (s t : Network) (terminals : List Terminal)
-    → PassesBy L steps more s t → WorksBy L pad steps s t terminals terminals
-works_by-pass L pad steps more s t terminals passes = record {
+pub works_by-pass : (L : LineService) (places : List Place) (steps : List Step) (more : Bool) (s t : ProcessState) (terminals : List Terminal)
+    → PassesBy L steps more s t → WorksBy L places steps s t terminals terminals
+works_by-pass L places steps more s t terminals passes = record {
   made = passes.made;
   count = refl;
-  each = λ number p there. (p, there, served_silent pad number steps p (passes.silent pad number));
+  each = λ port at p seat there. (p, there, served_silent at steps p (passes.silent at));
 }
 
-one_at : (L : LineService) (pad number : ℕ) (Wish : Terminal → Event → Type 0) (more : Bool) (s t : Network) (p q : Terminal) (terminals : List Terminal)
-    (one : Serves L pad number Wish more s t p q) → slice_get terminals number ≡ Some p → (other : ℕ) (r : Terminal) → slice_get terminals other ≡ Some r
-    → (after : Terminal) × (slice_get (set terminals number q) other ≡ Some after) × IsServed pad other one.steps r after
-one_at L pad number Wish more s t p q terminals one there other r is = elim (cases_eq other number) [
+-- two ports have two places
+apart_places : (places : List Place) (port other : ℕ) (at place : Place) → AreApart places → slice_get places port ≡ Some at
+    → slice_get places other ≡ Some place → other ≢ port → place ≢ at
+apart_places places port other at place apart seat seated differ same =
+    differ (apart other port at (seated ∙ ap Some same) seat)
+
+one_at : (L : LineService) (places : List Place) (port : ℕ) (at : Place) (Wish : Terminal → Event → Type 0) (more : Bool) (s t : ProcessState) (p q : Terminal)
+    (terminals : List Terminal) (one : Serves L at Wish more s t p q) → AreApart places → slice_get places port ≡ Some at → slice_get terminals port ≡ Some p
+    → (other : ℕ) (place : Place) (r : Terminal) → slice_get places other ≡ Some place → slice_get terminals other ≡ Some r
+    → (after : Terminal) × (slice_get (set terminals port q) other ≡ Some after) × IsServed place one.steps r after
+one_at L places port at Wish more s t p q terminals one apart seat there other place r seated is = elim (cases_eq other port) [
   | inl e ↦
-      let at : slice_get terminals number ≡ Some r = ap (λ n. slice_get terminals n) (sym e) ∙ is in
-      let same_terminal : p ≡ r = cc in (
+      let found : slice_get terminals port ≡ Some r = ap (λ n. slice_get terminals n) (sym e) ∙ is in
+      let same_terminal : p ≡ r = cc in
+      let here : slice_get places port ≡ Some place = ap (λ n. slice_get places n) (sym e) ∙ seated in
+      let same_place : at ≡ place = cc in (
         q,
-        ap (λ n. slice_get (set terminals number q) n) e ∙ slice_get-set_same terminals number q (slice_get_within terminals number p there),
-        subst (λ n. IsServed pad n one.steps r q) (sym e) (subst (λ (x : Terminal). IsServed pad number one.steps x q) same_terminal one.served),
+        ap (λ n. slice_get (set terminals port q) n) e ∙ slice_get-set_same terminals port q (slice_get_within terminals port p there),
+        subst (λ (n : Place). IsServed n one.steps r q) same_place (subst (λ (x : Terminal). IsServed at one.steps x q) same_terminal one.served),
       )
-  | inr apart ↦
-      (r, slice_get-set_other terminals number other q apart ∙ is, served_silent pad other one.steps r (one.silent other apart))
+  | inr differ ↦ (
+    r,
+    slice_get-set_other terminals port other q differ ∙ is,
+    served_silent place one.steps r (one.silent place (apart_places places port other at place apart seat seated differ)),
+  )
 ]
 
-works_by-one : (L : LineService) (pad number : ℕ) (Wish : Terminal → Event → Type 0) (more : Bool) (s t : Network) (p q : Terminal) (terminals : List Terminal)
-    (one : Serves L pad number Wish more s t p q) → slice_get terminals number ≡ Some p → WorksBy L pad one.steps s t terminals (set terminals number q)
-works_by-one L pad number Wish more s t p q terminals one there = record {
+works_by-one : (L : LineService) (places : List Place) (port : ℕ) (at : Place) (Wish : Terminal → Event → Type 0) (more : Bool) (s t : ProcessState) (p q : Terminal)
+    (terminals : List Terminal) (one : Serves L at Wish more s t p q) → AreApart places → slice_get places port ≡ Some at → slice_get terminals port ≡ Some p
+    → WorksBy L places one.steps s t terminals (set terminals port q)
+works_by-one L places port at Wish more s t p q terminals one apart seat there = record {
   made = one.made;
-  count = length-set terminals number q;
-  each = λ other r is. one_at L pad number Wish more s t p q terminals one there other r is;
+  count = length-set terminals port q;
+  each = λ other place r seated is. one_at L places port at Wish more s t p q terminals one apart seat there other place r seated is;
 }
 
-set_same : (terminals : List Terminal) (number : ℕ) (p : Terminal) → slice_get terminals number ≡ Some p → set terminals number p ≡ terminals
-set_same [] number p there = cc
+set_same : (terminals : List Terminal) (port : ℕ) (p : Terminal) → slice_get terminals port ≡ Some p → set terminals port p ≡ terminals
+set_same [] port p there = cc
 set_same (q ∷ terminals) zero p there = let is : p ≡ q = cc in ap (λ r. r ∷ terminals) is
-set_same (q ∷ terminals) (suc number) p there = ap (λ rest. q ∷ rest) (set_same terminals number p there)
+set_same (q ∷ terminals) (suc port) p there = ap (λ rest. q ∷ rest) (set_same terminals port p there)
 
-pub below_none : (L : LineService) (pad : ℕ) (s : Network) (terminals : List Terminal) → ServesBelow L pad 0 false s s terminals terminals
-below_none L pad s terminals = record {
+pub below_none : (L : LineService) (places : List Place) (s : ProcessState) (terminals : List Terminal) → ServesBelow L places 0 false s s terminals terminals
+below_none L places s terminals = record {
   steps = [];
-  works = works_by-none L pad s terminals;
+  works = works_by-none L places s terminals;
   same = λ none. refl;
   idle = λ none. refl;
-  tried = λ none number q event below there wish. absurd (omega arith);
+  tried = λ none port at q event below seat there wish. absurd (omega arith);
 }
 
 -- what the terminals below the next number wish
-tried_below : (pad number : ℕ) (xs ys : List Step) (q : Terminal) (between : List Terminal) (p : Terminal)
-    → slice_get between number ≡ Some p
-    → ((other : ℕ) (r : Terminal) (event : Event) → other < number → slice_get between other ≡ Some r → Wishes pad other r event → HasTried event xs)
-    → ((event : Event) → Wishes pad number q event → HasTried event ys)
-    → (other : ℕ) (r : Terminal) (event : Event) → other < number + 1 → slice_get (set between number q) other ≡ Some r → Wishes pad other r event
-    → HasTried event (xs ++ ys)
-tried_below pad number xs ys q between p there before here other r event below is wish = elim (cases_eq other number) [
+tried_below : (places : List Place) (port : ℕ) (at : Place) (xs ys : List Step) (q : Terminal) (between : List Terminal) (p : Terminal)
+    → slice_get places port ≡ Some at → slice_get between port ≡ Some p
+    → ((other : ℕ) (place : Place) (r : Terminal) (event : Event) → other < port → slice_get places other ≡ Some place → slice_get between other ≡ Some r
+    → Wishes place r event → HasTried event xs)
+    → ((event : Event) → Wishes at q event → HasTried event ys)
+    → (other : ℕ) (place : Place) (r : Terminal) (event : Event) → other < port + 1 → slice_get places other ≡ Some place
+    → slice_get (set between port q) other ≡ Some r → Wishes place r event → HasTried event (xs ++ ys)
+tried_below places port at xs ys q between p seat there before here other place r event below seated is wish = elim (cases_eq other port) [
   | inl e ↦
-      let at : slice_get (set between number q) number ≡ Some q = slice_get-set_same between number q (slice_get_within between number p there) in
-      let found : slice_get (set between number q) number ≡ Some r = ap (λ n. slice_get (set between number q) n) (sym e) ∙ is in
+      let set_there : slice_get (set between port q) port ≡ Some q = slice_get-set_same between port q (slice_get_within between port p there) in
+      let found : slice_get (set between port q) port ≡ Some r = ap (λ n. slice_get (set between port q) n) (sym e) ∙ is in
       let same_terminal : r ≡ q = cc in
-      tried-right event xs ys (here event (subst (λ n. Wishes pad n q event) e (subst (λ (x : Terminal). Wishes pad other x event) same_terminal wish)))
-  | inr apart ↦
-      let lower : other < number = omega arith in
-      tried-left event xs ys (before other r event lower (sym (slice_get-set_other between number other q apart) ∙ is) wish)
+      let seated_here : slice_get places port ≡ Some place = ap (λ n. slice_get places n) (sym e) ∙ seated in
+      let same_place : place ≡ at = cc in
+      tried-right event xs ys (here event (subst (λ (n : Place). Wishes n q event) same_place (subst (λ (x : Terminal). Wishes place x event) same_terminal wish)))
+  | inr differ ↦
+      let lower : other < port = omega arith in
+      tried-left event xs ys (before other place r event lower seated (sym (slice_get-set_other between port other q differ) ∙ is) wish)
 ]
 
-pub below_more : (L : LineService) (pad number : ℕ) (any done : Bool) (s m t : Network) (before between : List Terminal) (p q : Terminal)
-    → ServesBelow L pad number any s m before between → Serves L pad number (Wishes pad number) done m t p q → slice_get between number ≡ Some p
-    → ServesBelow L pad (number + 1) (any || done) s t before (set between number q)
-below_more L pad number any done s m t before between p q one two there = record {
+pub below_more : (L : LineService) (places : List Place) (port : ℕ) (at : Place) (any done : Bool) (s m t : ProcessState) (before between : List Terminal) (p q : Terminal)
+    → AreApart places → ServesBelow L places port any s m before between → Serves L at (Wishes at) done m t p q
+    → slice_get places port ≡ Some at → slice_get between port ≡ Some p → ServesBelow L places (port + 1) (any || done) s t before (set between port q)
+below_more L places port at any done s m t before between p q apart one two seat there = record {
   steps = one.steps ++ two.steps;
-  works = works_by-then L pad one.steps two.steps s m t before between (set between number q) one.works
-      (works_by-one L pad number (Wishes pad number) done m t p q between two there);
+  works = works_by-then L places one.steps two.steps s m t before between (set between port q) one.works
+      (works_by-one L places port at (Wishes at) done m t p q between two apart seat there);
   same = λ none.
-      ap (λ r. set between number r) (two.same (neither_right any done none))
-      ∙ set_same between number p there
+      ap (λ r. set between port r) (two.same (neither_right any done none))
+      ∙ set_same between port p there
       ∙ one.same (neither_left any done none);
   idle = λ none. idle-append one.steps two.steps (one.idle (neither_left any done none)) (two.idle (neither_right any done none));
-  tried = λ none. tried_below pad number one.steps two.steps q between p there (one.tried (neither_left any done none)) (two.tried (neither_right any done none));
+  tried = λ none. tried_below places port at one.steps two.steps q between p seat there (one.tried (neither_left any done none)) (two.tried (neither_right any done none));
 }
 
 -- an element that is read at its place is there
-pub there_at : (terminals : List Terminal) (place : ℕ) (p : Terminal) → place < length terminals → p ≡ get_or terminals place p
-    → slice_get terminals place ≡ Some p
-there_at [] place p within is = absurd (omega arith)
-there_at (q ∷ terminals) zero p within is = ap Some (sym is)
-there_at (q ∷ terminals) (suc place) p within is = there_at terminals place p (omega arith) is
+pub there_at : {X : Type 0} (xs : List X) (place : ℕ) (x d : X) → place < length xs → x ≡ get_or xs place d → slice_get xs place ≡ Some x
+there_at [] place x d within is = absurd (omega arith)
+there_at (y ∷ xs) zero x d within is = ap Some (sym is)
+there_at (y ∷ xs) (suc place) x d within is = there_at xs place x d (omega arith) is
 
 -- ---- all lines
 
-pub delivers_none : (L : LineService) (s : Network) → DeliversBelow L 0 false s s
+pub delivers_none : (L : LineService) (s : ProcessState) → DeliversBelow L 0 false s s
 delivers_none L s = record {
   steps = [];
-  passes = record { made = refl; silent = λ pad number. silent-none pad number; idle = λ none. refl };
+  passes = record { made = refl; silent = λ at. silent-none at; idle = λ none. refl };
   tried = λ none line direction below. absurd (omega arith);
 }
 
@@ -148,7 +164,7 @@ here_or_below other line P before below = elim (cases_eq other line) [
   | inr apart ↦ let lower : other < line = omega arith in inr (before lower)
 ]
 
-pub delivers_more : (L : LineService) (line : ℕ) (any dte dce : Bool) (s m n t : Network) → DeliversBelow L line any s m
+pub delivers_more : (L : LineService) (line : ℕ) (any dte dce : Bool) (s m n t : ProcessState) → DeliversBelow L line any s m
     → Does L (Deliver line FromDte) dte m n → Does L (Deliver line FromDce) dce n t → DeliversBelow L (line + 1) (any || (dte || dce)) s t
 delivers_more L line any dte dce s m n t one from_dte from_dce =
     let ys : List Step = record { event = Deliver line FromDte; answer = from_dte.answer } ∷ [] in
@@ -169,14 +185,14 @@ delivers_more L line any dte dce s m n t one from_dte from_dce =
 
 -- ---- the timer that is due
 
-pub expires_none : (L : LineService) (s : Network) → net_due s ≡ None → Expires L false s s
+pub expires_none : (L : LineService) (s : ProcessState) → ((place : ℕ) → due_here s place ≡ None) → Expires L false s s
 expires_none L s due = record {
   steps = [];
-  passes = record { made = refl; silent = λ pad number. silent-none pad number; idle = λ none. refl };
+  passes = record { made = refl; silent = λ at. silent-none at; idle = λ none. refl };
   none = λ none. inl due;
 }
 
-pub expires_one : (L : LineService) (event : Event) (done : Bool) (s t : Network) → is_at_terminal event ≡ false → is_expiry event ≡ true
+pub expires_one : (L : LineService) (event : Event) (done : Bool) (s t : ProcessState) → is_at_terminal event ≡ false → is_expiry event ≡ true
     → Does L event done s t → Expires L done s t
 expires_one L event done s t other expiry does = record {
   steps = record { event = event; answer = does.answer } ∷ [];
@@ -186,22 +202,22 @@ expires_one L event done s t other expiry does = record {
 
 -- ---- a round
 
-within_before : (number : ℕ) (q : Terminal) (after before : List Terminal) → slice_get after number ≡ Some q → length after ≡ length before
-    → number < length before
-within_before number q after before there count =
-    let within = slice_get_within after number q there in
+within_before : (port : ℕ) (q : Terminal) (after before : List Terminal) → slice_get after port ≡ Some q → length after ≡ length before
+    → port < length before
+within_before port q after before there count =
+    let within = slice_get_within after port q there in
     omega arith
 
-due_among : (xs ys zs ws : List Step) (t : Network) → NoneIsDue t ws → NoneIsDue t (xs ++ (ys ++ (zs ++ ws)))
+due_among : (xs ys zs ws : List Step) (t : ProcessState) → NoneIsDue t ws → NoneIsDue t (xs ++ (ys ++ (zs ++ ws)))
 due_among xs ys zs ws t (inl none) = inl none
 due_among xs ys zs ws t (inr one) =
     inr (one.0, one.1, tried-right one.0 xs (ys ++ (zs ++ ws)) (tried-right one.0 ys (zs ++ ws) (tried-right one.0 zs ws one.2)))
 
-pub rounds : (L : LineService) (pad lines : ℕ) (served called moved expired more : Bool) (s a b c t : Network) (before after : List Terminal)
+pub rounds : (L : LineService) (places : List Place) (lines : ℕ) (served called moved expired more : Bool) (s a b c t : ProcessState) (before after : List Terminal)
     → (more ≡ false → (served ≡ false) × (called ≡ false) × (moved ≡ false) × (expired ≡ false))
-    → ServesBelow L pad (length before) served s a before after → Passes L called a b → DeliversBelow L lines moved b c → Expires L expired c t
-    → Works L pad lines more s t before after
-rounds L pad lines served called moved expired more s a b c t before after nothing one two three four =
+    → ServesBelow L places (length before) served s a before after → Passes L called a b → DeliversBelow L lines moved b c → Expires L expired c t
+    → Works L places lines more s t before after
+rounds L places lines served called moved expired more s a b c t before after nothing one two three four =
     let xs = one.steps in
     let ys = two.0 in
     let zs = three.steps in
@@ -211,11 +227,11 @@ rounds L pad lines served called moved expired more s a b c t before after nothi
     record {
       steps = [];
       last = xs ++ (ys ++ (zs ++ ws));
-      works = works_by-then L pad xs (ys ++ (zs ++ ws)) s a t before after after one.works (works_by-pass L pad (ys ++ (zs ++ ws)) more a t after last_three);
+      works = works_by-then L places xs (ys ++ (zs ++ ws)) s a t before after after one.works (works_by-pass L places (ys ++ (zs ++ ws)) more a t after last_three);
       rests = λ none. record {
         idle = idle-append xs (ys ++ (zs ++ ws)) (one.idle (nothing none).0) (last_three.idle none);
-        terminals_tried = λ number q event there wish. tried-left event xs (ys ++ (zs ++ ws))
-            (one.tried (nothing none).0 number q event (within_before number q after before there one.works.count) there wish);
+        terminals_tried = λ port at q event seat there wish. tried-left event xs (ys ++ (zs ++ ws))
+            (one.tried (nothing none).0 port at q event (within_before port q after before there one.works.count) seat there wish);
         lines_tried = λ line direction below. tried-right (Deliver line direction) xs (ys ++ (zs ++ ws))
             (tried-right (Deliver line direction) ys (zs ++ ws) (tried-left (Deliver line direction) zs ws (three.tried (nothing none).2 line direction below)));
         none_is_due = due_among xs ys zs ws t (four.none (nothing none).3);
@@ -224,38 +240,42 @@ rounds L pad lines served called moved expired more s a b c t before after nothi
 
 -- ---- round after round
 
-pub works_start : (L : LineService) (pad lines : ℕ) (s : Network) (terminals : List Terminal) → Works L pad lines true s s terminals terminals
-works_start L pad lines s terminals = record {
+pub works_start : (L : LineService) (places : List Place) (lines : ℕ) (s : ProcessState) (terminals : List Terminal) → Works L places lines true s s terminals terminals
+works_start L places lines s terminals = record {
   steps = [];
   last = [];
-  works = works_by-none L pad s terminals;
+  works = works_by-none L places s terminals;
   rests = λ none. cc;
 }
 
-pub works_then : (L : LineService) (pad lines : ℕ) (more : Bool) (s m t : Network) (before between after : List Terminal)
-    → Works L pad lines true s m before between → Works L pad lines more m t between after → Works L pad lines more s t before after
-works_then L pad lines more s m t before between after one two = record {
+pub works_then : (L : LineService) (places : List Place) (lines : ℕ) (more : Bool) (s m t : ProcessState) (before between after : List Terminal)
+    → Works L places lines true s m before between → Works L places lines more m t between after → Works L places lines more s t before after
+works_then L places lines more s m t before between after one two = record {
   steps = (one.steps ++ one.last) ++ two.steps;
   last = two.last;
-  works = subst (λ steps. WorksBy L pad steps s t before after) (sym (append_assoc (one.steps ++ one.last) two.steps two.last))
-      (works_by-then L pad (one.steps ++ one.last) (two.steps ++ two.last) s m t before between after one.works two.works);
+  works = subst (λ steps. WorksBy L places steps s t before after) (sym (append_assoc (one.steps ++ one.last) two.steps two.last))
+      (works_by-then L places (one.steps ++ one.last) (two.steps ++ two.last) s m t before between after one.works two.works);
   rests = two.rests;
 }
 
-pub works_on : (L : LineService) (pad lines here there : ℕ) (done more : Bool) (s m t : Network) (before between after : List Terminal)
-    → here ≡ pad → there ≡ lines → done ≡ more → Works L pad lines true s m before between → Works L here there done m t between after
-    → Works L pad lines more s t before after
-works_on L pad lines here there done more s m t before between after pad_is lines_is more_is one two =
-    works_then L pad lines more s m t before between after one
-    (subst (λ b. Works L pad lines b m t between after) more_is
-    (subst (λ n. Works L pad n done m t between after) lines_is
-    (subst (λ n. Works L n there done m t between after) pad_is two)))
+pub works_on : (L : LineService) (places here : List Place) (lines there : ℕ) (done more : Bool) (s m t : ProcessState) (before between after : List Terminal)
+    → here ≡ places → there ≡ lines → done ≡ more → Works L places lines true s m before between → Works L here there done m t between after
+    → Works L places lines more s t before after
+works_on L places here lines there done more s m t before between after places_is lines_is more_is one two =
+    works_then L places lines more s m t before between after one
+    (subst (λ b. Works L places lines b m t between after) more_is
+    (subst (λ n. Works L places n done m t between after) lines_is
+    (subst (λ n. Works L n there done m t between after) places_is two)))
 
-pub below_all : (L : LineService) (pad below all : ℕ) (more : Bool) (s t : Network) (before after : List Terminal) → below ≡ all
-    → ServesBelow L pad below more s t before after → ServesBelow L pad all more s t before after
-below_all L pad below all more s t before after is serves = subst (λ n. ServesBelow L pad n more s t before after) is serves
+pub works_at : (L : LineService) (there places : List Place) (lines : ℕ) (more : Bool) (s t : ProcessState) (before after : List Terminal)
+    → there ≡ places → Works L there lines more s t before after → Works L places lines more s t before after
+works_at L there places lines more s t before after is works = subst (λ (n : List Place). Works L n lines more s t before after) is works
 
-pub delivers_all : (L : LineService) (below all : ℕ) (more : Bool) (s t : Network) → below ≡ all → DeliversBelow L below more s t
+pub below_all : (L : LineService) (places : List Place) (below all : ℕ) (more : Bool) (s t : ProcessState) (before after : List Terminal) → below ≡ all
+    → ServesBelow L places below more s t before after → ServesBelow L places all more s t before after
+below_all L places below all more s t before after is serves = subst (λ n. ServesBelow L places n more s t before after) is serves
+
+pub delivers_all : (L : LineService) (below all : ℕ) (more : Bool) (s t : ProcessState) → below ≡ all → DeliversBelow L below more s t
     → DeliversBelow L all more s t
 delivers_all L below all more s t is delivers = subst (λ n. DeliversBelow L n more s t) is delivers
 

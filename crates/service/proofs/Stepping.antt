@@ -1,5 +1,6 @@
 -- Steps one after the other, and steps that are nothing at a terminal.
 use Rattle.std.proofs.Common.{◌≡◌, ◌≢◌, ℕ, Bool, true, false, List, [], ◌∷◌, ◌++◌, refl, sym, ap, ◌∙◌, subst, append-nil, Result, Ok, Err, Option, Some, None, not, ◌&&◌, ◌||◌, map, arith}
+use Rattle.std.specs.Prelude.{slice_get, if◌then◌else◌}
 use Rattle.std.specs.List.{Contains, list_all}
 use Rattle.std.proofs.lemmas.List.{map-append}
 use Rattle.std.proofs.lemmas.Grind.{flat_map-append}
@@ -12,44 +13,45 @@ use Rattle.net_events.specs.declared.event.Event.{Event}
 use Rattle.net_events.specs.declared.event.Event.TheVariants.{AtTerminal, Call, Ask, Take, Deliver, Lose, Expire, Relink, GivesUp, Restart}
 use Rattle.net_events.specs.declared.event.StepFault.{StepFault}
 use Rattle.net_events.specs.declared.answer.Answer.{Answer}
-use Rattle.net_events.specs.Network.{Network}
-use Rattle.net_events.specs.NextDue.{DueTimer}
-use Rattle.net_nodes.specs.Due.{expiry_of}
+use Rattle.net_process.specs.Process.{ProcessState, runs, IsDueFirst}
+use Rattle.link_timers.specs.declared.timers.TimerId.{TimerId}
+use Rattle.net_nodes.specs.Due.{due_in, expiry_at}
 use Rattle.line_sim.specs.Stepping.{lent}
+use Rattle.service.specs.declared.place.Place.{Place}
 use Rattle.service.specs.Serving.{is_expiry}
 use Rattle.service.specs.Steps.{Step, Makes, Steps, is_idle, is_idle_answer, AreIdle, HasTried, is_at_terminal, shown_by, typed_by, told_by, shown, typed, told, IsSilent, Does, PassesBy, Passes}
 
-pub steps-append : (L : LineService) (s m t : Network) (xs ys : List Step) → Steps L s xs m → Steps L m ys t → Steps L s (xs ++ ys) t
+pub steps-append : (L : LineService) (s m t : ProcessState) (xs ys : List Step) → Steps L s xs m → Steps L m ys t → Steps L s (xs ++ ys) t
 steps-append L s m t [] ys none more = subst (λ n. Steps L n ys t) (sym none) more
 steps-append L s m t (x ∷ xs) ys (mid, stepped, rest) more = (mid, stepped, steps-append L mid m t xs ys rest more)
 
-pub shown-append : (pad number : ℕ) (xs ys : List Step) → shown pad number (xs ++ ys) ≡ shown pad number xs ++ shown pad number ys
-shown-append pad number xs ys = flat_map-append (λ (step : Step). shown_by pad number step.event step.answer) xs ys
+pub shown-append : (at : Place) (xs ys : List Step) → shown at (xs ++ ys) ≡ shown at xs ++ shown at ys
+shown-append at xs ys = flat_map-append (λ (step : Step). shown_by at step.event step.answer) xs ys
 
-pub typed-append : (pad number : ℕ) (xs ys : List Step) → typed pad number (xs ++ ys) ≡ typed pad number xs ++ typed pad number ys
-typed-append pad number xs ys = flat_map-append (λ (step : Step). typed_by pad number step.event step.answer) xs ys
+pub typed-append : (at : Place) (xs ys : List Step) → typed at (xs ++ ys) ≡ typed at xs ++ typed at ys
+typed-append at xs ys = flat_map-append (λ (step : Step). typed_by at step.event step.answer) xs ys
 
-pub told-append : (pad number : ℕ) (xs ys : List Step) → told pad number (xs ++ ys) ≡ told pad number xs ++ told pad number ys
-told-append pad number xs ys = flat_map-append (λ (step : Step). told_by pad number step.event step.answer) xs ys
+pub told-append : (at : Place) (xs ys : List Step) → told at (xs ++ ys) ≡ told at xs ++ told at ys
+told-append at xs ys = flat_map-append (λ (step : Step). told_by at step.event step.answer) xs ys
 
-pub silent-none : (pad number : ℕ) → IsSilent pad number []
-silent-none pad number = record { shows = refl; types = refl; tells = refl }
+pub silent-none : (at : Place) → IsSilent at []
+silent-none at = record { shows = refl; types = refl; tells = refl }
 
-pub silent-append : (pad number : ℕ) (xs ys : List Step) → IsSilent pad number xs → IsSilent pad number ys → IsSilent pad number (xs ++ ys)
-silent-append pad number xs ys one two = record {
-  shows = shown-append pad number xs ys ∙ (λ i. one.shows i ++ two.shows i);
-  types = typed-append pad number xs ys ∙ (λ i. one.types i ++ two.types i);
-  tells = told-append pad number xs ys ∙ (λ i. one.tells i ++ two.tells i);
+pub silent-append : (at : Place) (xs ys : List Step) → IsSilent at xs → IsSilent at ys → IsSilent at (xs ++ ys)
+silent-append at xs ys one two = record {
+  shows = shown-append at xs ys ∙ (λ i. one.shows i ++ two.shows i);
+  types = typed-append at xs ys ∙ (λ i. one.types i ++ two.types i);
+  tells = told-append at xs ys ∙ (λ i. one.tells i ++ two.tells i);
 }
 
 -- one step that is nothing there
-pub silent_step : (pad number : ℕ) (event : Event) (answer : Result Answer StepFault) → shown_by pad number event answer ≡ []
-    → typed_by pad number event answer ≡ [] → told_by pad number event answer ≡ []
-    → IsSilent pad number (record { event = event; answer = answer } ∷ [])
-silent_step pad number event answer shows types tells = record {
-  shows = append-nil (shown_by pad number event answer) ∙ shows;
-  types = append-nil (typed_by pad number event answer) ∙ types;
-  tells = append-nil (told_by pad number event answer) ∙ tells;
+pub silent_step : (at : Place) (event : Event) (answer : Result Answer StepFault) → shown_by at event answer ≡ []
+    → typed_by at event answer ≡ [] → told_by at event answer ≡ []
+    → IsSilent at (record { event = event; answer = answer } ∷ [])
+silent_step at event answer shows types tells = record {
+  shows = append-nil (shown_by at event answer) ∙ shows;
+  types = append-nil (typed_by at event answer) ∙ types;
+  tells = append-nil (told_by at event answer) ∙ tells;
 }
 
 -- ---- idle steps, and events that were tried
@@ -102,27 +104,27 @@ was_done done answer is some = is_false (is_idle answer) (sym is ∙ some)
 -- ---- what happens elsewhere
 
 -- it shows nothing at a terminal, types nothing there and tells nothing of it
-pub elsewhere : (pad number : ℕ) (event : Event) (answer : Result Answer StepFault) → is_at_terminal event ≡ false
-    → IsSilent pad number (record { event = event; answer = answer } ∷ [])
-elsewhere pad number (AtTerminal node terminal event) answer e = cc
-elsewhere pad number (Call node address octets) answer e = silent_step pad number (Call node address octets) answer refl refl refl
-elsewhere pad number (Ask node channel request) answer e = silent_step pad number (Ask node channel request) answer refl refl refl
-elsewhere pad number (Take node channel) answer e = silent_step pad number (Take node channel) answer refl refl refl
-elsewhere pad number (Deliver line direction) answer e = silent_step pad number (Deliver line direction) answer refl refl refl
-elsewhere pad number (Lose line direction) answer e = silent_step pad number (Lose line direction) answer refl refl refl
-elsewhere pad number (Expire node line timer) answer e = silent_step pad number (Expire node line timer) answer refl refl refl
-elsewhere pad number (Relink line) answer e = silent_step pad number (Relink line) answer refl refl refl
-elsewhere pad number (GivesUp line) answer e = silent_step pad number (GivesUp line) answer refl refl refl
-elsewhere pad number (Restart node) answer e = silent_step pad number (Restart node) answer refl refl refl
+pub elsewhere : (at : Place) (event : Event) (answer : Result Answer StepFault) → is_at_terminal event ≡ false
+    → IsSilent at (record { event = event; answer = answer } ∷ [])
+elsewhere at (AtTerminal node terminal event) answer e = cc
+elsewhere at (Call node address octets) answer e = silent_step at (Call node address octets) answer refl refl refl
+elsewhere at (Ask node channel request) answer e = silent_step at (Ask node channel request) answer refl refl refl
+elsewhere at (Take node channel) answer e = silent_step at (Take node channel) answer refl refl refl
+elsewhere at (Deliver line direction) answer e = silent_step at (Deliver line direction) answer refl refl refl
+elsewhere at (Lose line direction) answer e = silent_step at (Lose line direction) answer refl refl refl
+elsewhere at (Expire node line timer) answer e = silent_step at (Expire node line timer) answer refl refl refl
+elsewhere at (Relink line) answer e = silent_step at (Relink line) answer refl refl refl
+elsewhere at (GivesUp line) answer e = silent_step at (GivesUp line) answer refl refl refl
+elsewhere at (Restart node) answer e = silent_step at (Restart node) answer refl refl refl
 
-pub passes_none : (L : LineService) (more : Bool) (s : Network) → Passes L more s s
-passes_none L more s = ([], record { made = refl; silent = λ pad number. silent-none pad number; idle = λ none. refl })
+pub passes_none : (L : LineService) (more : Bool) (s : ProcessState) → Passes L more s s
+passes_none L more s = ([], record { made = refl; silent = λ at. silent-none at; idle = λ none. refl })
 
-pub passes_by-then : (L : LineService) (a b more : Bool) (s m t : Network) (xs ys : List Step) → (more ≡ false → a ≡ false)
+pub passes_by-then : (L : LineService) (a b more : Bool) (s m t : ProcessState) (xs ys : List Step) → (more ≡ false → a ≡ false)
     → (more ≡ false → b ≡ false) → PassesBy L xs a s m → PassesBy L ys b m t → PassesBy L (xs ++ ys) more s t
 passes_by-then L a b more s m t xs ys no_a no_b one two = record {
   made = steps-append L s m t xs ys one.made two.made;
-  silent = λ pad number. silent-append pad number xs ys (one.silent pad number) (two.silent pad number);
+  silent = λ at. silent-append at xs ys (one.silent at) (two.silent at);
   idle = λ none. idle-append xs ys (one.idle (no_a none)) (two.idle (no_b none));
 }
 
@@ -134,40 +136,51 @@ pub neither_right : (a b : Bool) → (a || b) ≡ false → b ≡ false
 neither_right true b none = cc
 neither_right false b none = none
 
-pub passes-then : (L : LineService) (a b : Bool) (s m t : Network) → Passes L a s m → Passes L b m t → Passes L (a || b) s t
+pub passes-then : (L : LineService) (a b : Bool) (s m t : ProcessState) → Passes L a s m → Passes L b m t → Passes L (a || b) s t
 passes-then L a b s m t one two =
     (one.0 ++ two.0, passes_by-then L a b (a || b) s m t one.0 two.0 (λ none. neither_left a b none) (λ none. neither_right a b none) one.1 two.1)
 
-pub passes_at : (L : LineService) (a b : Bool) (s t : Network) → a ≡ b → Passes L a s t → Passes L b s t
+pub passes_at : (L : LineService) (a b : Bool) (s t : ProcessState) → a ≡ b → Passes L a s t → Passes L b s t
 passes_at L a b s t is passes = subst (λ more. Passes L more s t) is passes
 
 -- one step, at no terminal
-pub passes_step : (L : LineService) (event : Event) (done : Bool) (s t : Network) → is_at_terminal event ≡ false
+pub passes_step : (L : LineService) (event : Event) (done : Bool) (s t : ProcessState) → is_at_terminal event ≡ false
     → (does : Does L event done s t) → PassesBy L (record { event = event; answer = does.answer } ∷ []) done s t
 passes_step L event done s t other does = record {
   made = (t, does.stepped, refl);
-  silent = λ pad number. elsewhere pad number event does.answer other;
+  silent = λ at. elsewhere at event does.answer other;
   idle = λ none. idle_step event does.answer (not_done done does.answer does.done_is none);
 }
 
-pub passes_does : (L : LineService) (event : Event) (done : Bool) (s t : Network) → is_at_terminal event ≡ false
+pub passes_does : (L : LineService) (event : Event) (done : Bool) (s t : ProcessState) → is_at_terminal event ≡ false
     → Does L event done s t → Passes L done s t
 passes_does L event done s t other does = (record { event = event; answer = does.answer } ∷ [], passes_step L event done s t other does)
 
 -- what is due is no event at a terminal
-pub expiry_elsewhere : (due : Option DueTimer) (event : Event) → expiry_of due ≡ Some event
-    → (is_at_terminal event ≡ false) × (is_expiry event ≡ true)
-expiry_elsewhere None event is = cc
-expiry_elsewhere (Some timer) event is =
-    let same : event ≡ Expire timer.place timer.line timer.timer = cc in
+abbrev IsElsewhere : Event → Type 0
+IsElsewhere event = (is_at_terminal event ≡ false) × (is_expiry event ≡ true)
+
+expiry_at_elsewhere : (place : ℕ) (due : Option (ℕ × TimerId)) (event : Event) → expiry_at place due ≡ Some event → IsElsewhere event
+expiry_at_elsewhere place None event is = cc
+expiry_at_elsewhere place (Some timer) event is =
+    let same : event ≡ Expire place timer.0 timer.1 = cc in
     (ap is_at_terminal same, ap is_expiry same)
+
+expiry_if_elsewhere : (here : Bool) (place : ℕ) (due : Option (ℕ × TimerId)) (event : Event)
+    → (if here then expiry_at place due else None) ≡ Some event → IsElsewhere event
+expiry_if_elsewhere true place due event is = expiry_at_elsewhere place due event is
+expiry_if_elsewhere false place due event is = cc
+
+pub expiry_elsewhere : (event : Event) (p : ProcessState) → IsDueFirst event p → IsElsewhere event
+expiry_elsewhere event p first =
+    expiry_if_elsewhere (runs p first.place) first.place (due_in (slice_get p.part.nodes first.place)) event first.here
 
 -- ---- the answer that a step lends
 
 abbrev pub Lent : Type 0
 Lent = Result (Bor Answer) StepFault
 
-pub does_lent : (L : LineService) (event : Event) (r : Lent) (answer : Bor Answer) (idle : Bool) (s t : Network)
+pub does_lent : (L : LineService) (event : Event) (r : Lent) (answer : Bor Answer) (idle : Bool) (s t : ProcessState)
     → Makes L s (record { event = event; answer = lent r }) t → r ≡ Ok answer
     → idle ≡ is_idle_answer answer.now → Does L event (not idle) s t
 does_lent L event r answer idle s t stepped ok idle_is = record {
@@ -176,7 +189,7 @@ does_lent L event r answer idle s t stepped ok idle_is = record {
   done_is = ap not (idle_is ∙ sym (ap (λ a. is_idle (lent a)) ok));
 }
 
-pub does_refused : (L : LineService) (event : Event) (r : Lent) (fault : StepFault) (s t : Network)
+pub does_refused : (L : LineService) (event : Event) (r : Lent) (fault : StepFault) (s t : ProcessState)
     → Makes L s (record { event = event; answer = lent r }) t → r ≡ Err fault → Does L event false s t
 does_refused L event r fault s t stepped err = record {
   answer = lent r;

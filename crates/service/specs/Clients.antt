@@ -1,12 +1,16 @@
 -- A client at a port, from when it came on: what it sent, what it was shown, and what was handed to its connection.
-use Rattle.std.specs.Prelude.{◌≡◌, ◌+◌, ◌*◌, ℕ, Bool, true, false, nat_le, List, [], ◌∷◌, ◌++◌, take, length, if◌then◌else◌}
-use Rattle.service_ports.specs.ClientForm.{text_read, in_text}
-use Rattle.service_ports.specs.Ports.{begun, octet_places}
-use Rattle.service_ports.specs.Reading.{new_reader, keys_read}
+use Rattle.std.specs.Prelude.{◌≡◌, ◌&&◌, ℕ, Bool, true, List, [], ◌∷◌, ◌++◌, take, length, if◌then◌else◌}
+use Rattle.service_ports.specs.declared.mode.Mode.{Mode}
+use Rattle.service_ports.specs.Modes.{is_telnet, keys_heard, text_seen}
+use Rattle.service_ports.specs.Ports.{begun}
+use Rattle.service.specs.declared.place.Place.{Place}
+use Rattle.service.specs.declared.terminal.Phase.{Phase}
+use Rattle.service.specs.declared.terminal.Phase.TheVariants.{Open}
 use Rattle.service.specs.declared.terminal.Terminal.{Terminal}
-use Rattle.service.specs.Terminals.{attached, elapsed, ended, has_client, heard, is_open, ordered, written}
+use Rattle.service.specs.declared.terminal.TheConstants.{SILENT}
+use Rattle.service.specs.Terminals.{aged, attached, elapsed, ended, has_client, has_room, heard, is_open, is_too_silent, ordered, written}
 use Rattle.service.specs.Steps.{Step, shown, typed}
-use Rattle.service.specs.Serving.{Fate, fate_keys, pressed_keys, IsServed}
+use Rattle.service.specs.Serving.{Fate, Befall, IsServed}
 
 -- what is done at the port of a client: steps of the network, octets that it sent, octets that are written to it, ticks
 -- that pass, that it is to go, and an order that is given
@@ -18,19 +22,19 @@ pub data Deed : Type 0 where
   ends : Deed
   orders : Deed
 
-abbrev pub Did : (pad number : ℕ) → Deed → Terminal → Terminal → Type 0
-Did pad number (works steps) p q = IsServed pad number steps p q
-Did pad number (hears octets) p q = q ≡ heard octets p
-Did pad number (writes count) p q = q ≡ written count p
-Did pad number (waits ticks) p q = q ≡ elapsed ticks p
-Did pad number ends p q = q ≡ ended p
-Did pad number orders p q = q ≡ ordered p
+abbrev pub Did : (at : Place) → Deed → Terminal → Terminal → Type 0
+Did at (works steps) p q = IsServed at steps p q
+Did at (hears octets) p q = q ≡ heard octets p
+Did at (writes count) p q = q ≡ written count p
+Did at (waits ticks) p q = q ≡ elapsed ticks p
+Did at ends p q = q ≡ ended p
+Did at orders p q = q ≡ ordered p
 
 -- these things are done, one after the other, and the client is still there
-abbrev pub History : (pad number : ℕ) → Terminal → List Deed → Terminal → Type 0
-History pad number p [] q = p ≡ q
-History pad number p (deed ∷ deeds) q =
-    (mid : Terminal) × Did pad number deed p mid × (has_client mid.phase ≡ true) × History pad number mid deeds q
+abbrev pub History : (at : Place) → Terminal → List Deed → Terminal → Type 0
+History at p [] q = p ≡ q
+History at p (deed ∷ deeds) q =
+    (mid : Terminal) × Did at deed p mid × (has_client mid.phase ≡ true) × History at mid deeds q
 
 abbrev pub steps_in : Deed → List Step
 steps_in (works steps) = steps
@@ -44,40 +48,56 @@ abbrev pub written_in : Deed → Terminal → List ℕ
 written_in (writes count) p = take count p.port.output.octets
 written_in _ p = []
 
+-- what a client of telnet is told that was silent too long, if there is room
+abbrev pub told_in : Phase → (ticks : ℕ) → Terminal → List ℕ
+told_in Open ticks p =
+    if is_too_silent (aged ticks p) && (is_telnet p.port.mode && has_room (length SILENT) p.port) then SILENT else []
+told_in _ ticks p = []
+
+-- what is shown to it
+abbrev pub shown_in : (at : Place) → Deed → Terminal → List ℕ
+shown_in at (works steps) p = shown at steps
+shown_in at (waits ticks) p = told_in p.phase ticks p
+shown_in at _ p = []
+
 -- all of each, after those so far
 abbrev pub all_steps : (so_far : List Step) → List Deed → List Step
 all_steps so_far [] = so_far
 all_steps so_far (deed ∷ deeds) = all_steps (so_far ++ steps_in deed) deeds
 
-abbrev pub all_heard : (pad number : ℕ) (so_far : List ℕ) (p : Terminal) (deeds : List Deed) (q : Terminal)
-    → History pad number p deeds q → List ℕ
-all_heard pad number so_far p [] q history = so_far
-all_heard pad number so_far p (deed ∷ deeds) q history =
-    all_heard pad number (so_far ++ heard_in deed p) history.0 deeds q history.3
+abbrev pub all_heard : (at : Place) (so_far : List ℕ) (p : Terminal) (deeds : List Deed) (q : Terminal)
+    → History at p deeds q → List ℕ
+all_heard at so_far p [] q history = so_far
+all_heard at so_far p (deed ∷ deeds) q history =
+    all_heard at (so_far ++ heard_in deed p) history.0 deeds q history.3
 
-abbrev pub all_written : (pad number : ℕ) (so_far : List ℕ) (p : Terminal) (deeds : List Deed) (q : Terminal)
-    → History pad number p deeds q → List ℕ
-all_written pad number so_far p [] q history = so_far
-all_written pad number so_far p (deed ∷ deeds) q history =
-    all_written pad number (so_far ++ written_in deed p) history.0 deeds q history.3
+abbrev pub all_written : (at : Place) (so_far : List ℕ) (p : Terminal) (deeds : List Deed) (q : Terminal)
+    → History at p deeds q → List ℕ
+all_written at so_far p [] q history = so_far
+all_written at so_far p (deed ∷ deeds) q history =
+    all_written at (so_far ++ written_in deed p) history.0 deeds q history.3
 
--- Unless text was lost, which is told: a client of telnet that reads what was written and what waits reads the greeting
--- and all that steps showed at its terminal. What it typed, as telnet has it, went to the terminal in order: each key was
--- typed, or was overtaken, or waits.
-pub record IsClientServed (pad number : ℕ) (greeting : List ℕ) (steps : List Step) (written heard : List ℕ) (q : Terminal)
-    : Type 0 where
-  pub reads : q.has_lost ≡ false
-      → text_read in_text (written ++ q.port.output.octets) ≡ greeting ++ shown pad number steps
+abbrev pub all_shown : (at : Place) (so_far : List ℕ) (p : Terminal) (deeds : List Deed) (q : Terminal)
+    → History at p deeds q → List ℕ
+all_shown at so_far p [] q history = so_far
+all_shown at so_far p (deed ∷ deeds) q history =
+    all_shown at (so_far ++ shown_in at deed p) history.0 deeds q history.3
+
+-- A client that reads what was written and what waits, as its mode has it, reads all that was shown. What it typed, as its
+-- mode has it, went to the terminal: each key was typed, or was overtaken, or waits.
+pub record IsClientServed (at : Place) (mode : Mode) (has_xon : Bool) (steps : List Step)
+    (written heard shown : List ℕ) (q : Terminal) : Type 0 where
+  pub reads : text_seen mode (written ++ q.port.output.octets) ≡ shown
   pub fates : List Fate
-  pub keys : keys_read new_reader heard ≡ fate_keys fates ++ q.port.keys.items
-  pub typed_are : pressed_keys fates ≡ typed pad number steps
+  pub keys : Befall has_xon fates (keys_heard mode heard) (typed at steps) q.port.keys.items
 
-abbrev pub has_place : (greeting : List ℕ) → Bool
-has_place greeting = nat_le (length begun.output.octets + (2 * length greeting + 1)) octet_places
+-- there is room for the greeting of a new client
+abbrev pub is_greeted : Terminal → Bool
+is_greeted free = has_room (length free.terms.greeting.items) (begun free.port.mode)
 
--- so is each client who came and was shown a greeting that has place
+-- so is each client who came to a terminal that was free, if there is room for the greeting
 abbrev pub ClientsAreServed : Type 0
-ClientsAreServed = (pad number : ℕ) (greeting : List ℕ) (deeds : List Deed) (q : Terminal) → has_place greeting ≡ true
-    → (history : History pad number (attached greeting) deeds q)
-    → IsClientServed pad number greeting (all_steps [] deeds) (all_written pad number [] (attached greeting) deeds q history)
-    (all_heard pad number [] (attached greeting) deeds q history) q
+ClientsAreServed = (at : Place) (free : Terminal) (deeds : List Deed) (q : Terminal) → is_greeted free ≡ true
+    → (history : History at (attached free) deeds q)
+    → IsClientServed at free.port.mode free.terms.has_xon (all_steps [] deeds) (all_written at [] (attached free) deeds q history)
+    (all_heard at [] (attached free) deeds q history) (all_shown at free.terms.greeting.items (attached free) deeds q history) q

@@ -1,5 +1,12 @@
+pub mod Calls
+pub mod Places
 pub mod Terminals
+pub mod Seats
 pub mod Orders
 pub mod Steps
+pub mod Absent
 pub mod Serving
+pub mod Lines
 pub mod Clients
+pub mod Bridging
+pub mod Hello

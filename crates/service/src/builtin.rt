@@ -36,6 +36,7 @@ enum Stage {
 pub(crate) enum Turn {
     Rest,
     Answer,
+    Refuse,
     Take,
     SayHeld,
     SayTime,
@@ -59,18 +60,19 @@ impl Call {
         })
     }
 
-    /// What a service does next for it.
-    pub(crate) fn turn(&self, service: BuiltIn) -> Turn {
+    /// What a service does next for it. A host without one refuses it.
+    pub(crate) fn turn(&self, service: Option<BuiltIn>) -> Turn {
         match self.stage {
             Stage::Idle => Turn::Rest,
+            Stage::Ringing if service.is_none() => Turn::Refuse,
             Stage::Ringing => Turn::Answer,
             Stage::Said => Turn::AwaitConfirmation,
             Stage::Over => Turn::Clear,
             Stage::Open => match service {
-                BuiltIn::Echo if self.held.is_empty() => Turn::Take,
-                BuiltIn::Echo => Turn::SayHeld,
-                BuiltIn::Time => Turn::SayTime,
-                BuiltIn::Discard => Turn::Take,
+                Some(BuiltIn::Echo) if !self.held.is_empty() => Turn::SayHeld,
+                Some(BuiltIn::Time) => Turn::SayTime,
+                Some(BuiltIn::Echo | BuiltIn::Discard) => Turn::Take,
+                None => Turn::Clear,
             },
         }
     }

@@ -1,37 +1,58 @@
-//! A network and the built-in services of its hosts.
+//! A network, the calls at its hosts and their built-in services.
 ghost use Rattle.std.specs.Prelude.{◌≡◌, false};
+ghost use Rattle.line_nodes.specs.declared.terminal.TerminalEvent.TheVariants.{Leaves};
 ghost use Rattle.net_events.specs.declared.event.Event.TheVariants.{AtTerminal, Deliver};
+ghost use Rattle.service.specs.Serving.{DeliversBelow, Expires, Serves, WishesKeys, WishesPresence, WishesText, WishesXon};
 ghost use Rattle.service.specs.Steps.{Does, Passes, is_at_terminal, is_idle_answer, is_idle_outcome, key_event, presence_event};
-ghost use Rattle.service.specs.Serving.{DeliversBelow, Expires, Serves, WishesKey, WishesPresence, WishesText};
 
 use crate::builtin::Turn;
+use crate::calls::Calls;
 use crate::hosts::{HostChannel, Hosts};
-use crate::terminal::{Presence, Terminal};
+use crate::mail::Mail;
+use crate::passing::Passing;
+use crate::place::Place;
+use crate::terminal::{Presence, Terminal, XON};
 use clock_texts::utc_text;
-use line_sim::{Answer, Direction, Event, HostRequest, Line, Outcome, PadAnswer, TerminalEvent};
-use live_net::LiveNet;
+use frame_codec::FrameBuf;
+use line_sim::{
+    Answer, CallUser, Direction, Event, HostRequest, Line, Outcome, PadAnswer, TerminalEvent,
+    UserNote,
+};
+use net_process::Process;
 use service_ports::Key;
 use std::alloc::{AllocError, Global};
 
-/// A network, the built-in services of its hosts, and the time.
+/// A network, the calls at its hosts, their built-in services, and the time.
 #[derive(Drop)]
 pub(crate) struct Exchange<L: Line> {
     pub(crate) alloc: Global,
-    pub(crate) net: LiveNet<L>,
+    pub(crate) net: Process<L>,
     pub(crate) hosts: Hosts,
+    pub(crate) calls: Calls,
+    pub(crate) mail: Mail,
     pub(crate) seconds: i64,
+    /// What came last on a line to another process.
+    pub(crate) came: FrameBuf,
+    pub(crate) passing: Passing,
 }
 
 #[tactic(auto, using(crate::proofs::Stepping::passes_none))]
 impl<L: Line> Exchange<L> {
     /// Lets an event happen of which only the notes are wanted, and says whether it did anything.
-    fn happen(&mut self, event: &Event) -> bool
+    pub(crate) fn happen(&mut self, event: &Event) -> bool
         ensures does { Does L.service event.now result self.old.net self.new.net }
         ensures passes { is_at_terminal event.now ≡ false → Passes L.service result self.old.net self.new.net }
     {
         match self.net.step(event) {
             Ok(answer) => {
-                self.hosts.hear(answer.notes.as_slice());
+                hear(
+                    &mut self.hosts,
+                    &mut self.calls,
+                    &mut self.mail,
+                    self.seconds,
+                    answer.notes.as_slice(),
+                );
+                self.passing.see_all(answer);
                 !is_idle(answer)
             }
             Err(_) => false,
@@ -39,50 +60,75 @@ impl<L: Line> Exchange<L> {
     }
 
     /// Tells a PAD who is at a terminal, if it was not told yet, and says whether there was anything to tell.
-    pub(crate) fn tell(&mut self, pad: usize, number: u16, terminal: &mut Terminal) -> bool
-        ensures { Serves L.service pad number (WishesPresence pad number) result self.old.net self.new.net
-            terminal.old terminal.new }
+    pub(crate) fn tell(&mut self, at: Place, terminal: &mut Terminal) -> bool
+        ensures { Serves L.service at (WishesPresence at) result self.old.net self.new.net terminal.old terminal.new }
     {
         let Some(presence) = terminal.untold else {
             return false;
         };
-        if !self.happen(&at_terminal(pad, number, presence_event(presence))) {
+        if !self.happen(&at_terminal(at, presence_event(presence))) {
             return false;
         }
         terminal.untold = None;
         true
     }
 
+    /// Tells a PAD that nobody is at a terminal.
+    pub(crate) fn leave(&mut self, at: Place) -> bool
+        ensures { Does L.service (AtTerminal at.node at.number Leaves) result self.old.net self.new.net }
+    {
+        self.happen(&at_terminal(at, TerminalEvent::Leaves))
+    }
+
     /// Types the next key of a terminal, and says whether there was one that could be typed, or that others gave way to.
-    pub(crate) fn type_next(&mut self, pad: usize, number: u16, terminal: &mut Terminal) -> bool
-        ensures { Serves L.service pad number (WishesKey pad number) result self.old.net self.new.net
-            terminal.old terminal.new }
+    pub(crate) fn type_next(&mut self, at: Place, terminal: &mut Terminal) -> bool
+        ensures { Serves L.service at (WishesKeys at) result self.old.net self.new.net terminal.old terminal.new }
     {
         let Some(key) = terminal.next_key() else {
             return false;
         };
-        if self.happen(&at_terminal(pad, number, key_event(key))) {
+        if self.happen(&at_terminal(at, key_event(key))) {
             terminal.typed();
+            return true;
+        }
+        if self.hasten(at, terminal) {
             return true;
         }
         terminal.overtake()
     }
 
+    /// Types an XON before the keys that wait, and says whether there was one that could be typed.
+    fn hasten(&mut self, at: Place, terminal: &mut Terminal) -> bool
+        ensures { Serves L.service at (WishesXon at) result self.old.net self.new.net terminal.old terminal.new }
+    {
+        let Some(place) = terminal.find_xon() else {
+            return false;
+        };
+        if !self.happen(&at_terminal(at, TerminalEvent::Key(XON))) {
+            return false;
+        }
+        terminal.hastened(place);
+        true
+    }
+
     /// Shows what waits at a terminal, if a client is there to whom it can be shown, and says whether there was
     /// anything.
-    pub(crate) fn show_next(&mut self, pad: usize, number: u16, terminal: &mut Terminal) -> bool
-        ensures { Serves L.service pad number (WishesText pad number) result self.old.net self.new.net
-            terminal.old terminal.new }
+    pub(crate) fn show_next(&mut self, at: Place, terminal: &mut Terminal) -> bool
+        ensures { Serves L.service at (WishesText at) result self.old.net self.new.net terminal.old terminal.new }
     {
         if !terminal.may_show() {
             return false;
         }
-        match self
-            .net
-            .step(&at_terminal(pad, number, TerminalEvent::Print))
-        {
+        match self.net.step(&at_terminal(at, TerminalEvent::Print)) {
             Ok(answer) => {
-                self.hosts.hear(answer.notes.as_slice());
+                hear(
+                    &mut self.hosts,
+                    &mut self.calls,
+                    &mut self.mail,
+                    self.seconds,
+                    answer.notes.as_slice(),
+                );
+                self.passing.see_all(answer);
                 if is_idle(answer) {
                     return false;
                 }
@@ -116,11 +162,12 @@ impl<L: Line> Exchange<L> {
         match turn {
             Turn::Rest => false,
             Turn::Answer => self.answer(at),
+            Turn::Refuse => self.end(at, HostRequest::Refuse),
             Turn::Take => self.take_next(at),
             Turn::SayHeld => self.say_held(at),
             Turn::SayTime => self.say_time(at),
             Turn::AwaitConfirmation => self.clear_if_confirmed(at),
-            Turn::Clear => self.clear(at),
+            Turn::Clear => self.end(at, HostRequest::Clear),
         }
     }
 
@@ -132,6 +179,9 @@ impl<L: Line> Exchange<L> {
         if let Some(call) = self.hosts.call_mut(at) {
             call.answered(done);
         }
+        if done {
+            self.calls.connect(at);
+        }
         done
     }
 
@@ -142,11 +192,13 @@ impl<L: Line> Exchange<L> {
         let Some(call) = self.hosts.call_mut(at) else {
             return false;
         };
-        let octets = call.lend_held(self.alloc);
-        let event = say(at, octets, false);
+        let event = say(at, call.lend_held(self.alloc), false);
         let said = self.happen(&event);
+        let octets = octets_of(self.alloc, event);
+        let count = if said { octets.len() } else { 0 };
+        self.calls.said(at, count);
         if let Some(call) = self.hosts.call_mut(at) {
-            call.give_back(octets_of(self.alloc, event), said);
+            call.give_back(octets, said);
         }
         said
     }
@@ -158,9 +210,11 @@ impl<L: Line> Exchange<L> {
         let Ok(text) = time_message(self.alloc, self.seconds) else {
             return false;
         };
+        let count = text.len();
         if !self.happen(&say(at, text, true)) {
             return false;
         }
+        self.calls.said(at, count);
         if let Some(call) = self.hosts.call_mut(at) {
             call.said_all();
         }
@@ -174,22 +228,23 @@ impl<L: Line> Exchange<L> {
         if !self.net.confirmed(at.node, u16::from(at.channel)) {
             return false;
         }
-        self.clear(at)
+        self.end(at, HostRequest::Clear)
     }
 
-    /// Clears a call.
-    fn clear(&mut self, at: HostChannel) -> bool
+    /// Ends a call by this request.
+    fn end(&mut self, at: HostChannel, request: HostRequest) -> bool
         ensures { Passes L.service result self.old.net self.new.net }
     {
-        let done = self.ask(at, HostRequest::Clear);
+        let done = self.ask(at, request);
         if let Some(call) = self.hosts.call_mut(at) {
             call.end();
         }
+        self.calls.clear(at, 0, 0, self.seconds);
         done
     }
 
     /// Asks something of the call of a channel, and says whether that was done.
-    fn ask(&mut self, at: HostChannel, request: HostRequest) -> bool
+    pub(crate) fn ask(&mut self, at: HostChannel, request: HostRequest) -> bool
         ensures { Passes L.service result self.old.net self.new.net }
     {
         let event = Event::Ask {
@@ -211,8 +266,16 @@ impl<L: Line> Exchange<L> {
         };
         match self.net.step(&event) {
             Ok(answer) => {
-                self.hosts.hear(answer.notes.as_slice());
+                hear(
+                    &mut self.hosts,
+                    &mut self.calls,
+                    &mut self.mail,
+                    self.seconds,
+                    answer.notes.as_slice(),
+                );
+                self.passing.see_all(answer);
                 self.hosts.take(at, &answer.outcome, answer.text.as_slice());
+                self.calls.took(at, answer.text.len());
                 !is_idle(answer)
             }
             Err(_) => false,
@@ -249,8 +312,28 @@ impl<L: Line> Exchange<L> {
     }
 }
 
+/// Hears what the hosts and PADs were told.
+pub(crate) fn hear(
+    hosts: &mut Hosts,
+    calls: &mut Calls,
+    mail: &mut Mail,
+    seconds: i64,
+    notes: &[UserNote],
+) {
+    for note in notes {
+        if let CallUser::Terminal(terminal) = note.user {
+            calls.hear_terminal(note, terminal);
+            continue;
+        }
+        if !mail.hear(note) {
+            hosts.hear(note);
+        }
+        calls.hear(note, seconds);
+    }
+}
+
 /// Whether an answer says that the event did nothing.
-fn is_idle(answer: &Answer) -> bool
+pub(crate) fn is_idle(answer: &Answer) -> bool
     ensures { result ≡ is_idle_answer answer.now }
 {
     answer.text.is_empty() && is_idle_outcome(answer.outcome)
@@ -290,12 +373,12 @@ fn presence_event(presence: Presence) -> TerminalEvent
 }
 
 /// Something happens at a terminal.
-fn at_terminal(pad: usize, number: u16, event: TerminalEvent) -> Event
-    ensures { result ≡ AtTerminal pad number event }
+fn at_terminal(at: Place, event: TerminalEvent) -> Event
+    ensures { result ≡ AtTerminal at.node at.number event }
 {
     Event::AtTerminal {
-        node: pad,
-        terminal: number,
+        node: at.node,
+        terminal: at.number,
         event,
     }
 }
@@ -316,7 +399,7 @@ fn say(at: HostChannel, octets: Vec<u8>, delivery: bool) -> Event
 }
 
 /// The octets that an event says.
-fn octets_of(alloc: Global, event: Event) -> Vec<u8> {
+pub(crate) fn octets_of(alloc: Global, event: Event) -> Vec<u8> {
     match event {
         Event::Ask {
             request: HostRequest::Say { octets, .. },

@@ -1,22 +1,23 @@
-//! The hosts of a network that have built-in services.
+//! The hosts of a network, and the calls of their built-in services.
 use crate::builtin::{BuiltIn, Call, Turn};
-use line_sim::{CallUser, NoteKind, Outcome, UserNote};
+use line_sim::{NoteKind, Outcome, UserNote};
 use packet_layer::Front;
 use std::alloc::{AllocError, Global};
 
-/// A host with a built-in service: its number in the network, and how many logical channels its line has.
+/// A host: its number in the network, how many logical channels its line has, and its built-in service. Without one each
+/// call that comes in is refused at once.
 #[derive(Clone, Copy)]
 pub struct HostBinding {
     pub node: usize,
     pub channels: u8,
-    pub service: BuiltIn,
+    pub service: Option<BuiltIn>,
 }
 
-/// A host and its calls, by their channels from 1 on.
+/// A host, its service and its calls, by their channels from 1 on.
 #[derive(Drop)]
 struct Host {
     node: usize,
-    service: BuiltIn,
+    service: Option<BuiltIn>,
     calls: Vec<Call>,
 }
 
@@ -27,7 +28,17 @@ pub(crate) struct HostChannel {
     pub(crate) channel: u8,
 }
 
-/// All hosts that have built-in services.
+impl HostChannel {
+    /// The one of a note.
+    pub(crate) fn of(note: &UserNote) -> Self {
+        HostChannel {
+            node: note.node,
+            channel: note.channel,
+        }
+    }
+}
+
+/// All hosts.
 #[derive(Drop)]
 pub(crate) struct Hosts {
     hosts: Vec<Host>,
@@ -79,22 +90,9 @@ impl Hosts {
         }
     }
 
-    /// Hears what the hosts were told.
-    pub(crate) fn hear(&mut self, notes: &[UserNote]) {
-        for note in notes {
-            self.hear_note(note);
-        }
-    }
-
-    fn hear_note(&mut self, note: &UserNote) {
-        if note.user != CallUser::Host {
-            return;
-        }
-        let at = HostChannel {
-            node: note.node,
-            channel: note.channel,
-        };
-        let Some(call) = self.call_mut(at) else {
+    /// Hears what a host was told.
+    pub(crate) fn hear(&mut self, note: &UserNote) {
+        let Some(call) = self.call_mut(HostChannel::of(note)) else {
             return;
         };
         match note.kind {

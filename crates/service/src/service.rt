@@ -1,27 +1,40 @@
 //! A network with terminals for clients and built-in services.
-ghost use Rattle.std.specs.Prelude.{◌≡◌, ◌≤◌, ◌<◌, false, true, length, replicate, take, slice_get, Some, IfOk, IfSome, IfNone};
-ghost use Rattle.net_events.specs.Network.{all_elapsed};
-ghost use Rattle.service.specs.Orders.{port_of};
+ghost use Rattle.std.specs.Prelude.{◌≡◌, ◌≤◌, ◌+◌, true, length, min, option_map, take, slice_get, None, Some, IfOk, IfSome, IfNone};
+ghost use Rattle.net_process.specs.Carrying.{elapsed as process_elapsed};
+ghost use Rattle.service.specs.Bridging.{are_free};
+ghost use Rattle.service.specs.Calls.{call_of};
+ghost use Rattle.service.specs.Orders.{after_order, port_of};
+ghost use Rattle.service.specs.Places.{AreApart};
 ghost use Rattle.service.specs.Serving.{Begins};
-ghost use Rattle.service.specs.Terminals.{fresh, ordered};
+ghost use Rattle.service.specs.Terminals.{ordered};
 
+use crate::absent::{PadBinding, leave_absent};
+use crate::bridges::{BridgeBindings, Bridges};
+use crate::calls::{CallNote, CallStatus, Calls};
 use crate::exchange::Exchange;
 use crate::hosts::{HostBinding, Hosts};
+use crate::mail::Mail;
+use crate::passing::Passing;
+use crate::place::Place;
 use crate::rounds::serve_terminals;
+use crate::seats::{Seats, TerminalsBinding};
 use crate::terminal::{Phase, Terminal};
+use frame_codec::FrameBuf;
 use line_sim::Line;
-use live_net::LiveNet;
+use net_process::Process;
 use std::alloc::{AllocError, Global};
 
 /// How long the service may take to stop, in ticks: until all is written out and the calls are cleared.
 const MOST_STOPPING: u16 = 160;
 
-/// The PAD whose terminals clients have: its name, its number in the network, and how many terminals it has.
+/// What of a network is served: the tables of terminals, all PADs and all hosts. A terminal of these PADs that is in no
+/// table stays absent.
 #[derive(Clone, Copy)]
-pub struct TerminalsBinding<'a> {
-    pub name: &'a str,
-    pub node: usize,
-    pub terminals: u8,
+pub struct Bindings<'a> {
+    pub terminals: &'a [TerminalsBinding<'a>],
+    pub pads: &'a [PadBinding],
+    pub hosts: &'a [HostBinding],
+    pub bridges: BridgeBindings<'a>,
 }
 
 /// What the shell is to do.
@@ -29,8 +42,18 @@ pub struct TerminalsBinding<'a> {
 pub enum Order {
     /// The connection of this port is to be closed.
     Close(usize),
+    /// A connection to this service is to be made for this port.
+    Connect { port: usize, service: usize },
+    /// The connection of this port is to be ended for writing, and read on.
+    EndWriting(usize),
     /// It is to be logged that so many keys of this port were dropped because a recall or a break came after them.
     LogOvertaken { port: usize, keys: u64 },
+    /// It is to be logged that the client of this port goes because it was silent too long.
+    LogIdle(usize),
+    /// It is to be logged what became of a call.
+    LogCall(CallNote),
+    /// It is to be logged that so many notes of calls were dropped for want of a place.
+    LogMissed(u64),
 }
 
 /// What waits at a port.
@@ -46,56 +69,68 @@ pub struct PortStatus {
     pub overtaken: u64,
 }
 
-/// A network with terminals for clients, each at the port of its own number, and built-in services.
+/// A network with terminals for clients, each at the port of its place in the tables, and built-in services.
 #[derive(Drop)]
 pub struct Service<L: Line> {
     pub(crate) exchange: Exchange<L>,
-    pub(crate) pad: usize,
     pub(crate) lines: usize,
+    pub(crate) places: Vec<Place>,
     pub(crate) terminals: Vec<Terminal>,
-    greetings: Vec<String>,
+    pub(crate) bridges: Bridges,
+    pub(crate) pads: Vec<PadBinding>,
     stopping: Option<u16>,
-    ghost few: { length terminals.items ≤ 255 },
+    ghost seated: { length terminals.items ≡ length places.items },
+    ghost apart: { AreApart places.items },
 }
 
 impl<L: Line> Service<L> {
+    ghost use Rattle.service.specs.Terminals.{AllChange, HasCome, changed_at, elapsed, ended, freed, has_client, are_deserted, has_stopped, heard, is_free_in, left, may_take, status_of, written};
     ghost use Rattle.service.specs.declared.terminal.Terminal.{Terminal};
-    ghost use Rattle.service.specs.Terminals.{AllChange, HasCome, changed_at, fresh, ordered, elapsed, ended, freed, has_client, heard, left, written};
+    ghost use Rattle.std.specs.Prelude.{position, is_some, if◌then◌else◌, ◌&&◌};
 
-    /// A service without clients on a network of so many lines: nobody is at the terminals of the PAD.
+    /// A service without clients on a network of so many lines: nobody is at the terminals of the PADs.
     pub fn new(
         alloc: Global,
-        net: LiveNet<L>,
+        net: Process<L>,
         lines: usize,
-        pad: &TerminalsBinding<'_>,
-        hosts: &[HostBinding],
+        bindings: &Bindings<'_>,
     ) -> Result<Self, AllocError>
-        ensures begins { IfOk result (λ service. Begins L.service pad.now.node (replicate pad.now.terminals fresh) net
-            service.exchange.net service.terminals.items) }
-        ensures pad { IfOk result (λ service. service.pad ≡ pad.now.node) }
+        ensures begins { IfOk result (λ service. Begins L.service bindings.now.terminals.now bindings.now.pads.now net
+            service.exchange.net service.places.items service.terminals.items) }
         ensures lines { IfOk result (λ service. service.lines ≡ lines) }
     {
         let mut exchange = Exchange {
             alloc,
             net,
-            hosts: Hosts::new(alloc, hosts)?,
+            hosts: Hosts::new(alloc, bindings.hosts)?,
+            calls: Calls::new(alloc, bindings.hosts)?,
+            mail: Mail::new(alloc, &bindings.bridges)?,
             seconds: 0,
+            came: FrameBuf::new(),
+            passing: Passing::new(),
         };
-        let mut terminals = new_terminals(alloc, pad.terminals)?;
-        serve_terminals(&mut exchange, pad.node, &mut terminals);
+        let Seats {
+            places,
+            mut terminals,
+        } = Seats::new(alloc, bindings.terminals)?;
+        leave_absent(&mut exchange, bindings.pads, &places);
+        serve_terminals(&mut exchange, &places, &mut terminals);
         Ok(Service {
             exchange,
-            pad: pad.node,
             lines,
+            places,
             terminals,
-            greetings: greetings(alloc, pad)?,
+            bridges: Bridges::new(alloc, &bindings.bridges)?,
+            pads: bindings.pads.to_vec(alloc)?,
             stopping: None,
         })
     }
 
-    /// A client came. It gets the lowest terminal that is free, and the answer is its port; none if none is free, or the
-    /// service stops.
-    pub fn attach(&mut self) -> Option<usize>
+    /// A client came to the listener of a table. It gets the table's lowest terminal that is free, and the answer is its
+    /// port; none if none is free, or the service stops.
+    pub fn attach(&mut self, table: usize) -> Option<usize>
+        ensures which { result ≡ if is_some self.old.stopping then None
+            else position (is_free_in table) self.old.terminals.items }
         ensures came { IfSome result (HasCome self.old.terminals.items self.new.terminals.items) }
         ensures none { IfNone result (self.new.terminals.items ≡ self.old.terminals.items) }
         ensures network { self.new.exchange.net ≡ self.old.exchange.net }
@@ -103,14 +138,58 @@ impl<L: Line> Service<L> {
         if self.stopping.is_some() {
             return None;
         }
-        let port = self
-            .terminals
-            .iter()
-            .position(|terminal| terminal.is_free())?;
-        let greeting = self.greetings.get(port)?;
-        let terminal = self.terminals.get_mut(port)?;
-        terminal.attach(greeting.as_bytes());
+        let port = self.first_free(table)?;
+        self.terminals[port].attach();
         Some(port)
+    }
+
+    /// A connection came to the listener of a caller. The answer is its port; none if no bridge is free, or the service
+    /// stops.
+    pub fn attach_caller(&mut self, caller: usize) -> Option<usize>
+        ensures terminals { self.new.terminals ≡ self.old.terminals }
+        ensures network { self.new.exchange.net ≡ self.old.exchange.net }
+    {
+        let place = self.bridges.attach(caller)?;
+        self.terminals.len().checked_add(place)
+    }
+
+    /// The port of the first bridge.
+    fn first_bridge(&self) -> usize
+        ensures { result ≡ length self.now.terminals.items }
+    {
+        self.terminals.len()
+    }
+
+    /// The place among the bridges of a port that is no terminal's.
+    fn bridge_place(&self, port: usize) -> usize {
+        port.saturating_sub(self.terminals.len())
+    }
+
+    /// The connection stands that was ordered for this port.
+    pub fn opened(&mut self, port: usize)
+        ensures terminals { self.new.terminals ≡ self.old.terminals }
+        ensures network { self.new.exchange.net ≡ self.old.exchange.net }
+    {
+        let place = self.bridge_place(port);
+        if port >= self.terminals.len() {
+            self.bridges.opened(place);
+        }
+    }
+
+    /// The connection could not be had that was ordered for this port.
+    pub fn failed(&mut self, port: usize)
+        ensures port { self.new.terminals.items ≡ changed_at port left self.old.terminals.items }
+        ensures network { self.new.exchange.net ≡ self.old.exchange.net }
+    {
+        self.lost(port);
+    }
+
+    fn first_free(&self, table: usize) -> Option<usize>
+        ensures { result ≡ position (is_free_in table) self.now.terminals.items }
+    {
+        self.terminals
+            .iter()
+            .position(|terminal| terminal.is_free_in(table))
     }
 
     /// Takes octets of a client, from the first on, as long as there is room. The answer is how many were taken.
@@ -119,18 +198,23 @@ impl<L: Line> Service<L> {
         ensures taken { self.new.terminals.items ≡ changed_at port (heard (take result octets.now)) self.old.terminals.items }
         ensures network { self.new.exchange.net ≡ self.old.exchange.net }
     {
+        let place = self.bridge_place(port);
         match self.terminals.get_mut(port) {
             Some(terminal) => terminal.hear(octets),
-            None => octets.len(),
+            None => self.bridges.octets(place, octets),
         }
     }
 
-    /// The client of a port sends no more: it is gone.
+    /// The peer of a port sends no more. A terminal's client is gone.
     pub fn ended(&mut self, port: usize)
         ensures port { self.new.terminals.items ≡ changed_at port left self.old.terminals.items }
         ensures network { self.new.exchange.net ≡ self.old.exchange.net }
     {
-        self.lost(port);
+        let place = self.bridge_place(port);
+        match self.terminals.get_mut(port) {
+            Some(terminal) => terminal.leave(),
+            None => self.bridges.ended(place),
+        }
     }
 
     /// The connection of a port is lost.
@@ -138,8 +222,10 @@ impl<L: Line> Service<L> {
         ensures port { self.new.terminals.items ≡ changed_at port left self.old.terminals.items }
         ensures network { self.new.exchange.net ≡ self.old.exchange.net }
     {
-        if let Some(terminal) = self.terminals.get_mut(port) {
-            terminal.leave();
+        let place = self.bridge_place(port);
+        match self.terminals.get_mut(port) {
+            Some(terminal) => terminal.leave(),
+            None => self.bridges.lost(place),
         }
     }
 
@@ -148,9 +234,13 @@ impl<L: Line> Service<L> {
         ensures port { self.new.terminals.items ≡ changed_at port freed self.old.terminals.items }
         ensures network { self.new.exchange.net ≡ self.old.exchange.net }
     {
-        if let Some(terminal) = self.terminals.get_mut(port) {
-            terminal.leave();
-            terminal.phase = Phase::Free;
+        let place = self.bridge_place(port);
+        match self.terminals.get_mut(port) {
+            Some(terminal) => {
+                terminal.leave();
+                terminal.phase = Phase::Free;
+            }
+            None => self.bridges.closed(place),
         }
     }
 
@@ -159,27 +249,34 @@ impl<L: Line> Service<L> {
         ensures port { self.new.terminals.items ≡ changed_at port ended self.old.terminals.items }
         ensures network { self.new.exchange.net ≡ self.old.exchange.net }
     {
-        if let Some(terminal) = self.terminals.get_mut(port) {
-            terminal.end();
+        let place = self.bridge_place(port);
+        match self.terminals.get_mut(port) {
+            Some(terminal) => terminal.end(),
+            None => self.bridges.end(place),
         }
     }
 
     /// Lets ticks pass, each a twentieth of a second.
     pub fn elapse(&mut self, ticks: u16)
         ensures ports { AllChange (elapsed ticks) self.old.terminals.items self.new.terminals.items }
-        ensures network { self.new.exchange.net ≡ all_elapsed ticks self.old.exchange.net }
+        ensures network { self.new.exchange.net ≡ process_elapsed ticks self.old.exchange.net }
     {
         self.exchange.net.elapse(ticks);
         for port in 0..self.terminals.len() {
             self.terminals[port].elapse(ticks);
         }
+        self.bridges.elapse(ticks);
         if let Some(left) = self.stopping {
             self.stopping = Some(left.saturating_sub(ticks));
         }
     }
 
-    /// The time, in seconds since the beginning of 1970, which the service `time` tells.
-    pub fn time(&mut self, seconds: i64) {
+    /// The time, in seconds since the beginning of 1970, which the service `time` tells and calls are counted by.
+    pub fn time(&mut self, seconds: i64)
+        ensures seconds { self.new.exchange.seconds ≡ seconds }
+        ensures terminals { self.new.terminals ≡ self.old.terminals }
+        ensures network { self.new.exchange.net ≡ self.old.exchange.net }
+    {
         self.exchange.seconds = seconds;
     }
 
@@ -188,27 +285,31 @@ impl<L: Line> Service<L> {
         ensures ports { AllChange ended self.old.terminals.items self.new.terminals.items }
         ensures network { self.new.exchange.net ≡ self.old.exchange.net }
     {
-        if self.stopping.is_none() {
-            self.stopping = Some(MOST_STOPPING);
-        }
         for port in 0..self.terminals.len() {
             self.terminals[port].end();
         }
+        self.bridges.stop();
+        self.stopping = Some(self.stopping.unwrap_or(MOST_STOPPING));
     }
 
     /// Whether it has stopped: it was given time enough, or nobody is there and the network is at rest.
-    pub fn has_stopped(&self) -> bool {
+    pub fn has_stopped(&self) -> bool
+        ensures { result ≡ has_stopped self.now.stopping self.now.terminals.items (are_free self.now.bridges.ports.items)
+            self.now.exchange.net }
+    {
         match self.stopping {
             None => false,
             Some(0) => true,
-            Some(_) => self.is_deserted() && self.exchange.net.at_rest(),
+            Some(_) => {
+                self.is_deserted() && self.bridges.are_free() && self.exchange.net.at_rest()
+            }
         }
     }
 
-    fn is_deserted(&self) -> bool {
-        self.terminals
-            .iter()
-            .all(|terminal| matches!(terminal.phase, Phase::Free))
+    fn is_deserted(&self) -> bool
+        ensures { result ≡ are_deserted self.now.terminals.items }
+    {
+        self.terminals.iter().all(|terminal| terminal.is_deserted())
     }
 
     /// Octets that wait to be written to the client of a port, from the first on: some if there are any, and not always
@@ -219,7 +320,8 @@ impl<L: Line> Service<L> {
     {
         match self.terminals.get(port) {
             Some(terminal) if terminal.has_client() => terminal.port.waiting(),
-            _ => &[],
+            Some(_) => &[],
+            None => self.bridges.waiting(self.bridge_place(port)),
         }
     }
 
@@ -228,23 +330,27 @@ impl<L: Line> Service<L> {
         ensures port { self.new.terminals.items ≡ changed_at port (written count) self.old.terminals.items }
         ensures network { self.new.exchange.net ≡ self.old.exchange.net }
     {
-        if let Some(terminal) = self.terminals.get_mut(port) {
-            terminal.written(count);
+        let place = self.bridge_place(port);
+        match self.terminals.get_mut(port) {
+            Some(terminal) => terminal.written(count),
+            None => self.bridges.written(place, count),
         }
     }
 
     /// Whether it takes an octet of the client of a port.
-    pub fn wants(&self, port: usize) -> bool {
+    pub fn wants(&self, port: usize) -> bool
+        ensures { (p : Terminal) → slice_get self.now.terminals.items port ≡ Some p → result ≡ may_take (Some p) }
+    {
         match self.terminals.get(port) {
-            Some(terminal) => !terminal.is_open() || terminal.port.wants(),
-            None => true,
+            Some(terminal) => terminal.wants(),
+            None => self.bridges.wants(self.bridge_place(port)),
         }
     }
 
     /// What the shell is to do next, if anything. Each order is given once.
     pub fn next_order(&mut self) -> Option<Order>
         ensures given { IfSome result (λ order.
-            self.new.terminals.items ≡ changed_at (port_of order) ordered self.old.terminals.items) }
+            self.new.terminals.items ≡ after_order order self.old.terminals.items) }
         ensures none { IfNone result (self.new.terminals.items ≡ self.old.terminals.items) }
         ensures network { self.new.exchange.net ≡ self.old.exchange.net }
     {
@@ -253,36 +359,81 @@ impl<L: Line> Service<L> {
                 return Some(order);
             }
         }
-        None
+        if let Some(order) = self.next_bridge_order() {
+            return Some(order);
+        }
+        self.next_call_order()
+    }
+
+    fn next_bridge_order(&mut self) -> Option<Order>
+        ensures given { IfSome result (λ order. self.old.terminals.items ≡ after_order order self.old.terminals.items) }
+        ensures terminals { self.new.terminals ≡ self.old.terminals }
+        ensures network { self.new.exchange.net ≡ self.old.exchange.net }
+    {
+        let first = self.first_bridge();
+        self.bridges.order(first)
+    }
+
+    fn next_call_order(&mut self) -> Option<Order>
+        ensures none { IfSome result (λ order. port_of order ≡ None) }
+        ensures terminals { self.new.terminals ≡ self.old.terminals }
+        ensures network { self.new.exchange.net ≡ self.old.exchange.net }
+    {
+        match self.exchange.calls.next_note() {
+            Some(note) => Some(Order::LogCall(note)),
+            None => Some(Order::LogMissed(self.exchange.calls.next_missed()?)),
+        }
     }
 
     /// Gives back all that it has.
     pub fn release(self) {}
 
-    /// How many ports there are.
+    /// How many ports there are: those of terminals, and after them those of bridges.
     pub fn ports(&self) -> usize
-        ensures { result ≡ length self.now.terminals.items }
+        ensures { result ≡ min (length self.now.terminals.items + length self.now.bridges.ports.items) usize.MAX }
     {
-        self.terminals.len()
+        self.terminals.len().saturating_add(self.bridges.len())
     }
 
-    /// What waits at a port, if there is such a port.
-    pub fn status(&self, port: usize) -> Option<PortStatus> {
-        let terminal = self.terminals.get(port)?;
-        Some(PortStatus {
-            in_use: !terminal.is_free(),
-            keys: terminal.port.waiting_keys(),
-            octets: terminal.port.waiting_octets(),
-            overtaken: terminal.overtaken,
-        })
+    /// What waits at a port, if there is such a port. The keys of a bridge are the octets of its peer that wait to be said.
+    pub fn status(&self, port: usize) -> Option<PortStatus>
+        ensures { (p : Terminal) → slice_get self.now.terminals.items port ≡ Some p → result ≡ Some (status_of p) }
+    {
+        match self.terminals.get(port) {
+            Some(terminal) => Some(PortStatus {
+                in_use: !terminal.is_free(),
+                keys: terminal.port.waiting_keys(),
+                octets: terminal.port.waiting_octets(),
+                overtaken: terminal.overtaken,
+            }),
+            None => self.bridges.status(self.bridge_place(port)),
+        }
+    }
+
+    /// How many places for calls the hosts have, one for each logical channel.
+    pub fn calls(&self) -> usize
+        ensures { result ≡ length self.now.exchange.calls.calls.items }
+    {
+        self.exchange.calls.len()
+    }
+
+    /// The call of this place, from 0, if one is there.
+    pub fn call(&self, place: usize) -> Option<CallStatus>
+        ensures { result ≡ call_of (slice_get self.now.exchange.calls.calls.items place) }
+    {
+        self.exchange.calls.get(place)
     }
 }
 
 /// The next order of a port, if there is one.
 fn order_of(port: usize, terminal: &mut Terminal) -> Option<Order>
-    ensures given { IfSome result (λ order. (port_of order ≡ port) × (terminal.new ≡ ordered terminal.old)) }
+    ensures given { IfSome result (λ order. (port_of order ≡ Some port) × (terminal.new ≡ ordered terminal.old)) }
     ensures none { IfNone result (terminal.new ≡ terminal.old) }
 {
+    if terminal.was_silent {
+        terminal.was_silent = false;
+        return Some(Order::LogIdle(port));
+    }
     if matches!(terminal.phase, Phase::Closing) {
         terminal.phase = Phase::Closed;
         return Some(Order::Close(port));
@@ -293,30 +444,4 @@ fn order_of(port: usize, terminal: &mut Terminal) -> Option<Order>
     }
     terminal.logged = terminal.overtaken;
     Some(Order::LogOvertaken { port, keys })
-}
-
-/// So many terminals.
-fn new_terminals(alloc: Global, count: u8) -> Result<Vec<Terminal>, AllocError>
-    ensures { IfOk result (λ terminals. terminals.items ≡ replicate count fresh) }
-{
-    let mut terminals = Vec::new(alloc);
-    for _ in 0..count {
-        terminals.push(Terminal::new(alloc)?)?;
-    }
-    Ok(terminals)
-}
-
-/// What is shown first at each terminal of a PAD.
-fn greetings(alloc: Global, pad: &TerminalsBinding<'_>) -> Result<Vec<String>, AllocError> {
-    let mut greetings = Vec::new(alloc);
-    for terminal in 0..pad.terminals {
-        greetings.push(greeting(alloc, pad.name, terminal)?)?;
-    }
-    Ok(greetings)
-}
-
-fn greeting(alloc: Global, name: &str, terminal: u8) -> Result<String, AllocError> {
-    format!(in alloc;
-        "Terminal {terminal} of {name}. Dial a number and Return; Ctrl-P, then CLR and Return, clears the call.\r\n"
-    )
 }

@@ -1,10 +1,10 @@
 //! A terminal, and the client that has it.
-ghost use Rattle.std.specs.Prelude.{◌≡◌, ◌≤◌, ◌<◌, false, length, take, slice_get, IfOk};
-ghost use Rattle.service_ports.specs.Ports.{takes_octet};
-ghost use Rattle.service.specs.Terminals.{attached, counted, elapsed, ended, fresh, has_client, heard, is_free, is_open, left, left_if_written, urgent_place, waited, without_keys, written};
+ghost use Rattle.std.specs.Prelude.{◌≡◌, ◌≤◌, ◌<◌, ◌||◌, true, false, not, length, take, slice_get, IfOk};
 ghost use Rattle.std.specs.Bool.{OnTrue, OnFalse};
+ghost use Rattle.service_ports.specs.Ports.{takes_octet};
+ghost use Rattle.service.specs.Terminals.{attached, dismissed, elapsed, ended, fresh, has_client, heard, is_free, is_free_in, is_free_phase, is_open, kept_alive, left, left_if_written, urgent_place, waited, without_key_at, without_keys, written, xon_place};
 
-use service_ports::{Command, Key, Port};
+use service_ports::{Command, Key, Mode, Port};
 use std::alloc::{AllocError, Global};
 
 /// How long what waits may take to be written out to a client that is to go, in ticks.
@@ -18,6 +18,12 @@ const QUIET: u16 = 1200;
 
 /// The recall character (X.3 3.1): DLE.
 const RECALL: u8 = 16;
+
+/// The key that lets a terminal be shown text again (X.3 3.12): DC1.
+pub(crate) const XON: u8 = 17;
+
+/// What a client of telnet is told that goes because nothing came and nothing was shown for too long.
+const SILENT: [u8; 44] = *b"\r\nNothing was typed or shown for too long.\r\n";
 
 /// Who has a terminal.
 #[derive(Clone, Copy)]
@@ -43,38 +49,56 @@ pub(crate) enum Presence {
     Gone,
 }
 
+/// What a terminal has of its table.
+#[derive(Drop)]
+pub(crate) struct Terms {
+    /// The number of the table.
+    pub(crate) table: usize,
+    /// After how many ticks without an octet either way a client goes. 0: never.
+    pub(crate) idle: u16,
+    /// Whether the PAD takes DC1 as XON.
+    pub(crate) has_xon: bool,
+    /// What a client is shown first.
+    pub(crate) greeting: Vec<u8>,
+}
+
 /// A terminal.
 #[derive(Drop)]
 pub(crate) struct Terminal {
+    terms: Terms,
     pub(crate) port: Port,
     pub(crate) phase: Phase,
     /// What its PAD is still to be told.
     pub(crate) untold: Option<Presence>,
-    /// Ticks since the last octet either way.
+    /// Ticks since the client last sent octets or text was shown.
+    silence: u16,
+    /// Ticks since the client last sent or was written octets, or was sent a command.
     quiet: u16,
+    /// Whether it is to be logged that its client goes because it was silent too long.
+    pub(crate) was_silent: bool,
     /// Keys of its client that were dropped because a recall or a break came after them.
     pub(crate) overtaken: u64,
     /// How many of these were logged.
     pub(crate) logged: u64,
-    /// Whether text could not be shown for want of room: then the client goes.
-    pub(crate) has_lost: bool,
 }
 
 impl Terminal {
-    ghost use Rattle.service.specs.Serving.{IsOvertaken, ShowsText, may_show};
+    ghost use Rattle.service.specs.Serving.{IsOvertaken, may_show, shown_at};
 
     /// A terminal that nobody has. Its PAD is not told so yet.
-    pub(crate) fn new(alloc: Global) -> Result<Self, AllocError>
-        ensures { IfOk result (λ terminal. terminal ≡ fresh) }
+    pub(crate) fn new(alloc: Global, mode: Mode, terms: Terms) -> Result<Self, AllocError>
+        ensures { IfOk result (λ terminal. terminal ≡ fresh mode terms) }
     {
         Ok(Terminal {
-            port: Port::new(alloc)?,
+            terms,
+            port: Port::new(alloc, mode)?,
             phase: Phase::Free,
             untold: Some(Presence::Gone),
+            silence: 0,
             quiet: 0,
+            was_silent: false,
             overtaken: 0,
             logged: 0,
-            has_lost: false,
         })
     }
 
@@ -85,18 +109,26 @@ impl Terminal {
         matches!(self.phase, Phase::Free) && self.untold.is_none()
     }
 
-    /// A client gets it, and is shown a greeting.
-    pub(crate) fn attach(&mut self, greeting: &[u8])
-        ensures { self.new ≡ attached greeting.now }
+    /// Whether it is of this table, and a client may have it.
+    pub(crate) fn is_free_in(&self, table: usize) -> bool
+        ensures { result ≡ is_free_in table self.now }
+    {
+        self.terms.table == table && self.is_free()
+    }
+
+    /// A client gets it, and is shown the greeting.
+    pub(crate) fn attach(&mut self)
+        ensures { self.new ≡ attached self.old }
     {
         self.port.begin();
-        let _ = self.port.show(greeting);
+        let _ = self.port.show(self.terms.greeting.as_slice());
         self.phase = Phase::Open;
         self.untold = Some(Presence::Here);
+        self.silence = 0;
         self.quiet = 0;
+        self.was_silent = false;
         self.overtaken = 0;
         self.logged = 0;
-        self.has_lost = false;
     }
 
     /// Whether a client has it.
@@ -104,6 +136,13 @@ impl Terminal {
         ensures { result ≡ has_client self.now.phase }
     {
         matches!(self.phase, Phase::Open | Phase::Ending(_))
+    }
+
+    /// Whether nobody has it, and no connection is to be closed.
+    pub(crate) fn is_deserted(&self) -> bool
+        ensures { result ≡ is_free_phase self.now.phase }
+    {
+        matches!(self.phase, Phase::Free)
     }
 
     /// Whether its client may send octets.
@@ -147,22 +186,43 @@ impl Terminal {
         ensures { self.new ≡ elapsed ticks self.old }
     {
         match self.phase {
-            Phase::Open if self.has_lost => self.leave(),
-            Phase::Open => self.wait(self.quiet.saturating_add(ticks)),
+            Phase::Open => self.wait(ticks),
             Phase::Ending(left) if left > ticks => self.phase = Phase::Ending(left - ticks),
             Phase::Ending(_) => self.leave(),
             Phase::Free | Phase::Closing | Phase::Closed => {}
         }
     }
 
-    fn wait(&mut self, quiet: u16)
-        ensures { self.new ≡ waited quiet self.old }
+    fn wait(&mut self, ticks: u16)
+        ensures { self.new ≡ waited ticks self.old }
     {
-        self.quiet = if quiet >= QUIET && self.port.tell(Command::NoOperation) {
-            0
+        self.silence = self.silence.saturating_add(ticks);
+        self.quiet = self.quiet.saturating_add(ticks);
+        if self.terms.idle > 0 && self.silence >= self.terms.idle {
+            self.dismiss();
         } else {
-            quiet
-        };
+            self.keep_alive();
+        }
+    }
+
+    /// The client goes because it was silent too long. One of telnet is told so, if there is room.
+    fn dismiss(&mut self)
+        ensures { self.new ≡ dismissed self.old }
+    {
+        if self.port.is_telnet() {
+            let _ = self.port.show(&SILENT);
+        }
+        self.was_silent = true;
+        self.end();
+    }
+
+    /// Sends a quiet client a command that asks for nothing, if there is room.
+    fn keep_alive(&mut self)
+        ensures { self.new ≡ kept_alive self.old }
+    {
+        if self.quiet >= QUIET && self.port.tell(Command::NoOperation) {
+            self.quiet = 0;
+        }
     }
 
     /// Takes octets of its client, as long as there is room; all, if no client is there that may send any.
@@ -174,8 +234,16 @@ impl Terminal {
         if !self.is_open() {
             return octets.len();
         }
+        self.silence = 0;
         self.quiet = 0;
         self.port.octets(octets)
+    }
+
+    /// Whether it takes an octet of its client.
+    pub(crate) fn wants(&self) -> bool
+        ensures { result ≡ (not (is_open self.now.phase) || takes_octet self.now.port) }
+    {
+        !self.is_open() || self.port.wants()
     }
 
     /// Drops octets that were written.
@@ -196,11 +264,12 @@ impl Terminal {
 
     /// Shows text.
     pub(crate) fn show(&mut self, text: &[u8])
-        ensures { ShowsText text.now self.old self.new }
+        requires may { may_show self.old ≡ true }
+        requires short { length text.now ≤ MOST_TEXT }
+        ensures { self.new ≡ shown_at text.now self.old }
     {
-        if !self.port.show(text) {
-            self.has_lost = true;
-        }
+        self.silence = 0;
+        let _ = self.port.show(text);
     }
 
     /// The key that is typed next.
@@ -215,6 +284,23 @@ impl Terminal {
         ensures { self.new ≡ without_keys 1 self.old }
     {
         self.port.drop_keys(1);
+    }
+
+    /// The place of the first key that waits and is an XON, if the PAD has one.
+    pub(crate) fn find_xon(&self) -> Option<usize>
+        ensures { result ≡ xon_place self.now }
+    {
+        if !self.terms.has_xon {
+            return None;
+        }
+        self.port.find_octet(XON)
+    }
+
+    /// The key of this place was typed before those that wait.
+    pub(crate) fn hastened(&mut self, place: usize)
+        ensures { self.new ≡ without_key_at place self.old }
+    {
+        self.port.drop_key(place);
     }
 
     /// The first key cannot be typed: if a recall or a break comes after it, the keys before that are dropped, and the

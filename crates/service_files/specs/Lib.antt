@@ -1,3 +1,7 @@
 pub mod Addresses
-pub mod Bindings
+pub mod Reads
 pub mod Says
+pub mod SaysLine
+pub mod Bindings
+pub mod Lines
+pub mod Checks

@@ -1,35 +1,26 @@
 //! Addresses of this machine and of those who may connect.
-ghost use Rattle.std.specs.Prelude.{◌≡◌};
-ghost use Rattle.service_files.specs.Addresses.{width, bits_of, first_bits, has_first_bits, is_here};
-ghost use Rattle.service_files.specs.Addresses.{same_address, same_place};
+ghost use Rattle.std.specs.Prelude.{◌≡◌, MatchOption};
+ghost use Rattle.std.specs.List.{list_any};
+ghost use Rattle.service_files.specs.Addresses.{width, bits_of, first_bits, has_first_bits, is_here, allows};
+ghost use Rattle.service_files.specs.Addresses.{IsPrefixText, same_address, same_place};
 
 use std::net::{IpAddr, SocketAddr};
-use toml::Value;
 
 /// Who may connect: those whose address has one of these prefixes, or, if none are given, this machine alone.
-#[derive(Clone, Copy)]
-pub struct Allow<'a> {
-    pub prefixes: Option<&'a [Value]>,
+#[derive(Drop)]
+pub struct Allow {
+    pub prefixes: Option<Vec<Prefix>>,
 }
 
-impl Allow<'_> {
+impl Allow {
     /// Whether a client with this address may connect.
-    pub fn allows(&self, address: IpAddr) -> bool {
-        match self.prefixes {
+    pub fn allows(&self, address: IpAddr) -> bool
+        ensures { result ≡ allows self.now address }
+    {
+        match self.prefixes.as_ref() {
             None => is_here(address),
-            Some(prefixes) => prefixes.iter().any(|value| has_prefix(value, address)),
+            Some(prefixes) => one_holds(prefixes, address),
         }
-    }
-}
-
-/// Whether a value is a prefix of an address.
-fn has_prefix(value: &Value, address: IpAddr) -> bool {
-    match value.as_str() {
-        Some(text) => match Prefix::read(text) {
-            Some(prefix) => prefix.holds(address),
-            None => false,
-        },
-        None => false,
     }
 }
 
@@ -43,7 +34,9 @@ pub struct Prefix {
 impl Prefix {
     /// Reads an address, `/` and how many of its bits count. None if the text has another form, or more bits are to
     /// count than there are.
-    pub fn read(text: &str) -> Option<Prefix> {
+    pub fn read(text: &str) -> Option<Prefix>
+        ensures { MatchOption result ((prefix : Prefix) → ¬ IsPrefixText text.now prefix) (IsPrefixText text.now) }
+    {
         let (address, length) = text.split_once('/')?;
         let address = address.parse::<IpAddr>().ok()?;
         let length = length.parse::<u8>().ok()?;
@@ -61,6 +54,13 @@ impl Prefix {
         width(address) == width(self.address)
             && first_bits(address, self.length) == first_bits(self.address, self.length)
     }
+}
+
+/// Whether an address has one of these prefixes.
+fn one_holds(prefixes: &[Prefix], address: IpAddr) -> bool
+    ensures { result ≡ list_any (λ prefix. has_first_bits prefix.address prefix.length address) prefixes.now }
+{
+    prefixes.iter().any(|prefix| prefix.holds(address))
 }
 
 /// How many bits an address has.
@@ -100,11 +100,11 @@ pub(crate) fn is_here(address: IpAddr) -> bool
     }
 }
 
-/// Whether two ports of IP addresses are the same.
+/// Whether two ports of IP addresses are the same. At port 0 the system chooses one, which is never another's.
 pub(crate) fn same_place(one: SocketAddr, other: SocketAddr) -> bool
     ensures { result ≡ same_place one other }
 {
-    one.port() == other.port() && same_address(one.ip(), other.ip())
+    one.port() != 0 && one.port() == other.port() && same_address(one.ip(), other.ip())
 }
 
 fn same_address(one: IpAddr, other: IpAddr) -> bool

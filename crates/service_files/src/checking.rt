@@ -1,24 +1,39 @@
 //! What a check of a service file says.
-use crate::reading::read_service;
+ghost use Rattle.std.specs.Prelude.{◌≡◌, IfOk, codes, string_bytes, option_map};
+ghost use Rattle.toml.specs.View.{table_view};
+ghost use Rattle.service_files.specs.Reads.{text_at};
+ghost use Rattle.service_files.specs.Checks.{Names};
+
+use crate::line_rules::{first_broken_line, own_nodes};
+use crate::line_telling::tell_broken_line;
+use crate::reading::{read_document, read_service};
 use crate::refusal::Refusal;
 use crate::rules::first_broken_binding;
 use crate::telling::{tell_bindings, tell_broken};
-use network_reasons::{Checked, read_network, tell_no_toml, text_of};
+use crate::values::text_at;
+use network_reasons::{Checked, read_network};
 use std::alloc::{AllocError, Global};
 use std::fmt::Write;
 use toml::Table;
 
-/// The name of the network's file that a service file's octets have, if they have one.
-pub fn network_name(alloc: Global, octets: &[u8]) -> Result<Option<String>, AllocError> {
-    let Some(text) = text_of(octets) else {
-        return Ok(None);
-    };
-    let Ok(document) = toml::table_from_str(alloc, text) else {
-        return Ok(None);
-    };
-    match document.get("network") {
-        Some(toml::Value::String(name)) => Ok(Some(name.clone()?)),
-        _ => Ok(None),
+/// The name of the network's file that a service file's octets have, if they are a document that has one.
+pub fn network_name(alloc: Global, octets: &[u8]) -> Result<Option<String>, AllocError>
+    ensures { IfOk result (Names octets.now) }
+{
+    let mut told = String::new(alloc);
+    match read_document(alloc, &mut told, octets) {
+        Ok(document) => name_in(alloc, &document),
+        Err(Refusal::Told) => Ok(None),
+        Err(Refusal::OutOfMemory) => Err(AllocError),
+    }
+}
+
+fn name_in(alloc: Global, document: &Table) -> Result<Option<String>, AllocError>
+    ensures { IfOk result (λ name. option_map string_bytes name ≡ text_at (codes "network") (table_view document.now)) }
+{
+    match text_at(document, "network") {
+        Some(name) => Ok(Some(String::from_str(alloc, name)?)),
+        None => Ok(None),
     }
 }
 
@@ -48,24 +63,15 @@ fn tell_service(
         write!(out, "network: {told}")?;
         return Err(Refusal::Told);
     };
-    match first_broken_binding(&config, &file) {
+    if let Some(broken) = first_broken_binding(&config, &file) {
+        tell_broken(alloc, out, &config, &file, broken)?;
+        return Err(Refusal::Told);
+    }
+    let own = own_nodes(alloc, &config, &file)?;
+    match first_broken_line(&config, &file, own.as_slice()) {
         None => Ok(tell_bindings(out, &config, &file)?),
         Some(broken) => {
-            tell_broken(alloc, out, &config, &file, broken)?;
-            Err(Refusal::Told)
-        }
-    }
-}
-
-fn read_document(alloc: Global, out: &mut String, octets: &[u8]) -> Result<Table, Refusal> {
-    let Some(text) = text_of(octets) else {
-        out.push_str("the text is no UTF-8")?;
-        return Err(Refusal::Told);
-    };
-    match toml::table_from_str(alloc, text) {
-        Ok(document) => Ok(document),
-        Err(error) => {
-            tell_no_toml(alloc, out, &error)?;
+            tell_broken_line(out, &config, &file, broken)?;
             Err(Refusal::Told)
         }
     }

@@ -22,8 +22,17 @@ pub enum BuiltIn {
     Discard,
 }
 
-/// A port on which terminals of a PAD are had.
+/// What becomes of a call that is reset.
 #[derive(Clone, Copy)]
+pub enum AtReset {
+    /// It is cleared.
+    Clear,
+    /// It goes on, with a gap.
+    Continue,
+}
+
+/// A port on which terminals of a PAD are had.
+#[derive(Drop)]
 pub struct TerminalsTable<'a> {
     pub pad: &'a str,
     pub listen: SocketAddr,
@@ -34,14 +43,91 @@ pub struct TerminalsTable<'a> {
     pub greeting: Option<&'a str>,
     /// How many ticks without an octet either way end the connection; 0: none do.
     pub idle: u16,
-    pub allow: Allow<'a>,
+    pub allow: Allow,
+}
+
+/// A service that a connection leads to.
+#[derive(Clone, Copy)]
+pub struct Connect {
+    pub at: SocketAddr,
+    /// Whether a line that tells of the call is said first.
+    pub hello: bool,
+    /// After how many ticks a connection must stand.
+    pub wait: u16,
+    pub at_reset: AtReset,
+    /// How many ticks of quiet end the call after the service ended its side.
+    pub linger: u16,
+}
+
+/// What serves the incoming calls of a host.
+#[derive(Clone, Copy)]
+pub enum HostService {
+    BuiltIn(BuiltIn),
+    Connect(Connect),
 }
 
 /// What an incoming call at a host is.
 #[derive(Clone, Copy)]
 pub struct ServiceTable<'a> {
     pub host: &'a str,
-    pub builtin: BuiltIn,
+    pub service: HostService,
+}
+
+/// A port at which each connection places a call from a host.
+#[derive(Drop)]
+pub struct CallerTable<'a> {
+    pub host: &'a str,
+    pub listen: SocketAddr,
+    /// The address that is called, 1 to 15 digits.
+    pub call: &'a str,
+    /// Up to 16 octets.
+    pub user_data: Vec<u8>,
+    pub at_reset: AtReset,
+    /// How many ticks of quiet end the call after the caller ended its side.
+    pub linger: u16,
+    pub allow: Allow,
+}
+
+/// An end of a line.
+#[derive(Clone, Copy, PartialEq, Eq)]
+pub enum End {
+    Dte,
+    Dce,
+}
+
+/// How a connection to another process comes about.
+#[derive(Clone, Copy)]
+pub enum Way {
+    /// It comes to this address.
+    Listen(SocketAddr),
+    /// It is made to this address.
+    Connect(SocketAddr),
+}
+
+/// An end of a line of which the other end is elsewhere, in another process of the same network.
+#[derive(Drop)]
+pub struct LineTable {
+    /// The number of the line in the network's file, from 0.
+    pub line: u16,
+    /// Which end is here.
+    pub here: End,
+    pub way: Way,
+    /// After how many ticks without a connection the link is given up.
+    pub hold: u16,
+    /// After how many ticks of silence a connection is closed.
+    pub silence: u16,
+    pub allow: Allow,
+}
+
+/// Where frames are captured.
+#[derive(Clone, Copy)]
+pub struct CaptureTable<'a> {
+    /// The name of the first file.
+    pub file: &'a str,
+    /// How many MiB a file has at most, from 1 on.
+    pub size: u16,
+    /// How many files there are, from 1 on.
+    pub files: u16,
 }
 
 /// What a service file says.
@@ -50,10 +136,16 @@ pub struct ServiceFile<'a> {
     /// The name of the network's file, beside this one.
     pub network: &'a str,
     pub control: Option<SocketAddr>,
+    /// Where the page is had.
+    pub web: Option<SocketAddr>,
     /// The name of the file that the log is appended to; none: standard error.
     pub log: Option<&'a str>,
     /// How many connections there may be at once.
     pub connections: u16,
     pub terminals: Vec<TerminalsTable<'a>>,
     pub services: Vec<ServiceTable<'a>>,
+    pub callers: Vec<CallerTable<'a>>,
+    pub lines: Vec<LineTable>,
+    /// None: frames are not captured.
+    pub capture: Option<CaptureTable<'a>>,
 }

@@ -4,14 +4,28 @@
 mod addresses;
 mod checking;
 mod file;
+mod hosts;
+mod keys;
+mod line_rules;
+mod line_telling;
+mod lines;
+mod places;
 mod reading;
 mod refusal;
 mod rules;
 mod telling;
+mod values;
 
 pub use addresses::{Allow, Prefix};
 pub use checking::{check_service, network_name};
-pub use file::{BuiltIn, Mode, ServiceFile, ServiceTable, TerminalsTable};
-pub use reading::read_service;
+pub use file::{
+    AtReset, BuiltIn, CallerTable, CaptureTable, Connect, End, HostService, LineTable, Mode,
+    ServiceFile, ServiceTable, TerminalsTable, Way,
+};
+pub use line_rules::{BrokenLine, LineRule, first_broken_line, own_nodes};
+pub use reading::{read_document, read_service};
 pub use refusal::Refusal;
-pub use rules::{BrokenBinding, ServiceRule, TerminalsRule, first_broken_binding, terminals_in};
+pub use rules::{
+    BrokenBinding, CallerRule, ServiceRule, TerminalsRule, channels_of, first_broken_binding,
+    last_of, node_of, terminals_in,
+};

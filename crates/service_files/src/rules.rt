@@ -1,14 +1,14 @@
 //! The first rule that a service file breaks with its network.
 ghost use Rattle.std.specs.Prelude.{◌≡◌, ◌-◌, IfSome, is_none, not, length, find, option_map, unwrap_or};
 ghost use Rattle.std.specs.List.{list_all, list_any, filter, position};
-ghost use Rattle.net_config.specs.Served.{is_named, is_pad, is_pad_named, same_text};
+ghost use Rattle.net_config.specs.Served.{has_end, is_named, is_pad, is_pad_named, same_text};
 ghost use Rattle.net_config.specs.Rules.{first_of};
 ghost use Rattle.service_files.specs.Addresses.{same_place};
 ghost use Rattle.service_files.specs.Bindings as spec;
 
 use crate::addresses::{is_here, same_place};
-use crate::file::{Mode, ServiceFile, ServiceTable, TerminalsTable};
-use net_config::{Config, NodeConfig, NodeKind};
+use crate::file::{CallerTable, Mode, ServiceFile, ServiceTable, TerminalsTable};
+use net_config::{Config, LineConfig, NodeConfig, NodeKind};
 use std::net::SocketAddr;
 
 /// A rule that does not hold, and of which table, by its place.
@@ -16,6 +16,7 @@ use std::net::SocketAddr;
 pub enum BrokenBinding {
     Terminals(usize, TerminalsRule),
     Service(usize, ServiceRule),
+    Caller(usize, CallerRule),
     /// The control port is one of this machine alone.
     ControlBeyond,
 }
@@ -33,7 +34,7 @@ pub enum TerminalsRule {
     LastIsThere,
     /// No terminal stands in another table.
     Apart,
-    /// No other table has its `listen`, nor has `control`.
+    /// No other table has its `listen`, nor has `control` or `[web]`.
     ListenOnce,
     /// A greeting is said to telnet clients alone.
     GreetingAtTelnet,
@@ -50,6 +51,19 @@ pub enum ServiceRule {
     HostIsHost,
     /// The host has no other service.
     HostOnce,
+}
+
+/// A rule for `[[caller]]`.
+#[derive(Clone, Copy)]
+pub enum CallerRule {
+    /// Its `host` is the name of a node.
+    HostIsNode,
+    /// The node is a host.
+    HostIsHost,
+    /// No other table has its `listen`, nor has `control` or `[web]`.
+    ListenOnce,
+    /// If it listens beyond this machine, it says who may connect.
+    AllowBeyond,
 }
 
 const TERMINALS_RULES: [TerminalsRule; 8] = [
@@ -69,6 +83,13 @@ const SERVICE_RULES: [ServiceRule; 3] = [
     ServiceRule::HostOnce,
 ];
 
+const CALLER_RULES: [CallerRule; 4] = [
+    CallerRule::HostIsNode,
+    CallerRule::HostIsHost,
+    CallerRule::ListenOnce,
+    CallerRule::AllowBeyond,
+];
+
 fn is_named(name: &str, node: &NodeConfig) -> bool
     ensures { result ≡ is_named name.now node.now }
 {
@@ -79,6 +100,35 @@ fn find_node<'a>(nodes: &'a [NodeConfig], name: &str) -> Option<&'a NodeConfig>
     ensures { option_map (λ node. node.now) result ≡ find (is_named name.now) nodes.entry.now }
 {
     nodes.iter().find(|node| is_named(name, node))
+}
+
+/// The number in the network of the node of this name.
+pub fn node_of(nodes: &[NodeConfig], name: &str) -> Option<usize>
+    ensures { result ≡ position (is_named name.now) nodes.now }
+{
+    nodes.iter().position(|node| is_named(name, node))
+}
+
+fn has_end(name: &str, line: &LineConfig) -> bool
+    ensures { result ≡ has_end name.now line.now }
+{
+    line.dte.as_str() == name || line.dce.as_str() == name
+}
+
+fn find_line<'a>(lines: &'a [LineConfig], name: &str) -> Option<&'a LineConfig>
+    ensures { option_map (λ line. line.now) result ≡ find (has_end name.now) lines.entry.now }
+{
+    lines.iter().find(|line| has_end(name, line))
+}
+
+/// How many logical channels the first line has at which the node of this name is; none if it is at none.
+pub fn channels_of(config: &Config, name: &str) -> u16
+    ensures { result ≡ spec.channels_of config.now name.now }
+{
+    match find_line(&config.lines, name) {
+        Some(line) => line.channels,
+        None => 0,
+    }
 }
 
 /// How many terminals the node of this name has, none if it is no PAD.
@@ -169,11 +219,32 @@ fn count_overlaps(config: &Config, file: &ServiceFile<'_>, table: &TerminalsTabl
         .count()
 }
 
-/// How many tables listen there.
-fn count_listen(file: &ServiceFile<'_>, listen: SocketAddr) -> usize
+/// Whether no two tables listen there, nor the control port or the page.
+fn listens_once(file: &ServiceFile<'_>, listen: SocketAddr) -> bool
+    ensures { result ≡ spec.listens_once file.now listen }
+{
+    let terminals = count_terminals(file, listen);
+    let callers = count_callers(file, listen);
+    is_apart(listen, file.control)
+        && is_apart(listen, file.web)
+        && terminals <= 1
+        && callers <= 1
+        && (terminals == 0 || callers == 0)
+}
+
+fn count_terminals(file: &ServiceFile<'_>, listen: SocketAddr) -> usize
     ensures { result ≡ length (filter (λ other. same_place listen other.listen) file.now.terminals.items) }
 {
     file.terminals
+        .iter()
+        .filter(|other| same_place(listen, other.listen))
+        .count()
+}
+
+fn count_callers(file: &ServiceFile<'_>, listen: SocketAddr) -> usize
+    ensures { result ≡ length (filter (λ other. same_place listen other.listen) file.now.callers.items) }
+{
+    file.callers
         .iter()
         .filter(|other| same_place(listen, other.listen))
         .count()
@@ -198,7 +269,7 @@ fn is_telnet(mode: Mode) -> bool
     }
 }
 
-fn is_apart(listen: SocketAddr, other: Option<SocketAddr>) -> bool
+pub(crate) fn is_apart(listen: SocketAddr, other: Option<SocketAddr>) -> bool
     ensures { result ≡ spec.is_apart listen other }
 {
     match other {
@@ -230,9 +301,7 @@ fn terminals_keep(
         TerminalsRule::FirstIsThere => table.first < terminals_in(&config.nodes, table.pad),
         TerminalsRule::LastIsThere => has_last(config, table),
         TerminalsRule::Apart => count_overlaps(config, file, table) == 1,
-        TerminalsRule::ListenOnce => {
-            count_listen(file, table.listen) == 1 && is_apart(table.listen, file.control)
-        }
+        TerminalsRule::ListenOnce => listens_once(file, table.listen),
         TerminalsRule::GreetingAtTelnet => is_telnet(table.mode) || table.greeting.is_none(),
         TerminalsRule::AllowBeyond => is_here(table.listen.ip()) || table.allow.prefixes.is_some(),
     }
@@ -257,6 +326,22 @@ fn service_keeps(
         ServiceRule::HostIsNode => has_node(&config.nodes, table.host),
         ServiceRule::HostIsHost => has_host(&config.nodes, table.host),
         ServiceRule::HostOnce => count_host(file, table.host) == 1,
+    }
+}
+
+fn caller_keeps(
+    config: &Config,
+    file: &ServiceFile<'_>,
+    table: &CallerTable<'_>,
+    rule: CallerRule,
+) -> bool
+    ensures { result ≡ spec.caller_keeps config.now file.now table.now rule }
+{
+    match rule {
+        CallerRule::HostIsNode => has_node(&config.nodes, table.host),
+        CallerRule::HostIsHost => has_host(&config.nodes, table.host),
+        CallerRule::ListenOnce => listens_once(file, table.listen),
+        CallerRule::AllowBeyond => is_here(table.listen.ip()) || table.allow.prefixes.is_some(),
     }
 }
 
@@ -286,6 +371,19 @@ fn first_of_service(
         .find(|rule| !service_keeps(config, file, table, *rule))
 }
 
+fn first_of_caller(
+    config: &Config,
+    file: &ServiceFile<'_>,
+    table: &CallerTable<'_>,
+) -> Option<CallerRule>
+    ensures { result ≡ first_of (spec.caller_keeps config.now file.now) spec.caller_rules table.now }
+{
+    CALLER_RULES
+        .iter()
+        .copied()
+        .find(|rule| !caller_keeps(config, file, table, *rule))
+}
+
 fn terminals_fit(config: &Config, file: &ServiceFile<'_>, table: &TerminalsTable<'_>) -> bool
     ensures { result ≡ spec.terminals_fit config.now file.now table.now }
 {
@@ -300,6 +398,14 @@ fn service_fits(config: &Config, file: &ServiceFile<'_>, table: &ServiceTable<'_
     SERVICE_RULES
         .iter()
         .all(|rule| service_keeps(config, file, table, *rule))
+}
+
+fn caller_fits(config: &Config, file: &ServiceFile<'_>, table: &CallerTable<'_>) -> bool
+    ensures { result ≡ spec.caller_fits config.now file.now table.now }
+{
+    CALLER_RULES
+        .iter()
+        .all(|rule| caller_keeps(config, file, table, *rule))
 }
 
 fn find_terminals(config: &Config, file: &ServiceFile<'_>) -> Option<usize>
@@ -318,6 +424,14 @@ fn find_service(config: &Config, file: &ServiceFile<'_>) -> Option<usize>
         .position(|table| !service_fits(config, file, table))
 }
 
+fn find_caller(config: &Config, file: &ServiceFile<'_>) -> Option<usize>
+    ensures { result ≡ position (λ t. not (spec.caller_fits config.now file.now t)) file.now.callers.items }
+{
+    file.callers
+        .iter()
+        .position(|table| !caller_fits(config, file, table))
+}
+
 fn broken_terminals(config: &Config, file: &ServiceFile<'_>) -> Option<BrokenBinding>
     ensures { result ≡ spec.broken_terminals config.now file.now }
 {
@@ -334,6 +448,14 @@ fn broken_service(config: &Config, file: &ServiceFile<'_>) -> Option<BrokenBindi
     Some(BrokenBinding::Service(place, rule))
 }
 
+fn broken_caller(config: &Config, file: &ServiceFile<'_>) -> Option<BrokenBinding>
+    ensures { result ≡ spec.broken_caller config.now file.now }
+{
+    let place = find_caller(config, file)?;
+    let rule = first_of_caller(config, file, file.callers.get(place)?)?;
+    Some(BrokenBinding::Caller(place, rule))
+}
+
 fn broken_control(file: &ServiceFile<'_>) -> Option<BrokenBinding>
     ensures { result ≡ spec.broken_control file.now }
 {
@@ -344,8 +466,8 @@ fn broken_control(file: &ServiceFile<'_>) -> Option<BrokenBinding>
     }
 }
 
-/// The first rule that a service file breaks with a network: of its terminals, else of its services, or of its control
-/// port. None exactly if it fits the network.
+/// The first rule that a service file breaks with a network: of its terminals, its services, its callers or its
+/// control port, in this order. None exactly if it fits the network.
 pub fn first_broken_binding(config: &Config, file: &ServiceFile<'_>) -> Option<BrokenBinding>
     ensures first { result ≡ spec.first_broken config.now file.now }
     ensures none { is_none result ≡ spec.fits config.now file.now }
@@ -353,5 +475,6 @@ pub fn first_broken_binding(config: &Config, file: &ServiceFile<'_>) -> Option<B
 {
     broken_terminals(config, file)
         .or(broken_service(config, file))
+        .or(broken_caller(config, file))
         .or(broken_control(file))
 }

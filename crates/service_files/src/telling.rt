@@ -1,10 +1,12 @@
 //! How a rule that does not hold, and what fits, are told.
-use crate::file::{BuiltIn, ServiceFile, ServiceTable, TerminalsTable};
-use crate::rules::{BrokenBinding, ServiceRule, TerminalsRule, last_of, terminals_in};
+use crate::file::{BuiltIn, CallerTable, HostService, ServiceFile, ServiceTable, TerminalsTable};
+use crate::line_telling::tell_line;
+use crate::rules::{BrokenBinding, CallerRule, ServiceRule, TerminalsRule, last_of, terminals_in};
 use net_config::Config;
 use network_reasons::ask_for_node;
 use std::alloc::{AllocError, Global};
 use std::fmt::Write;
+use std::net::SocketAddr;
 
 /// Tells which rule does not hold, and of which table.
 pub(crate) fn tell_broken(
@@ -26,6 +28,13 @@ pub(crate) fn tell_broken(
             Some(table) => {
                 write!(out, "service {place}: ")?;
                 tell_service(alloc, out, config, table, rule)
+            }
+            None => Ok(()),
+        },
+        BrokenBinding::Caller(place, rule) => match file.callers.get(place) {
+            Some(table) => {
+                write!(out, "caller {place}: ")?;
+                tell_caller(alloc, out, config, table, rule)
             }
             None => Ok(()),
         },
@@ -52,22 +61,26 @@ fn tell_terminals(
         TerminalsRule::FirstIsThere => tell_first(out, config, table),
         TerminalsRule::LastIsThere => tell_last(out, config, table),
         TerminalsRule::Apart => write!(out, "a terminal of '{pad}' stands in another table too"),
-        TerminalsRule::ListenOnce => {
-            write!(
-                out,
-                "listen = \"{}\" stands in another table too, or is control",
-                table.listen
-            )
-        }
+        TerminalsRule::ListenOnce => tell_listen_twice(out, table.listen),
         TerminalsRule::GreetingAtTelnet => out.push_str(
             "a greeting is for mode = \"telnet\" alone",
         ),
-        TerminalsRule::AllowBeyond => write!(
-            out,
-            "listen = \"{}\" is beyond this machine, and allow has to say who may connect",
-            table.listen
-        ),
+        TerminalsRule::AllowBeyond => tell_beyond(out, table.listen),
     }
+}
+
+fn tell_listen_twice(out: &mut String, listen: SocketAddr) -> Result<(), AllocError> {
+    write!(
+        out,
+        "listen = \"{listen}\" stands in another table too, or is control"
+    )
+}
+
+fn tell_beyond(out: &mut String, listen: SocketAddr) -> Result<(), AllocError> {
+    write!(
+        out,
+        "listen = \"{listen}\" is beyond this machine, and allow has to say who may connect"
+    )
 }
 
 fn tell_first(
@@ -107,13 +120,39 @@ fn tell_service(
 ) -> Result<(), AllocError> {
     let host = table.host;
     match rule {
-        ServiceRule::HostIsNode => {
-            write!(out, "host = \"{host}\" is no node")?;
-            ask_for_node(alloc, out, config, host)
-        }
-        ServiceRule::HostIsHost => write!(out, "host = \"{host}\" is no host"),
+        ServiceRule::HostIsNode => tell_no_node(alloc, out, config, host),
+        ServiceRule::HostIsHost => tell_no_host(out, host),
         ServiceRule::HostOnce => write!(out, "'{host}' has another service too"),
     }
+}
+
+fn tell_caller(
+    alloc: Global,
+    out: &mut String,
+    config: &Config,
+    table: &CallerTable<'_>,
+    rule: CallerRule,
+) -> Result<(), AllocError> {
+    match rule {
+        CallerRule::HostIsNode => tell_no_node(alloc, out, config, table.host),
+        CallerRule::HostIsHost => tell_no_host(out, table.host),
+        CallerRule::ListenOnce => tell_listen_twice(out, table.listen),
+        CallerRule::AllowBeyond => tell_beyond(out, table.listen),
+    }
+}
+
+fn tell_no_node(
+    alloc: Global,
+    out: &mut String,
+    config: &Config,
+    host: &str,
+) -> Result<(), AllocError> {
+    write!(out, "host = \"{host}\" is no node")?;
+    ask_for_node(alloc, out, config, host)
+}
+
+fn tell_no_host(out: &mut String, host: &str) -> Result<(), AllocError> {
+    write!(out, "host = \"{host}\" is no host")
 }
 
 /// Tells what a file that fits its network binds, a line each, of which the last one has no end.
@@ -131,17 +170,37 @@ pub(crate) fn tell_bindings(
         )?;
     }
     for table in &file.services {
+        write!(out, "host {}: ", table.host)?;
+        tell_host_service(out, table.service)?;
+    }
+    for table in &file.callers {
         write!(
             out,
-            "host {}: builtin {}\n",
-            table.host,
-            name_of(table.builtin)
+            "calls of {} from host {} at {}\n",
+            table.call, table.host, table.listen
         )?;
+    }
+    for table in &file.lines {
+        tell_line(out, config, table)?;
+    }
+    if let Some(web) = file.web {
+        write!(out, "page at {web}\n")?;
     }
     if let Some(control) = file.control {
         write!(out, "control at {control}\n")?;
     }
+    if let Some(capture) = file.capture {
+        let (name, files, size) = (capture.file, capture.files, capture.size);
+        write!(out, "capture in {name}, {files} files of {size} MiB\n")?;
+    }
     write!(out, "at most {} connections", file.connections)
+}
+
+fn tell_host_service(out: &mut String, service: HostService) -> Result<(), AllocError> {
+    match service {
+        HostService::BuiltIn(builtin) => write!(out, "builtin {}\n", name_of(builtin)),
+        HostService::Connect(connect) => write!(out, "connect {}\n", connect.at),
+    }
 }
 
 fn name_of(builtin: BuiltIn) -> &'static str {

@@ -1,3 +1,4 @@
+pub mod Forward
 pub mod Forms
 pub mod PortsHeard
 pub mod ClientReading

@@ -4,6 +4,7 @@
 mod command;
 mod input;
 mod law;
+mod mode;
 mod options;
 mod output;
 mod port;
@@ -11,5 +12,6 @@ mod port;
 pub use command::Command;
 pub use input::{Heard, Key, TelnetReader};
 pub use law::telnet_law;
+pub use mode::Mode;
 pub use output::TelnetOutput;
 pub use port::Port;

@@ -91,6 +91,19 @@ impl TelnetOutput {
         true
     }
 
+    /// Writes octets as they are, and says so, if there is room for text of as many. Otherwise nothing changes.
+    pub fn pass(&mut self, octets: &[u8]) -> bool
+        ensures passed { OnTrue result (self.new ≡ record self.old { octets = self.old.octets ++ octets.now }) }
+        ensures full { OnFalse result (self.new ≡ self.old) }
+        ensures room { result ≡ nat_le (length self.old.octets + (2 * length octets.now + 1)) self.old.capacity }
+    {
+        if !self.has_room(octets.len()) {
+            return false;
+        }
+        self.push_all(octets);
+        true
+    }
+
     fn push_text(&mut self, octet: u8)
         requires { length self.old.octets + length (octet_form self.old.after_return octet) ≤ self.old.capacity }
         ensures { self.new ≡ with_text self.old (octet ∷ []) }

@@ -1,12 +1,14 @@
 //! One client's side of a terminal.
-ghost use Rattle.std.specs.Prelude.{◌≡◌, ◌+◌, ◌*◌, ◌≤◌, ◌<◌, [], ◌∷◌, ◌++◌, true, false, nat_le, length, take, drop, slice_get, position, IfOk};
+ghost use Rattle.std.specs.Prelude.{◌≡◌, ◌+◌, ◌*◌, ◌≤◌, ◌<◌, [], ◌∷◌, ◌++◌, ◌&&◌, true, false, nat_le, length, take, drop, remove, slice_get, position, IfOk};
 ghost use Rattle.std.specs.Bool.{OnTrue, OnFalse};
 ghost use Rattle.circular_buffer.specs.Buffer.{buffer};
-ghost use Rattle.service_ports.specs.Ports.{begun, after_octet, after_octets, is_break_or, takes_octet};
-ghost use Rattle.service_ports.specs.Writing.{with_text, with_command};
+ghost use Rattle.service_ports.specs.Modes.{is_telnet, with_shown};
+ghost use Rattle.service_ports.specs.Ports.{begun, after_octet, after_octets, is_break_or, is_octet, takes_octet};
+ghost use Rattle.service_ports.specs.Writing.{with_command};
 
 use crate::command::{Command, ECHO, SUPPRESS_GO_AHEAD};
 use crate::input::{Heard, Key, TelnetReader};
+use crate::mode::Mode;
 use crate::output::TelnetOutput;
 use circular_buffer::HeapCircularBuffer;
 use std::alloc::{AllocError, Global};
@@ -21,6 +23,7 @@ pub const MOST_OCTETS: usize = 16_384;
 /// One client's side of a terminal: what the client sent and is not typed yet, and what is shown and not written yet.
 #[derive(Drop)]
 pub struct Port {
+    mode: Mode,
     reader: TelnetReader,
     keys: HeapCircularBuffer<Key>,
     output: TelnetOutput,
@@ -32,19 +35,20 @@ impl Model for Port {
 
     ghost Value = { PortState };
 
-    ghost view = { λ p. record { reader = p.reader; keys = p.keys; output = p.output } };
+    ghost view = { λ p. record { mode = p.mode; reader = p.reader; keys = p.keys; output = p.output } };
 
     ghost invariant = { λ p. (p.keys.capacity ≡ key_places) × (p.output.capacity ≡ octet_places) };
 }
 
 impl Port {
     /// A port for a new client. `AllocError` comes for want of memory; no other call wants any.
-    pub fn new(alloc: Global) -> Result<Self, AllocError>
-        ensures { IfOk result (λ port. port ≡ begun) }
+    pub fn new(alloc: Global, mode: Mode) -> Result<Self, AllocError>
+        ensures { IfOk result (λ port. port ≡ begun mode) }
     {
         let keys = HeapCircularBuffer::with_capacity(alloc, MOST_KEYS)?;
         let output = TelnetOutput::new(alloc, MOST_OCTETS)?;
         let mut port = Port {
+            mode,
             reader: TelnetReader::new(),
             keys,
             output,
@@ -53,16 +57,25 @@ impl Port {
         Ok(port)
     }
 
-    /// Forgets the last client, and offers both options to the next one: the server echoes (RFC 857), and sends no
+    /// Forgets the last client. The next one of telnet is offered both options: the server echoes (RFC 857), and sends no
     /// go-ahead (RFC 858).
     pub fn begin(&mut self)
-        ensures { self.new ≡ begun }
+        ensures { self.new ≡ begun self.old.mode }
     {
         self.reader = TelnetReader::new();
         self.keys.clear();
         self.output.clear();
-        let _ = self.output.tell(Command::Will(ECHO));
-        let _ = self.output.tell(Command::Will(SUPPRESS_GO_AHEAD));
+        if self.mode.is_telnet() {
+            let _ = self.output.tell(Command::Will(ECHO));
+            let _ = self.output.tell(Command::Will(SUPPRESS_GO_AHEAD));
+        }
+    }
+
+    /// Whether its client is one of telnet.
+    pub fn is_telnet(&self) -> bool
+        ensures { result ≡ is_telnet self.now.mode }
+    {
+        self.mode.is_telnet()
     }
 
     /// Whether it takes another octet of its client: there is room for its key and for an answer.
@@ -94,7 +107,11 @@ impl Port {
         requires { takes_octet self.old ≡ true }
         ensures { self.new ≡ after_octet self.old octet }
     {
-        match self.reader.read(octet) {
+        let heard = match self.mode {
+            Mode::Telnet => self.reader.read(octet),
+            Mode::Raw => Heard::Typed(Key::Octet(octet)),
+        };
+        match heard {
             Heard::Nothing => {}
             Heard::Typed(key) => self.push_key(key),
             Heard::Answered(command) => {
@@ -126,6 +143,13 @@ impl Port {
         self.keys.iter().position(|key| is_break_or(*key, octet))
     }
 
+    /// The place of the first key that waits and is of this octet.
+    pub fn find_octet(&self, octet: u8) -> Option<usize>
+        ensures { result ≡ position (is_octet octet) self.now.keys.items }
+    {
+        self.keys.iter().position(|key| is_octet(*key, octet))
+    }
+
     /// How many keys wait to be typed.
     pub fn waiting_keys(&self) -> usize
         ensures { result ≡ length self.now.keys.items }
@@ -148,6 +172,18 @@ impl Port {
         self.keys.truncate_front(left);
     }
 
+    /// Drops the key of this place, which was typed before its turn. If there is none, nothing changes.
+    pub fn drop_key(&mut self, place: usize)
+        ensures { self.new ≡ record self.old {
+          keys = buffer (remove self.old.keys.items place) self.old.keys.capacity;
+        } }
+    {
+        if place < self.keys.len() {
+            bring_forward(self.keys.make_contiguous(), place);
+            self.keys.pop_front();
+        }
+    }
+
     /// Whether there is room for any text of so many octets.
     pub fn has_room(&self, text: usize) -> bool
         ensures { result ≡ nat_le (length self.now.output.octets + (2 * text + 1)) self.now.output.capacity }
@@ -157,20 +193,27 @@ impl Port {
 
     /// Shows text to the client, and says so, if there is room for its longest form. Otherwise nothing changes.
     pub fn show(&mut self, text: &[u8]) -> bool
-        ensures shown { OnTrue result (self.new ≡ record self.old { output = with_text self.old.output text.now }) }
+        ensures shown { OnTrue result (self.new ≡ record self.old {
+          output = with_shown self.old.mode self.old.output text.now;
+        }) }
         ensures full { OnFalse result (self.new ≡ self.old) }
         ensures room { result ≡ nat_le (length self.old.output.octets + (2 * length text.now + 1)) self.old.output.capacity }
     {
-        self.output.show(text)
+        match self.mode {
+            Mode::Telnet => self.output.show(text),
+            Mode::Raw => self.output.pass(text),
+        }
     }
 
-    /// Sends a command to the client, and says so, if there is room for any command. Otherwise nothing changes.
+    /// Sends a command to the client, and says so, if it is one of telnet and there is room for any command. Otherwise
+    /// nothing changes.
     pub fn tell(&mut self, command: Command) -> bool
         ensures told { OnTrue result (self.new ≡ record self.old { output = with_command self.old.output command }) }
         ensures full { OnFalse result (self.new ≡ self.old) }
-        ensures room { result ≡ nat_le (length self.old.output.octets + 4) self.old.output.capacity }
+        ensures room { result ≡ is_telnet self.old.mode
+            && nat_le (length self.old.output.octets + 4) self.old.output.capacity }
     {
-        self.output.tell(command)
+        self.mode.is_telnet() && self.output.tell(command)
     }
 
     /// Octets that wait to be written, from the first on: some if there are any, and not always all.
@@ -191,6 +234,15 @@ impl Port {
     }
 }
 
+/// Moves the key of a place before all others.
+fn bring_forward(keys: &mut [Key], place: usize)
+    requires { place < length keys.old }
+    ensures len { length keys.new ≡ length keys.old }
+    ensures others { drop 1 keys.new ≡ remove keys.old place }
+{
+    keys[..=place].rotate_right(1);
+}
+
 /// Whether a key is a break or of this octet.
 fn is_break_or(key: Key, octet: u8) -> bool
     ensures { result ≡ is_break_or octet key }
@@ -199,4 +251,11 @@ fn is_break_or(key: Key, octet: u8) -> bool
         Key::Octet(typed) => typed == octet,
         Key::Break => true,
     }
+}
+
+/// Whether a key is of this octet.
+fn is_octet(key: Key, octet: u8) -> bool
+    ensures { result ≡ is_octet octet key }
+{
+    matches!(key, Key::Octet(typed) if typed == octet)
 }

@@ -50,3 +50,16 @@ pub(crate) fn seconds_since_1970(rt: &HostRuntime) -> io::Result<i64> {
         Err(_) => Ok(0),
     }
 }
+
+/// The microseconds since the beginning of 1970: another number at each start.
+pub(crate) fn micros_since_1970(rt: &HostRuntime) -> io::Result<u64> {
+    match SystemTime::now(rt)?.duration_since(UNIX_EPOCH) {
+        Ok(passed) => Ok(
+            passed
+                .as_secs()
+                .saturating_mul(1_000_000)
+                .saturating_add(u64::from(passed.subsec_micros())),
+        ),
+        Err(_) => Ok(0),
+    }
+}

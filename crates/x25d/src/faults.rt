@@ -1,7 +1,9 @@
 //! Why the program cannot do what it is asked for.
+use service_files::Refusal;
 use std::alloc::AllocError;
+use std::fmt;
+use std::io::{self, ErrorKind};
 use std::net::SocketAddr;
-use std::{fmt, io};
 
 /// Why what the words ask for cannot be done.
 #[derive(Clone, Copy)]
@@ -14,6 +16,8 @@ pub(crate) enum Fault {
     NoServiceFile(io::Error),
     /// The file of the network cannot be read.
     NoNetworkFile(io::Error),
+    /// The log cannot be opened.
+    NoLog(io::Error),
     /// The service has no client at this port.
     NoClient(u16),
     /// The system fails in something else, or there is no memory.
@@ -27,6 +31,7 @@ impl fmt::Display for Fault {
             Fault::NoAnswer(at, error) => write!(f, "no service answers at {at}: {error}"),
             Fault::NoServiceFile(error) => write!(f, "the service file cannot be read: {error}"),
             Fault::NoNetworkFile(error) => write!(f, "the network file cannot be read: {error}"),
+            Fault::NoLog(error) => write!(f, "the log cannot be opened: {error}"),
             Fault::NoClient(port) => write!(f, "no client at port {port}"),
             Fault::System(error) => write!(f, "{error}"),
         }
@@ -42,5 +47,14 @@ impl From<io::Error> for Fault {
 impl From<AllocError> for Fault {
     fn from(error: AllocError) -> Self {
         Fault::System(io::Error::from(error))
+    }
+}
+
+impl From<Refusal> for Fault {
+    fn from(refusal: Refusal) -> Self {
+        match refusal {
+            Refusal::OutOfMemory => Fault::from(AllocError),
+            Refusal::Told => Fault::System(io::Error::from(ErrorKind::InvalidData)),
+        }
     }
 }

@@ -1,17 +1,33 @@
 //! An X.25 network that people can use: telnet to it and dial.
 #![tactic(auto)]
 
+mod admitting;
 mod asking;
+mod bindings;
+mod bridging;
+mod captures;
 mod checking;
-mod clients;
 mod clock;
+mod connecting;
 mod controls;
 mod faults;
+mod files;
+mod first_lines;
+mod lines;
 mod log;
+mod names;
 mod network;
+mod places;
+mod pumps;
+mod questions;
+mod serving;
+mod shares;
 mod shell;
 mod sockets;
 mod status;
+mod visits;
+mod web;
+mod wires;
 mod words;
 
 use faults::Fault;
@@ -46,7 +62,8 @@ fn obey(rt: &HostRuntime, words: &Words<'_>) -> Result<bool, Fault> {
     match words.asked {
         Asked::CheckService { file } => return checking::check_service(rt, file),
         Asked::CheckNetwork { file } => return checking::check_network(rt, file),
-        Asked::Serve { listen } => shell::serve(rt, listen, words.control)?,
+        Asked::ServeFile { file } => return serving::serve_file(rt, file),
+        Asked::Serve { listen } => serving::serve_built_in(rt, listen, words.control)?,
         Asked::Status => asking::ask(rt, words.control, "status")?,
         Asked::Stop => asking::ask(rt, words.control, "stop")?,
         Asked::Clear { port } => asking::ask_to_clear(rt, words.control, port)?,

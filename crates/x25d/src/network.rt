@@ -1,13 +1,7 @@
-//! The built-in network: a PAD for clients of telnet, a switch, and hosts with built-in services.
-use line_sim::{Config, MakeFault, MemLine, mem_lines};
-use live_net::LiveNet;
-use net_files::{ProgFault, read_net};
-use service::{BuiltIn, HostBinding, Service, TerminalsBinding};
-use std::alloc::Global;
-use std::io::{self, ErrorKind};
+//! The built-in network: a PAD for clients of telnet, a switch, and hosts with services.
 
 /// The built-in network.
-const NETWORK: &str = r#"
+pub(crate) const NETWORK: &str = r#"
 [[node]]
 name = "exchange"
 kind = "switch"
@@ -24,6 +18,10 @@ kind = "host"
 
 [[node]]
 name = "time"
+kind = "host"
+
+[[node]]
+name = "own"
 kind = "host"
 
 [[line]]
@@ -47,6 +45,13 @@ address = "2002"
 channels = 32
 window = 7
 
+[[line]]
+dte = "own"
+dce = "exchange"
+address = "2003"
+channels = 32
+window = 7
+
 [[route]]
 switch = "exchange"
 prefix = "1000"
@@ -61,63 +66,34 @@ line = 1
 switch = "exchange"
 prefix = "2002"
 line = 2
+
+[[route]]
+switch = "exchange"
+prefix = "2003"
+line = 3
 "#;
 
-/// The terminals of the built-in network.
-const TERMINALS: TerminalsBinding<'static> = TerminalsBinding {
-    name: "desk",
-    node: 1,
-    terminals: 8,
-};
+/// How people and programs come to its nodes. The words say where its terminals and its control port are.
+pub(crate) const SERVICE: &str = r#"
+network = "built-in"
 
-/// Its hosts.
-const HOSTS: [HostBinding; 2] = [
-    HostBinding {
-        node: 2,
-        channels: 32,
-        service: BuiltIn::Echo,
-    },
-    HostBinding {
-        node: 3,
-        channels: 32,
-        service: BuiltIn::Time,
-    },
-];
+[[terminals]]
+pad = "desk"
+listen = "127.0.0.1:7001"
 
-/// What the numbers of the built-in network are.
-pub(crate) const NUMBERS: &str = "2001 echoes, 2002 tells the time";
+[[service]]
+host = "echo"
+builtin = "echo"
 
-/// The names of its nodes.
-pub(crate) const NODES: [&str; 4] = ["exchange", "desk", "echo", "time"];
+[[service]]
+host = "time"
+builtin = "time"
 
-/// Makes the built-in network with its services.
-pub(crate) fn built_in(alloc: Global) -> io::Result<Service<MemLine>> {
-    let config = config(alloc)?;
-    service_on(alloc, &config)
-}
+[[service]]
+host = "own"
+connect = "127.0.0.1:8001"
+"#;
 
-/// The network of the text.
-fn config(alloc: Global) -> io::Result<Config> {
-    match read_net(alloc, NETWORK) {
-        Ok(config) => Ok(config),
-        Err(ProgFault::OutOfMemory) => Err(io::Error::from(ErrorKind::OutOfMemory)),
-        Err(_) => Err(io::Error::from(ErrorKind::InvalidData)),
-    }
-}
-
-/// A service on a network.
-fn service_on(alloc: Global, config: &Config) -> io::Result<Service<MemLine>> {
-    let count = config.lines.len();
-    let net = net_of(alloc, config)?;
-    Ok(Service::new(alloc, net, count, &TERMINALS, &HOSTS)?)
-}
-
-/// A network over lines in memory.
-fn net_of(alloc: Global, config: &Config) -> io::Result<LiveNet<MemLine>> {
-    let lines = mem_lines(alloc, config.lines.len())?;
-    match LiveNet::new(alloc, config, lines) {
-        Ok(net) => Ok(net),
-        Err(MakeFault::OutOfMemory) => Err(io::Error::from(ErrorKind::OutOfMemory)),
-        Err(_) => Err(io::Error::from(ErrorKind::InvalidData)),
-    }
-}
+/// What its numbers are.
+pub(crate) const NUMBERS: &str =
+    "2001 echoes, 2002 tells the time, 2003 is your own service on 127.0.0.1:8001";

@@ -1,23 +1,25 @@
 //! The sockets of a service, its clock and its log. It has no rule of its own.
-use crate::asking::REFUSED;
-use crate::clients::{self, Client};
+use crate::bridging::connects;
+use crate::captures::Captures;
 use crate::clock::{self, Clock, TICK_MILLIS};
-use crate::controls::{self, Control, Question};
-use crate::faults::Fault;
+use crate::controls::{self, Control};
+use crate::lines::Lines;
 use crate::log::Log;
-use crate::network::{self, NUMBERS};
-use crate::sockets::{self, Sockets};
-use crate::status::status_text;
-use crate::words::CONTROL;
-use frame_lines::MemLine;
-use mio::Token;
-use mio::net::TcpStream;
-use service::{Order, Service};
-use std::io::{self, Write};
-use std::net::SocketAddr;
+use crate::names::Names;
+use crate::places::{Place, places};
+use crate::pumps::{is_busy, read_port, write_port};
+use crate::questions::serve_control;
+use crate::serving::Running;
+use crate::sockets::Sockets;
+use crate::visits::{self, Visit};
+use crate::web::serve_visit;
+use mio::{Events, Token};
+use service::Order;
+use service_files::{Connect, ServiceFile};
+use std::io;
 
-/// How many connections are accepted in one turn.
-const MOST_ACCEPTED: usize = 128;
+/// How many events the system tells at once.
+const MOST_EVENTS: usize = 256;
 
 /// How many orders of the service are done in one turn.
 const MOST_ORDERS: usize = 256;
@@ -25,231 +27,240 @@ const MOST_ORDERS: usize = 256;
 /// How many rounds the service has in one turn.
 const MOST_ROUNDS: u32 = 64;
 
-/// What a client is told for whom there is no terminal.
-const NO_TERMINAL: &[u8] = b"All terminals are taken. Try again later.\r\n";
-
-/// Serves the built-in network, with its terminals and its control port at these addresses, until it is stopped.
-pub(crate) fn serve(
-    rt: &HostRuntime,
-    listen: SocketAddr,
-    control: SocketAddr,
-) -> Result<(), Fault> {
-    let sockets = Sockets::open(rt, listen, control)?;
-    let mut service = network::built_in(rt.alloc())?;
-    let outcome = serve_at(rt, sockets, &mut service);
-    service.release();
-    outcome
-}
-
-/// Serves a network at these sockets until it is stopped.
-fn serve_at(
-    rt: &HostRuntime,
-    sockets: Sockets,
-    service: &mut Service<MemLine>,
-) -> Result<(), Fault> {
-    let mut shell = Shell::new(rt, sockets, service.ports())?;
-    shell.greet(rt);
-    for _ in 0..u64::MAX {
-        if !shell.turn(rt, service)? {
-            break;
-        }
-    }
-    shell.log.write(rt, "stopped");
-    Ok(())
-}
-
 /// All that the shell has.
 #[derive(Drop)]
-struct Shell {
-    sockets: Sockets,
-    clients: Vec<Client>,
-    controls: Vec<Option<Control>>,
+pub(crate) struct Shell<'a> {
+    names: Names<'a>,
+    /// How many connections there may be at once.
+    pub(crate) connections: u16,
+    /// The services that connections lead to.
+    pub(crate) services: Vec<Connect>,
+    pub(crate) sockets: Sockets<'a>,
+    /// What the system tells.
+    events: Events,
+    /// The connections of all ports.
+    pub(crate) places: Vec<Place>,
+    pub(crate) lines: Lines<'a>,
+    pub(crate) controls: Vec<Option<Control>>,
+    pub(crate) visits: Vec<Option<Visit>>,
     clock: Clock,
-    log: Log,
+    pub(crate) log: Log,
+    pub(crate) captures: Option<Captures>,
     busy: bool,
 }
 
-impl Shell {
-    fn new(rt: &HostRuntime, sockets: Sockets, ports: usize) -> io::Result<Self> {
+impl<'a> Shell<'a> {
+    /// A shell that begins, without connections at so many ports.
+    pub(crate) fn new(
+        rt: &HostRuntime,
+        names: Names<'a>,
+        file: &'a ServiceFile<'_>,
+        sockets: Sockets<'a>,
+        log: Log,
+        ports: usize,
+    ) -> io::Result<Self> {
         Ok(Shell {
+            names,
+            connections: file.connections,
+            services: connects(rt.alloc(), file)?,
+            lines: Lines::new(rt.alloc(), file, &sockets)?,
             sockets,
-            clients: clients::places(rt.alloc(), ports)?,
+            events: Events::with_capacity(rt.alloc(), MOST_EVENTS)?,
+            places: places(rt.alloc(), ports)?,
             controls: controls::places(rt.alloc())?,
+            visits: visits::places(rt.alloc())?,
             clock: Clock::new(rt)?,
-            log: Log::NEW,
+            log,
+            captures: None,
             busy: false,
         })
     }
 
-    /// Says where the terminals are, and what can be dialled.
-    fn greet(&mut self, rt: &HostRuntime) {
-        let (terminals, control) = (self.sockets.terminals.at, self.sockets.control.at);
-        let _ = say_first(rt, terminals, control);
+    /// Tells the log that the service begins, and where.
+    pub(crate) fn begin(&mut self, rt: &HostRuntime) {
         self.log.start(rt);
-        self.log.bind(rt, "terminals", terminals);
-        self.log.bind(rt, "control", control);
+        for entrance in &self.sockets.entrances {
+            self.log.bind(rt, entrance);
+        }
+    }
+
+    /// Tells the log that the service has ended.
+    pub(crate) fn end(&mut self, rt: &HostRuntime) {
+        self.log.stopped(rt);
     }
 
     /// Waits for something to happen, does what is to be done, and says whether the service goes on.
-    fn turn(&mut self, rt: &HostRuntime, service: &mut Service<MemLine>) -> io::Result<bool> {
+    pub(crate) fn turn(&mut self, rt: &HostRuntime, service: &mut Running) -> io::Result<bool> {
         self.wait()?;
-        self.accept_clients(rt, service);
-        self.accept_controls(rt);
+        let came = self.accept(rt, service);
         let ticks = self.pass_time(rt, service)?;
+        self.tell_made(rt, service);
         self.read(service);
-        let more = service.work(MOST_ROUNDS);
+        self.turn_lines(rt, service, ticks);
+        let more = work(service);
         let wrote = self.write(service);
-        self.obey(rt, service);
+        let sent = self.lines.write(service);
+        let obeyed = self.obey(rt, service);
+        let told = self.lines.obey(rt, service, &mut self.log);
         self.serve_controls(rt, service, ticks);
-        self.busy = more || wrote || self.is_busy(service);
+        self.serve_visits(rt, service, ticks);
+        self.write_captured(rt, service);
+        self.busy = came || more || wrote || sent || obeyed || told || self.is_busy(service);
         Ok(!service.has_stopped())
     }
 
     /// Waits for the sockets, until the next tick if nothing is to be done.
     fn wait(&mut self) -> io::Result<()> {
-        self.sockets.wait(if self.busy { 0 } else { TICK_MILLIS })?;
-        for event in self.sockets.events.iter() {
+        let millis = if self.busy { 0 } else { TICK_MILLIS };
+        self.sockets.wait(&mut self.events, millis)?;
+        let doors = self.sockets.entrances.len();
+        for event in self.events.iter() {
             let Token(token) = event.token();
-            match token {
-                sockets::TERMINALS => self.sockets.terminals.waits = true,
-                sockets::CONTROL => self.sockets.control.waits = true,
-                _ => {
-                    if let Some(client) = self.clients.get_mut(sockets::port_of(token)) {
-                        client.report(event.is_readable(), event.is_writable());
-                    }
-                }
+            if let Some(entrance) = self.sockets.entrances.get_mut(token) {
+                entrance.door.report();
+            } else if let Some(place) = self.places.get_mut(token.wrapping_sub(doors)) {
+                place.connection.report(event);
+            } else if let Some(wire) = self
+                .lines
+                .wire_mut(token.wrapping_sub(doors).wrapping_sub(self.places.len()))
+            {
+                wire.connection.report(event);
             }
         }
         Ok(())
     }
 
     /// Gives the service the time.
-    fn pass_time(&mut self, rt: &HostRuntime, service: &mut Service<MemLine>) -> io::Result<u16> {
+    fn pass_time(&mut self, rt: &HostRuntime, service: &mut Running) -> io::Result<u16> {
         service.time(clock::seconds_since_1970(rt)?);
+        if self.captures.is_some() {
+            service.time_frames(clock::micros_since_1970(rt)?);
+        }
         let ticks = self.clock.ticks(rt)?;
+        self.log.seconds = self.clock.seconds();
         if ticks > 0 {
             service.elapse(ticks);
         }
         Ok(ticks)
     }
 
-    /// Accepts the clients that wait.
-    fn accept_clients(&mut self, rt: &HostRuntime, service: &mut Service<MemLine>) {
-        for _ in 0..MOST_ACCEPTED {
-            match self.sockets.terminals.next() {
-                Some((stream, peer)) => self.admit(rt, service, stream, peer),
-                None => return,
-            }
+    /// Reads what came on lines to other processes, and asks for connections of those that have none.
+    fn turn_lines(&mut self, rt: &HostRuntime, service: &mut Running, ticks: u16) {
+        let ports = self.places.len();
+        self.lines
+            .turn(rt, service, &mut self.log, &self.sockets, ports, ticks);
+    }
+
+    /// Writes what was captured. If it cannot be written, the capture ends, and nothing else.
+    fn write_captured(&mut self, rt: &HostRuntime, service: &mut Running) {
+        let outcome = match self.captures.as_mut() {
+            Some(captures) => captures.write(rt, service, self.log.seconds),
+            None => return,
+        };
+        if let Err(why) = outcome {
+            self.captures = None;
+            self.log.capture_ended(rt, why);
         }
     }
 
-    /// Gives a client a terminal, if one is free.
-    fn admit(
-        &mut self,
-        rt: &HostRuntime,
-        service: &mut Service<MemLine>,
-        mut stream: TcpStream,
-        peer: SocketAddr,
-    ) {
-        let _ = stream.set_nodelay(true);
-        match service.attach() {
-            Some(port) => self.connect(rt, service, stream, peer, port),
-            None => {
-                let _ = stream.write(NO_TERMINAL);
-                self.log.refuse(rt, peer, self.clock.seconds());
-            }
-        }
-    }
-
-    fn connect(
-        &mut self,
-        rt: &HostRuntime,
-        service: &mut Service<MemLine>,
-        mut stream: TcpStream,
-        peer: SocketAddr,
-        port: usize,
-    ) {
-        if !self.sockets.watch(&mut stream, port) {
-            service.closed(port);
-            return;
-        }
-        if let Some(client) = self.clients.get_mut(port) {
-            client.open(stream);
-        }
-        self.log.attach(rt, port, peer);
-    }
-
-    /// Accepts the questions that wait, as far as there are places.
-    fn accept_controls(&mut self, rt: &HostRuntime) {
-        for place in self.controls.iter_mut() {
-            if place.is_none() {
-                match self.sockets.control.next() {
-                    Some((stream, _)) => *place = Some(Control::new(rt.alloc(), stream)),
-                    None => return,
-                }
-            }
-        }
-    }
-
-    fn read(&mut self, service: &mut Service<MemLine>) {
-        for port in 0..self.clients.len() {
-            if let Some(client) = self.clients.get_mut(port) {
-                client.read(service, port);
+    fn read(&mut self, service: &mut Running) {
+        for port in 0..self.places.len() {
+            if let Some(place) = self.places.get_mut(port)
+                && place.connection.may_read()
+            {
+                read_port(service, port, place);
             }
         }
     }
 
     /// Writes what waits, and says whether anything was written: then there may be room for more.
-    fn write(&mut self, service: &mut Service<MemLine>) -> bool {
+    fn write(&mut self, service: &mut Running) -> bool {
         let mut any = false;
-        for port in 0..self.clients.len() {
-            if let Some(client) = self.clients.get_mut(port) {
-                let wrote = client.write(service, port);
+        for port in 0..self.places.len() {
+            if let Some(place) = self.places.get_mut(port)
+                && place.connection.may_write()
+            {
+                let wrote = write_port(service, port, place);
                 any = any || wrote;
             }
         }
         any
     }
 
-    fn is_busy(&self, service: &Service<MemLine>) -> bool {
-        for port in 0..self.clients.len() {
-            if let Some(client) = self.clients.get(port)
-                && client.is_busy(service, port)
+    fn is_busy(&self, service: &Running) -> bool {
+        for port in 0..self.places.len() {
+            if let Some(place) = self.places.get(port)
+                && is_busy(service, port, &place.connection)
             {
                 return true;
             }
         }
-        false
+        self.lines.is_busy(service)
     }
 
-    /// Does what the service orders.
-    fn obey(&mut self, rt: &HostRuntime, service: &mut Service<MemLine>) {
-        for _ in 0..MOST_ORDERS {
+    /// Does what the service orders, and says whether there was any order.
+    fn obey(&mut self, rt: &HostRuntime, service: &mut Running) -> bool {
+        for done in 0..MOST_ORDERS {
             match service.next_order() {
-                Some(Order::Close(port)) => self.close(rt, service, port),
-                Some(Order::LogOvertaken { port, keys }) => self.log.overtaken(rt, port, keys),
-                None => return,
+                Some(order) => self.obey_order(rt, service, order),
+                None => return done > 0,
             }
         }
+        true
     }
 
-    fn close(&mut self, rt: &HostRuntime, service: &mut Service<MemLine>, port: usize) {
-        if let Some(client) = self.clients.get_mut(port) {
-            client.close();
+    fn obey_order(&mut self, rt: &HostRuntime, service: &mut Running, order: Order) {
+        match order {
+            Order::Close(port) => self.close(rt, service, port),
+            Order::Connect {
+                port,
+                service: number,
+            } => self.connect(rt, service, port, number),
+            Order::EndWriting(port) => self.end_writing(port),
+            Order::LogOvertaken { port, keys } => self.log.overtaken(rt, port, keys),
+            Order::LogIdle(port) => self.log.idle(rt, port),
+            Order::LogCall(note) => self.log.call(rt, self.names, &note),
+            Order::LogMissed(calls) => self.log.missed(rt, calls),
         }
+    }
+
+    fn close(&mut self, rt: &HostRuntime, service: &mut Running, port: usize) {
         service.closed(port);
-        self.log.leave(rt, port);
+        if let Some(place) = self.places.get_mut(port)
+            && let Some(peer) = place.close()
+        {
+            self.log.leave(rt, port, peer);
+        }
+    }
+
+    /// The connection of a port is to be ended for writing once what waits is written.
+    fn end_writing(&mut self, port: usize) {
+        if let Some(place) = self.places.get_mut(port) {
+            place.ends = true;
+        }
     }
 
     /// Answers the questions that are there.
-    fn serve_controls(&mut self, rt: &HostRuntime, service: &mut Service<MemLine>, ticks: u16) {
-        let seconds = self.clock.seconds();
+    fn serve_controls(&mut self, rt: &HostRuntime, service: &mut Running, ticks: u16) {
         for place in self.controls.iter_mut() {
             let stays = match place {
                 Some(control) => {
                     control.elapse(ticks)
-                        && serve_control(rt, service, &mut self.log, seconds, control)
+                        && serve_control(rt, service, self.names, &mut self.log, control)
                 }
+                None => true,
+            };
+            if !stays {
+                *place = None;
+            }
+        }
+    }
+
+    /// Answers those who want the page.
+    fn serve_visits(&mut self, rt: &HostRuntime, service: &Running, ticks: u16) {
+        for place in self.visits.iter_mut() {
+            let stays = match place {
+                Some(visit) => serve_visit(rt, service, self.names, &self.log, visit, ticks),
                 None => true,
             };
             if !stays {
@@ -259,70 +270,18 @@ impl Shell {
     }
 }
 
-/// What is printed first.
-fn say_first(rt: &HostRuntime, terminals: SocketAddr, control: SocketAddr) -> io::Result<()> {
-    let (host, port) = (terminals.ip(), terminals.port());
-    println!(rt; "terminals  telnet {host} {port}")?;
-    println!(rt; "numbers    {NUMBERS}")?;
-    let at = format!(in rt.alloc(); "{control}")?;
-    if at.as_str() == CONTROL {
-        println!(rt; "status     x25d status     stop  x25d stop")
-    } else {
-        println!(rt; "status     x25d status --control {at}     stop  x25d stop --control {at}")
+/// Gives the service its rounds, and says whether more may be left. What goes to other processes, and comes from them, moves
+/// after each round.
+fn work(service: &mut Running) -> bool {
+    if service.remote_lines() == 0 {
+        return service.work(MOST_ROUNDS);
     }
-}
-
-/// Reads a question, answers it, and says whether the connection is still wanted.
-fn serve_control(
-    rt: &HostRuntime,
-    service: &mut Service<MemLine>,
-    log: &mut Log,
-    seconds: u64,
-    control: &mut Control,
-) -> bool {
-    let heard = match control.question() {
-        Ok(None) => Ok(()),
-        Ok(Some(question)) => answer(rt, service, log, seconds, control, question),
-        Err(error) => Err(error),
-    };
-    heard.is_ok() && control.write()
-}
-
-/// Answers a question.
-fn answer(
-    rt: &HostRuntime,
-    service: &mut Service<MemLine>,
-    log: &mut Log,
-    seconds: u64,
-    control: &mut Control,
-    question: Question,
-) -> io::Result<()> {
-    match question {
-        Question::Status => control.answer(status_text(rt.alloc(), service, log, seconds)?),
-        Question::Clear(port) => control.answer(clear(rt, service, log, port)?),
-        Question::Stop => {
-            log.write(rt, "stop");
-            service.stop();
-            control.stay();
+    for _ in 0..MOST_ROUNDS {
+        let worked = service.work(1);
+        let served = service.serve_lines();
+        if !worked && !served {
+            return false;
         }
-        Question::Unknown => control.answer(String::from_str(rt.alloc(), REFUSED)?),
     }
-    Ok(())
-}
-
-/// Has the client of a port go, if there is one. The answer is what is told of it.
-fn clear(
-    rt: &HostRuntime,
-    service: &mut Service<MemLine>,
-    log: &mut Log,
-    port: usize,
-) -> io::Result<String> {
-    match service.status(port) {
-        Some(status) if status.in_use => {
-            log.clear(rt, port);
-            service.end(port);
-            Ok(String::new(rt.alloc()))
-        }
-        _ => Ok(String::from_str(rt.alloc(), REFUSED)?),
-    }
+    true
 }

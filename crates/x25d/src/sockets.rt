@@ -1,122 +1,127 @@
-//! The sockets at which connections are accepted, and what the system tells of all.
+//! The sockets at which connections are accepted, and the system's poll, which tells of all.
 use crate::faults::Fault;
-use mio::net::{TcpListener, TcpStream};
+use mio::net::TcpStream;
 use mio::{Events, Interest, Poll, Token};
-use std::io::{self, ErrorKind};
-use std::net::SocketAddr;
+use service_files::{Allow, Mode, ServiceFile, Way};
+use std::alloc::AllocError;
+use std::io;
+use std::net::{IpAddr, SocketAddr};
 use std::time::Duration;
+use tcp_sockets::Door;
 
-/// The token of the terminals' door, and of the control port's.
-pub(crate) const TERMINALS: usize = 0;
-
-pub(crate) const CONTROL: usize = 1;
-
-/// The token of the first client.
-const FIRST_CLIENT: usize = 2;
-
-/// How many events the system tells at once.
-const MOST_EVENTS: usize = 128;
-
-/// A socket at which connections are accepted, its address, and whether some may wait there.
-#[derive(Drop)]
-pub(crate) struct Door {
-    listener: TcpListener,
-    pub(crate) at: SocketAddr,
-    pub(crate) waits: bool,
+/// Where a door leads to.
+#[derive(Clone, Copy)]
+pub(crate) enum Leads<'a> {
+    /// To the terminals of this table, with the name of their PAD.
+    Terminals(usize, Mode, &'a str),
+    /// To calls from this caller, with the name of its host.
+    Caller(usize, &'a str),
+    /// To lines to other processes; the first of those that come here has this number.
+    Line(u16, SocketAddr),
+    /// To the control port.
+    Control,
+    /// To the page.
+    Web,
 }
 
-impl Door {
-    /// Opens a door at an address, which the poll tells of under a token.
-    fn open(rt: &HostRuntime, poll: &Poll, at: SocketAddr, token: usize) -> Result<Self, Fault> {
-        match listener(rt, poll, at, token) {
-            Ok(listener) => Ok(Door::at(listener, at)),
+/// A door, where it leads to, and who is let in.
+#[derive(Drop)]
+pub(crate) struct Entrance<'a> {
+    pub(crate) door: Door,
+    pub(crate) leads: Leads<'a>,
+    allow: Option<&'a Allow>,
+}
+
+impl Entrance<'_> {
+    /// Whether a client at this address may come in: if nothing else is said, those of this machine alone.
+    pub(crate) fn lets_in(&self, address: IpAddr) -> bool {
+        let address = address.to_canonical();
+        match self.allow {
+            Some(allow) => allow.allows(address),
+            None => Allow { prefixes: None }.allows(address),
+        }
+    }
+}
+
+/// All doors, and the system's poll.
+#[derive(Drop)]
+pub(crate) struct Sockets<'a> {
+    poll: Poll,
+    pub(crate) entrances: Vec<Entrance<'a>>,
+}
+
+impl<'a> Sockets<'a> {
+    /// Opens the doors of a service file.
+    pub(crate) fn open(rt: &HostRuntime, file: &'a ServiceFile<'_>) -> Result<Self, Fault> {
+        let mut sockets = Sockets::without_doors(rt)?;
+        for (place, table) in file.terminals.iter().enumerate() {
+            let leads = Leads::Terminals(place, table.mode, table.pad);
+            sockets.add(rt, table.listen, leads, Some(&table.allow))?;
+        }
+        for (place, table) in file.callers.iter().enumerate() {
+            let leads = Leads::Caller(place, table.host);
+            sockets.add(rt, table.listen, leads, Some(&table.allow))?;
+        }
+        for table in &file.lines {
+            if let Way::Listen(at) = table.way
+                && sockets.line_door(at, table.line).is_none()
+            {
+                sockets.add(rt, at, Leads::Line(table.line, at), None)?;
+            }
+        }
+        if let Some(web) = file.web {
+            sockets.add(rt, web, Leads::Web, None)?;
+        }
+        if let Some(control) = file.control {
+            sockets.add(rt, control, Leads::Control, None)?;
+        }
+        Ok(sockets)
+    }
+
+    /// The number of the door that a line of this number has, which is to listen at this address: lines may share one.
+    /// The system gives each line a port of its own if 0 is asked for.
+    pub(crate) fn line_door(&self, listen: SocketAddr, number: u16) -> Option<usize> {
+        self.entrances.iter().position(|entrance| {
+            matches!(entrance.leads, Leads::Line(first, at) if at == listen && (first == number || at.port() != 0))
+        })
+    }
+
+    fn without_doors(rt: &HostRuntime) -> io::Result<Self> {
+        Ok(Sockets {
+            poll: Poll::new(rt)?,
+            entrances: Vec::new(rt.alloc()),
+        })
+    }
+
+    fn add(
+        &mut self,
+        rt: &HostRuntime,
+        at: SocketAddr,
+        leads: Leads<'a>,
+        allow: Option<&'a Allow>,
+    ) -> Result<(), Fault> {
+        let token = Token(self.entrances.len());
+        match Door::open(rt, self.poll.registry(), at, token) {
+            Ok(door) => Ok(self.push(Entrance { door, leads, allow })?),
             Err(error) => Err(Fault::NoSocket(at, error)),
         }
     }
 
-    /// A door with this socket. The system chooses the port if 0 is asked for.
-    fn at(listener: TcpListener, asked: SocketAddr) -> Self {
-        let at = listener.local_addr().unwrap_or(asked);
-        Door {
-            listener,
-            at,
-            waits: true,
-        }
-    }
-
-    /// The next connection, if one waits.
-    pub(crate) fn next(&mut self) -> Option<(TcpStream, SocketAddr)> {
-        if !self.waits {
-            return None;
-        }
-        match self.listener.accept() {
-            Ok(connection) => Some(connection),
-            Err(error) => {
-                self.waits = error.kind() != ErrorKind::WouldBlock;
-                None
-            }
-        }
-    }
-}
-
-fn listener(
-    rt: &HostRuntime,
-    poll: &Poll,
-    at: SocketAddr,
-    token: usize,
-) -> io::Result<TcpListener> {
-    let mut listener = TcpListener::bind(rt, at)?;
-    poll.registry()
-        .register(&mut listener, Token(token), Interest::READABLE)?;
-    Ok(listener)
-}
-
-/// The two doors, and what the system tells.
-#[derive(Drop)]
-pub(crate) struct Sockets {
-    poll: Poll,
-    pub(crate) events: Events,
-    pub(crate) terminals: Door,
-    pub(crate) control: Door,
-}
-
-impl Sockets {
-    /// Opens the doors at these addresses.
-    pub(crate) fn open(
-        rt: &HostRuntime,
-        listen: SocketAddr,
-        control: SocketAddr,
-    ) -> Result<Self, Fault> {
-        let poll = Poll::new(rt)?;
-        let events = Events::with_capacity(rt.alloc(), MOST_EVENTS)?;
-        let terminals = Door::open(rt, &poll, listen, TERMINALS)?;
-        let control = Door::open(rt, &poll, control, CONTROL)?;
-        Ok(Sockets {
-            poll,
-            events,
-            terminals,
-            control,
-        })
+    fn push(&mut self, entrance: Entrance<'a>) -> Result<(), AllocError> {
+        self.entrances.push(entrance)?;
+        Ok(())
     }
 
     /// Waits until there is something to tell, so many thousandths of a second at most.
-    pub(crate) fn wait(&mut self, millis: u32) -> io::Result<()> {
+    pub(crate) fn wait(&mut self, events: &mut Events, millis: u32) -> io::Result<()> {
         let limit = Duration::from_millis(u64::from(millis));
-        self.poll.poll(&mut self.events, Some(limit))
+        self.poll.poll(events, Some(limit))
     }
 
-    /// Has the system tell of a client's connection, and says whether it does.
-    pub(crate) fn watch(&self, stream: &mut TcpStream, port: usize) -> bool {
-        let token = Token(port.wrapping_add(FIRST_CLIENT));
+    /// Has the system tell of a port's connection.
+    pub(crate) fn watch(&self, stream: &mut TcpStream, port: usize) -> io::Result<()> {
+        let token = Token(port.wrapping_add(self.entrances.len()));
         let interest = Interest::READABLE | Interest::WRITABLE;
-        self.poll
-            .registry()
-            .register(stream, token, interest)
-            .is_ok()
+        self.poll.registry().register(stream, token, interest)
     }
-}
-
-/// The port of the client of a token.
-pub(crate) fn port_of(token: usize) -> usize {
-    token.wrapping_sub(FIRST_CLIENT)
 }

@@ -1,52 +1,52 @@
 //! What a running service tells of itself.
 use crate::log::Log;
-use crate::network::NODES;
+use crate::names::Names;
+use crate::serving::Running;
 use crate::words::VERSION;
-use frame_lines::MemLine;
-use service::{PortStatus, Service};
+use service::CallStatus;
+use status_texts::{PortLine, Status};
 use std::alloc::{AllocError, Global};
 
-/// The status of a service that began so many seconds ago.
-pub(crate) fn status_text(
+/// The status of a service, by the names of its network and what its log counted.
+pub(crate) fn status_of<'a>(
     alloc: Global,
-    service: &Service<MemLine>,
+    service: &Running,
+    names: Names<'a>,
     log: &Log,
-    seconds: u64,
-) -> Result<String, AllocError> {
-    let mut text = format!(in alloc; "x25d {VERSION} up {seconds} s\n")?;
-    add_nodes(&mut text)?;
-    add_counts(&mut text, log)?;
-    for port in 0..service.ports() {
-        if let Some(status) = service.status(port) {
-            add_port(&mut text, port, status)?;
+) -> Result<Status<'a>, AllocError> {
+    let lines = names.lines(alloc)?;
+    Ok(Status {
+        version: VERSION,
+        seconds: log.seconds,
+        nodes: names.nodes(alloc)?,
+        calls: names.calls(alloc, &lines, &calls_of(alloc, service)?)?,
+        lines,
+        counts: log.counts,
+        ports: ports_of(alloc, service)?,
+    })
+}
+
+fn calls_of(alloc: Global, service: &Running) -> Result<Vec<CallStatus>, AllocError> {
+    let mut calls = Vec::new(alloc);
+    for place in 0..service.calls() {
+        if let Some(call) = service.call(place) {
+            calls.push(call)?;
         }
     }
-    Ok(text)
+    Ok(calls)
 }
 
-fn add_nodes(text: &mut String) -> Result<(), AllocError> {
-    text.push_str("nodes")?;
-    for name in NODES {
-        write!(text, " {name}")?;
+fn ports_of(alloc: Global, service: &Running) -> Result<Vec<PortLine>, AllocError> {
+    let mut ports = Vec::new(alloc);
+    for port in 0..service.ports() {
+        if let Some(status) = service.status(port) {
+            ports.push(PortLine {
+                in_use: status.in_use,
+                keys: status.keys,
+                octets: status.octets,
+                overtaken: status.overtaken,
+            })?;
+        }
     }
-    text.push_str("\n")
-}
-
-fn add_counts(text: &mut String, log: &Log) -> Result<(), AllocError> {
-    let (clients, refused, lost) = (log.clients, log.refused, log.lost);
-    writeln!(
-        text,
-        "clients {clients} refused {refused} lines-lost {lost}"
-    )
-}
-
-fn add_port(text: &mut String, port: usize, status: PortStatus) -> Result<(), AllocError> {
-    if !status.in_use {
-        return writeln!(text, "port {port} free");
-    }
-    let (keys, octets, overtaken) = (status.keys, status.octets, status.overtaken);
-    writeln!(
-        text,
-        "port {port} in use keys {keys} octets {octets} overtaken {overtaken}"
-    )
+    Ok(ports)
 }

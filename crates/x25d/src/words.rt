@@ -25,6 +25,8 @@ pub(crate) enum Asked<'a> {
     CheckNetwork { file: &'a str },
     /// The built-in network is to be served, with its terminals at this address.
     Serve { listen: SocketAddr },
+    /// What the service file of this name says is to be served.
+    ServeFile { file: &'a str },
     /// What a running one does is to be told.
     Status,
     /// The port of this number is to be cleared.
@@ -53,7 +55,8 @@ pub(crate) fn read_words<'a>(alloc: Global, words: &'a [String]) -> Result<Words
 
 /// The words that the program takes.
 fn program<'a>(alloc: Global) -> Result<Command<'a>, AllocError> {
-    add_checking(alloc, add_clearing(alloc, options(alloc)?)?)?
+    let program = add_clearing(alloc, options(alloc)?)?;
+    add_serving(alloc, add_checking(alloc, program)?)?
         .subcommand(question(alloc, "status", "Tells what the running service does"))?
         .subcommand(question(alloc, "stop", "Stops the running service"))
 }
@@ -98,6 +101,17 @@ fn clearing<'a>(alloc: Global) -> Result<Command<'a>, AllocError> {
     question(alloc, "clear", "Ends the port of this number").arg(port)
 }
 
+/// The command with the word that serves a file.
+fn add_serving<'a>(alloc: Global, command: Command<'a>) -> Result<Command<'a>, AllocError> {
+    command.subcommand(serving(alloc)?)
+}
+
+/// The word that serves a file.
+fn serving<'a>(alloc: Global) -> Result<Command<'a>, AllocError> {
+    let service = file(alloc, "service").help("A service file, with its network");
+    question(alloc, "serve", "Serves what a file says").arg(service.required(true))
+}
+
 /// The command with the word that checks a file.
 fn add_checking<'a>(alloc: Global, command: Command<'a>) -> Result<Command<'a>, AllocError> {
     command.subcommand(checking(alloc)?)
@@ -133,6 +147,9 @@ fn asked_by<'a>(matches: &ArgMatches<'a>) -> Option<Asked<'a>> {
         Some(("status", _)) => Some(Asked::Status),
         Some(("stop", _)) => Some(Asked::Stop),
         Some(("check", found)) => checked_by(found),
+        Some(("serve", found)) => Some(Asked::ServeFile {
+            file: found.get_str("service")?,
+        }),
         Some((_, found)) => Some(Asked::Clear {
             port: found.get_one("port")?,
         }),

@@ -1,3 +1,4 @@
 pub mod Carrying
 pub mod AllConnections
 pub mod Places
+pub mod Short

@@ -1,5 +1,5 @@
 -- Packets as the gateway reads them and passes them on.
-use Rattle.std.specs.Prelude.{ℕ, ◌+◌, ◌*◌, ◌/◌, ◌%◌, ◌==◌, List, [], ◌∷◌, ◌++◌, length, take, drop, min, nat_lt, Result, if◌then◌else◌}
+use Rattle.std.specs.Prelude.{ℕ, ◌+◌, ◌*◌, ◌/◌, ◌%◌, ◌==◌, List, [], ◌∷◌, ◌++◌, length, take, drop, max, min, nat_lt, Result, if◌then◌else◌}
 use Rattle.packet_codec.specs.declared.fault.PacketFault.{PacketFault}
 use Rattle.packet_codec.specs.Packet.{PacketValue, ContentValue, CallRequest, CallAccepted, ClearRequest, ClearConfirmation, RestartRequest, RestartConfirmation, spelling}
 use Rattle.packet_codec.specs.Reading.{reading}
@@ -12,6 +12,10 @@ use Rattle.xot_gateway.specs.declared.line.XotLine.{XotLine}
 -- the most octets of user data in a Data packet
 abbrev pub most_data : XotLine → ℕ
 most_data line = min line.flow.size 1024
+
+-- the most octets of a packet on the line: 145 of a Call Request, or those of a Data packet with a header of at most 4
+abbrev pub most_packet : XotLine → ℕ
+most_packet line = max 145 (most_data line + 4)
 
 -- what octets say on the line
 abbrev pub read_on : XotLine → List ℕ → Result PacketValue PacketFault

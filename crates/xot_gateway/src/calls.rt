@@ -4,7 +4,8 @@ ghost use Rattle.packet_codec.specs.View.{content_view};
 ghost use Rattle.xot_gateway.specs.declared.connection.Connection.{Connection as ConnectionValue};
 ghost use Rattle.xot_gateway.specs.declared.calls.LineState.TheVariants as line_is;
 ghost use Rattle.xot_gateway.specs.Connections.{absent, elapsed, is_on, opened, restarted, writes, written};
-ghost use Rattle.xot_gateway.specs.Packets.{read_on};
+ghost use Rattle.xot_gateway.specs.Packets.{most_packet, read_on};
+ghost use Rattle.xot_gateway.specs.declared.calls.Work.TheVariants as work;
 ghost use Rattle.xot_gateway.specs.Calls.{
   AllChange,
   AllEnd,
@@ -311,7 +312,8 @@ impl XotCalls {
 
     /// Takes the next packet of a connection, if the whole of it came. What is to go to the line is then in `out`.
     pub fn serve(&mut self, number: usize, out: &mut XotPacket) -> Work
-        ensures { Serves number result out.old.items out.new.items self.old self.new }
+        ensures calls { Serves number result out.old.items out.new.items self.old self.new }
+        ensures fits { result ≡ work.Sends → length out.new.items ≤ most_packet self.old.line }
     {
         let free = self.free();
         let line = self.line;
@@ -348,7 +350,8 @@ impl XotCalls {
     /// Takes the next packet that the gateway itself owes to the line, if there is one, and says so: a Restart or its
     /// confirmation, else that of the first channel which owes one. It is then in `out`.
     pub fn next_owed(&mut self, out: &mut XotPacket) -> bool
-        ensures { PaysOwed result out.old.items out.new.items self.old self.new }
+        ensures calls { PaysOwed result out.old.items out.new.items self.old self.new }
+        ensures fits { length out.old.items ≤ most_packet self.old.line → length out.new.items ≤ most_packet self.old.line }
     {
         match self.state {
             LineState::Down | LineState::Restarting => false,
@@ -653,6 +656,7 @@ fn next_of_channels(line: XotLine, channels: &mut Vec<ChannelState>, out: &mut X
     ensures answer { result ≡ is_some (first_owed channels.old.items) }
     ensures channels { channels.new.items ≡ with_paid (first_owed channels.old.items) channels.old.items }
     ensures out { out.new.items ≡ owed_packet line (first_owed channels.old.items) channels.old.items out.old.items }
+    ensures fits { length out.old.items ≤ most_packet line → length out.new.items ≤ most_packet line }
 {
     let Some(place) = first_owed(channels.as_slice()) else {
         return false;

@@ -1,5 +1,5 @@
 //! One connection and the call on it.
-ghost use Rattle.std.specs.Prelude.{◌≡◌, ◌-◌, ◌≤◌, false, length, min, take, Some, IfOk};
+ghost use Rattle.std.specs.Prelude.{◌≡◌, ◌-◌, ◌≤◌, false, true, length, min, take, Some, IfOk, IfSome};
 ghost use Rattle.octet_rings.specs.Places.{most_octets};
 ghost use Rattle.packet_codec.specs.View.{answer_view, content_view};
 ghost use Rattle.xot_codec.specs.Xot.{takes_packet};
@@ -46,7 +46,7 @@ ghost use Rattle.xot_gateway.specs.Connections.{
   written,
 };
 ghost use Rattle.xot_gateway.specs.Calls.{has_wish};
-ghost use Rattle.xot_gateway.specs.Packets.{clear_on, confirmation_on, over_connection, read_on};
+ghost use Rattle.xot_gateway.specs.Packets.{clear_on, confirmation_on, most_packet, over_connection, over_line, read_on};
 ghost use Rattle.xot_gateway.specs.declared.states.Move.TheVariants.{Passes};
 ghost use Rattle.xot_gateway.specs.declared.states.ChannelState.TheVariants.{ToClear};
 ghost use Rattle.xot_gateway.specs.declared.connection.CallState.TheVariants.{Cleared, Confirmed};
@@ -329,6 +329,7 @@ impl Connection {
         ensures connection { self.new ≡ next_connection self.old (next_served line free self.old) }
         ensures answer { result ≡ next_answer (next_served line free self.old) }
         ensures out { out.new.items ≡ next_packet out.old.items (next_served line free self.old) }
+        ensures fits { IfSome result (λ s. s.sends ≡ true → length out.new.items ≤ most_packet line) }
     {
         let mut packet = XotPacket::new();
         match self.stream.next_packet(&mut packet) {
@@ -358,6 +359,7 @@ impl Connection {
         ensures connection { self.new ≡ (served line free packet.now self.old).connection }
         ensures answer { result ≡ answer_of (served line free packet.now self.old) }
         ensures out { out.new.items ≡ packet_after out.old.items (served line free packet.now self.old) }
+        ensures fits { result.sends ≡ true → length out.new.items ≤ most_packet line }
     {
         let prepared = prepare(place_in(free, self.call), packet);
         let octets = prepared.as_slice();
@@ -386,6 +388,7 @@ impl Connection {
         ensures connection { self.new ≡ (first_served line free octets.now self.old).connection }
         ensures answer { result ≡ answer_of (first_served line free octets.now self.old) }
         ensures out { out.new.items ≡ packet_after out.old.items (first_served line free octets.now self.old) }
+        ensures fits { result.sends ≡ true → length out.new.items ≤ most_packet line }
     {
         let read = read_on(line, octets);
         let next = first_move(line.flow, free, octets, &read);
@@ -420,6 +423,7 @@ impl Connection {
         ensures connection { self.new ≡ (in_call line place phase octets.now self.old (read_on line octets.now)).connection }
         ensures answer { result ≡ answer_of (in_call line place phase octets.now self.old (read_on line octets.now)) }
         ensures out { out.new.items ≡ packet_after out.old.items (in_call line place phase octets.now self.old (read_on line octets.now)) }
+        ensures fits { result.sends ≡ true → length out.new.items ≤ most_packet line }
     {
         let carried = take_facilities(line.flow, accepted_facilities(octets)).is_ok();
         match read_on(line, octets) {
@@ -443,10 +447,12 @@ impl Connection {
         next: Move,
         out: &mut XotPacket,
     ) -> Served
-        requires { length octets.now ≤ MAX_XOT_PACKET }
+        requires whole { length octets.now ≤ MAX_XOT_PACKET }
+        requires short { length (over_line (content_view content.now) octets.now) ≤ most_packet line }
         ensures connection { self.new ≡ (served_by line (content_view content.now) octets.now place self.old next).connection }
         ensures answer { result ≡ answer_of (served_by line (content_view content.now) octets.now place self.old next) }
         ensures out { out.new.items ≡ packet_after out.old.items (served_by line (content_view content.now) octets.now place self.old next) }
+        ensures fits { result.sends ≡ true → length out.new.items ≤ most_packet line }
     {
         match next {
             Move::Drops => QUIET,

@@ -1,5 +1,5 @@
 //! Packets as the gateway reads them and passes them on.
-ghost use Rattle.std.specs.Prelude.{◌≡◌, ◌≤◌, ◌∷◌, ◌++◌, length, take, drop};
+ghost use Rattle.std.specs.Prelude.{◌≡◌, ◌≤◌, ◌∷◌, ◌++◌, length, take, drop, IfOk};
 ghost use Rattle.packet_codec.specs.Packet.{IsPacket, spelling};
 ghost use Rattle.packet_codec.specs.View.{answer_view, content_view, view};
 ghost use Rattle.xot_codec.specs.Facilities.{put};
@@ -11,6 +11,7 @@ ghost use Rattle.xot_gateway.specs.Packets.{
   confirmation_on,
   first_field,
   kept,
+  most_packet,
   over_line,
   prepared,
   read_on,
@@ -73,7 +74,9 @@ fn kept(third: u8, rest: &[u8]) -> &[u8]
 
 /// What the octets of a packet say on the line (X.25 5). The faults are those of `read_packet`.
 pub(crate) fn read_on(line: XotLine, octets: &[u8]) -> Result<Packet<'_>, PacketFault>
-    ensures { answer_view result ≡ read_on line octets.now }
+    ensures answer { answer_view result ≡ read_on line octets.now }
+    // What goes to the line of it fits there.
+    ensures short { IfOk result (λ p. length (over_line (content_view p.content) octets.now) ≤ most_packet line) }
 {
     read_packet(
         octets,

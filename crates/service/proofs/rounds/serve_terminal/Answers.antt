@@ -3,4 +3,4 @@ use Rattle.service.proofs.rounds.serve_terminal.Goals as goal
 
 pub returns : goal.returns
 returns g c =
-    serves_all g.L.Line.service c.args.pad c.args.number _ _ _ _ _ _ _ _ _ _ _ c.tell-told.ensures c.type_some-typed.ensures c.show_next-shown.ensures
+    serves_all g.L.Line.service c.args.at _ _ _ _ _ _ _ _ _ _ _ c.tell-told.ensures c.type_some-typed.ensures c.show_next-shown.ensures

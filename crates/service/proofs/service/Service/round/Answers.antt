@@ -1,8 +1,9 @@
-use Rattle.service.proofs.AllTerminals.{rounds, round_none}
+use Rattle.service.proofs.AllTerminals.{rounds, round_none, works_at}
 use Rattle.service.proofs.service.Service.round.Goals as goal
 
 pub returns-clause-works : goal.returns-clause-works
 returns-clause-works g c =
-    rounds g.L.Line.service _ _ c.serve_terminals-served.result c.serve_calls-called.result c.deliver_frames-moved.result c.expire-expired.result _ _ _ _ _ _ _ _
+    works_at g.L.Line.service c.deref.result.now _ _ _ _ _ _ _ c.deref.ensures.value
+    (rounds g.L.Line.service _ _ c.serve_terminals-served.result c.serve_calls-called.result c.deliver_frames-moved.result c.expire-expired.result _ _ _ _ _ _ _ _
     (λ none. round_none c.serve_terminals-served.result c.serve_calls-called.result c.deliver_frames-moved.result c.expire-expired.result none)
-    c.serve_terminals-served.ensures c.serve_calls-called.ensures c.deliver_frames-moved.ensures c.expire-expired.ensures
+    c.serve_terminals-served.ensures c.serve_calls-called.ensures c.deliver_frames-moved.ensures c.expire-expired.ensures)

@@ -4,7 +4,7 @@ use Rattle.service.proofs.service.Service.work.Given as goal
 
 abbrev pub invariant-loop : goal.invariant-loop
 invariant-loop g l = record {
-  works : Works g.L.Line.service l.fn.self.pad l.fn.self.lines true l.fn.self.exchange.net l.self.exchange.net l.fn.self.terminals.items l.self.terminals.items;
-  pad : l.self.pad ≡ l.fn.self.pad;
+  works : Works g.L.Line.service l.fn.self.places.items l.fn.self.lines true l.fn.self.exchange.net l.self.exchange.net l.fn.self.terminals.items l.self.terminals.items;
+  places : l.self.places ≡ l.fn.self.places;
   lines : l.self.lines ≡ l.fn.self.lines;
 }

@@ -1,0 +1,4 @@
+pub mod Giving
+pub mod Owned
+pub mod Hearing
+pub mod Passing

@@ -1,0 +1,6 @@
+pub mod Params
+pub mod Waiting
+pub mod Gives
+pub mod GatewayEnd
+pub mod EndView
+pub mod Laws

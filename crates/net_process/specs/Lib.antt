@@ -1,0 +1,9 @@
+pub mod Process
+pub mod Carrying
+pub mod Making
+pub mod Remote
+pub mod Stepping
+pub mod Starting
+pub mod Apart
+pub mod Restart
+pub mod Acts

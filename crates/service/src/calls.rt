@@ -1,0 +1,320 @@
+//! The calls at the hosts of a network, and what is to be logged of them and of those of terminals.
+ghost use Rattle.std.specs.Prelude.{◌≡◌, length, slice_get};
+ghost use Rattle.service.specs.Calls.{call_of};
+
+use crate::call_address::CallAddress;
+use crate::hosts::{HostBinding, HostChannel};
+use line_sim::{NoteKind, Outcome, UserNote};
+use packet_codec::Address;
+use packet_layer::Front;
+use std::alloc::{AllocError, Global};
+
+/// How many notes of calls may be there. Their places are free again once all are logged.
+const MOST_NOTES: usize = 1024;
+
+/// What became of a call at a host or a PAD, to be logged.
+#[derive(Clone, Copy)]
+pub struct CallNote {
+    /// The number of the host or PAD.
+    pub node: usize,
+    /// The logical channel of the call.
+    pub channel: u8,
+    /// The terminal of the PAD that has the call, if one has it.
+    pub terminal: Option<u8>,
+    pub change: CallChange,
+}
+
+/// What changed.
+#[derive(Clone, Copy)]
+pub enum CallChange {
+    /// A call came in, from this address if it was told.
+    Incoming {
+        from: Option<CallAddress>,
+    },
+    /// A call of this address was placed.
+    Called {
+        to: CallAddress,
+    },
+    /// The call was accepted, by either end.
+    Connected,
+    /// The call of a PAD is over, for this cause and diagnostic (0 and 0 if the PAD cleared it).
+    Ended {
+        cause: u8,
+        diagnostic: u8,
+    },
+    /// The call of a host is over, for this cause and diagnostic (0 and 0 if the host cleared it), after so many seconds,
+    /// in which so many octets were taken from the network and said to it.
+    Cleared {
+        cause: u8,
+        diagnostic: u8,
+        seconds: u64,
+        taken: u64,
+        said: u64,
+    },
+    /// An interrupt or a packet with Q = 1 of so many octets was taken, which no service or caller has, and was dropped.
+    Dropped {
+        octets: usize,
+    },
+    /// The call was reset, for this cause and diagnostic.
+    Reset {
+        cause: u8,
+        diagnostic: u8,
+    },
+}
+
+/// A call that is there.
+#[derive(Clone, Copy)]
+pub struct CallStatus {
+    /// The number of the host.
+    pub node: usize,
+    /// The logical channel of the call.
+    pub channel: u8,
+    /// The address of the other end, if it was told.
+    pub far: Option<CallAddress>,
+    /// Whether the host placed it.
+    pub is_ours: bool,
+    /// When it began, in seconds since the beginning of 1970.
+    pub since: i64,
+    /// How many octets were taken from the network.
+    pub taken: u64,
+    /// How many octets were said to it.
+    pub said: u64,
+}
+
+/// The places for calls of a host: that of its channel 1, and how many there are.
+#[derive(Clone, Copy)]
+struct HostPlaces {
+    node: usize,
+    first: usize,
+    channels: u8,
+}
+
+/// The calls at all hosts, and what is to be logged of them and of those of terminals.
+#[derive(Drop)]
+pub(crate) struct Calls {
+    hosts: Vec<HostPlaces>,
+    calls: Vec<Option<CallStatus>>,
+    /// Notes that are to be logged, from the next one on.
+    notes: Vec<CallNote>,
+    next: usize,
+    missed: u64,
+}
+
+impl Calls {
+    /// No call at these hosts.
+    pub(crate) fn new(alloc: Global, bindings: &[HostBinding]) -> Result<Self, AllocError> {
+        let mut hosts = Vec::new(alloc);
+        let mut calls = Vec::new(alloc);
+        for binding in bindings {
+            hosts.push(HostPlaces {
+                node: binding.node,
+                first: calls.len(),
+                channels: binding.channels,
+            })?;
+            for _ in 0..binding.channels {
+                calls.push(None)?;
+            }
+        }
+        Ok(Calls {
+            hosts,
+            calls,
+            notes: Vec::with_capacity(alloc, MOST_NOTES)?,
+            next: 0,
+            missed: 0,
+        })
+    }
+
+    /// Hears what a host was told.
+    pub(crate) fn hear(&mut self, note: &UserNote, seconds: i64) {
+        let at = HostChannel::of(note);
+        match note.kind {
+            NoteKind::Incoming { ref calling, .. } => {
+                self.ring(at, address_of(calling), seconds);
+            }
+            NoteKind::Dialled { ref called } => self.place(at, called, seconds),
+            NoteKind::Connected => self.connect(at),
+            NoteKind::Cleared { cause, diagnostic } => self.clear(at, cause, diagnostic, seconds),
+            NoteKind::Reset { cause, diagnostic } => {
+                self.note(at, CallChange::Reset { cause, diagnostic });
+            }
+        }
+    }
+
+    /// Hears what a PAD was told of the call of a terminal, if one has it. That is logged alone.
+    pub(crate) fn hear_terminal(&mut self, note: &UserNote, terminal: Option<u8>) {
+        let change = match note.kind {
+            NoteKind::Incoming { ref calling, .. } => CallChange::Incoming {
+                from: address_of(calling),
+            },
+            NoteKind::Dialled { ref called } => CallChange::Called {
+                to: CallAddress::of(called),
+            },
+            NoteKind::Connected => CallChange::Connected,
+            NoteKind::Cleared { cause, diagnostic } => CallChange::Ended { cause, diagnostic },
+            NoteKind::Reset { cause, diagnostic } => CallChange::Reset { cause, diagnostic },
+        };
+        self.keep(CallNote {
+            node: note.node,
+            channel: note.channel,
+            terminal,
+            change,
+        });
+    }
+
+    fn ring(&mut self, at: HostChannel, from: Option<CallAddress>, seconds: i64) {
+        self.begin(at, from, false, seconds);
+        self.note(at, CallChange::Incoming { from });
+    }
+
+    fn begin(&mut self, at: HostChannel, far: Option<CallAddress>, is_ours: bool, seconds: i64) {
+        if let Some(place) = self.place_mut(at) {
+            *place = Some(CallStatus {
+                node: at.node,
+                channel: at.channel,
+                far,
+                is_ours,
+                since: seconds,
+                taken: 0,
+                said: 0,
+            });
+        }
+    }
+
+    /// A call of this address was placed.
+    pub(crate) fn place(&mut self, at: HostChannel, to: &Address, seconds: i64) {
+        let to = CallAddress::of(to);
+        self.begin(at, Some(to), true, seconds);
+        self.note(at, CallChange::Called { to });
+    }
+
+    /// A call was accepted.
+    pub(crate) fn connect(&mut self, at: HostChannel) {
+        self.note(at, CallChange::Connected);
+    }
+
+    /// A call is over.
+    pub(crate) fn clear(&mut self, at: HostChannel, cause: u8, diagnostic: u8, seconds: i64) {
+        let Some(place) = self.place_mut(at) else {
+            return;
+        };
+        let Some(call) = place.take() else {
+            return;
+        };
+        self.note(
+            at,
+            CallChange::Cleared {
+                cause,
+                diagnostic,
+                seconds: seconds_between(call.since, seconds),
+                taken: call.taken,
+                said: call.said,
+            },
+        );
+    }
+
+    /// Something was taken for a bridge: user data without Q, or what is dropped.
+    pub(crate) fn take(&mut self, at: HostChannel, outcome: Outcome, octets: usize) {
+        match outcome {
+            Outcome::Took(
+                Some(
+                    Front::Data {
+                        qualified: false,
+                        ..
+                    },
+                ),
+            ) => self.took(at, octets),
+            Outcome::Took(Some(_)) => self.note(at, CallChange::Dropped { octets }),
+            _ => {}
+        }
+    }
+
+    /// So many octets were taken from the network.
+    pub(crate) fn took(&mut self, at: HostChannel, count: usize) {
+        if let Some(Some(call)) = self.place_mut(at) {
+            call.taken = call.taken.saturating_add(count as u64);
+        }
+    }
+
+    /// So many octets were said to the network.
+    pub(crate) fn said(&mut self, at: HostChannel, count: usize) {
+        if let Some(Some(call)) = self.place_mut(at) {
+            call.said = call.said.saturating_add(count as u64);
+        }
+    }
+
+    fn note(&mut self, at: HostChannel, change: CallChange) {
+        self.keep(CallNote {
+            node: at.node,
+            channel: at.channel,
+            terminal: None,
+            change,
+        });
+    }
+
+    /// Keeps a note to be logged. One for which there is no place is counted.
+    fn keep(&mut self, note: CallNote) {
+        if self.notes.len() >= MOST_NOTES || self.notes.push(note).is_err() {
+            self.missed = self.missed.saturating_add(1);
+        }
+    }
+
+    /// The next note that is to be logged.
+    pub(crate) fn next_note(&mut self) -> Option<CallNote> {
+        let note = *self.notes.get(self.next)?;
+        self.next += 1;
+        if self.next == self.notes.len() {
+            self.notes.clear();
+            self.next = 0;
+        }
+        Some(note)
+    }
+
+    /// How many notes had no place since this was last asked, if any.
+    pub(crate) fn next_missed(&mut self) -> Option<u64> {
+        if self.missed == 0 {
+            return None;
+        }
+        let missed = self.missed;
+        self.missed = 0;
+        Some(missed)
+    }
+
+    /// How many places for calls there are.
+    pub(crate) fn len(&self) -> usize
+        ensures { result ≡ length self.now.calls.items }
+    {
+        self.calls.len()
+    }
+
+    /// The call of this place, if one is there.
+    pub(crate) fn get(&self, place: usize) -> Option<CallStatus>
+        ensures { result ≡ call_of (slice_get self.now.calls.items place) }
+    {
+        match self.calls.get(place) {
+            Some(call) => *call,
+            None => None,
+        }
+    }
+
+    fn place_mut(&mut self, at: HostChannel) -> Option<&mut Option<CallStatus>> {
+        let host = self.hosts.iter().find(|host| host.node == at.node)?;
+        if at.channel > host.channels {
+            return None;
+        }
+        let after_first = usize::from(at.channel.checked_sub(1)?);
+        self.calls.get_mut(host.first.checked_add(after_first)?)
+    }
+}
+
+/// How many seconds one time is after another; 0 if it is before it.
+fn seconds_between(from: i64, to: i64) -> u64 {
+    u64::try_from(to.saturating_sub(from)).unwrap_or(0)
+}
+
+/// The digits of an address, if there is one.
+fn address_of(address: &Option<Address>) -> Option<CallAddress> {
+    match address {
+        Some(address) => Some(CallAddress::of(address)),
+        None => None,
+    }
+}

@@ -1,0 +1,4 @@
+pub mod Requests
+pub mod Hearing
+pub mod Answers
+pub mod Data

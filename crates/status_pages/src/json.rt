@@ -1,0 +1,122 @@
+//! A status as JSON.
+ghost use Rattle.std.specs.Prelude.{◌≡◌, Some, IfOk, map, string_bytes};
+ghost use Rattle.serde_json.specs.Data.{array};
+ghost use Rattle.serde_json.specs.Read.{read};
+ghost use Rattle.serde_json.specs.View.{view, items_of};
+ghost use Rattle.status_pages.specs.Data.{status_data, node_data, line_data, counts_data, call_data, port_data, numbers_data};
+
+use serde_json::{Value, json};
+use status_texts::{CallLine, Counts, NetLine, NodeLine, PortLine, Status, kind_word, state_word};
+use std::alloc::{AllocError, Global};
+
+/// A status as JSON: an object of `version`, `seconds`, `nodes`, `lines`, `counts`, `calls` and `ports`.
+pub fn status_json(alloc: Global, status: &Status<'_>) -> Result<String, AllocError>
+    ensures { IfOk result (λ text. read (string_bytes text) ≡ Some (status_data status.now)) }
+{
+    status_value(alloc, status)?.to_string(alloc)
+}
+
+fn status_value(alloc: Global, status: &Status<'_>) -> Result<Value, AllocError>
+    ensures { IfOk result (λ value. view value ≡ status_data status.now) }
+{
+    let nodes = nodes_value(alloc, &status.nodes)?;
+    let lines = lines_value(alloc, &status.lines)?;
+    let counts = counts_value(alloc, status.counts)?;
+    let calls = calls_value(alloc, &status.calls)?;
+    let ports = ports_value(alloc, &status.ports)?;
+    let (version, seconds) = (status.version, status.seconds);
+    json!(in alloc; {"version": version, "seconds": seconds, "nodes": nodes, "lines": lines, "counts": counts,
+        "calls": calls, "ports": ports})
+}
+
+fn nodes_value(alloc: Global, nodes: &[NodeLine<'_>]) -> Result<Value, AllocError>
+    ensures { IfOk result (λ value. view value ≡ array (items_of (map node_data nodes.now))) }
+{
+    let mut values = Vec::new(alloc);
+    for node in nodes {
+        values.push(node_value(alloc, *node)?)?;
+    }
+    Ok(Value::Array(values))
+}
+
+fn node_value(alloc: Global, node: NodeLine<'_>) -> Result<Value, AllocError>
+    ensures { IfOk result (λ value. view value ≡ node_data node.entry) }
+{
+    let (name, kind) = (node.name, kind_word(node.kind));
+    json!(in alloc; {"name": name, "kind": kind})
+}
+
+fn lines_value(alloc: Global, lines: &[NetLine<'_>]) -> Result<Value, AllocError>
+    ensures { IfOk result (λ value. view value ≡ array (items_of (map line_data lines.now))) }
+{
+    let mut values = Vec::new(alloc);
+    for line in lines {
+        values.push(line_value(alloc, *line)?)?;
+    }
+    Ok(Value::Array(values))
+}
+
+fn line_value(alloc: Global, line: NetLine<'_>) -> Result<Value, AllocError>
+    ensures { IfOk result (λ value. view value ≡ line_data line.entry) }
+{
+    let (dte, dce, address) = (line.dte, line.dce, line.address);
+    let state = state_word(line.state);
+    json!(in alloc; {"dte": dte, "dce": dce, "address": address, "state": state})
+}
+
+fn counts_value(alloc: Global, counts: Counts) -> Result<Value, AllocError>
+    ensures { IfOk result (λ value. view value ≡ counts_data counts) }
+{
+    let (clients, refused) = (counts.clients, counts.refused);
+    let (lost, withheld) = (counts.lost, counts.withheld);
+    json!(in alloc; {"clients": clients, "refused": refused, "lines_lost": lost, "lines_withheld": withheld})
+}
+
+fn calls_value(alloc: Global, calls: &[CallLine<'_>]) -> Result<Value, AllocError>
+    ensures { IfOk result (λ value. view value ≡ array (items_of (map call_data calls.now))) }
+{
+    let mut values = Vec::new(alloc);
+    for call in calls {
+        values.push(call_value(alloc, call)?)?;
+    }
+    Ok(Value::Array(values))
+}
+
+fn call_value(alloc: Global, call: &CallLine<'_>) -> Result<Value, AllocError>
+    ensures { IfOk result (λ value. view value ≡ call_data call.now) }
+{
+    let over = numbers_value(alloc, &call.over)?;
+    let (from, to, node) = (call.from.as_str(), call.to.as_str(), call.node);
+    let (channel, since) = (call.channel, call.since);
+    let (taken, said) = (call.taken, call.said);
+    json!(in alloc; {"from": from, "to": to, "node": node, "channel": channel, "since": since, "taken": taken,
+        "said": said, "over": over})
+}
+
+fn numbers_value(alloc: Global, numbers: &[usize]) -> Result<Value, AllocError>
+    ensures { IfOk result (λ value. view value ≡ numbers_data numbers.now) }
+{
+    let mut values = Vec::new(alloc);
+    for number in numbers {
+        values.push(Value::from(*number))?;
+    }
+    Ok(Value::Array(values))
+}
+
+fn ports_value(alloc: Global, ports: &[PortLine]) -> Result<Value, AllocError>
+    ensures { IfOk result (λ value. view value ≡ array (items_of (map port_data ports.now))) }
+{
+    let mut values = Vec::new(alloc);
+    for port in ports {
+        values.push(port_value(alloc, *port)?)?;
+    }
+    Ok(Value::Array(values))
+}
+
+fn port_value(alloc: Global, port: PortLine) -> Result<Value, AllocError>
+    ensures { IfOk result (λ value. view value ≡ port_data port) }
+{
+    let (in_use, keys) = (port.in_use, port.keys);
+    let (octets, overtaken) = (port.octets, port.overtaken);
+    json!(in alloc; {"in_use": in_use, "keys": keys, "octets": octets, "overtaken": overtaken})
+}
