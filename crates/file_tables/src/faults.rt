@@ -44,7 +44,7 @@ fn first_unknown<'a>(keys: &[Key], table: &'a Table) -> Option<&'a str>
     }
 }
 
-/// The same, in the map that a table is in the code.
+/// The first key of a table, as a map in the code, that is none of these.
 fn find_unknown<'a>(keys: &[Key], table: &'a Table) -> Option<&'a String>
     ensures { option_map (λ name. name.now) result
         ≡ find (λ name. not (is_known keys.now (string_bytes name))) (keys_in table.entry.now) }

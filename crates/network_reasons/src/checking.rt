@@ -70,7 +70,7 @@ pub fn text_of(octets: &[u8]) -> Option<&str>
     }
 }
 
-/// The same of a text.
+/// Reads a network's text, and tells why it is refused if it is.
 fn read_text(alloc: Global, out: &mut String, text: &str) -> Result<Option<Config>, AllocError>
     ensures { IfOk result (λ config. MatchOption config (IsRefused text.now) (IsRead text.now)) }
 {

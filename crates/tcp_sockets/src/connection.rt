@@ -1,5 +1,5 @@
 //! The place of a connection: its socket, and what was read from it and not taken yet.
-ghost use Rattle.std.specs.Prelude.{◌≡◌, ◌≤◌, [], drop, length, IfOk};
+ghost use Rattle.std.specs.Prelude.{◌≡◌, ◌≤◌, ◌&&◌, ◌||◌, [], drop, length, nat_eq, not, IfOk};
 ghost use Rattle.tcp_sockets.specs.Connections.{IsRead, count_of};
 
 use crate::outcome::{Heard, Made, Written};
@@ -86,17 +86,23 @@ impl Connection {
     }
 
     /// Whether nothing comes any more but what the system has already.
-    fn is_over(&self) -> bool {
+    fn is_over(&self) -> bool
+        ensures { result ≡ (self.now.has_ended || self.now.is_broken) }
+    {
         self.has_ended || self.is_broken
     }
 
     /// Whether the system told that the peer has ended its side. Not all that came before may be read yet.
-    pub fn has_ended(&self) -> bool {
+    pub fn has_ended(&self) -> bool
+        ensures { result ≡ (self.now.is_made && self.now.has_ended) }
+    {
         self.is_made && self.has_ended
     }
 
     /// Whether the system told that the connection is broken. Not all that came before may be read yet.
-    pub fn is_broken(&self) -> bool {
+    pub fn is_broken(&self) -> bool
+        ensures { result ≡ (self.now.is_made && self.now.is_broken) }
+    {
         self.is_made && self.is_broken
     }
 
@@ -145,12 +151,16 @@ impl Connection {
     }
 
     /// Whether there are octets to be taken, or something may be read.
-    pub fn may_read(&self) -> bool {
+    pub fn may_read(&self) -> bool
+        ensures { result ≡ (self.now.is_made && (self.now.readable || not (nat_eq (length self.now.unread) 0))) }
+    {
         self.is_made && (self.readable || !self.unread.is_empty())
     }
 
     /// Whether something may be written.
-    pub fn may_write(&self) -> bool {
+    pub fn may_write(&self) -> bool
+        ensures { result ≡ (self.now.is_made && self.now.writable) }
+    {
         self.is_made && self.writable
     }
 

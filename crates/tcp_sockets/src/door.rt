@@ -1,4 +1,6 @@
 //! Doors: sockets at which connections are accepted.
+ghost use Rattle.std.specs.Prelude.{◌≡◌, true, false, None, IfOk};
+
 use mio::net::{TcpListener, TcpStream};
 use mio::{Interest, Registry, Token};
 use std::io::{self, ErrorKind};
@@ -20,7 +22,9 @@ impl Door {
         registry: &Registry,
         at: SocketAddr,
         token: Token,
-    ) -> io::Result<Self> {
+    ) -> io::Result<Self>
+        ensures { IfOk result (λ door. door.waits ≡ true) }
+    {
         let mut listener = TcpListener::bind(net, at)?;
         registry.register(&mut listener, token, Interest::READABLE)?;
         let at = listener.local_addr()?;
@@ -32,17 +36,25 @@ impl Door {
     }
 
     /// Where it is.
-    pub fn at(&self) -> SocketAddr {
+    pub fn at(&self) -> SocketAddr
+        ensures { result ≡ self.now.at }
+    {
         self.at
     }
 
     /// The system tells that a connection waits.
-    pub fn report(&mut self) {
+    pub fn report(&mut self)
+        ensures waits { self.new.waits ≡ true }
+        ensures at { self.new.at ≡ self.old.at }
+    {
         self.waits = true;
     }
 
     /// The next connection and its peer, if one waits.
-    pub fn next(&mut self) -> Option<(TcpStream, SocketAddr)> {
+    pub fn next(&mut self) -> Option<(TcpStream, SocketAddr)>
+        ensures closed { self.old.waits ≡ false → result ≡ None }
+        ensures at { self.new.at ≡ self.old.at }
+    {
         if !self.waits {
             return None;
         }
