@@ -12,12 +12,13 @@ use Rattle.line_carriers.specs.declared.carrier.Carrier.{Carrier}
 use Rattle.line_carriers.specs.declared.carrier.Partner.{Partner}
 use Rattle.line_carriers.specs.declared.carrier.Connection.{Connection}
 use Rattle.line_carriers.specs.declared.carrier.Connection.TheVariants.{Away, Greeting, Met}
+use Rattle.line_carriers.specs.declared.carrier.Expiry.TheVariants.{Silence, Hold}
 use Rattle.line_carriers.specs.declared.carrier.Heard.TheVariants as heard
 use Rattle.line_carriers.specs.declared.hello.Hello.{Hello}
 use Rattle.line_carriers.specs.Wire.{sign_form, frame_form}
 use Rattle.line_carriers.specs.Reading.{First, part, frame, sign, broken, first_item, answer_of, rest_after}
 use Rattle.line_carriers.specs.Hello.{hello_form, hello_read, role_octet}
-use Rattle.line_carriers.specs.Carrier.{Told, told, Started, Elapsed, cut, first_sign, is_connection, stands, says_open, is_open, takes_frame, has_sign_room, with_sign, with_octets, with_start, after_start, met_after, after_sign, with_item, read_by, closed_by, run_out, after_beat, after_ticks}
+use Rattle.line_carriers.specs.Carrier.{Told, told, Started, Elapsed, cut, first_sign, is_connection, stands, says_open, is_open, takes_frame, has_sign_room, with_sign, with_octets, with_start, after_start, met_after, after_sign, with_item, read_by, closed_by, after_beat, after_ticks}
 use Rattle.line_carriers.specs.Laws.{Entry, a_frame, a_sign, forms, IsHello}
 use Rattle.line_carriers.specs.Opening.{Act, adds, reads, writes, comes, starts, passes, after_act, handed_by, signs_form, HasNoOpen}
 use Rattle.line_carriers.specs.CutOff.{Pair, met, after_own, Deed, at_starter, at_partner, brings_out, brings_back, after_deed, after_deeds, unread, IsCutOff, CutOffLaw}
@@ -60,10 +61,13 @@ starts-still c =
 
 passes-still : (c : Carrier) (ticks : ℕ) → Still c (after_ticks c ticks).carrier
 passes-still c ticks =
-    let d = record c { left = lowered ticks c.left; pulse = lowered ticks c.pulse } in
-    if-elapsed c (is_due d.left) (run_out d) (record { carrier = cond (is_due d.pulse) (after_beat d) d; expiry = None })
-    (if-elapsed c (stands d) _ _ (still-cut c d) (still c (record d { left = None }) refl refl))
-    (if-still c (is_due d.pulse) (after_beat d) d (still c (after_beat d) refl refl) (still c d refl refl))
+    let d = record c { left = lowered ticks c.left; absence = lowered ticks c.absence; pulse = lowered ticks c.pulse } in
+    let given_up : Elapsed = record { carrier = record d { absence = None }; expiry = Some Hold } in
+    let beaten : Elapsed = record { carrier = cond (is_due d.pulse) (after_beat d) d; expiry = None } in
+    if-elapsed c (is_due d.left) (record { carrier = cut d; expiry = Some Silence }) (cond (is_due d.absence) given_up beaten)
+    (still-cut c d)
+    (if-elapsed c (is_due d.absence) given_up beaten (still c (record d { absence = None }) refl refl)
+    (if-still c (is_due d.pulse) (after_beat d) d (still c (after_beat d) refl refl) (still c d refl refl)))
 
 adds-still : (c : Carrier) (octets : List ℕ) → Still c (after_act c (adds octets))
 adds-still c octets =

@@ -12,11 +12,12 @@ use Rattle.line_carriers.specs.declared.carrier.Carrier.{Carrier}
 use Rattle.line_carriers.specs.declared.carrier.Partner.{Partner}
 use Rattle.line_carriers.specs.declared.carrier.Connection.{Connection}
 use Rattle.line_carriers.specs.declared.carrier.Connection.TheVariants.{Away, Greeting, Met}
+use Rattle.line_carriers.specs.declared.carrier.Expiry.TheVariants.{Silence, Hold}
 use Rattle.line_carriers.specs.declared.carrier.Heard.TheVariants as heard
 use Rattle.line_carriers.specs.Wire.{sign_form, frame_form, is_frame}
 use Rattle.line_carriers.specs.Reading.{first_item, answer_of, rest_after}
 use Rattle.line_carriers.specs.Hello.{hello_form, hello_read}
-use Rattle.line_carriers.specs.Carrier.{Told, told, Started, Elapsed, cut, first_sign, is_connection, stands, says_open, is_open, takes_frame, has_sign_room, with_sign, with_start, after_start, met_after, after_sign, with_item, read_by, closed_by, run_out, after_beat, after_ticks}
+use Rattle.line_carriers.specs.Carrier.{Told, told, Started, Elapsed, cut, first_sign, is_connection, stands, says_open, is_open, takes_frame, has_sign_room, with_sign, with_start, after_start, met_after, after_sign, with_item, read_by, closed_by, after_beat, after_ticks}
 use Rattle.line_carriers.specs.Opening.{Handed, begun, Act, adds, reads, writes, comes, starts, passes, after_act, handed_by, after_acts, signs_form, HasNoOpen, IsQuiet, OpenLaw}
 
 pub signs_form-append : (xs ys : List Sign) → signs_form (xs ++ ys) ≡ signs_form xs ++ signs_form ys
@@ -215,11 +216,14 @@ beat-moves c d false pulse output connection started = unchanged c (record d { p
 
 pub passes-moves : (c : Carrier) (ticks : ℕ) → Moves c (after_ticks c ticks).carrier
 passes-moves c ticks =
-    let d = record c { left = lowered ticks c.left; pulse = lowered ticks c.pulse } in
-    if-passes c (is_due d.left) (run_out d) (record { carrier = cond (is_due d.pulse) (after_beat d) d; expiry = None })
-    (if-passes c (stands d) _ _ (was_cut c d) (unchanged c (record d { left = None }) refl refl refl))
+    let d = record c { left = lowered ticks c.left; absence = lowered ticks c.absence; pulse = lowered ticks c.pulse } in
+    let given_up : Elapsed = record { carrier = record d { absence = None }; expiry = Some Hold } in
+    let beaten : Elapsed = record { carrier = cond (is_due d.pulse) (after_beat d) d; expiry = None } in
+    if-passes c (is_due d.left) (record { carrier = cut d; expiry = Some Silence }) (cond (is_due d.absence) given_up beaten)
+    (was_cut c d)
+    (if-passes c (is_due d.absence) given_up beaten (unchanged c (record d { absence = None }) refl refl refl)
     (if-moves c (is_due d.pulse) (after_beat d) d
-    (λ _. beat-moves c d (eqb (length d.output) 0) _ refl refl refl) (λ _. unchanged c d refl refl refl))
+    (λ _. beat-moves c d (eqb (length d.output) 0) _ refl refl refl) (λ _. unchanged c d refl refl refl)))
 
 -- ---- all acts
 

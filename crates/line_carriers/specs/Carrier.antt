@@ -28,7 +28,8 @@ new_carrier hello hold silence = record {
   silence = silence;
   started = false;
   connection = Away;
-  left = Some hold;
+  left = None;
+  absence = Some hold;
   pulse = None;
   input = [];
   output = [];
@@ -40,11 +41,18 @@ new_carrier hello hold silence = record {
 abbrev pub first_sign : Carrier → Sign
 first_sign c = if c.started then Open else Starting
 
+-- Once a connection is over, the partner has `hold` ticks to come again. If its hello was not read, the time that it had
+-- goes on.
+abbrev pub absence_after : Connection → Carrier → Option ℕ
+absence_after (Met partner) c = Some c.hold
+absence_after _ c = c.absence
+
 -- a new one stands: the end says hello, and that it is open or starts
 abbrev pub connected : Carrier → Carrier
 connected c = record c {
   connection = Greeting;
   left = Some c.silence;
+  absence = absence_after c.connection c;
   pulse = Some (c.silence / 3);
   input = [];
   output = hello_form c.hello ++ sign_form (first_sign c);
@@ -52,7 +60,14 @@ connected c = record c {
 
 -- it is closed, and what it had is dropped
 abbrev pub cut : Carrier → Carrier
-cut c = record c { connection = Away; left = Some c.hold; pulse = None; input = []; output = [] }
+cut c = record c {
+  connection = Away;
+  left = None;
+  absence = absence_after c.connection c;
+  pulse = None;
+  input = [];
+  output = [];
+}
 
 abbrev pub is_connection : Connection → Bool
 is_connection Away = false
@@ -133,7 +148,8 @@ abbrev pub told : Carrier → Result Heard CarrierFault → Told
 told c answer = record { carrier = c; answer = answer }
 
 abbrev pub met_after : Carrier → Result ℕ CarrierFault → Told
-met_after c (Ok start) = told (record c { connection = Met (record { ready = false; opened = false }) }) (Ok (heard.Hello start))
+met_after c (Ok start) =
+    told (record c { connection = Met (record { ready = false; opened = false }); absence = None }) (Ok (heard.Hello start))
 met_after c (Err fault) = told c (Err fault)
 
 -- the hello, as soon as its 48 octets came
@@ -190,11 +206,6 @@ pub record Elapsed : Type 0 where
   pub carrier : Carrier
   pub expiry : Option Expiry
 
-abbrev pub run_out : Carrier → Elapsed
-run_out c =
-    if stands c then record { carrier = cut c; expiry = Some Silence }
-    else record { carrier = record c { left = None }; expiry = Some Hold }
-
 abbrev pub after_beat : Carrier → Carrier
 after_beat c = record c {
   pulse = Some (c.silence / 3);
@@ -203,8 +214,13 @@ after_beat c = record c {
 
 abbrev pub expired : Carrier → Elapsed
 expired c =
-    if is_due c.left then run_out c
+    if is_due c.left then record { carrier = cut c; expiry = Some Silence }
+    else if is_due c.absence then record { carrier = record c { absence = None }; expiry = Some Hold }
     else record { carrier = if is_due c.pulse then after_beat c else c; expiry = None }
 
 abbrev pub after_ticks : Carrier → (ticks : ℕ) → Elapsed
-after_ticks c ticks = expired (record c { left = lowered ticks c.left; pulse = lowered ticks c.pulse })
+after_ticks c ticks = expired (record c {
+  left = lowered ticks c.left;
+  absence = lowered ticks c.absence;
+  pulse = lowered ticks c.pulse;
+})

@@ -1,5 +1,5 @@
 //! One end of a line over a connection.
-ghost use Rattle.std.specs.Prelude.{◌≡◌, ◌+◌, ◌-◌, ◌≤◌, [], ◌++◌, length, take, drop, min, IfOk, Some};
+ghost use Rattle.std.specs.Prelude.{◌≡◌, ◌+◌, ◌-◌, ◌≤◌, [], ◌++◌, length, take, drop, min, IfOk};
 ghost use Rattle.std.specs.Bool.{OnTrue, OnFalse};
 ghost use Rattle.octet_rings.specs.Places.{most_octets};
 ghost use Rattle.line_carriers.specs.Wire.{frame_form};
@@ -23,7 +23,7 @@ ghost use Rattle.line_carriers.specs.Carrier.{
   after_item,
   after_sign,
   after_ticks,
-  run_out,
+  absence_after,
   after_beat,
 };
 
@@ -57,7 +57,7 @@ pub enum Heard {
 pub enum Expiry {
     /// Nothing came for `silence` ticks: the connection is to be closed.
     Silence,
-    /// No connection stood for `hold` ticks: the link over the line is to be given up.
+    /// The partner's hello was not read for `hold` ticks: the link over the line is to be given up.
     Hold,
 }
 
@@ -90,8 +90,10 @@ pub struct Carrier {
     silence: u16,
     started: bool,
     connection: Connection,
-    /// Until a connection that stands is closed; else until the link is given up.
+    /// Until a connection that stands is closed.
     left: Countdown,
+    /// Until the link is given up. It runs as long as the partner's hello is not read.
+    absence: Countdown,
     /// Until the partner is told again that this end is still here.
     pulse: Countdown,
     input: OctetRing,
@@ -99,23 +101,24 @@ pub struct Carrier {
 }
 
 impl Carrier {
-    /// An end without a connection, whose node has not started yet. After `hold` ticks without a connection it tells so;
-    /// a connection over which nothing came for `silence` ticks is closed. Twenty ticks are a second. `AllocError` comes
-    /// for want of memory; no other call wants any.
+    /// An end without a connection, whose node has not started yet. After `hold` ticks without a connection over which the
+    /// partner said hello it tells so; a connection over which nothing came for `silence` ticks is closed. Twenty ticks
+    /// are a second. `AllocError` comes for want of memory; no other call wants any.
     pub fn new(alloc: Global, hello: Hello, hold: u16, silence: u16) -> Result<Self, AllocError>
         ensures { IfOk result (λ carrier. carrier ≡ new_carrier hello hold silence) }
     {
         let input = OctetRing::new(alloc)?;
         let output = OctetRing::new(alloc)?;
-        let mut left = Countdown::new();
-        left.start(hold);
+        let mut absence = Countdown::new();
+        absence.start(hold);
         Ok(Carrier {
             hello,
             hold,
             silence,
             started: false,
             connection: Connection::Away,
-            left,
+            left: Countdown::new(),
+            absence,
             pulse: Countdown::new(),
             input,
             output,
@@ -159,11 +162,21 @@ impl Carrier {
     fn cut(&mut self)
         ensures { self.new ≡ cut self.old }
     {
+        self.miss();
         self.connection = Connection::Away;
-        self.left.start(self.hold);
+        self.left.stop();
         self.pulse.stop();
         self.input.clear();
         self.output.clear();
+    }
+
+    // The partner is absent from now on, if it was there.
+    fn miss(&mut self)
+        ensures { self.new ≡ record self.old { absence = absence_after self.old.connection self.old } }
+    {
+        if matches!(self.connection, Connection::Met(_)) {
+            self.absence.start(self.hold);
+        }
     }
 
     /// What the first octets over a connection say, before it replaces the one that stands: the number of the partner's
@@ -320,6 +333,7 @@ impl Carrier {
             ready: false,
             opened: false,
         });
+        self.absence.stop();
         Ok(Heard::Hello(start))
     }
 
@@ -369,35 +383,28 @@ impl Carrier {
         Ok(Heard::Sign(sign))
     }
 
-    /// Lets ticks pass, and tells what ran out: `Silence` closes the connection, `Hold` comes once until a connection
-    /// stands. After each third of `silence` the partner is told that this end is still here, unless octets wait to be
+    /// Lets ticks pass, and tells what ran out: `Silence` closes the connection, `Hold` comes once until the partner's hello
+    /// is read. After each third of `silence` the partner is told that this end is still here, unless octets wait to be
     /// written.
     pub fn elapse(&mut self, ticks: u16) -> Option<Expiry>
         ensures after { self.new ≡ (after_ticks self.old ticks).carrier }
         ensures expiry { result ≡ (after_ticks self.old ticks).expiry }
     {
         self.left.elapse(ticks);
+        self.absence.elapse(ticks);
         self.pulse.elapse(ticks);
         if self.left.is_due() {
-            return Some(self.run_out());
+            self.cut();
+            return Some(Expiry::Silence);
+        }
+        if self.absence.is_due() {
+            self.absence.stop();
+            return Some(Expiry::Hold);
         }
         if self.pulse.is_due() {
             self.beat();
         }
         None
-    }
-
-    fn run_out(&mut self) -> Expiry
-        ensures after { self.new ≡ (run_out self.old).carrier }
-        ensures expiry { Some result ≡ (run_out self.old).expiry }
-    {
-        if self.stands() {
-            self.cut();
-            Expiry::Silence
-        } else {
-            self.left.stop();
-            Expiry::Hold
-        }
     }
 
     fn beat(&mut self)

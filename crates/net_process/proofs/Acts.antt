@@ -107,9 +107,9 @@ step_is_act owner k g x y p e r is stepped may =
     (is_act owner k g x p is e r stepped.part lived (here owner k g x p is e may) (no_restart owner k g x p is e may))
 
 pub start_is_act : StartLaw
-start_is_act owner k node g x y p is h own connected =
-    subst (λ (z : ProcessState). IsAct owner k (Restart node) h.result z.part p) (sym h.process)
-    (is_act owner k g x p is (Restart node) h.result h.part h.happens (is.own node own)
+start_is_act owner k node g x y p r is h own connected =
+    subst (λ (z : ProcessState). IsAct owner k (Restart node) r z.part p) (sym h.process)
+    (is_act owner k g x p is (Restart node) r h.part h.happens (is.own node own)
     (may_restart owner p k node (is.own node own) connected))
 
 -- ---- time and lines

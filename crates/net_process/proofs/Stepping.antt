@@ -1,5 +1,5 @@
 -- An event that may not be in a process, and a link that is given up.
-use Rattle.std.proofs.Common.{◌≡◌, ℕ, Bool, false, true, List, map, set, length, get_or, ◌<◌, Option, Some, None, Result, Err, refl, sym, ap, ◌∙◌, subst}
+use Rattle.std.proofs.Common.{◌≡◌, ℕ, Bool, false, set, length, get_or, ◌<◌, Option, Some, None, Err, refl, sym, ap, ◌∙◌, subst}
 use Rattle.std.specs.Prelude.{slice_get}
 use Rattle.std.specs.List.{position}
 use Rattle.std.proofs.lemmas.Option.{slice_get_read}
@@ -9,13 +9,7 @@ use Rattle.net_events.specs.declared.event.StepFault.TheVariants as step_fault_i
 use Rattle.remote_lines.specs.declared.line.RemoteLine.{RemoteLine}
 use Rattle.net_process.specs.Process.{ProcessState, may_be}
 use Rattle.net_process.specs.Remote.{changed, changed_by, given_up, given_up_at, given_up_on, given_up_once, event_at, after_given_up, is_given_up}
-use Rattle.net_process.specs.Starting.{HasRestarted, started_at}
 use Rattle.net_process.specs.Stepping.{HasStepped, HappensIf}
-use Rattle.live_net.specs.Parting.{HasLivedApart}
-use Rattle.net_events.specs.Network.{Network}
-use Rattle.net_events.specs.declared.answer.Answer.{Answer}
-use Rattle.net_events.specs.declared.event.StepFault.{StepFault}
-use Rattle.net_events.specs.declared.event.Event.TheVariants.{Restart}
 
 pub not_here : (L : LineService) (e : Event) (p q : ProcessState) → may_be p e ≡ false → q ≡ p
     → HasStepped L e p (Err step_fault_is.NoSuchNode) q
@@ -24,21 +18,6 @@ not_here L e p q is same = record {
   happens = subst (λ (b : Bool). HappensIf L b e p.part (Err step_fault_is.NoSuchNode) p.part) (sym is) refl;
   process = same;
 }
-
--- a node restarts, in a process that is this one
-pub restarted : (L : LineService) (node : ℕ) (p v : ProcessState) (result : Result Answer StepFault) (part : Network)
-    (lines : List RemoteLine) → v ≡ p → HasLivedApart L (Restart node) v.part result part
-    → lines ≡ map (started_at node) v.lines
-    → HasRestarted L node p (record v { part = part; started = set v.started node true; lines = lines })
-restarted L node p v result part lines is lives same =
-    let q : ProcessState = record v { part = part; started = set v.started node true; lines = lines } in
-    subst (λ (x : ProcessState). HasRestarted L node x q) is
-    (record {
-      result = result;
-      part = part;
-      happens = lives;
-      process = ap (λ (xs : List RemoteLine). record v { part = part; started = set v.started node true; lines = xs }) same;
-    })
 
 -- ---- links that are given up
 

@@ -60,9 +60,9 @@ StepLaw = (owner : ℕ → ℕ) (k : ℕ) (g : Register) (x y : ProcessState) (p
 
 -- so is the start of a node whose lines have connections
 abbrev pub StartLaw : Type 0
-StartLaw = (owner : ℕ → ℕ) (k node : ℕ) (g : Register) (x y : ProcessState) (p : Processes)
-    → IsProcess owner k g x p → (h : HasRestarted memory_service node x y) → is_set x.own node ≡ true
-    → HasConnections owner p k node → IsAct owner k (Restart node) h.result y.part p
+StartLaw = (owner : ℕ → ℕ) (k node : ℕ) (g : Register) (x y : ProcessState) (p : Processes) (r : Result Answer StepFault)
+    → IsProcess owner k g x p → HasRestarted memory_service node x r y → is_set x.own node ≡ true
+    → HasConnections owner p k node → IsAct owner k (Restart node) r y.part p
 
 -- ---- on lines
 

@@ -14,9 +14,9 @@ use Rattle.net_process.specs.Process.{ProcessState, may_start}
 abbrev pub started_at : (node : ℕ) → RemoteLine → RemoteLine
 started_at node r = if r.end.node == node then started r else r
 
--- the node restarts, and opens its remote lines
-pub record HasRestarted (L : LineService) (node : ℕ) (p q : ProcessState) : Type 0 where
-  pub result : Result Answer StepFault
+-- the node restarts with this answer, and opens its remote lines
+pub record HasRestarted (L : LineService) (node : ℕ) (p : ProcessState) (result : Result Answer StepFault) (q : ProcessState)
+    : Type 0 where
   pub part : Network
   pub happens : HasLivedApart L (Restart node) p.part result part
   pub process : q ≡ record p { part = part; started = set p.started node true; lines = map (started_at node) p.lines }

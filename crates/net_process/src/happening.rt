@@ -44,7 +44,7 @@ impl<L: Line> Process<L> {
     ghost use Rattle.net_process.specs.contracts.process.Process.{the_row};
 
     /// Whether an event may happen here: the node at which it is is of this process and has started. A node starts by
-    /// [`Process::start_next`] alone.
+    /// [`Process::start`] alone.
     fn may_be(&self, event: &Event) -> bool
         ensures { result ≡ may_be self.now event.now }
     {
@@ -117,7 +117,7 @@ impl<L: Line> Process<L> {
         }
     }
 
-    /// The event by which an end here gives its link up, as no connection stood for too long: that of the first remote
+    /// The event by which an end here gives its link up, as its partner was away for too long: that of the first remote
     /// line for which it is due. Each is given once.
     pub fn next_given_up(&mut self) -> Option<Event>
         ensures event { result ≡ given_up self.old }

@@ -102,11 +102,18 @@ impl<L: Line> Process<L> {
         Ok(process)
     }
 
+    /// Whether the node of this place is of this process.
+    pub fn owns(&self, node: usize) -> bool
+        ensures { result ≡ is_set self.now.own node }
+    {
+        is_set(self.own.as_slice(), node)
+    }
+
     /// Whether the node of this place is of this process and has started.
     pub fn runs(&self, node: usize) -> bool
         ensures { result ≡ runs self.now node }
     {
-        is_set(self.own.as_slice(), node) && is_set(self.started.as_slice(), node)
+        self.owns(node) && is_set(self.started.as_slice(), node)
     }
 
     /// Whether the node at the end of this role of a line is of this process and has started.

@@ -1,26 +1,48 @@
 //! How the nodes of a process start.
-ghost use Rattle.std.specs.Prelude.{◌≡◌, ◌<◌, ℕ, true, false, map, length, slice_get, MatchOption};
+ghost use Rattle.std.specs.Prelude.{◌≡◌, ◌≢◌, ℕ, true, false, map, slice_get, IfOk, MatchOption, Err};
+ghost use Rattle.net_events.specs.declared.event.StepFault.TheVariants as step_fault_is;
+ghost use Rattle.net_turns.specs.AnswerRoom.{IsWithinLimits};
 ghost use Rattle.net_process.specs.Process.{may_start, is_clear_in};
-ghost use Rattle.net_process.specs.Starting.{started_at, HasRestarted, IsFirstToStart};
+ghost use Rattle.net_process.specs.Starting.{started_at, IsFirstToStart};
 
 use crate::process::{Process, is_set};
-use line_sim::{Event, Line};
+use line_sim::{Answer, Event, Line, StepFault};
 use remote_lines::{RemoteLine, may_start};
 
 impl<L: Line> Process<L> {
-    /// Starts the first node here that has not started and whose remote lines all let it: the node restarts, and its ends
-    /// of these lines open. The answer is which one, if there was one.
-    pub fn start_next(&mut self) -> Option<usize>
-        ensures { MatchOption result ((self.new ≡ self.old) × ((node : ℕ) → may_start self.old node ≡ false))
-            (λ node. IsFirstToStart node self.old × HasRestarted L.service node self.old self.new) }
+    ghost use Rattle.std.specs.Borrow.{sem};
+    ghost use Rattle.std.specs.Io.BufRead.{Rests};
+    ghost use Rattle.line_sim.specs.Stepping.{lent};
+    ghost use Rattle.net_process.specs.Starting.{HasRestarted};
+    ghost use Rattle.net_process.specs.contracts.process.Process.{the_row};
+
+    /// The first node here that has not started and whose remote lines all let it.
+    pub fn next_to_start(&self) -> Option<usize>
+        ensures { MatchOption result ((node : ℕ) → may_start self.now node ≡ false) (λ node. IsFirstToStart node self.now) }
     {
         for node in 0..self.own.len() {
             if self.may_start(node) {
-                self.restart(node);
                 return Some(node);
             }
         }
         None
+    }
+
+    /// Starts a node that may start: it restarts, and its ends of remote lines open. Lends the answer, which the process
+    /// keeps until the next event. What the node sends on remote lines is in flight then, until [`Process::carry`].
+    #[inline(always)]
+    pub fn start(&mut self, node: usize) -> Result<&Answer, StepFault>
+        requires { may_start self.old node ≡ true }
+        ensures memory { lent result ≢ Err step_fault_is.OutOfMemory }
+        ensures limits { IfOk (lent result) IsWithinLimits }
+
+        // The process once the answer is given back.
+        ensures* after { sem 𝓛 (Rests (the_row L.row L.Line) self.entry (λ process.
+            HasRestarted L.service node self.old (lent result) process)) }
+    {
+        self.started[node] = true;
+        start_lines(&mut self.lines, node);
+        self.part.step(&Event::Restart { node })
     }
 
     fn may_start(&self, node: usize) -> bool
@@ -29,15 +51,6 @@ impl<L: Line> Process<L> {
         is_set(self.own.as_slice(), node)
             && is_clear(self.started.as_slice(), node)
             && may_start(self.lines.as_slice(), node)
-    }
-
-    fn restart(&mut self, node: usize)
-        requires { node < length self.old.started }
-        ensures { HasRestarted L.service node self.old self.new }
-    {
-        let _ = self.part.step(&Event::Restart { node });
-        self.started[node] = true;
-        start_lines(&mut self.lines, node);
     }
 }
 

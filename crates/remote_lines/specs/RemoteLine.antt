@@ -81,7 +81,7 @@ started r = with_answer (record r { carrier = (after_start r.carrier).carrier })
 
 -- ---- time
 
--- a connection that was silent is to be closed; without one for long enough the link is to be given up
+-- a connection that was silent is to be closed; without the partner for long enough the link is to be given up
 abbrev pub with_expiry : RemoteLine → Option Expiry → RemoteLine
 with_expiry r None = r
 with_expiry r (Some expiry.Silence) = record r { ending = Some Silence }

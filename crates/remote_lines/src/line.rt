@@ -79,8 +79,9 @@ pub struct RemoteLine {
 
 impl RemoteLine {
     /// A line without a connection, whose node here has not started. `hello` is what this end says of itself. After
-    /// `hold` ticks without a connection the link is to be given up. A connection over which nothing came for `silence`
-    /// ticks is closed. Twenty ticks are a second. `AllocError` comes for want of memory; no other call wants any.
+    /// `hold` ticks without a connection over which the partner said hello the link is to be given up. A connection over
+    /// which nothing came for `silence` ticks is closed. Twenty ticks are a second. `AllocError` comes for want of memory;
+    /// no other call wants any.
     pub fn new(
         alloc: Global,
         end: LineEnd,
@@ -231,7 +232,7 @@ impl RemoteLine {
     }
 
     /// Lets ticks pass. After `silence` ticks without an octet the connection is closed. After `hold` ticks without a
-    /// connection the link is to be given up, if the node here has started.
+    /// connection over which the partner said hello the link is to be given up, if the node here has started.
     pub fn elapse(&mut self, ticks: u16)
         ensures { self.new ≡ elapsed self.old ticks }
     {
