@@ -10,13 +10,16 @@ use Rattle.frame_lines.specs.Lines.{LineService}
 use Rattle.net_events.specs.declared.event.Event.{Event}
 use Rattle.net_events.specs.declared.event.Event.TheVariants.{Deliver}
 use Rattle.net_process.specs.Process.{ProcessState, due_here}
+use Rattle.service.specs.declared.bridges.BridgePort.{BridgePort}
 use Rattle.service.specs.declared.place.Place.{Place}
 use Rattle.service.specs.declared.terminal.Terminal.{Terminal}
 use Rattle.service.specs.Places.{AreApart}
 use Rattle.service.specs.Steps.{Step, Steps, HasTried, AreIdle, IsSilent, Does, PassesBy, Passes, is_at_terminal}
 use Rattle.service.specs.Serving.{IsServed, Wishes, Serves, WorksBy, ServesBelow, DeliversBelow, Expires, NoneIsDue, is_expiry, Rests, Works}
-use Rattle.service.proofs.Stepping.{steps-append, silent-none, idle-append, tried-left, tried-right, tried_step, neither_left, neither_right, passes_by-then, passes_step}
+use Rattle.service.proofs.Stepping.{steps-append, silent-none, idle-append, aside-append, expiry_aside, tried-left, tried-right, tried_step, neither_left, neither_right, passes_by-then, passes_step}
+use Rattle.service.specs.AllBridges.{AreOnOwnChannels, AreBridged, ServesBridges, WorksForAll}
 use Rattle.service.proofs.Served.{served_silent, served_then}
+use Rattle.service.proofs.EachBridge.{are_none, are-then, through_round}
 
 -- ---- all terminals
 
@@ -92,6 +95,7 @@ pub below_none : (L : LineService) (places : List Place) (s : ProcessState) (ter
 below_none L places s terminals = record {
   steps = [];
   works = works_by-none L places s terminals;
+  aside = refl;
   same = λ none. refl;
   idle = λ none. refl;
   tried = λ none port at q event below seat there wish. absurd (omega arith);
@@ -125,6 +129,7 @@ below_more L places port at any done s m t before between p q apart one two seat
   steps = one.steps ++ two.steps;
   works = works_by-then L places one.steps two.steps s m t before between (set between port q) one.works
       (works_by-one L places port at (Wishes at) done m t p q between two apart seat there);
+  aside = aside-append one.steps two.steps one.aside two.aside;
   same = λ none.
       ap (λ r. set between port r) (two.same (neither_right any done none))
       ∙ set_same between port p there
@@ -145,6 +150,7 @@ pub delivers_none : (L : LineService) (s : ProcessState) → DeliversBelow L 0 f
 delivers_none L s = record {
   steps = [];
   passes = record { made = refl; silent = λ at. silent-none at; idle = λ none. refl };
+  aside = refl;
   tried = λ none line direction below. absurd (omega arith);
 }
 
@@ -175,6 +181,7 @@ delivers_more L line any dte dce s m n t one from_dte from_dce =
           (λ none. neither_left any (dte || dce) none) (λ none. neither_right any (dte || dce) none) one.passes
           (passes_by-then L dte dce (dte || dce) m n t ys zs (λ none. neither_left dte dce none) (λ none. neither_right dte dce none)
           (passes_step L (Deliver line FromDte) dte m n refl from_dte) (passes_step L (Deliver line FromDce) dce n t refl from_dce));
+      aside = aside-append one.steps (ys ++ zs) one.aside refl;
       tried = λ none other direction below.
           delivered line other direction one.steps ys zs
           (here_or_below other line (HasTried (Deliver other direction) one.steps)
@@ -189,6 +196,7 @@ pub expires_none : (L : LineService) (s : ProcessState) → ((place : ℕ) → d
 expires_none L s due = record {
   steps = [];
   passes = record { made = refl; silent = λ at. silent-none at; idle = λ none. refl };
+  aside = refl;
   none = λ none. inl due;
 }
 
@@ -197,6 +205,7 @@ pub expires_one : (L : LineService) (event : Event) (done : Bool) (s t : Process
 expires_one L event done s t other expiry does = record {
   steps = record { event = event; answer = does.answer } ∷ [];
   passes = passes_step L event done s t other does;
+  aside = expiry_aside event does.answer expiry;
   none = λ none. inr (event, expiry, tried_step event event does.answer refl);
 }
 
@@ -286,3 +295,49 @@ round_none true b c d none = cc
 round_none false true c d none = cc
 round_none false false true d none = cc
 round_none false false false true none = cc
+
+-- ---- terminals and bridges
+
+pub all_round : (L : LineService) (places : List Place) (lines : ℕ) (served called moved expired more : Bool) (s a b c t : ProcessState)
+    (before after : List Terminal) (bridges later : List BridgePort)
+    → (more ≡ false → (served ≡ false) × (called ≡ false) × (moved ≡ false) × (expired ≡ false)) → AreOnOwnChannels bridges
+    → ServesBelow L places (length before) served s a before after → ServesBridges L called a b bridges later
+    → DeliversBelow L lines moved b c → Expires L expired c t → WorksForAll L places lines more s t before after bridges later
+unfolding rounds
+all_round L places lines served called moved expired more s a b c t before after bridges later nothing own one two three four = record {
+  works = rounds L places lines served called moved expired more s a b c t before after nothing one (two.steps, two.passes) three four;
+  bridged = (through_round one.steps two.steps three.steps four.steps bridges later one.aside two.through three.aside four.aside).each own;
+}
+
+pub all_start : (L : LineService) (places : List Place) (lines : ℕ) (s : ProcessState) (terminals : List Terminal) (bridges : List BridgePort)
+    → WorksForAll L places lines true s s terminals terminals bridges bridges
+unfolding works_start
+all_start L places lines s terminals bridges = record { works = works_start L places lines s terminals; bridged = are_none bridges }
+
+pub all_then : (L : LineService) (places : List Place) (lines : ℕ) (more : Bool) (s m t : ProcessState) (before between after : List Terminal)
+    (bridges mid later : List BridgePort) → WorksForAll L places lines true s m before between bridges mid
+    → WorksForAll L places lines more m t between after mid later → WorksForAll L places lines more s t before after bridges later
+unfolding works_then
+all_then L places lines more s m t before between after bridges mid later one two =
+    record {
+      works = works_then L places lines more s m t before between after one.works two.works;
+      bridged = subst (λ (steps : List Step). AreBridged steps bridges later)
+          (sym (append_assoc (one.works.steps ++ one.works.last) two.works.steps two.works.last))
+          (are-then (one.works.steps ++ one.works.last) (two.works.steps ++ two.works.last) bridges mid later one.bridged two.bridged);
+    }
+
+pub all_on : (L : LineService) (places here : List Place) (lines there : ℕ) (done more : Bool) (s m t : ProcessState)
+    (before between after : List Terminal) (bridges mid later : List BridgePort) → here ≡ places → there ≡ lines → done ≡ more
+    → WorksForAll L places lines true s m before between bridges mid → WorksForAll L here there done m t between after mid later
+    → WorksForAll L places lines more s t before after bridges later
+all_on L places here lines there done more s m t before between after bridges mid later places_is lines_is more_is one two =
+    all_then L places lines more s m t before between after bridges mid later one
+    (subst (λ (b : Bool). WorksForAll L places lines b m t between after mid later) more_is
+    (subst (λ (n : ℕ). WorksForAll L places n done m t between after mid later) lines_is
+    (subst (λ (n : List Place). WorksForAll L n there done m t between after mid later) places_is two)))
+
+pub all_at : (L : LineService) (there places : List Place) (lines : ℕ) (more : Bool) (s t : ProcessState) (before after : List Terminal)
+    (bridges later : List BridgePort) → there ≡ places → WorksForAll L there lines more s t before after bridges later
+    → WorksForAll L places lines more s t before after bridges later
+all_at L there places lines more s t before after bridges later is works =
+    subst (λ (n : List Place). WorksForAll L n lines more s t before after bridges later) is works

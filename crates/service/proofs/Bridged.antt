@@ -27,7 +27,7 @@ use Rattle.service.specs.declared.terminal.Terminal.{Terminal}
 use Rattle.service.specs.Orders.{ordered_at, after_order, port_of, IsFrom}
 use Rattle.service.specs.Terminals.{changed, changed_at, ordered}
 use Rattle.service.specs.Steps.{Step, Makes, Steps, is_idle, is_idle_answer, is_at_terminal, AreIdle, Does, PassesBy, Passes}
-use Rattle.service.specs.Bridging.{Packet, is_on, said_of, said_in, packet_of, packet_in, packet_from, taken_in, with_packets, all_said, all_taken, IsStill, is_of_network, packets_by, IsCarried, Carries, MayHave, is_calling}
+use Rattle.service.specs.Bridging.{Packet, is_on, said_of, said_in, packet_of, packet_in, packet_from, taken_in, with_packets, all_said, all_taken, IsStill, is_of_network, packets_by, IsCarried, Carries, PassesAt}
 use Rattle.service.proofs.Stepping.{steps-append, silent-none, passes_none, passes_by-then, passes_step, neither_left, neither_right, was_done, not_done, elsewhere, idle_step, Lent}
 
 -- ---- channels
@@ -44,7 +44,7 @@ pub on_itself : (at : HostChannel) → is_on at at.node at.channel ≡ true
 on_itself at =
     both_true (eqb at.node at.node) (eqb at.channel at.channel) (eq-eqb at.node at.node refl) (eq-eqb at.channel at.channel refl)
 
-same_channel : (other at : HostChannel) → is_on other at.node at.channel ≡ true → other ≡ at
+pub same_channel : (other at : HostChannel) → is_on other at.node at.channel ≡ true → other ≡ at
 same_channel other at is =
     let parts = one_true (eqb at.node other.node) (eqb at.channel other.channel) is in
     λ i. record {
@@ -138,16 +138,6 @@ pub carries_either : (L : LineService) (at : HostChannel) (p q : Bool) (s m t : 
     → Carries L at p s m b x → Carries L at q m t x c → Carries L at (p || q) s t b c
 carries_either L at p q s m t b x c one two =
     carries-then L at p q (p || q) s m t b x c (λ none. neither_left p q none) (λ none. neither_right p q none) one two
-
-pub passes_some : (L : LineService) (done : Bool) (s t : ProcessState) → Passes L done s t → Passes L true s t
-passes_some L done s t passes = (
-  passes.0,
-  record {
-    made = passes.1.made;
-    silent = passes.1.silent;
-    idle = λ none. absurd (cc);
-  },
-)
 
 -- phases change without a step
 pub carries_turn : (L : LineService) (at : HostChannel) (more : Bool) (s : ProcessState) (b c : BridgeState) (phases : Phases)
@@ -323,52 +313,76 @@ carries_no_take L at event r fault s t b event_is stepped err =
     carries_take L at event (lent r) false s t b b event_is stepped
     (sym (ap (λ a. not (is_idle (lent a))) err)) (sym (ap (λ a. with_packets (packet_from (lent a)) b) err))
 
--- ---- a call is placed
+-- ---- steps on one channel, of a built-in service
 
-pub carries_call : (L : LineService) (event : Event) (answer : Result Answer StepFault) (s t : ProcessState)
-    → is_calling event ≡ true → Makes L s (record { event = event; answer = answer }) t
-    → (at : HostChannel) (b : BridgeState) → Carries L at true s t b b
-carries_call L (Call node address octets) answer s t is stepped at b = record {
-  steps = record { event = Call node address octets; answer = answer } ∷ [];
-  passes = record {
-    made = (t, stepped, refl);
-    silent = λ terminal. elsewhere terminal (Call node address octets) answer refl;
-    idle = λ none. absurd (cc);
-  };
-  carried = record { deeds = []; after = refl; own = refl; said = refl; taken = refl };
+pub passes_at_none : (L : LineService) (at : HostChannel) (more : Bool) (s : ProcessState) → PassesAt L at more s s
+passes_at_none L at more s = record {
+  steps = [];
+  passes = record { made = refl; silent = λ terminal. silent-none terminal; idle = λ none. refl };
   elsewhere = λ other apart. record { says = refl; takes = refl };
 }
-carries_call L _ answer s t is stepped at b = absurd (cc)
 
--- what became of it is told
-pub carries_placed : (L : LineService) (s t : ProcessState) (b c : BridgeState) (phases : Phases)
-    → ((at : HostChannel) (x : BridgeState) → Carries L at true s t x x) → c ≡ record b { phases = phases }
-    → (at : HostChannel) → Carries L at true s t b c
-carries_placed L s t b c phases called is at =
-    carries_more L at true true s t t b b c (called at b) (carries_turn L at true t b c phases is)
+pub passes_at_with : (L : LineService) (at : HostChannel) (more is : Bool) (s t : ProcessState) → more ≡ is → PassesAt L at more s t
+    → PassesAt L at is s t
+passes_at_with L at more is s t same passes = subst (λ (m : Bool). PassesAt L at m s t) same passes
 
--- ---- a bridge and its channel
+pub passes_at_ask : (L : LineService) (at : HostChannel) (event : Event) (request : HostRequest) (done : Bool)
+    (s t : ProcessState) → event ≡ Ask at.node at.channel request → Does L event done s t → PassesAt L at done s t
+passes_at_ask L at event request done s t event_is does =
+    let asked : Does L (Ask at.node at.channel request) done s t = subst (λ (e : Event). Does L e done s t) event_is does in
+    record {
+      steps = record { event = Ask at.node at.channel request; answer = asked.answer } ∷ [];
+      passes = passes_step L (Ask at.node at.channel request) done s t refl asked;
+      elsewhere = λ other apart. still_step other (Ask at.node at.channel request) asked.answer
+          (cond_off (is_on other at.node at.channel) (not (is_idle asked.answer)) (said_of request) (off_others other at apart)) refl;
+    }
 
-pub carries_at : (L : LineService) (own : HostChannel) (may : Option HostChannel) (more : Bool) (s t : ProcessState)
-    (b c : BridgeState) → may ≡ Some own → Carries L own more s t b c
-    → (at : HostChannel) → MayHave may at → Carries L at more s t b c
-carries_at L own may more s t b c is carries at has =
-    let same : own ≡ at = subst (λ (m : Option HostChannel). MayHave m at) is has in
-    subst (λ (x : HostChannel). Carries L x more s t b c) same carries
+passes_at_take : (L : LineService) (at : HostChannel) (event : Event) (answer : Result Answer StepFault) (done : Bool)
+    (s t : ProcessState) → event ≡ Take at.node at.channel → Makes L s (record { event = event; answer = answer }) t
+    → done ≡ not (is_idle answer) → PassesAt L at done s t
+passes_at_take L at event answer done s t event_is stepped done_is =
+    let asked : Does L (Take at.node at.channel) done s t = record {
+      answer = answer;
+      stepped = subst (λ (e : Event). Makes L s (record { event = e; answer = answer }) t) event_is stepped;
+      done_is = done_is;
+    } in
+    record {
+      steps = record { event = Take at.node at.channel; answer = answer } ∷ [];
+      passes = passes_step L (Take at.node at.channel) done s t refl asked;
+      elsewhere = λ other apart. still_step other (Take at.node at.channel) answer refl
+          (if_off (is_on other at.node at.channel) (packet_from answer) (off_others other at apart));
+    }
 
-pub some_channel : Option HostChannel → HostChannel
-some_channel None = record { node = 0; channel = 0 }
-some_channel (Some at) = at
+pub passes_at_packet : (L : LineService) (at : HostChannel) (event : Event) (r : Lent) (answer : Bor Answer) (idle : Bool)
+    (s t : ProcessState) → event ≡ Take at.node at.channel → Makes L s (record { event = event; answer = lent r }) t
+    → r ≡ Ok answer → idle ≡ is_idle_answer answer.now → PassesAt L at (not idle) s t
+passes_at_packet L at event r answer idle s t event_is stepped ok idle_is =
+    passes_at_take L at event (lent r) (not idle) s t event_is stepped
+    (ap not idle_is ∙ sym (ap (λ a. not (is_idle (lent a))) ok))
 
-pub may_have_some : (may : Option HostChannel) → MayHave may (some_channel may)
-unfolding some_channel
-may_have_some None = tt
-may_have_some (Some at) = refl
+pub passes_at_no_take : (L : LineService) (at : HostChannel) (event : Event) (r : Lent) (fault : StepFault) (s t : ProcessState)
+    → event ≡ Take at.node at.channel → Makes L s (record { event = event; answer = lent r }) t → r ≡ Err fault
+    → PassesAt L at false s t
+passes_at_no_take L at event r fault s t event_is stepped err =
+    passes_at_take L at event (lent r) false s t event_is stepped (sym (ap (λ a. not (is_idle (lent a))) err))
 
-pub carries_pass : (L : LineService) (may : Option HostChannel) (more : Bool) (s t : ProcessState) (b c : BridgeState)
-    → ((at : HostChannel) → MayHave may at → Carries L at more s t b c) → Passes L more s t
-carries_pass L may more s t b c carries =
-    let done = carries (some_channel may) (may_have_some may) in (done.steps, done.passes)
+-- a request that says nothing is nothing on any channel
+pub record AsksNothing (L : LineService) (done : Bool) (s t : ProcessState) : Type 0 where
+  pub steps : List Step
+  pub passes : PassesBy L steps done s t
+  pub still : (other : HostChannel) → IsStill other steps
+
+pub asks_nothing_there : (L : LineService) (at : HostChannel) (event : Event) (request : HostRequest) (done : Bool)
+    (s t : ProcessState) → event ≡ Ask at.node at.channel request → said_of request ≡ [] → Does L event done s t
+    → AsksNothing L done s t
+asks_nothing_there L at event request done s t event_is none does =
+    let asked : Does L (Ask at.node at.channel request) done s t = subst (λ (e : Event). Does L e done s t) event_is does in
+    record {
+      steps = record { event = Ask at.node at.channel request; answer = asked.answer } ∷ [];
+      passes = passes_step L (Ask at.node at.channel request) done s t refl asked;
+      still = λ other. still_step other (Ask at.node at.channel request) asked.answer
+          (asks_nothing other at.node at.channel request asked.answer none) refl;
+    }
 
 -- ---- orders
 

@@ -7,4 +7,5 @@ pub mod Clients
 pub mod Ports
 pub mod Seated
 pub mod Bridged
+pub mod EachBridge
 pub mod ServedLines

@@ -32,7 +32,7 @@ use Rattle.net_turns.specs.AnswerRoom.{IsWithinLimits}
 use Rattle.std.specs.Borrow.{Bor}
 use Rattle.std.specs.Bool.{OnTrue, OnFalse}
 use Rattle.service.proofs.Keys.{befall-then, overtaken_in-append, first_and_rest, first_found, is_xon, xon_found}
-use Rattle.service.proofs.Stepping.{Lent, steps-append, shown-append, typed-append, told-append, silent-none, silent-append, silent_step, idle-append, idle_step, tried-left, tried-right, tried_step, not_done, was_done, neither_left, neither_right}
+use Rattle.service.proofs.Stepping.{Lent, steps-append, shown-append, typed-append, told-append, silent-none, silent-append, silent_step, idle-append, aside-append, idle_step, tried-left, tried-right, tried_step, not_done, was_done, neither_left, neither_right}
 
 -- ---- text after text
 
@@ -109,6 +109,7 @@ serves-none L at Wish s p unwished = record {
   made = refl;
   served = served_silent at [] p (silent-none at);
   silent = λ other apart. silent-none other;
+  aside = refl;
   same = λ none. refl;
   idle = λ none. refl;
   tried = λ none event wish. absurd (unwished event wish);
@@ -123,6 +124,7 @@ serves-then L at One Two Both a b s m t p between q split one two = record {
   made = steps-append L s m t one.steps two.steps one.made two.made;
   served = served_then at one.steps two.steps p between q one.served two.served;
   silent = λ other apart. silent-append other one.steps two.steps (one.silent other apart) (two.silent other apart);
+  aside = aside-append one.steps two.steps one.aside two.aside;
   same = λ none. two.same (neither_right a b none) ∙ one.same (neither_left a b none);
   idle = λ none. idle-append one.steps two.steps (one.idle (neither_left a b none)) (two.idle (neither_right a b none));
   tried = λ none event wish. elim (split event wish) [
@@ -140,6 +142,7 @@ serves_more L at Wish a b s m t p between q one two = record {
   made = steps-append L s m t one.steps two.steps one.made two.made;
   served = served_then at one.steps two.steps p between q one.served two.served;
   silent = λ other apart. silent-append other one.steps two.steps (one.silent other apart) (two.silent other apart);
+  aside = aside-append one.steps two.steps one.aside two.aside;
   same = λ none. cc;
   idle = λ none. cc;
   tried = λ none event wish. cc;
@@ -292,6 +295,7 @@ key_typed L at Wish key event done s t p q fate left is does was goes none after
       served = subst (λ (r : Terminal). IsServed at (one_step there does.answer) p r) (sym after)
           (typed_served at key does.answer p fate left (was_done done does.answer does.done_is was) goes none);
       silent = λ other apart. key_is_silent at other key does.answer apart;
+      aside = refl;
       same = λ none. cc;
       idle = λ none. cc;
       tried = λ none e wish. cc;
@@ -338,6 +342,7 @@ key_refused L at Wish key event done s t p is does was wishes =
         tells = key_tells_nothing at key does.answer;
       });
       silent = λ other apart. key_is_silent at other key does.answer apart;
+      aside = refl;
       same = λ none. refl;
       idle = λ none. idle_step there does.answer idle;
       tried = λ none e wish. tried_step there e does.answer (wishes e wish);
@@ -379,6 +384,7 @@ keys_dropped L at Wish s p q over = record {
   made = refl;
   served = subst (λ (r : Terminal). IsServed at [] p r) (sym over.dropped) (dropped_served at p over.count over.within over.urgent);
   silent = λ other apart. silent-none other;
+  aside = refl;
   same = λ none. cc;
   idle = λ none. cc;
   tried = λ none e wish. cc;
@@ -397,6 +403,7 @@ key_gives_way L at key event done over s m t p q is does was hastens over_is =
       made = both.made;
       served = both.served;
       silent = both.silent;
+      aside = both.aside;
       same = λ none. cc;
       idle = λ none. cc;
       tried = λ none e wish. cc;
@@ -426,6 +433,7 @@ keys_wait L at key event done hastens true s m t p q r is does was first xons no
       made = steps-append L s t t both.steps drops.steps both.made drops.made;
       served = served_then at both.steps drops.steps p q r both.served drops.served;
       silent = λ other apart. silent-append other both.steps drops.steps (both.silent other apart) (drops.silent other apart);
+      aside = aside-append both.steps drops.steps both.aside drops.aside;
       same = λ none. cc;
       idle = λ none. cc;
       tried = λ none e wish. cc;
@@ -522,6 +530,7 @@ presence_heard L at Wish presence event done s t p q is does was waits after =
             ∙ ap (λ tells. tells ++ []) (sym (presence_told at presence does.answer (was_done done does.answer does.done_is was)));
       });
       silent = λ other apart. presence_is_silent at other presence does.answer apart;
+      aside = refl;
       same = λ none. cc;
       idle = λ none. cc;
       tried = λ none e wish. cc;
@@ -543,6 +552,7 @@ presence_waits L at presence event done s t p is does was waits =
         tells = presence_untold at presence does.answer idle;
       });
       silent = λ other apart. presence_is_silent at other presence does.answer apart;
+      aside = refl;
       same = λ none. refl;
       idle = λ none. idle_step there does.answer idle;
       tried = λ none e wish. tried_step there e does.answer
@@ -583,6 +593,7 @@ text_shown L at Wish event answer text s t p q is stepped text_is after =
         untold = refl;
       });
       silent = λ other apart. print_is_silent at other answer apart;
+      aside = refl;
       same = λ none. cc;
       idle = λ none. cc;
       tried = λ none e wish. cc;
@@ -615,6 +626,7 @@ text_waits L at event answer s t p is stepped idle =
       made = (t, subst (λ e. Makes L s (record { event = e; answer = answer }) t) is stepped, refl);
       served = served_silent at (one_step there answer) p (no_text answer none at);
       silent = λ other apart. print_is_silent at other answer apart;
+      aside = refl;
       same = λ n. refl;
       idle = λ n. idle_step there answer idle;
       tried = λ n e wish. tried_step there e answer wish.1;

@@ -19,7 +19,7 @@ use Rattle.net_nodes.specs.Due.{due_in, expiry_at}
 use Rattle.line_sim.specs.Stepping.{lent}
 use Rattle.service.specs.declared.place.Place.{Place}
 use Rattle.service.specs.Serving.{is_expiry}
-use Rattle.service.specs.Steps.{Step, Makes, Steps, is_idle, is_idle_answer, AreIdle, HasTried, is_at_terminal, shown_by, typed_by, told_by, shown, typed, told, IsSilent, Does, PassesBy, Passes}
+use Rattle.service.specs.Steps.{Step, Makes, Steps, is_idle, is_idle_answer, AreIdle, HasTried, is_at_terminal, shown_by, typed_by, told_by, shown, typed, told, IsSilent, Does, PassesBy, Passes, AreAside, is_at_host}
 
 pub steps-append : (L : LineService) (s m t : ProcessState) (xs ys : List Step) → Steps L s xs m → Steps L m ys t → Steps L s (xs ++ ys) t
 steps-append L s m t [] ys none more = subst (λ n. Steps L n ys t) (sym none) more
@@ -69,6 +69,17 @@ idle-append xs ys one two =
 
 pub idle_step : (event : Event) (answer : Result Answer StepFault) → is_idle answer ≡ true → AreIdle (record { event = event; answer = answer } ∷ [])
 idle_step event answer idle = both (is_idle answer) true idle refl
+
+-- steps at no host
+pub aside-append : (xs ys : List Step) → AreAside xs → AreAside ys → AreAside (xs ++ ys)
+aside-append xs ys one two =
+    list_all-append (λ (step : Step). not (is_at_host step.event)) xs ys
+    ∙ both (list_all (λ (step : Step). not (is_at_host step.event)) xs) (list_all (λ (step : Step). not (is_at_host step.event)) ys) one two
+
+pub expiry_aside : (event : Event) (answer : Result Answer StepFault) → is_expiry event ≡ true
+    → AreAside (record { event = event; answer = answer } ∷ [])
+expiry_aside (Expire node line timer) answer is = refl
+expiry_aside _ answer is = cc
 
 abbrev events_of : List Step → List Event
 events_of steps = map (λ (step : Step). step.event) steps

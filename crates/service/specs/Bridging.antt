@@ -98,15 +98,17 @@ pub record Carries (L : LineService) (at : HostChannel) (more : Bool) (s t : Pro
   pub carried : IsCarried at steps b c
   pub elsewhere : (other : HostChannel) → other ≢ at → IsStill other steps
 
+-- Steps that are nothing at any terminal, and say and take nothing on any other channel than this. If there is no more to
+-- do, none of them did anything.
+pub record PassesAt (L : LineService) (at : HostChannel) (more : Bool) (s t : ProcessState) : Type 0 where
+  pub steps : List Step
+  pub passes : PassesBy L steps more s t
+  pub elsewhere : (other : HostChannel) → other ≢ at → IsStill other steps
+
 -- a host calls
 abbrev pub is_calling : Event → Bool
 is_calling (Call node address octets) = true
 is_calling _ = false
-
--- a bridge that has a call has it on one channel
-abbrev pub MayHave : Option HostChannel → HostChannel → Type 0
-MayHave None at = Unit {0}
-MayHave (Some own) at = own ≡ at
 
 -- no bridge has a call or a connection
 abbrev pub are_free : List BridgePort → Bool

@@ -9,4 +9,5 @@ pub mod Serving
 pub mod Lines
 pub mod Clients
 pub mod Bridging
+pub mod AllBridges
 pub mod Hello

@@ -1,6 +1,8 @@
 -- What a service does for lines to other processes.
-use Rattle.std.specs.Prelude.{◌≡◌, ℕ, List, [], ◌∷◌, slice_get, Some}
+use Rattle.std.specs.Prelude.{◌≡◌, ℕ, List, [], ◌∷◌, slice_get, Some, Result}
 use Rattle.frame_lines.specs.Lines.{LineService}
+use Rattle.net_events.specs.declared.answer.Answer.{Answer}
+use Rattle.net_events.specs.declared.event.StepFault.{StepFault}
 use Rattle.net_process.specs.Carrying.{carried}
 use Rattle.net_process.specs.Process.{ProcessState}
 use Rattle.net_process.specs.Remote.{HasRead, after_given_up}
@@ -10,6 +12,10 @@ use Rattle.service.specs.declared.absent.PadBinding.{PadBinding}
 use Rattle.service.specs.declared.place.Place.{Place}
 use Rattle.service.specs.Absent.{LeavesAbsent}
 use Rattle.service.specs.Steps.{Step, Makes, IsSilent}
+
+-- a node starts, with an answer
+abbrev pub Starts : (L : LineService) → (node : ℕ) → (s t : ProcessState) → Type 0
+Starts L node s t = (answer : Result Answer StepFault) × HasRestarted L node s answer t
 
 -- a node starts; a step is made; a link that is given up is so once; what came on a line is read; what the nodes sent is
 -- handed to connections
@@ -21,7 +27,7 @@ pub data LineDeed : Type 0 where
   hands_on : LineDeed
 
 abbrev pub IsDone : (L : LineService) → ProcessState → LineDeed → ProcessState → Type 0
-IsDone L s (starts node) t = HasRestarted L node s t
+IsDone L s (starts node) t = Starts L node s t
 IsDone L s (steps step) t = Makes L s step t
 IsDone L s gives_up t = t ≡ after_given_up s
 IsDone L s (reads place) t = (old : List ℕ) × (answer : Reading) × (frame : List ℕ) × HasRead L place old s answer frame t
@@ -48,5 +54,5 @@ pub record ServesLines (L : LineService) (places : List Place) (s t : ProcessSta
 pub record StartsOne (L : LineService) (pads : List PadBinding) (places : List Place) (s t : ProcessState) : Type 0 where
   pub node : ℕ
   pub between : ProcessState
-  pub starts : HasRestarted L node s between
+  pub starts : Starts L node s between
   pub absent : LeavesAbsent L pads places between t

@@ -18,7 +18,7 @@ use Rattle.service.specs.declared.terminal.Terminal.{Terminal}
 use Rattle.service.specs.Absent.{LeavesAbsent}
 use Rattle.service.specs.Seats.{AreSeated}
 use Rattle.service.specs.Terminals.{has_client, has_room, without_keys, urgent_place, xon_place, counted}
-use Rattle.service.specs.Steps.{Step, Steps, HasTried, AreIdle, IsSilent, PassesBy, key_event, presence_event, shown, typed, told}
+use Rattle.service.specs.Steps.{Step, Steps, HasTried, AreIdle, IsSilent, PassesBy, AreAside, key_event, presence_event, shown, typed, told}
 
 -- ---- one terminal
 
@@ -113,6 +113,7 @@ pub record Serves (L : LineService) (at : Place) (Wish : Terminal → Event → 
   pub made : Steps L s steps t
   pub served : IsServed at steps p q
   pub silent : (other : Place) → other ≢ at → IsSilent other steps
+  pub aside : AreAside steps
   pub same : more ≡ false → q ≡ p
   pub idle : more ≡ false → AreIdle steps
   pub tried : more ≡ false → (event : Event) → Wish q event → HasTried event steps
@@ -144,6 +145,7 @@ pub record ServesBelow (L : LineService) (places : List Place) (below : ℕ) (mo
     (before after : List Terminal) : Type 0 where
   pub steps : List Step
   pub works : WorksBy L places steps s t before after
+  pub aside : AreAside steps
   pub same : more ≡ false → after ≡ before
   pub idle : more ≡ false → AreIdle steps
   pub tried : more ≡ false → (port : ℕ) (at : Place) (q : Terminal) (event : Event) → port < below
@@ -155,6 +157,7 @@ pub record ServesBelow (L : LineService) (places : List Place) (below : ℕ) (mo
 pub record DeliversBelow (L : LineService) (below : ℕ) (more : Bool) (s t : ProcessState) : Type 0 where
   pub steps : List Step
   pub passes : PassesBy L steps more s t
+  pub aside : AreAside steps
   pub tried : more ≡ false → (line : ℕ) (direction : Direction) → line < below → HasTried (Deliver line direction) steps
 
 abbrev pub is_expiry : Event → Bool
@@ -169,6 +172,7 @@ NoneIsDue t steps = ((place : ℕ) → due_here t place ≡ None) ⊎ ((event : 
 pub record Expires (L : LineService) (more : Bool) (s t : ProcessState) : Type 0 where
   pub steps : List Step
   pub passes : PassesBy L steps more s t
+  pub aside : AreAside steps
   pub none : more ≡ false → NoneIsDue t steps
 
 -- Nothing can go on: these steps did nothing, and all that may go on is among them. That is what a terminal wishes, the

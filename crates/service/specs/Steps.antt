@@ -6,7 +6,7 @@ use Rattle.frame_lines.specs.Lines.{LineService}
 use Rattle.line_nodes.specs.declared.terminal.TerminalEvent.{TerminalEvent}
 use Rattle.line_nodes.specs.declared.terminal.TerminalEvent.TheVariants as what
 use Rattle.net_events.specs.declared.event.Event.{Event}
-use Rattle.net_events.specs.declared.event.Event.TheVariants.{AtTerminal}
+use Rattle.net_events.specs.declared.event.Event.TheVariants.{AtTerminal, Call, Ask, Take}
 use Rattle.net_events.specs.declared.event.StepFault.{StepFault}
 use Rattle.net_events.specs.declared.answer.Answer.{Answer}
 use Rattle.net_events.specs.declared.answer.Outcome.{Outcome}
@@ -64,6 +64,17 @@ AreIdle steps = list_all (λ (step : Step). is_idle step.answer) steps ≡ true
 -- an event was tried among these steps
 abbrev pub HasTried : Event → List Step → Type 0
 HasTried event steps = Contains (map (λ (step : Step). step.event) steps) event
+
+-- whether a host calls, asks something of a call, or takes what waits
+abbrev pub is_at_host : Event → Bool
+is_at_host (Call node address user_data) = true
+is_at_host (Ask node channel request) = true
+is_at_host (Take node channel) = true
+is_at_host _ = false
+
+-- steps at no host
+abbrev pub AreAside : List Step → Type 0
+AreAside steps = list_all (λ (step : Step). not (is_at_host step.event)) steps ≡ true
 
 -- ---- what steps are at a terminal
 

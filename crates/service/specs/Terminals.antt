@@ -216,6 +216,16 @@ status_of p = record {
   overtaken = p.overtaken;
 }
 
+-- whether nobody is there and all bridges are free, in a network with lines to other processes, which does not know when it
+-- rests
+abbrev pub has_parted : List Terminal → (are_free : Bool) → ProcessState → Bool
+has_parted terminals are_free s = are_deserted terminals && are_free && nat_lt 0 (length s.lines)
+
+-- how many ticks more a service that stops may take after these: 20 at most once it has parted
+abbrev pub stopping_after : (ticks : ℕ) → (has_parted : Bool) → Option ℕ → Option ℕ
+stopping_after ticks has_parted None = None
+stopping_after ticks has_parted (Some most) = Some ((if has_parted then min most 20 else most) - ticks)
+
 -- whether a service has stopped that may take so many ticks more: there are none left, or nobody is there, all bridges are
 -- free, and the network rests
 abbrev pub has_stopped : Option ℕ → List Terminal → (are_free : Bool) → ProcessState → Bool

@@ -5,11 +5,12 @@ use crate::exchange::Exchange;
 use crate::place::{Place, is_bound};
 use line_sim::Line;
 
-/// A PAD: its number in the network, and how many terminals it has.
+/// A PAD: its number in the network, how many terminals it has, and how many logical channels its line has.
 #[derive(Clone, Copy)]
 pub struct PadBinding {
     pub node: usize,
     pub terminals: u16,
+    pub channels: u8,
 }
 
 /// Tells each PAD that nobody is at its terminals besides those of these places.

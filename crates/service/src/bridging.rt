@@ -1,14 +1,12 @@
 //! What the network does for bridges.
 ghost use Rattle.std.specs.Prelude.{◌≡◌, ◌++◌, [], false, true};
 ghost use Rattle.std.specs.Bool.{OnTrue};
-ghost use Rattle.bridge_ports.specs.Bridges.{BridgeState};
 ghost use Rattle.net_events.specs.declared.event.Event.TheVariants.{Ask, Take};
 ghost use Rattle.packet_host.specs.declared.request.HostRequest.TheVariants.{Say};
-ghost use Rattle.service.specs.declared.hosts.HostChannel.{HostChannel};
-ghost use Rattle.service.specs.Bridging.{Carries, MayHave, packet_in, said_of, with_packets};
-ghost use Rattle.service.specs.Steps.{Does, Passes};
+ghost use Rattle.service.specs.AllBridges.{CallsOn, ServesBridges, bridged, channel_of, forgotten};
+ghost use Rattle.service.specs.Bridging.{Carries, packet_in, said_of, with_packets};
 
-use crate::bridges::{BridgePort, Bridges, Caller, Owner};
+use crate::bridges::{BridgePort, Bridges, Caller};
 use crate::exchange::{Exchange, hear, is_idle, octets_of};
 use crate::hosts::HostChannel;
 use bridge_ports::{Bridge, MOST_MESSAGE, Turn};
@@ -22,9 +20,10 @@ const MOST_TAKEN: u32 = 8;
 /// Does what is to be done next in each call: of built-in services, and of bridges, which first are told what became of
 /// theirs.
 pub(crate) fn serve_calls<L: Line>(exchange: &mut Exchange<L>, bridges: &mut Bridges) -> bool
-    ensures { Passes L.service result exchange.old.net exchange.new.net }
+    ensures { ServesBridges L.service result exchange.old.net exchange.new.net bridges.old.ports.items
+        bridges.new.ports.items }
 {
-    let called = exchange.serve_calls();
+    let called = exchange.serve_calls(bridges);
     let told = deliver_letters(exchange, bridges);
     let served = serve_ports(exchange, bridges);
     called | told | served
@@ -32,7 +31,8 @@ pub(crate) fn serve_calls<L: Line>(exchange: &mut Exchange<L>, bridges: &mut Bri
 
 /// Tells each bridge what became of its call, and says whether there was anything to tell.
 fn deliver_letters<L: Line>(exchange: &mut Exchange<L>, bridges: &mut Bridges) -> bool
-    ensures { Passes L.service result exchange.old.net exchange.new.net }
+    ensures { ServesBridges L.service result exchange.old.net exchange.new.net bridges.old.ports.items
+        bridges.new.ports.items }
 {
     let mut any = false;
     for _ in 0..exchange.mail.len() {
@@ -44,44 +44,51 @@ fn deliver_letters<L: Line>(exchange: &mut Exchange<L>, bridges: &mut Bridges) -
 
 /// Does what is to be done next for each bridge.
 fn serve_ports<L: Line>(exchange: &mut Exchange<L>, bridges: &mut Bridges) -> bool
-    ensures { Passes L.service result exchange.old.net exchange.new.net }
+    ensures { ServesBridges L.service result exchange.old.net exchange.new.net bridges.old.ports.items
+        bridges.new.ports.items }
 {
     let mut any = false;
-    for port in bridges.ports.iter_mut() {
-        let done = exchange.serve_bridge(&bridges.callers, port);
+    for place in 0..bridges.len() {
+        let done = exchange.serve_bridge(bridges, place);
         any |= done;
     }
     any
 }
 
-#[tactic(auto, using(crate::proofs::Stepping::passes_none))]
+#[tactic(auto, using(crate::proofs::EachBridge::serves_none))]
 impl<L: Line> Exchange<L> {
     /// Tells the bridges the next note. A call for which no bridge is free is refused.
     fn deliver_letter(&mut self, bridges: &mut Bridges)
-        ensures { Passes L.service true self.old.net self.new.net }
+        ensures { ServesBridges L.service true self.old.net self.new.net bridges.old.ports.items
+            bridges.new.ports.items }
     {
         let Some(letter) = self.mail.next() else {
             return;
         };
         if bridges.hear(&letter) {
-            self.ask(letter.at, HostRequest::Refuse);
+            self.happen(&ask_event(letter.at, HostRequest::Refuse));
             self.calls.clear(letter.at, 0, 0, self.seconds);
         }
     }
 
-    /// Does what is to be done next for a bridge, and says whether there was anything.
-    fn serve_bridge(&mut self, callers: &[Caller], port: &mut BridgePort) -> bool
-        ensures { (at : HostChannel) → MayHave port.old.at at → Carries L.service at result self.old.net self.new.net port.old.bridge port.new.bridge }
+    /// Does what is to be done next for the bridge of a place, and says whether there was anything.
+    fn serve_bridge(&mut self, bridges: &mut Bridges, place: usize) -> bool
+        ensures { ServesBridges L.service result self.old.net self.new.net bridges.old.ports.items
+            bridges.new.ports.items }
     {
-        match port.at {
-            Some(at) => self.serve_call_at(at, port),
-            None => self.place_call(callers, port),
+        let Some(at) = bridges.channel(place) else {
+            return self.place_call(bridges, place);
+        };
+        match bridges.ports.get_mut(place) {
+            Some(port) => self.serve_call_at(at, port),
+            None => false,
         }
     }
 
     /// Asks what is to be asked next for the call of a bridge, and takes what comes.
     fn serve_call_at(&mut self, at: HostChannel, port: &mut BridgePort) -> bool
-        ensures { Carries L.service at result self.old.net self.new.net port.old.bridge port.new.bridge }
+        ensures carries { Carries L.service at result self.old.net self.new.net port.old.bridge port.new.bridge }
+        ensures forgets { bridged port.new ≡ forgotten (record (bridged port.old) { bridge = port.new.bridge }) }
     {
         let asked = self.ask_next(at, port);
         let took = self.take_some(at, &mut port.bridge);
@@ -89,25 +96,22 @@ impl<L: Line> Exchange<L> {
         asked | took
     }
 
-    /// Places the call of a caller, if it is to be placed.
-    fn place_call(&mut self, callers: &[Caller], port: &mut BridgePort) -> bool
-        ensures { (at : HostChannel) → Carries L.service at result self.old.net self.new.net port.old.bridge port.new.bridge }
+    /// Places the call of a caller for the bridge of a place, if it is to be placed.
+    fn place_call(&mut self, bridges: &mut Bridges, place: usize) -> bool
+        ensures { ServesBridges L.service result self.old.net self.new.net bridges.old.ports.items
+            bridges.new.ports.items }
     {
-        let (Turn::Call, Owner::Caller(place)) = (port.bridge.turn(), port.owner) else {
-            return false;
-        };
-        let Some(caller) = callers.get(place) else {
+        let Some(caller) = bridges.caller_of(place) else {
             return false;
         };
         let at = self.call(caller);
-        port.bridge.placed(at.is_some());
-        port.at = at;
+        bridges.placed(place, at);
         true
     }
 
     /// Calls, and gives the channel of the call if it was placed.
     fn call(&mut self, caller: &Caller) -> Option<HostChannel>
-        ensures { (at : HostChannel) (b : BridgeState) → Carries L.service at true self.old.net self.new.net b b }
+        ensures { CallsOn L.service result self.old.net self.new.net }
     {
         match self.net.step(&caller.call()) {
             Ok(answer) => {
@@ -119,15 +123,9 @@ impl<L: Line> Exchange<L> {
                     answer.notes.as_slice(),
                 );
                 self.passing.see_all(answer);
-                let Outcome::Called { channel } = answer.outcome else {
-                    return None;
-                };
-                let at = HostChannel {
-                    node: caller.node,
-                    channel,
-                };
-                self.calls.place(at, &caller.address, self.seconds);
-                Some(at)
+                let at = channel_of(caller.node, answer.outcome);
+                self.calls.place_on(at, &caller.address, self.seconds);
+                at
             }
             Err(_) => None,
         }
@@ -135,7 +133,9 @@ impl<L: Line> Exchange<L> {
 
     /// Asks what is to be asked next for the call of a bridge, besides taking.
     fn ask_next(&mut self, at: HostChannel, port: &mut BridgePort) -> bool
-        ensures { Carries L.service at result self.old.net self.new.net port.old.bridge port.new.bridge }
+        ensures carries { Carries L.service at result self.old.net self.new.net port.old.bridge port.new.bridge }
+        ensures at { port.new.at ≡ port.old.at }
+        ensures owner { port.new.owner ≡ port.old.owner }
     {
         match port.bridge.turn() {
             Turn::Rest | Turn::Call => false,
@@ -184,7 +184,9 @@ impl<L: Line> Exchange<L> {
 
     /// Says the first octets that wait as one message, if the host takes it.
     fn say_next(&mut self, at: HostChannel, port: &mut BridgePort) -> bool
-        ensures { Carries L.service at result self.old.net self.new.net port.old.bridge port.new.bridge }
+        ensures carries { Carries L.service at result self.old.net self.new.net port.old.bridge port.new.bridge }
+        ensures at { port.new.at ≡ port.old.at }
+        ensures owner { port.new.owner ≡ port.old.owner }
     {
         let mut octets = mem::replace(&mut port.message, Vec::new(self.alloc));
         let (first, second) = port.bridge.message(MOST_MESSAGE);
@@ -258,8 +260,18 @@ impl<L: Line> Exchange<L> {
     }
 }
 
+/// The channel on which a call of this host was placed, if it was.
+fn channel_of(node: usize, outcome: Outcome) -> Option<HostChannel>
+    ensures { result ≡ channel_of node outcome }
+{
+    match outcome {
+        Outcome::Called { channel } => Some(HostChannel { node, channel }),
+        _ => None,
+    }
+}
+
 /// A host asks something of the call of a channel.
-fn ask_event(at: HostChannel, request: HostRequest) -> Event
+pub(crate) fn ask_event(at: HostChannel, request: HostRequest) -> Event
     ensures { result ≡ Ask at.node at.channel request }
 {
     Event::Ask {
@@ -270,7 +282,7 @@ fn ask_event(at: HostChannel, request: HostRequest) -> Event
 }
 
 /// A host takes what waits on a channel.
-fn take_event(at: HostChannel) -> Event
+pub(crate) fn take_event(at: HostChannel) -> Event
     ensures { result ≡ Take at.node at.channel }
 {
     Event::Take {
@@ -280,7 +292,7 @@ fn take_event(at: HostChannel) -> Event
 }
 
 /// A message without Q is said.
-fn say_request(octets: Vec<u8>, delivery: bool) -> HostRequest
+pub(crate) fn say_request(octets: Vec<u8>, delivery: bool) -> HostRequest
     ensures { result ≡ Say octets false delivery }
 {
     HostRequest::Say {

@@ -1,7 +1,8 @@
-//! The calls at the hosts of a network, and what is to be logged of them and of those of terminals.
+//! The calls at the hosts and PADs of a network, and what is to be logged of them.
 ghost use Rattle.std.specs.Prelude.{◌≡◌, length, slice_get};
 ghost use Rattle.service.specs.Calls.{call_of};
 
+use crate::absent::PadBinding;
 use crate::call_address::CallAddress;
 use crate::hosts::{HostBinding, HostChannel};
 use line_sim::{NoteKind, Outcome, UserNote};
@@ -62,37 +63,48 @@ pub enum CallChange {
     },
 }
 
+/// How many octets of a call went each way at a host.
+#[derive(Clone, Copy)]
+pub struct CallOctets {
+    /// Taken from the network.
+    pub taken: u64,
+    /// Said to it.
+    pub said: u64,
+}
+
+impl CallOctets {
+    const NONE: CallOctets = CallOctets { taken: 0, said: 0 };
+}
+
 /// A call that is there.
 #[derive(Clone, Copy)]
 pub struct CallStatus {
-    /// The number of the host.
+    /// The number of the host or PAD.
     pub node: usize,
     /// The logical channel of the call.
     pub channel: u8,
     /// The address of the other end, if it was told.
     pub far: Option<CallAddress>,
-    /// Whether the host placed it.
+    /// Whether this end placed it.
     pub is_ours: bool,
     /// When it began, in seconds since the beginning of 1970.
     pub since: i64,
-    /// How many octets were taken from the network.
-    pub taken: u64,
-    /// How many octets were said to it.
-    pub said: u64,
+    /// How many octets went each way. Those of a PAD's calls are not counted.
+    pub octets: Option<CallOctets>,
 }
 
-/// The places for calls of a host: that of its channel 1, and how many there are.
+/// The places for calls of a host or PAD: that of its channel 1, and how many there are.
 #[derive(Clone, Copy)]
-struct HostPlaces {
+struct NodePlaces {
     node: usize,
     first: usize,
     channels: u8,
 }
 
-/// The calls at all hosts, and what is to be logged of them and of those of terminals.
+/// The calls at all hosts and PADs, and what is to be logged of them.
 #[derive(Drop)]
 pub(crate) struct Calls {
-    hosts: Vec<HostPlaces>,
+    nodes: Vec<NodePlaces>,
     calls: Vec<Option<CallStatus>>,
     /// Notes that are to be logged, from the next one on.
     notes: Vec<CallNote>,
@@ -101,27 +113,39 @@ pub(crate) struct Calls {
 }
 
 impl Calls {
-    /// No call at these hosts.
-    pub(crate) fn new(alloc: Global, bindings: &[HostBinding]) -> Result<Self, AllocError> {
-        let mut hosts = Vec::new(alloc);
-        let mut calls = Vec::new(alloc);
-        for binding in bindings {
-            hosts.push(HostPlaces {
-                node: binding.node,
-                first: calls.len(),
-                channels: binding.channels,
-            })?;
-            for _ in 0..binding.channels {
-                calls.push(None)?;
-            }
-        }
-        Ok(Calls {
-            hosts,
-            calls,
+    /// No call at these hosts and PADs.
+    pub(crate) fn new(
+        alloc: Global,
+        hosts: &[HostBinding],
+        pads: &[PadBinding],
+    ) -> Result<Self, AllocError> {
+        let mut calls = Calls {
+            nodes: Vec::new(alloc),
+            calls: Vec::new(alloc),
             notes: Vec::with_capacity(alloc, MOST_NOTES)?,
             next: 0,
             missed: 0,
-        })
+        };
+        for host in hosts {
+            calls.add(host.node, host.channels)?;
+        }
+        for pad in pads {
+            calls.add(pad.node, pad.channels)?;
+        }
+        Ok(calls)
+    }
+
+    /// Adds places for so many calls of a node.
+    fn add(&mut self, node: usize, channels: u8) -> Result<(), AllocError> {
+        self.nodes.push(NodePlaces {
+            node,
+            first: self.calls.len(),
+            channels,
+        })?;
+        for _ in 0..channels {
+            self.calls.push(None)?;
+        }
+        Ok(())
     }
 
     /// Hears what a host was told.
@@ -140,17 +164,25 @@ impl Calls {
         }
     }
 
-    /// Hears what a PAD was told of the call of a terminal, if one has it. That is logged alone.
-    pub(crate) fn hear_terminal(&mut self, note: &UserNote, terminal: Option<u8>) {
+    /// Hears what a PAD was told of the call of a terminal, if one has it.
+    pub(crate) fn hear_terminal(&mut self, note: &UserNote, terminal: Option<u8>, seconds: i64) {
+        let at = HostChannel::of(note);
         let change = match note.kind {
-            NoteKind::Incoming { ref calling, .. } => CallChange::Incoming {
-                from: address_of(calling),
-            },
-            NoteKind::Dialled { ref called } => CallChange::Called {
-                to: CallAddress::of(called),
-            },
+            NoteKind::Incoming { ref calling, .. } => {
+                let from = address_of(calling);
+                self.begin(at, from, false, None, seconds);
+                CallChange::Incoming { from }
+            }
+            NoteKind::Dialled { ref called } => {
+                let to = CallAddress::of(called);
+                self.begin(at, Some(to), true, None, seconds);
+                CallChange::Called { to }
+            }
             NoteKind::Connected => CallChange::Connected,
-            NoteKind::Cleared { cause, diagnostic } => CallChange::Ended { cause, diagnostic },
+            NoteKind::Cleared { cause, diagnostic } => {
+                self.end(at);
+                CallChange::Ended { cause, diagnostic }
+            }
             NoteKind::Reset { cause, diagnostic } => CallChange::Reset { cause, diagnostic },
         };
         self.keep(CallNote {
@@ -162,11 +194,18 @@ impl Calls {
     }
 
     fn ring(&mut self, at: HostChannel, from: Option<CallAddress>, seconds: i64) {
-        self.begin(at, from, false, seconds);
+        self.begin(at, from, false, Some(CallOctets::NONE), seconds);
         self.note(at, CallChange::Incoming { from });
     }
 
-    fn begin(&mut self, at: HostChannel, far: Option<CallAddress>, is_ours: bool, seconds: i64) {
+    fn begin(
+        &mut self,
+        at: HostChannel,
+        far: Option<CallAddress>,
+        is_ours: bool,
+        octets: Option<CallOctets>,
+        seconds: i64,
+    ) {
         if let Some(place) = self.place_mut(at) {
             *place = Some(CallStatus {
                 node: at.node,
@@ -174,16 +213,30 @@ impl Calls {
                 far,
                 is_ours,
                 since: seconds,
-                taken: 0,
-                said: 0,
+                octets,
             });
         }
     }
 
+    /// A call is over: gives it, if it was there.
+    fn end(&mut self, at: HostChannel) -> Option<CallStatus> {
+        match self.place_mut(at) {
+            Some(place) => place.take(),
+            None => None,
+        }
+    }
+
+    /// A call of this address was placed on this channel, or could not be.
+    pub(crate) fn place_on(&mut self, at: Option<HostChannel>, to: &Address, seconds: i64) {
+        if let Some(at) = at {
+            self.place(at, to, seconds);
+        }
+    }
+
     /// A call of this address was placed.
-    pub(crate) fn place(&mut self, at: HostChannel, to: &Address, seconds: i64) {
+    fn place(&mut self, at: HostChannel, to: &Address, seconds: i64) {
         let to = CallAddress::of(to);
-        self.begin(at, Some(to), true, seconds);
+        self.begin(at, Some(to), true, Some(CallOctets::NONE), seconds);
         self.note(at, CallChange::Called { to });
     }
 
@@ -194,20 +247,18 @@ impl Calls {
 
     /// A call is over.
     pub(crate) fn clear(&mut self, at: HostChannel, cause: u8, diagnostic: u8, seconds: i64) {
-        let Some(place) = self.place_mut(at) else {
+        let Some(call) = self.end(at) else {
             return;
         };
-        let Some(call) = place.take() else {
-            return;
-        };
+        let CallOctets { taken, said } = call.octets.unwrap_or(CallOctets::NONE);
         self.note(
             at,
             CallChange::Cleared {
                 cause,
                 diagnostic,
                 seconds: seconds_between(call.since, seconds),
-                taken: call.taken,
-                said: call.said,
+                taken,
+                said,
             },
         );
     }
@@ -230,15 +281,22 @@ impl Calls {
 
     /// So many octets were taken from the network.
     pub(crate) fn took(&mut self, at: HostChannel, count: usize) {
-        if let Some(Some(call)) = self.place_mut(at) {
-            call.taken = call.taken.saturating_add(count as u64);
+        if let Some(octets) = self.octets_mut(at) {
+            octets.taken = octets.taken.saturating_add(count as u64);
         }
     }
 
     /// So many octets were said to the network.
     pub(crate) fn said(&mut self, at: HostChannel, count: usize) {
-        if let Some(Some(call)) = self.place_mut(at) {
-            call.said = call.said.saturating_add(count as u64);
+        if let Some(octets) = self.octets_mut(at) {
+            octets.said = octets.said.saturating_add(count as u64);
+        }
+    }
+
+    fn octets_mut(&mut self, at: HostChannel) -> Option<&mut CallOctets> {
+        match self.place_mut(at) {
+            Some(Some(call)) => call.octets.as_mut(),
+            _ => None,
         }
     }
 
@@ -297,12 +355,12 @@ impl Calls {
     }
 
     fn place_mut(&mut self, at: HostChannel) -> Option<&mut Option<CallStatus>> {
-        let host = self.hosts.iter().find(|host| host.node == at.node)?;
-        if at.channel > host.channels {
+        let places = self.nodes.iter().find(|places| places.node == at.node)?;
+        if at.channel > places.channels {
             return None;
         }
         let after_first = usize::from(at.channel.checked_sub(1)?);
-        self.calls.get_mut(host.first.checked_add(after_first)?)
+        self.calls.get_mut(places.first.checked_add(after_first)?)
     }
 }
 

@@ -2,9 +2,13 @@
 ghost use Rattle.std.specs.Prelude.{◌≡◌, false};
 ghost use Rattle.line_nodes.specs.declared.terminal.TerminalEvent.TheVariants.{Leaves};
 ghost use Rattle.net_events.specs.declared.event.Event.TheVariants.{AtTerminal, Deliver};
+ghost use Rattle.service.specs.AllBridges.{ServesBridges};
+ghost use Rattle.service.specs.Bridging.{PassesAt};
 ghost use Rattle.service.specs.Serving.{DeliversBelow, Expires, Serves, WishesKeys, WishesPresence, WishesText, WishesXon};
 ghost use Rattle.service.specs.Steps.{Does, Passes, is_at_terminal, is_idle_answer, is_idle_outcome, key_event, presence_event};
 
+use crate::bridges::Bridges;
+use crate::bridging::{ask_event, say_request, take_event};
 use crate::builtin::Turn;
 use crate::calls::Calls;
 use crate::hosts::{HostChannel, Hosts};
@@ -36,7 +40,7 @@ pub(crate) struct Exchange<L: Line> {
     pub(crate) passing: Passing,
 }
 
-#[tactic(auto, using(crate::proofs::Stepping::passes_none))]
+#[tactic(auto, using(crate::proofs::Stepping::passes_none, crate::proofs::Bridged::passes_at_none, crate::proofs::EachBridge::serves_none))]
 impl<L: Line> Exchange<L> {
     /// Lets an event happen of which only the notes are wanted, and says whether it did anything.
     pub(crate) fn happen(&mut self, event: &Event) -> bool
@@ -139,26 +143,42 @@ impl<L: Line> Exchange<L> {
         }
     }
 
-    /// Does what is to be done next in each call.
-    pub(crate) fn serve_calls(&mut self) -> bool
-        ensures { Passes L.service result self.old.net self.new.net }
+    /// Does what is to be done next in each call of a built-in service.
+    pub(crate) fn serve_calls(&mut self, bridges: &Bridges) -> bool
+        ensures { ServesBridges L.service result self.old.net self.new.net bridges.now.ports.items
+            bridges.now.ports.items }
     {
         let mut any = false;
         for host in 0..self.hosts.len() {
             for place in 0..self.hosts.channels(host) {
-                let done = self.serve_call(host, place);
+                let done = self.serve_call(host, place, bridges);
                 any |= done;
             }
         }
         any
     }
 
-    fn serve_call(&mut self, host: usize, place: u8) -> bool
-        ensures { Passes L.service result self.old.net self.new.net }
+    /// Does what is to be done next on a channel, unless a bridge has its call.
+    fn serve_call(&mut self, host: usize, place: u8, bridges: &Bridges) -> bool
+        ensures { ServesBridges L.service result self.old.net self.new.net bridges.now.ports.items
+            bridges.now.ports.items }
     {
         let Some((at, turn)) = self.hosts.turn(host, place) else {
             return false;
         };
+        if matches!(turn, Turn::Rest) {
+            return false;
+        }
+        if bridges.have(at) {
+            return false;
+        }
+        self.serve_turn(at, turn)
+    }
+
+    /// Does what a built-in service does next on a channel.
+    fn serve_turn(&mut self, at: HostChannel, turn: Turn) -> bool
+        ensures { PassesAt L.service at result self.old.net self.new.net }
+    {
         match turn {
             Turn::Rest => false,
             Turn::Answer => self.answer(at),
@@ -173,7 +193,7 @@ impl<L: Line> Exchange<L> {
 
     /// Answers a call.
     fn answer(&mut self, at: HostChannel) -> bool
-        ensures { Passes L.service result self.old.net self.new.net }
+        ensures { PassesAt L.service at result self.old.net self.new.net }
     {
         let done = self.ask(at, HostRequest::Answer);
         if let Some(call) = self.hosts.call_mut(at) {
@@ -187,12 +207,13 @@ impl<L: Line> Exchange<L> {
 
     /// Says what is held as one message, if the host takes it.
     fn say_held(&mut self, at: HostChannel) -> bool
-        ensures { Passes L.service result self.old.net self.new.net }
+        ensures { PassesAt L.service at result self.old.net self.new.net }
     {
         let Some(call) = self.hosts.call_mut(at) else {
             return false;
         };
-        let event = say(at, call.lend_held(self.alloc), false);
+        let held = call.lend_held(self.alloc);
+        let event = ask_event(at, say_request(held, false));
         let said = self.happen(&event);
         let octets = octets_of(self.alloc, event);
         let count = if said { octets.len() } else { 0 };
@@ -205,13 +226,13 @@ impl<L: Line> Exchange<L> {
 
     /// Says the time, and asks that it is confirmed.
     fn say_time(&mut self, at: HostChannel) -> bool
-        ensures { Passes L.service result self.old.net self.new.net }
+        ensures { PassesAt L.service at result self.old.net self.new.net }
     {
         let Ok(text) = time_message(self.alloc, self.seconds) else {
             return false;
         };
         let count = text.len();
-        if !self.happen(&say(at, text, true)) {
+        if !self.happen(&ask_event(at, say_request(text, true))) {
             return false;
         }
         self.calls.said(at, count);
@@ -223,7 +244,7 @@ impl<L: Line> Exchange<L> {
 
     /// Clears a call once all that was said is confirmed.
     fn clear_if_confirmed(&mut self, at: HostChannel) -> bool
-        ensures { Passes L.service result self.old.net self.new.net }
+        ensures { PassesAt L.service at result self.old.net self.new.net }
     {
         if !self.net.confirmed(at.node, u16::from(at.channel)) {
             return false;
@@ -233,7 +254,7 @@ impl<L: Line> Exchange<L> {
 
     /// Ends a call by this request.
     fn end(&mut self, at: HostChannel, request: HostRequest) -> bool
-        ensures { Passes L.service result self.old.net self.new.net }
+        ensures { PassesAt L.service at result self.old.net self.new.net }
     {
         let done = self.ask(at, request);
         if let Some(call) = self.hosts.call_mut(at) {
@@ -245,26 +266,17 @@ impl<L: Line> Exchange<L> {
 
     /// Asks something of the call of a channel, and says whether that was done.
     pub(crate) fn ask(&mut self, at: HostChannel, request: HostRequest) -> bool
-        ensures { Passes L.service result self.old.net self.new.net }
+        ensures { PassesAt L.service at result self.old.net self.new.net }
     {
-        let event = Event::Ask {
-            node: at.node,
-            channel: u16::from(at.channel),
-            request,
-        };
-        self.happen(&event)
+        self.happen(&ask_event(at, request))
     }
 
     /// Takes what comes next on a channel, and says whether there was anything. What is qualified, and interrupts, are
     /// dropped.
     fn take_next(&mut self, at: HostChannel) -> bool
-        ensures { Passes L.service result self.old.net self.new.net }
+        ensures { PassesAt L.service at result self.old.net self.new.net }
     {
-        let event = Event::Take {
-            node: at.node,
-            channel: u16::from(at.channel),
-        };
-        match self.net.step(&event) {
+        match self.net.step(&take_event(at)) {
             Ok(answer) => {
                 hear(
                     &mut self.hosts,
@@ -322,7 +334,7 @@ pub(crate) fn hear(
 ) {
     for note in notes {
         if let CallUser::Terminal(terminal) = note.user {
-            calls.hear_terminal(note, terminal);
+            calls.hear_terminal(note, terminal, seconds);
             continue;
         }
         if !mail.hear(note) {
@@ -380,21 +392,6 @@ fn at_terminal(at: Place, event: TerminalEvent) -> Event
         node: at.node,
         terminal: at.number,
         event,
-    }
-}
-
-/// A host says a message.
-fn say(at: HostChannel, octets: Vec<u8>, delivery: bool) -> Event
-    ensures { is_at_terminal result ≡ false }
-{
-    Event::Ask {
-        node: at.node,
-        channel: u16::from(at.channel),
-        request: HostRequest::Say {
-            octets,
-            qualified: false,
-            delivery,
-        },
     }
 }
 

@@ -1,9 +1,10 @@
 //! Lines to other processes.
-ghost use Rattle.std.specs.Prelude.{◌≡◌, ◌≤◌, List, [], length, take};
+ghost use Rattle.std.specs.Prelude.{◌≡◌, ◌≤◌, true, List, [], length, take};
 ghost use Rattle.std.specs.Bool.{OnTrue, OnFalse};
+ghost use Rattle.net_process.specs.Process.{is_set, may_start, runs};
 ghost use Rattle.net_process.specs.Remote.{lost, made, meets_at, line_at, order_at, after_order_at, output_at, takes, with_came, with_written};
 ghost use Rattle.service.specs.declared.place.Place.{Place};
-ghost use Rattle.service.specs.Lines.{ServesLines, StartsOne};
+ghost use Rattle.service.specs.Lines.{ServesLines, Starts, StartsOne};
 
 use crate::absent::leave_absent;
 use crate::exchange::Exchange;
@@ -37,11 +38,26 @@ impl<L: Line> Service<L> {
         ensures terminals { self.new.terminals ≡ self.old.terminals }
         ensures places { self.new.places ≡ self.old.places }
     {
-        if self.exchange.net.start_next().is_none() {
+        let Some(node) = self.exchange.net.next_to_start() else {
             return false;
-        }
+        };
+        self.exchange.start(node);
         leave_absent(&mut self.exchange, &self.pads, &self.places);
         true
+    }
+
+    /// Whether the node of this place is of this process.
+    pub fn owns(&self, node: usize) -> bool
+        ensures { result ≡ is_set self.now.exchange.net.own node }
+    {
+        self.exchange.net.owns(node)
+    }
+
+    /// Whether the node of this place is of this process and has started.
+    pub fn runs(&self, node: usize) -> bool
+        ensures { result ≡ runs self.now.exchange.net node }
+    {
+        self.exchange.net.runs(node)
     }
 
     /// How many lines to other processes there are.
@@ -120,6 +136,16 @@ impl<L: Line> Service<L> {
 }
 
 impl<L: Line> Exchange<L> {
+    /// Starts a node that may start. What it sends first is seen.
+    fn start(&mut self, node: usize)
+        requires { may_start self.old.net node ≡ true }
+        ensures { Starts L.service node self.old.net self.new.net }
+    {
+        if let Ok(answer) = self.net.start(node) {
+            self.passing.see_all(answer);
+        }
+    }
+
     /// Gives a link up whose line had no connection for too long, and says whether there was one.
     fn give_up(&mut self) -> bool
         ensures { (places : List Place) → ServesLines L.service places self.old.net self.new.net }

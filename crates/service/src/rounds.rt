@@ -1,5 +1,6 @@
 //! Rounds of a service: each serves each terminal, each call and each line in turn.
 ghost use Rattle.std.specs.Prelude.{◌≡◌, ◌≤◌, length};
+ghost use Rattle.service.specs.AllBridges.{WorksForAll};
 ghost use Rattle.service.specs.Places.{AreApart};
 ghost use Rattle.service.specs.Serving.{Serves, ServesBelow, Wishes, WishesKeys, Works};
 
@@ -19,6 +20,9 @@ impl<L: Line> Service<L> {
     pub fn work(&mut self, most: u32) -> bool
         ensures works { Works L.service self.old.places.items self.old.lines result self.old.exchange.net
             self.new.exchange.net self.old.terminals.items self.new.terminals.items }
+        ensures bridges { WorksForAll L.service self.old.places.items self.old.lines result self.old.exchange.net
+            self.new.exchange.net self.old.terminals.items self.new.terminals.items self.old.bridges.ports.items
+            self.new.bridges.ports.items }
         ensures places { self.new.places ≡ self.old.places }
         ensures lines { self.new.lines ≡ self.old.lines }
     {
@@ -34,6 +38,9 @@ impl<L: Line> Service<L> {
     fn round(&mut self) -> bool
         ensures works { Works L.service self.old.places.items self.old.lines result self.old.exchange.net
             self.new.exchange.net self.old.terminals.items self.new.terminals.items }
+        ensures bridges { WorksForAll L.service self.old.places.items self.old.lines result self.old.exchange.net
+            self.new.exchange.net self.old.terminals.items self.new.terminals.items self.old.bridges.ports.items
+            self.new.bridges.ports.items }
         ensures places { self.new.places ≡ self.old.places }
         ensures lines { self.new.lines ≡ self.old.lines }
     {

@@ -1,12 +1,13 @@
 //! A network with terminals for clients and built-in services.
-ghost use Rattle.std.specs.Prelude.{◌≡◌, ◌≤◌, ◌+◌, true, length, min, option_map, take, slice_get, None, Some, IfOk, IfSome, IfNone};
+ghost use Rattle.std.specs.Prelude.{◌≡◌, ◌≤◌, ◌+◌, ◌-◌, true, length, min, option_map, take, slice_get, None, Some, IfOk, IfSome, IfNone};
 ghost use Rattle.net_process.specs.Carrying.{elapsed as process_elapsed};
+ghost use Rattle.service.specs.AllBridges.{AreOnOwnChannels};
 ghost use Rattle.service.specs.Bridging.{are_free};
 ghost use Rattle.service.specs.Calls.{call_of};
 ghost use Rattle.service.specs.Orders.{after_order, port_of};
 ghost use Rattle.service.specs.Places.{AreApart};
 ghost use Rattle.service.specs.Serving.{Begins};
-ghost use Rattle.service.specs.Terminals.{ordered};
+ghost use Rattle.service.specs.Terminals.{has_parted, ordered, stopping_after};
 
 use crate::absent::{PadBinding, leave_absent};
 use crate::bridges::{BridgeBindings, Bridges};
@@ -26,6 +27,10 @@ use std::alloc::{AllocError, Global};
 
 /// How long the service may take to stop, in ticks: until all is written out and the calls are cleared.
 const MOST_STOPPING: u16 = 160;
+
+/// How long it may still take once nobody is there, in ticks, if there are lines to other processes: what clears its calls
+/// goes to the partners until then. Whether they have it is not known here.
+const MOST_PARTING: u16 = 20;
 
 /// What of a network is served: the tables of terminals, all PADs and all hosts. A terminal of these PADs that is in no
 /// table stays absent.
@@ -81,11 +86,17 @@ pub struct Service<L: Line> {
     stopping: Option<u16>,
     ghost seated: { length terminals.items ≡ length places.items },
     ghost apart: { AreApart places.items },
+    ghost channels: { AreOnOwnChannels bridges.ports.items },
 }
 
+#[tactic(auto, using(crate::proofs::EachBridge::own_from))]
 impl<L: Line> Service<L> {
     ghost use Rattle.service.specs.Terminals.{AllChange, HasCome, changed_at, elapsed, ended, freed, has_client, are_deserted, has_stopped, heard, is_free_in, left, may_take, status_of, written};
+    ghost use Rattle.service.specs.AllBridges.{AreFirst, bridge_at, changed_at as bridge_changed_at, peer_ended, with_phases};
+    ghost use Rattle.service.specs.declared.bridges.BridgePort.{BridgePort};
     ghost use Rattle.service.specs.declared.terminal.Terminal.{Terminal};
+    ghost use Rattle.bridge_ports.specs.Bridges as bridge_state;
+    ghost use Rattle.bridge_ports.specs.Phases as bridge_phase;
     ghost use Rattle.std.specs.Prelude.{position, is_some, if◌then◌else◌, ◌&&◌};
 
     /// A service without clients on a network of so many lines: nobody is at the terminals of the PADs.
@@ -103,7 +114,7 @@ impl<L: Line> Service<L> {
             alloc,
             net,
             hosts: Hosts::new(alloc, bindings.hosts)?,
-            calls: Calls::new(alloc, bindings.hosts)?,
+            calls: Calls::new(alloc, bindings.hosts, bindings.pads)?,
             mail: Mail::new(alloc, &bindings.bridges)?,
             seconds: 0,
             came: FrameBuf::new(),
@@ -161,24 +172,31 @@ impl<L: Line> Service<L> {
     }
 
     /// The place among the bridges of a port that is no terminal's.
-    fn bridge_place(&self, port: usize) -> usize {
+    fn bridge_place(&self, port: usize) -> usize
+        ensures { result ≡ port - length self.now.terminals.items }
+    {
         port.saturating_sub(self.terminals.len())
     }
 
     /// The connection stands that was ordered for this port.
     pub fn opened(&mut self, port: usize)
         ensures terminals { self.new.terminals ≡ self.old.terminals }
+        ensures bridge { self.new.bridges.ports.items ≡ bridge_changed_at port (with_phases bridge_phase.opened)
+            self.old.terminals.items self.old.bridges.ports.items }
         ensures network { self.new.exchange.net ≡ self.old.exchange.net }
     {
         let place = self.bridge_place(port);
-        if port >= self.terminals.len() {
-            self.bridges.opened(place);
+        match self.terminals.get(port) {
+            Some(_) => {}
+            None => self.bridges.opened(place),
         }
     }
 
     /// The connection could not be had that was ordered for this port.
     pub fn failed(&mut self, port: usize)
         ensures port { self.new.terminals.items ≡ changed_at port left self.old.terminals.items }
+        ensures bridge { self.new.bridges.ports.items ≡ bridge_changed_at port (with_phases bridge_phase.broken)
+            self.old.terminals.items self.old.bridges.ports.items }
         ensures network { self.new.exchange.net ≡ self.old.exchange.net }
     {
         self.lost(port);
@@ -196,6 +214,10 @@ impl<L: Line> Service<L> {
     pub fn octets(&mut self, port: usize, octets: &[u8]) -> usize
         ensures within { result ≤ length octets.now }
         ensures taken { self.new.terminals.items ≡ changed_at port (heard (take result octets.now)) self.old.terminals.items }
+        ensures bridge_count { (b : BridgePort) → bridge_at port self.old.terminals.items self.old.bridges.ports.items ≡ Some b
+            → result ≡ bridge_state.heard_count octets.now b.bridge }
+        ensures bridge { self.new.bridges.ports.items ≡ bridge_changed_at port (bridge_state.heard (take result octets.now))
+            self.old.terminals.items self.old.bridges.ports.items }
         ensures network { self.new.exchange.net ≡ self.old.exchange.net }
     {
         let place = self.bridge_place(port);
@@ -208,6 +230,8 @@ impl<L: Line> Service<L> {
     /// The peer of a port sends no more. A terminal's client is gone.
     pub fn ended(&mut self, port: usize)
         ensures port { self.new.terminals.items ≡ changed_at port left self.old.terminals.items }
+        ensures bridge { self.new.bridges.ports.items ≡ bridge_changed_at port (with_phases peer_ended)
+            self.old.terminals.items self.old.bridges.ports.items }
         ensures network { self.new.exchange.net ≡ self.old.exchange.net }
     {
         let place = self.bridge_place(port);
@@ -220,6 +244,8 @@ impl<L: Line> Service<L> {
     /// The connection of a port is lost.
     pub fn lost(&mut self, port: usize)
         ensures port { self.new.terminals.items ≡ changed_at port left self.old.terminals.items }
+        ensures bridge { self.new.bridges.ports.items ≡ bridge_changed_at port (with_phases bridge_phase.broken)
+            self.old.terminals.items self.old.bridges.ports.items }
         ensures network { self.new.exchange.net ≡ self.old.exchange.net }
     {
         let place = self.bridge_place(port);
@@ -232,6 +258,8 @@ impl<L: Line> Service<L> {
     /// The connection of a port was closed, so another client may have it.
     pub fn closed(&mut self, port: usize)
         ensures port { self.new.terminals.items ≡ changed_at port freed self.old.terminals.items }
+        ensures bridge { self.new.bridges.ports.items ≡ bridge_changed_at port (with_phases bridge_phase.closed)
+            self.old.terminals.items self.old.bridges.ports.items }
         ensures network { self.new.exchange.net ≡ self.old.exchange.net }
     {
         let place = self.bridge_place(port);
@@ -247,6 +275,8 @@ impl<L: Line> Service<L> {
     /// The client of a port is to go once what waits is written out.
     pub fn end(&mut self, port: usize)
         ensures port { self.new.terminals.items ≡ changed_at port ended self.old.terminals.items }
+        ensures bridge { self.new.bridges.ports.items ≡ bridge_changed_at port (with_phases bridge_phase.dismissed)
+            self.old.terminals.items self.old.bridges.ports.items }
         ensures network { self.new.exchange.net ≡ self.old.exchange.net }
     {
         let place = self.bridge_place(port);
@@ -260,6 +290,8 @@ impl<L: Line> Service<L> {
     pub fn elapse(&mut self, ticks: u16)
         ensures ports { AllChange (elapsed ticks) self.old.terminals.items self.new.terminals.items }
         ensures network { self.new.exchange.net ≡ process_elapsed ticks self.old.exchange.net }
+        ensures stopping { self.new.stopping ≡ stopping_after ticks (has_parted self.new.terminals.items
+            (are_free self.new.bridges.ports.items) self.new.exchange.net) self.old.stopping }
     {
         self.exchange.net.elapse(ticks);
         for port in 0..self.terminals.len() {
@@ -267,8 +299,21 @@ impl<L: Line> Service<L> {
         }
         self.bridges.elapse(ticks);
         if let Some(left) = self.stopping {
-            self.stopping = Some(left.saturating_sub(ticks));
+            let most = if self.has_parted() {
+                left.min(MOST_PARTING)
+            } else {
+                left
+            };
+            self.stopping = Some(most.saturating_sub(ticks));
         }
+    }
+
+    /// Whether nobody is there and all bridges are free, in a network with lines to other processes.
+    fn has_parted(&self) -> bool
+        ensures { result ≡ has_parted self.now.terminals.items (are_free self.now.bridges.ports.items)
+            self.now.exchange.net }
+    {
+        self.is_deserted() && self.bridges.are_free() && self.exchange.net.remote_lines() > 0
     }
 
     /// The time, in seconds since the beginning of 1970, which the service `time` tells and calls are counted by.
@@ -317,6 +362,8 @@ impl<L: Line> Service<L> {
     pub fn waiting(&self, port: usize) -> &[u8]
         ensures front { (p : Terminal) → slice_get self.now.terminals.items port ≡ Some p → has_client p.phase ≡ true
             → take (length result.now) p.port.output.octets ≡ result.now }
+        ensures bridge { (b : BridgePort) → bridge_at port self.now.terminals.items self.now.bridges.ports.items ≡ Some b
+            → AreFirst result.now b.bridge }
     {
         match self.terminals.get(port) {
             Some(terminal) if terminal.has_client() => terminal.port.waiting(),
@@ -328,6 +375,8 @@ impl<L: Line> Service<L> {
     /// The first `count` octets that wait were written.
     pub fn written(&mut self, port: usize, count: usize)
         ensures port { self.new.terminals.items ≡ changed_at port (written count) self.old.terminals.items }
+        ensures bridge { self.new.bridges.ports.items ≡ bridge_changed_at port (bridge_state.written count)
+            self.old.terminals.items self.old.bridges.ports.items }
         ensures network { self.new.exchange.net ≡ self.old.exchange.net }
     {
         let place = self.bridge_place(port);
@@ -410,7 +459,7 @@ impl<L: Line> Service<L> {
         }
     }
 
-    /// How many places for calls the hosts have, one for each logical channel.
+    /// How many places for calls the hosts and PADs have, one for each logical channel.
     pub fn calls(&self) -> usize
         ensures { result ≡ length self.now.exchange.calls.calls.items }
     {

@@ -36,7 +36,7 @@ pub(crate) enum Phase {
     Ending(u16),
     /// Nobody, and the connection of the last client is to be closed.
     Closing,
-    /// The same, and the order to close it was given.
+    /// Nobody, and the order to close the connection of the last client was given.
     Closed,
 }
 

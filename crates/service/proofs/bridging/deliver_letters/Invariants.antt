@@ -1,5 +1,5 @@
-use Rattle.service.specs.Steps.{Passes}
+use Rattle.service.specs.AllBridges.{ServesBridges}
 use Rattle.service.proofs.bridging.deliver_letters.Given as goal
 
 abbrev pub invariant-loop : goal.invariant-loop
-invariant-loop g l = Passes g.L.Line.service l.any l.fn.exchange.net l.exchange.net
+invariant-loop g l = ServesBridges g.L.Line.service l.any l.fn.exchange.net l.exchange.net l.fn.bridges.ports.items l.bridges.ports.items

@@ -1,5 +1,5 @@
-use Rattle.service.specs.Steps.{Passes}
+use Rattle.service.specs.AllBridges.{ServesBridges}
 use Rattle.service.proofs.bridging.serve_ports.Given as goal
 
-abbrev pub invariant-loop-port : goal.invariant-loop-port
-invariant-loop-port g l = Passes g.L.Line.service l.any l.fn.exchange.net l.exchange.net
+abbrev pub invariant-loop-place : goal.invariant-loop-place
+invariant-loop-place g l = ServesBridges g.L.Line.service l.any l.fn.exchange.net l.exchange.net l.fn.bridges.ports.items l.bridges.ports.items

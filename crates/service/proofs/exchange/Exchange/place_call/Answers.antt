@@ -1,5 +1,5 @@
-use Rattle.service.proofs.Bridged.{carries_placed}
+use Rattle.service.proofs.EachBridge.{serves_call}
 use Rattle.service.proofs.exchange.Exchange.place_call.Goals as goal
 
 pub returns : goal.returns
-returns g c = carries_placed g.L.Line.service _ _ _ _ _ c.call-at.ensures c.placed.ensures
+returns g c = serves_call g.L.Line.service _ _ _ _ _ c.call-at.ensures c.placed.ensures

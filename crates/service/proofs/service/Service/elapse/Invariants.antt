@@ -7,4 +7,5 @@ abbrev pub invariant-loop-port : goal.invariant-loop-port
 invariant-loop-port g l = record {
   changed : ChangeBelow (elapsed l.ticks) l.port l.initial.self.terminals.items l.self.terminals.items;
   network : l.self.exchange.net ≡ l.initial.self.exchange.net;
+  stopping : l.self.stopping ≡ l.initial.self.stopping;
 }
