@@ -3,10 +3,13 @@ ghost use Rattle.std.specs.Prelude.{◌≡◌, Some, IfOk, map, string_bytes};
 ghost use Rattle.serde_json.specs.Data.{array};
 ghost use Rattle.serde_json.specs.Read.{read};
 ghost use Rattle.serde_json.specs.View.{view, items_of};
-ghost use Rattle.status_pages.specs.Data.{status_data, node_data, line_data, counts_data, call_data, port_data, numbers_data};
+ghost use Rattle.status_pages.specs.Data.{status_data, node_data, line_data, counts_data, call_data, octets_data, port_data, numbers_data};
 
 use serde_json::{Value, json};
-use status_texts::{CallLine, Counts, NetLine, NodeLine, PortLine, Status, kind_word, state_word};
+use status_texts::{
+    CallLine, CallOctets, Counts, NetLine, NodeLine, PortLine, Status, kind_word, line_state_word,
+    node_state_word,
+};
 use std::alloc::{AllocError, Global};
 
 /// A status as JSON: an object of `version`, `seconds`, `nodes`, `lines`, `counts`, `calls` and `ports`.
@@ -43,7 +46,8 @@ fn node_value(alloc: Global, node: NodeLine<'_>) -> Result<Value, AllocError>
     ensures { IfOk result (λ value. view value ≡ node_data node.entry) }
 {
     let (name, kind) = (node.name, kind_word(node.kind));
-    json!(in alloc; {"name": name, "kind": kind})
+    let state = node_state_word(node.state);
+    json!(in alloc; {"name": name, "kind": kind, "state": state})
 }
 
 fn lines_value(alloc: Global, lines: &[NetLine<'_>]) -> Result<Value, AllocError>
@@ -60,7 +64,7 @@ fn line_value(alloc: Global, line: NetLine<'_>) -> Result<Value, AllocError>
     ensures { IfOk result (λ value. view value ≡ line_data line.entry) }
 {
     let (dte, dce, address) = (line.dte, line.dce, line.address);
-    let state = state_word(line.state);
+    let state = line_state_word(line.state);
     json!(in alloc; {"dte": dte, "dce": dce, "address": address, "state": state})
 }
 
@@ -86,11 +90,20 @@ fn call_value(alloc: Global, call: &CallLine<'_>) -> Result<Value, AllocError>
     ensures { IfOk result (λ value. view value ≡ call_data call.now) }
 {
     let over = numbers_value(alloc, &call.over)?;
+    let octets = octets_value(alloc, call.octets)?;
     let (from, to, node) = (call.from.as_str(), call.to.as_str(), call.node);
     let (channel, since) = (call.channel, call.since);
-    let (taken, said) = (call.taken, call.said);
-    json!(in alloc; {"from": from, "to": to, "node": node, "channel": channel, "since": since, "taken": taken,
-        "said": said, "over": over})
+    json!(in alloc; {"from": from, "to": to, "node": node, "channel": channel, "since": since, "octets": octets,
+        "over": over})
+}
+
+fn octets_value(alloc: Global, octets: Option<CallOctets>) -> Result<Value, AllocError>
+    ensures { IfOk result (λ value. view value ≡ octets_data octets) }
+{
+    match octets {
+        Some(CallOctets { taken, said }) => json!(in alloc; {"taken": taken, "said": said}),
+        None => Ok(Value::Null),
+    }
 }
 
 fn numbers_value(alloc: Global, numbers: &[usize]) -> Result<Value, AllocError>

@@ -9,9 +9,9 @@ pub const PAGE: &str = r##"<!DOCTYPE html>
 <title>x25d</title>
 <style>
 :root { color-scheme: light dark; --ink: #1d2733; --soft: #687684; --paper: #ffffff; --card: #f3f6f9; --edge: #b9c4cf;
-  --pad: #2f6f4f; --host: #2c5f9e; --switch: #8a5a12; --call: #d1495b; --bad: #c0392b; }
+  --pad: #2f6f4f; --host: #2c5f9e; --switch: #8a5a12; --call: #d1495b; --good: #4d8f6b; --bad: #c0392b; }
 @media (prefers-color-scheme: dark) { :root { --ink: #e6ebf0; --soft: #95a3b1; --paper: #14191f; --card: #1e252d;
-  --edge: #46535f; --pad: #63b88d; --host: #72a7e6; --switch: #d8a24a; --call: #ff8091; --bad: #ff6b5e; } }
+  --edge: #46535f; --pad: #63b88d; --host: #72a7e6; --switch: #d8a24a; --call: #ff8091; --good: #5aa37c; --bad: #ff6b5e; } }
 body { margin: 0 auto; max-width: 60rem; padding: 1rem; font: 15px/1.45 system-ui, sans-serif; color: var(--ink);
   background: var(--paper); }
 h1 { font-size: 1.3rem; margin: 0; }
@@ -20,6 +20,7 @@ h2 { font-size: 1rem; margin: 1.4rem 0 .4rem; }
 #told.lost { color: var(--bad); }
 svg { width: 100%; height: auto; background: var(--card); border-radius: 8px; }
 .line { stroke: var(--edge); stroke-width: 2.5; }
+.line.up { stroke: var(--good); }
 .line.down { stroke: var(--bad); stroke-dasharray: 3 6; }
 .line.elsewhere { stroke-dasharray: 9 5; }
 .address { fill: var(--soft); font-size: 12px; text-anchor: middle; }
@@ -27,7 +28,10 @@ svg { width: 100%; height: auto; background: var(--card); border-radius: 8px; }
 .node.pad rect { stroke: var(--pad); }
 .node.host rect { stroke: var(--host); }
 .node.switch rect { stroke: var(--switch); }
+.node.starting rect { stroke: var(--bad); stroke-dasharray: 3 6; }
+.node.elsewhere rect { stroke-dasharray: 9 5; }
 .node text { fill: var(--ink); text-anchor: middle; font-size: 15px; }
+.node.elsewhere text { fill: var(--soft); }
 .node .kind { fill: var(--soft); font-size: 11px; }
 .call path { fill: none; stroke: var(--call); stroke-width: 3; stroke-dasharray: 2 8; stroke-linecap: round;
   animation: passing 1s linear infinite; }
@@ -92,10 +96,11 @@ function drawLine(picture, line, number, places) {
 
 function drawNode(picture, node, places) {
   const { x, y } = places.get(node.name), width = Math.max(84, node.name.length * 9 + 24);
-  const group = drawn(picture, "g", { class: "node " + node.kind });
+  const group = drawn(picture, "g", { class: `node ${node.kind} ${node.state}` });
   drawn(group, "rect", { x: x - width / 2, y: y - 22, width, height: 44, rx: node.kind === "switch" ? 4 : 12 });
   drawn(group, "text", { x, y: y + 1 }, node.name);
   drawn(group, "text", { class: "kind", x, y: y + 15 }, node.kind === "pad" ? "PAD" : node.kind);
+  drawn(group, "title", {}, `${node.name}: ${node.state}`);
 }
 
 /* The nodes that a call passes, from the caller on. */
@@ -120,12 +125,13 @@ function drawCall(picture, call, rank, lines, places) {
     `${call.from} to ${call.to}`);
 }
 
-/* Where both ends are hosts, both tell of the call: it is drawn as the called one tells of it. */
+/* Where both ends are hosts here, both tell of the call: it is drawn as the called one tells of it. */
 function callsOnce(status) {
-  const kinds = new Map(status.nodes.map(node => [node.name, node.kind]));
+  const hosts = new Set(status.nodes.filter(node => node.kind === "host" && node.state !== "elsewhere")
+    .map(node => node.name));
   return status.calls.filter(call => {
     const called = nodesOf(call, status.lines).pop();
-    return kinds.get(called) !== "host" || called === call.node;
+    return !hosts.has(called) || called === call.node;
   });
 }
 
@@ -158,7 +164,7 @@ function fill(name, heads, rows, none) {
 function list(status) {
   fill("calls", ["from", "to", "at", "channel", "since", "octets in", "octets out"], status.calls.map(call =>
     [call.from, call.to, call.node, call.channel, new Date(call.since * 1000).toISOString().slice(0, 19).replace("T", " "),
-     call.taken, call.said]), "There is no call at a host.");
+     call.octets ? call.octets.taken : "", call.octets ? call.octets.said : ""]), "There is no call.");
   const used = status.ports.map((port, number) => ({ port, number })).filter(({ port }) => port.in_use);
   fill("ports", ["port", "waits to be taken", "waits to be written", "keys dropped"], used.map(({ port, number }) =>
     [number, port.keys, port.octets, port.overtaken]), `All ${status.ports.length} ports are free.`);

@@ -7,8 +7,9 @@ mod way;
 mod words;
 
 pub use status::{
-    CallLine, Counts, LineState, NetLine, NodeKind, NodeLine, PortLine, Route, Status,
+    CallLine, CallOctets, Counts, LineState, NetLine, NodeKind, NodeLine, NodeState, PortLine,
+    Route, Status,
 };
 pub use text::status_text;
 pub use way::way_of;
-pub use words::{kind_word, state_word};
+pub use words::{kind_word, line_state_word, node_state_word};

@@ -20,23 +20,33 @@ pub enum NodeKind {
     Switch,
 }
 
+/// Whether a node is of this process, and has started.
+#[derive(Clone, Copy)]
+pub enum NodeState {
+    /// It is of this process, and has started.
+    Up,
+    /// It is of this process, and has not started.
+    Starting,
+    /// It is of another process.
+    Elsewhere,
+}
+
 /// A node of the network.
 #[derive(Clone, Copy)]
 pub struct NodeLine<'a> {
     pub name: &'a str,
     pub kind: NodeKind,
+    pub state: NodeState,
 }
 
 /// Where the ends of a line are, and whether frames pass over it.
 #[derive(Clone, Copy)]
 pub enum LineState {
-    /// Both ends are in this process.
-    Here,
-    /// One end is in another process or machine, and a connection to it stands.
+    /// Frames pass: the nodes at both ends are up, or one end is in another process and the line to it is open.
     Up,
-    /// One end is in another process or machine, and no connection to it stands.
+    /// No frames pass, though an end is in this process.
     Down,
-    /// Both ends are in other processes or machines.
+    /// Both ends are in other processes.
     Elsewhere,
 }
 
@@ -80,22 +90,27 @@ impl Counts {
     };
 }
 
-/// A call at a host.
+/// Octets of a call that a host took and said.
+#[derive(Clone, Copy)]
+pub struct CallOctets {
+    pub taken: u64,
+    pub said: u64,
+}
+
+/// A call at a host or a PAD.
 #[derive(Drop)]
 pub struct CallLine<'a> {
     /// The calling address.
     pub from: String,
     /// The called address.
     pub to: String,
-    /// The name of the host.
+    /// The name of the host or PAD.
     pub node: &'a str,
     pub channel: u8,
     /// When it began, in seconds since the beginning of 1970.
     pub since: i64,
-    /// Octets that the host took.
-    pub taken: u64,
-    /// Octets that it said.
-    pub said: u64,
+    /// Octets each way, at a host; those of a PAD's calls are not counted.
+    pub octets: Option<CallOctets>,
     /// The numbers of the lines that it passes over, from the caller on, as far as they are known.
     pub over: Vec<usize>,
 }

@@ -1,16 +1,18 @@
 //! A status as lines of text.
-use crate::status::{CallLine, Counts, LineState, NetLine, NodeLine, PortLine, Status};
-use crate::words::state_word;
+use crate::status::{CallLine, CallOctets, Counts, LineState, NetLine, NodeLine, PortLine, Status};
+use crate::words::{kind_word, line_state_word, node_state_word};
 use clock_texts::utc_text;
 use std::alloc::{AllocError, Global};
 use std::fmt::Write;
 
-/// The status as lines of text: how long the service runs, its nodes, its lines, what it counts, a line for each call
-/// and one for each port, by its number.
+/// The status as lines of text: how long the service runs, a line for each node and for each line of the network, what it
+/// counts, a line for each call and one for each port, by its number.
 pub fn status_text(alloc: Global, status: &Status<'_>) -> Result<String, AllocError> {
     let (version, seconds) = (status.version, status.seconds);
     let mut text = format!(in alloc; "x25d {version} up {seconds} s\n")?;
-    add_nodes(&mut text, &status.nodes)?;
+    for node in &status.nodes {
+        add_node(&mut text, *node)?;
+    }
     for (number, line) in status.lines.iter().enumerate() {
         add_line(&mut text, number, *line)?;
     }
@@ -24,17 +26,13 @@ pub fn status_text(alloc: Global, status: &Status<'_>) -> Result<String, AllocEr
     Ok(text)
 }
 
-fn add_nodes(text: &mut String, nodes: &[NodeLine<'_>]) -> Result<(), AllocError> {
-    text.push_str("nodes")?;
-    for node in nodes {
-        let name = node.name;
-        write!(text, " {name}")?;
-    }
-    text.push_str("\n")
+fn add_node(text: &mut String, node: NodeLine<'_>) -> Result<(), AllocError> {
+    let (name, kind, state) = (node.name, kind_word(node.kind), node_state_word(node.state));
+    writeln!(text, "node {name} {kind} {state}")
 }
 
 fn add_line(text: &mut String, number: usize, line: NetLine<'_>) -> Result<(), AllocError> {
-    let (dte, dce, state) = (line.dte, line.dce, state_word(line.state));
+    let (dte, dce, state) = (line.dte, line.dce, line_state_word(line.state));
     writeln!(text, "line {number} dte {dte} dce {dce} {state}")
 }
 
@@ -51,11 +49,14 @@ fn add_call(alloc: Global, text: &mut String, call: &CallLine<'_>) -> Result<(),
     let (from, to) = (call.from.as_str(), call.to.as_str());
     let (node, channel) = (call.node, call.channel);
     let since = utc_text(alloc, call.since)?;
-    let (taken, said) = (call.taken, call.said);
-    writeln!(
+    write!(
         text,
-        "call from {from} to {to} node {node} channel {channel} since {since} taken {taken} said {said}"
-    )
+        "call from {from} to {to} node {node} channel {channel} since {since}"
+    )?;
+    if let Some(CallOctets { taken, said }) = call.octets {
+        write!(text, " taken {taken} said {said}")?;
+    }
+    text.push_str("\n")
 }
 
 fn add_port(text: &mut String, number: usize, port: PortLine) -> Result<(), AllocError> {
