@@ -5,7 +5,10 @@ use Rattle.arrayvec.specs.ArrayVec.{ArrayVec}
 use Rattle.std.proofs.lemmas.List.{append-nil}
 use Rattle.lapb.specs.Machine.{Octets, can_offer}
 use Rattle.line_end.specs.End.{End, offered}
+use Rattle.xot_gateway.specs.declared.calls.LineState.{LineState}
+use Rattle.xot_gateway.specs.declared.calls.LineState.TheVariants as line_is
 use Rattle.xot_gateway.specs.declared.calls.XotCalls.{XotCalls}
+use Rattle.xot_gateway.specs.Calls.{PaysIn, PaysOwed}
 use Rattle.gateway_end.specs.Gives.{Gives, nothing, pays, serves, paid, served}
 use Rattle.gateway_end.specs.GatewayEnd.{GatewayEnd, Pass, with_queued}
 use Rattle.gateway_end.specs.Waiting.{waiting_in}
@@ -77,3 +80,15 @@ pass_asked before after given none gives line waits = record {
 pub none_waits : (next : Option (ArrayVec ℕ)) → is_some next ≡ false → waiting_in next ≡ []
 none_waits None e = refl
 none_waits (Some packet) e = absurd (cc)
+
+-- what is owed changes nothing of what the line carries
+pub pays_line : (answer : Bool) (old packet : Octets) (before after : XotCalls) → PaysOwed answer old packet before after
+    → after.line ≡ before.line
+pays_line answer old packet before after = go before.state
+  where
+    go : (state : LineState) → PaysIn state answer old packet before after → after.line ≡ before.line
+    go line_is.Down paid = ap (λ (calls : XotCalls). calls.line) paid.same
+    go line_is.Restarting paid = ap (λ (calls : XotCalls). calls.line) paid.same
+    go line_is.ToRestart paid = ap (λ (calls : XotCalls). calls.line) paid.changed_to
+    go line_is.ToConfirm paid = ap (λ (calls : XotCalls). calls.line) paid.changed_to
+    go line_is.Ready paid = paid.line

@@ -1,6 +1,6 @@
 -- The link of a gateway and the pool that it alone holds buffers of.
 use Rattle.std.proofs.Common.{◌≡◌, ◌≤◌, ◌<◌, ◌∙◌, ℕ, length, ap, sym, subst, arith}
-use Rattle.flow_window.specs.Pool.{Pool, Balances, Holds, in_use}
+use Rattle.flow_window.specs.Pool.{Balances, Holds, in_use}
 use Rattle.flow_window.proofs.Weights.{weight_ones}
 use Rattle.xot_gateway.specs.declared.line.XotLine.{XotLine}
 use Rattle.xot_gateway.specs.Packets.{most_packet}

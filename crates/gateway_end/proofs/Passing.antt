@@ -3,7 +3,7 @@ use Rattle.std.proofs.Common.{◌≡◌, ◌∙◌, List, [], ◌∷◌, ◌++�
 use Rattle.std.proofs.lemmas.List.{append-nil}
 use Rattle.lapb.specs.declared.note.Note.{Note}
 use Rattle.lapb.specs.Machine.{Octets}
-use Rattle.gateway_end.specs.GatewayEnd.{GatewayEnd, Pass, waiting_after}
+use Rattle.gateway_end.specs.GatewayEnd.{GatewayEnd, waiting_after}
 use Rattle.gateway_end.specs.Laws.{Fate, IsPassed, PassLaw, Runs, begins, dropped, given_in, happens, passed, passes, taken_in}
 
 given-append : (fates more : List Fate) → given_in (fates ++ more) ≡ given_in fates ++ given_in more

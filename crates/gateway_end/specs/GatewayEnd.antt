@@ -1,5 +1,5 @@
 -- The end of a line that a gateway has, and what each call makes of it.
-use Rattle.std.specs.Prelude.{◌≡◌, ℕ, Bool, true, false, List, [], ◌∷◌, ◌++◌, Option, Some, None, if◌then◌else◌, ◌⊎◌}
+use Rattle.std.specs.Prelude.{◌≡◌, ℕ, false, List, [], ◌++◌, Option, Some, None, if◌then◌else◌, ◌⊎◌}
 use Rattle.link_timers.specs.declared.role.Role.TheVariants.{Dte}
 use Rattle.link_timers.specs.Timers.{is_due}
 use Rattle.lapb.specs.declared.note.Note.{Note}

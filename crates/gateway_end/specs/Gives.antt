@@ -1,5 +1,5 @@
 -- The packets that a gateway has for its line, in order.
-use Rattle.std.specs.Prelude.{ℕ, Bool, true, false, List, [], ◌∷◌, ◌++◌}
+use Rattle.std.specs.Prelude.{◌≡◌, ℕ, ◌+◌, Bool, true, false, List, [], ◌∷◌, ◌++◌}
 use Rattle.lapb.specs.Machine.{Octets}
 use Rattle.xot_gateway.specs.declared.calls.XotCalls.{XotCalls}
 use Rattle.xot_gateway.specs.declared.calls.Work.{Work}
@@ -25,3 +25,12 @@ pub data Gives (before : XotCalls) : List Octets → XotCalls → Type 0 where
   serves : (packets : List Octets) (middle after : XotCalls) (number : ℕ) (answer : Work) (old packet : Octets) →
       Gives before packets middle → Serves number answer old packet middle after →
       Gives before (packets ++ served answer packet) after
+
+-- the packet is that of a connection, those that were asked before it had none, and the one after it has the turn
+pub record Turns (turn : ℕ) (before : XotCalls) (packet : Octets) (after : XotCalls) : Type 0 where
+  pub number : ℕ
+  pub next : turn ≡ number + 1
+  pub middle : XotCalls
+  pub asked : Gives before [] middle
+  pub old : Octets
+  pub serves : Serves number work.Sends old packet middle after

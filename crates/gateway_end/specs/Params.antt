@@ -1,5 +1,4 @@
 -- How the end of a gateway is made.
-use Rattle.std.specs.Prelude.{◌≡◌}
 use Rattle.std.specs.Prelude.{false}
 use Rattle.lapb.specs.Params.{AreParams}
 use Rattle.lapb.specs.declared.link.LinkParams.{LinkParams}

@@ -3,7 +3,7 @@ ghost use Rattle.std.specs.Prelude.{◌≡◌, ◌≤◌, ℕ, List, [], length}
 ghost use Rattle.xot_gateway.specs.declared.calls.Work.TheVariants as work;
 ghost use Rattle.xot_gateway.specs.Packets.{most_packet};
 ghost use Rattle.gateway_end.specs.Waiting.{WaitsShort, waiting_in};
-ghost use Rattle.gateway_end.specs.Gives.{Gives, served};
+ghost use Rattle.gateway_end.specs.Gives.{Gives, Turns, served};
 ghost use Rattle.gateway_end.specs.GatewayEnd.{Heeds, waiting_after};
 
 use lapb::Note;
@@ -73,6 +73,7 @@ fn serve_among(
     ensures gives { Gives calls.old (served result packet.new.items) calls.new }
     ensures fits { result ≡ work.Sends → length packet.new.items ≤ most_packet calls.old.line }
     ensures line { calls.new.line ≡ calls.old.line }
+    ensures next { result ≡ work.Sends → Turns turn.new calls.old packet.new.items calls.new }
 {
     let mut work = Work::Nothing;
     for number in from..to {

@@ -1,4 +1,4 @@
-use Rattle.std.proofs.Common.{◌≡◌, ◌∙◌, [], refl, ap}
+use Rattle.std.proofs.Common.{◌∙◌, [], refl, ap}
 use Rattle.xot_gateway.specs.declared.calls.Work.{Work}
 use Rattle.xot_gateway.specs.declared.calls.Work.TheVariants as work
 use Rattle.gateway_end.specs.Gives.{nothing, serves, served}
@@ -31,3 +31,16 @@ loop-number-preserved c = elim c.match-serve.branch [
 
 pub returns-clause-fits : goal.returns-clause-fits
 returns-clause-fits c = λ is. let none = rw is at (c.loop-number.invariant.quiet []) in absurd (cc)
+
+pub returns-in-Sends-clause-next : goal.returns-in-Sends-clause-next
+returns-in-Sends-clause-next c = λ _. record {
+  number = c.loop-number.number;
+  next = refl;
+  middle = c.loop-number.calls;
+  asked = c.loop-number.invariant.gives;
+  old = c.loop-number.packet.items;
+  serves = c.in-Sends.ensures.calls;
+}
+
+pub returns-clause-next : goal.returns-clause-next
+returns-clause-next c = λ is. let none = rw is at (c.loop-number.invariant.quiet []) in absurd (cc)

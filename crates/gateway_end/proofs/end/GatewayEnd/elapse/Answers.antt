@@ -1,4 +1,4 @@
-use Rattle.std.proofs.Common.{◌≡◌, ◌∙◌, true, false, refl, ap, sym, subst}
+use Rattle.std.proofs.Common.{◌∙◌, refl, ap, sym, subst}
 use Rattle.std.specs.Prelude.{is_some}
 use Rattle.link_timers.specs.Timers.{is_due}
 use Rattle.lapb.specs.Machine.{on_t1}
