@@ -212,6 +212,41 @@ const FORMS: &[Edit] = &[
         "line 0: it has neither 'listen' nor 'connect'",
     ),
     (
+        "[[service]]",
+        "[[line]]\nline = 2\nhere = \"dce\"\nto = \"xot\"\n\n[[service]]",
+        "line 0: it has neither 'listen' nor 'connect'",
+    ),
+    (
+        "[[service]]",
+        "[[line]]\nline = 2\nhere = \"dce\"\nto = \"udp\"\n\n[[service]]",
+        "line 0: it has no 'bind'",
+    ),
+    (
+        "[[service]]",
+        "[[line]]\nline = 2\nhere = \"dce\"\nto = \"udp\"\nbind = \"127.0.0.1:5001\"\n\n[[service]]",
+        "line 0: it has no 'partner'",
+    ),
+    (
+        "[[service]]",
+        "[[line]]\nline = 2\nhere = \"dce\"\nto = \"udp\"\nbind = \"127.0.0.1:5001\"\npartner = \"router:5001\"\n\n[[service]]",
+        r#"line 0: partner = "router:5001" has to be an IP address and a port, as 127.0.0.1:7001"#,
+    ),
+    (
+        "[[service]]",
+        "[[line]]\nline = 2\nhere = \"dce\"\nto = \"udp\"\nlisten = \"127.0.0.1:5001\"\n\n[[service]]",
+        r#"line 0: listen is for to = "findravolo" and to = "xot""#,
+    ),
+    (
+        "[[service]]",
+        "[[line]]\nline = 2\nhere = \"dce\"\nto = \"xot\"\nbind = \"127.0.0.1:5001\"\n\n[[service]]",
+        r#"line 0: bind is for to = "udp""#,
+    ),
+    (
+        "[[service]]",
+        "[[line]]\nline = 2\nhere = \"dce\"\nto = \"xot\"\nconnect = \"127.0.0.1:1998\"\nhold = 20\n\n[[service]]",
+        r#"line 0: hold is for to = "findravolo""#,
+    ),
+    (
         "[[caller]]",
         "[[callers]]",
         "no key 'callers' is known here (did you mean 'caller'?)",
@@ -318,6 +353,46 @@ const RULES: &[Edit] = &[
         "127.0.0.1:7100",
         "[::]:7100",
         r#"caller 0: listen = "[::]:7100" is beyond this machine, and allow has to say who may connect"#,
+    ),
+    (
+        "[[service]]",
+        "[[line]]\nline = 2\nhere = \"dte\"\nto = \"xot\"\nconnect = \"127.0.0.1:1998\"\n\n[[service]]",
+        r#"line 0: here = "dte" has to be "dce": equipment is the DTE of its line"#,
+    ),
+    (
+        "[[service]]",
+        "[[line]]\nline = 2\nhere = \"dte\"\nto = \"udp\"\nbind = \"127.0.0.1:5001\"\npartner = \"127.0.0.1:5002\"\n\n[[service]]",
+        r#"line 0: here = "dte" is 'echo', which is no switch: equipment is at a line of a switch"#,
+    ),
+    (
+        "[[service]]",
+        "[[line]]\nline = 1\nhere = \"dce\"\nto = \"xot\"\nconnect = \"127.0.0.1:1998\"\n\n[[service]]",
+        "line 0: line = 1 leads to 'tower', which is no host",
+    ),
+    (
+        "[[service]]",
+        "[[line]]\nline = 0\nhere = \"dce\"\nto = \"udp\"\nbind = \"127.0.0.1:5001\"\npartner = \"127.0.0.1:5002\"\n\n[[service]]",
+        "line 0: line = 0 leads to 'desk', which is neither a host nor a switch",
+    ),
+    (
+        "[[service]]",
+        "[[line]]\nline = 2\nhere = \"dce\"\nto = \"xot\"\nlisten = \"127.0.0.1:7002\"\n\n[[service]]",
+        r#"line 0: listen = "127.0.0.1:7002" stands in another table too, or is control"#,
+    ),
+    (
+        "[[service]]",
+        "[[line]]\nline = 2\nhere = \"dce\"\nto = \"xot\"\nlisten = \"0.0.0.0:1998\"\n\n[[service]]",
+        "line 0: its listen is beyond this machine, and allow has to say who may connect",
+    ),
+    (
+        "[[service]]",
+        "[[line]]\nline = 2\nhere = \"dce\"\nto = \"xot\"\nconnect = \"127.0.0.1:1998\"\n\n[[service]]",
+        r#"service 0: host = "echo" is elsewhere, behind a line of [[line]]"#,
+    ),
+    (
+        "[[service]]",
+        "[[line]]\nline = 2\nhere = \"dce\"\nto = \"udp\"\nbind = \"127.0.0.1:5001\"\npartner = \"127.0.0.1:5002\"\n\n[[line]]\nline = 1\nhere = \"dce\"\nto = \"udp\"\nbind = \"127.0.0.1:5001\"\npartner = \"127.0.0.1:5003\"\n\n[[service]]",
+        r#"line 0: bind = "127.0.0.1:5001" stands in another table too"#,
     ),
     (
         "127.0.0.1:7999",

@@ -59,6 +59,12 @@ pub told_on : {A : Type 0} (Says : A → Type 0) (result : Result A Refusal) (re
 told_on Says (Ok x) refusal told reads = absurd told
 told_on Says (Err e) refusal told reads = rw told reads
 
+-- nothing is read where a refusal is passed on by `?`
+pub nothing_read : {A : Type 0} (Says : A → Type 0) (result : Result A Refusal) (refusal : Refusal)
+    → IsErrAnd result (λ e. e ≡ refusal) → IfOk result Says
+nothing_read Says (Ok x) refusal told = absurd told
+nothing_read Says (Err e) refusal told = tt
+
 -- a table is read as its members are
 pub table_read : {A : Type 0} (Says : Members → A → Type 0) (value : Data) (entry : Members) (result : Result A Refusal)
     → as_table value ≡ Some entry → IfOk result (Says entry) → IfOk result (IsTable Says value)

@@ -1,31 +1,20 @@
--- What the tables of lines to other processes say, and that of a capture, with what stands for what is left out.
+-- What the tables of lines say whose other ends are elsewhere, and that of a capture, with what stands for what is left out.
 use Rattle.std.specs.Prelude.{◌≡◌, ◌≤◌, ℕ, List, [], codes, Option, Some, None, unwrap_or, if◌then◌else◌, ⊤}
-use Rattle.std.specs.Net.Grammar.{IsSocketText}
 use Rattle.toml.specs.Data.{Members}
 use Rattle.net_config.specs.Served.{same_text}
 use Rattle.service_files.specs.declared.file.End.{End}
 use Rattle.service_files.specs.declared.file.End.TheVariants.{Dte, Dce}
-use Rattle.service_files.specs.declared.file.Way.{Way}
-use Rattle.service_files.specs.declared.file.Way.TheVariants.{Listen, Connect}
 use Rattle.service_files.specs.declared.file.LineTable.{LineTable}
 use Rattle.service_files.specs.declared.file.CaptureTable.{CaptureTable}
 use Rattle.service_files.specs.Reads.{text_at, number_at}
 use Rattle.service_files.specs.Says.{SaysAllow}
+use Rattle.service_files.specs.Ways.{SaysWay}
 
 -- ---- `[[line]]`
 
 abbrev pub end_of : Option (List ℕ) → End
 end_of None = Dte
 end_of (Some word) = if same_text word (codes "dce") then Dce else Dte
-
--- either a connection comes, or it is made
-abbrev pub IsWay : (listen connect : Option (List ℕ)) → Way → Type 0
-IsWay (Some text) None (Listen at) = IsSocketText text at
-IsWay None (Some text) (Connect at) = IsSocketText text at
-IsWay _ _ _ = ⊥
-
-abbrev pub SaysWay : Members → Way → Type 0
-SaysWay entry = IsWay (text_at (codes "listen") entry) (text_at (codes "connect") entry)
 
 pub record SaysLine (entry : Members) (table : LineTable) : Type 0 where
   pub line : table.line ≡ unwrap_or (number_at (codes "line") entry) 0

@@ -95,16 +95,69 @@ pub enum End {
     Dce,
 }
 
-/// How a connection to another process comes about.
+/// What the other end of a line is, and how it is reached.
 #[derive(Clone, Copy)]
 pub enum Way {
-    /// It comes to this address.
+    /// Another process of the same network, whose connection comes to this address.
     Listen(SocketAddr),
-    /// It is made to this address.
+    /// Another process of the same network, to which a connection is made at this address.
     Connect(SocketAddr),
+    /// Equipment of another make, each call over a connection of its own (RFC 1613).
+    Xot(XotWay),
+    /// Equipment of another make, each frame in a datagram of UDP.
+    Udp(UdpWay),
 }
 
-/// An end of a line of which the other end is elsewhere, in another process of the same network.
+/// How the connections of calls come about.
+#[derive(Clone, Copy)]
+pub enum XotWay {
+    /// Connections come to this address.
+    Listen(SocketAddr),
+    /// Connections are made to this address.
+    Connect(SocketAddr),
+    /// Connections come to the one address, and are made to the other.
+    Both {
+        listen: SocketAddr,
+        connect: SocketAddr,
+    },
+}
+
+impl XotWay {
+    ghost use Rattle.std.specs.Prelude.{◌≡◌};
+    ghost use Rattle.service_files.specs.Ways.{xot_listen, xot_connect};
+
+    /// Where connections come, if they do.
+    pub fn listen(self) -> Option<SocketAddr>
+        ensures { result ≡ xot_listen self }
+    {
+        match self {
+            XotWay::Listen(listen) | XotWay::Both { listen, .. } => Some(listen),
+            XotWay::Connect(_) => None,
+        }
+    }
+
+    /// Where connections are made to, if they are.
+    pub fn connect(self) -> Option<SocketAddr>
+        ensures { result ≡ xot_connect self }
+    {
+        match self {
+            XotWay::Connect(connect) | XotWay::Both { connect, .. } => Some(connect),
+            XotWay::Listen(_) => None,
+        }
+    }
+}
+
+/// How datagrams go and come.
+#[derive(Clone, Copy)]
+pub struct UdpWay {
+    /// Where they come.
+    pub bind: SocketAddr,
+    /// Where they go to. From elsewhere none is taken.
+    pub partner: SocketAddr,
+}
+
+/// An end of a line of which the other end is elsewhere, in another process of the same network or at equipment of
+/// another make.
 #[derive(Drop)]
 pub struct LineTable {
     /// The number of the line in the network's file, from 0.
@@ -112,10 +165,11 @@ pub struct LineTable {
     /// Which end is here.
     pub here: End,
     pub way: Way,
-    /// After how many ticks without a connection the link is given up.
+    /// After how many ticks without a connection to another process the link is given up.
     pub hold: u16,
-    /// After how many ticks of silence a connection is closed.
+    /// After how many ticks of silence a connection to another process is closed.
     pub silence: u16,
+    /// Who may connect.
     pub allow: Allow,
 }
 

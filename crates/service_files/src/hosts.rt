@@ -20,7 +20,7 @@ const WAIT: u16 = 200;
 /// How many ticks of quiet end a call after a service ended its side, if the file does not say.
 const SERVICE_LINGER: u16 = 40;
 
-/// The same after a caller ended its side.
+/// How many ticks of quiet end a call after a caller ended its side, if the file does not say.
 const CALLER_LINGER: u16 = 1200;
 
 /// How many octets of user data a call has at most (X.25 5.2.1).

@@ -15,7 +15,7 @@ const AT_RESET: Form = Form::Text(TextForm::OneOf(&["clear", "continue"]));
 
 const END: Form = Form::Text(TextForm::OneOf(&["dte", "dce"]));
 
-const PARTNER: Form = Form::Text(TextForm::OneOf(&["findravolo"]));
+const PARTNER: Form = Form::Text(TextForm::OneOf(&["findravolo", "xot", "udp"]));
 
 const SMALL: Form = Form::Number(u16::MAX);
 
@@ -198,7 +198,7 @@ pub(crate) const LIMITS: [Key; 1] = [Key {
     needed: false,
 }];
 
-pub(crate) const LINE: [Key; 8] = [
+pub(crate) const LINE: [Key; 10] = [
     Key {
         name: "line",
         form: SMALL,
@@ -221,6 +221,16 @@ pub(crate) const LINE: [Key; 8] = [
     },
     Key {
         name: "connect",
+        form: TEXT,
+        needed: false,
+    },
+    Key {
+        name: "bind",
+        form: TEXT,
+        needed: false,
+    },
+    Key {
+        name: "partner",
         form: TEXT,
         needed: false,
     },
@@ -264,6 +274,15 @@ pub(crate) const WEB: [Key; 1] = [Key {
     form: TEXT,
     needed: true,
 }];
+
+/// The keys of `[[line]]` that only a line to another process has.
+pub(crate) const OF_PROCESS: [&str; 2] = ["hold", "silence"];
+
+/// The keys that only a line has over which connections are.
+pub(crate) const OF_CONNECTIONS: [&str; 3] = ["listen", "connect", "allow"];
+
+/// The keys that only a line has whose frames are datagrams.
+pub(crate) const OF_DATAGRAMS: [&str; 2] = ["bind", "partner"];
 
 /// The keys of `[[service]]` that only a service to connect to has.
 pub(crate) const OF_CONNECT: [&str; 4] = ["hello", "wait", "at_reset", "linger"];

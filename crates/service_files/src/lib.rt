@@ -8,6 +8,7 @@ mod hosts;
 mod keys;
 mod line_rules;
 mod line_telling;
+mod line_ways;
 mod lines;
 mod places;
 mod reading;
@@ -20,7 +21,7 @@ pub use addresses::{Allow, Prefix};
 pub use checking::{check_service, network_name};
 pub use file::{
     AtReset, BuiltIn, CallerTable, CaptureTable, Connect, End, HostService, LineTable, Mode,
-    ServiceFile, ServiceTable, TerminalsTable, Way,
+    ServiceFile, ServiceTable, TerminalsTable, UdpWay, Way, XotWay,
 };
 pub use line_rules::{BrokenLine, LineRule, first_broken_line, own_nodes};
 pub use reading::{read_document, read_service};

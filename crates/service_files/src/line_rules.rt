@@ -1,4 +1,4 @@
-//! Which nodes of a network are in this process, and the first rule that its lines to other processes break.
+//! Which nodes of a network are in this process, and the first rule that lines break whose other ends are elsewhere.
 ghost use Rattle.std.specs.Prelude.{◌≡◌, ◌<◌, ℕ, true, IfOk, not, length, option_map, set, slice_get};
 ghost use Rattle.std.specs.List.{filter, position, list_all};
 ghost use Rattle.net_config.specs.Rules.{first_of};
@@ -8,11 +8,11 @@ ghost use Rattle.service_files.specs.Lines as spec;
 use crate::addresses::{is_here, same_place};
 use crate::file::{End, LineTable, ServiceFile, Way};
 use crate::rules::{is_apart, node_of};
-use net_config::{Config, LineConfig};
+use net_config::{Config, LineConfig, NodeConfig, NodeKind};
 use std::alloc::{AllocError, Global};
 use std::net::SocketAddr;
 
-/// What does not hold of lines to other processes, or of what is bound at nodes that are elsewhere.
+/// What does not hold of lines whose other ends are elsewhere, or of what is bound at nodes that are elsewhere.
 #[derive(Clone, Copy)]
 pub enum BrokenLine {
     /// This rule, of the table of this place.
@@ -36,20 +36,33 @@ pub enum LineRule {
     NotStanding,
     /// The node at its other end is in another process.
     OtherEndElsewhere,
-    /// No table of terminals or of a caller has its `listen`, nor has `control`.
+    /// If calls of equipment come over it, the end here is the DCE.
+    DceHere,
+    /// If equipment is at its other end, a switch is at the end here.
+    SwitchHere,
+    /// The node at its other end may be equipment: a host, or for datagrams a switch too.
+    EquipmentThere,
+    /// No table of terminals or of a caller has its `listen`, nor has `control`. If calls of equipment come there, no
+    /// other line has it either.
     ListenApart,
+    /// No other table has its `bind`.
+    BindOnce,
     /// If it listens beyond this machine, it says who may connect.
     AllowBeyond,
     /// There is time to hear from the partner.
     SilenceLong,
 }
 
-const LINE_RULES: [LineRule; 7] = [
+const LINE_RULES: [LineRule; 11] = [
     LineRule::LineIsThere,
     LineRule::LineOnce,
     LineRule::NotStanding,
     LineRule::OtherEndElsewhere,
+    LineRule::DceHere,
+    LineRule::SwitchHere,
+    LineRule::EquipmentThere,
     LineRule::ListenApart,
+    LineRule::BindOnce,
     LineRule::AllowBeyond,
     LineRule::SilenceLong,
 ];
@@ -127,7 +140,7 @@ fn mark_at(marks: &mut [bool], node: usize)
     }
 }
 
-/// Marks both nodes of a line, if one of them is marked and the line leads to no other process.
+/// Marks both nodes of a line, if one of them is marked and the other end is not elsewhere.
 fn mark_line(config: &Config, file: &ServiceFile<'_>, number: usize, marks: &mut [bool])
     ensures { marks.new ≡ spec.line_marked config.now file.now number marks.old }
 {
@@ -170,8 +183,8 @@ fn mark_end(config: &Config, file: &ServiceFile<'_>, place: usize, marks: &mut [
     }
 }
 
-/// For each node whether it is in this process: one at the end here of a line to another process, and each that is
-/// reached from it without such a line. If there is no such line, all are.
+/// For each node whether it is in this process: one at the end here of a line whose other end is elsewhere, and each that
+/// is reached from it without such a line. If there is no such line, all are.
 pub fn own_nodes(
     alloc: Global,
     config: &Config,
@@ -244,21 +257,148 @@ fn is_no_caller(file: &ServiceFile<'_>, listen: SocketAddr) -> bool
         .all(|table| !same_place(listen, table.listen))
 }
 
+/// Where connections come over a line, if they do.
+fn listen_of(way: Way) -> Option<SocketAddr>
+    ensures { result ≡ spec.listen_of way }
+{
+    match way {
+        Way::Listen(at) => Some(at),
+        Way::Xot(way) => way.listen(),
+        Way::Connect(_) | Way::Udp(_) => None,
+    }
+}
+
+/// Whether it is this place, if it is one.
+fn is_place(place: SocketAddr, other: Option<SocketAddr>) -> bool
+    ensures { result ≡ spec.is_place place other }
+{
+    match other {
+        Some(other) => same_place(place, other),
+        None => false,
+    }
+}
+
+/// How many lines have connections that come there.
+fn count_listening(file: &ServiceFile<'_>, listen: SocketAddr) -> usize
+    ensures { result ≡ length (filter (spec.listens_at listen) file.now.lines.items) }
+{
+    file.lines
+        .iter()
+        .filter(|table| is_place(listen, listen_of(table.way)))
+        .count()
+}
+
+/// Whether connections of calls come to a place to which nothing else comes.
+fn xot_is_apart(file: &ServiceFile<'_>, listen: Option<SocketAddr>) -> bool
+    ensures { result ≡ spec.xot_is_apart file.now listen }
+{
+    match listen {
+        Some(at) => listens_apart(file, at) && count_listening(file, at) <= 1,
+        None => true,
+    }
+}
+
 fn way_is_apart(file: &ServiceFile<'_>, way: Way) -> bool
     ensures { result ≡ spec.way_is_apart file.now way }
 {
     match way {
         Way::Listen(at) => listens_apart(file, at),
-        Way::Connect(_) => true,
+        Way::Xot(way) => xot_is_apart(file, way.listen()),
+        Way::Connect(_) | Way::Udp(_) => true,
     }
 }
 
 fn is_way_here(way: Way) -> bool
     ensures { result ≡ spec.is_way_here way }
 {
+    match listen_of(way) {
+        Some(at) => is_here(at.ip()),
+        None => true,
+    }
+}
+
+/// Where datagrams come over a line, if they do.
+fn bind_of(way: Way) -> Option<SocketAddr>
+    ensures { result ≡ spec.bind_of way }
+{
     match way {
-        Way::Listen(at) => is_here(at.ip()),
-        Way::Connect(_) => true,
+        Way::Udp(way) => Some(way.bind),
+        Way::Listen(_) | Way::Connect(_) | Way::Xot(_) => None,
+    }
+}
+
+/// How many lines have datagrams that come there.
+fn count_bound(file: &ServiceFile<'_>, bind: SocketAddr) -> usize
+    ensures { result ≡ length (filter (spec.binds_at bind) file.now.lines.items) }
+{
+    file.lines
+        .iter()
+        .filter(|table| is_place(bind, bind_of(table.way)))
+        .count()
+}
+
+fn binds_once(file: &ServiceFile<'_>, bind: Option<SocketAddr>) -> bool
+    ensures { result ≡ spec.binds_once file.now bind }
+{
+    match bind {
+        Some(at) => count_bound(file, at) <= 1,
+        None => true,
+    }
+}
+
+/// Whether the end here of a line is a DCE, if calls of equipment come over it.
+fn is_dce_here(table: &LineTable) -> bool
+    ensures { result ≡ spec.is_dce_here table.now.way table.now.here }
+{
+    match (table.way, table.here) {
+        (Way::Xot(_), End::Dte) => false,
+        _ => true,
+    }
+}
+
+/// The node at an end of the line of a table.
+fn node_in<'a>(config: &'a Config, table: &LineTable, end: End) -> Option<&'a NodeConfig>
+    ensures { option_map (λ node. node.now) result ≡ spec.node_there config.entry.now table.now end }
+{
+    config.nodes.get(node_of_table(config, table, end)?)
+}
+
+fn is_switch(node: Option<&NodeConfig>) -> bool
+    ensures { result ≡ spec.is_switch (option_map (λ node. node.now) node.entry) }
+{
+    match node {
+        Some(node) => matches!(node.kind, NodeKind::Switch),
+        None => false,
+    }
+}
+
+fn is_host(node: Option<&NodeConfig>) -> bool
+    ensures { result ≡ spec.is_host (option_map (λ node. node.now) node.entry) }
+{
+    match node {
+        Some(node) => matches!(node.kind, NodeKind::Host),
+        None => false,
+    }
+}
+
+/// Whether a node may be at the end here of a line.
+fn may_be_here(way: Way, node: Option<&NodeConfig>) -> bool
+    ensures { result ≡ spec.may_be_here way (option_map (λ node. node.now) node.entry) }
+{
+    match way {
+        Way::Listen(_) | Way::Connect(_) => true,
+        Way::Xot(_) | Way::Udp(_) => is_switch(node),
+    }
+}
+
+/// Whether a node may be at the other end of a line.
+fn may_be_there(way: Way, node: Option<&NodeConfig>) -> bool
+    ensures { result ≡ spec.may_be_there way (option_map (λ node. node.now) node.entry) }
+{
+    match way {
+        Way::Listen(_) | Way::Connect(_) => true,
+        Way::Xot(_) => is_host(node),
+        Way::Udp(_) => is_host(node) || is_switch(node),
     }
 }
 
@@ -278,7 +418,14 @@ fn line_keeps(
         LineRule::OtherEndElsewhere => {
             !is_marked(own, node_of_table(config, table, other_end(table.here)))
         }
+        LineRule::DceHere => is_dce_here(table),
+        LineRule::SwitchHere => may_be_here(table.way, node_in(config, table, table.here)),
+        LineRule::EquipmentThere => may_be_there(
+            table.way,
+            node_in(config, table, other_end(table.here)),
+        ),
         LineRule::ListenApart => way_is_apart(file, table.way),
+        LineRule::BindOnce => binds_once(file, bind_of(table.way)),
         LineRule::AllowBeyond => is_way_here(table.way) || table.allow.prefixes.is_some(),
         LineRule::SilenceLong => table.silence >= LEAST_SILENCE,
     }
@@ -374,8 +521,8 @@ fn find_caller_elsewhere(config: &Config, file: &ServiceFile<'_>, own: &[bool]) 
         .position(|table| !is_own(config, own, table.host))
 }
 
-/// The first rule that lines to other processes break, or the first binding at a node that is not one of its own: of
-/// lines, of terminals, of services, of callers, in this order.
+/// The first rule that lines break whose other ends are elsewhere, or the first binding at a node that is not one of its
+/// own: of lines, of terminals, of services, of callers, in this order.
 pub fn first_broken_line(
     config: &Config,
     file: &ServiceFile<'_>,

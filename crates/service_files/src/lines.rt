@@ -1,14 +1,15 @@
-//! How the tables of lines to other processes are read, and that of a capture.
+//! How the tables of lines are read whose other ends are elsewhere, and that of a capture.
 ghost use Rattle.std.specs.Prelude.{◌≡◌, ◌≤◌, IfOk, option_map, unwrap_or};
 ghost use Rattle.toml.specs.View.{view, table_view, items_view};
 ghost use Rattle.service_files.specs.Reads.{EachSays, IsTable, number_at};
-ghost use Rattle.service_files.specs.SaysLine.{end_of, SaysCapture, SaysLine, SaysWay, IsCapture};
+ghost use Rattle.service_files.specs.SaysLine.{end_of, SaysCapture, SaysLine, IsCapture};
 
-use crate::file::{CaptureTable, End, LineTable, Way};
+use crate::file::{CaptureTable, End, LineTable};
 use crate::keys::{CAPTURE, LINE};
-use crate::places::{Place, look_at, tell_at, tell_place};
+use crate::line_ways::read_way;
+use crate::places::{Place, look_at, tell_place};
 use crate::refusal::Refusal;
-use crate::values::{number_at, read_address, read_allow, read_table, text_at};
+use crate::values::{number_at, read_allow, read_table, text_at};
 use std::alloc::Global;
 use std::fmt::Write;
 use toml::{Table, Value};
@@ -62,13 +63,15 @@ fn read_line(
     ensures { IfOk result (SaysLine (table_view table.now)) }
 {
     look_at(alloc, out, place, &LINE, table)?;
+    let way = read_way(out, place, table)?;
+    let allow = read_allow(alloc, out, place, table)?;
     Ok(LineTable {
         line: number_at(table, "line").unwrap_or(0),
         here: end_of(text_at(table, "here")),
+        way,
         hold: number_at(table, "hold").unwrap_or(HOLD),
         silence: number_at(table, "silence").unwrap_or(SILENCE),
-        allow: read_allow(alloc, out, place, table)?,
-        way: read_way(out, place, table)?,
+        allow,
     })
 }
 
@@ -78,23 +81,6 @@ fn end_of(word: Option<&str>) -> End
     match word {
         Some("dce") => End::Dce,
         _ => End::Dte,
-    }
-}
-
-fn read_way(out: &mut String, place: Place, table: &Table) -> Result<Way, Refusal>
-    ensures { IfOk result (SaysWay (table_view table.now)) }
-{
-    match (text_at(table, "listen"), text_at(table, "connect")) {
-        (Some(text), None) => Ok(Way::Listen(read_address(out, place, "listen", text)?)),
-        (None, Some(text)) => Ok(Way::Connect(read_address(out, place, "connect", text)?)),
-        (None, None) => {
-            tell_at(out, place, "it has neither 'listen' nor 'connect'")?;
-            Err(Refusal::Told)
-        }
-        (Some(_), Some(_)) => {
-            tell_at(out, place, "it has both 'listen' and 'connect'")?;
-            Err(Refusal::Told)
-        }
     }
 }
 
