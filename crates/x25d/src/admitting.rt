@@ -35,7 +35,7 @@ impl Shell<'_> {
 
     /// Accepts one who waits at a door, and says whether there was one.
     fn accept_one(&mut self, rt: &HostRuntime, service: &mut Running, number: usize) -> bool {
-        let may_come = self.may_come(number);
+        let may_come = self.may_come(service, number);
         let Some(entrance) = self.sockets.entrances.get_mut(number) else {
             return false;
         };
@@ -78,14 +78,24 @@ impl Shell<'_> {
             .watch(stream, self.places.len().saturating_add(number))
     }
 
-    /// Whether one who waits at a door may come now. Who asks, or wants the page, waits for a place.
-    fn may_come(&self, number: usize) -> bool {
+    /// Whether one who waits at a door may come now. Who asks, or wants the page, waits for a place; who comes to a
+    /// terminal or to call waits until the PAD or the host has started.
+    fn may_come(&self, service: &Running, number: usize) -> bool {
         match self.sockets.entrances.get(number) {
             Some(entrance) => match entrance.leads {
                 Leads::Control => self.controls.iter().any(|place| place.is_none()),
                 Leads::Web => self.visits.iter().any(|place| place.is_none()),
-                _ => true,
+                Leads::Terminals(_, _, node) | Leads::Caller(_, node) => self.runs(service, node),
+                Leads::Line(_, _) | Leads::Equipment(_) => true,
             },
+            None => false,
+        }
+    }
+
+    /// Whether the node of a name has started.
+    fn runs(&self, service: &Running, name: &str) -> bool {
+        match self.names.number(name) {
+            Some(node) => service.runs(node),
             None => false,
         }
     }
@@ -95,6 +105,7 @@ impl Shell<'_> {
         match leads {
             Leads::Control => return self.hear(rt, guest.stream),
             Leads::Web => return self.visit(rt, guest.stream),
+            Leads::Equipment(line) => return self.admit_call(rt, guest, line),
             _ => {}
         }
         match self.port_for(service, leads) {
@@ -103,6 +114,23 @@ impl Shell<'_> {
                 self.log.refuse(rt, guest.from.ip(), guest.at);
                 turn_away(guest.stream, leads);
             }
+        }
+    }
+
+    /// Gives one who came for the equipment at a line a place, and closes the connection if there is none.
+    fn admit_call(&mut self, rt: &HostRuntime, mut guest: Guest, line: u16) {
+        let _ = guest.stream.set_nodelay(true);
+        let first = self.places.len().saturating_add(self.lines.wires());
+        if !self.has_place() {
+            return self.log.refuse(rt, guest.from.ip(), guest.at);
+        }
+        let (stream, from) = (guest.stream, guest.from);
+        match self
+            .equipment
+            .admit(&self.sockets, stream, from, line, first)
+        {
+            Some(number) => self.log.call_came(rt, line, number, from),
+            None => self.log.refuse(rt, from.ip(), guest.at),
         }
     }
 
@@ -134,18 +162,23 @@ impl Shell<'_> {
         match leads {
             Leads::Terminals(table, _, _) => service.attach(table),
             Leads::Caller(caller, _) => service.attach_caller(caller),
-            Leads::Line(_, _) | Leads::Control | Leads::Web => None,
+            Leads::Line(_, _) | Leads::Equipment(_) | Leads::Control | Leads::Web => None,
         }
     }
 
     /// Whether there may be a connection more.
     pub(crate) fn has_place(&self) -> bool {
+        self.equipment.connections() < self.left_by_ports()
+    }
+
+    /// How many connections the ports leave to equipment.
+    pub(crate) fn left_by_ports(&self) -> usize {
         let taken = self
             .places
             .iter()
             .filter(|place| place.peer.is_some())
             .count();
-        taken < usize::from(self.connections)
+        usize::from(self.connections).saturating_sub(taken)
     }
 
     /// Gives one who came this port.

@@ -104,8 +104,11 @@ fn bound_pads(alloc: Global, config: &Config) -> Result<Vec<PadBinding>, AllocEr
     let mut bindings = Vec::new(alloc);
     for (node, found) in config.nodes.iter().enumerate() {
         if let NodeKind::Pad(pad) = &found.kind {
-            let terminals = pad.terminals;
-            bindings.push(PadBinding { node, terminals })?;
+            bindings.push(PadBinding {
+                node,
+                terminals: pad.terminals,
+                channels: channels_at(config, found.name.as_str()),
+            })?;
         }
     }
     Ok(bindings)
@@ -121,16 +124,19 @@ fn bound_hosts(
     for (node, found) in config.nodes.iter().enumerate() {
         if let NodeKind::Host = &found.kind {
             let name = found.name.as_str();
-            let channels = u8::try_from(channels_of(config, name)).unwrap_or(u8::MAX);
-            let service = service_at(file, name);
             bindings.push(HostBinding {
                 node,
-                channels,
-                service,
+                channels: channels_at(config, name),
+                service: service_at(file, name),
             })?;
         }
     }
     Ok(bindings)
+}
+
+/// How many logical channels the line of the node of this name has.
+fn channels_at(config: &Config, name: &str) -> u8 {
+    u8::try_from(channels_of(config, name)).unwrap_or(u8::MAX)
 }
 
 /// The built-in service of the host of this name.

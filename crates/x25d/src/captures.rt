@@ -11,7 +11,7 @@ use std::path::{Path, PathBuf};
 const MEBI: u64 = 1_048_576;
 
 /// From how many octets on what waits is written before the second is over.
-const MUCH: usize = 32_768;
+const MUCH: usize = 16_384;
 
 /// The file that a capture is written to.
 #[derive(Drop)]
@@ -70,6 +70,13 @@ impl Captures {
             service.stop_capture();
         }
         outcome
+    }
+
+    /// Writes what waits, as the service ends. The file ends with a whole block.
+    pub(crate) fn finish(&mut self, service: &mut Running) {
+        if write_waiting(&mut self.file, service).is_err() {
+            let _ = self.file.set_len(self.written);
+        }
     }
 
     fn write_all(&mut self, rt: &HostRuntime, service: &mut Running) -> io::Result<()> {

@@ -1,28 +1,45 @@
 //! What a service prints when it begins.
-use crate::sockets::{Leads, Sockets};
+use crate::sockets::{Entrance, Leads, Sockets};
 use crate::words::CONTROL;
 use service_files::Mode;
 use std::io;
 use std::net::SocketAddr;
 
-/// Prints where terminals and callers come, what can be dialled, and how the service is asked and stopped.
+/// Prints where terminals, callers, lines and equipment come, what can be dialled, and how the service is asked and
+/// stopped.
 pub(crate) fn say_first(
     rt: &HostRuntime,
     sockets: &Sockets<'_>,
     numbers: Option<&str>,
 ) -> io::Result<()> {
     for entrance in &sockets.entrances {
+        say_entrance(rt, entrance)?;
+    }
+    for socket in &sockets.datagrams {
+        say_door(rt, "equipment  udp", socket.at)?;
+    }
+    for entrance in &sockets.entrances {
         let at = entrance.door.at();
         match entrance.leads {
-            Leads::Terminals(_, Mode::Telnet, _) => say_door(rt, "terminals  telnet", at)?,
-            Leads::Terminals(_, Mode::Raw, _) => say_door(rt, "terminals  raw", at)?,
-            Leads::Caller(_, _) => say_door(rt, "callers    tcp", at)?,
-            Leads::Line(_, _) => say_door(rt, "lines      tcp", at)?,
             Leads::Control => say_control(rt, at, numbers)?,
             Leads::Web => println!(rt; "page       http://{at}/")?,
+            _ => {}
         }
     }
     Ok(())
+}
+
+/// Prints where a door for terminals, callers or lines is.
+fn say_entrance(rt: &HostRuntime, entrance: &Entrance<'_>) -> io::Result<()> {
+    let at = entrance.door.at();
+    match entrance.leads {
+        Leads::Terminals(_, Mode::Telnet, _) => say_door(rt, "terminals  telnet", at),
+        Leads::Terminals(_, Mode::Raw, _) => say_door(rt, "terminals  raw", at),
+        Leads::Caller(_, _) => say_door(rt, "callers    tcp", at),
+        Leads::Line(_, _) => say_door(rt, "lines      tcp", at),
+        Leads::Equipment(_) => say_door(rt, "equipment  xot", at),
+        Leads::Control | Leads::Web => Ok(()),
+    }
 }
 
 fn say_door(rt: &HostRuntime, what: &str, at: SocketAddr) -> io::Result<()> {

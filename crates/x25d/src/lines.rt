@@ -1,4 +1,4 @@
-//! Lines to other processes: whose connections come, and whose are asked for.
+//! Lines whose other ends are elsewhere. Those to other processes have connections that come or are asked for.
 use crate::log::Log;
 use crate::serving::Running;
 use crate::sockets::Sockets;
@@ -14,7 +14,7 @@ use std::net::{IpAddr, SocketAddr};
 /// After how many ticks a connection that cannot be had is asked for again, at first.
 const FIRST_PAUSE: u16 = 2;
 
-/// The same at last.
+/// After how many ticks it is asked for again, at most.
 const MOST_PAUSE: u16 = 40;
 
 /// How many may be there who came and have not said hello.
@@ -38,6 +38,11 @@ struct Link<'a> {
 }
 
 impl Link<'_> {
+    /// Whether the line leads to another process.
+    fn is_to_process(&self) -> bool {
+        matches!(self.way, Way::Listen(_) | Way::Connect(_))
+    }
+
     /// Whether one at this address may come to this door for the line.
     fn lets_in(&self, door: usize, from: IpAddr) -> bool {
         self.door == Some(door) && self.allow.allows(from.to_canonical())
@@ -50,7 +55,7 @@ impl Link<'_> {
     }
 }
 
-/// All lines to other processes, in the order of their tables, and places for their connections.
+/// All lines whose other ends are elsewhere, in the order of their tables, and places for connections to other processes.
 #[derive(Drop)]
 pub(crate) struct Lines<'a> {
     links: Vec<Link<'a>>,
@@ -68,12 +73,17 @@ impl<'a> Lines<'a> {
         for table in &file.lines {
             links.push(link_of(table, sockets))?;
         }
-        let count = match links.len() {
+        let count = match links.iter().filter(|link| link.is_to_process()).count() {
             0 => 0,
             lines => lines.saturating_mul(2).saturating_add(MOST_GUESTS),
         };
         let wires = wires(alloc, count)?;
         Ok(Lines { links, wires })
+    }
+
+    /// How many places for connections there are.
+    pub(crate) fn wires(&self) -> usize {
+        self.wires.len()
     }
 
     /// The place of this number for a connection.
@@ -258,7 +268,7 @@ impl<'a> Lines<'a> {
         let link = self.links.get(line)?;
         match link.way {
             Way::Connect(to) => Some((link.number, to)),
-            Way::Listen(_) => None,
+            _ => None,
         }
     }
 
@@ -282,14 +292,11 @@ impl<'a> Lines<'a> {
         Ok(())
     }
 
-    /// Writes what waits on all lines, and says whether anything was written.
-    pub(crate) fn write(&mut self, service: &mut Running) -> bool {
-        let mut any = false;
+    /// Writes what waits on all lines. Nothing waits for the room that this makes.
+    pub(crate) fn write(&mut self, service: &mut Running) {
         for wire in self.wires.iter_mut() {
-            let wrote = wire.write(service);
-            any = any || wrote;
+            wire.write(service);
         }
-        any
     }
 
     /// Whether there is more to do at once.
@@ -297,10 +304,13 @@ impl<'a> Lines<'a> {
         self.wires.iter().any(|wire| wire.is_busy(service))
     }
 
-    /// Does what the lines order, and says whether there was any order.
+    /// Does what the lines to other processes order, and says whether there was any order.
     pub(crate) fn obey(&mut self, rt: &HostRuntime, service: &mut Running, log: &mut Log) -> bool {
         let mut any = false;
         for line in 0..self.links.len() {
+            if !self.is_to_process(line) {
+                continue;
+            }
             for _ in 0..MOST_ORDERS {
                 let Some(order) = service.line_order(line) else {
                     break;
@@ -330,6 +340,14 @@ impl<'a> Lines<'a> {
         }
     }
 
+    /// Whether a line leads to another process.
+    fn is_to_process(&self, line: usize) -> bool {
+        match self.links.get(line) {
+            Some(link) => link.is_to_process(),
+            None => false,
+        }
+    }
+
     /// The number of a line.
     fn number(&self, line: usize) -> Option<u16> {
         Some(self.links.get(line)?.number)
@@ -350,7 +368,7 @@ fn link_of<'a>(table: &'a LineTable, sockets: &Sockets<'_>) -> Link<'a> {
         way: table.way,
         door: match table.way {
             Way::Listen(at) => sockets.line_door(at, table.line),
-            Way::Connect(_) => None,
+            _ => None,
         },
         allow: &table.allow,
         left: 0,

@@ -1,7 +1,7 @@
 //! The log: one line for each thing that happens.
 use crate::clock::seconds_since_1970;
 use crate::names::{Names, call_text};
-use crate::sockets::{Entrance, Leads};
+use crate::sockets::{DatagramSocket, Entrance, Leads};
 use crate::words::VERSION;
 use clock_texts::utc_text;
 use line_carriers::CarrierFault;
@@ -97,11 +97,19 @@ impl Log {
         let line = match entrance.leads {
             Leads::Terminals(_, _, pad) => format!(in rt.alloc(); "bind terminals={at} pad={pad}"),
             Leads::Caller(_, host) => format!(in rt.alloc(); "bind caller={at} host={host}"),
-            Leads::Line(number, _) => format!(in rt.alloc(); "bind line={number} at={at}"),
+            Leads::Line(number, _) | Leads::Equipment(number) => {
+                format!(in rt.alloc(); "bind line={number} at={at}")
+            }
             Leads::Control => format!(in rt.alloc(); "bind control={at}"),
             Leads::Web => format!(in rt.alloc(); "bind web={at}"),
         };
         self.write(rt, line);
+    }
+
+    /// The socket for the datagrams of a line is open.
+    pub(crate) fn bind_datagrams(&mut self, rt: &HostRuntime, socket: &DatagramSocket) {
+        let (number, at) = (socket.line, socket.at);
+        self.write(rt, format!(in rt.alloc(); "bind line={number} at={at}"));
     }
 
     /// A client got a port.
@@ -173,12 +181,12 @@ impl Log {
         self.write(rt, line);
     }
 
-    /// A line to another process is open.
+    /// A line whose other end is elsewhere is up.
     pub(crate) fn line_up(&mut self, rt: &HostRuntime, number: u16) {
         self.write(rt, format!(in rt.alloc(); "line up line={number}"));
     }
 
-    /// A line to another process is closed.
+    /// A line whose other end is elsewhere is down.
     pub(crate) fn line_down(&mut self, rt: &HostRuntime, number: u16) {
         self.write(rt, format!(in rt.alloc(); "line down line={number}"));
     }
@@ -202,6 +210,79 @@ impl Log {
         self.write(
             rt,
             format!(in rt.alloc(); "failed line={number} to={to} reason=\"{why}\""),
+        );
+    }
+
+    /// A connection of equipment came, over which a call is to come.
+    pub(crate) fn call_came(
+        &mut self,
+        rt: &HostRuntime,
+        line: u16,
+        connection: usize,
+        from: SocketAddr,
+    ) {
+        self.write(
+            rt,
+            format!(in rt.alloc(); "attach line={line} connection={connection} from={from}"),
+        );
+    }
+
+    /// The connection of a call to equipment is asked for.
+    pub(crate) fn call_connect(
+        &mut self,
+        rt: &HostRuntime,
+        line: u16,
+        connection: usize,
+        to: SocketAddr,
+    ) {
+        self.write(
+            rt,
+            format!(in rt.alloc(); "connect line={line} connection={connection} to={to}"),
+        );
+    }
+
+    /// The connection of a call to equipment cannot be had.
+    pub(crate) fn call_failed(
+        &mut self,
+        rt: &HostRuntime,
+        line: u16,
+        connection: usize,
+        to: SocketAddr,
+        why: io::Error,
+    ) {
+        self.write(
+            rt,
+            format!(in rt.alloc();
+                "failed line={line} connection={connection} to={to} reason=\"{why}\""
+            ),
+        );
+    }
+
+    /// No connection of a call to equipment is asked for.
+    pub(crate) fn call_refused(
+        &mut self,
+        rt: &HostRuntime,
+        line: u16,
+        connection: usize,
+        why: &str,
+    ) {
+        self.write(
+            rt,
+            format!(in rt.alloc(); "failed line={line} connection={connection} reason=\"{why}\""),
+        );
+    }
+
+    /// A call of equipment has no connection any more.
+    pub(crate) fn call_left(
+        &mut self,
+        rt: &HostRuntime,
+        line: u16,
+        connection: usize,
+        peer: SocketAddr,
+    ) {
+        self.write(
+            rt,
+            format!(in rt.alloc(); "leave line={line} connection={connection} peer={peer}"),
         );
     }
 

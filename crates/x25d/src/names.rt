@@ -1,7 +1,10 @@
 //! What things of a network are called: in the log and in the status.
-use net_config::{Config, NodeKind};
+use crate::serving::Running;
+use crate::states::{line_state, node_state};
+use net_config::{Config, LineConfig, NodeKind};
 use service::{CallChange, CallNote, CallStatus};
-use status_texts::{CallLine, LineState, NetLine, NodeLine, Route, way_of};
+use service_files::node_of;
+use status_texts::{CallLine, CallOctets, LineState, NetLine, NodeLine, Route, way_of};
 use std::alloc::{AllocError, Global};
 
 /// What stands for a name or an address that is not known.
@@ -40,30 +43,55 @@ impl<'a> Names<'a> {
         }
     }
 
-    /// All nodes.
-    pub(crate) fn nodes(&self, alloc: Global) -> Result<Vec<NodeLine<'a>>, AllocError> {
+    /// All nodes, and how far each is.
+    pub(crate) fn nodes(
+        &self,
+        alloc: Global,
+        service: &Running,
+    ) -> Result<Vec<NodeLine<'a>>, AllocError> {
         let mut nodes = Vec::new(alloc);
-        for node in &self.config.nodes {
+        for (number, node) in self.config.nodes.iter().enumerate() {
             nodes.push(NodeLine {
                 name: node.name.as_str(),
                 kind: kind_of(&node.kind),
+                state: node_state(service, number),
             })?;
         }
         Ok(nodes)
     }
 
-    /// All lines. Both ends of each are in this process.
-    pub(crate) fn lines(&self, alloc: Global) -> Result<Vec<NetLine<'a>>, AllocError> {
+    /// All lines, and how far each is.
+    pub(crate) fn lines(
+        &self,
+        alloc: Global,
+        service: &Running,
+    ) -> Result<Vec<NetLine<'a>>, AllocError> {
         let mut lines = Vec::new(alloc);
-        for line in &self.config.lines {
+        for (number, line) in self.config.lines.iter().enumerate() {
             lines.push(NetLine {
                 dte: line.dte.as_str(),
                 dce: line.dce.as_str(),
                 address: line.address.as_str(),
-                state: LineState::Here,
+                state: self.line_state(service, number, line),
             })?;
         }
         Ok(lines)
+    }
+
+    /// How far a line is.
+    fn line_state(&self, service: &Running, number: usize, line: &LineConfig) -> LineState {
+        match (
+            self.number(line.dte.as_str()),
+            self.number(line.dce.as_str()),
+        ) {
+            (Some(dte), Some(dce)) => line_state(service, number, dte, dce),
+            _ => LineState::Elsewhere,
+        }
+    }
+
+    /// The number of the node of a name.
+    pub(crate) fn number(&self, name: &str) -> Option<usize> {
+        node_of(&self.config.nodes, name)
     }
 
     /// All routes.
@@ -79,10 +107,12 @@ impl<'a> Names<'a> {
         Ok(routes)
     }
 
-    /// The calls of these places at hosts, in words, with the lines that they pass over.
+    /// The calls of these places, in words, with the lines that they pass over. A call of a terminal whose other end is
+    /// here too is told by that end, if it is a host or is called.
     pub(crate) fn calls(
         &self,
         alloc: Global,
+        service: &Running,
         lines: &[NetLine<'_>],
         calls: &[CallStatus],
     ) -> Result<Vec<CallLine<'a>>, AllocError> {
@@ -90,13 +120,43 @@ impl<'a> Names<'a> {
         let mut told = Vec::new(alloc);
         for call in calls {
             let mut line = self.call(alloc, call)?;
+            if self.is_told_there(service, call, &line) {
+                continue;
+            }
             line.over = way_of(alloc, lines, &routes, line.from.as_str(), line.to.as_str())?;
             told.push(line)?;
         }
         Ok(told)
     }
 
-    /// A call at a host, in words.
+    /// Whether the other end of a call at a PAD tells of it.
+    fn is_told_there(&self, service: &Running, call: &CallStatus, line: &CallLine<'_>) -> bool {
+        if call.octets.is_some() {
+            return false;
+        }
+        let far = if call.is_ours { &line.to } else { &line.from };
+        match self.node_at(far.as_str()) {
+            Some(node) => service.owns(node) && (call.is_ours || self.is_host(node)),
+            None => false,
+        }
+    }
+
+    /// The number of the node whose line an address names.
+    fn node_at(&self, address: &str) -> Option<usize> {
+        let line = self.config.lines.iter().find(|line| {
+            !line.address.is_empty() && address.starts_with(line.address.as_str())
+        })?;
+        self.number(line.dte.as_str())
+    }
+
+    fn is_host(&self, node: usize) -> bool {
+        match self.config.nodes.get(node) {
+            Some(node) => matches!(node.kind, NodeKind::Host),
+            None => false,
+        }
+    }
+
+    /// A call, in words.
     fn call(&self, alloc: Global, call: &CallStatus) -> Result<CallLine<'a>, AllocError> {
         let far = match &call.far {
             Some(far) => digits_text(alloc, far.digits())?,
@@ -114,11 +174,15 @@ impl<'a> Names<'a> {
             node: self.node(call.node),
             channel: call.channel,
             since: call.since,
-            taken: call.taken,
-            said: call.said,
+            octets: octets_of(call.octets),
             over: Vec::new(alloc),
         })
     }
+}
+
+fn octets_of(octets: Option<service::CallOctets>) -> Option<CallOctets> {
+    let service::CallOctets { taken, said } = octets?;
+    Some(CallOctets { taken, said })
 }
 
 fn kind_of(kind: &NodeKind) -> status_texts::NodeKind {

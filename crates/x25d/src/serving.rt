@@ -3,6 +3,7 @@ use crate::bindings::Bound;
 use crate::captures::Captures;
 use crate::checking::check_octets;
 use crate::clock::micros_since_1970;
+use crate::equipment::Equipment;
 use crate::faults::Fault;
 use crate::files::read_both;
 use crate::first_lines::say_first;
@@ -106,10 +107,12 @@ fn serve(
         Err(error) => return Err(Fault::NoLog(error)),
     };
     let sockets = Sockets::open(rt, file)?;
+    let equipment = equipment_on(rt, network, file)?;
     let mut service = service_on(rt, network, file)?;
     let _ = say_first(rt, &sockets, numbers);
     let names = Names::new(network.config);
-    let outcome = match Shell::new(rt, names, file, sockets, log, service.ports()) {
+    let ports = service.ports();
+    let outcome = match Shell::new(rt, names, file, sockets, equipment, log, ports) {
         Ok(shell) => serve_at(rt, name, file, shell, &mut service),
         Err(error) => Err(Fault::from(error)),
     };
@@ -134,8 +137,18 @@ fn serve_at(
             break;
         }
     }
-    shell.end(rt);
+    shell.end(rt, service);
     Ok(())
+}
+
+/// The lines to equipment of other makes.
+fn equipment_on(
+    rt: &HostRuntime,
+    network: NetworkFile<'_>,
+    file: &ServiceFile<'_>,
+) -> io::Result<Equipment> {
+    let NetworkFile { octets, config } = network;
+    Equipment::new(rt.alloc(), config, file, octets, micros_since_1970(rt)?)
 }
 
 /// A service on a network, or on what of it is this process's own.
@@ -147,8 +160,8 @@ fn service_on(
     let alloc = rt.alloc();
     let NetworkFile { octets, config } = network;
     let share = share_of(alloc, config, file, octets, micros_since_1970(rt)?)?;
-    let net = net_of(alloc, config, share)?;
     let bound = Bound::new(alloc, config, file)?;
+    let net = net_of(alloc, config, share)?;
     Ok(Service::new(alloc, net, config.lines.len(), &bound.bindings())?)
 }
 

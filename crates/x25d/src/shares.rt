@@ -18,9 +18,8 @@ pub(crate) fn share_of(
 ) -> Result<Share, AllocError> {
     let mut remote = Vec::new(alloc);
     for table in &file.lines {
-        if let Some(end) = end_of(config, table) {
-            let hello = Hello::new(network, table.line, end.role, start);
-            remote.push(RemoteLine::new(alloc, end, hello, table.hold, table.silence)?)?;
+        if let Some(end) = near_end(config, table) {
+            remote.push(line_of(alloc, table, end, network, start)?)?;
         }
     }
     Ok(Share {
@@ -29,13 +28,42 @@ pub(crate) fn share_of(
     })
 }
 
+/// The line of a table at one of its ends.
+pub(crate) fn line_of(
+    alloc: Global,
+    table: &LineTable,
+    end: LineEnd,
+    network: &[u8],
+    start: u64,
+) -> Result<RemoteLine, AllocError> {
+    let hello = Hello::new(network, table.line, end.role, start);
+    RemoteLine::new(alloc, end, hello, table.hold, table.silence)
+}
+
 /// The end here of the line of a table.
-fn end_of(config: &Config, table: &LineTable) -> Option<LineEnd> {
-    let line = usize::from(table.line);
+fn near_end(config: &Config, table: &LineTable) -> Option<LineEnd> {
+    end_of(config, table.line, role_of(table.here))
+}
+
+/// The other end of the line of a table.
+pub(crate) fn far_end(config: &Config, table: &LineTable) -> Option<LineEnd> {
+    end_of(config, table.line, role_of(table.here).other())
+}
+
+fn role_of(end: End) -> Role {
+    match end {
+        End::Dte => Role::Dte,
+        End::Dce => Role::Dce,
+    }
+}
+
+/// The end of a line that has this role.
+fn end_of(config: &Config, number: u16, role: Role) -> Option<LineEnd> {
+    let line = usize::from(number);
     let ends = config.lines.get(line)?;
-    let (role, name) = match table.here {
-        End::Dte => (Role::Dte, ends.dte.as_str()),
-        End::Dce => (Role::Dce, ends.dce.as_str()),
+    let name = match role {
+        Role::Dte => ends.dte.as_str(),
+        Role::Dce => ends.dce.as_str(),
     };
     Some(LineEnd {
         line,

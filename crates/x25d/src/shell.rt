@@ -3,6 +3,7 @@ use crate::bridging::connects;
 use crate::captures::Captures;
 use crate::clock::{self, Clock, TICK_MILLIS};
 use crate::controls::{self, Control};
+use crate::equipment::Equipment;
 use crate::lines::Lines;
 use crate::log::Log;
 use crate::names::Names;
@@ -24,13 +25,16 @@ const MOST_EVENTS: usize = 256;
 /// How many orders of the service are done in one turn.
 const MOST_ORDERS: usize = 256;
 
-/// How many rounds the service has in one turn.
-const MOST_ROUNDS: u32 = 64;
+/// How many rounds the service has until what they brought is written.
+const MOST_ROUNDS: u32 = 16;
+
+/// How often the service has rounds in one turn.
+const MOST_PASSES: u32 = 4;
 
 /// All that the shell has.
 #[derive(Drop)]
 pub(crate) struct Shell<'a> {
-    names: Names<'a>,
+    pub(crate) names: Names<'a>,
     /// How many connections there may be at once.
     pub(crate) connections: u16,
     /// The services that connections lead to.
@@ -41,6 +45,7 @@ pub(crate) struct Shell<'a> {
     /// The connections of all ports.
     pub(crate) places: Vec<Place>,
     pub(crate) lines: Lines<'a>,
+    pub(crate) equipment: Equipment,
     pub(crate) controls: Vec<Option<Control>>,
     pub(crate) visits: Vec<Option<Visit>>,
     clock: Clock,
@@ -56,6 +61,7 @@ impl<'a> Shell<'a> {
         names: Names<'a>,
         file: &'a ServiceFile<'_>,
         sockets: Sockets<'a>,
+        equipment: Equipment,
         log: Log,
         ports: usize,
     ) -> io::Result<Self> {
@@ -64,6 +70,7 @@ impl<'a> Shell<'a> {
             connections: file.connections,
             services: connects(rt.alloc(), file)?,
             lines: Lines::new(rt.alloc(), file, &sockets)?,
+            equipment,
             sockets,
             events: Events::with_capacity(rt.alloc(), MOST_EVENTS)?,
             places: places(rt.alloc(), ports)?,
@@ -82,30 +89,35 @@ impl<'a> Shell<'a> {
         for entrance in &self.sockets.entrances {
             self.log.bind(rt, entrance);
         }
+        for socket in &self.sockets.datagrams {
+            self.log.bind_datagrams(rt, socket);
+        }
     }
 
-    /// Tells the log that the service has ended.
-    pub(crate) fn end(&mut self, rt: &HostRuntime) {
+    /// Writes the rest of what was captured, and tells the log that the service has ended.
+    pub(crate) fn end(&mut self, rt: &HostRuntime, service: &mut Running) {
+        if let Some(captures) = self.captures.as_mut() {
+            captures.finish(service);
+        }
         self.log.stopped(rt);
     }
 
     /// Waits for something to happen, does what is to be done, and says whether the service goes on.
     pub(crate) fn turn(&mut self, rt: &HostRuntime, service: &mut Running) -> io::Result<bool> {
         self.wait()?;
-        let came = self.accept(rt, service);
         let ticks = self.pass_time(rt, service)?;
+        self.turn_lines(rt, service, ticks);
+        let came = self.accept(rt, service);
         self.tell_made(rt, service);
         self.read(service);
-        self.turn_lines(rt, service, ticks);
-        let more = work(service);
-        let wrote = self.write(service);
-        let sent = self.lines.write(service);
+        let more = self.work(rt, service);
+        let moved = self.turn_equipment(rt, service, ticks);
         let obeyed = self.obey(rt, service);
         let told = self.lines.obey(rt, service, &mut self.log);
         self.serve_controls(rt, service, ticks);
         self.serve_visits(rt, service, ticks);
         self.write_captured(rt, service);
-        self.busy = came || more || wrote || sent || obeyed || told || self.is_busy(service);
+        self.busy = came || more || moved || obeyed || told || self.is_busy(service);
         Ok(!service.has_stopped())
     }
 
@@ -114,17 +126,18 @@ impl<'a> Shell<'a> {
         let millis = if self.busy { 0 } else { TICK_MILLIS };
         self.sockets.wait(&mut self.events, millis)?;
         let doors = self.sockets.entrances.len();
+        let wires = doors.wrapping_add(self.places.len());
+        let calls = wires.wrapping_add(self.lines.wires());
         for event in self.events.iter() {
             let Token(token) = event.token();
             if let Some(entrance) = self.sockets.entrances.get_mut(token) {
                 entrance.door.report();
             } else if let Some(place) = self.places.get_mut(token.wrapping_sub(doors)) {
                 place.connection.report(event);
-            } else if let Some(wire) = self
-                .lines
-                .wire_mut(token.wrapping_sub(doors).wrapping_sub(self.places.len()))
-            {
+            } else if let Some(wire) = self.lines.wire_mut(token.wrapping_sub(wires)) {
                 wire.connection.report(event);
+            } else {
+                self.equipment.report(token.wrapping_sub(calls), event);
             }
         }
         Ok(())
@@ -144,11 +157,58 @@ impl<'a> Shell<'a> {
         Ok(ticks)
     }
 
+    /// Gives the service its rounds, and writes what they bring, on lines first. What is written at a port makes room for
+    /// more there. The answer is whether more may be left.
+    fn work(&mut self, rt: &HostRuntime, service: &mut Running) -> bool {
+        for _ in 0..MOST_PASSES {
+            let more = self.give_rounds(rt, service);
+            self.lines.write(service);
+            let wrote = self.write(service);
+            if !more && !wrote {
+                return false;
+            }
+        }
+        true
+    }
+
+    /// Gives the service its rounds, and says whether more may be left. What comes from ends that are elsewhere, and goes to
+    /// them, moves before each round. What a round captured is written after it, if it is much, so that the next one finds
+    /// room.
+    fn give_rounds(&mut self, rt: &HostRuntime, service: &mut Running) -> bool {
+        if service.remote_lines() == 0 && self.captures.is_none() {
+            return service.work(MOST_ROUNDS);
+        }
+        for _ in 0..MOST_ROUNDS {
+            let served = service.serve_lines();
+            let worked = service.work(1);
+            self.write_captured(rt, service);
+            if !worked && !served {
+                return false;
+            }
+        }
+        true
+    }
+
     /// Reads what came on lines to other processes, and asks for connections of those that have none.
     fn turn_lines(&mut self, rt: &HostRuntime, service: &mut Running, ticks: u16) {
         let ports = self.places.len();
         self.lines
             .turn(rt, service, &mut self.log, &self.sockets, ports, ticks);
+    }
+
+    /// Moves what is there on lines to equipment, and says whether there was anything.
+    fn turn_equipment(&mut self, rt: &HostRuntime, service: &mut Running, ticks: u16) -> bool {
+        let first = self.places.len().saturating_add(self.lines.wires());
+        let most = self.left_by_ports();
+        self.equipment.turn(
+            rt,
+            service,
+            &mut self.log,
+            &self.sockets,
+            ticks,
+            first,
+            most,
+        )
     }
 
     /// Writes what was captured. If it cannot be written, the capture ends, and nothing else.
@@ -268,20 +328,4 @@ impl<'a> Shell<'a> {
             }
         }
     }
-}
-
-/// Gives the service its rounds, and says whether more may be left. What goes to other processes, and comes from them, moves
-/// after each round.
-fn work(service: &mut Running) -> bool {
-    if service.remote_lines() == 0 {
-        return service.work(MOST_ROUNDS);
-    }
-    for _ in 0..MOST_ROUNDS {
-        let worked = service.work(1);
-        let served = service.serve_lines();
-        if !worked && !served {
-            return false;
-        }
-    }
-    true
 }

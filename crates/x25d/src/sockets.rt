@@ -1,13 +1,16 @@
 //! The sockets at which connections are accepted, and the system's poll, which tells of all.
 use crate::faults::Fault;
-use mio::net::TcpStream;
+use mio::net::{TcpStream, UdpSocket};
 use mio::{Events, Interest, Poll, Token};
-use service_files::{Allow, Mode, ServiceFile, Way};
+use service_files::{Allow, LineTable, Mode, ServiceFile, Way};
 use std::alloc::AllocError;
 use std::io;
 use std::net::{IpAddr, SocketAddr};
 use std::time::Duration;
 use tcp_sockets::Door;
+
+/// The token under which the system tells of datagrams. All sockets for them are read in each turn.
+const DATAGRAMS: Token = Token(usize::MAX);
 
 /// Where a door leads to.
 #[derive(Clone, Copy)]
@@ -18,6 +21,8 @@ pub(crate) enum Leads<'a> {
     Caller(usize, &'a str),
     /// To lines to other processes; the first of those that come here has this number.
     Line(u16, SocketAddr),
+    /// To calls of the equipment at the line of this number.
+    Equipment(u16),
     /// To the control port.
     Control,
     /// To the page.
@@ -43,15 +48,24 @@ impl Entrance<'_> {
     }
 }
 
-/// All doors, and the system's poll.
+/// A socket for the datagrams of a line of this number, and where it is.
+#[derive(Drop)]
+pub(crate) struct DatagramSocket {
+    pub(crate) socket: UdpSocket,
+    pub(crate) line: u16,
+    pub(crate) at: SocketAddr,
+}
+
+/// All doors, the sockets for datagrams in the order of their tables, and the system's poll.
 #[derive(Drop)]
 pub(crate) struct Sockets<'a> {
     poll: Poll,
     pub(crate) entrances: Vec<Entrance<'a>>,
+    pub(crate) datagrams: Vec<DatagramSocket>,
 }
 
 impl<'a> Sockets<'a> {
-    /// Opens the doors of a service file.
+    /// Opens the sockets of a service file.
     pub(crate) fn open(rt: &HostRuntime, file: &'a ServiceFile<'_>) -> Result<Self, Fault> {
         let mut sockets = Sockets::without_doors(rt)?;
         for (place, table) in file.terminals.iter().enumerate() {
@@ -63,11 +77,7 @@ impl<'a> Sockets<'a> {
             sockets.add(rt, table.listen, leads, Some(&table.allow))?;
         }
         for table in &file.lines {
-            if let Way::Listen(at) = table.way
-                && sockets.line_door(at, table.line).is_none()
-            {
-                sockets.add(rt, at, Leads::Line(table.line, at), None)?;
-            }
+            sockets.add_line(rt, table)?;
         }
         if let Some(web) = file.web {
             sockets.add(rt, web, Leads::Web, None)?;
@@ -76,6 +86,44 @@ impl<'a> Sockets<'a> {
             sockets.add(rt, control, Leads::Control, None)?;
         }
         Ok(sockets)
+    }
+
+    /// Opens the socket of a line, if it has one and shares none.
+    fn add_line(&mut self, rt: &HostRuntime, table: &'a LineTable) -> Result<(), Fault> {
+        let line = table.line;
+        match table.way {
+            Way::Listen(at) if self.line_door(at, line).is_none() => {
+                self.add(rt, at, Leads::Line(line, at), None)
+            }
+            Way::Listen(_) | Way::Connect(_) => Ok(()),
+            Way::Xot(way) => match way.listen() {
+                Some(at) => self.add(rt, at, Leads::Equipment(line), Some(&table.allow)),
+                None => Ok(()),
+            },
+            Way::Udp(way) => self.bind(rt, way.bind, line),
+        }
+    }
+
+    /// Opens the socket for datagrams of a line.
+    fn bind(&mut self, rt: &HostRuntime, at: SocketAddr, line: u16) -> Result<(), Fault> {
+        match self.bound(rt, at, line) {
+            Ok(socket) => Ok(self.keep(socket)?),
+            Err(error) => Err(Fault::NoSocket(at, error)),
+        }
+    }
+
+    fn keep(&mut self, socket: DatagramSocket) -> Result<(), AllocError> {
+        self.datagrams.push(socket)?;
+        Ok(())
+    }
+
+    fn bound(&self, rt: &HostRuntime, at: SocketAddr, line: u16) -> io::Result<DatagramSocket> {
+        let mut socket = UdpSocket::bind(rt, at)?;
+        self.poll
+            .registry()
+            .register(&mut socket, DATAGRAMS, Interest::READABLE)?;
+        let at = socket.local_addr()?;
+        Ok(DatagramSocket { socket, line, at })
     }
 
     /// The number of the door that a line of this number has, which is to listen at this address: lines may share one.
@@ -90,6 +138,7 @@ impl<'a> Sockets<'a> {
         Ok(Sockets {
             poll: Poll::new(rt)?,
             entrances: Vec::new(rt.alloc()),
+            datagrams: Vec::new(rt.alloc()),
         })
     }
 

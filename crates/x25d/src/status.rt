@@ -14,12 +14,12 @@ pub(crate) fn status_of<'a>(
     names: Names<'a>,
     log: &Log,
 ) -> Result<Status<'a>, AllocError> {
-    let lines = names.lines(alloc)?;
+    let lines = names.lines(alloc, service)?;
     Ok(Status {
         version: VERSION,
         seconds: log.seconds,
-        nodes: names.nodes(alloc)?,
-        calls: names.calls(alloc, &lines, &calls_of(alloc, service)?)?,
+        nodes: names.nodes(alloc, service)?,
+        calls: names.calls(alloc, service, &lines, &calls_of(alloc, service)?)?,
         lines,
         counts: log.counts,
         ports: ports_of(alloc, service)?,

@@ -156,21 +156,20 @@ impl Wire {
         Turn::Goes
     }
 
-    /// Writes what waits on the line, as long as there is room, and says whether anything was written.
-    pub(crate) fn write(&mut self, service: &mut Running) -> bool {
+    /// Writes what waits on the line, as long as there is room.
+    pub(crate) fn write(&mut self, service: &mut Running) {
         let Stage::Stands(line) = self.stage else {
-            return false;
+            return;
         };
-        for calls in 0..MOST_CALLS {
+        for _ in 0..MOST_CALLS {
             if service.line_waiting(line).is_empty() {
-                return calls > 0;
+                return;
             }
             match self.connection.write(service.line_waiting(line)) {
                 Written::Octets(count) => service.line_written(line, count),
-                Written::Nothing | Written::Loss => return calls > 0,
+                Written::Nothing | Written::Loss => return,
             }
         }
-        true
     }
 
     /// Whether there is more to do at once.
