@@ -416,5 +416,18 @@ def flat(program: str) -> None:
             raise Failed(f"memory grew from {before} to {service.resident()} kilobytes")
 
 
+def told_once(program: str) -> None:
+    """A call between terminals of one service is told once in the status, by the PAD that is called."""
+    with bridged(program, says_back) as service:
+        with Client(service.terminals()) as client, Client(service.terminals(1)) as other:
+            other.wait(b"clears the call.\r\n")
+            client.dial("1002")
+            service.wait_status("call from 1001 to 1002 node south channel ")
+            expect(service.ask("status").count("\ncall from "), 1, "how many calls are told")
+            client.leave()
+            wait_until(lambda: "\ncall from " not in service.ask("status"), "the end of the call in the status")
+        service.stop()
+
+
 CASES = (one_way, both_ways, half_close, never_taken, killed_service, dialled, hello, refused, late, several,
-         all_at_once, reset, killed_client, full, stopped, told, flat)
+         all_at_once, reset, killed_client, full, stopped, told, told_once, flat)

@@ -208,12 +208,51 @@ def two(program: str) -> None:
         with Client(here.terminals()) as client, Client(there.terminals()) as other:
             other.wait(b"clears the call.\r\n")
             client.dial("1002")
+            for service, node in ((here, "desk"), (there, "gate")):
+                service.wait_status(f"call from 1001 to 1002 node {node} channel ")
             client.type("are you there")
             other.wait(b"are you there")
             other.type("I am")
             client.wait(b"I am")
         here.wait_log(r"line up line=\d+")
         there.wait_log(r"line up line=\d+")
+        status = here.ask("status")
+        for told in ("node desk pad up\n", "node gate pad elsewhere\n", "line 2 dte desk dce west up\n",
+                     "line 5 dte west dce east up\n", "line 1 dte gate dce east elsewhere\n"):
+            expect(told in status, True, f"whether {told!r} is in the status")
+
+
+def early(program: str) -> None:
+    """Who comes before a PAD has started waits until it has. Nobody is at the other end of its line."""
+    alone = HEAD + AT_DESK + line("desk", "dte", f'connect = "127.0.0.1:{free_port()}"')
+    with Lined(program, network(), alone) as here:
+        begun = time.monotonic()
+        expect("node desk pad starting\n" in here.ask("status"), True, "whether the PAD starts, as the status has it")
+        with Client(here.terminals()) as client:
+            client.wait(b"Terminal 0 of desk.")
+        if not 2 * SILENCE / 20 - 2 < time.monotonic() - begun < 2 * SILENCE / 20 + 8:
+            raise Failed(f"the client had to wait for {time.monotonic() - begun:.1f} seconds")
+        here.wait_status("node desk pad up\n")
+        here.wait_status("line 2 dte desk dce west down\n")
+
+
+def stops(program: str) -> None:
+    """A service with lines stops soon, whether its partner is there or not, and calls over them are cleared at once."""
+    with both(program, says_back, hold=600) as (here, there, _):
+        with Client(there.terminals()) as client, Client(here.terminals()) as caller:
+            client.wait(b"clears the call.\r\n")
+            caller.dial("1002")
+            client.wait(b"COM")
+            stop_soon(here)
+            client.wait(b"CLR ", patience=5.0)
+        stop_soon(there)
+
+
+def stop_soon(service: Filed) -> None:
+    begun = time.monotonic()
+    service.stop()
+    if time.monotonic() - begun > 5:
+        raise Failed(f"stopping took {time.monotonic() - begun:.1f} seconds")
 
 
 def three(program: str) -> None:
@@ -271,8 +310,10 @@ def killed(program: str) -> None:
             client.says_back("before")
             there.process.kill()
             there.process.wait()
+            here.wait_status("line 5 dte west dce east down\n")
             there = kept.enter_context(east(program, library.address, port))
             client.wait(b"CLR ")
+            here.wait_status("line 5 dte west dce east up\n")
             client.dial_until_answered("2001")
             client.says_back("the service there was killed")
         with Client(there.terminals()) as client:
@@ -289,18 +330,31 @@ def killed(program: str) -> None:
             client.says_back("the service here was killed")
 
 
-def away(program: str) -> None:
-    """A partner that is away for long is given up: who called is told."""
-    with both(program, says_back, Between) as (here, _, between):
+def given_up(program: str, lose, hold: int = HOLD) -> None:
+    """A partner is lost, and its line is given up after a time: who called is told."""
+    with both(program, says_back, Between, hold=hold) as (here, _, between):
         with Client(here.terminals()) as client:
             client.dial("2001")
             client.says_back("before")
-            between.leave()
+            lose(between)
             begun = time.monotonic()
             client.wait(b"CLR ")
-            if not HOLD / 20 - 1 < time.monotonic() - begun < HOLD / 20 + 8:
+            if not hold / 20 - 1 < time.monotonic() - begun < hold / 20 + 8:
                 raise Failed(f"the call ended after {time.monotonic() - begun:.1f} seconds")
         here.wait_log(r"line down line=\d+")
+
+
+def away(program: str) -> None:
+    """A partner that is away for long is given up."""
+    given_up(program, Between.leave)
+
+
+def brief(program: str) -> None:
+    """So is one whose port takes each connection and closes it at once."""
+    def close_each(between: Between) -> None:
+        between.port = free_port()
+        between.cut()
+    given_up(program, close_each, 3 * HOLD)
 
 
 def silent(program: str) -> None:
@@ -371,4 +425,4 @@ def checked(program: str) -> None:
                 raise Failed(f"of {new!r} it is told {done.stdout!r}, with status {done.returncode}")
 
 
-CASES = (cut, killed, away, silent, slow, by_octets, three, two, other_file, stranger, checked)
+CASES = (cut, killed, away, brief, early, stops, silent, slow, by_octets, three, two, other_file, stranger, checked)

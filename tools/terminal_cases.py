@@ -224,7 +224,8 @@ def ending(service: BuiltIn) -> None:
         client.wait(b"clears the call.\r\n")
         client.dial("2001")
         status = service.ask("status")
-        if not re.match(r"x25d \d+\.\d+\.\d+ up \d+ s\nnodes exchange desk echo time own\n(?:lines? .*\n)*"
+        if not re.match(r"x25d \d+\.\d+\.\d+ up \d+ s\nnode exchange switch up\nnode desk pad up\n(?:node \w+ host up\n){3}"
+                        r"(?:line \d dte \w+ dce exchange up\n){4}"
                         r"clients \d+ refused 0 lines-lost 0 lines-withheld \d+\n(?:call .*\n)?"
                         r"port 0 in use keys 0 octets 0 overtaken 0\nport 1 free\n", status):
             raise Failed(f"the status is {status!r}")

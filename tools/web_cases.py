@@ -88,9 +88,10 @@ def status_shown(program: str) -> None:
     """The status as JSON has the network, and a call that comes and goes."""
     with Paged(program) as service:
         status = service.shown()
-        expect([(node["name"], node["kind"]) for node in status["nodes"]],
-               [("exchange", "switch"), ("desk", "pad"), ("echo", "host"), ("time", "host")], "the nodes")
-        expect(status["lines"][1], {"dte": "echo", "dce": "exchange", "address": "2001", "state": "here"}, "a line")
+        expect([(node["name"], node["kind"], node["state"]) for node in status["nodes"]],
+               [("exchange", "switch", "up"), ("desk", "pad", "up"), ("echo", "host", "up"), ("time", "host", "up")],
+               "the nodes")
+        expect(status["lines"][1], {"dte": "echo", "dce": "exchange", "address": "2001", "state": "up"}, "a line")
         expect((status["calls"], status["ports"][0]["in_use"]), ([], False), "calls and the first port before a call")
         expect(status["version"] + "\n", (repository.TOP / "VERSION").read_text(), "the version")
         with Client(service.terminals()) as client:

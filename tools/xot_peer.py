@@ -12,17 +12,15 @@ import struct
 import sys
 import threading
 
+from serving import Failed
+
 PATIENCE = 30.0
 CALL, ACCEPTED, CLEAR, CLEAR_CONFIRMATION = 0x0B, 0x0F, 0x13, 0x17
 INTERRUPT, INTERRUPT_CONFIRMATION, RESET, RESET_CONFIRMATION = 0x23, 0x27, 0x1B, 0x1F
 RR, RNR = 0x01, 0x05
 
 
-class Failed(Exception):
-    """What the other side did, and should not have."""
-
-
-class Cleared(Exception):
+class Cleared(Failed):
     """The call was cleared, with this cause and diagnostic."""
 
     def __init__(self, cause: int, diagnostic: int):
@@ -108,6 +106,7 @@ class Call:
         self.stream, self.extended, self.channel = stream, extended, channel
         self.modulus = 128 if extended else 8
         self.size, self.window = size, window
+        self.called, self.calling = "", ""
         self.asked = b""
         self.user_data = b""
         self.messages: list[tuple[bool, bytes]] = []
@@ -253,21 +252,28 @@ class Listener:
         self.socket.settimeout(PATIENCE)
         self.port = self.socket.getsockname()[1]
 
-    def take(self, *, size: int = 1024, window: int = 127, cause: int | None = None) -> Call | None:
-        """Takes the next call, with at most this size and window; with a cause, refuses it."""
+    def __enter__(self):
+        return self
+
+    def __exit__(self, *_):
+        self.socket.close()
+
+    def take(self, *, size: int = 1024, window: int = 127, cause: int | None = None,
+             answered: bytes | None = None) -> Call | None:
+        """Takes the next call, with at most this size and window, or with these facilities; with a cause, refuses it."""
         stream = Stream(self.socket.accept()[0])
         packet = stream.read()
         extended = packet[0] // 16 % 4 == 2
         taken = Call(stream, extended, 256 * (packet[0] % 16) + packet[1], 128, 2)
         if packet[2] != CALL:
             raise Failed(f"packet {packet.hex()}")
-        _, _, taken.asked, taken.user_data = split_block(packet[3:])
+        taken.called, taken.calling, taken.asked, taken.user_data = split_block(packet[3:])
         if cause is not None:
             taken.clear(cause)
             return None
         most_size, most_window = flow_asked(taken.asked, 128, 2)
         taken.size, taken.window = min(size, most_size), min(window, most_window)
-        field = facilities(taken.size, taken.window)
+        field = facilities(taken.size, taken.window) if answered is None else answered
         taken.write(ACCEPTED, bytes([0, len(field)]) + field)
         return taken
 
