@@ -13,7 +13,8 @@ from typing import NamedTuple
 import bridge_cases
 import line_cases
 import repository
-from serving import Client, Failed, Filed, Peer, Running, expect, says_back, wait_until, written
+from serving import (Client, Failed, Filed, Peer, Running, called, digest, expect, pour, read_all, says_back,
+                     some_octets, tells_digest, wait_until, written)
 
 # The kinds of blocks, the number that tells the order of a file's octets, and the type of an interface whose packets say
 # themselves how they are to be read.
@@ -28,6 +29,9 @@ PACKETS = {0x0B: "call", 0x0F: "accepted", 0x13: "clear", 0x17: "cleared"}
 
 # What a terminal's call brings on each line on its way, from the DTE and from the DCE.
 OF_CALL = {True: {"SABM", "call", "data", "clear"}, False: {"UA", "accepted", "data", "cleared"}}
+
+# How many octets go over a call so that a capture of two files of a MiB goes round.
+MUCH = 700_000
 
 
 class Frame(NamedTuple):
@@ -141,6 +145,27 @@ def drawn(path: str, network: str) -> str:
     return done.stdout
 
 
+def files_go_round(program: str) -> None:
+    """A capture of two files of a MiB each: the next one begins once one is full, and then the first one anew."""
+    with tempfile.TemporaryDirectory() as folder, Peer(tells_digest) as library:
+        text = bridge_cases.bindings(library.address, rest=capture(files=2))
+        with Captured(program, folder, bridge_cases.network(), text, ("2001",)) as service:
+            octets = some_octets(MUCH, 21)
+            for _ in range(2):
+                with called(service.callers()) as call:
+                    pour(call, octets)
+                    expect(read_all(call).decode(), f"{len(octets)} {digest(octets)}\n", "what the service tells")
+            service.stop()
+        names = [f"{folder}/x25.pcapng", f"{folder}/x25.1.pcapng"]
+        expect(sorted(os.listdir(folder)), ["network.toml", "service.toml", "x25.1.pcapng", "x25.pcapng"], "the files")
+        old, new = sorted((frames_in(name) for name in names), key=lambda frames: frames[0].micros)
+        if old[-1].micros > new[0].micros:
+            raise Failed("a file begins before the one before it ends")
+        sizes = sorted(os.path.getsize(name) for name in names)
+        if not 1 << 20 <= sizes[1] < (1 << 20) + (1 << 17):
+            raise Failed(f"the files have {sizes} octets")
+
+
 def full_disk(program: str) -> None:
     """A capture that cannot be written ends, with a line in the log. Calls go on."""
     with tempfile.TemporaryDirectory() as folder, Peer(says_back) as library:
@@ -154,4 +179,4 @@ def full_disk(program: str) -> None:
             service.stop()
 
 
-CASES = (call_captured, full_disk)
+CASES = (files_go_round, call_captured, full_disk)

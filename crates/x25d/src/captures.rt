@@ -10,9 +10,6 @@ use std::path::{Path, PathBuf};
 /// How many octets a MiB has.
 const MEBI: u64 = 1_048_576;
 
-/// From how many octets on what waits is written before the second is over.
-const MUCH: usize = 16_384;
-
 /// The file that a capture is written to.
 #[derive(Drop)]
 pub(crate) struct Captures {
@@ -52,15 +49,15 @@ impl Captures {
         })
     }
 
-    /// Writes what waits, if a second is over or much waits, and begins the next file once one is full. An error is the
-    /// system's, and stops the capture: the file ends with a whole block.
+    /// Writes what waits, and begins the next file once one is full. An error is the system's, and stops the capture: the file
+    /// ends with a whole block.
     pub(crate) fn write(
         &mut self,
         rt: &HostRuntime,
         service: &mut Running,
         second: u64,
     ) -> io::Result<()> {
-        if second == self.second && service.captured().len() < MUCH {
+        if second == self.second && service.captured().is_empty() {
             return Ok(());
         }
         self.second = second;
