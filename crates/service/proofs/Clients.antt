@@ -1,7 +1,7 @@
 -- What is done at the port of a client, from when it came.
 use Rattle.std.proofs.Common.{◌≡◌, ◌+◌, ◌*◌, ℕ, Bool, true, false, List, [], ◌∷◌, ◌++◌, refl, sym, ap, ◌∙◌, subst, append-nil, cond, take, drop, length, Some, ◌-◌, ◌&&◌, ◌==◌}
 use Rattle.std.specs.Prelude.{nat_le, nat_lt}
-use Rattle.service_ports.specs.declared.command.Command.TheVariants.{NoOperation}
+use Rattle.service_ports.specs.declared.command.TelnetCommand.TheVariants.{NoOperation}
 use Rattle.service_ports.specs.declared.mode.Mode.{Mode}
 use Rattle.service_ports.specs.declared.mode.Mode.TheVariants.{Telnet, Raw}
 use Rattle.service_ports.specs.Modes.{is_telnet, with_shown}

@@ -1,8 +1,8 @@
 -- What a port heard of its client, and what a client reads of a port.
 use Rattle.std.proofs.Common.{◌≡◌, ℕ, false, List, [], ◌∷◌, ◌++◌, refl, sym, ap, ◌∙◌, subst, append_assoc, append-nil, take, drop, map}
 use Rattle.std.proofs.lemmas.List.{take-append-drop}
-use Rattle.service_ports.specs.declared.command.Command.{Command}
-use Rattle.service_ports.specs.declared.command.Command.TheVariants.{NoOperation}
+use Rattle.service_ports.specs.declared.command.TelnetCommand.{TelnetCommand}
+use Rattle.service_ports.specs.declared.command.TelnetCommand.TheVariants.{NoOperation}
 use Rattle.service_ports.specs.declared.input.TelnetReader.{TelnetReader}
 use Rattle.service_ports.specs.declared.input.Key.{Key}
 use Rattle.service_ports.specs.declared.input.Key.TheVariants.{Octet}
@@ -26,7 +26,7 @@ abbrev pub keys_from : Mode → TelnetReader → List ℕ → List Key
 keys_from mode r [] = []
 keys_from mode r (octet ∷ octets) = key_in (reads_in mode r octet).heard ++ keys_from mode (reads_in mode r octet).reader octets
 
-abbrev pub answers_from : Mode → TelnetReader → List ℕ → List Command
+abbrev pub answers_from : Mode → TelnetReader → List ℕ → List TelnetCommand
 answers_from mode r [] = []
 answers_from mode r (octet ∷ octets) = answer_in (reads_in mode r octet).heard ++ answers_from mode (reads_in mode r octet).reader octets
 
@@ -56,11 +56,11 @@ no_answers : (r : TelnetReader) (octets : List ℕ) → answers_from Raw r octet
 no_answers r [] = refl
 no_answers r (octet ∷ octets) = no_answers r octets
 
-abbrev pub tells_all : List Command → List Item
+abbrev pub tells_all : List TelnetCommand → List Item
 tells_all [] = []
 tells_all (command ∷ commands) = tells command ∷ tells_all commands
 
-texts_of_commands : (commands : List Command) → texts (tells_all commands) ≡ []
+texts_of_commands : (commands : List TelnetCommand) → texts (tells_all commands) ≡ []
 texts_of_commands [] = refl
 texts_of_commands (command ∷ commands) = texts_of_commands commands
 
@@ -99,7 +99,7 @@ behind out o = record o { octets = out ++ o.octets }
 behind_text : (out : List ℕ) (o : Output) (text : List ℕ) → with_text (behind out o) text ≡ behind out (with_text o text)
 behind_text out o text = ap (λ octets. record (with_text o text) { octets = octets }) (append_assoc out o.octets (text_form o.after_return text))
 
-behind_command : (out : List ℕ) (o : Output) (command : Command) → with_command (behind out o) command ≡ behind out (with_command o command)
+behind_command : (out : List ℕ) (o : Output) (command : TelnetCommand) → with_command (behind out o) command ≡ behind out (with_command o command)
 behind_command out o command = ap (λ octets. record (with_command o command) { octets = octets }) (append_assoc out o.octets (command_form o.after_return command))
 
 behind_items : (out : List ℕ) (o : Output) (items : List Item) → with_items (behind out o) items ≡ behind out (with_items o items)
@@ -134,7 +134,7 @@ read_answers Telnet out o seen r octets so_far =
 read_answers Raw out o seen r octets so_far =
     subst (λ commands. IsRead Raw out (with_items o (tells_all commands)) seen) (sym (no_answers r octets)) so_far
 
-pub read_command : (out : List ℕ) (o : Output) (seen : List ℕ) (command : Command) → IsRead Telnet out o seen → IsRead Telnet out (with_command o command) seen
+pub read_command : (out : List ℕ) (o : Output) (seen : List ℕ) (command : TelnetCommand) → IsRead Telnet out o seen → IsRead Telnet out (with_command o command) seen
 read_command out o seen command so_far =
     subst (λ t. IsRead Telnet out (with_command o command) t) (append-nil seen) (read_on out o seen (tells command ∷ []) so_far)
 

@@ -3,7 +3,7 @@ use Rattle.std.proofs.Common.{◌≡◌, ◌≢◌, ◌⊎◌, ℕ, zero, suc, B
 use Rattle.std.proofs.lemmas.Bool.{cases_eq}
 use Rattle.std.proofs.lemmas.Option.{slice_get_within}
 use Rattle.frame_lines.specs.Lines.{LineService}
-use Rattle.line_nodes.specs.declared.terminal.TerminalEvent.TheVariants as what
+use Rattle.user_nodes.specs.declared.terminal.TerminalEvent.TheVariants as what
 use Rattle.net_events.specs.declared.event.Event.TheVariants.{AtTerminal}
 use Rattle.net_process.specs.Process.{ProcessState}
 use Rattle.service.specs.declared.absent.PadBinding.{PadBinding}

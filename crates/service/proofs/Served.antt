@@ -4,7 +4,7 @@ use Rattle.std.proofs.lemmas.Bool.{cases_eq}
 use Rattle.std.proofs.lemmas.Bool.Decides.{nat_tests}
 use Rattle.std.proofs.lemmas.List.{take-append-drop, length-take-le}
 use Rattle.frame_lines.specs.Lines.{LineService}
-use Rattle.line_nodes.specs.declared.terminal.TerminalEvent.TheVariants as what
+use Rattle.user_nodes.specs.declared.terminal.TerminalEvent.TheVariants as what
 use Rattle.net_events.specs.declared.event.Event.{Event}
 use Rattle.net_events.specs.declared.event.Event.TheVariants.{AtTerminal}
 use Rattle.net_events.specs.declared.event.StepFault.{StepFault}
@@ -28,7 +28,7 @@ use Rattle.service.specs.Terminals.{without_keys, without_key_at, urgent_place, 
 use Rattle.service.specs.Steps.{Step, Makes, Steps, HasTried, AreIdle, is_idle, is_idle_answer, is_idle_outcome, text_of, key_event, presence_event, shown_by, typed_by, told_by, shown, typed, told, IsSilent, Does}
 use Rattle.service.specs.Serving.{Fate, pressed, hastened, overtaken, Befall, begins_urgently, overtaken_in, xon, untold_list, IsServed, WishesPresence, WishesKey, WishesXon, WishesKeys, WishesText, Wishes, Serves, shown_at, IsOvertaken, may_show}
 use Rattle.line_sim.specs.Stepping.{lent}
-use Rattle.net_turns.specs.AnswerRoom.{IsWithinLimits}
+use Rattle.node_events.specs.AnswerRoom.{IsWithinLimits}
 use Rattle.std.specs.Borrow.{Bor}
 use Rattle.std.specs.Bool.{OnTrue, OnFalse}
 use Rattle.service.proofs.Keys.{befall-then, overtaken_in-append, first_and_rest, first_found, is_xon, xon_found}

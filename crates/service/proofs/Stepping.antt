@@ -8,7 +8,7 @@ use Rattle.std.proofs.lemmas.List.Folds.{list_all-append}
 use Rattle.std.proofs.lemmas.List.Elements.{Contains-append_left, Contains-append_right}
 use Rattle.std.specs.Borrow.{Bor}
 use Rattle.frame_lines.specs.Lines.{LineService}
-use Rattle.line_nodes.specs.declared.terminal.TerminalEvent.TheVariants as what
+use Rattle.user_nodes.specs.declared.terminal.TerminalEvent.TheVariants as what
 use Rattle.net_events.specs.declared.event.Event.{Event}
 use Rattle.net_events.specs.declared.event.Event.TheVariants.{AtTerminal, Call, Ask, Take, Deliver, Lose, Expire, Relink, GivesUp, Restart}
 use Rattle.net_events.specs.declared.event.StepFault.{StepFault}

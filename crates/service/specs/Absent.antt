@@ -1,7 +1,7 @@
 -- Terminals that no client has.
 use Rattle.std.specs.Prelude.{◌≡◌, ◌⊎◌, ◌<◌, ℕ, true, List, length, slice_get, Some}
 use Rattle.frame_lines.specs.Lines.{LineService}
-use Rattle.line_nodes.specs.declared.terminal.TerminalEvent.TheVariants as what
+use Rattle.user_nodes.specs.declared.terminal.TerminalEvent.TheVariants as what
 use Rattle.net_events.specs.declared.event.Event.TheVariants.{AtTerminal}
 use Rattle.net_process.specs.Process.{ProcessState}
 use Rattle.service.specs.declared.absent.PadBinding.{PadBinding}

@@ -3,8 +3,8 @@
 use Rattle.std.specs.Prelude.{◌≡◌, ℕ, Bool, true, false, not, List, [], ◌∷◌, ◌==◌, ◌&&◌, map, length, flat_map, Contains, is_none, Result, Ok, Err, if◌then◌else◌}
 use Rattle.std.specs.List.{list_all}
 use Rattle.frame_lines.specs.Lines.{LineService}
-use Rattle.line_nodes.specs.declared.terminal.TerminalEvent.{TerminalEvent}
-use Rattle.line_nodes.specs.declared.terminal.TerminalEvent.TheVariants as what
+use Rattle.user_nodes.specs.declared.terminal.TerminalEvent.{TerminalEvent}
+use Rattle.user_nodes.specs.declared.terminal.TerminalEvent.TheVariants as what
 use Rattle.net_events.specs.declared.event.Event.{Event}
 use Rattle.net_events.specs.declared.event.Event.TheVariants.{AtTerminal, Call, Ask, Take}
 use Rattle.net_events.specs.declared.event.StepFault.{StepFault}

@@ -3,7 +3,7 @@ use Rattle.std.specs.Prelude.{◌≡◌, ℕ, zero, suc, ◌+◌, ◌-◌, ◌*�
 use Rattle.std.specs.List.{list_all}
 use Rattle.circular_buffer.specs.Buffer.{buffer}
 use Rattle.net_process.specs.Process.{ProcessState, process_rests}
-use Rattle.service_ports.specs.declared.command.Command.TheVariants.{NoOperation}
+use Rattle.service_ports.specs.declared.command.TelnetCommand.TheVariants.{NoOperation}
 use Rattle.service_ports.specs.declared.input.Key.{Key}
 use Rattle.service_ports.specs.declared.mode.Mode.{Mode}
 use Rattle.service_ports.specs.Modes.{is_telnet, with_shown}

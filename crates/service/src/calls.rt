@@ -15,7 +15,7 @@ const MOST_NOTES: usize = 1024;
 
 /// What became of a call at a host or a PAD, to be logged.
 #[derive(Clone, Copy)]
-pub struct CallNote {
+pub struct NotedCall {
     /// The number of the host or PAD.
     pub node: usize,
     /// The logical channel of the call.
@@ -107,7 +107,7 @@ pub(crate) struct Calls {
     nodes: Vec<NodePlaces>,
     calls: Vec<Option<CallStatus>>,
     /// Notes that are to be logged, from the next one on.
-    notes: Vec<CallNote>,
+    notes: Vec<NotedCall>,
     next: usize,
     missed: u64,
 }
@@ -185,7 +185,7 @@ impl Calls {
             }
             NoteKind::Reset { cause, diagnostic } => CallChange::Reset { cause, diagnostic },
         };
-        self.keep(CallNote {
+        self.keep(NotedCall {
             node: note.node,
             channel: note.channel,
             terminal,
@@ -301,7 +301,7 @@ impl Calls {
     }
 
     fn note(&mut self, at: HostChannel, change: CallChange) {
-        self.keep(CallNote {
+        self.keep(NotedCall {
             node: at.node,
             channel: at.channel,
             terminal: None,
@@ -310,14 +310,14 @@ impl Calls {
     }
 
     /// Keeps a note to be logged. One for which there is no place is counted.
-    fn keep(&mut self, note: CallNote) {
+    fn keep(&mut self, note: NotedCall) {
         if self.notes.len() >= MOST_NOTES || self.notes.push(note).is_err() {
             self.missed = self.missed.saturating_add(1);
         }
     }
 
     /// The next note that is to be logged.
-    pub(crate) fn next_note(&mut self) -> Option<CallNote> {
+    pub(crate) fn next_note(&mut self) -> Option<NotedCall> {
         let note = *self.notes.get(self.next)?;
         self.next += 1;
         if self.next == self.notes.len() {

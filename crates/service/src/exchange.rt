@@ -1,6 +1,6 @@
 //! A network, the calls at its hosts and their built-in services.
 ghost use Rattle.std.specs.Prelude.{◌≡◌, false};
-ghost use Rattle.line_nodes.specs.declared.terminal.TerminalEvent.TheVariants.{Leaves};
+ghost use Rattle.user_nodes.specs.declared.terminal.TerminalEvent.TheVariants.{Leaves};
 ghost use Rattle.net_events.specs.declared.event.Event.TheVariants.{AtTerminal, Deliver};
 ghost use Rattle.service.specs.AllBridges.{ServesBridges};
 ghost use Rattle.service.specs.Bridging.{PassesAt};

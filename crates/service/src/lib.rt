@@ -25,7 +25,7 @@ pub use bridge_ports::{AtReset, BridgeTerms};
 pub use bridges::{BridgeBindings, CallerBinding, ServiceBinding};
 pub use builtin::BuiltIn;
 pub use call_address::CallAddress;
-pub use calls::{CallChange, CallNote, CallOctets, CallStatus};
+pub use calls::{CallChange, CallOctets, CallStatus, NotedCall};
 pub use hosts::HostBinding;
 pub use law::{bridge_calls_law, port_law};
 pub use seats::TerminalsBinding;

@@ -11,7 +11,7 @@ ghost use Rattle.service.specs.Terminals.{has_parted, ordered, stopping_after};
 
 use crate::absent::{PadBinding, leave_absent};
 use crate::bridges::{BridgeBindings, Bridges};
-use crate::calls::{CallNote, CallStatus, Calls};
+use crate::calls::{CallStatus, Calls, NotedCall};
 use crate::exchange::Exchange;
 use crate::hosts::{HostBinding, Hosts};
 use crate::mail::Mail;
@@ -56,7 +56,7 @@ pub enum Order {
     /// It is to be logged that the client of this port goes because it was silent too long.
     LogIdle(usize),
     /// It is to be logged what became of a call.
-    LogCall(CallNote),
+    LogCall(NotedCall),
     /// It is to be logged that so many notes of calls were dropped for want of a place.
     LogMissed(u64),
 }

@@ -4,7 +4,7 @@ ghost use Rattle.std.specs.Bool.{OnTrue, OnFalse};
 ghost use Rattle.service_ports.specs.Ports.{takes_octet};
 ghost use Rattle.service.specs.Terminals.{attached, dismissed, elapsed, ended, fresh, has_client, heard, is_free, is_free_in, is_free_phase, is_open, kept_alive, left, left_if_written, urgent_place, waited, without_key_at, without_keys, written, xon_place};
 
-use service_ports::{Command, Key, Mode, Port};
+use service_ports::{Key, Mode, Port, TelnetCommand};
 use std::alloc::{AllocError, Global};
 
 /// How long what waits may take to be written out to a client that is to go, in ticks.
@@ -220,7 +220,7 @@ impl Terminal {
     fn keep_alive(&mut self)
         ensures { self.new ≡ kept_alive self.old }
     {
-        if self.quiet >= QUIET && self.port.tell(Command::NoOperation) {
+        if self.quiet >= QUIET && self.port.tell(TelnetCommand::NoOperation) {
             self.quiet = 0;
         }
     }

@@ -13,8 +13,8 @@ use Rattle.net_config.specs.declared.config.NodeConfig.{NodeConfig}
 use Rattle.net_config.specs.declared.config.NodeKind.{NodeKind}
 use Rattle.net_config.specs.declared.config.NodeKind.TheVariants as node_kind
 use Rattle.service_files.specs.Addresses.{is_here, same_place}
-use Rattle.service_files.specs.declared.file.Mode.{Mode}
-use Rattle.service_files.specs.declared.file.Mode.TheVariants as mode_is
+use Rattle.service_ports.specs.declared.mode.Mode.{Mode}
+use Rattle.service_ports.specs.declared.mode.Mode.TheVariants as mode_is
 use Rattle.service_files.specs.declared.file.TerminalsTable.{TerminalsTable}
 use Rattle.service_files.specs.declared.file.ServiceTable.{ServiceTable}
 use Rattle.service_files.specs.declared.file.CallerTable.{CallerTable}

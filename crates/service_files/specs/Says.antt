@@ -7,12 +7,12 @@ use Rattle.std.specs.declared.net.socket_addr.SocketAddr.{SocketAddr}
 use Rattle.hex.specs.Hex.{decode_of}
 use Rattle.toml.specs.Data.{Data, Items, Members, as_str}
 use Rattle.net_config.specs.Served.{same_text}
-use Rattle.service_files.specs.declared.file.Mode.{Mode}
-use Rattle.service_files.specs.declared.file.Mode.TheVariants.{Telnet, Raw}
+use Rattle.service_ports.specs.declared.mode.Mode.{Mode}
+use Rattle.service_ports.specs.declared.mode.Mode.TheVariants.{Telnet, Raw}
 use Rattle.service_files.specs.declared.file.BuiltIn.{BuiltIn as BuiltInService}
 use Rattle.service_files.specs.declared.file.BuiltIn.TheVariants.{Echo, Time, Discard}
-use Rattle.service_files.specs.declared.file.AtReset.{AtReset}
-use Rattle.service_files.specs.declared.file.AtReset.TheVariants as at_reset
+use Rattle.bridge_ports.specs.declared.phases.AtReset.{AtReset}
+use Rattle.bridge_ports.specs.declared.phases.AtReset.TheVariants as at_reset
 use Rattle.service_files.specs.declared.file.Connect.{Connect}
 use Rattle.service_files.specs.declared.file.HostService.{HostService}
 use Rattle.service_files.specs.declared.file.HostService.TheVariants as host_service
@@ -35,8 +35,8 @@ builtin_of word =
     if same_text word (codes "echo") then Echo else (if same_text word (codes "time") then Time else Discard)
 
 abbrev pub at_reset_of : Option (List ℕ) → AtReset
-at_reset_of None = at_reset.Clear
-at_reset_of (Some word) = if same_text word (codes "continue") then at_reset.Continue else at_reset.Clear
+at_reset_of None = at_reset.ClearCall
+at_reset_of (Some word) = if same_text word (codes "continue") then at_reset.Continue else at_reset.ClearCall
 
 -- the value is the text of the prefix
 pub record SaysPrefix (value : Data) (prefix : Prefix) : Type 0 where

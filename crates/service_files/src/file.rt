@@ -1,15 +1,8 @@
 //! What a service file says. Its texts lie in the document that it was read from.
 use crate::addresses::Allow;
+use bridge_ports::AtReset;
+use service_ports::Mode;
 use std::net::SocketAddr;
-
-/// How octets of a client are taken.
-#[derive(Clone, Copy)]
-pub enum Mode {
-    /// By the telnet protocol.
-    Telnet,
-    /// Every octet is a key.
-    Raw,
-}
 
 /// A service of `x25d` itself.
 #[derive(Clone, Copy)]
@@ -20,15 +13,6 @@ pub enum BuiltIn {
     Time,
     /// It takes what comes and says nothing.
     Discard,
-}
-
-/// What becomes of a call that is reset.
-#[derive(Clone, Copy)]
-pub enum AtReset {
-    /// It is cleared.
-    Clear,
-    /// It goes on, with a gap.
-    Continue,
 }
 
 /// A port on which terminals of a PAD are had.

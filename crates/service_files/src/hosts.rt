@@ -4,11 +4,12 @@ ghost use Rattle.toml.specs.View.{table_view};
 ghost use Rattle.service_files.specs.Reads.{Reads};
 ghost use Rattle.service_files.specs.Says.{at_reset_of, builtin_of, SaysHost, SaysConnect, SaysService, SaysUserData, SaysCaller};
 
-use crate::file::{AtReset, BuiltIn, CallerTable, Connect, HostService, ServiceTable};
+use crate::file::{BuiltIn, CallerTable, Connect, HostService, ServiceTable};
 use crate::keys::{CALLER, OF_CONNECT, SERVICE};
 use crate::places::{Place, look_at, refuse_keys, tell_at, tell_place};
 use crate::refusal::Refusal;
 use crate::values::{flag_at, number_at, read_address, read_allow, text_at};
+use bridge_ports::AtReset;
 use hex::FromHexError;
 use std::alloc::Global;
 use std::fmt::Write;
@@ -101,7 +102,7 @@ fn at_reset_of(word: Option<&str>) -> AtReset
 {
     match word {
         Some("continue") => AtReset::Continue,
-        _ => AtReset::Clear,
+        _ => AtReset::ClearCall,
     }
 }
 

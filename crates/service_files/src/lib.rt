@@ -20,8 +20,8 @@ mod values;
 pub use addresses::{Allow, Prefix};
 pub use checking::{check_service, network_name};
 pub use file::{
-    AtReset, BuiltIn, CallerTable, CaptureTable, Connect, End, HostService, LineTable, Mode,
-    ServiceFile, ServiceTable, TerminalsTable, UdpWay, Way, XotWay,
+    BuiltIn, CallerTable, CaptureTable, Connect, End, HostService, LineTable, ServiceFile,
+    ServiceTable, TerminalsTable, UdpWay, Way, XotWay,
 };
 pub use line_rules::{BrokenLine, LineRule, first_broken_line, own_nodes};
 pub use reading::{read_document, read_service};

@@ -6,7 +6,7 @@ ghost use Rattle.service_files.specs.Reads.{EachSays, IsDocument, IsTable};
 ghost use Rattle.service_files.specs.Says.{mode_of, SaysControl, SaysConnections, SaysWeb, IsPage, SaysTerminals, SaysService, SaysCaller};
 
 use crate::addresses::is_here;
-use crate::file::{CallerTable, Mode, ServiceFile, ServiceTable, TerminalsTable};
+use crate::file::{CallerTable, ServiceFile, ServiceTable, TerminalsTable};
 use crate::hosts::{read_caller, read_host};
 use crate::keys::{DOCUMENT, LIMITS, TERMINALS, WEB};
 use crate::lines::{read_capture, read_lines};
@@ -15,6 +15,7 @@ use crate::refusal::Refusal;
 use crate::rules::is_apart;
 use crate::values::{items_at, number_at, read_address, read_allow, read_table, table_at, text_at};
 use network_reasons::{tell_no_toml, text_of};
+use service_ports::Mode;
 use std::alloc::Global;
 use std::net::SocketAddr;
 use toml::{Table, Value};

@@ -7,8 +7,9 @@ ghost use Rattle.service_files.specs.Addresses.{same_place};
 ghost use Rattle.service_files.specs.Bindings as spec;
 
 use crate::addresses::{is_here, same_place};
-use crate::file::{CallerTable, Mode, ServiceFile, ServiceTable, TerminalsTable};
+use crate::file::{CallerTable, ServiceFile, ServiceTable, TerminalsTable};
 use net_config::{Config, LineConfig, NodeConfig, NodeKind};
+use service_ports::Mode;
 use std::net::SocketAddr;
 
 /// A rule that does not hold, and of which table, by its place.

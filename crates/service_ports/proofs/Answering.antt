@@ -4,8 +4,8 @@ use Rattle.std.proofs.Math.ListN.{length-set}
 use Rattle.std.proofs.lemmas.Bool.{cases_eq}
 use Rattle.std.proofs.lemmas.List.Sums.{count_by-le-length, sum_by-append}
 use Rattle.std.proofs.lemmas.Bool.Decides.{nat_tests}
-use Rattle.service_ports.specs.declared.command.Command.{Command}
-use Rattle.service_ports.specs.declared.command.Command.TheVariants.{Wont, Do, Dont}
+use Rattle.service_ports.specs.declared.command.TelnetCommand.{TelnetCommand}
+use Rattle.service_ports.specs.declared.command.TelnetCommand.TheVariants.{Wont, Do, Dont}
 use Rattle.service_ports.specs.declared.options.OptionSet.{OptionSet}
 use Rattle.service_ports.specs.declared.input.TelnetReader.{TelnetReader}
 use Rattle.service_ports.specs.declared.input.Place.{Place}
@@ -76,12 +76,12 @@ command_is_fair option r octet whole =
     (either option r.own r.others _ _ _ (text_is_fair option r octet whole) (passed option r Text whole))))))))
 
 -- an answer is one, and none if the option was answered before
-count_few : (p : Command → Bool) (before : Bool) (command : Command) → count_by p (answer_in (cond before Nothing (Answered command))) ≤ left before
+count_few : (p : TelnetCommand → Bool) (before : Bool) (command : TelnetCommand) → count_by p (answer_in (cond before Nothing (Answered command))) ≤ left before
 count_few p true command = omega arith
 count_few p false command = count_by-le-length p (command ∷ [])
 
 -- it does not count if it is about something else
-count_none : (p : Command → Bool) (before : Bool) (command : Command) → p command ≡ false → count_by p (answer_in (cond before Nothing (Answered command))) ≡ 0
+count_none : (p : TelnetCommand → Bool) (before : Bool) (command : TelnetCommand) → p command ≡ false → count_by p (answer_in (cond before Nothing (Answered command))) ≡ 0
 count_none p true command other = refl
 count_none p false command other = simp other
 
@@ -140,11 +140,11 @@ octet_is_fair : (option : ℕ) (r : TelnetReader) (octet : ℕ) → octet < 256 
 unfolding reads
 octet_is_fair option r octet small whole = place_is_fair r.place option r octet small whole
 
-count-append : (p : Command → Bool) (xs ys : List Command) → count_by p (xs ++ ys) ≡ count_by p xs + count_by p ys
+count-append : (p : TelnetCommand → Bool) (xs ys : List TelnetCommand) → count_by p (xs ++ ys) ≡ count_by p xs + count_by p ys
 count-append p xs ys = sum_by-append _ xs ys
 
 -- so often an option is answered in all that a client sends
-pub record AreFew (option : ℕ) (own others : OptionSet) (commands : List Command) : Type 0 where
+pub record AreFew (option : ℕ) (own others : OptionSet) (commands : List TelnetCommand) : Type 0 where
   pub of_own : count_by (is_about_own option) commands ≤ left (has_option own option)
   pub of_others : count_by (is_about_others option) commands ≤ left (has_option others option)
 

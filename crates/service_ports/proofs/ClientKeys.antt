@@ -2,7 +2,7 @@
 use Rattle.std.proofs.Common.{◌≡◌, ◌≢◌, ℕ, ◌<◌, Bool, true, false, List, [], ◌∷◌, ◌++◌, ◌&&◌, eqb, refl, sym, ap, ◌∙◌, arith, inl, inr, cond, subst, ◌⊎◌, ltb}
 use Rattle.std.proofs.lemmas.Bool.{cases_eq}
 use Rattle.std.proofs.lemmas.Bool.Decides.{nat_tests}
-use Rattle.service_ports.specs.declared.command.Command.{Command}
+use Rattle.service_ports.specs.declared.command.TelnetCommand.{TelnetCommand}
 use Rattle.service_ports.specs.declared.options.OptionSet.{OptionSet}
 use Rattle.service_ports.specs.declared.input.TelnetReader.{TelnetReader}
 use Rattle.service_ports.specs.declared.input.Place.TheVariants.{Text}
@@ -36,7 +36,7 @@ either : (b : Bool) (p q : Reading) → IsQuiet p → IsQuiet q → IsQuiet (con
 either true p q one two = one
 either false p q one two = two
 
-no_key : (b : Bool) (command : Command) → key_in (cond b Nothing (Answered command)) ≡ []
+no_key : (b : Bool) (command : TelnetCommand) → key_in (cond b Nothing (Answered command)) ≡ []
 no_key true command = refl
 no_key false command = refl
 

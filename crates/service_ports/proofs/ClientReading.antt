@@ -2,8 +2,8 @@
 use Rattle.std.proofs.Common.{◌≡◌, ℕ, Bool, true, false, List, [], ◌∷◌, ◌++◌, eqb, refl, sym, ap, ◌∙◌, arith, append_assoc, append-nil, inl, inr, cond, subst}
 use Rattle.std.proofs.lemmas.Bool.{cases_eq}
 use Rattle.std.proofs.lemmas.Bool.Decides.{nat_tests}
-use Rattle.service_ports.specs.declared.command.Command.{Command}
-use Rattle.service_ports.specs.declared.command.Command.TheVariants.{NoOperation, Will, Wont, Do, Dont}
+use Rattle.service_ports.specs.declared.command.TelnetCommand.{TelnetCommand}
+use Rattle.service_ports.specs.declared.command.TelnetCommand.TheVariants.{NoOperation, Will, Wont, Do, Dont}
 use Rattle.service_ports.specs.Writing.{Output, new_output, with_text, with_command, octet_form, text_form, command_form, ends_in_return}
 use Rattle.service_ports.specs.ClientForm.{ClientPlace, in_text, after_return, text_in, place_after, text_read, Item, shows, tells, with_items, texts, ClientReadsText}
 
@@ -62,7 +62,7 @@ octet-read true x = elim (cases_eq x 10) [
   ]
 ]
 
-command-read : (after : Bool) (command : Command) → Reads after (command_form after command) [] false
+command-read : (after : Bool) (command : TelnetCommand) → Reads after (command_form after command) [] false
 command-read true NoOperation = record { text_is = refl; place_is = refl }
 command-read true (Will option) = record { text_is = refl; place_is = refl }
 command-read true (Wont option) = record { text_is = refl; place_is = refl }

@@ -1,7 +1,7 @@
 -- The other end of a connection: how a client of telnet reads (RFC 854), and how it sends what is typed.
 use Rattle.std.specs.Prelude.{ℕ, Bool, List, [], ◌∷◌, ◌++◌, ◌==◌, ◌≡◌, ◌<◌, ◌≤◌, ◌&&◌, ◌||◌, nat_lt, true, false, if◌then◌else◌, count_by, All}
-use Rattle.service_ports.specs.declared.command.Command.{Command}
-use Rattle.service_ports.specs.declared.command.Command.TheVariants.{Will, Wont, Do, Dont}
+use Rattle.service_ports.specs.declared.command.TelnetCommand.{TelnetCommand}
+use Rattle.service_ports.specs.declared.command.TelnetCommand.TheVariants.{Will, Wont, Do, Dont}
 use Rattle.service_ports.specs.declared.input.Key.{Key}
 use Rattle.service_ports.specs.declared.input.Key.TheVariants.{Octet, Break}
 use Rattle.service_ports.specs.Writing.{Output, new_output, with_text, with_command}
@@ -37,7 +37,7 @@ text_read place (octet ∷ octets) = text_in place octet ++ text_read (place_aft
 -- what is written to it, in order
 pub data Item : Type 0 where
   shows : List ℕ → Item
-  tells : Command → Item
+  tells : TelnetCommand → Item
 
 abbrev pub with_items : Output → List Item → Output
 with_items output [] = output
@@ -106,12 +106,12 @@ KeysAreRead = (acts : List Act) → are_acts acts ≡ true → keys_read new_rea
 -- ---- what a client is answered
 
 -- an answer about an option of the server, and about one of the client
-abbrev pub is_about_own : (option : ℕ) → Command → Bool
+abbrev pub is_about_own : (option : ℕ) → TelnetCommand → Bool
 is_about_own option (Will other) = other == option
 is_about_own option (Wont other) = other == option
 is_about_own option _ = false
 
-abbrev pub is_about_others : (option : ℕ) → Command → Bool
+abbrev pub is_about_others : (option : ℕ) → TelnetCommand → Bool
 is_about_others option (Do other) = other == option
 is_about_others option (Dont other) = other == option
 is_about_others option _ = false

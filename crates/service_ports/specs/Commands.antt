@@ -1,10 +1,10 @@
 -- The commands of telnet (RFC 854).
 use Rattle.std.specs.Prelude.{ℕ, Bool, List, [], ◌∷◌, ◌==◌, ◌||◌}
-use Rattle.service_ports.specs.declared.command.Command.{Command}
-use Rattle.service_ports.specs.declared.command.Command.TheVariants.{NoOperation, Will, Wont, Do, Dont}
+use Rattle.service_ports.specs.declared.command.TelnetCommand.{TelnetCommand}
+use Rattle.service_ports.specs.declared.command.TelnetCommand.TheVariants.{NoOperation, Will, Wont, Do, Dont}
 
 -- the octets of a command: 255, its code and, if it has one, its option
-abbrev pub command_octets : Command → List ℕ
+abbrev pub command_octets : TelnetCommand → List ℕ
 command_octets NoOperation = 255 ∷ 241 ∷ []
 command_octets (Will option) = 255 ∷ 251 ∷ option ∷ []
 command_octets (Wont option) = 255 ∷ 252 ∷ option ∷ []

@@ -1,7 +1,7 @@
 -- One client's side of a terminal.
 use Rattle.std.specs.Prelude.{ℕ, Bool, true, false, List, [], ◌∷◌, ◌++◌, ◌+◌, ◌==◌, ◌&&◌, nat_lt, nat_le, length}
 use Rattle.circular_buffer.specs.Buffer.{Buffer, buffer}
-use Rattle.service_ports.specs.declared.command.Command.TheVariants.{Will}
+use Rattle.service_ports.specs.declared.command.TelnetCommand.TheVariants.{Will}
 use Rattle.service_ports.specs.declared.input.TelnetReader.{TelnetReader}
 use Rattle.service_ports.specs.declared.mode.Mode.{Mode}
 use Rattle.service_ports.specs.declared.mode.Mode.TheVariants.{Telnet, Raw}

@@ -1,7 +1,7 @@
 -- How a server reads what a client of telnet sends (RFC 854): where the reader is after each octet, and what it heard.
 use Rattle.std.specs.Prelude.{ℕ, List, [], ◌∷◌, ◌++◌, ◌==◌, ◌||◌, nat_lt, if◌then◌else◌}
-use Rattle.service_ports.specs.declared.command.Command.{Command}
-use Rattle.service_ports.specs.declared.command.Command.TheVariants.{Wont, Do, Dont}
+use Rattle.service_ports.specs.declared.command.TelnetCommand.{TelnetCommand}
+use Rattle.service_ports.specs.declared.command.TelnetCommand.TheVariants.{Wont, Do, Dont}
 use Rattle.service_ports.specs.declared.input.TelnetReader.{TelnetReader}
 use Rattle.service_ports.specs.declared.input.Place.{Place}
 use Rattle.service_ports.specs.declared.input.Place.TheVariants.{Text, AfterReturn, AfterIac, AfterRequest, Within, WithinAfterIac}
@@ -87,11 +87,11 @@ abbrev pub keys_read : TelnetReader → List ℕ → List Key
 keys_read r [] = []
 keys_read r (octet ∷ octets) = key_in (reads r octet).heard ++ keys_read (reads r octet).reader octets
 
-abbrev pub answer_in : Heard → List Command
+abbrev pub answer_in : Heard → List TelnetCommand
 answer_in (Answered command) = command ∷ []
 answer_in _ = []
 
 -- the answers that they get
-abbrev pub answers_read : TelnetReader → List ℕ → List Command
+abbrev pub answers_read : TelnetReader → List ℕ → List TelnetCommand
 answers_read r [] = []
 answers_read r (octet ∷ octets) = answer_in (reads r octet).heard ++ answers_read (reads r octet).reader octets

@@ -1,6 +1,6 @@
 -- How text and commands go to a client of telnet (RFC 854).
 use Rattle.std.specs.Prelude.{ℕ, Bool, true, false, List, [], ◌∷◌, ◌++◌, ◌==◌, if◌then◌else◌}
-use Rattle.service_ports.specs.declared.command.Command.{Command}
+use Rattle.service_ports.specs.declared.command.TelnetCommand.{TelnetCommand}
 use Rattle.service_ports.specs.Commands.{command_octets}
 
 -- what waits to be written: the octets, how many there may be, and whether the last one of text was a CR, after which
@@ -38,10 +38,10 @@ with_text output text = record output {
   after_return = ends_in_return output.after_return text;
 }
 
-abbrev pub command_form : (after_return : Bool) → Command → List ℕ
+abbrev pub command_form : (after_return : Bool) → TelnetCommand → List ℕ
 command_form after_return command = return_end after_return false ++ command_octets command
 
-abbrev pub with_command : Output → Command → Output
+abbrev pub with_command : Output → TelnetCommand → Output
 with_command output command = record output {
   octets = output.octets ++ command_form output.after_return command;
   after_return = false;

@@ -11,7 +11,7 @@ pub(crate) const SUPPRESS_GO_AHEAD: u8 = 3;
 
 /// A command to a client.
 #[derive(Clone, Copy, PartialEq, Eq)]
-pub enum Command {
+pub enum TelnetCommand {
     /// Nothing is to be done.
     NoOperation,
     /// The server offers an option.

@@ -3,7 +3,7 @@ ghost use Rattle.std.specs.Prelude.{◌≡◌};
 ghost use Rattle.service_ports.specs.Commands.{is_offered};
 ghost use Rattle.service_ports.specs.Reading.{new_reader, reads, reads_text, reads_command, reads_request, refuses_own, answers_offer};
 
-use crate::command::{Command, ECHO, IAC, SUPPRESS_GO_AHEAD};
+use crate::command::{ECHO, IAC, SUPPRESS_GO_AHEAD, TelnetCommand};
 use crate::options::OptionSet;
 
 pub(crate) const NUL: u8 = 0;
@@ -48,7 +48,7 @@ pub enum Heard {
     /// A key.
     Typed(Key),
     /// A request, which gets this answer.
-    Answered(Command),
+    Answered(TelnetCommand),
 }
 
 /// A request of a client about an option.
@@ -173,7 +173,7 @@ impl TelnetReader {
     {
         self.place = Place::Text;
         if self.own.add(option) {
-            Heard::Answered(Command::Wont(option))
+            Heard::Answered(TelnetCommand::Wont(option))
         } else {
             Heard::Nothing
         }
@@ -187,9 +187,9 @@ impl TelnetReader {
             return Heard::Nothing;
         }
         Heard::Answered(if option == SUPPRESS_GO_AHEAD {
-            Command::Do(option)
+            TelnetCommand::Do(option)
         } else {
-            Command::Dont(option)
+            TelnetCommand::Dont(option)
         })
     }
 }

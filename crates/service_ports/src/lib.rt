@@ -9,7 +9,7 @@ mod options;
 mod output;
 mod port;
 
-pub use command::Command;
+pub use command::TelnetCommand;
 pub use input::{Heard, Key, TelnetReader};
 pub use law::telnet_law;
 pub use mode::Mode;

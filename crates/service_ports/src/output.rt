@@ -4,7 +4,7 @@ ghost use Rattle.std.specs.Bool.{OnTrue, OnFalse};
 ghost use Rattle.service_ports.specs.Writing.{new_output, with_text, with_command, octet_form};
 ghost use Rattle.service_ports.specs.Commands.{command_octets};
 
-use crate::command::{Command, IAC};
+use crate::command::{IAC, TelnetCommand};
 use crate::input::{CR, DO, DONT, LF, NUL, WILL, WONT};
 use circular_buffer::HeapCircularBuffer;
 use std::alloc::{AllocError, Global};
@@ -133,7 +133,7 @@ impl TelnetOutput {
     }
 
     /// Writes a command, and says so, if there is room for any command. Otherwise nothing changes.
-    pub fn tell(&mut self, command: Command) -> bool
+    pub fn tell(&mut self, command: TelnetCommand) -> bool
         ensures told { OnTrue result (self.new ≡ with_command self.old command) }
         ensures full { OnFalse result (self.new ≡ self.old) }
         ensures room { result ≡ nat_le (length self.old.octets + MOST_COMMAND) self.old.capacity }
@@ -149,16 +149,16 @@ impl TelnetOutput {
         true
     }
 
-    fn push_command(&mut self, command: Command)
+    fn push_command(&mut self, command: TelnetCommand)
         requires { length self.old.octets + 3 ≤ self.old.capacity }
         ensures { self.new ≡ record self.old { octets = self.old.octets ++ command_octets command } }
     {
         match command {
-            Command::NoOperation => self.push_all(&[IAC, NOP]),
-            Command::Will(option) => self.push_all(&[IAC, WILL, option]),
-            Command::Wont(option) => self.push_all(&[IAC, WONT, option]),
-            Command::Do(option) => self.push_all(&[IAC, DO, option]),
-            Command::Dont(option) => self.push_all(&[IAC, DONT, option]),
+            TelnetCommand::NoOperation => self.push_all(&[IAC, NOP]),
+            TelnetCommand::Will(option) => self.push_all(&[IAC, WILL, option]),
+            TelnetCommand::Wont(option) => self.push_all(&[IAC, WONT, option]),
+            TelnetCommand::Do(option) => self.push_all(&[IAC, DO, option]),
+            TelnetCommand::Dont(option) => self.push_all(&[IAC, DONT, option]),
         }
     }
 

@@ -6,7 +6,7 @@ ghost use Rattle.service_ports.specs.Modes.{is_telnet, with_shown};
 ghost use Rattle.service_ports.specs.Ports.{begun, after_octet, after_octets, is_break_or, is_octet, takes_octet};
 ghost use Rattle.service_ports.specs.Writing.{with_command};
 
-use crate::command::{Command, ECHO, SUPPRESS_GO_AHEAD};
+use crate::command::{ECHO, SUPPRESS_GO_AHEAD, TelnetCommand};
 use crate::input::{Heard, Key, TelnetReader};
 use crate::mode::Mode;
 use crate::output::TelnetOutput;
@@ -66,8 +66,8 @@ impl Port {
         self.keys.clear();
         self.output.clear();
         if self.mode.is_telnet() {
-            let _ = self.output.tell(Command::Will(ECHO));
-            let _ = self.output.tell(Command::Will(SUPPRESS_GO_AHEAD));
+            let _ = self.output.tell(TelnetCommand::Will(ECHO));
+            let _ = self.output.tell(TelnetCommand::Will(SUPPRESS_GO_AHEAD));
         }
     }
 
@@ -207,7 +207,7 @@ impl Port {
 
     /// Sends a command to the client, and says so, if it is one of telnet and there is room for any command. Otherwise
     /// nothing changes.
-    pub fn tell(&mut self, command: Command) -> bool
+    pub fn tell(&mut self, command: TelnetCommand) -> bool
         ensures told { OnTrue result (self.new ≡ record self.old { output = with_command self.old.output command }) }
         ensures full { OnFalse result (self.new ≡ self.old) }
         ensures room { result ≡ is_telnet self.old.mode

@@ -6,7 +6,7 @@ use crate::shell::Shell;
 use crate::sockets::Leads;
 use crate::visits::Visit;
 use mio::net::TcpStream;
-use service_files::Mode;
+use service::Mode;
 use std::io::{self, Write};
 use std::net::SocketAddr;
 

@@ -1,7 +1,7 @@
 //! What a service file binds, with the numbers of the nodes in the network.
 use crate::bridging::BoundBridges;
 use net_config::{Config, NodeKind, TerminalsConfig};
-use service::{Bindings, BuiltIn, HostBinding, Mode, PadBinding, TerminalsBinding};
+use service::{Bindings, BuiltIn, HostBinding, PadBinding, TerminalsBinding};
 use service_files::{HostService, ServiceFile, TerminalsTable, channels_of, last_of, node_of};
 use std::alloc::{AllocError, Global};
 use x3_params::Params;
@@ -65,7 +65,7 @@ fn bound_table<'a>(
         node,
         first: table.first,
         last: last_of(config, table),
-        mode: mode_of(table.mode),
+        mode: table.mode,
         greeting: table.greeting,
         idle: table.idle,
         has_xon: match config.nodes.get(node) {
@@ -90,13 +90,6 @@ fn initial_params(pad: &TerminalsConfig) -> Params {
         let _ = params.set(setting.number, setting.value);
     }
     params
-}
-
-fn mode_of(mode: service_files::Mode) -> Mode {
-    match mode {
-        service_files::Mode::Telnet => Mode::Telnet,
-        service_files::Mode::Raw => Mode::Raw,
-    }
 }
 
 /// Every PAD of a network.

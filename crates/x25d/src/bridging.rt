@@ -1,7 +1,7 @@
 //! What a service file bridges: hosts that are services, callers that place calls, and the addresses of PADs.
 use net_config::{Config, NodeConfig, NodeKind};
 use packet_codec::Address;
-use service::{AtReset, BridgeBindings, BridgeTerms, CallerBinding, ServiceBinding};
+use service::{BridgeBindings, BridgeTerms, CallerBinding, ServiceBinding};
 use service_files::{CallerTable, Connect, HostService, ServiceFile, node_of};
 use std::alloc::{AllocError, Global};
 
@@ -64,7 +64,11 @@ fn bound_services(
             && let Some(node) = node_of(&config.nodes, table.host)
         {
             let hello = connect.hello;
-            let terms = terms_of(connect.wait, connect.linger, connect.at_reset);
+            let terms = BridgeTerms {
+                wait: connect.wait,
+                linger: connect.linger,
+                at_reset: connect.at_reset,
+            };
             bindings.push(ServiceBinding { node, hello, terms })?;
         }
     }
@@ -88,20 +92,12 @@ fn bound_callers(
 fn bound_caller(config: &Config, table: &CallerTable<'_>) -> Option<CallerBinding> {
     let node = node_of(&config.nodes, table.host)?;
     let call = Address::read(table.call.as_bytes()).ok()?;
-    let terms = terms_of(NO_WAIT, table.linger, table.at_reset);
-    Some(CallerBinding::new(node, call, table.user_data.as_slice(), terms))
-}
-
-fn terms_of(wait: u16, linger: u16, at_reset: service_files::AtReset) -> BridgeTerms {
-    let at_reset = match at_reset {
-        service_files::AtReset::Clear => AtReset::ClearCall,
-        service_files::AtReset::Continue => AtReset::Continue,
+    let terms = BridgeTerms {
+        wait: NO_WAIT,
+        linger: table.linger,
+        at_reset: table.at_reset,
     };
-    BridgeTerms {
-        wait,
-        linger,
-        at_reset,
-    }
+    Some(CallerBinding::new(node, call, table.user_data.as_slice(), terms))
 }
 
 /// The addresses of all PADs that have one.

@@ -1,7 +1,7 @@
 //! What a service prints when it begins.
 use crate::sockets::{Entrance, Leads, Sockets};
 use crate::words::CONTROL;
-use service_files::Mode;
+use service::Mode;
 use std::io;
 use std::net::SocketAddr;
 

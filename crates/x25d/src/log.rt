@@ -7,7 +7,7 @@ use clock_texts::utc_text;
 use line_carriers::CarrierFault;
 use log_repeats::{Repeats, Told};
 use remote_lines::Ending;
-use service::CallNote;
+use service::NotedCall;
 use status_texts::Counts;
 use std::alloc::AllocError;
 use std::fs::{File, OpenOptions};
@@ -287,7 +287,7 @@ impl Log {
     }
 
     /// A call came to a host or a PAD, or changed there.
-    pub(crate) fn call(&mut self, rt: &HostRuntime, names: Names<'_>, note: &CallNote) {
+    pub(crate) fn call(&mut self, rt: &HostRuntime, names: Names<'_>, note: &NotedCall) {
         self.write(rt, call_text(rt.alloc(), &names, note));
     }
 

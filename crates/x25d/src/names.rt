@@ -2,7 +2,7 @@
 use crate::serving::Running;
 use crate::states::{line_state, node_state};
 use net_config::{Config, LineConfig, NodeKind};
-use service::{CallChange, CallNote, CallStatus};
+use service::{CallChange, CallStatus, NotedCall};
 use service_files::node_of;
 use status_texts::{CallLine, CallOctets, LineState, NetLine, NodeLine, Route, way_of};
 use std::alloc::{AllocError, Global};
@@ -197,7 +197,7 @@ fn kind_of(kind: &NodeKind) -> status_texts::NodeKind {
 pub(crate) fn call_text(
     alloc: Global,
     names: &Names<'_>,
-    note: &CallNote,
+    note: &NotedCall,
 ) -> Result<String, AllocError> {
     let at = place_text(alloc, names, note)?;
     match &note.change {
@@ -235,7 +235,7 @@ pub(crate) fn call_text(
 }
 
 /// Where a call is: the node, the terminal if one has it, and the logical channel.
-fn place_text(alloc: Global, names: &Names<'_>, note: &CallNote) -> Result<String, AllocError> {
+fn place_text(alloc: Global, names: &Names<'_>, note: &NotedCall) -> Result<String, AllocError> {
     let (node, channel) = (names.node(note.node), note.channel);
     match note.terminal {
         Some(terminal) => { format!(in alloc; "node={node} terminal={terminal} channel={channel}") }

@@ -22,6 +22,9 @@ use std::io;
 /// How many events the system tells at once.
 const MOST_EVENTS: usize = 256;
 
+/// How often the sockets are asked before the shell sleeps, after a turn in which something happened.
+const MOST_LOOKS: u32 = 200;
+
 /// How many orders of the service are done in one turn.
 const MOST_ORDERS: usize = 256;
 
@@ -42,6 +45,8 @@ pub(crate) struct Shell<'a> {
     pub(crate) sockets: Sockets<'a>,
     /// What the system tells.
     events: Events,
+    /// Whether anything happened in the last turn.
+    awake: bool,
     /// The connections of all ports.
     pub(crate) places: Vec<Place>,
     pub(crate) lines: Lines<'a>,
@@ -73,6 +78,7 @@ impl<'a> Shell<'a> {
             equipment,
             sockets,
             events: Events::with_capacity(rt.alloc(), MOST_EVENTS)?,
+            awake: false,
             places: places(rt.alloc(), ports)?,
             controls: controls::places(rt.alloc())?,
             visits: visits::places(rt.alloc())?,
@@ -123,8 +129,30 @@ impl<'a> Shell<'a> {
 
     /// Waits for the sockets, until the next tick if nothing is to be done.
     fn wait(&mut self) -> io::Result<()> {
-        let millis = if self.busy { 0 } else { TICK_MILLIS };
-        self.sockets.wait(&mut self.events, millis)?;
+        if self.busy {
+            self.sockets.wait(&mut self.events, 0)?;
+        } else if !self.awake || !self.look()? {
+            self.sockets.wait(&mut self.events, TICK_MILLIS)?;
+        }
+        self.awake = self.busy || !self.events.is_empty();
+        self.report();
+        Ok(())
+    }
+
+    /// Asks the sockets a while without sleeping, and says whether they told anything. A partner with a small window answers
+    /// sooner than a sleeper wakes.
+    fn look(&mut self) -> io::Result<bool> {
+        for _ in 0..MOST_LOOKS {
+            self.sockets.wait(&mut self.events, 0)?;
+            if !self.events.is_empty() {
+                return Ok(true);
+            }
+        }
+        Ok(false)
+    }
+
+    /// Hands what the system told to the connections.
+    fn report(&mut self) {
         let doors = self.sockets.entrances.len();
         let wires = doors.wrapping_add(self.places.len());
         let calls = wires.wrapping_add(self.lines.wires());
@@ -140,7 +168,6 @@ impl<'a> Shell<'a> {
                 self.equipment.report(token.wrapping_sub(calls), event);
             }
         }
-        Ok(())
     }
 
     /// Gives the service the time.

@@ -2,7 +2,8 @@
 use crate::faults::Fault;
 use mio::net::{TcpStream, UdpSocket};
 use mio::{Events, Interest, Poll, Token};
-use service_files::{Allow, LineTable, Mode, ServiceFile, Way};
+use service::Mode;
+use service_files::{Allow, LineTable, ServiceFile, Way};
 use std::alloc::AllocError;
 use std::io;
 use std::net::{IpAddr, SocketAddr};
